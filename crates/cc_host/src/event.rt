@@ -1,0 +1,189 @@
+// What a host is asked, what it answers, and the events of its log.
+ghost use Rattle.std.specs.Prelude.{◌≡◌};
+ghost use Rattle.cc_host.specs.Part.{is_success};
+ghost use Rattle.cc_host.specs.declared.event.HostError.TheVariants.{NoMemory as WantsMemory};
+
+use crate::Command;
+use cc_text::{Bytes, NoMemory, Text};
+use std::alloc::AllocFailed;
+
+/// What a command is for.
+#[derive(Clone, Copy, Debug, PartialEq, Eq)]
+pub enum Role {
+    /// Makes an object from a source.
+    Compile,
+    /// Writes objects into a library.
+    Archive,
+    /// Writes the index of a library.
+    Index,
+    /// Prints a source as the preprocessor leaves it.
+    Expand,
+}
+
+/// How a command ended. Success is `Code(0)` alone.
+#[derive(Clone, Copy, Debug, PartialEq, Eq)]
+pub enum Status {
+    /// It ended with this number.
+    Code(i32),
+    /// It ended without one, by a signal.
+    NoCode,
+}
+
+impl Status {
+    /// Whether the command ended with 0.
+    pub fn is_success(self) -> bool
+        ensures { result ≡ is_success self }
+    {
+        matches!(self, Status::Code(0))
+    }
+}
+
+/// What becomes of the standard output of a command.
+#[derive(Clone, Copy, Debug, PartialEq, Eq)]
+pub enum OutputKind {
+    /// It goes where that of the program goes.
+    Forward,
+    /// Nobody reads it.
+    Discard,
+    /// It is kept and answered.
+    Capture,
+}
+
+/// The outputs of a command: what becomes of the standard output, and whether the standard error is heard.
+#[derive(Clone, Copy, Debug, PartialEq, Eq)]
+pub struct Pipes {
+    pub out: OutputKind,
+    pub hear: bool,
+}
+
+/// What a folder is for.
+#[derive(Clone, Copy, Debug, PartialEq, Eq)]
+pub enum Scope {
+    /// For the objects and the library.
+    Build,
+    /// For the files of a question to a compiler.
+    Probe,
+}
+
+/// How a removal was answered.
+#[derive(Clone, Copy, Debug, PartialEq, Eq)]
+pub enum Removal {
+    /// The file was there and is gone.
+    Gone,
+    /// No file was there.
+    Absent,
+}
+
+/// What a printed line is.
+#[derive(Clone, Copy, Debug, PartialEq, Eq)]
+pub enum LineKind {
+    /// Tells Cargo what to link.
+    Link,
+    /// Tells Cargo which variable was read.
+    Rerun,
+    /// A warning.
+    Warning,
+    /// A line of the standard error of the child of this number.
+    Stderr { id: u64 },
+    /// Tells of a command that begins or ended.
+    Debug,
+    /// Tells why a run was refused.
+    Fault,
+    /// A source as the preprocessor leaves it.
+    Expanded,
+    /// An answer of the program.
+    Shown,
+}
+
+/// A call of a host that may fault.
+#[derive(Clone, Copy, Debug, PartialEq, Eq)]
+pub enum HostCall {
+    Output,
+    MakeDir(Scope),
+    Remove,
+    Print,
+}
+
+/// Why a call faulted.
+#[derive(Clone, Copy, Debug, PartialEq, Eq)]
+pub enum Why {
+    NotFound,
+    Denied,
+    Exists,
+    Other,
+}
+
+/// A refusal of a host: a fault of its own, with the call and the reason, or want of memory.
+#[derive(Clone, Copy, Debug, PartialEq, Eq)]
+pub enum HostError {
+    Fault(HostCall, Why),
+    NoMemory,
+}
+
+impl From<NoMemory> for HostError {
+    ghost from_gives = { λ _ e. e ≡ WantsMemory };
+
+    fn from(_: NoMemory) -> Self {
+        HostError::NoMemory
+    }
+}
+
+impl<T: Drop> From<AllocFailed<T>> for HostError {
+    ghost from_gives = { λ _ e. e ≡ WantsMemory };
+
+    fn from(_: AllocFailed<T>) -> Self {
+        HostError::NoMemory
+    }
+}
+
+/// The answer to a command that was run to its end.
+#[derive(Drop, Debug)]
+pub enum Ran {
+    /// The program can't be found.
+    Missing,
+    /// It ended with this status. `out` is empty unless it was captured, `err` unless it was heard.
+    Done {
+        status: Status,
+        out: Bytes,
+        err: Bytes,
+    },
+}
+
+/// What a host did, as its log has it.
+#[derive(Drop, Debug)]
+pub enum Event {
+    /// A command ran to its end.
+    Ran {
+        role: Role,
+        cmd: Command,
+        pipes: Pipes,
+        status: Status,
+        out: Bytes,
+        err: Bytes,
+    },
+    /// The program of a command can't be found.
+    Missing {
+        role: Role,
+        cmd: Command,
+    },
+    /// A folder is there now.
+    Made {
+        scope: Scope,
+        path: Text,
+    },
+    /// A file is not there any more.
+    Removed {
+        path: Text,
+        how: Removal,
+    },
+    /// Bytes were printed.
+    Printed {
+        kind: LineKind,
+        bytes: Bytes,
+    },
+    /// A call faulted, and did nothing.
+    Fault {
+        call: HostCall,
+        why: Why,
+    },
+}
