@@ -5,11 +5,13 @@
 //! memory refuses.
 #![tactic(auto)]
 
+mod cuts;
 mod family;
 mod memory;
 mod text;
 mod words;
 
+pub use cuts::{after_prefix, before_suffix, key_and_value};
 pub use family::ToolFamily;
 pub use memory::{Mem, NoMemory};
 pub use text::{Bytes, Text};
