@@ -1,7 +1,8 @@
 -- Laws on the part of a call: parts of calls one after the other, and what was done and left at each moment of a run.
 use Rattle.std.proofs.Common.{◌≡◌, ◌⊎◌, ◌+◌, ◌<◌, inl, inr, ℕ, suc, List, [], ◌∷◌, ◌++◌, length, get_or, take, drop, map, Bool, true, false, if◌then◌else◌, refl, sym, ◌∙◌, ap, subst, append_assoc, append-nil, arith}
 use Rattle.std.proofs.Math.Seq.{drop-append_seam, drop-append-add}
-use Rattle.std.proofs.lemmas.List.{length-append}
+use Rattle.std.proofs.Math.ListN.{get_or-map}
+use Rattle.std.proofs.lemmas.List.{length-append, length-map, map-append, take-append-drop, take_more, drop_more, take-map, drop-map}
 use Rattle.std.proofs.lemmas.Grind.{flat_map-append}
 use Rattle.cc_host.specs.Part.{since, is_success, Step, Runs, step_of, done, stop_of, stops, calm_of, calm, left, Refuses, StopsAt, IsPartly, IsWhole, runs}
 use Rattle.cc_host.specs.Command.{CommandSeen}
@@ -135,3 +136,115 @@ partly_more steps more part p =
 -- the steps of the longer run are left behind those of the shorter
 pub left_more : (steps more : List Step) (part : List Event) → IsPartly steps part → left (steps ++ more) part ≡ left steps part ++ more
 left_more steps more part p = left_is (steps ++ more) (left steps part ++ more) part (more_begun steps more part p)
+
+is_stop : (event : Event) → stop_of event ≡ event ∷ [] → IsCalm event ⊎ IsStop event → IsStop event
+is_stop event e (inl k) = absurd (cc)
+is_stop event e (inr k) = k
+
+-- an event that ends a run alone
+stop_alone : (event : Event) → stop_of event ≡ event ∷ [] → (stops (event ∷ []) ≡ event ∷ []) × (calm (event ∷ []) ≡ []) × (done (event ∷ []) ≡ [])
+stop_alone event e =
+    let k = is_stop event e (either event) in
+    (append-nil (stop_of event) ∙ k.0, append-nil (calm_of event) ∙ k.1, append-nil (step_of event) ∙ k.2)
+
+-- an event that ends a run is the one that ends it
+pub stops_stop : (event : Event) → stop_of event ≡ event ∷ [] → stops (event ∷ []) ≡ event ∷ []
+stops_stop event e = (stop_alone event e).0
+
+-- a run that its first step ended, by the refusal of that step
+pub partly_stop : (step : Step) (rest : List Step) (event : Event) → stop_of event ≡ event ∷ [] → Refuses step event → IsPartly (step ∷ rest) (event ∷ [])
+partly_stop step rest event e refusal =
+    let k = stop_alone event e in
+    partly_of (step ∷ rest) (step ∷ rest) (event ∷ [])
+      (ap (λ l. l ++ step ∷ rest) (sym k.2))
+      (subst (λ (l : List Event). StopsAt (step ∷ rest) l) (sym k.0) refusal)
+      (sym k.0 ∙ ap (λ l. l ++ stops (event ∷ [])) (sym k.1))
+
+-- what its first step ended has all its steps left
+pub left_stop : (step : Step) (rest : List Step) (event : Event) → stop_of event ≡ event ∷ [] → left (step ∷ rest) (event ∷ []) ≡ step ∷ rest
+left_stop step rest event e = left_is (step ∷ rest) (step ∷ rest) (event ∷ []) (ap (λ l. l ++ step ∷ rest) (sym (stop_alone event e).2))
+
+-- one step that was done
+pub whole_step : (step : Step) (event : Event) → step_of event ≡ step ∷ [] → stop_of event ≡ [] → IsWhole (step ∷ []) (event ∷ [])
+whole_step step event did calm = record { done_all = append-nil (step_of event) ∙ did; unstopped = append-nil (stop_of event) ∙ calm }
+
+-- the steps at and behind i
+steps_from : (steps : List Step) (i : ℕ) (step : Step) → i < length steps → step ≡ get_or steps i step → steps ≡ take i steps ++ step ∷ drop (i + 1) steps
+steps_from steps i step lt at = sym (take-append-drop i steps) ∙ ap (λ l. take i steps ++ l) (drop_more steps i step lt ∙ ap (λ s. s ∷ drop (i + 1) steps) (sym at))
+
+-- A loop over steps: the steps before i were done.
+pub steps_none : (steps : List Step) (i : ℕ) (before : List Event) → IsWhole (take i steps) before → IsPartly steps before
+steps_none steps i before w = subst (λ (l : List Step). IsPartly l before) (take-append-drop i steps) (partly_more (take i steps) (drop i steps) before (partly_whole (take i steps) before w))
+
+-- they are left from i on
+pub steps_left : (steps : List Step) (i : ℕ) (before : List Event) → IsWhole (take i steps) before → left steps before ≡ drop i steps
+steps_left steps i before w = left_is steps (drop i steps) before (sym (take-append-drop i steps) ∙ ap (λ l. l ++ drop i steps) (sym w.done_all))
+
+-- the step at i was done too
+pub step_more : (steps : List Step) (i : ℕ) (d : Step) (before : List Event) (event : Event) → i < length steps → IsWhole (take i steps) before → step_of event ≡ get_or steps i d ∷ [] → stop_of event ≡ [] → IsWhole (take (i + 1) steps) (before ++ event ∷ [])
+step_more steps i d before event lt w did calm =
+    subst (λ (l : List Step). IsWhole l (before ++ event ∷ [])) (sym (take_more steps i d lt)) (whole_then (take i steps) (get_or steps i d ∷ []) before (event ∷ []) w (whole_step (get_or steps i d) event did calm))
+
+-- the step at i was refused
+pub step_partly : (steps : List Step) (i : ℕ) (step : Step) (before : List Event) (event : Event) → i < length steps → step ≡ get_or steps i step → IsWhole (take i steps) before → stop_of event ≡ event ∷ [] → Refuses step event → IsPartly steps (before ++ event ∷ [])
+step_partly steps i step before event lt at w e refusal =
+    subst (λ (l : List Step). IsPartly l (before ++ event ∷ [])) (sym (steps_from steps i step lt at)) (partly_then (take i steps) (step ∷ drop (i + 1) steps) before (event ∷ []) w (partly_stop step (drop (i + 1) steps) event e refusal))
+
+-- refused, it is left with those behind it
+pub step_left : (steps : List Step) (i : ℕ) (step : Step) (before : List Event) (event : Event) → i < length steps → step ≡ get_or steps i step → IsWhole (take i steps) before → stop_of event ≡ event ∷ [] → left steps (before ++ event ∷ []) ≡ step ∷ drop (i + 1) steps
+step_left steps i step before event lt at w e =
+    ap (λ l. left l (before ++ event ∷ [])) (steps_from steps i step lt at) ∙ left_then (take i steps) (step ∷ drop (i + 1) steps) before (event ∷ []) w ∙ left_stop step (drop (i + 1) steps) event e
+
+-- and its refusal is what ended the run
+pub step_stops : (steps : List Step) (i : ℕ) (before : List Event) (event : Event) → IsWhole (take i steps) before → stop_of event ≡ event ∷ [] → stops (before ++ event ∷ []) ≡ event ∷ []
+step_stops steps i before event w e = stops_then (take i steps) before (event ∷ []) w ∙ stops_stop event e
+
+-- the first commands, in order
+pub runs_take : (role : Role) (i : ℕ) (cmds : List CommandSeen) → take i (runs role cmds) ≡ runs role (take i cmds)
+runs_take role i cmds = take-map (Runs role) i cmds
+
+pub runs_drop : (role : Role) (i : ℕ) (cmds : List CommandSeen) → drop i (runs role cmds) ≡ runs role (drop i cmds)
+runs_drop role i cmds = drop-map (Runs role) i cmds
+
+-- the commands before, at and behind i
+pub runs_next : (role : Role) (cmds : List CommandSeen) (i : ℕ) (d : CommandSeen) → i < length cmds → runs role cmds ≡ runs role (take i cmds) ++ Runs role (get_or cmds i d) ∷ runs role (drop (i + 1) cmds)
+runs_next role cmds i d lt =
+    ap (runs role) (sym (take-append-drop i cmds) ∙ ap (λ l. take i cmds ++ l) (drop_more cmds i d lt)) ∙ map-append (Runs role) (take i cmds) (get_or cmds i d ∷ drop (i + 1) cmds)
+
+module _ (role : Role) (cmds : List CommandSeen) (i : ℕ) where
+  at_role : (cmd : CommandSeen) → i < length cmds → cmd ≡ get_or cmds i cmd → (i < length (runs role cmds)) × (Runs role cmd ≡ get_or (runs role cmds) i (Runs role cmd))
+  at_role cmd lt at = (subst (λ n. i < n) (sym (length-map cmds (Runs role))) lt, ap (Runs role) at ∙ sym (get_or-map (Runs role) cmds i cmd))
+
+  ran_first : (before : List Event) → IsWhole (runs role (take i cmds)) before → IsWhole (take i (runs role cmds)) before
+  ran_first before w = subst (λ (l : List Step). IsWhole l before) (sym (runs_take role i cmds)) w
+
+  -- A loop over commands: the commands before i ended with 0.
+  pub loop_none : (before : List Event) → IsWhole (runs role (take i cmds)) before → IsPartly (runs role cmds) before
+  loop_none before w = steps_none (runs role cmds) i before (ran_first before w)
+
+  -- the command at i ended with 0 too
+  pub loop_more : (cmd : CommandSeen) (before : List Event) (event : Event) → i < length cmds → cmd ≡ get_or cmds i cmd → IsWhole (runs role (take i cmds)) before → step_of event ≡ Runs role cmd ∷ [] → stop_of event ≡ [] → IsWhole (runs role (take (i + 1) cmds)) (before ++ event ∷ [])
+  loop_more cmd before event lt at w did calm =
+      let k = at_role cmd lt at in
+      subst (λ (l : List Step). IsWhole l (before ++ event ∷ [])) (runs_take role (i + 1) cmds)
+        (step_more (runs role cmds) i (Runs role cmd) before event k.0 (ran_first before w) (did ∙ ap (λ s. s ∷ []) k.1) calm)
+
+  -- the command at i was refused
+  pub loop_partly : (cmd : CommandSeen) (before : List Event) (event : Event) → i < length cmds → cmd ≡ get_or cmds i cmd → IsWhole (runs role (take i cmds)) before → stop_of event ≡ event ∷ [] → Refuses (Runs role cmd) event → IsPartly (runs role cmds) (before ++ event ∷ [])
+  loop_partly cmd before event lt at w e refusal =
+      let k = at_role cmd lt at in
+      step_partly (runs role cmds) i (Runs role cmd) before event k.0 k.1 (ran_first before w) e refusal
+
+  -- refused, it is left with those behind it
+  pub loop_left : (cmd : CommandSeen) (before : List Event) (event : Event) → i < length cmds → cmd ≡ get_or cmds i cmd → IsWhole (runs role (take i cmds)) before → stop_of event ≡ event ∷ [] → left (runs role cmds) (before ++ event ∷ []) ≡ Runs role cmd ∷ runs role (drop (i + 1) cmds)
+  loop_left cmd before event lt at w e =
+      let k = at_role cmd lt at in
+      step_left (runs role cmds) i (Runs role cmd) before event k.0 k.1 (ran_first before w) e ∙ ap (λ l. Runs role cmd ∷ l) (runs_drop role (i + 1) cmds)
+
+  -- and its refusal is what ended the run
+  pub loop_stops : (before : List Event) (event : Event) → IsWhole (runs role (take i cmds)) before → stop_of event ≡ event ∷ [] → stops (before ++ event ∷ []) ≡ event ∷ []
+  loop_stops before event w e = step_stops (runs role cmds) i before event (ran_first before w) e
+
+  -- the commands from i on are left
+  pub loop_rest : (before : List Event) → IsWhole (runs role (take i cmds)) before → left (runs role cmds) before ≡ runs role (drop i cmds)
+  loop_rest before w = steps_left (runs role cmds) i before (ran_first before w) ∙ runs_drop role i cmds
