@@ -4,7 +4,7 @@ use Rattle.std.proofs.Math.Seq.{drop-append_seam, drop-append-add}
 use Rattle.std.proofs.Math.ListN.{get_or-map}
 use Rattle.std.proofs.lemmas.List.{length-append, length-map, map-append, take-append-drop, take_more, drop_more, take-map, drop-map}
 use Rattle.std.proofs.lemmas.Grind.{flat_map-append}
-use Rattle.cc_host.specs.Part.{since, is_success, Step, Runs, step_of, done, stop_of, stops, calm_of, calm, left, Refuses, StopsAt, IsPartly, IsWhole, runs}
+use Rattle.cc_host.specs.Part.{since, is_success, Step, Runs, Makes, Removes, Prints, step_of, done, stop_of, stops, calm_of, calm, left, Refuses, StopsAt, IsPartly, IsWhole, runs}
 use Rattle.cc_host.specs.Command.{CommandSeen}
 use Rattle.cc_host.specs.declared.event.Role.{Role}
 use Rattle.cc_host.specs.declared.event.Event.{Event}
@@ -25,34 +25,34 @@ since_since old mid new e f = subst (λ (n : List Event). since old n ≡ since 
 pub since_extends : (old mid new : List Event) → mid ≡ old ++ since old mid → new ≡ mid ++ since mid new → new ≡ old ++ since old new
 since_extends old mid new e f = since_two old mid new e f ∙ ap (λ l. old ++ l) (sym (since_since old mid new e f))
 
--- an event that ends no run
-abbrev IsCalm : Event → Type 0
-IsCalm event = (stop_of event ≡ []) × (calm_of event ≡ event ∷ [])
+-- an event that ends no run did one step
+abbrev pub IsCalm : Event → Type 0
+IsCalm event = (stop_of event ≡ []) × (calm_of event ≡ event ∷ []) × ((step : Step) × (step_of event ≡ step ∷ []))
 
 -- an event that ends a run did no step
-abbrev IsStop : Event → Type 0
+abbrev pub IsStop : Event → Type 0
 IsStop event = (stop_of event ≡ event ∷ []) × (calm_of event ≡ []) × (step_of event ≡ [])
 
-ended : (b : Bool) (event : Event) (step : Step) → (((if b then [] else event ∷ []) ≡ []) × ((if b then event ∷ [] else []) ≡ event ∷ [])) ⊎ (((if b then [] else event ∷ []) ≡ event ∷ []) × ((if b then event ∷ [] else []) ≡ []) × ((if b then step ∷ [] else []) ≡ []))
-ended true event step = inl (refl, refl)
+ended : (b : Bool) (event : Event) (step : Step) → (((if b then [] else event ∷ []) ≡ []) × ((if b then event ∷ [] else []) ≡ event ∷ []) × ((s : Step) × ((if b then step ∷ [] else []) ≡ s ∷ []))) ⊎ (((if b then [] else event ∷ []) ≡ event ∷ []) × ((if b then event ∷ [] else []) ≡ []) × ((if b then step ∷ [] else []) ≡ []))
+ended true event step = inl (refl, refl, (step, refl))
 ended false event step = inr (refl, refl, refl)
 
 -- each event is one or the other
-either : (event : Event) → IsCalm event ⊎ IsStop event
+pub either : (event : Event) → IsCalm event ⊎ IsStop event
 either (Ran role cmd pipes status out err) = ended (is_success status) (Ran role cmd pipes status out err) (Runs role cmd)
 either (Missing role cmd) = inr (refl, refl, refl)
 either (Fault call why) = inr (refl, refl, refl)
-either (Made scope path) = inl (refl, refl)
-either (Removed path how) = inl (refl, refl)
-either (Printed kind bytes) = inl (refl, refl)
+either (Made scope path) = inl (refl, refl, (Makes scope path, refl))
+either (Removed path how) = inl (refl, refl, (Removes path, refl))
+either (Printed kind bytes) = inl (refl, refl, (Prints kind bytes, refl))
 
-done_then : (a b : List Event) → done (a ++ b) ≡ done a ++ done b
+pub done_then : (a b : List Event) → done (a ++ b) ≡ done a ++ done b
 done_then a b = flat_map-append step_of a b
 
-stops_both : (a b : List Event) → stops (a ++ b) ≡ stops a ++ stops b
+pub stops_both : (a b : List Event) → stops (a ++ b) ≡ stops a ++ stops b
 stops_both a b = flat_map-append stop_of a b
 
-calm_then : (a b : List Event) → calm (a ++ b) ≡ calm a ++ calm b
+pub calm_then : (a b : List Event) → calm (a ++ b) ≡ calm a ++ calm b
 calm_then a b = flat_map-append calm_of a b
 
 calm_more : (event : Event) (part : List Event) → (stops part ≡ [] → part ≡ calm part) → stops (event ∷ part) ≡ [] → IsCalm event ⊎ IsStop event → event ∷ part ≡ calm (event ∷ part)
