@@ -1,12 +1,16 @@
 -- The order of a run: what a later step takes for granted was done before it.
-use Rattle.std.proofs.Common.{◌≡◌, ◌⊎◌, inl, inr, List, [], ◌∷◌, ◌++◌, length, drop, Bool, true, false, ◌||◌, pos, negsuc, zero, suc, refl, sym, ◌∙◌, ap, subst, append_assoc, ℕ, Contains}
+use Rattle.std.proofs.Common.{◌≡◌, ◌⊎◌, ⊎_elim, arith, if◌then◌else◌, inl, inr, List, [], ◌∷◌, ◌++◌, length, drop, Bool, true, false, ◌||◌, pos, negsuc, zero, suc, refl, sym, ◌∙◌, ap, subst, append_assoc, ℕ, Contains}
 use Rattle.std.specs.List.{list_any}
 use Rattle.std.proofs.Math.Seq.{drop-append_seam}
+use Rattle.std.proofs.lemmas.List.Elements.{Contains-append_cases, Contains-append_left, Contains-append_right}
 use Rattle.cc_host.proofs.Parts.{IsCalm, IsStop, either, done_then, stops_both, calm_then, calm_whole}
-use Rattle.cc_host.specs.Part.{is_success, Step, Runs, Makes, Removes, Prints, step_of, done, stop_of, stops, calm_of, calm, left, Refuses, StopsAt, IsPartly, runs}
+use Rattle.cc_host.specs.Part.{is_success, Step, Runs, Makes, Removes, Prints, step_of, done, stop_of, stops, calm, left, Refuses, StopsAt, IsPartly, runs}
 use Rattle.cc_host.specs.Command.{CommandSeen}
 use Rattle.cc_host.specs.declared.event.Role.{Role}
-use Rattle.cc_host.specs.declared.event.Role.TheVariants.{Compile, Archive, Index, Expand}
+use Rattle.cc_host.specs.declared.event.Role.TheVariants.{Compile, Archive}
+use Rattle.cc_host.specs.declared.event.Pipes.{Pipes}
+use Rattle.cc_host.specs.declared.event.Status.{Status}
+use Rattle.cc_host.specs.declared.event.Status.TheVariants.{Code, NoCode}
 use Rattle.cc_host.specs.declared.event.Event.{Event}
 use Rattle.cc_host.specs.declared.event.Event.TheVariants.{Ran, Missing, Fault, Made, Removed, Printed}
 
@@ -71,7 +75,6 @@ last_event before (e ∷ after) event last k b a =
 module _ (test : Step → Bool) (first rest : List Step) (before after : List Event) (event : Event) where
   did : (step : Step) → IsPartly (first ++ rest) (before ++ event ∷ after) → list_any test first ≡ false → step_of event ≡ step ∷ [] → test step ≡ true → (t : List Step) × (done before ≡ first ++ t)
   did step p none is passes =
-      let part : List Event = before ++ event ∷ after in
       let e : first ++ rest ≡ done before ++ step ∷ (done after ++ left (first ++ rest) (before ++ event ∷ after)) =
         p.begun ∙ ap (λ l. l ++ left (first ++ rest) (before ++ event ∷ after)) (done_around before after event ∙ ap (λ l. done before ++ (l ++ done after)) is) ∙ append_assoc (done before) (step ∷ done after) (left (first ++ rest) (before ++ event ∷ after)) in
       cut test first rest (done before) (done after ++ left (first ++ rest) (before ++ event ∷ after)) step e none passes
@@ -94,3 +97,115 @@ module _ (test : Step → Bool) (first rest : List Step) (before after : List Ev
 pub after_first : (test : Step → Bool) (first rest : List Step) (part before after : List Event) (event : Event) → IsPartly (first ++ rest) part → list_any test first ≡ false → part ≡ before ++ event ∷ after → IsOnly test event → (t : List Step) × (done before ≡ first ++ t)
 after_first test first rest part before after event p none is only =
     by_kind test first rest before after event (subst (λ (l : List Event). IsPartly (first ++ rest) l) is p) none only (either event)
+
+-- this event is of a command of this role
+abbrev pub IsOf : Role → Event → Type 0
+IsOf role (Ran r cmd pipes status out err) = r ≡ role
+IsOf role (Missing r cmd) = r ≡ role
+IsOf role _ = ⊥
+
+where_success : (b : Bool) (a step : Step) → (if b then a ∷ [] else []) ≡ step ∷ [] → a ≡ step
+where_success true a step e = cc
+where_success false a step e = absurd (cc)
+
+ran_refused : (test : Step → Bool) (role r : Role) (step : Step) (c : CommandSeen) (pipes : Pipes) (status : Status) (out err : List ℕ) → ((cmd : CommandSeen) → test (Runs role cmd) ≡ true) → r ≡ role → Refuses step (Ran r c pipes status out err) → test step ≡ true
+ran_refused test role r (Runs at cmd) c pipes status out err all is refusal = ap (λ k. test (Runs k cmd)) (sym refusal.0 ∙ is) ∙ all cmd
+ran_refused test role r (Makes scope path) c pipes status out err all is refusal = absurd refusal
+ran_refused test role r (Removes path) c pipes status out err all is refusal = absurd refusal
+ran_refused test role r (Prints kind bytes) c pipes status out err all is refusal = absurd refusal
+
+missing_refused : (test : Step → Bool) (role r : Role) (step : Step) (c : CommandSeen) → ((cmd : CommandSeen) → test (Runs role cmd) ≡ true) → r ≡ role → Refuses step (Missing r c) → test step ≡ true
+missing_refused test role r (Runs at cmd) c all is refusal = ap (λ k. test (Runs k cmd)) (sym refusal.0 ∙ is) ∙ all cmd
+missing_refused test role r (Makes scope path) c all is refusal = absurd refusal
+missing_refused test role r (Removes path) c all is refusal = absurd refusal
+missing_refused test role r (Prints kind bytes) c all is refusal = absurd refusal
+
+-- an event of a command of a role is on steps of that role alone
+pub only_of : (test : Step → Bool) (role : Role) (event : Event) → ((cmd : CommandSeen) → test (Runs role cmd) ≡ true) → IsOf role event → IsOnly test event
+only_of test role (Ran r c pipes status out err) all is =
+    ((λ step e. ap test (sym (where_success (is_success status) (Runs r c) step e)) ∙ ap (λ k. test (Runs k c)) is ∙ all c),
+     (λ step refusal. ran_refused test role r step c pipes status out err all is refusal))
+only_of test role (Missing r c) all is =
+    ((λ step e. absurd (cc)),
+     (λ step refusal. missing_refused test role r step c all is refusal))
+only_of test role (Made scope path) all is = absurd is
+only_of test role (Removed path how) all is = absurd is
+only_of test role (Printed kind bytes) all is = absurd is
+only_of test role (Fault call why) all is = absurd is
+
+-- a step that runs a command of the role Archive
+abbrev pub is_archive : Step → Bool
+is_archive (Runs Archive cmd) = true
+is_archive _ = false
+
+-- An archive command stands in the part only behind all of the first steps, each of them done, where none of them archives.
+pub archives_after : (first rest : List Step) (part before after : List Event) (event : Event) → IsPartly (first ++ rest) part → list_any is_archive first ≡ false → part ≡ before ++ event ∷ after → IsOf Archive event → (t : List Step) × (done before ≡ first ++ t)
+archives_after first rest part before after event p none is of =
+    after_first is_archive first rest part before after event p none is (only_of is_archive Archive event (λ cmd. refl) of)
+
+-- no compile command archives
+pub compiles_alone : (cmds : List CommandSeen) → list_any is_archive (runs Compile cmds) ≡ false
+compiles_alone [] = refl
+compiles_alone (cmd ∷ cmds) = compiles_alone cmds
+
+-- this command stands in the part with the end 0
+pub record SucceedsIn (part : List Event) (role : Role) (cmd : CommandSeen) : Type 0 where
+  pub pipes : Pipes
+  pub out : List ℕ
+  pub err : List ℕ
+  pub stands : Contains part (Ran role cmd pipes (Code (pos zero)) out err)
+
+success_is : (status : Status) → is_success status ≡ true → status ≡ Code (pos zero)
+success_is (Code (pos zero)) e = refl
+success_is (Code (pos (suc n))) e = absurd (cc)
+success_is (Code (negsuc n)) e = absurd (cc)
+success_is NoCode e = absurd (cc)
+
+when_success : (b : Bool) (a step : Step) → (if b then a ∷ [] else []) ≡ step ∷ [] → b ≡ true
+when_success true a step e = refl
+when_success false a step e = absurd (cc)
+
+succeeds : (part : List Event) (role : Role) (cmd : CommandSeen) (event : Event) → Contains part event → step_of event ≡ Runs role cmd ∷ [] → SucceedsIn part role cmd
+succeeds part role cmd (Ran r c pipes status out err) has e =
+    let step : Runs r c ≡ Runs role cmd = where_success (is_success status) (Runs r c) (Runs role cmd) e in
+    let r_is : r ≡ role = cc in
+    let c_is : c ≡ cmd = cc in
+    let zero_is : status ≡ Code (pos zero) = success_is status (when_success (is_success status) (Runs r c) (Runs role cmd) e) in
+    let is : Ran r c pipes status out err ≡ Ran role cmd pipes (Code (pos zero)) out err = cc in
+    record { pipes = pipes; out = out; err = err; stands = subst (λ (x : Event). Contains part x) is has }
+succeeds part role cmd (Missing r c) has e = absurd (cc)
+succeeds part role cmd (Made scope path) has e = absurd (cc)
+succeeds part role cmd (Removed path how) has e = absurd (cc)
+succeeds part role cmd (Printed kind bytes) has e = absurd (cc)
+succeeds part role cmd (Fault call why) has e = absurd (cc)
+
+-- an event of the part did this step
+abbrev Did : List Event → Step → Type 0
+Did part step = (event : Event) × Contains part event × (step_of event ≡ step ∷ [])
+
+one_is : (s step : Step) → Contains (s ∷ []) step → s ≡ step
+one_is s step (zero, lt, is) = is
+one_is s step (suc k, lt, is) = absurd (omega arith)
+
+did_by_first : (event : Event) (part : List Event) (step : Step) → IsCalm event ⊎ IsStop event → Contains (step_of event) step → Did (event ∷ part) step
+did_by_first event part step (inl k) has =
+    let same : k.2.0 ≡ step = one_is k.2.0 step (subst (λ (l : List Step). Contains l step) k.2.1 has) in
+    (event, (0, omega arith, refl), k.2.1 ∙ ap (λ s. s ∷ []) same)
+did_by_first event part step (inr k) has = let none : Contains [] step = subst (λ (l : List Step). Contains l step) k.2 has in absurd (omega (arith, none.1))
+
+did_in : (part : List Event) (step : Step) → Contains (done part) step → Did part step
+did_in [] step has = absurd (omega (arith, has.1))
+did_in (event ∷ part) step has =
+    ⊎_elim (λ h. did_by_first event part step (either event) h)
+      (λ h. let d = did_in part step h in (d.0, Contains-append_right (event ∷ []) part d.0 d.1, d.2))
+      (Contains-append_cases (step_of event) (done part) step has)
+
+-- each command among the steps that were done stands in the part with the end 0
+pub done_succeeds : (part : List Event) (role : Role) (cmd : CommandSeen) → Contains (done part) (Runs role cmd) → SucceedsIn part role cmd
+done_succeeds part role cmd has = let d = did_in part (Runs role cmd) has in succeeds part role cmd d.0 d.1 d.2
+
+-- No archive command stands in the part unless each command of the first steps stands before it with the end 0.
+pub archives_last : (first rest : List Step) (part before after : List Event) (event : Event) → IsPartly (first ++ rest) part → list_any is_archive first ≡ false → part ≡ before ++ event ∷ after → IsOf Archive event → (role : Role) (cmd : CommandSeen) → Contains first (Runs role cmd) → SucceedsIn before role cmd
+archives_last first rest part before after event p none is of role cmd has =
+    let t = archives_after first rest part before after event p none is of in
+    done_succeeds before role cmd (subst (λ (l : List Step). Contains l (Runs role cmd)) (sym t.1) (Contains-append_left first t.0 (Runs role cmd) has))
