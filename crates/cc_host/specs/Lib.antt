@@ -1,3 +1,4 @@
+pub mod Bench
 pub mod Command
 pub mod Event
 pub mod Part

@@ -1,5 +1,6 @@
 // A command: what a child is started with.
 ghost use Rattle.std.specs.Prelude.{◌≡◌, ◌++◌, [], ◌∷◌, IfOk, OnOk, OnErr, Some, None};
+ghost use Rattle.std.specs.Option.{option_copied};
 ghost use Rattle.cc_host.specs.Command.{CommandSeen};
 
 use cc_text::{Mem, Text, Vars, Words};
@@ -44,6 +45,19 @@ impl Command {
         self.args.push(word)
     }
 
+    /// Adds each of these words, in order, last. Refused for memory, the command stays as it was.
+    pub fn args(&mut self, words: &Words) -> Mem<()>
+        ensures ok { OnOk result (self.new ≡ record self.old { args = self.old.args ++ words.now }) }
+        ensures err { OnErr result (self.new ≡ self.old) }
+    {
+        let mut args = self.args.try_clone()?;
+        for word in words.as_slice() {
+            args.push(word.as_str())?;
+        }
+        self.args = args;
+        Ok(())
+    }
+
     /// Adds a variable last. Refused for memory, the command stays as it was.
     pub fn env(&mut self, name: &str, value: &str) -> Mem<()>
         ensures ok { OnOk result (self.new ≡ record self.old { env = self.old.env ++ (name.now, value.now) ∷ [] }) }
@@ -73,6 +87,23 @@ impl Command {
         ensures { result.now ≡ self.now.args }
     {
         &self.args
+    }
+
+    /// The variables of its environment, lent.
+    pub fn get_envs(&self) -> &Vars
+        ensures { result.now ≡ self.now.env }
+    {
+        &self.env
+    }
+
+    /// The folder that it runs in, lent, where one is given.
+    pub fn get_current_dir(&self) -> Option<&str>
+        ensures { option_copied result ≡ self.now.dir }
+    {
+        match &self.dir {
+            Some(dir) => Some(dir.as_str()),
+            None => None,
+        }
     }
 
     /// A second command, equal to this one.

@@ -5,12 +5,16 @@
 //! part of a call is read stands in `specs/Part.antt`, with its laws in `proofs/Parts.antt`.
 #![tactic(auto)]
 
+mod bench;
 mod command;
 mod event;
 mod host;
+mod script;
 
+pub use bench::{Bench, BenchHost};
 pub use command::Command;
 pub use event::{
     Event, HostCall, HostError, LineKind, OutputKind, Pipes, Ran, Removal, Role, Scope, Status, Why,
 };
 pub use host::{Host, World};
+pub use script::Script;

@@ -1,0 +1,94 @@
+-- The host in memory: what it is seen as, and what it answers.
+use Rattle.std.specs.Prelude.{◌≡◌, ℕ, ◌-◌, pos, List, [], ◌++◌, ◌∷◌, map, reverse, find, Bool, true, false, ◌&&◌, ◌||◌, ◌==◌, if◌then◌else◌, bytes_eq, Result, Ok, Err}
+use Rattle.std.specs.List.{list_any}
+use Rattle.std.specs.Option.{option_map_or}
+use Rattle.cc_host.specs.Command.{CommandSeen}
+use Rattle.cc_host.specs.declared.event.Role.{Role}
+use Rattle.cc_host.specs.declared.event.Role.TheVariants.{Compile, Archive, Index, Expand}
+use Rattle.cc_host.specs.declared.event.Scope.{Scope}
+use Rattle.cc_host.specs.declared.event.Scope.TheVariants.{Build, Probe}
+use Rattle.cc_host.specs.declared.event.Status.{Status}
+use Rattle.cc_host.specs.declared.event.Status.TheVariants.{Code}
+use Rattle.cc_host.specs.declared.event.HostCall.{HostCall}
+use Rattle.cc_host.specs.declared.event.HostCall.TheVariants.{Output, MakeDir, Remove, Print}
+use Rattle.cc_host.specs.declared.event.Why.TheVariants.{Other}
+use Rattle.cc_host.specs.declared.event.HostError.{HostError}
+use Rattle.cc_host.specs.declared.event.HostError.TheVariants.{Fault as Failed, NoMemory}
+use Rattle.cc_host.specs.declared.event.Ran.{Ran}
+use Rattle.cc_host.specs.declared.event.Ran.TheVariants.{Missing, Done}
+use Rattle.cc_host.specs.declared.event.Event.{Event}
+use Rattle.cc_host.specs.declared.script.Scripted.{Scripted}
+use Rattle.cc_host.specs.declared.script.Failure.{Failure}
+
+-- what a host in memory is seen as: its log, how often it failed, and what it was told of commands and of calls
+pub record BenchSeen : Type 0 where
+  pub log : List Event
+  pub faults : ℕ
+  pub scripts : List Scripted
+  pub missing : List (List ℕ)
+  pub failures : List Failure
+
+-- a host that was told nothing, before its first call
+abbrev pub fresh : BenchSeen
+fresh = record { log = []; faults = 0; scripts = []; missing = []; failures = [] }
+
+abbrev pub same_role : Role → Role → Bool
+same_role Compile Compile = true
+same_role Archive Archive = true
+same_role Index Index = true
+same_role Expand Expand = true
+same_role _ _ = false
+
+abbrev pub same_scope : Scope → Scope → Bool
+same_scope Build Build = true
+same_scope Probe Probe = true
+same_scope _ _ = false
+
+abbrev pub same_call : HostCall → HostCall → Bool
+same_call Output Output = true
+same_call (MakeDir a) (MakeDir b) = same_scope a b
+same_call Remove Remove = true
+same_call Print Print = true
+same_call _ _ = false
+
+-- whether a word is among these
+abbrev pub has_word : List ℕ → List (List ℕ) → Bool
+has_word word = list_any (λ w. bytes_eq w word)
+
+-- a script is of each command of its role that has its word, as its program or among its words
+abbrev pub fits : Role → CommandSeen → Scripted → Bool
+fits role cmd script = same_role script.role role && (bytes_eq cmd.program script.word || has_word script.word cmd.args)
+
+-- what the last script that fits says, and 0 where none does
+abbrev pub status_of : List Scripted → Role → CommandSeen → Status
+status_of scripts role cmd = option_map_or (λ s. s.script.status) (find (fits role cmd) (reverse scripts)) (Code (pos 0))
+
+-- the answer to a command that is not to fail
+abbrev pub answer_to : BenchSeen → Role → CommandSeen → Ran
+answer_to host role cmd = if has_word cmd.program host.missing then Missing else Done (status_of host.scripts role cmd) [] []
+
+-- whether the next call of the kind is to fail
+abbrev pub is_due : HostCall → List Failure → Bool
+is_due call = list_any (λ f. same_call f.call call && (f.left == 1))
+
+-- one call of the kind is over
+abbrev pub count_down : HostCall → Failure → Failure
+count_down call f = if same_call f.call call then record { call = f.call; left = f.left - 1 } else f
+
+abbrev pub is_fault : HostError → Bool
+is_fault (Failed _ _) = true
+is_fault NoMemory = false
+
+-- a call of the kind is over: it is counted, and what the host was told else stands as before
+abbrev pub IsCounted : HostCall → BenchSeen → BenchSeen → Type 0
+IsCounted call old new = new ≡ record old { log = new.log; faults = new.faults; failures = map (count_down call) old.failures }
+
+-- A call failed, and is counted. Where memory was refused the host is as before.
+abbrev pub IsFailure : HostCall → BenchSeen → BenchSeen → HostError → Type 0
+IsFailure call old new (Failed _ why) = (why ≡ Other) × IsCounted call old new
+IsFailure call old new NoMemory = new ≡ old
+
+-- A call has this answer, or fails where it is to fail.
+abbrev pub Answers : {T : Type 0} → HostCall → T → BenchSeen → BenchSeen → Result T HostError → Type 0
+Answers call answer old new (Ok x) = (is_due call old.failures ≡ false) × (x ≡ answer) × IsCounted call old new
+Answers call answer old new (Err e) = (is_fault e ≡ true → is_due call old.failures ≡ true) × IsFailure call old new e

@@ -1,0 +1,191 @@
+// A host in memory.
+ghost use Rattle.std.specs.Prelude.{◌≡◌, ◌≤◌, [], ◌∷◌, ◌++◌, map, IfOk, OnOk, OnErr, IfErr};
+ghost use Rattle.cc_host.specs.declared.event.HostCall.TheVariants.{Output, MakeDir, Remove as Removes, Print};
+ghost use Rattle.cc_host.specs.declared.event.Removal.TheVariants.{Absent};
+ghost use Rattle.cc_host.specs.Event.{refused, ran, made, removed, printed, IsCaused, IsSilent};
+ghost use Rattle.cc_host.specs.Bench.{BenchSeen, fresh, answer_to, count_down, Answers, IsFailure};
+
+use crate::script::{Failure, Scripted};
+use crate::{
+    Command, Event, Host, HostCall, HostError, LineKind, Pipes, Ran, Removal, Role, Scope, Script,
+    Why, World, script,
+};
+use cc_text::{Bytes, Mem, Text, Words};
+use std::alloc::Global;
+use std::marker::Model;
+
+/// The world of `BenchHost`.
+pub struct Bench;
+
+impl World for Bench {}
+
+/// A host in memory. Commands end as they are scripted, or with 0, and write nothing. No file stands on it.
+#[derive(Drop)]
+pub struct BenchHost {
+    alloc: Global,
+    events: Vec<Event>,
+    faults: u64,
+    scripts: Vec<Scripted>,
+    missing: Words,
+    failures: Vec<Failure>,
+}
+
+impl Model for BenchHost {
+    ghost Value = { BenchSeen };
+
+    ghost view = { λ h. record { log = h.events.items; faults = h.faults; scripts = h.scripts.items; missing = h.missing; failures = h.failures.items } };
+}
+
+impl BenchHost {
+    /// A host that was told nothing. It takes no memory.
+    pub fn new(alloc: Global) -> Mem<BenchHost>
+        ensures { IfOk result (λ h. h ≡ fresh) }
+    {
+        Ok(BenchHost {
+            alloc,
+            events: Vec::new(alloc),
+            faults: 0,
+            scripts: Vec::new(alloc),
+            missing: Words::new(alloc),
+            failures: Vec::new(alloc),
+        })
+    }
+
+    /// Scripts each command of the role that has the word, as its program or among its words. The script that was added
+    /// last counts. Refused for memory, the host stays as it was.
+    pub fn script(&mut self, role: Role, word: &str, script: Script) -> Mem<()>
+        ensures ok { OnOk result (self.new ≡ record self.old { scripts = self.old.scripts ++ record { role = role; word = word.now; script = script } ∷ [] }) }
+        ensures err { OnErr result (self.new ≡ self.old) }
+    {
+        let word = Text::of(self.alloc, word)?;
+        self.scripts.push(Scripted { role, word, script })?;
+        Ok(())
+    }
+
+    /// Makes commands of the program missing. Refused for memory, the host stays as it was.
+    pub fn missing(&mut self, program: &str) -> Mem<()>
+        ensures ok { OnOk result (self.new ≡ record self.old { missing = self.old.missing ++ program.now ∷ [] }) }
+        ensures err { OnErr result (self.new ≡ self.old) }
+    {
+        self.missing.push(program)
+    }
+
+    /// Makes the nth call of the kind from here on, counted from 1, fail. Refused for memory, the host stays as it was.
+    pub fn fail(&mut self, call: HostCall, nth: u64) -> Mem<()>
+        ensures ok { OnOk result (self.new ≡ record self.old { failures = self.old.failures ++ record { call = call; left = nth } ∷ [] }) }
+        ensures err { OnErr result (self.new ≡ self.old) }
+    {
+        self.failures.push(Failure { call, left: nth })?;
+        Ok(())
+    }
+
+    // Adds the event of a call, and counts the call.
+    fn add(&mut self, call: HostCall, event: Event) -> Mem<()>
+        ensures ok { OnOk result (self.new ≡ record self.old { log = self.old.log ++ event ∷ []; failures = map (count_down call) self.old.failures }) }
+        ensures err { OnErr result (self.new ≡ self.old) }
+    {
+        self.events.push(event)?;
+        script::count_down(&mut self.failures, call);
+        Ok(())
+    }
+
+    // Adds the event of a fault, and counts the call and the fault.
+    fn fault(&mut self, call: HostCall) -> HostError
+        ensures adds { self.new.log ≡ self.old.log ++ refused result }
+        ensures later { self.old.faults ≤ self.new.faults }
+        ensures cause { IsCaused call self.old.faults self.new.faults result }
+        ensures fails { IsFailure call self.old self.new result }
+    {
+        let why = Why::Other;
+        match self.add(call, Event::Fault { call, why }) {
+            Ok(()) => {
+                self.faults = self.faults.saturating_add(1);
+                HostError::Fault(call, why)
+            }
+            Err(_) => HostError::NoMemory,
+        }
+    }
+}
+
+impl Host<Bench> for BenchHost {
+    ghost log = { λ h. h.log };
+
+    ghost faults = { λ h. h.faults };
+
+    fn output(&mut self, role: Role, cmd: &Command, pipes: Pipes) -> Result<Ran, HostError>
+        ensures adds { self.new.log ≡ self.old.log ++ ran role cmd.now pipes result }
+        ensures silent { IfOk result (IsSilent pipes) }
+        ensures later { self.old.faults ≤ self.new.faults }
+        ensures cause { IfErr result (IsCaused Output self.old.faults self.new.faults) }
+        ensures answers { Answers Output (answer_to self.old role cmd.now) self.old self.new result }
+    {
+        if script::is_due(&self.failures, HostCall::Output) {
+            return Err(self.fault(HostCall::Output));
+        }
+        let cmd = cmd.try_clone()?;
+        if script::has_word(&self.missing, cmd.get_program()) {
+            self.add(HostCall::Output, Event::Missing { role, cmd })?;
+            return Ok(Ran::Missing);
+        }
+        let status = script::status_of(&self.scripts, role, &cmd);
+        let out = Bytes::of(self.alloc, &[])?;
+        let err = Bytes::of(self.alloc, &[])?;
+        let event = Event::Ran {
+            role,
+            cmd,
+            pipes,
+            status,
+            out: out.try_clone()?,
+            err: err.try_clone()?,
+        };
+        self.add(HostCall::Output, event)?;
+        Ok(Ran::Done { status, out, err })
+    }
+
+    fn make_dir(&mut self, scope: Scope, path: &str) -> Result<(), HostError>
+        ensures adds { self.new.log ≡ self.old.log ++ made scope path.now result }
+        ensures later { self.old.faults ≤ self.new.faults }
+        ensures cause { IfErr result (IsCaused (MakeDir scope) self.old.faults self.new.faults) }
+        ensures answers { Answers (MakeDir scope) tt self.old self.new result }
+    {
+        if script::is_due(&self.failures, HostCall::MakeDir(scope)) {
+            return Err(self.fault(HostCall::MakeDir(scope)));
+        }
+        let path = Text::of(self.alloc, path)?;
+        self.add(HostCall::MakeDir(scope), Event::Made { scope, path })?;
+        Ok(())
+    }
+
+    fn remove_file(&mut self, path: &str) -> Result<Removal, HostError>
+        ensures adds { self.new.log ≡ self.old.log ++ removed path.now result }
+        ensures later { self.old.faults ≤ self.new.faults }
+        ensures cause { IfErr result (IsCaused Removes self.old.faults self.new.faults) }
+        ensures answers { Answers Removes Absent self.old self.new result }
+    {
+        if script::is_due(&self.failures, HostCall::Remove) {
+            return Err(self.fault(HostCall::Remove));
+        }
+        let path = Text::of(self.alloc, path)?;
+        let how = Removal::Absent;
+        self.add(HostCall::Remove, Event::Removed { path, how })?;
+        Ok(how)
+    }
+
+    fn print(&mut self, kind: LineKind, bytes: &[u8]) -> Result<(), HostError>
+        ensures adds { self.new.log ≡ self.old.log ++ printed kind bytes.now result }
+        ensures later { self.old.faults ≤ self.new.faults }
+        ensures cause { IfErr result (IsCaused Print self.old.faults self.new.faults) }
+        ensures answers { Answers Print tt self.old self.new result }
+    {
+        if script::is_due(&self.failures, HostCall::Print) {
+            return Err(self.fault(HostCall::Print));
+        }
+        let bytes = Bytes::of(self.alloc, bytes)?;
+        self.add(HostCall::Print, Event::Printed { kind, bytes })?;
+        Ok(())
+    }
+
+    fn log(&self) -> &[Event] {
+        &self.events
+    }
+}
