@@ -1,5 +1,5 @@
 -- The host in memory: what it is seen as, and what it answers.
-use Rattle.std.specs.Prelude.{◌≡◌, ℕ, ◌-◌, pos, List, [], ◌++◌, ◌∷◌, map, reverse, find, Bool, true, false, ◌&&◌, ◌||◌, ◌==◌, if◌then◌else◌, bytes_eq, Result, Ok, Err}
+use Rattle.std.specs.Prelude.{◌≡◌, ℕ, ◌+◌, ◌-◌, ◌^◌, min, pos, List, [], ◌++◌, ◌∷◌, map, reverse, find, Bool, true, false, ◌&&◌, ◌||◌, ◌==◌, if◌then◌else◌, bytes_eq, Result, Ok, Err}
 use Rattle.std.specs.List.{list_any}
 use Rattle.std.specs.Option.{option_map_or}
 use Rattle.cc_host.specs.Command.{CommandSeen}
@@ -79,16 +79,30 @@ abbrev pub is_fault : HostError → Bool
 is_fault (Failed _ _) = true
 is_fault NoMemory = false
 
--- a call of the kind is over: it is counted, and what the host was told else stands as before
-abbrev pub IsCounted : HostCall → BenchSeen → BenchSeen → Type 0
-IsCounted call old new = new ≡ record old { log = new.log; faults = new.faults; failures = map (count_down call) old.failures }
+-- a call of the kind is over: it is counted, the faults are these, and what the host was told else stands as before
+abbrev pub IsCounted : HostCall → ℕ → BenchSeen → BenchSeen → Type 0
+IsCounted call faults old new = new ≡ record old { log = new.log; faults = faults; failures = map (count_down call) old.failures }
 
 -- A call failed, and is counted. Where memory was refused the host is as before.
 abbrev pub IsFailure : HostCall → BenchSeen → BenchSeen → HostError → Type 0
-IsFailure call old new (Failed _ why) = (why ≡ Other) × IsCounted call old new
+IsFailure call old new (Failed _ why) = (why ≡ Other) × IsCounted call (min (old.faults + 1) (2 ^ 64 - 1)) old new
 IsFailure call old new NoMemory = new ≡ old
 
 -- A call has this answer, or fails where it is to fail.
 abbrev pub Answers : {T : Type 0} → HostCall → T → BenchSeen → BenchSeen → Result T HostError → Type 0
-Answers call answer old new (Ok x) = (is_due call old.failures ≡ false) × (x ≡ answer) × IsCounted call old new
+Answers call answer old new (Ok x) = (is_due call old.failures ≡ false) × (x ≡ answer) × IsCounted call old.faults old new
 Answers call answer old new (Err e) = (is_fault e ≡ true → is_due call old.failures ≡ true) × IsFailure call old new e
+
+-- a host that was told nothing
+abbrev pub IsPlain : BenchSeen → Type 0
+IsPlain host = (host.scripts ≡ []) × (host.missing ≡ []) × (host.failures ≡ [])
+
+-- a call has this answer, or memory was refused
+abbrev pub Gives : {T : Type 0} → T → Result T HostError → Type 0
+Gives answer (Ok x) = x ≡ answer
+Gives answer (Err (Failed _ _)) = ⊥
+Gives answer (Err NoMemory) = Unit {0}
+
+-- what a command ends with on a host that was told nothing
+abbrev pub plain_end : Ran
+plain_end = Done (Code (pos 0)) [] []

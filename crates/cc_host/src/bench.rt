@@ -3,7 +3,7 @@ ghost use Rattle.std.specs.Prelude.{◌≡◌, ◌≤◌, [], ◌∷◌, ◌++�
 ghost use Rattle.cc_host.specs.declared.event.HostCall.TheVariants.{Output, MakeDir, Remove as Removes, Print};
 ghost use Rattle.cc_host.specs.declared.event.Removal.TheVariants.{Absent};
 ghost use Rattle.cc_host.specs.Event.{refused, ran, made, removed, printed, IsCaused, IsSilent};
-ghost use Rattle.cc_host.specs.Bench.{BenchSeen, fresh, answer_to, count_down, Answers, IsFailure};
+ghost use Rattle.cc_host.specs.Bench.{BenchSeen, fresh, answer_to, count_down, plain_end, Answers, Gives, IsFailure, IsPlain};
 
 use crate::script::{Failure, Scripted};
 use crate::{
@@ -118,6 +118,7 @@ impl Host<Bench> for BenchHost {
         ensures later { self.old.faults ≤ self.new.faults }
         ensures cause { IfErr result (IsCaused Output self.old.faults self.new.faults) }
         ensures answers { Answers Output (answer_to self.old role cmd.now) self.old self.new result }
+        ensures plain { IsPlain self.old → IsPlain self.new × Gives plain_end result }
     {
         if script::is_due(&self.failures, HostCall::Output) {
             return Err(self.fault(HostCall::Output));
@@ -147,6 +148,7 @@ impl Host<Bench> for BenchHost {
         ensures later { self.old.faults ≤ self.new.faults }
         ensures cause { IfErr result (IsCaused (MakeDir scope) self.old.faults self.new.faults) }
         ensures answers { Answers (MakeDir scope) tt self.old self.new result }
+        ensures plain { IsPlain self.old → IsPlain self.new × Gives tt result }
     {
         if script::is_due(&self.failures, HostCall::MakeDir(scope)) {
             return Err(self.fault(HostCall::MakeDir(scope)));
@@ -161,6 +163,7 @@ impl Host<Bench> for BenchHost {
         ensures later { self.old.faults ≤ self.new.faults }
         ensures cause { IfErr result (IsCaused Removes self.old.faults self.new.faults) }
         ensures answers { Answers Removes Absent self.old self.new result }
+        ensures plain { IsPlain self.old → IsPlain self.new × Gives Absent result }
     {
         if script::is_due(&self.failures, HostCall::Remove) {
             return Err(self.fault(HostCall::Remove));
@@ -176,6 +179,7 @@ impl Host<Bench> for BenchHost {
         ensures later { self.old.faults ≤ self.new.faults }
         ensures cause { IfErr result (IsCaused Print self.old.faults self.new.faults) }
         ensures answers { Answers Print tt self.old self.new result }
+        ensures plain { IsPlain self.old → IsPlain self.new × Gives tt result }
     {
         if script::is_due(&self.failures, HostCall::Print) {
             return Err(self.fault(HostCall::Print));
