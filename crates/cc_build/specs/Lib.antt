@@ -1,0 +1,6 @@
+pub mod Built
+pub mod Error
+pub mod ErrorFields
+pub mod Outcome
+pub mod Refusal
+pub mod Stop

@@ -1,0 +1,106 @@
+// The stages of a compile run.
+ghost use Rattle.std.specs.Prelude.{◌≡◌, ◌++◌, [], ◌∷◌, None};
+ghost use Rattle.cc_host.specs.Part.{since, runs};
+ghost use Rattle.cc_host.specs.Part.Step.{Removes};
+ghost use Rattle.cc_host.specs.declared.event.LineKind.TheVariants.{Link};
+ghost use Rattle.cc_host.specs.declared.event.Role.TheVariants.{Archive, Index, Compile};
+ghost use Rattle.cc_plan.specs.Names.{library_name};
+ghost use Rattle.cc_plan.specs.Plan.{objects_of, library_of, prints, folder_steps, late_steps, planned_steps};
+ghost use Rattle.cc_build.specs.Outcome.{Outcome};
+ghost use Rattle.cc_build.specs.Refusal.{late_error, refusal_error};
+
+use crate::Error;
+use crate::message::or_no_memory;
+use crate::refusal::{dir_of, plan_error};
+use crate::run::{make_folder, print_lines, remove_library, run_commands};
+use cc_host::{Host, LineKind, Role, World};
+use cc_plan::{BuildConfig, Plan, Sources, plan_commands, plan_sources};
+use std::alloc::Global;
+
+// Removes the old library, archives, indexes, and prints the link lines.
+#[tactic(auto, using(cc_host::proofs::Parts::since_append))]
+fn write_library<W: World, H: Host<W>>(
+    alloc: Global,
+    host: &mut H,
+    library: &str,
+    plan: &Plan,
+) -> Result<(), Error>
+    ensures extends { H.log host.new ≡ H.log host.old ++ since (H.log host.old) (H.log host.new) }
+    ensures outcome { Outcome None ((Removes library.now ∷ []) ++ (runs Archive plan.now.archives.items ++ (runs Index plan.now.indexes.items ++ prints Link plan.now.lines))) (since (H.log host.old) (H.log host.new)) result }
+{
+    remove_library(alloc, host, library)?;
+    run_commands(alloc, host, Role::Archive, &plan.archives)?;
+    run_commands(alloc, host, Role::Index, &plan.indexes)?;
+    print_lines(alloc, host, LineKind::Link, &plan.lines)
+}
+
+// Compiles the sources in order, up to the first command that fails, and writes the library.
+#[tactic(auto, using(cc_host::proofs::Parts::since_append))]
+fn run_plan<W: World, H: Host<W>>(
+    alloc: Global,
+    host: &mut H,
+    library: &str,
+    plan: &Plan,
+) -> Result<(), Error>
+    ensures extends { H.log host.new ≡ H.log host.old ++ since (H.log host.old) (H.log host.new) }
+    ensures outcome { Outcome None (runs Compile plan.now.compiles.items ++ ((Removes library.now ∷ []) ++ (runs Archive plan.now.archives.items ++ (runs Index plan.now.indexes.items ++ prints Link plan.now.lines)))) (since (H.log host.old) (H.log host.new)) result }
+{
+    run_commands(alloc, host, Role::Compile, &plan.compiles)?;
+    write_library(alloc, host, library, plan)
+}
+
+// Plans the commands, and runs the plan.
+#[tactic(auto, using(cc_host::proofs::Parts::since_append))]
+fn compile_sources<W: World, H: Host<W>>(
+    alloc: Global,
+    host: &mut H,
+    set: &BuildConfig,
+    output: &str,
+    sources: &Sources,
+) -> Result<(), Error>
+    requires name { sources.now.name ≡ library_name output.now }
+    requires library { sources.now.library ≡ library_of set.now output.now }
+    requires objects { sources.now.objects.items ≡ objects_of set.now }
+    ensures extends { H.log host.new ≡ H.log host.old ++ since (H.log host.old) (H.log host.new) }
+    ensures outcome { Outcome (late_error set.now output.now) (late_steps set.now output.now) (since (H.log host.old) (H.log host.new)) result }
+{
+    match plan_commands(alloc, set, output, sources) {
+        Ok(plan) => run_plan(alloc, host, sources.library.as_str(), &plan),
+        Err(error) => Err(or_no_memory(plan_error(alloc, set, output, error))),
+    }
+}
+
+// Makes the folder of the objects, where there is a source.
+#[tactic(auto, using(cc_host::proofs::Parts::since_append), unfolding(cc_plan::specs::Plan::folder_steps))]
+fn prepare_folder<W: World, H: Host<W>>(
+    alloc: Global,
+    host: &mut H,
+    set: &BuildConfig,
+) -> Result<(), Error>
+    ensures extends { H.log host.new ≡ H.log host.old ++ since (H.log host.old) (H.log host.new) }
+    ensures outcome { Outcome None (folder_steps set.now) (since (H.log host.old) (H.log host.new)) result }
+{
+    if set.files.is_empty() {
+        return Ok(());
+    }
+    make_folder(alloc, host, dir_of(set))
+}
+
+/// Checks the settings, makes the folder, plans the commands and runs them.
+#[tactic(auto, using(cc_host::proofs::Parts::since_append))]
+pub(crate) fn compile<W: World, H: Host<W>>(
+    alloc: Global,
+    host: &mut H,
+    set: &BuildConfig,
+    output: &str,
+) -> Result<(), Error>
+    ensures extends { H.log host.new ≡ H.log host.old ++ since (H.log host.old) (H.log host.new) }
+    ensures outcome { Outcome (refusal_error set.now output.now) (planned_steps set.now output.now) (since (H.log host.old) (H.log host.new)) result }
+{
+    let sources = match plan_sources(alloc, set, output) {
+        Ok(sources) => sources,
+        Err(error) => return Err(or_no_memory(plan_error(alloc, set, output, error))),
+    };
+    prepare_folder(alloc, host, set)?;
+    compile_sources(alloc, host, set, output, &sources)
+}

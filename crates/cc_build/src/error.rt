@@ -1,0 +1,132 @@
+// The error of a build.
+ghost use Rattle.std.specs.Prelude.{◌≡◌, IfOk, Some};
+ghost use Rattle.cc_build.specs.Error.{no_memory};
+
+use cc_text::{Mem, NoMemory, Text};
+use std::fmt;
+use std::marker::Model;
+
+/// What kind an error is of.
+#[derive(Clone, Copy, Debug, PartialEq, Eq)]
+pub enum ErrorKind {
+    /// The host couldn't make a folder, remove a file or print.
+    IOError,
+    /// A variable that is wanted is set nowhere.
+    EnvVarNotFound,
+    /// A command ended with another status than 0, or couldn't be run.
+    ToolExecError,
+    /// A program can't be found.
+    ToolNotFound,
+    /// An argument is wrong.
+    InvalidArgument,
+    /// The target isn't known.
+    UnknownTarget,
+    /// Memory was refused. Subject and message are empty.
+    NoMemory,
+}
+
+#[derive(Drop, Debug)]
+struct Told {
+    kind: ErrorKind,
+    subject: Text,
+    message: Text,
+}
+
+/// Why a build was refused: a kind, the value that it is about, and a message for the user.
+#[derive(Drop, Debug)]
+pub struct Error {
+    told: Option<Told>,
+}
+
+impl Model for Error {
+    ghost use Rattle.cc_build.specs.Error.{ErrorSeen};
+
+    ghost Value = { ErrorSeen };
+
+    ghost use Rattle.cc_build.specs.ErrorFields.{seen};
+
+    ghost view = { seen };
+}
+
+impl Error {
+    // An error that tells something.
+    pub(crate) fn told(kind: ErrorKind, subject: Text, message: Text) -> Error
+        ensures { result ≡ record { kind = kind; subject = subject; message = message } }
+    {
+        Error {
+            told: Some(Told {
+                kind,
+                subject,
+                message,
+            }),
+        }
+    }
+
+    // Want of memory.
+    pub(crate) fn no_memory() -> Error
+        ensures { result ≡ no_memory }
+    {
+        Error { told: None }
+    }
+
+    /// What kind it is of.
+    pub fn kind(&self) -> ErrorKind
+        ensures { result ≡ self.now.kind }
+    {
+        match &self.told {
+            Some(told) => told.kind,
+            None => ErrorKind::NoMemory,
+        }
+    }
+
+    /// The value that it is about: a variable's name, a target, a path, a program or an output. Empty where it is about none.
+    pub fn subject(&self) -> &str
+        ensures { result.now ≡ self.now.subject }
+    {
+        match &self.told {
+            Some(told) => told.subject.as_str(),
+            None => "",
+        }
+    }
+
+    /// The message for the user.
+    pub fn message(&self) -> &str
+        ensures { result.now ≡ self.now.message }
+    {
+        match &self.told {
+            Some(told) => told.message.as_str(),
+            None => "",
+        }
+    }
+
+    /// A second error, equal to this one.
+    pub fn try_clone(&self) -> Mem<Error>
+        ensures { IfOk result (λ e. e ≡ self.now) }
+    {
+        let told = match &self.told {
+            Some(told) => Some(Told {
+                kind: told.kind,
+                subject: told.subject.try_clone()?,
+                message: told.message.try_clone()?,
+            }),
+            None => None,
+        };
+        Ok(Error { told })
+    }
+}
+
+impl From<NoMemory> for Error {
+    ghost from_gives = { λ _ e. e ≡ no_memory };
+
+    fn from(_: NoMemory) -> Self {
+        Error::no_memory()
+    }
+}
+
+impl fmt::Display for Error {
+    fn fmt<W: fmt::Write>(&self, f: &mut fmt::Formatter<W>) -> fmt::Result {
+        write!(f, "{:?}: {}", self.kind(), self.message())
+    }
+}
+
+impl std::error::Error for Error {}

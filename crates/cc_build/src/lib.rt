@@ -1,0 +1,16 @@
+//! `Build`: settings, and the compile run that they ask for.
+//!
+//! Stands on `cc_text`, `cc_host` and `cc_plan`. A run makes the plan, asks the host for its steps one after another,
+//! and stops at the first that is refused. The crate above uses one thing: `try_compile` answers Ok only where `Built`
+//! holds, and each error has its cause in the settings or in the log (`specs/Outcome.antt`).
+#![tactic(auto)]
+
+mod build;
+mod compiling;
+mod error;
+mod message;
+mod refusal;
+mod run;
+
+pub use build::Build;
+pub use error::{Error, ErrorKind};

@@ -1,0 +1,105 @@
+// The errors of refused settings.
+ghost use Rattle.std.specs.Prelude.{◌≡◌, IfOk};
+ghost use Rattle.cc_plan.specs.Object.{object_path as path_of};
+ghost use Rattle.cc_plan.specs.Plan.{dir_of};
+ghost use Rattle.cc_build.specs.Refusal.{source_at, invalid as invalid_error, same_object_error, unset_error, unknown_error, argument_error, plan_error};
+
+use crate::{Error, ErrorKind};
+use cc_plan::{ArgumentCause, BuildConfig, PlanError, object_path};
+use cc_text::{Mem, Text};
+use std::alloc::Global;
+
+fn source_at(set: &BuildConfig, place: u64) -> &str
+    ensures { result.now ≡ source_at set.now place }
+{
+    match set.files.get(place as usize) {
+        Some(source) => source.as_str(),
+        None => "",
+    }
+}
+
+pub(crate) fn dir_of(set: &BuildConfig) -> &str
+    ensures { result.now ≡ dir_of set.now }
+{
+    match &set.out_dir {
+        Some(dir) => dir.as_str(),
+        None => "",
+    }
+}
+
+// An error of kind InvalidArgument with a text alone as its message.
+fn invalid(alloc: Global, subject: &str, message: &str) -> Mem<Error>
+    ensures { IfOk result (λ e. e ≡ invalid_error subject.now message.now) }
+{
+    let subject = Text::of(alloc, subject)?;
+    let message = Text::of(alloc, message)?;
+    Ok(Error::told(ErrorKind::InvalidArgument, subject, message))
+}
+
+fn same_object(alloc: Global, set: &BuildConfig, source: &str) -> Mem<Error>
+    ensures { IfOk result (λ e. e ≡ same_object_error (path_of (dir_of set.now) source.now)) }
+{
+    let subject = object_path(alloc, dir_of(set), source)?;
+    let mut message = Text::of(alloc, "two sources have the object ")?;
+    message.push_str(subject.as_str())?;
+    Ok(Error::told(ErrorKind::InvalidArgument, subject, message))
+}
+
+fn argument_error(
+    alloc: Global,
+    set: &BuildConfig,
+    output: &str,
+    cause: ArgumentCause,
+) -> Mem<Error>
+    ensures { IfOk result (λ e. e ≡ argument_error set.now output.now cause) }
+{
+    match cause {
+        ArgumentCause::Output => invalid(
+            alloc,
+            output,
+            "argument must be a single normal path component",
+        ),
+        ArgumentCause::OutDir => invalid(alloc, "", "out dir must not be empty"),
+        ArgumentCause::NoFileName(place) => invalid(
+            alloc,
+            source_at(set, place),
+            "No file_name for object file path!",
+        ),
+        ArgumentCause::SameObject(_, second) => same_object(alloc, set, source_at(set, second)),
+    }
+}
+
+fn not_set(alloc: Global, name: Text) -> Mem<Error>
+    ensures { IfOk result (λ e. e ≡ unset_error name) }
+{
+    let mut message = Text::of(alloc, "environment variable ")?;
+    message.push_str(name.as_str())?;
+    message.push_str(" not defined")?;
+    Ok(Error::told(ErrorKind::EnvVarNotFound, name, message))
+}
+
+fn unknown_target(alloc: Global, target: Text) -> Mem<Error>
+    ensures { IfOk result (λ e. e ≡ unknown_error target) }
+{
+    let mut message = Text::of(alloc, "unknown target ")?;
+    message.push_str(target.as_str())?;
+    Ok(Error::told(ErrorKind::UnknownTarget, target, message))
+}
+
+// The error of a refusal, for a compile run of these settings with this output.
+#[tactic(auto, unfolding(crate::specs::Refusal::plan_error))]
+pub(crate) fn plan_error(
+    alloc: Global,
+    set: &BuildConfig,
+    output: &str,
+    error: PlanError,
+) -> Mem<Error>
+    ensures { IfOk result (λ e. e ≡ plan_error set.now output.now error) }
+{
+    match error {
+        PlanError::Argument(cause) => argument_error(alloc, set, output, cause),
+        PlanError::NotSet(name) => not_set(alloc, name),
+        PlanError::UnknownTarget(target) => unknown_target(alloc, target),
+        PlanError::NoMemory => Ok(Error::no_memory()),
+    }
+}

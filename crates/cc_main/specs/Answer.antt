@@ -1,0 +1,78 @@
+-- What the program answers to its words, and what it did for them.
+use Rattle.std.specs.Prelude.{◌≡◌, ◌⊎◌, ◌≢◌, ℕ, List, [], ◌∷◌, ◌++◌, Option, Some, None, Result, Ok, Err, codes}
+use Rattle.std.specs.Fmt.{decimal}
+use Rattle.cc_host.specs.Part.{IsPartly}
+use Rattle.cc_host.specs.declared.event.Event.{Event}
+use Rattle.cc_host.specs.declared.event.Event.TheVariants.{Printed, Fault}
+use Rattle.cc_host.specs.declared.event.HostCall.TheVariants.{Print}
+use Rattle.cc_host.specs.declared.event.LineKind.TheVariants.{Fault as FaultLine}
+use Rattle.cc_host.specs.declared.event.Why.{Why}
+use Rattle.cc_plan.specs.declared.settings.BuildConfig.{BuildConfig}
+use Rattle.cc_plan.specs.Plan.{planned_steps}
+use Rattle.cc_build.specs.Built.{Built}
+use Rattle.cc_build.specs.Error.{ErrorSeen, no_memory}
+use Rattle.cc_build.specs.Outcome.{IsCausedBy}
+use Rattle.cc_build.specs.Refusal.{refusal_error}
+use Rattle.cc_main.specs.declared.words.BadWord.{BadWord}
+use Rattle.cc_main.specs.declared.words.WordCause.{WordCause}
+use Rattle.cc_main.specs.declared.words.WordCause.TheVariants.{NoCommand, UnknownCommand, NoName, NoValue, UnknownKey, BadValue}
+use Rattle.cc_main.specs.declared.top.Ended.{Ended}
+
+abbrev pub cause_text : WordCause → List ℕ
+cause_text NoCommand = codes "no command"
+cause_text UnknownCommand = codes "unknown command"
+cause_text NoName = codes "no name"
+cause_text NoValue = codes "no value"
+cause_text UnknownKey = codes "unknown key"
+cause_text BadValue = codes "bad value"
+
+-- the line for a bad word
+abbrev pub word_line : BadWord → List ℕ
+word_line bad = codes "word " ++ decimal bad.place ++ codes ": " ++ cause_text bad.cause ++ 10 ∷ []
+
+-- the line for an error
+abbrev pub error_line : ErrorSeen → List ℕ
+error_line e = codes "error occurred in cc-rs: " ++ e.message ++ 10 ∷ []
+
+-- the line was printed, or its print faulted
+abbrev pub Tells : List ℕ → List Event → Type 0
+Tells line part = (part ≡ Printed FaultLine line ∷ []) ⊎ ((why : Why) × (part ≡ Fault Print why ∷ []))
+
+-- status 0: neither an error nor a word
+abbrev pub ended_well : Ended
+ended_well = record { status = 0; error = None; word = None }
+
+-- status 1: the error
+abbrev pub ended_refused : ErrorSeen → Ended
+ended_refused e = record { status = 1; error = Some e; word = None }
+
+-- status 2: the bad word
+abbrev pub ended_bad : BadWord → Ended
+ended_bad bad = record { status = 2; error = None; word = Some bad }
+
+-- status 3: neither
+abbrev pub ended_wanting : Ended
+ended_wanting = record { status = 3; error = None; word = None }
+
+-- a compile run that was refused: its first steps were done, and the line of its error was printed last
+pub record Refused (set : BuildConfig) (name : List ℕ) (part : List Event) (ended : Ended) : Type 0 where
+  pub error : ErrorSeen
+  pub run : List Event
+  pub line : List Event
+  pub cut : part ≡ run ++ line
+  pub told : Tells (error_line error) line
+  pub partly : IsPartly (planned_steps set name) run
+  pub cause : IsCausedBy (refusal_error set name) (planned_steps set name) run error
+  pub known : error ≢ no_memory
+  pub is : ended ≡ ended_refused error
+
+-- a compile run: it is built, or refused, or memory was wanted behind its first steps
+abbrev pub Answers : BuildConfig → List ℕ → List Event → Ended → Type 0
+Answers set name part ended =
+    ((ended ≡ ended_well) × Built set name part)
+    ⊎ (Refused set name part ended
+    ⊎ ((ended ≡ ended_wanting) × IsPartly (planned_steps set name) part))
+
+-- bad words: their line alone was printed, or memory for it was wanted
+abbrev pub AnswersBad : BadWord → List Event → Ended → Type 0
+AnswersBad bad part ended = ((ended ≡ ended_bad bad) × Tells (word_line bad) part) ⊎ ((ended ≡ ended_wanting) × (part ≡ []))

@@ -1,0 +1,150 @@
+// The top call of the program.
+ghost use Rattle.std.specs.Prelude.{◌≡◌, ◌++◌, map, string_bytes, MatchResult, IfOk};
+ghost use Rattle.std.specs.Fmt.{decimal};
+ghost use Rattle.cc_host.specs.Part.{since};
+ghost use Rattle.cc_main.specs.Answer.{Answers, AnswersBad, cause_text as text_of, word_line as line_of_word, error_line as line_of_error};
+ghost use Rattle.cc_main.specs.Read.{read};
+
+use crate::reading::read_words;
+use crate::words::{BadWord, Job, ReadError, WordCause};
+use cc_build::{Error, ErrorKind};
+use cc_host::{Host, HostError, LineKind, World};
+use cc_text::{Mem, Text};
+use std::alloc::{AllocError, Global};
+
+/// What a run answers: its status, and with 1 the error, with 2 the bad word.
+///
+/// The statuses are 0 done, 1 refused by the build, 2 words refused, and 3 want of memory.
+#[derive(Drop, Debug)]
+pub struct Ended {
+    pub status: u8,
+    pub error: Option<Error>,
+    pub word: Option<BadWord>,
+}
+
+fn ended_wanting() -> Ended
+    ensures { result ≡ wanting }
+{
+    Ended {
+        status: 3,
+        error: None,
+        word: None,
+    }
+}
+
+fn cause_text(cause: WordCause) -> &'static str
+    ensures { result.now ≡ text_of cause }
+{
+    match cause {
+        WordCause::NoCommand => "no command",
+        WordCause::UnknownCommand => "unknown command",
+        WordCause::NoName => "no name",
+        WordCause::NoValue => "no value",
+        WordCause::UnknownKey => "unknown key",
+        WordCause::BadValue => "bad value",
+    }
+}
+
+fn decimal(alloc: Global, n: u64) -> Result<String, AllocError>
+    ensures { IfOk result (λ s. string_bytes s ≡ decimal n) }
+{
+    format!(in alloc; "{n}")
+}
+
+fn word_line(alloc: Global, bad: BadWord) -> Mem<Text>
+    ensures { IfOk result (λ line. line ≡ line_of_word bad) }
+{
+    let place = decimal(alloc, bad.place)?;
+    let mut line = Text::of(alloc, "word ")?;
+    line.push_str(place.as_str())?;
+    line.push_str(": ")?;
+    line.push_str(cause_text(bad.cause))?;
+    line.push_str("\n")?;
+    Ok(line)
+}
+
+fn error_line(alloc: Global, error: &Error) -> Mem<Text>
+    ensures { IfOk result (λ line. line ≡ line_of_error error.now) }
+{
+    let mut line = Text::of(alloc, "error occurred in cc-rs: ")?;
+    line.push_str(error.message())?;
+    line.push_str("\n")?;
+    Ok(line)
+}
+
+// Prints a line of kind Fault. A fault of the print changes nothing.
+#[tactic(auto, using(cc_host::proofs::Parts::since_append))]
+fn tell<W: World, H: Host<W>>(host: &mut H, line: &Text) -> Mem<()>
+    ensures extends { H.log host.new ≡ H.log host.old ++ since (H.log host.old) (H.log host.new) }
+    ensures told { OnOk result (Tells line.now (since (H.log host.old) (H.log host.new))) }
+    ensures wanting { OnErr result (since (H.log host.old) (H.log host.new) ≡ []) }
+{
+    match host.print(LineKind::Fault, line.as_str().as_bytes()) {
+        Ok(()) => Ok(()),
+        Err(HostError::Fault(_, _)) => Ok(()),
+        Err(HostError::NoMemory) => Err(NoMemory),
+    }
+}
+
+// The end of a run with a bad word.
+#[tactic(auto, using(cc_host::proofs::Parts::since_append))]
+fn refuse_word<W: World, H: Host<W>>(alloc: Global, host: &mut H, bad: BadWord) -> Ended
+    ensures extends { H.log host.new ≡ H.log host.old ++ since (H.log host.old) (H.log host.new) }
+    ensures answer { AnswersBad bad (since (H.log host.old) (H.log host.new)) result }
+{
+    let Ok(line) = word_line(alloc, bad) else {
+        return ended_wanting();
+    };
+    match tell(host, &line) {
+        Ok(()) => Ended {
+            status: 2,
+            error: None,
+            word: Some(bad),
+        },
+        Err(_) => ended_wanting(),
+    }
+}
+
+// The end of a run that was refused.
+#[tactic(auto, using(cc_host::proofs::Parts::since_append))]
+fn refuse<W: World, H: Host<W>>(alloc: Global, host: &mut H, error: Error) -> Ended
+    ensures extends { H.log host.new ≡ H.log host.old ++ since (H.log host.old) (H.log host.new) }
+    ensures answer { TellsError error (since (H.log host.old) (H.log host.new)) result }
+{
+    if error.kind() == ErrorKind::NoMemory {
+        return ended_wanting();
+    }
+    let Ok(line) = error_line(alloc, &error) else {
+        return ended_wanting();
+    };
+    match tell(host, &line) {
+        Ok(()) => Ended {
+            status: 1,
+            error: Some(error),
+            word: None,
+        },
+        Err(_) => ended_wanting(),
+    }
+}
+
+// Reads the words, and runs what they ask for.
+#[tactic(auto, using(cc_host::proofs::Parts::since_append))]
+fn run<W: World, H: Host<W>>(alloc: Global, words: &[String], host: &mut H) -> Ended
+    ensures extends { H.log host.new ≡ H.log host.old ++ since (H.log host.old) (H.log host.new) }
+    ensures answer { MatchResult (read (map string_bytes words.now)) (λ request. Answers request.1 request.0 (since (H.log host.old) (H.log host.new)) result) (λ bad. AnswersBad bad (since (H.log host.old) (H.log host.new)) result) }
+{
+    let request = match read_words::<W>(alloc, words) {
+        Ok(request) => request,
+        Err(ReadError::Bad(bad)) => return refuse_word(alloc, host, bad),
+        Err(ReadError::NoMemory) => return ended_wanting(),
+    };
+    let Job::Compile(name) = request.job;
+    match request.build.try_compile(host, name.as_str()) {
+        Ok(()) => Ended {
+            status: 0,
+            error: None,
+            word: None,
+        },
+        Err(error) => refuse(alloc, host, error),
+    }
+}

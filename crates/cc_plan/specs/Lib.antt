@@ -1,0 +1,9 @@
+pub mod Archive
+pub mod Compile
+pub mod Link
+pub mod Names
+pub mod Object
+pub mod Plan
+pub mod Refusal
+pub mod Tool
+pub mod Valid

@@ -1,0 +1,36 @@
+-- The names of a static library, as a linker looks for it: `foo` is in the file `libfoo.a`.
+use Rattle.std.specs.Prelude.{ℕ, List, [], ◌∷◌, ◌++◌, Bool, not, ◌||◌, ◌==◌, Option, Some, None, unwrap_or, is_some, codes, bytes_eq, if◌then◌else◌}
+use Rattle.std.specs.List.{list_any}
+use Rattle.cc_text.specs.Cuts.{after_prefix, before_suffix}
+
+-- a single component of a path that names something, and no file of a library without a name
+unfoldable pub is_output_name : List ℕ → Bool
+is_output_name output =
+    not (bytes_eq output [] || bytes_eq output (codes ".") || bytes_eq output (codes "..")
+    || bytes_eq output (codes "lib.a") || list_any (λ b. b == 47) output)
+
+-- the same text, unless it is empty
+abbrev pub nonempty : List ℕ → Option (List ℕ)
+nonempty [] = None
+nonempty (b ∷ bs) = Some (b ∷ bs)
+
+-- what stands before `.a`
+abbrev pub before_a : Option (List ℕ) → Option (List ℕ)
+before_a None = None
+before_a (Some text) = before_suffix text (codes ".a")
+
+abbrev pub if_nonempty : Option (List ℕ) → Option (List ℕ)
+if_nonempty None = None
+if_nonempty (Some text) = nonempty text
+
+-- what stands between `lib` and `.a`, where that is not empty
+unfoldable pub inner_name : List ℕ → Option (List ℕ)
+inner_name output = if_nonempty (before_a (after_prefix output (codes "lib")))
+
+-- the name of the library: what a linker is told
+abbrev pub library_name : List ℕ → List ℕ
+library_name output = unwrap_or (inner_name output) output
+
+-- the name of its file
+abbrev pub library_file : List ℕ → List ℕ
+library_file output = if is_some (inner_name output) then output else codes "lib" ++ output ++ codes ".a"

@@ -1,0 +1,56 @@
+// Why a plan is refused.
+ghost use Rattle.std.specs.Prelude.{◌≡◌};
+ghost use Rattle.cc_plan.specs.declared.error.PlanError.TheVariants.{NoMemory as WantsMemory};
+
+use cc_text::{NoMemory, Text};
+use std::alloc::{AllocError, AllocFailed};
+
+/// What is wrong with an argument. Places count from 0, in the order in which sources were added.
+#[derive(Clone, Copy, Debug, PartialEq, Eq)]
+pub enum ArgumentCause {
+    /// The output is no name of a library.
+    Output,
+    /// The out dir is empty.
+    OutDir,
+    /// The source at this place has no file name.
+    NoFileName(u64),
+    /// The sources at these two places, the earlier one first, have one object.
+    SameObject(u64, u64),
+}
+
+/// Why a plan is refused.
+#[derive(Drop, Debug)]
+pub enum PlanError {
+    /// An argument is wrong.
+    Argument(ArgumentCause),
+    /// The variable of this name is set nowhere.
+    NotSet(Text),
+    /// The target of this name isn't known.
+    UnknownTarget(Text),
+    /// Memory was refused.
+    NoMemory,
+}
+
+impl From<NoMemory> for PlanError {
+    ghost from_gives = { λ _ e. e ≡ WantsMemory };
+
+    fn from(_: NoMemory) -> Self {
+        PlanError::NoMemory
+    }
+}
+
+impl From<AllocError> for PlanError {
+    ghost from_gives = { λ _ e. e ≡ WantsMemory };
+
+    fn from(_: AllocError) -> Self {
+        PlanError::NoMemory
+    }
+}
+
+impl<T: Drop> From<AllocFailed<T>> for PlanError {
+    ghost from_gives = { λ _ e. e ≡ WantsMemory };
+
+    fn from(_: AllocFailed<T>) -> Self {
+        PlanError::NoMemory
+    }
+}

@@ -1,0 +1,63 @@
+// The names of a library.
+ghost use Rattle.std.specs.Prelude.{◌≡◌, true, false, IfOk, IfErr, OnOk, ◌⊎◌, Some};
+ghost use Rattle.std.specs.Option.{option_copied};
+ghost use Rattle.cc_plan.specs.Names.{is_output_name, inner_name, library_name, library_file};
+ghost use Rattle.cc_plan.specs.Refusal.{name_refusal};
+ghost use Rattle.cc_plan.specs.declared.error.PlanError.TheVariants.{NoMemory as WantsMemory};
+
+use crate::{ArgumentCause, PlanError};
+use cc_text::{Mem, Text, after_prefix, before_suffix};
+use std::alloc::Global;
+
+// A single component of a path that names something, and no file of a library without a name.
+#[tactic(auto, unfolding(crate::specs::Names::is_output_name))]
+fn is_output_name(output: &str) -> bool
+    ensures { result ≡ is_output_name output.now }
+{
+    output != ""
+        && output != "."
+        && output != ".."
+        && output != "lib.a"
+        && !output.as_bytes().iter().any(|b| *b == b'/')
+}
+
+// What stands between `lib` and `.a`, where that is not empty.
+#[tactic(auto, unfolding(crate::specs::Names::inner_name))]
+fn inner_name(output: &str) -> Option<&str>
+    ensures { option_copied result ≡ inner_name output.now }
+{
+    match after_prefix(output, "lib") {
+        None => None,
+        Some(rest) => match before_suffix(rest, ".a") {
+            None => None,
+            Some("") => None,
+            Some(name) => Some(name),
+        },
+    }
+}
+
+fn file_of(alloc: Global, name: &str) -> Mem<Text>
+    ensures { IfOk result (λ t. t ≡ codes "lib" ++ name.now ++ codes ".a") }
+{
+    let mut file = Text::of(alloc, "lib")?;
+    file.push_str(name)?;
+    file.push_str(".a")?;
+    Ok(file)
+}
+
+/// The name of the library that a linker is told, and the name of its file, for an output such as `foo` or `libfoo.a`.
+///
+/// Refused where the output is no single name, or is `lib.a`, which leaves the library without a name.
+pub fn lib_and_archive_names(alloc: Global, output: &str) -> Result<(Text, Text), PlanError>
+    ensures names { IfOk result (λ names. (names.0 ≡ library_name output.now) × (names.1 ≡ library_file output.now)) }
+    ensures allowed { OnOk result (name_refusal output.now ≡ None) }
+    ensures refused { IfErr result (λ e. (e ≡ WantsMemory) ⊎ (name_refusal output.now ≡ Some e)) }
+{
+    if !is_output_name(output) {
+        return Err(PlanError::Argument(ArgumentCause::Output));
+    }
+    match inner_name(output) {
+        Some(name) => Ok((Text::of(alloc, name)?, Text::of(alloc, output)?)),
+        None => Ok((Text::of(alloc, output)?, file_of(alloc, output)?)),
+    }
+}

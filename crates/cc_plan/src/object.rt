@@ -1,0 +1,91 @@
+// The object of each source.
+ghost use Rattle.std.specs.Prelude.{◌≡◌, IfOk, IfErr, OnOk, ◌⊎◌, Some, None, map};
+ghost use Rattle.cc_text.specs.Hash.{fnv1a, fnv1a_from};
+ghost use Rattle.cc_plan.specs.Object.{ended, hashed, object_name as name_of, object_path as path_of, objects_of};
+ghost use Rattle.cc_plan.specs.Refusal.{sources_refusal};
+ghost use Rattle.cc_plan.specs.declared.error.PlanError.TheVariants.{NoMemory as WantsMemory};
+
+use crate::{ArgumentCause, PlanError};
+use cc_text::{
+    Mem, Text, Words, extension, file_name, fnv1a, fnv1a_from, hex16, join, parent, with_extension,
+};
+use std::alloc::Global;
+use std::collections::BTreeMap;
+
+/// A source and its object.
+#[derive(Drop, Debug)]
+pub struct Object {
+    pub src: Text,
+    pub dst: Text,
+}
+
+// One part of what is hashed: a text and the byte FF.
+fn hash_part(start: u64, text: &str) -> u64
+    ensures { result ≡ fnv1a_from start (ended text.now) }
+{
+    fnv1a_from(fnv1a_from(start, text.as_bytes()), b"\xff")
+}
+
+// The hash of where a source lies.
+fn source_hash(source: &str) -> u64
+    ensures { result ≡ fnv1a (hashed source.now) }
+{
+    let folder = parent(source).unwrap_or("");
+    let hash = hash_part(hash_part(fnv1a(b""), "absolute"), folder);
+    match extension(source) {
+        Some(extension) => hash_part(hash, extension),
+        None => hash,
+    }
+}
+
+// The name of an object: the digits of the hash, and the file name of the source.
+#[tactic(auto, unfolding(crate::specs::Object::object_name))]
+fn object_name(alloc: Global, source: &str) -> Mem<Text>
+    ensures { IfOk result (λ name. name ≡ name_of source.now) }
+{
+    let mut name = hex16(alloc, source_hash(source))?;
+    name.push_str("-")?;
+    name.push_str(file_name(source).unwrap_or(""))?;
+    Ok(name)
+}
+
+/// The object of a source in the folder `dir`: sixteen digits, a `-`, and the source's file name with the extension `o`.
+///
+/// The digits are FNV-1a of 64 bits over `absolute`, the source's folder and its extension.
+#[tactic(auto, unfolding(crate::specs::Object::object_path))]
+pub fn object_path(alloc: Global, dir: &str, source: &str) -> Mem<Text>
+    ensures { IfOk result (λ path. path ≡ path_of dir.now source.now) }
+{
+    let name = object_name(alloc, source)?;
+    let path = join(alloc, dir, name.as_str())?;
+    with_extension(alloc, path.as_str(), "o")
+}
+
+/// The object of each source in the folder `dst`, in the order of the sources.
+///
+/// Refused at the first source that has no file name, or the object of an earlier one. Places count from 0.
+pub fn objects_from_files(alloc: Global, files: &Words, dst: &str) -> Result<Vec<Object>, PlanError>
+    ensures objects { IfOk result (λ objects. objects.items ≡ objects_of dst.now files.now) }
+    ensures allowed { OnOk result (sources_refusal dst.now files.now ≡ None) }
+    ensures refused { IfErr result (λ e. (e ≡ WantsMemory) ⊎ (sources_refusal dst.now files.now ≡ Some e)) }
+{
+    let mut objects = Vec::new(alloc);
+    let mut places = BTreeMap::new(alloc);
+    for (place, src) in files.as_slice().iter().enumerate() {
+        let src = src.as_str();
+        let place = place as u64;
+        if file_name(src).is_none() {
+            return Err(PlanError::Argument(ArgumentCause::NoFileName(place)));
+        }
+        let dst = object_path(alloc, dst, src)?;
+        if let Some(earlier) = places.get(dst.as_str()) {
+            return Err(PlanError::Argument(ArgumentCause::SameObject(*earlier, place)));
+        }
+        places.insert(String::from_str(alloc, dst.as_str())?, place)?;
+        objects.push(Object {
+            src: Text::of(alloc, src)?,
+            dst,
+        })?;
+    }
+    Ok(objects)
+}
