@@ -1,1 +1,6 @@
 pub mod Cuts
+pub mod Hash
+pub mod Hex
+pub mod Paths
+pub mod Quoted
+pub mod Vars

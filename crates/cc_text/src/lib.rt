@@ -7,12 +7,18 @@
 
 mod cuts;
 mod family;
+mod hash;
 mod memory;
+mod paths;
+mod quoting;
 mod text;
 mod words;
 
 pub use cuts::{after_prefix, before_suffix, key_and_value};
 pub use family::ToolFamily;
+pub use hash::{fnv1a, fnv1a_from, hex16};
 pub use memory::{Mem, NoMemory};
+pub use paths::{extension, file_name, file_stem, join, parent, same_path, with_extension};
+pub use quoting::quoted;
 pub use text::{Bytes, Text};
 pub use words::{Vars, Words};
