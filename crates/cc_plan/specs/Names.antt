@@ -1,13 +1,19 @@
 -- The names of a static library, as a linker looks for it: `foo` is in the file `libfoo.a`.
-use Rattle.std.specs.Prelude.{ℕ, List, [], ◌∷◌, ◌++◌, Bool, not, ◌||◌, ◌==◌, Option, Some, None, unwrap_or, is_some, codes, bytes_eq, if◌then◌else◌}
+use Rattle.std.specs.Prelude.{ℕ, List, [], ◌∷◌, ◌++◌, Bool, not, ◌&&◌, ◌||◌, ◌==◌, Option, Some, None, unwrap_or, is_some, codes, bytes_eq, if◌then◌else◌}
 use Rattle.std.specs.List.{list_any}
 use Rattle.cc_text.specs.Cuts.{after_prefix, before_suffix}
 
--- a single component of a path that names something, and no file of a library without a name
+-- an output that names no library: `lib.a` would be that of a library without a name
+abbrev pub is_nameless : List ℕ → Bool
+is_nameless output = bytes_eq output [] || bytes_eq output (codes ".") || bytes_eq output (codes "..") || bytes_eq output (codes "lib.a")
+
+-- the text has a `/` in it
+abbrev pub has_slash : List ℕ → Bool
+has_slash output = list_any (λ b. b == 47) output
+
+-- a single component of a path that names a library
 unfoldable pub is_output_name : List ℕ → Bool
-is_output_name output =
-    not (bytes_eq output [] || bytes_eq output (codes ".") || bytes_eq output (codes "..")
-    || bytes_eq output (codes "lib.a") || list_any (λ b. b == 47) output)
+is_output_name output = not (is_nameless output) && not (has_slash output)
 
 -- the same text, unless it is empty
 abbrev pub nonempty : List ℕ → Option (List ℕ)

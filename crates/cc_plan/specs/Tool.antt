@@ -13,9 +13,12 @@ is_known_target target = bytes_eq target (codes "x86_64-unknown-linux-gnu")
 abbrev pub level_text : List ℕ → List ℕ
 level_text level = if bytes_eq level (codes "z") then codes "s" else level
 
+abbrev pub level_word : List ℕ → List ℕ
+level_word level = codes "-O" ++ level_text level
+
 -- the level, and each function and datum in a section of its own
 unfoldable pub optimisation_words : List ℕ → List (List ℕ)
-optimisation_words level = (codes "-O" ++ level_text level) ∷ codes "-ffunction-sections" ∷ codes "-fdata-sections" ∷ []
+optimisation_words level = level_word level ∷ codes "-ffunction-sections" ∷ codes "-fdata-sections" ∷ []
 
 -- a hosted target wants code that can lie anywhere
 abbrev pub position_independence_words : List (List ℕ)

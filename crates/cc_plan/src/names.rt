@@ -1,7 +1,7 @@
 // The names of a library.
-ghost use Rattle.std.specs.Prelude.{◌≡◌, true, false, IfOk, IfErr, OnOk, ◌⊎◌, Some};
+ghost use Rattle.std.specs.Prelude.{◌≡◌, IfOk, IfErr, OnOk, ◌⊎◌, None, ◌++◌, Some, codes};
 ghost use Rattle.std.specs.Option.{option_copied};
-ghost use Rattle.cc_plan.specs.Names.{is_output_name, inner_name, library_name, library_file};
+ghost use Rattle.cc_plan.specs.Names.{is_nameless, has_slash, is_output_name, inner_name, library_name, library_file};
 ghost use Rattle.cc_plan.specs.Refusal.{name_refusal};
 ghost use Rattle.cc_plan.specs.declared.error.PlanError.TheVariants.{NoMemory as WantsMemory};
 
@@ -9,16 +9,24 @@ use crate::{ArgumentCause, PlanError};
 use cc_text::{Mem, Text, after_prefix, before_suffix};
 use std::alloc::Global;
 
-// A single component of a path that names something, and no file of a library without a name.
+// An output that names no library.
+fn is_nameless(output: &str) -> bool
+    ensures { result ≡ is_nameless output.now }
+{
+    matches!(output, "" | "." | ".." | "lib.a")
+}
+
+fn has_slash(output: &str) -> bool
+    ensures { result ≡ has_slash output.now }
+{
+    output.as_bytes().contains(&b'/')
+}
+
 #[tactic(auto, unfolding(crate::specs::Names::is_output_name))]
 fn is_output_name(output: &str) -> bool
     ensures { result ≡ is_output_name output.now }
 {
-    output != ""
-        && output != "."
-        && output != ".."
-        && output != "lib.a"
-        && !output.as_bytes().iter().any(|b| *b == b'/')
+    !is_nameless(output) && !has_slash(output)
 }
 
 // What stands between `lib` and `.a`, where that is not empty.

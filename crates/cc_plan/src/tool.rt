@@ -1,6 +1,6 @@
 // The tool of a compile command: the compiler with the words and variables that all sources share.
 ghost use Rattle.std.specs.Prelude.{◌≡◌, ◌++◌, IfOk, IfErr, OnOk, ◌⊎◌, Some, None};
-ghost use Rattle.cc_plan.specs.Tool.{level_text, optimisation_words, tool_words, command_at, tool_of};
+ghost use Rattle.cc_plan.specs.Tool.{level_text, level_word, optimisation_words, tool_words, command_at, tool_of};
 ghost use Rattle.cc_plan.specs.Tool.{position_independence_words as pic_words, width_words, processor_words, warning_words, extra_warning_words};
 ghost use Rattle.cc_plan.specs.Refusal.{platform_refusal, target_refusal, tool_refusal};
 ghost use Rattle.cc_plan.specs.declared.error.PlanError.TheVariants.{NoMemory as WantsMemory, NotSet};
@@ -24,15 +24,22 @@ fn level_text(level: &str) -> &str
     if level == "z" { "s" } else { level }
 }
 
+fn level_word(alloc: Global, level: &str) -> Mem<Text>
+    ensures { IfOk result (λ word. word ≡ level_word level.now) }
+{
+    let mut word = Text::of(alloc, "-O")?;
+    word.push_str(level_text(level))?;
+    Ok(word)
+}
+
 #[tactic(auto, unfolding(crate::specs::Tool::optimisation_words))]
 fn push_optimisation_words(words: &mut Words, alloc: Global, level: &str) -> Mem<()>
     ensures { OnOk result (words.new ≡ words.old ++ optimisation_words level.now) }
 {
-    let mut word = Text::of(alloc, "-O")?;
-    word.push_str(level_text(level))?;
-    words.push_text(word)?;
+    words.push_text(level_word(alloc, level)?)?;
     words.push("-ffunction-sections")?;
-    words.push("-fdata-sections")
+    words.push("-fdata-sections")?;
+    Ok(())
 }
 
 fn push_position_independence_words(words: &mut Words) -> Mem<()>
