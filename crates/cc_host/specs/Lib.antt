@@ -1,4 +1,5 @@
 pub mod Bench
+pub mod Calls
 pub mod Command
 pub mod Event
 pub mod Part

@@ -6,6 +6,7 @@
 #![tactic(auto)]
 
 mod bench;
+mod calls;
 mod command;
 mod event;
 mod host;
