@@ -6,11 +6,17 @@
 #![tactic(auto)]
 
 mod family;
+mod hash;
 mod memory;
+mod paths;
+mod quoting;
 mod text;
 mod words;
 
 pub use family::ToolFamily;
+pub use hash::{fnv1a, fnv1a_from, hex16};
 pub use memory::{Mem, NoMemory};
+pub use paths::{extension, file_name, file_stem, join, parent, same_path, with_extension};
+pub use quoting::quoted;
 pub use text::{Bytes, Text};
 pub use words::{Vars, Words};

@@ -1,6 +1,7 @@
 // A list of texts, and a list of pairs of texts.
 ghost use Rattle.std.specs.Prelude.{◌≡◌, ◌++◌, [], ◌∷◌, List, ℕ, length, slice_get, IfOk, OnOk, OnErr, IsTrue, ◌↔◌};
 ghost use Rattle.std.specs.Option.{option_copied};
+ghost use Rattle.cc_text.specs.Vars.{with_var, place_of};
 
 use crate::{Mem, Text};
 use std::alloc::Global;
@@ -120,6 +121,28 @@ impl Vars {
         Ok(())
     }
 
+    /// The place of the first pair of a name, or none. It takes no memory.
+    fn place_of(&self, name: &str) -> Option<usize>
+        ensures { result ≡ place_of self.now name.now }
+    {
+        self.vars.iter().position(|pair| pair.0.as_str() == name)
+    }
+
+    /// Gives a name a value: in the place of the first pair of that name, else in a pair that is added last.
+    /// Refused for memory, the list stays as it was.
+    pub fn set(&mut self, name: &str, value: &str) -> Mem<()>
+        ensures ok { OnOk result (self.new ≡ with_var self.old name.now value.now) }
+        ensures err { OnErr result (self.new ≡ self.old) }
+    {
+        match self.place_of(name) {
+            Some(place) => {
+                self.vars[place].1 = Text::of(*self.vars.allocator(), value)?;
+                Ok(())
+            }
+            None => self.push(name, value),
+        }
+    }
+
     /// How many pairs there are.
     pub fn len(&self) -> usize
         ensures { result ≡ length self.now }
@@ -157,5 +180,28 @@ impl Vars {
             vars.push(name.as_str(), value.as_str())?;
         }
         Ok(vars)
+    }
+}
+
+#[cfg(test)]
+mod tests {
+    use super::*;
+    use std::test::Fail;
+
+    #[test]
+    fn a_set_value_stands_in_the_place_of_the_first(rt: HostRuntime) -> Result<(), Fail> {
+        let mut vars = Vars::new(rt.alloc());
+        for (name, value) in [("A", "1"), ("B", "2"), ("A", "3"), ("C", "é")] {
+            vars.push(name, value)?;
+        }
+        vars.set("A", "4")?;
+        vars.set("D", "5")?;
+        assert_eq!(rt; vars.len(), 5);
+        for (place, name, value) in [(0, "A", "4"), (1, "B", "2"), (2, "A", "3"), (4, "D", "5")] {
+            let pair = vars.get(place).expect(&rt, "a pair");
+            assert_eq!(rt; pair.0.as_str(), name);
+            assert_eq!(rt; pair.1.as_str(), value);
+        }
+        Ok(())
     }
 }

@@ -1,0 +1,89 @@
+// The hash FNV-1a of 64 bits, and its digits.
+ghost use Rattle.std.specs.Prelude.{◌≡◌, ℕ, ◌+◌, ◌<◌, ◌≤◌, ◌++◌, [], ◌∷◌, IfOk, OnOk};
+ghost use Rattle.cc_text.specs.Hash.{fnv1a, fnv1a_step, fnv1a_from};
+ghost use Rattle.cc_text.specs.Hex.{hex16, hex_digit, hex_digits};
+
+use crate::{Mem, Text};
+use std::alloc::Global;
+
+/// The hash of one byte more.
+#[tactic(auto, unfolding(crate::specs::Hash::fnv1a_step))]
+fn fnv1a_step(hash: u64, byte: u8) -> u64
+    ensures { result ≡ fnv1a_step hash byte }
+{
+    (hash ^ u64::from(byte)).wrapping_mul(0x0000_0100_0000_01b3)
+}
+
+/// The hash that goes on from `start`, over the bytes: a caller can hash piece by piece. It takes no memory.
+pub fn fnv1a_from(start: u64, bytes: &[u8]) -> u64
+    ensures { result ≡ fnv1a_from start bytes.now }
+{
+    bytes
+        .iter()
+        .fold(start, |hash, byte| fnv1a_step(hash, *byte))
+}
+
+/// FNV-1a of 64 bits over the bytes, by its authors' page (Fowler, Noll, Vo). It takes no memory.
+pub fn fnv1a(bytes: &[u8]) -> u64
+    ensures { result ≡ fnv1a bytes.now }
+{
+    fnv1a_from(0xcbf2_9ce4_8422_2325, bytes)
+}
+
+/// A digit of base 16, in lower case.
+pub(crate) fn hex_digit(digit: u8) -> char
+    requires { digit < 16 }
+    ensures { result ≡ hex_digit digit }
+{
+    if digit < 10 {
+        char::from(b'0' + digit)
+    } else {
+        char::from(b'a' + (digit - 10))
+    }
+}
+
+/// Adds the `count` lowest digits of a number, the highest first.
+#[tactic(auto, unfolding(crate::specs::Hex::hex_digits))]
+fn push_digits(text: &mut Text, count: u8, n: u64) -> Mem<()>
+    ensures { OnOk result (text.new ≡ text.old ++ hex_digits count n) }
+{
+    if count > 0 {
+        push_digits(text, count - 1, n / 16)?;
+        text.push(hex_digit((n % 16) as u8))?;
+    }
+    Ok(())
+}
+
+/// The sixteen digits of a number in hexadecimal, in lower case, with leading zeros.
+#[tactic(auto, unfolding(crate::specs::Hex::hex16))]
+pub fn hex16(alloc: Global, n: u64) -> Mem<Text>
+    ensures { IfOk result (λ text. text ≡ hex16 n) }
+{
+    let mut text = Text::new(alloc);
+    push_digits(&mut text, 16, n)?;
+    Ok(text)
+}
+
+#[cfg(test)]
+mod tests {
+    use super::*;
+    use std::test::Fail;
+
+    #[test]
+    fn gives_the_published_hashes_and_their_digits(rt: HostRuntime) -> Result<(), Fail> {
+        let cases: [(&[u8], u64); 3] = [
+            (b"", 0xcbf2_9ce4_8422_2325),
+            (b"a", 0xaf63_dc4c_8601_ec8c),
+            (b"foobar", 0x8594_4171_f739_67e8),
+        ];
+        for (bytes, hash) in cases {
+            assert_eq!(rt; fnv1a(bytes), hash);
+        }
+        assert_eq!(rt; hex16(rt.alloc(), 10)?.as_str(), "000000000000000a");
+        assert_eq!(rt;
+            hex16(rt.alloc(), 0xaf63_dc4c_8601_ec8c)?.as_str(),
+            "af63dc4c8601ec8c"
+        );
+        Ok(())
+    }
+}
