@@ -1,16 +1,13 @@
 -- The host in memory: what it is seen as, and what it answers.
-use Rattle.std.specs.Prelude.{◌≡◌, ℕ, ◌+◌, ◌-◌, ◌^◌, min, pos, List, [], ◌++◌, ◌∷◌, map, reverse, find, Bool, true, false, ◌&&◌, ◌||◌, ◌==◌, if◌then◌else◌, bytes_eq, Result, Ok, Err}
+use Rattle.std.specs.Prelude.{◌≡◌, ℕ, ◌+◌, ◌-◌, ◌^◌, min, pos, List, [], reverse, find, Bool, true, false, ◌&&◌, ◌||◌, if◌then◌else◌, bytes_eq, Result, Ok, Err}
 use Rattle.std.specs.List.{list_any}
 use Rattle.std.specs.Option.{option_map_or}
 use Rattle.cc_host.specs.Command.{CommandSeen}
 use Rattle.cc_host.specs.declared.event.Role.{Role}
 use Rattle.cc_host.specs.declared.event.Role.TheVariants.{Compile, Archive, Index, Expand}
-use Rattle.cc_host.specs.declared.event.Scope.{Scope}
-use Rattle.cc_host.specs.declared.event.Scope.TheVariants.{Build, Probe}
 use Rattle.cc_host.specs.declared.event.Status.{Status}
 use Rattle.cc_host.specs.declared.event.Status.TheVariants.{Code}
 use Rattle.cc_host.specs.declared.event.HostCall.{HostCall}
-use Rattle.cc_host.specs.declared.event.HostCall.TheVariants.{Output, MakeDir, Remove, Print}
 use Rattle.cc_host.specs.declared.event.Why.TheVariants.{Other}
 use Rattle.cc_host.specs.declared.event.HostError.{HostError}
 use Rattle.cc_host.specs.declared.event.HostError.TheVariants.{Fault as Failed, NoMemory}
@@ -18,7 +15,8 @@ use Rattle.cc_host.specs.declared.event.Ran.{Ran}
 use Rattle.cc_host.specs.declared.event.Ran.TheVariants.{Missing, Done}
 use Rattle.cc_host.specs.declared.event.Event.{Event}
 use Rattle.cc_host.specs.declared.script.Scripted.{Scripted}
-use Rattle.cc_host.specs.declared.script.Failure.{Failure}
+use Rattle.cc_host.specs.declared.calls.Failure.{Failure}
+use Rattle.cc_host.specs.Calls.{calls_of, is_due}
 
 -- what a host in memory is seen as: its log, how often it failed, and what it was told of commands and of calls
 pub record BenchSeen : Type 0 where
@@ -39,18 +37,6 @@ same_role Index Index = true
 same_role Expand Expand = true
 same_role _ _ = false
 
-abbrev pub same_scope : Scope → Scope → Bool
-same_scope Build Build = true
-same_scope Probe Probe = true
-same_scope _ _ = false
-
-abbrev pub same_call : HostCall → HostCall → Bool
-same_call Output Output = true
-same_call (MakeDir a) (MakeDir b) = same_scope a b
-same_call Remove Remove = true
-same_call Print Print = true
-same_call _ _ = false
-
 -- whether a word is among these
 abbrev pub has_word : List ℕ → List (List ℕ) → Bool
 has_word word = list_any (λ w. bytes_eq w word)
@@ -67,31 +53,27 @@ status_of scripts role cmd = option_map_or (λ s. s.script.status) (find (fits r
 abbrev pub answer_to : BenchSeen → Role → CommandSeen → Ran
 answer_to host role cmd = if has_word cmd.program host.missing then Missing else Done (status_of host.scripts role cmd) [] []
 
--- whether the next call of the kind is to fail
-abbrev pub is_due : HostCall → List Failure → Bool
-is_due call = list_any (λ f. same_call f.call call && (f.left == 1))
-
--- one call of the kind is over
-abbrev pub count_down : HostCall → Failure → Failure
-count_down call f = if same_call f.call call then record { call = f.call; left = f.left - 1 } else f
-
 abbrev pub is_fault : HostError → Bool
 is_fault (Failed _ _) = true
 is_fault NoMemory = false
 
--- a call of the kind is over: it is counted, the faults are these, and what the host was told else stands as before
-abbrev pub IsCounted : HostCall → ℕ → BenchSeen → BenchSeen → Type 0
-IsCounted call faults old new = new ≡ record old { log = new.log; faults = faults; failures = map (count_down call) old.failures }
+-- the next call of the kind is one that is to fail
+abbrev pub fails_next : HostCall → BenchSeen → Bool
+fails_next call host = is_due call (calls_of call host.log) host.failures
 
--- A call failed, and is counted. Where memory was refused the host is as before.
-abbrev pub IsFailure : HostCall → BenchSeen → BenchSeen → HostError → Type 0
-IsFailure call old new (Failed _ why) = (why ≡ Other) × IsCounted call (min (old.faults + 1) (2 ^ 64 - 1)) old new
-IsFailure call old new NoMemory = new ≡ old
+-- what the host was told stands as before, and it failed so often
+abbrev pub Keeps : ℕ → BenchSeen → BenchSeen → Type 0
+Keeps faults old new = new ≡ record old { log = new.log; faults = faults }
+
+-- A call failed. Where memory was refused the host is as before.
+abbrev pub IsFailure : BenchSeen → BenchSeen → HostError → Type 0
+IsFailure old new (Failed _ why) = (why ≡ Other) × Keeps (min (old.faults + 1) (2 ^ 64 - 1)) old new
+IsFailure old new NoMemory = new ≡ old
 
 -- A call has this answer, or fails where it is to fail.
 abbrev pub Answers : {T : Type 0} → HostCall → T → BenchSeen → BenchSeen → Result T HostError → Type 0
-Answers call answer old new (Ok x) = (is_due call old.failures ≡ false) × (x ≡ answer) × IsCounted call old.faults old new
-Answers call answer old new (Err e) = (is_fault e ≡ true → is_due call old.failures ≡ true) × IsFailure call old new e
+Answers call answer old new (Ok x) = (fails_next call old ≡ false) × (x ≡ answer) × Keeps old.faults old new
+Answers call answer old new (Err e) = (is_fault e ≡ true → fails_next call old ≡ true) × IsFailure old new e
 
 -- a host that was told nothing
 abbrev pub IsPlain : BenchSeen → Type 0

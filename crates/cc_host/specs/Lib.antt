@@ -1,4 +1,6 @@
 pub mod Bench
+pub mod Calls
 pub mod Command
+pub mod CommandLine
 pub mod Event
 pub mod Part

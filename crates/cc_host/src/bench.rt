@@ -1,14 +1,16 @@
 // A host in memory.
-ghost use Rattle.std.specs.Prelude.{◌≡◌, ◌≤◌, [], ◌∷◌, ◌++◌, map, IfOk, OnOk, OnErr, IfErr};
+ghost use Rattle.std.specs.Prelude.{◌≡◌, ◌≤◌, [], ◌∷◌, ◌++◌, IfOk, OnOk, OnErr, IfErr};
 ghost use Rattle.cc_host.specs.declared.event.HostCall.TheVariants.{Output, MakeDir, Remove as Removes, Print};
 ghost use Rattle.cc_host.specs.declared.event.Removal.TheVariants.{Absent};
 ghost use Rattle.cc_host.specs.Event.{refused, ran, made, removed, printed, IsCaused, IsSilent};
-ghost use Rattle.cc_host.specs.Bench.{BenchSeen, fresh, answer_to, count_down, plain_end, Answers, Gives, IsFailure, IsPlain};
+ghost use Rattle.cc_host.specs.Calls.{CountsOf};
+ghost use Rattle.cc_host.specs.Bench.{BenchSeen, fresh, fails_next, answer_to, plain_end, Answers, Gives, IsFailure, IsPlain};
 
-use crate::script::{Failure, Scripted};
+use crate::calls::{self, Counts, Failure};
+use crate::script::{self, Scripted};
 use crate::{
     Command, Event, Host, HostCall, HostError, LineKind, Pipes, Ran, Removal, Role, Scope, Script,
-    Why, World, script,
+    Why, World,
 };
 use cc_text::{Bytes, Mem, Text, Words};
 use std::alloc::Global;
@@ -28,12 +30,15 @@ pub struct BenchHost {
     scripts: Vec<Scripted>,
     missing: Words,
     failures: Vec<Failure>,
+    counts: Counts,
 }
 
 impl Model for BenchHost {
     ghost Value = { BenchSeen };
 
     ghost view = { λ h. record { log = h.events.items; faults = h.faults; scripts = h.scripts.items; missing = h.missing; failures = h.failures.items } };
+
+    ghost invariant = { λ h. CountsOf h.events.items h.counts };
 }
 
 impl BenchHost {
@@ -48,6 +53,7 @@ impl BenchHost {
             scripts: Vec::new(alloc),
             missing: Words::new(alloc),
             failures: Vec::new(alloc),
+            counts: Counts::new(),
         })
     }
 
@@ -70,22 +76,30 @@ impl BenchHost {
         self.missing.push(program)
     }
 
-    /// Makes the nth call of the kind from here on, counted from 1, fail. Refused for memory, the host stays as it was.
+    /// Makes the nth call of the kind on this host, from 1, fail. Refused for memory, the host stays as it was.
     pub fn fail(&mut self, call: HostCall, nth: u64) -> Mem<()>
-        ensures ok { OnOk result (self.new ≡ record self.old { failures = self.old.failures ++ record { call = call; left = nth } ∷ [] }) }
+        ensures ok { OnOk result (self.new ≡ record self.old { failures = self.old.failures ++ record { call = call; nth = nth } ∷ [] }) }
         ensures err { OnErr result (self.new ≡ self.old) }
     {
-        self.failures.push(Failure { call, left: nth })?;
+        self.failures.push(Failure { call, nth })?;
         Ok(())
     }
 
+    // Whether the next call of the kind is to fail.
+    fn fails_next(&self, call: HostCall) -> bool
+        ensures { result ≡ fails_next call self.now }
+    {
+        calls::is_due(&self.failures, call, self.counts.get(call))
+    }
+
     // Adds the event of a call, and counts the call.
-    fn add(&mut self, call: HostCall, event: Event) -> Mem<()>
-        ensures ok { OnOk result (self.new ≡ record self.old { log = self.old.log ++ event ∷ []; failures = map (count_down call) self.old.failures }) }
+    fn add(&mut self, event: Event) -> Mem<()>
+        ensures ok { OnOk result (self.new ≡ record self.old { log = self.old.log ++ event ∷ [] }) }
         ensures err { OnErr result (self.new ≡ self.old) }
     {
+        let call = calls::kind_of(&event);
         self.events.push(event)?;
-        script::count_down(&mut self.failures, call);
+        self.counts.count(call, self.events.len());
         Ok(())
     }
 
@@ -94,10 +108,10 @@ impl BenchHost {
         ensures adds { self.new.log ≡ self.old.log ++ refused result }
         ensures later { self.old.faults ≤ self.new.faults }
         ensures cause { IsCaused call self.old.faults self.new.faults result }
-        ensures fails { IsFailure call self.old self.new result }
+        ensures fails { IsFailure self.old self.new result }
     {
         let why = Why::Other;
-        match self.add(call, Event::Fault { call, why }) {
+        match self.add(Event::Fault { call, why }) {
             Ok(()) => {
                 self.faults = self.faults.saturating_add(1);
                 HostError::Fault(call, why)
@@ -120,12 +134,12 @@ impl Host<Bench> for BenchHost {
         ensures answers { Answers Output (answer_to self.old role cmd.now) self.old self.new result }
         ensures plain { IsPlain self.old → IsPlain self.new × Gives plain_end result }
     {
-        if script::is_due(&self.failures, HostCall::Output) {
+        if self.fails_next(HostCall::Output) {
             return Err(self.fault(HostCall::Output));
         }
         let cmd = cmd.try_clone()?;
         if script::has_word(&self.missing, cmd.get_program()) {
-            self.add(HostCall::Output, Event::Missing { role, cmd })?;
+            self.add(Event::Missing { role, cmd })?;
             return Ok(Ran::Missing);
         }
         let status = script::status_of(&self.scripts, role, &cmd);
@@ -139,7 +153,7 @@ impl Host<Bench> for BenchHost {
             out: out.try_clone()?,
             err: err.try_clone()?,
         };
-        self.add(HostCall::Output, event)?;
+        self.add(event)?;
         Ok(Ran::Done { status, out, err })
     }
 
@@ -150,11 +164,11 @@ impl Host<Bench> for BenchHost {
         ensures answers { Answers (MakeDir scope) tt self.old self.new result }
         ensures plain { IsPlain self.old → IsPlain self.new × Gives tt result }
     {
-        if script::is_due(&self.failures, HostCall::MakeDir(scope)) {
+        if self.fails_next(HostCall::MakeDir(scope)) {
             return Err(self.fault(HostCall::MakeDir(scope)));
         }
         let path = Text::of(self.alloc, path)?;
-        self.add(HostCall::MakeDir(scope), Event::Made { scope, path })?;
+        self.add(Event::Made { scope, path })?;
         Ok(())
     }
 
@@ -165,12 +179,12 @@ impl Host<Bench> for BenchHost {
         ensures answers { Answers Removes Absent self.old self.new result }
         ensures plain { IsPlain self.old → IsPlain self.new × Gives Absent result }
     {
-        if script::is_due(&self.failures, HostCall::Remove) {
+        if self.fails_next(HostCall::Remove) {
             return Err(self.fault(HostCall::Remove));
         }
         let path = Text::of(self.alloc, path)?;
         let how = Removal::Absent;
-        self.add(HostCall::Remove, Event::Removed { path, how })?;
+        self.add(Event::Removed { path, how })?;
         Ok(how)
     }
 
@@ -181,11 +195,11 @@ impl Host<Bench> for BenchHost {
         ensures answers { Answers Print tt self.old self.new result }
         ensures plain { IsPlain self.old → IsPlain self.new × Gives tt result }
     {
-        if script::is_due(&self.failures, HostCall::Print) {
+        if self.fails_next(HostCall::Print) {
             return Err(self.fault(HostCall::Print));
         }
         let bytes = Bytes::of(self.alloc, bytes)?;
-        self.add(HostCall::Print, Event::Printed { kind, bytes })?;
+        self.add(Event::Printed { kind, bytes })?;
         Ok(())
     }
 

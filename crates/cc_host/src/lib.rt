@@ -6,9 +6,11 @@
 #![tactic(auto)]
 
 mod bench;
+mod calls;
 mod command;
 mod event;
 mod host;
+mod line;
 mod script;
 
 pub use bench::{Bench, BenchHost};
@@ -17,4 +19,5 @@ pub use event::{
     Event, HostCall, HostError, LineKind, OutputKind, Pipes, Ran, Removal, Role, Scope, Status, Why,
 };
 pub use host::{Host, World};
+pub use line::command_line;
 pub use script::Script;

@@ -1,9 +1,9 @@
-// What a host in memory was told of commands and of calls.
-ghost use Rattle.std.specs.Prelude.{◌≡◌, find, map, reverse};
+// What a host in memory was told of commands.
+ghost use Rattle.std.specs.Prelude.{◌≡◌, find, reverse};
 ghost use Rattle.std.specs.Option.{option_copied};
-ghost use Rattle.cc_host.specs.Bench.{same_role, same_call, has_word, fits, status_of, is_due, count_down};
+ghost use Rattle.cc_host.specs.Bench.{same_role, has_word, fits, status_of};
 
-use crate::{Command, HostCall, Role, Status};
+use crate::{Command, Role, Status};
 use cc_text::{Text, Words};
 
 /// What becomes of a command.
@@ -21,21 +21,8 @@ pub struct Scripted {
     pub script: Script,
 }
 
-/// A call that is to fail: its kind, and how many calls of that kind are left, this one counted. None is left once it is over.
-#[derive(Clone, Copy, Debug)]
-pub struct Failure {
-    pub call: HostCall,
-    pub left: u64,
-}
-
 fn is_same_role(a: Role, b: Role) -> bool
     ensures { result ≡ same_role a b }
-{
-    a == b
-}
-
-fn is_same_call(a: HostCall, b: HostCall) -> bool
-    ensures { result ≡ same_call a b }
 {
     a == b
 }
@@ -69,37 +56,5 @@ pub fn status_of(scripts: &[Scripted], role: Role, cmd: &Command) -> Status
     match last_fit(scripts, role, cmd) {
         Some(scripted) => scripted.script.status,
         None => Status::Code(0),
-    }
-}
-
-/// Whether the next call of the kind is to fail.
-pub fn is_due(failures: &[Failure], call: HostCall) -> bool
-    ensures { result ≡ is_due call failures.now }
-{
-    failures
-        .iter()
-        .any(|f| is_same_call(f.call, call) && f.left == 1)
-}
-
-// The failure, once a call of the kind is counted.
-fn counted(failure: Failure, call: HostCall) -> Failure
-    ensures { result ≡ count_down call failure }
-{
-    if is_same_call(failure.call, call) {
-        Failure {
-            call: failure.call,
-            left: failure.left.saturating_sub(1),
-        }
-    } else {
-        failure
-    }
-}
-
-/// Counts a call of the kind.
-pub fn count_down(failures: &mut [Failure], call: HostCall)
-    ensures { failures.new ≡ map (count_down call) failures.old }
-{
-    for failure in failures.iter_mut() {
-        *failure = counted(*failure, call);
     }
 }
