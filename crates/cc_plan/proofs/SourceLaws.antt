@@ -1,7 +1,7 @@
 -- One source more, in the order in which sources are taken.
-use Rattle.std.proofs.Common.{◌≡◌, ◌≢◌, ℕ, suc, ◌+◌, ◌<◌, List, [], ◌∷◌, ◌++◌, length, take, drop, get_or, map, Bool, true, false, Option, Some, None, is_none, bytes_eq, if◌then◌else◌, refl, sym, ◌∙◌, ap, subst, add-one, arith, zero-add}
+use Rattle.std.proofs.Common.{◌≡◌, ℕ, suc, ◌+◌, ◌<◌, List, [], ◌∷◌, ◌++◌, length, take, drop, get_or, map, Bool, true, false, Option, Some, None, is_none, bytes_eq, if◌then◌else◌, refl, sym, ◌∙◌, ap, add-one, arith, zero-add}
 use Rattle.std.proofs.Math.Seq.{drop-cons}
-use Rattle.std.proofs.lemmas.Grind.{take_at_read, common_steps}
+use Rattle.std.proofs.lemmas.Grind.{take_at_read}
 use Rattle.std.proofs.lemmas.List.{length-take-le}
 use Rattle.std.specs.Option.{option_map}
 use Rattle.std.specs.Map.{update}
@@ -11,7 +11,6 @@ use Rattle.cc_plan.specs.Object.{object_path}
 use Rattle.cc_plan.specs.Refusal.{place_from, earlier_place, source_refusal, first_of, sources_after, sources_refusal}
 use Rattle.cc_plan.specs.declared.error.ArgumentCause.{ArgumentCause}
 use Rattle.cc_plan.specs.declared.error.ArgumentCause.TheVariants.{NoFileName, SameObject}
-use Rattle.cc_plan.specs.declared.error.PlanError.{PlanError}
 use Rattle.cc_plan.specs.declared.error.PlanError.TheVariants.{Argument}
 
 -- the source at a place, and then the rest
@@ -52,7 +51,7 @@ place_more : (n : ℕ) (text : List ℕ) (texts : List (List ℕ)) (t : List ℕ
 place_more n text [] t = grind arith
 place_more n text (u ∷ us) t =
     elim (bytes_eq text u) as (λ b. (if b then Some n else place_from (n + 1) text (us ++ t ∷ [])) ≡ first_of (if b then Some n else place_from (n + 1) text us) (if bytes_eq text t then Some (n + length (u ∷ us)) else None)) [
-      true ↦ refl
+      | true ↦ refl
       | false ↦ place_more (n + 1) text us t ∙ ap (λ k. first_of (place_from (n + 1) text us) (if bytes_eq text t then Some k else None)) (grind arith)
     ]
 
@@ -62,7 +61,7 @@ same xs ys h = (bytes_eq-Decides xs ys).0 h
 turned : (xs ys : List ℕ) → bytes_eq xs ys ≡ false → bytes_eq ys xs ≡ false
 turned xs ys h =
     elim (bytes_eq ys xs) as (λ b. (b ≡ true → ys ≡ xs) → b ≡ false) [
-      true ↦ λ f. let e : xs ≡ ys = sym (f refl) in let t : bytes_eq xs ys ≡ true = (bytes_eq-Decides xs ys).1 e in absurd (cc)
+      | true ↦ λ f. let e : xs ≡ ys = sym (f refl) in let t : bytes_eq xs ys ≡ true = (bytes_eq-Decides xs ys).1 e in absurd (cc)
       | false ↦ λ f. refl
     ] (same ys xs)
 

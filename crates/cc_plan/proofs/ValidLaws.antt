@@ -1,17 +1,12 @@
 -- Valid settings are not refused.
-use Rattle.std.proofs.Common.{◌≡◌, ◌≢◌, ℕ, ◌+◌, List, [], ◌∷◌, ◌++◌, map, Bool, true, false, Option, Some, None, IsSome, is_some, is_none, bytes_eq, if◌then◌else◌, refl, sym, ◌∙◌, ap, subst, append_assoc}
+use Rattle.std.proofs.Common.{◌≡◌, ◌≢◌, ℕ, ◌+◌, List, [], ◌∷◌, ◌++◌, map, Bool, true, false, Option, Some, None, IsSome, is_none, bytes_eq, if◌then◌else◌, refl, sym, ap, subst, append_assoc}
 use Rattle.std.specs.List.{AllByRecursion}
-use Rattle.std.specs.Option.{option_map}
 use Rattle.std.specs.Path.{path_file_name}
 use Rattle.std.proofs.lemmas.Slice.Eq.{bytes_eq-Decides}
-use Rattle.cc_plan.specs.Names.{is_output_name}
 use Rattle.cc_plan.specs.Object.{object_path}
 use Rattle.cc_plan.specs.Plan.{dir_of}
-use Rattle.cc_plan.specs.Refusal.{place_from, earlier_place, source_refusal, first_of, sources_after, sources_refusal, name_refusal, out_dir_refusal, unset, target_refusal, platform_refusal, tool_refusal, early_refusal, late_refusal, refusal, is_empty}
-use Rattle.cc_plan.specs.Tool.{is_known_target}
+use Rattle.cc_plan.specs.Refusal.{place_from, earlier_place, source_refusal, sources_after, out_dir_refusal, unset, target_refusal, platform_refusal, tool_refusal, early_refusal, late_refusal, refusal, is_empty}
 use Rattle.cc_plan.specs.Valid.{IsNoneOf, AreApart, IsKnown, IsSetNonempty, Valid}
-use Rattle.cc_plan.specs.declared.error.ArgumentCause.{ArgumentCause}
-use Rattle.cc_plan.specs.declared.error.PlanError.{PlanError}
 use Rattle.cc_plan.specs.declared.settings.BuildConfig.{BuildConfig}
 
 differs : (xs ys : List ℕ) → xs ≢ ys → bytes_eq xs ys ≡ false

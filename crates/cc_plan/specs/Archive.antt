@@ -1,6 +1,6 @@
 -- The planned archive and index commands, in the words of `ar`: `c` makes the library, `q` adds members last, `s` writes its index,
 -- and `D` leaves out times and owners, so that one build gives the same bytes as the next.
-use Rattle.std.specs.Prelude.{ℕ, List, [], ◌∷◌, ◌++◌, map, None, unwrap_or, codes}
+use Rattle.std.specs.Prelude.{ℕ, List, [], ◌∷◌, map, None, unwrap_or, codes}
 use Rattle.cc_host.specs.Command.{CommandSeen}
 use Rattle.cc_plan.specs.declared.object.Object.{Object}
 use Rattle.cc_plan.specs.declared.settings.BuildConfig.{BuildConfig}

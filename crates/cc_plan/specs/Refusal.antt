@@ -1,5 +1,5 @@
 -- What settings are refused for. The answer is that of the first part which doesn't hold, in the order of the definitions.
-use Rattle.std.specs.Prelude.{ℕ, suc, ◌+◌, List, [], ◌∷◌, ◌++◌, length, map, Bool, not, Option, Some, None, is_none, unwrap_or, true, false, codes, bytes_eq, if◌then◌else◌}
+use Rattle.std.specs.Prelude.{ℕ, ◌+◌, List, [], ◌∷◌, ◌++◌, length, map, Bool, Option, Some, None, is_none, unwrap_or, true, false, codes, bytes_eq, if◌then◌else◌}
 use Rattle.std.specs.Option.{option_map}
 use Rattle.std.specs.Path.{path_file_name}
 use Rattle.cc_plan.specs.Names.{is_output_name}

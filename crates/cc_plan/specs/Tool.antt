@@ -1,5 +1,5 @@
 -- The planned tool: the compiler with the words and variables that every compile command has. One definition a group of words.
-use Rattle.std.specs.Prelude.{ℕ, List, [], ◌∷◌, ◌++◌, Bool, Option, Some, None, unwrap_or, codes, bytes_eq, if◌then◌else◌}
+use Rattle.std.specs.Prelude.{ℕ, List, [], ◌∷◌, ◌++◌, Bool, None, unwrap_or, codes, bytes_eq, if◌then◌else◌}
 use Rattle.cc_text.specs.declared.family.ToolFamily.TheVariants.{Gnu}
 use Rattle.cc_host.specs.Command.{CommandSeen}
 use Rattle.cc_plan.specs.declared.settings.BuildConfig.{BuildConfig}
