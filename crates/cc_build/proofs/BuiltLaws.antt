@@ -1,5 +1,5 @@
 -- A part that did all the steps of a compile run is built.
-use Rattle.std.proofs.Common.{◌≡◌, ◌⊎◌, inl, inr, List, [], ◌∷◌, ◌++◌, ℕ, Option, Some, None, Bool, true, false, if◌then◌else◌, is_some, refl, sym, ◌∙◌, ap, subst, append_assoc}
+use Rattle.std.proofs.Common.{◌≡◌, ◌⊎◌, inl, inr, List, [], ◌∷◌, ◌++◌, ℕ, Option, Some, None, Result, Ok, Err, OnOk, Bool, true, false, if◌then◌else◌, is_some, refl, sym, ◌∙◌, ap, subst, append_assoc}
 use Rattle.std.specs.Option.{option_map}
 use Rattle.cc_host.specs.Part.{Step, IsWhole}
 use Rattle.cc_host.specs.Part.Step.{Removes}
@@ -13,6 +13,7 @@ use Rattle.cc_plan.specs.Plan.{library_of, folder_steps, compile_steps, removal_
 use Rattle.cc_plan.specs.Refusal.{refusal, early_refusal, late_refusal, first_of}
 use Rattle.cc_build.specs.Built.{Built}
 use Rattle.cc_build.specs.Error.{ErrorSeen}
+use Rattle.cc_build.specs.Outcome.{Outcome}
 use Rattle.cc_build.specs.Refusal.{refusal_error, plan_error}
 use Rattle.cc_build.proofs.Splits.{whole_cut, removal, Cut}
 
@@ -37,6 +38,14 @@ accepted_steps set output h =
     let late : late_refusal set ≡ None = n.1 in
     rw (early, late) refl
 
+-- the pieces of a part, one after another
+glued : (part f1 r1 f2 r2 f3 r3 f4 r4 f5 r5 : List Event) (x : Event) → part ≡ f1 ++ r1 → r1 ≡ f2 ++ r2 → r2 ≡ f3 ++ r3 → r3 ≡ f4 ++ r4 → r4 ≡ f5 ++ r5 → f3 ≡ x ∷ [] → part ≡ (f1 ++ f2) ++ x ∷ (f4 ++ f5) ++ r5
+glued part f1 r1 f2 r2 f3 r3 f4 r4 f5 r5 x e1 e2 e3 e4 e5 one =
+    let whole : part ≡ f1 ++ (f2 ++ ((x ∷ []) ++ (f4 ++ (f5 ++ r5)))) =
+      e1 ∙ ap (λ l. f1 ++ l) (e2 ∙ ap (λ l. f2 ++ l) (e3 ∙ ap (λ l. l ++ r3) one ∙ ap (λ l. (x ∷ []) ++ l) (e4 ∙ ap (λ l. f4 ++ l) e5))) in
+    let joined : (f1 ++ f2) ++ x ∷ (f4 ++ f5) ++ r5 ≡ f1 ++ (f2 ++ ((x ∷ []) ++ (f4 ++ (f5 ++ r5)))) = simp append_assoc in
+    whole ∙ sym joined
+
 pub built : (set : BuildConfig) (output : List ℕ) (part : List Event) → refusal_error set output ≡ None → IsWhole (planned_steps set output) part → Built set output part
 unfolding removal_steps
 built set output part h w =
@@ -54,10 +63,13 @@ built set output part h w =
       how = r.0;
       archives = c4.front ++ c5.front;
       lines = c5.back;
-      cut =
-        c1.cut ∙ ap (λ l. c1.front ++ l) (c2.cut ∙ ap (λ l. c2.front ++ l) (c3.cut ∙ ap (λ l. l ++ c3.back) r.1 ∙ ap (λ l. Removed (library_of set output) r.0 ∷ l) (c4.cut ∙ ap (λ l. c4.front ++ l) c5.cut ∙ sym (append_assoc c4.front c5.front c5.back))))
-        ∙ sym (append_assoc c1.front c2.front (Removed (library_of set output) r.0 ∷ ((c4.front ++ c5.front) ++ c5.back)));
+      cut = glued part c1.front c1.back c2.front c2.back c3.front c3.back c4.front c4.back c5.front c5.back (Removed (library_of set output) r.0) c1.cut c2.cut c3.cut c4.cut c5.cut r.1;
       compiled = whole_then (folder_steps set) (compile_steps set) c1.front c2.front c1.before c2.before;
       archived = whole_then (archive_steps set output) (index_steps set output) c4.front c5.front c4.before c5.before;
       linked = c5.behind;
     }
+
+-- a run that answers Ok is built
+pub built_on_ok : {T : Type 0} (set : BuildConfig) (output : List ℕ) (part : List Event) (r : Result T ErrorSeen) → Outcome (refusal_error set output) (planned_steps set output) part r → OnOk r (Built set output part)
+built_on_ok set output part (Ok x) o = built set output part o.0 o.1
+built_on_ok set output part (Err e) o = tt

@@ -1,3 +1,5 @@
 pub mod BuiltLaws
+pub mod Lines
 pub mod Outcomes
 pub mod Splits
+pub mod Stages

@@ -1,11 +1,14 @@
 -- How the outcomes of one stage of a run after another make up that of the run.
-use Rattle.std.proofs.Common.{◌≡◌, ◌⊎◌, inl, inr, List, [], ◌∷◌, ◌++◌, Option, Some, None, Result, Ok, Err, refl, sym, ◌∙◌, ap, subst}
-use Rattle.cc_host.specs.Part.{Step, since, stops, left, IsPartly, IsWhole, Refuses, stop_of}
-use Rattle.cc_host.proofs.Parts.{since_since, partly_then, partly_more, partly_none, partly_stop, left_then, left_more, left_stop, stops_then, stops_stop, whole_then, step_partly, step_left, step_stops}
+use Rattle.std.proofs.Common.{MatchResult, IfOk, ℕ, ◌+◌, ◌<◌, length, take, drop, get_or, ◌≡◌, ◌⊎◌, inl, inr, List, [], ◌∷◌, ◌++◌, Option, Some, None, Result, Ok, Err, refl, sym, ◌∙◌, ap, subst}
+use Rattle.cc_host.specs.Command.{CommandSeen}
+use Rattle.cc_host.specs.declared.event.Role.{Role}
+use Rattle.cc_host.specs.Part.Step.{Runs}
+use Rattle.cc_host.specs.Part.{Step, runs, since, stops, left, IsPartly, IsWhole, Refuses, stop_of}
+use Rattle.cc_host.proofs.Parts.{since_since, partly_then, partly_more, partly_none, partly_stop, left_then, left_more, left_stop, stops_then, stops_stop, whole_then, loop_partly, loop_left, loop_stops, loop_none}
 use Rattle.cc_host.specs.declared.event.Event.{Event}
 use Rattle.cc_build.specs.Error.{ErrorSeen, no_memory}
 use Rattle.cc_build.specs.Stop.{stop_error, stopped_by}
-use Rattle.cc_build.specs.Outcome.{IsCausedBy, Outcome}
+use Rattle.cc_build.specs.Outcome.{IsCausedBy, IsRefused, Outcome}
 
 -- what ended a run ends it too where more steps were left
 stopped_more : (steps more : List Step) (events : List Event) (e : ErrorSeen) → stopped_by steps events ≡ Some e → stopped_by (steps ++ more) events ≡ Some e
@@ -58,3 +61,37 @@ outcome_stop step rest event part e r re one stop refuses cause =
     caused : (e ≡ no_memory) ⊎ (e ≡ stop_error step event) → IsCausedBy None (step ∷ rest) (event ∷ []) e
     caused (inl memory) = inl memory
     caused (inr is) = inr (inr (ap (λ l. stopped_by l (stops (event ∷ []))) (left_stop step rest event stop) ∙ ap (λ s. stopped_by (step ∷ rest) s) (stops_stop event stop) ∙ ap Some (sym is)))
+
+-- an error that was made, or the want of memory for it
+pub told : {E : Type 0} (made : Result ErrorSeen E) (e is : ErrorSeen) → MatchResult made (λ x. e ≡ x) (λ _. e ≡ no_memory) → IfOk made (λ x. x ≡ is) → (e ≡ no_memory) ⊎ (e ≡ is)
+told (Ok x) e is h k = inr (h ∙ k)
+told (Err x) e is h k = inl h
+
+-- one event refused the command at a place, behind those before it
+pub loop_refused : (role : Role) (cmds : List CommandSeen) (i : ℕ) (cmd : CommandSeen) (before : List Event) (event : Event) (part : List Event) (e : ErrorSeen) → part ≡ before ++ event ∷ [] → i < length cmds → cmd ≡ get_or cmds i cmd → IsWhole (runs role (take i cmds)) before → stop_of event ≡ event ∷ [] → Refuses (Runs role cmd) event → (e ≡ no_memory) ⊎ (e ≡ stop_error (Runs role cmd) event) → IsPartly (runs role cmds) part × IsCausedBy None (runs role cmds) part e
+loop_refused role cmds i cmd before event part e one within at whole stop refuses cause =
+    subst (λ (p : List Event). IsPartly (runs role cmds) p × IsCausedBy None (runs role cmds) p e) (sym one) (loop_partly role cmds i cmd before event within at whole stop refuses, caused cause)
+  where
+    caused : (e ≡ no_memory) ⊎ (e ≡ stop_error (Runs role cmd) event) → IsCausedBy None (runs role cmds) (before ++ event ∷ []) e
+    caused (inl memory) = inl memory
+    caused (inr is) = inr (inr (ap (λ l. stopped_by l (stops (before ++ event ∷ []))) (loop_left role cmds i cmd before event within at whole stop) ∙ ap (λ s. stopped_by (Runs role cmd ∷ runs role (drop (i + 1) cmds)) s) (loop_stops role cmds i before event whole stop) ∙ ap Some (sym is)))
+
+-- memory was wanted behind the commands before a place
+pub loop_wanting : (role : Role) (cmds : List CommandSeen) (i : ℕ) (part : List Event) (e : ErrorSeen) → e ≡ no_memory → IsWhole (runs role (take i cmds)) part → IsPartly (runs role cmds) part × IsCausedBy None (runs role cmds) part e
+loop_wanting role cmds i part e memory whole = (loop_none role cmds i part whole, inl memory)
+
+-- a stage behind the first ones of a list of stages was refused
+pub stage_refused : (first second more : List Step) (a b : List Event) (part : List Event) (e : ErrorSeen) → part ≡ a ++ b → IsWhole first a → IsPartly second b × IsCausedBy None second b e → IsPartly (first ++ (second ++ more)) part × IsCausedBy None (first ++ (second ++ more)) part e
+stage_refused first second more a b part e is whole o =
+    subst (λ (p : List Event). IsPartly (first ++ (second ++ more)) p × IsCausedBy None (first ++ (second ++ more)) p e) (sym is)
+    (partly_then first (second ++ more) a b whole (partly_more second more b o.0), caused_then None first (second ++ more) a b e whole (caused_more None second more b e o.0 o.1))
+
+-- a stage was refused, with more stages behind it
+pub refused_more : (refusal : Option ErrorSeen) (first more : List Step) (part : List Event) (e : ErrorSeen) → IsRefused None first part e → IsRefused refusal (first ++ more) part e
+refused_more refusal first more part e o = (partly_more first more part o.0, caused_more refusal first more part e o.0 o.1)
+
+-- a stage was done, and one behind it refused
+pub refused_from : (refusal : Option ErrorSeen) (old mid new : List Event) (first second : List Step) (e : ErrorSeen) → mid ≡ old ++ since old mid → new ≡ mid ++ since mid new → IsWhole first (since old mid) → IsRefused refusal second (since mid new) e → IsRefused refusal (first ++ second) (since old new) e
+refused_from refusal old mid new first second e f h w o =
+    subst (λ (part : List Event). IsRefused refusal (first ++ second) part e) (sym (since_since old mid new f h))
+    (partly_then first second (since old mid) (since mid new) w o.0, caused_then refusal first second (since old mid) (since mid new) e w o.1)

@@ -1,0 +1,13 @@
+use Rattle.std.proofs.Common.{◌≡◌, ◌++◌, take}
+use Rattle.cc_host.specs.Part.{IsWhole, since}
+use Rattle.cc_plan.specs.Plan.{prints}
+use Rattle.cc_build.proofs.run.print_lines.Given as goal
+
+-- the lines so far were printed, and nothing else was done
+abbrev pub invariant-loop-line : goal.invariant-loop-line
+invariant-loop-line g l =
+    let part = since (g.H.Host.log l.fn.host) (g.H.Host.log l.host) in
+    record {
+      extends : g.H.Host.log l.host ≡ g.H.Host.log l.fn.host ++ part;
+      whole : IsWhole (prints l.fn.kind (take l.line-index l.line-items)) part;
+    }
