@@ -1,5 +1,5 @@
 -- What the program answers to its words, and what it did for them.
-use Rattle.std.specs.Prelude.{◌≡◌, ◌⊎◌, ◌≢◌, ℕ, List, [], ◌∷◌, ◌++◌, Option, Some, None, Result, Ok, Err, codes}
+use Rattle.std.specs.Prelude.{◌≡◌, ◌⊎◌, ℕ, List, [], ◌∷◌, ◌++◌, Bool, true, false, Some, None, Result, Ok, Err, codes}
 use Rattle.std.specs.Fmt.{decimal}
 use Rattle.cc_host.specs.Part.{IsPartly}
 use Rattle.cc_host.specs.declared.event.Event.{Event}
@@ -10,9 +10,12 @@ use Rattle.cc_host.specs.declared.event.Why.{Why}
 use Rattle.cc_plan.specs.declared.settings.BuildConfig.{BuildConfig}
 use Rattle.cc_plan.specs.Plan.{planned_steps}
 use Rattle.cc_build.specs.Built.{Built}
-use Rattle.cc_build.specs.Error.{ErrorSeen, no_memory}
-use Rattle.cc_build.specs.Outcome.{IsCausedBy}
+use Rattle.cc_build.specs.Error.{ErrorSeen}
+use Rattle.cc_build.specs.Outcome.{IsRefused}
+use Rattle.cc_build.specs.declared.error.ErrorKind.{ErrorKind}
+use Rattle.cc_build.specs.declared.error.ErrorKind.TheVariants.{NoMemory}
 use Rattle.cc_build.specs.Refusal.{refusal_error}
+use Rattle.cc_main.specs.Read.{Request}
 use Rattle.cc_main.specs.declared.words.BadWord.{BadWord}
 use Rattle.cc_main.specs.declared.words.WordCause.{WordCause}
 use Rattle.cc_main.specs.declared.words.WordCause.TheVariants.{NoCommand, UnknownCommand, NoName, NoValue, UnknownKey, BadValue}
@@ -54,6 +57,16 @@ ended_bad bad = record { status = 2; error = None; word = Some bad }
 abbrev pub ended_wanting : Ended
 ended_wanting = record { status = 3; error = None; word = None }
 
+-- want of memory tells no more
+abbrev pub is_wanting : ErrorKind → Bool
+is_wanting NoMemory = true
+is_wanting _ = false
+
+-- the line of an error was printed last, or memory for it was wanted
+abbrev pub AnswersError : ErrorSeen → List Event → Ended → Type 0
+AnswersError e part ended =
+    ((ended ≡ ended_refused e) × (is_wanting e.kind ≡ false) × Tells (error_line e) part) ⊎ ((ended ≡ ended_wanting) × (part ≡ []))
+
 -- a compile run that was refused: its first steps were done, and the line of its error was printed last
 pub record Refused (set : BuildConfig) (name : List ℕ) (part : List Event) (ended : Ended) : Type 0 where
   pub error : ErrorSeen
@@ -61,9 +74,8 @@ pub record Refused (set : BuildConfig) (name : List ℕ) (part : List Event) (en
   pub line : List Event
   pub cut : part ≡ run ++ line
   pub told : Tells (error_line error) line
-  pub partly : IsPartly (planned_steps set name) run
-  pub cause : IsCausedBy (refusal_error set name) (planned_steps set name) run error
-  pub known : error ≢ no_memory
+  pub refused : IsRefused (refusal_error set name) (planned_steps set name) run error
+  pub known : is_wanting error.kind ≡ false
   pub is : ended ≡ ended_refused error
 
 -- a compile run: it is built, or refused, or memory was wanted behind its first steps
@@ -76,3 +88,8 @@ Answers set name part ended =
 -- bad words: their line alone was printed, or memory for it was wanted
 abbrev pub AnswersBad : BadWord → List Event → Ended → Type 0
 AnswersBad bad part ended = ((ended ≡ ended_bad bad) × Tells (word_line bad) part) ⊎ ((ended ≡ ended_wanting) × (part ≡ []))
+
+-- What the words ask for was answered. Words that can't be read for want of memory ask for nothing.
+abbrev pub AnswersWords : Result Request BadWord → List Event → Ended → Type 0
+AnswersWords (Ok request) part ended = Answers request.1 request.0 part ended
+AnswersWords (Err bad) part ended = AnswersBad bad part ended

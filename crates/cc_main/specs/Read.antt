@@ -62,14 +62,14 @@ word_cause word = pair_cause (key_and_value word)
 abbrev pub bad_at : ℕ → WordCause → BadWord
 bad_at place cause = record { place = place; cause = cause }
 
+abbrev pub bad_or : ℕ → Option WordCause → Option BadWord → Option BadWord
+bad_or n None rest = rest
+bad_or n (Some cause) rest = Some (bad_at n cause)
+
 -- the first bad word, where the first of these words counts as n
 abbrev pub first_bad : ℕ → List (List ℕ) → Option BadWord
 first_bad n [] = None
 first_bad n (word ∷ words) = bad_or n (word_cause word) (first_bad (n + 1) words)
-  where
-    bad_or : ℕ → Option WordCause → Option BadWord → Option BadWord
-    bad_or n None rest = rest
-    bad_or n (Some cause) rest = Some (bad_at n cause)
 
 -- the value of a pair, where it has this key
 abbrev pub value_of : String → List ℕ → List ℕ → List (List ℕ)

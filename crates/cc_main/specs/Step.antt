@@ -4,9 +4,14 @@ use Rattle.cc_plan.specs.declared.settings.BuildConfig.{BuildConfig}
 use Rattle.cc_text.specs.Cuts.{key_and_value}
 use Rattle.cc_main.specs.Read.{value_of, latest, latest_truth}
 
+-- a list with others behind it
+abbrev pub added : List (List ℕ) → List (List ℕ) → List (List ℕ)
+added before [] = before
+added before (v ∷ vs) = before ++ v ∷ vs
+
 abbrev pub with_key : BuildConfig → List ℕ → List ℕ → BuildConfig
 with_key set key value = record {
-  files = set.files ++ value_of "file" key value;
+  files = added set.files (value_of "file" key value);
   target = latest set.target (value_of "target" key value);
   host = latest set.host (value_of "host" key value);
   opt_level = latest set.opt_level (value_of "opt_level" key value);

@@ -1,8 +1,8 @@
 // Reads the words of the program.
 ghost use Rattle.std.specs.Prelude.{◌≡◌, ◌⊎◌, Ok, Err, Some, None, map, IfOk, IfErr, MatchResult, IsErr, string_bytes};
-ghost use Rattle.cc_main.specs.Read.{is, IsNumberOf, IsTruthOf, level_cause, truth_cause, key_cause, word_cause, first_bad, bad_word, read, name_of, refusal_of, settings_of};
+ghost use Rattle.cc_main.specs.Read.{bad_at, is, IsNumberOf, IsTruthOf, level_cause, truth_cause, key_cause, word_cause, first_bad, bad_word, read, name_of, refusal_of, settings_of};
 ghost use Rattle.cc_main.specs.Step.{with_key, with_word};
-ghost use Rattle.cc_main.specs.declared.words.ReadError.TheVariants.{NoMemory as WantsMemory};
+ghost use Rattle.cc_main.specs.declared.words.ReadError.TheVariants.{Bad, NoMemory as WantsMemory};
 
 use crate::words::{BadWord, Job, ReadError, Request, WordCause};
 use cc_build::{Build, Error};
@@ -109,7 +109,9 @@ fn set_word<W: World>(
     }
 }
 
-fn bad(place: u64, cause: WordCause) -> ReadError {
+fn bad(place: u64, cause: WordCause) -> ReadError
+    ensures { result ≡ Bad (bad_at place cause) }
+{
     ReadError::Bad(BadWord { place, cause })
 }
 

@@ -1,15 +1,15 @@
 // The top call of the program.
-ghost use Rattle.std.specs.Prelude.{◌≡◌, ◌++◌, map, string_bytes, MatchResult, IfOk};
+ghost use Rattle.std.specs.Prelude.{◌≡◌, ◌++◌, [], map, string_bytes, IfOk, OnOk, OnErr};
 ghost use Rattle.std.specs.Fmt.{decimal};
 ghost use Rattle.cc_host.specs.Part.{since};
-ghost use Rattle.cc_main.specs.Answer.{Answers, AnswersBad, cause_text as text_of, word_line as line_of_word, error_line as line_of_error};
-ghost use Rattle.cc_main.specs.Read.{read};
+ghost use Rattle.cc_main.specs.Answer.{Tells, Answers, AnswersError, AnswersBad, AnswersWords, is_wanting, ended_wanting as wanting, cause_text as text_of, word_line as line_of_word, error_line as line_of_error};
+ghost use Rattle.cc_main.specs.Read.{name_of, read};
 
 use crate::reading::read_words;
-use crate::words::{BadWord, Job, ReadError, WordCause};
-use cc_build::{Error, ErrorKind};
+use crate::words::{BadWord, Job, ReadError, Request, WordCause};
+use cc_build::{Build, Error, ErrorKind};
 use cc_host::{Host, HostError, LineKind, World};
-use cc_text::{Mem, Text};
+use cc_text::{Mem, NoMemory, Text};
 use std::alloc::{AllocError, Global};
 
 /// What a run answers: its status, and with 1 the error, with 2 the bad word.
@@ -105,13 +105,19 @@ fn refuse_word<W: World, H: Host<W>>(alloc: Global, host: &mut H, bad: BadWord) 
     }
 }
 
+fn is_wanting(kind: ErrorKind) -> bool
+    ensures { result ≡ is_wanting kind }
+{
+    matches!(kind, ErrorKind::NoMemory)
+}
+
 // The end of a run that was refused.
 #[tactic(auto, using(cc_host::proofs::Parts::since_append))]
 fn refuse<W: World, H: Host<W>>(alloc: Global, host: &mut H, error: Error) -> Ended
     ensures extends { H.log host.new ≡ H.log host.old ++ since (H.log host.old) (H.log host.new) }
-    ensures answer { TellsError error (since (H.log host.old) (H.log host.new)) result }
+    ensures answer { AnswersError error (since (H.log host.old) (H.log host.new)) result }
 {
-    if error.kind() == ErrorKind::NoMemory {
+    if is_wanting(error.kind()) {
         return ended_wanting();
     }
     let Ok(line) = error_line(alloc, &error) else {
@@ -127,19 +133,18 @@ fn refuse<W: World, H: Host<W>>(alloc: Global, host: &mut H, error: Error) -> En
     }
 }
 
-// Reads the words, and runs what they ask for.
+// Compiles the sources of the build into the library of this name.
 #[tactic(auto, using(cc_host::proofs::Parts::since_append))]
-fn run<W: World, H: Host<W>>(alloc: Global, words: &[String], host: &mut H) -> Ended
+fn compile<W: World, H: Host<W>>(
+    alloc: Global,
+    build: &Build<W>,
+    name: &str,
+    host: &mut H,
+) -> Ended
     ensures extends { H.log host.new ≡ H.log host.old ++ since (H.log host.old) (H.log host.new) }
-    ensures answer { MatchResult (read (map string_bytes words.now)) (λ request. Answers request.1 request.0 (since (H.log host.old) (H.log host.new)) result) (λ bad. AnswersBad bad (since (H.log host.old) (H.log host.new)) result) }
+    ensures answer { Answers build.now name.now (since (H.log host.old) (H.log host.new)) result }
 {
-    let request = match read_words::<W>(alloc, words) {
-        Ok(request) => request,
-        Err(ReadError::Bad(bad)) => return refuse_word(alloc, host, bad),
-        Err(ReadError::NoMemory) => return ended_wanting(),
-    };
-    let Job::Compile(name) = request.job;
-    match request.build.try_compile(host, name.as_str()) {
+    match build.try_compile(host, name) {
         Ok(()) => Ended {
             status: 0,
             error: None,
@@ -147,4 +152,40 @@ fn run<W: World, H: Host<W>>(alloc: Global, words: &[String], host: &mut H) -> E
         },
         Err(error) => refuse(alloc, host, error),
     }
+}
+
+// Does what was asked for.
+fn serve<W: World, H: Host<W>>(alloc: Global, request: &Request<W>, host: &mut H) -> Ended
+    ensures extends { H.log host.new ≡ H.log host.old ++ since (H.log host.old) (H.log host.new) }
+    ensures answer { Answers request.now.build (name_of request.now.job) (since (H.log host.old) (H.log host.new)) result }
+{
+    match &request.job {
+        Job::Compile(name) => compile(alloc, &request.build, name.as_str(), host),
+    }
+}
+
+// Reads the words, and does what they ask for.
+#[tactic(auto, using(cc_host::proofs::Parts::since_append))]
+fn run<W: World, H: Host<W>>(alloc: Global, words: &[String], host: &mut H) -> Ended
+    ensures extends { H.log host.new ≡ H.log host.old ++ since (H.log host.old) (H.log host.new) }
+    ensures answer { AnswersWords (read (map string_bytes words.now)) (since (H.log host.old) (H.log host.new)) result }
+{
+    match read_words::<W>(alloc, words) {
+        Ok(request) => serve(alloc, &request, host),
+        Err(ReadError::Bad(bad)) => refuse_word(alloc, host, bad),
+        Err(ReadError::NoMemory) => ended_wanting(),
+    }
+}
+
+/// Reads the words, runs what they ask for on the host, and prints.
+///
+/// Status 0 of `compile NAME ..` means: the part of the log that this call added starts one planned compile command per
+/// source, in the order added, each ended with 0; then the old library is removed; then the planned archive and index
+/// commands ended with 0; then exactly the link lines were printed.
+#[tactic(auto, using(cc_host::proofs::Parts::since_append))]
+pub fn drive<W: World, H: Host<W>>(alloc: Global, words: &[String], host: &mut H) -> Ended
+    ensures extends { H.log host.new ≡ H.log host.old ++ since (H.log host.old) (H.log host.new) }
+    ensures answer { AnswersWords (read (map string_bytes words.now)) (since (H.log host.old) (H.log host.new)) result }
+{
+    run(alloc, words, host)
 }

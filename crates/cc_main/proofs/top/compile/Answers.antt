@@ -1,0 +1,7 @@
+use Rattle.cc_main.proofs.AnswerLaws.{answers_behind}
+use Rattle.cc_main.proofs.top.compile.Goals as goal
+
+pub returns-in-Err-clause-answer : goal.returns-in-Err-clause-answer
+returns-in-Err-clause-answer g c =
+    answers_behind c.args.build.now c.args.name.now (g.H.Host.log c.args.host.now) (g.H.Host.log c.try_compile.new.host) (g.H.Host.log c.refuse.new.host) c.in-Err.error c.refuse.result
+    c.try_compile.ensures.extends c.refuse.ensures.extends c.in-Err.ensures.outcome c.refuse.ensures.answer
