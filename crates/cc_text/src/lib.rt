@@ -5,18 +5,28 @@
 //! memory refuses.
 #![tactic(auto)]
 
+mod case;
 mod family;
 mod hash;
 mod memory;
 mod paths;
+mod pieces;
 mod quoting;
+mod shell;
+mod table;
 mod text;
 mod words;
 
+pub use case::{
+    contains_ignore_ascii_case, ends_with_ignore_ascii_case, starts_with_ignore_ascii_case,
+};
 pub use family::ToolFamily;
 pub use hash::{fnv1a, fnv1a_from, hex16};
 pub use memory::{Mem, NoMemory};
 pub use paths::{extension, file_name, file_stem, join, parent, same_path, with_extension};
+pub use pieces::{ascii_words, join_texts};
 pub use quoting::quoted;
+pub use shell::shell_words;
+pub use table::{lookup, lookup_sorted};
 pub use text::{Bytes, Text};
 pub use words::{Vars, Words};
