@@ -1,6 +1,9 @@
 pub mod Case
+pub mod Components
 pub mod Hash
 pub mod Hex
+pub mod Map
+pub mod MapLends
 pub mod Paths
 pub mod Pieces
 pub mod Quoted
