@@ -1,6 +1,12 @@
+pub mod Case
+pub mod Components
 pub mod Cuts
 pub mod Hash
 pub mod Hex
+pub mod Map
+pub mod MapLends
 pub mod Paths
+pub mod Pieces
 pub mod Quoted
+pub mod Shell
 pub mod Vars

@@ -6,19 +6,35 @@
 #![tactic(auto)]
 
 mod cuts;
+mod case;
 mod family;
 mod hash;
+mod map;
 mod memory;
+mod parts;
 mod paths;
+mod pieces;
+mod prefix;
 mod quoting;
+mod shell;
+mod table;
 mod text;
 mod words;
 
 pub use cuts::{after_prefix, before_suffix, key_and_value};
+pub use case::{
+    contains_ignore_ascii_case, ends_with_ignore_ascii_case, starts_with_ignore_ascii_case,
+};
 pub use family::ToolFamily;
 pub use hash::{fnv1a, fnv1a_from, hex16};
+pub use map::VecMap;
 pub use memory::{Mem, NoMemory};
+pub use parts::{Component, components, keeps_components};
 pub use paths::{extension, file_name, file_stem, join, parent, same_path, with_extension};
+pub use pieces::{ascii_words, join_texts};
+pub use prefix::strip_prefix;
 pub use quoting::quoted;
+pub use shell::shell_words;
+pub use table::{lookup, lookup_sorted};
 pub use text::{Bytes, Text};
 pub use words::{Vars, Words};

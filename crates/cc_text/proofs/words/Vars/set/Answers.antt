@@ -1,10 +1,12 @@
 use Rattle.std.proofs.Common.{length, arith, ap}
-use Rattle.cc_text.proofs.VarsLemmas.{place_is, set_at, add_last}
+use Rattle.cc_text.specs.Vars.{is_named}
+use Rattle.cc_text.proofs.PositionLemmas.{place_is}
+use Rattle.cc_text.proofs.VarsLemmas.{set_at, add_last}
 use Rattle.cc_text.proofs.words.Vars.set.Goals as goal
 
 pub index_mut-requires : goal.index_mut-requires
 index_mut-requires c =
-    let is = place_is c.args.self.now c.args.name.now c.in-Some.place c.in-Some.ensures in
+    let is = place_is (is_named c.args.name.now) c.args.self.now c.in-Some.place c.in-Some.ensures in
     omega (arith, is.0, ap length c.self.view_is)
 
 pub returns-in_ok-self-inside-in-Some-clause-ok : goal.returns-in_ok-self-inside-in-Some-clause-ok

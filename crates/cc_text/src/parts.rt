@@ -1,0 +1,126 @@
+// The components of a path.
+ghost use Rattle.std.specs.Prelude.{◌≡◌, ◌↔◌, ◌<◌, ◌++◌, false, length, map, IfOk, IsTrue};
+ghost use Rattle.std.specs.Path.{path_components, path_join, component_bytes, is_dot_at, IsRelative, IsWellFormedComponent};
+ghost use Rattle.cc_text.specs.Components.{component_of, KeepsComponents};
+
+use crate::{Mem, Text};
+use std::alloc::Global;
+use std::path::{self, Path};
+
+/// A component of a path.
+#[derive(Drop, Debug)]
+pub enum Component {
+    /// The `/` that a path begins with.
+    RootDir,
+    /// A part `.` that a relative path begins with.
+    CurDir,
+    /// A part `..`.
+    ParentDir,
+    /// Any other part.
+    Normal(Text),
+}
+
+/// A component of std's, as one of ours.
+#[tactic(auto, using(crate::proofs::ComponentLemmas::name_is_normal))]
+fn owned(alloc: Global, part: path::Component<'_>) -> Mem<Component>
+    requires { IsWellFormedComponent part }
+    ensures { IfOk result (λ component. component ≡ component_of (component_bytes part.entry)) }
+{
+    match part {
+        path::Component::RootDir => Ok(Component::RootDir),
+        path::Component::CurDir => Ok(Component::CurDir),
+        path::Component::ParentDir => Ok(Component::ParentDir),
+        path::Component::Normal(name) => Ok(Component::Normal(Text::of(alloc, name)?)),
+    }
+}
+
+/// The components of a path: a leading `/`, then the parts between slashes, where empty parts vanish, and a part
+/// `.` that isn't the first of a relative path. `..` stays. As `std::path::Path::components` has it.
+pub fn components(alloc: Global, path: &str) -> Mem<Vec<Component>>
+    ensures { IfOk result (λ parts. parts.items ≡ map component_of (path_components path.now)) }
+{
+    let mut parts = Vec::new(alloc);
+    for part in Path::new(path).components() {
+        parts.push(owned(alloc, part)?)?;
+    }
+    Ok(parts)
+}
+
+/// Whether a path is relative and doesn't begin with the part `.`.
+fn begins_with_a_name(path: &str) -> bool
+    ensures { IsTrue result ↔ (IsRelative path.now × (is_dot_at path.now 0 ≡ false)) }
+{
+    !path.starts_with('/') && path != "." && !path.starts_with("./")
+}
+
+/// Whether the base is not empty, and the path is relative and doesn't begin with the part `.`. Then the
+/// components of the two joined are those of the base and then those of the path.
+pub fn keeps_components(base: &str, path: &str) -> bool
+    ensures just { IsTrue result ↔ KeepsComponents base.now path.now }
+    ensures law { IsTrue result → path_components (path_join base.now path.now) ≡ path_components base.now ++ path_components path.now }
+{
+    !base.is_empty() && begins_with_a_name(path)
+}
+
+#[cfg(test)]
+mod tests {
+    use super::*;
+    use crate::join;
+    use std::test::Fail;
+
+    /// Each component in brackets.
+    fn bracketed(alloc: Global, path: &str) -> Mem<Text> {
+        let mut text = Text::new(alloc);
+        for part in components(alloc, path)? {
+            match part {
+                Component::RootDir => text.push_str("[root]")?,
+                Component::CurDir => text.push_str("[here]")?,
+                Component::ParentDir => text.push_str("[parent]")?,
+                Component::Normal(name) => {
+                    text.push_str("[")?;
+                    text.push_str(name.as_str())?;
+                    text.push_str("]")?;
+                }
+            }
+        }
+        Ok(text)
+    }
+
+    #[test]
+    fn a_path_has_its_components(rt: HostRuntime) -> Result<(), Fail> {
+        let cases = [
+            ("", ""),
+            ("/a//./b/..", "[root][a][b][parent]"),
+            ("./a/./b/", "[here][a][b]"),
+            ("//", "[root]"),
+            ("/.", "[root]"),
+            ("a/...", "[a][...]"),
+            ("../é/\u{1f600}.c", "[parent][é][\u{1f600}.c]"),
+        ];
+        for (path, want) in cases {
+            assert_eq!(rt; bracketed(rt.alloc(), path)?.as_str(), want, "{path}");
+        }
+        Ok(())
+    }
+
+    #[test]
+    fn components_of_a_joined_path_are_those_of_both(rt: HostRuntime) -> Result<(), Fail> {
+        for (base, path, keeps) in [
+            ("/a", "b/c", true),
+            ("a/", "..", true),
+            ("", "b", false),
+            ("a", "/b", false),
+            ("a", ".", false),
+            ("a", "./b", false),
+            ("a", ".b", true),
+        ] {
+            assert_eq!(rt; keeps_components(base, path), keeps, "{base} {path}");
+        }
+        let joined = join(rt.alloc(), "/a/", "b//c")?;
+        assert_eq!(rt;
+            bracketed(rt.alloc(), joined.as_str())?.as_str(),
+            "[root][a][b][c]"
+        );
+        Ok(())
+    }
+}

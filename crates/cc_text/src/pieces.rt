@@ -1,0 +1,77 @@
+// Words of a text, and a text of words.
+ghost use Rattle.std.specs.Prelude.{◌≡◌, ◌++◌, IfOk, OnOk, flat_map, encode_utf8};
+ghost use Rattle.std.specs.List.{join_by};
+ghost use Rattle.cc_text.specs.Pieces.{ascii_words};
+
+use crate::{Mem, Text, Words};
+use std::alloc::Global;
+
+/// The words of a text that stand between ASCII blanks: space, tab, line feed, form feed and carriage return. As
+/// `str::split_ascii_whitespace` has it.
+pub fn ascii_words(alloc: Global, s: &str) -> Mem<Words>
+    ensures { IfOk result (λ words. words ≡ ascii_words s.now) }
+{
+    let mut words = Words::new(alloc);
+    for word in s.split_ascii_whitespace() {
+        words.push(word)?;
+    }
+    Ok(words)
+}
+
+/// Adds each word, after the delimiter.
+fn push_each(text: &mut Text, words: &[Text], delimiter: char) -> Mem<()>
+    ensures { OnOk result (text.new ≡ text.old ++ flat_map (λ word. encode_utf8 delimiter ++ word) words.now) }
+{
+    for word in words {
+        text.push(delimiter)?;
+        text.push_str(word.as_str())?;
+    }
+    Ok(())
+}
+
+/// The texts in a row, with the delimiter between each two.
+pub fn join_texts(alloc: Global, words: &Words, delimiter: char) -> Mem<Text>
+    ensures { IfOk result (λ text. text ≡ join_by (λ word. word) (encode_utf8 delimiter) words.now) }
+{
+    match words.as_slice() {
+        [] => Ok(Text::new(alloc)),
+        [first, others @ ..] => {
+            let mut text = first.try_clone()?;
+            push_each(&mut text, others, delimiter)?;
+            Ok(text)
+        }
+    }
+}
+
+#[cfg(test)]
+mod tests {
+    use super::*;
+    use std::test::Fail;
+
+    #[test]
+    fn words_between_blanks_are_joined_by_a_delimiter(rt: HostRuntime) -> Result<(), Fail> {
+        let cases = [
+            ("", ""),
+            (" \t\n\u{c}\r", ""),
+            ("+a b", "+a,b"),
+            (
+                " é\t'\u{1f600}\nx'\u{c}y\rz\u{b}w ",
+                "é,'\u{1f600},x',y,z\u{b}w",
+            ),
+        ];
+        for (text, want) in cases {
+            let words = ascii_words(rt.alloc(), text)?;
+            assert_eq!(rt;
+                join_texts(rt.alloc(), &words, ',')?.as_str(),
+                want,
+                "{text}"
+            );
+        }
+        let words = ascii_words(rt.alloc(), "a b")?;
+        assert_eq!(rt;
+            join_texts(rt.alloc(), &words, '\u{1f600}')?.as_str(),
+            "a\u{1f600}b"
+        );
+        Ok(())
+    }
+}

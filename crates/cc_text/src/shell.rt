@@ -1,0 +1,229 @@
+// Words as a POSIX shell quotes them.
+
+ghost use Rattle.std.specs.Prelude.{◌≡◌, ◌++◌, ◌∷◌, List, IfOk};
+ghost use Rattle.cc_text.specs.Shell.{step, words_of, shell_words, ending, is_open};
+ghost use Rattle.cc_text.specs.declared.shell.Mark.{Mark};
+
+use crate::{Mem, Text, Words};
+use std::alloc::Global;
+
+/// Where a reader of the text stands.
+#[derive(Clone, Copy)]
+pub enum Mode {
+    /// Before a word.
+    Between,
+    /// In a word, outside quotes.
+    Inside,
+    /// After a backslash outside quotes.
+    Escaped,
+    /// In single quotes.
+    Single,
+    /// In double quotes.
+    Double,
+    /// After a backslash in double quotes.
+    DoubleEscaped,
+    /// In a comment.
+    Comment,
+}
+
+/// What a character does to the word in work.
+#[derive(Clone, Copy)]
+pub enum Mark {
+    /// Nothing.
+    Nothing,
+    /// It ends the word, if there is one.
+    Ends,
+    /// It begins a word, if there is none.
+    Begins,
+    /// It adds the character.
+    Adds(char),
+    /// It adds a backslash and the character.
+    AddsEscaped(char),
+    /// It drops the word.
+    Drops,
+}
+
+/// The mark of a character, and the mode after it.
+fn step(mode: Mode, c: char) -> (Mark, Mode)
+    ensures { result ≡ step mode c }
+{
+    match mode {
+        Mode::Between => match c {
+            ' ' | '\t' | '\n' => (Mark::Nothing, Mode::Between),
+            '#' => (Mark::Nothing, Mode::Comment),
+            '\\' => (Mark::Nothing, Mode::Escaped),
+            '\'' => (Mark::Begins, Mode::Single),
+            '"' => (Mark::Begins, Mode::Double),
+            _ => (Mark::Adds(c), Mode::Inside),
+        },
+        Mode::Inside => match c {
+            ' ' | '\t' | '\n' => (Mark::Ends, Mode::Between),
+            '\\' => (Mark::Nothing, Mode::Escaped),
+            '\'' => (Mark::Begins, Mode::Single),
+            '"' => (Mark::Begins, Mode::Double),
+            _ => (Mark::Adds(c), Mode::Inside),
+        },
+        Mode::Escaped => match c {
+            '\n' => (Mark::Begins, Mode::Inside),
+            _ => (Mark::Adds(c), Mode::Inside),
+        },
+        Mode::Single => match c {
+            '\'' => (Mark::Nothing, Mode::Inside),
+            _ => (Mark::Adds(c), Mode::Single),
+        },
+        Mode::Double => match c {
+            '"' => (Mark::Nothing, Mode::Inside),
+            '\\' => (Mark::Nothing, Mode::DoubleEscaped),
+            _ => (Mark::Adds(c), Mode::Double),
+        },
+        Mode::DoubleEscaped => match c {
+            '\n' => (Mark::Nothing, Mode::Double),
+            '$' | '`' | '"' | '\\' => (Mark::Adds(c), Mode::Double),
+            _ => (Mark::AddsEscaped(c), Mode::Double),
+        },
+        Mode::Comment => match c {
+            '\n' => (Mark::Nothing, Mode::Between),
+            _ => (Mark::Nothing, Mode::Comment),
+        },
+    }
+}
+
+/// Whether a quote is open, or a backslash is last.
+fn is_open(mode: Mode) -> bool
+    ensures { result ≡ is_open mode }
+{
+    matches!(
+        mode,
+        Mode::Escaped | Mode::Single | Mode::Double | Mode::DoubleEscaped
+    )
+}
+
+/// What the end of the text does.
+fn ending(mode: Mode) -> Mark
+    ensures { result ≡ ending mode }
+{
+    if is_open(mode) {
+        Mark::Drops
+    } else {
+        Mark::Ends
+    }
+}
+
+/// Does what a mark says: the words so far and those of any marks after it are as before.
+fn apply(alloc: Global, words: &mut Words, word: Option<Text>, mark: Mark) -> Mem<Option<Text>>
+    ensures { IfOk result (λ next. (marks : List Mark) → words.new ++ words_of marks next ≡ words.old ++ words_of (mark ∷ marks) word) }
+{
+    match mark {
+        Mark::Nothing => Ok(word),
+        Mark::Drops => Ok(None),
+        Mark::Ends => {
+            if let Some(word) = word {
+                words.push_text(word)?;
+            }
+            Ok(None)
+        }
+        Mark::Begins => match word {
+            None => Ok(Some(Text::new(alloc))),
+            Some(word) => Ok(Some(word)),
+        },
+        Mark::Adds(c) => {
+            let mut word = match word {
+                None => Text::new(alloc),
+                Some(word) => word,
+            };
+            word.push(c)?;
+            Ok(Some(word))
+        }
+        Mark::AddsEscaped(c) => {
+            let mut word = match word {
+                None => Text::new(alloc),
+                Some(word) => word,
+            };
+            word.push('\\')?;
+            word.push(c)?;
+            Ok(Some(word))
+        }
+    }
+}
+
+/// The words of a text, as a POSIX shell quotes them (XCU 2.2 and 2.3; the crate `shlex` reads so). Space, tab and
+/// line feed part words; quotes and backslashes keep characters; `#` at the start of a word comments to the line's
+/// end. At an open quote or a last backslash the word in work is dropped, and the words before it stay.
+#[tactic(auto, unfolding(crate::specs::Shell::shell_words))]
+pub fn shell_words(alloc: Global, s: &str) -> Mem<Words>
+    ensures { IfOk result (λ words. words ≡ shell_words s.now) }
+{
+    let mut words = Words::new(alloc);
+    let mut word = None;
+    let mut mode = Mode::Between;
+    for c in s.chars() {
+        let (mark, next) = step(mode, c);
+        mode = next;
+        word = apply(alloc, &mut words, word, mark)?;
+    }
+    apply(alloc, &mut words, word, ending(mode))?;
+    Ok(words)
+}
+
+#[cfg(test)]
+mod tests {
+    use super::*;
+    use std::test::Fail;
+
+    /// Each word in brackets.
+    fn bracketed(alloc: Global, words: &Words) -> Mem<Text> {
+        let mut text = Text::new(alloc);
+        for word in words.as_slice() {
+            text.push('[')?;
+            text.push_str(word.as_str())?;
+            text.push(']')?;
+        }
+        Ok(text)
+    }
+
+    #[test]
+    fn words_are_those_of_a_posix_shell(rt: HostRuntime) -> Result<(), Fail> {
+        let cases = [
+            ("-DA=\"x y\" '-I a' b\\ c # z", "[-DA=x y][-I a][b c]"),
+            ("", ""),
+            (" a\tb\nc\rd ", "[a][b][c\rd]"),
+            // quotes in quotes
+            ("\"it's\" 'say \"x\"' \"a\\\"b\"", "[it's][say \"x\"][a\"b]"),
+            // empty quotes
+            ("''", "[]"),
+            ("'' \"\" a''b", "[][][ab]"),
+            // what a backslash escapes in double quotes, and what it doesn't
+            ("\"\\$\\`\\\\\\z\\'\"", "[$`\\\\z\\']"),
+            ("\"a\\\nb\"", "[ab]"),
+            ("'a\\'b", "[a\\b]"),
+            // a backslash with line feed at the start of a word, and inside
+            ("\\\n", "[]"),
+            ("\\\n b", "[][b]"),
+            ("\\\na", "[a]"),
+            ("a\\\nb", "[ab]"),
+            // `#` at the start of a word, and after each of these
+            ("#a\nb #c", "[b]"),
+            ("# it's\nb", "[b]"),
+            ("a#b \\#c", "[a#b][#c]"),
+            ("''#x", "[#x]"),
+            ("\"a\"#x", "[a#x]"),
+            ("\\\n#x", "[#x]"),
+            ("a\\\n#x", "[a#x]"),
+            // an open quote or a last backslash drops the word in work
+            ("a \"b", "[a]"),
+            ("a b'c d", "[a]"),
+            ("a b\\", "[a]"),
+            ("\"a\\", ""),
+            // not ASCII
+            (
+                "é\\\u{1f600} 'é \u{1f600}' \"\\é\"",
+                "[é\u{1f600}][é \u{1f600}][\\é]",
+            ),
+        ];
+        for (text, want) in cases {
+            let words = shell_words(rt.alloc(), text)?;
+            assert_eq!(rt; bracketed(rt.alloc(), &words)?.as_str(), want, "{text}");
+        }
+        Ok(())
+    }
+}
