@@ -207,3 +207,67 @@ impl Host<Bench> for BenchHost {
         &self.events
     }
 }
+
+#[cfg(test)]
+mod tests {
+    use super::*;
+    use crate::{OutputKind, Status};
+    use std::test::Fail;
+
+    const PIPES: Pipes = Pipes {
+        out: OutputKind::Capture,
+        hear: true,
+    };
+
+    fn end_of(
+        host: &mut BenchHost,
+        role: Role,
+        cmd: &Command,
+    ) -> Result<Option<Status>, HostError> {
+        match host.output(role, cmd, PIPES)? {
+            Ran::Missing => Ok(None),
+            Ran::Done { status, .. } => Ok(Some(status)),
+        }
+    }
+
+    #[test]
+    fn commands_end_as_the_last_script_that_fits_says(rt: HostRuntime) -> Result<(), Fail> {
+        let alloc = rt.alloc();
+        let mut host = BenchHost::new(alloc)?;
+        let mut cmd = Command::new(alloc, "cc")?;
+        cmd.arg("-c")?;
+        cmd.arg("a.c")?;
+        let codes = [("a.c", 1), ("cc", 2), ("b.c", 3)];
+        for (word, code) in codes {
+            let status = Status::Code(code);
+            host.script(Role::Compile, word, Script { status })?;
+        }
+        host.missing("ar")?;
+        let ar = Command::new(alloc, "ar")?;
+        assert_eq!(rt;
+            end_of(&mut host, Role::Compile, &cmd),
+            Ok(Some(Status::Code(2)))
+        );
+        assert_eq!(rt;
+            end_of(&mut host, Role::Expand, &cmd),
+            Ok(Some(Status::Code(0)))
+        );
+        assert_eq!(rt; end_of(&mut host, Role::Archive, &ar), Ok(None));
+        assert_eq!(rt; host.log().len(), 3);
+        Ok(())
+    }
+
+    #[test]
+    fn only_the_call_that_is_to_fail_faults(rt: HostRuntime) -> Result<(), Fail> {
+        let mut host = BenchHost::new(rt.alloc())?;
+        let fault = HostError::Fault(HostCall::Print, Why::Other);
+        host.fail(HostCall::Print, 2)?;
+        assert_eq!(rt; host.print(LineKind::Link, b"one\n"), Ok(()));
+        assert_eq!(rt; host.make_dir(Scope::Build, "out"), Ok(()));
+        assert_eq!(rt; host.print(LineKind::Link, b"two\n"), Err(fault));
+        assert_eq!(rt; host.print(LineKind::Link, b"two\n"), Ok(()));
+        assert_eq!(rt; host.remove_file("out/a.o"), Ok(Removal::Absent));
+        assert_eq!(rt; host.log().len(), 5);
+        Ok(())
+    }
+}
