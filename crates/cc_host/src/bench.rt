@@ -21,7 +21,8 @@ pub struct Bench;
 
 impl World for Bench {}
 
-/// A host in memory. Commands end as they are scripted, or with 0, and write nothing. No file stands on it.
+/// A host in memory. Commands end as they are scripted, or with 0, and write nothing. No file stands on it. A call faults
+/// only where `fail` was called.
 #[derive(Drop)]
 pub struct BenchHost {
     alloc: Global,
@@ -68,7 +69,7 @@ impl BenchHost {
         Ok(())
     }
 
-    /// Makes commands of the program missing. Refused for memory, the host stays as it was.
+    /// Makes each command of the program missing, scripted or not. Refused for memory, the host stays as it was.
     pub fn missing(&mut self, program: &str) -> Mem<()>
         ensures ok { OnOk result (self.new ≡ record self.old { missing = self.old.missing ++ program.now ∷ [] }) }
         ensures err { OnErr result (self.new ≡ self.old) }
@@ -76,7 +77,8 @@ impl BenchHost {
         self.missing.push(program)
     }
 
-    /// Makes the nth call of the kind on this host, from 1, fail. Refused for memory, the host stays as it was.
+    /// Makes the nth call of the kind on this host, from 1, fault with `Why::Other`. A call that was refused for memory
+    /// counts for none. Refused for memory itself, the host stays as it was.
     pub fn fail(&mut self, call: HostCall, nth: u64) -> Mem<()>
         ensures ok { OnOk result (self.new ≡ record self.old { failures = self.old.failures ++ record { call = call; nth = nth } ∷ [] }) }
         ensures err { OnErr result (self.new ≡ self.old) }
