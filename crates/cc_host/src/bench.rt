@@ -21,7 +21,8 @@ pub struct Bench;
 
 impl World for Bench {}
 
-/// A host in memory. Commands end as they are scripted, or with 0, and write nothing. No file stands on it.
+/// A host in memory. Commands end as they are scripted, or with 0, and write nothing. No file stands on it. A call faults
+/// only where `fail` was called.
 #[derive(Drop)]
 pub struct BenchHost {
     alloc: Global,
@@ -68,7 +69,7 @@ impl BenchHost {
         Ok(())
     }
 
-    /// Makes commands of the program missing. Refused for memory, the host stays as it was.
+    /// Makes each command of the program missing, scripted or not. Refused for memory, the host stays as it was.
     pub fn missing(&mut self, program: &str) -> Mem<()>
         ensures ok { OnOk result (self.new ≡ record self.old { missing = self.old.missing ++ program.now ∷ [] }) }
         ensures err { OnErr result (self.new ≡ self.old) }
@@ -76,7 +77,8 @@ impl BenchHost {
         self.missing.push(program)
     }
 
-    /// Makes the nth call of the kind on this host, from 1, fail. Refused for memory, the host stays as it was.
+    /// Makes the nth call of the kind on this host, from 1, fault with `Why::Other`. A call that was refused for memory
+    /// counts for none. Refused for memory itself, the host stays as it was.
     pub fn fail(&mut self, call: HostCall, nth: u64) -> Mem<()>
         ensures ok { OnOk result (self.new ≡ record self.old { failures = self.old.failures ++ record { call = call; nth = nth } ∷ [] }) }
         ensures err { OnErr result (self.new ≡ self.old) }
@@ -205,5 +207,69 @@ impl Host<Bench> for BenchHost {
 
     fn log(&self) -> &[Event] {
         &self.events
+    }
+}
+
+#[cfg(test)]
+mod tests {
+    use super::*;
+    use crate::{OutputKind, Status};
+    use std::test::Fail;
+
+    const PIPES: Pipes = Pipes {
+        out: OutputKind::Capture,
+        hear: true,
+    };
+
+    fn end_of(
+        host: &mut BenchHost,
+        role: Role,
+        cmd: &Command,
+    ) -> Result<Option<Status>, HostError> {
+        match host.output(role, cmd, PIPES)? {
+            Ran::Missing => Ok(None),
+            Ran::Done { status, .. } => Ok(Some(status)),
+        }
+    }
+
+    #[test]
+    fn commands_end_as_the_last_script_that_fits_says(rt: HostRuntime) -> Result<(), Fail> {
+        let alloc = rt.alloc();
+        let mut host = BenchHost::new(alloc)?;
+        let mut cmd = Command::new(alloc, "cc")?;
+        cmd.arg("-c")?;
+        cmd.arg("a.c")?;
+        let codes = [("a.c", 1), ("cc", 2), ("b.c", 3)];
+        for (word, code) in codes {
+            let status = Status::Code(code);
+            host.script(Role::Compile, word, Script { status })?;
+        }
+        host.missing("ar")?;
+        let ar = Command::new(alloc, "ar")?;
+        assert_eq!(rt;
+            end_of(&mut host, Role::Compile, &cmd),
+            Ok(Some(Status::Code(2)))
+        );
+        assert_eq!(rt;
+            end_of(&mut host, Role::Expand, &cmd),
+            Ok(Some(Status::Code(0)))
+        );
+        assert_eq!(rt; end_of(&mut host, Role::Archive, &ar), Ok(None));
+        assert_eq!(rt; host.log().len(), 3);
+        Ok(())
+    }
+
+    #[test]
+    fn only_the_call_that_is_to_fail_faults(rt: HostRuntime) -> Result<(), Fail> {
+        let mut host = BenchHost::new(rt.alloc())?;
+        let fault = HostError::Fault(HostCall::Print, Why::Other);
+        host.fail(HostCall::Print, 2)?;
+        assert_eq!(rt; host.print(LineKind::Link, b"one\n"), Ok(()));
+        assert_eq!(rt; host.make_dir(Scope::Build, "out"), Ok(()));
+        assert_eq!(rt; host.print(LineKind::Link, b"two\n"), Err(fault));
+        assert_eq!(rt; host.print(LineKind::Link, b"two\n"), Ok(()));
+        assert_eq!(rt; host.remove_file("out/a.o"), Ok(Removal::Absent));
+        assert_eq!(rt; host.log().len(), 5);
+        Ok(())
     }
 }
