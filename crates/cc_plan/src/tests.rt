@@ -1,10 +1,10 @@
 use crate::{
-    ArgumentCause, BuildConfig, Object, PlanError, compile_command, lib_and_archive_names,
+    ArgumentCause, BuildConfig, Object, Plan, PlanError, compile_command, lib_and_archive_names,
     object_path, objects_from_files, plan_commands, plan_sources, tool_of,
 };
-use cc_text::{Mem, Text, ToolFamily, Vars, Words};
+use cc_host::{Command, command_line};
+use cc_text::{Mem, Text, Words};
 use std::alloc::Global;
-use std::process::Abort;
 use std::test::Fail;
 
 // What is wrong with an argument, where that is why a plan is refused.
@@ -15,40 +15,84 @@ fn cause_of<T: Drop>(answer: Result<T, PlanError>) -> Option<ArgumentCause> {
     }
 }
 
-fn words_of(alloc: Global, texts: &[&str]) -> Mem<Words> {
+fn two_words(alloc: Global, first: &str, second: &str) -> Mem<Words> {
     let mut words = Words::new(alloc);
-    for text in texts {
-        words.push(text)?;
-    }
+    words.push(first)?;
+    words.push(second)?;
     Ok(words)
 }
 
 fn linux_settings(alloc: Global) -> Mem<BuildConfig> {
-    let mut set = BuildConfig::new(alloc);
-    set.target = Some(Text::of(alloc, "x86_64-unknown-linux-gnu")?);
-    set.host = Some(Text::of(alloc, "x86_64-unknown-linux-gnu")?);
-    set.opt_level = Some(Text::of(alloc, "0")?);
-    set.compiler = Some(Text::of(alloc, "cc")?);
-    set.out_dir = Some(Text::of(alloc, "/o")?);
-    Ok(set)
+    let target = Text::of(alloc, "x86_64-unknown-linux-gnu")?;
+    Ok(BuildConfig {
+        files: Words::new(alloc),
+        host: Some(target.try_clone()?),
+        target: Some(target),
+        opt_level: Some(Text::of(alloc, "0")?),
+        out_dir: Some(Text::of(alloc, "/o")?),
+        compiler: Some(Text::of(alloc, "cc")?),
+        archiver: None,
+        emit_rerun_if_env_changed: false,
+    })
 }
 
-fn assert_words(rt: &impl Abort, words: &Words, want: &[&str]) {
-    assert_eq!(rt; words.len(), want.len());
-    for (place, word) in want.iter().enumerate() {
-        assert!(rt;
-            words.get(place).is_some_and(|text| text.as_str() == *word),
-            "{word}"
-        );
+// The variables of a command, each with a space behind it, and its program and words.
+fn push_command(text: &mut Text, alloc: Global, cmd: &Command) -> Mem<()> {
+    for (name, value) in cmd.get_envs().as_slice() {
+        text.push_str(name.as_str())?;
+        text.push('=')?;
+        text.push_str(value.as_str())?;
+        text.push(' ')?;
     }
+    text.push_str(command_line(alloc, cmd)?.as_str())
 }
 
-fn assert_variable(rt: &impl Abort, env: &Vars, name: &str, value: &str) {
-    assert_eq!(rt; env.len(), 1);
-    for pair in env.as_slice() {
-        assert_eq!(rt; pair.0.as_str(), name);
-        assert_eq!(rt; pair.1.as_str(), value);
+fn compiled(alloc: Global, set: &BuildConfig) -> Result<Command, PlanError> {
+    let tool = tool_of(alloc, set)?;
+    let object = Object {
+        src: Text::of(alloc, "src/a.c")?,
+        dst: Text::of(alloc, "OBJECT")?,
+    };
+    compile_command(set, &tool, &object)
+}
+
+// The command that makes OBJECT from `src/a.c`.
+fn compile_text(alloc: Global) -> Result<Text, PlanError> {
+    let set = linux_settings(alloc)?;
+    let cmd = compiled(alloc, &set)?;
+    let mut text = Text::new(alloc);
+    push_command(&mut text, alloc, &cmd)?;
+    Ok(text)
+}
+
+fn planned(alloc: Global, set: &BuildConfig, output: &str) -> Result<Plan, PlanError> {
+    let sources = plan_sources(alloc, set, output)?;
+    plan_commands(alloc, set, output, &sources)
+}
+
+// The archive and index commands and the link lines, each with a line feed behind it.
+fn push_archive_and_lines(text: &mut Text, alloc: Global, plan: &Plan) -> Mem<()> {
+    for cmds in [&plan.archives, &plan.indexes] {
+        for cmd in cmds {
+            push_command(text, alloc, cmd)?;
+            text.push('\n')?;
+        }
     }
+    for line in plan.lines.as_slice() {
+        text.push_str(line.as_str())?;
+        text.push('\n')?;
+    }
+    Ok(())
+}
+
+// What a plan of `src/a.c` for `foo` has behind its compile commands.
+fn plan_text(alloc: Global) -> Result<Text, PlanError> {
+    let mut set = linux_settings(alloc)?;
+    set.files.push("src/a.c")?;
+    let plan = planned(alloc, &set, "foo")?;
+    let mut text = Text::new(alloc);
+    push_archive_and_lines(&mut text, alloc, &plan)?;
+    Ok(text)
 }
 
 #[test]
@@ -86,79 +130,36 @@ fn an_object_is_named_by_folder_and_extension(rt: HostRuntime) -> Result<(), Fai
 
 #[test]
 fn sources_have_a_name_and_objects_of_their_own(rt: HostRuntime) -> Result<(), Fail> {
-    let apart = words_of(rt.alloc(), &["d/foo.c", "d/foo.cpp"])?;
-    let objects = objects_from_files(rt.alloc(), &apart, "/o")?;
-    assert_eq!(rt; objects.len(), 2);
-    assert_eq!(rt; objects[0].src.as_str(), "d/foo.c");
-    assert_ne!(rt; objects[0].dst.as_str(), objects[1].dst.as_str());
-    let alike = words_of(rt.alloc(), &["d/.a", "d/.b"])?;
-    let cause = cause_of(objects_from_files(rt.alloc(), &alike, "/o"));
-    assert_eq!(rt; cause, Some(ArgumentCause::SameObject(0, 1)));
-    let nameless = words_of(rt.alloc(), &[".."])?;
-    let cause = cause_of(objects_from_files(rt.alloc(), &nameless, "/o"));
-    assert_eq!(rt; cause, Some(ArgumentCause::NoFileName(0)));
+    for (first, second, want) in [
+        ("d/foo.c", "d/foo.cpp", None),
+        ("d/.a", "d/.b", Some(ArgumentCause::SameObject(0, 1))),
+        ("..", "d/foo.c", Some(ArgumentCause::NoFileName(0))),
+    ] {
+        let sources = two_words(rt.alloc(), first, second)?;
+        let objects = objects_from_files(rt.alloc(), &sources, "/o");
+        assert_eq!(rt; objects.is_ok(), want.is_none());
+        assert_eq!(rt; cause_of(objects), want);
+    }
     Ok(())
 }
 
 #[test]
 fn compiles_with_the_words_of_the_target(rt: HostRuntime) -> Result<(), Fail> {
-    let set = linux_settings(rt.alloc())?;
-    let tool = tool_of(rt.alloc(), &set)?;
-    assert_eq!(rt; tool.family, ToolFamily::Gnu);
-    let object = Object {
-        src: Text::of(rt.alloc(), "src/a.c")?,
-        dst: Text::of(rt.alloc(), "OBJECT")?,
-    };
-    let cmd = compile_command(&set, &tool, &object)?;
-    assert_eq!(rt; cmd.get_program(), "cc");
-    assert_words(
-        &rt,
-        cmd.get_args(),
-        &[
-            "-O0",
-            "-ffunction-sections",
-            "-fdata-sections",
-            "-fPIC",
-            "-m64",
-            "-march=x86-64",
-            "-Wall",
-            "-Wextra",
-            "-o",
-            "OBJECT",
-            "-c",
-            "src/a.c",
-        ],
+    assert_eq!(rt;
+        compile_text(rt.alloc())?.as_str(),
+        "LC_ALL=C \"cc\" \"-O0\" \"-ffunction-sections\" \"-fdata-sections\" \"-fPIC\" \"-m64\" \"-march=x86-64\" \"-Wall\" \"-Wextra\" \"-o\" \"OBJECT\" \"-c\" \"src/a.c\""
     );
-    assert_variable(&rt, cmd.get_envs(), "LC_ALL", "C");
-    assert_eq!(rt; cmd.get_current_dir(), None);
     Ok(())
 }
 
 #[test]
 fn plans_one_archive_its_index_and_two_lines(rt: HostRuntime) -> Result<(), Fail> {
-    let mut set = linux_settings(rt.alloc())?;
-    set.files = words_of(rt.alloc(), &["src/a.c"])?;
-    let sources = plan_sources(rt.alloc(), &set, "foo")?;
-    let plan = plan_commands(rt.alloc(), &set, "foo", &sources)?;
-    assert_eq!(rt; plan.compiles.len(), 1);
-    assert_eq!(rt; plan.archives.len(), 1);
-    let archive = &plan.archives[0];
-    assert_eq!(rt; archive.get_program(), "ar");
-    assert_words(
-        &rt,
-        archive.get_args(),
-        &["cqD", "/o/libfoo.a", "/o/f268e9834a4b7b98-a.o"],
-    );
-    assert_variable(&rt, archive.get_envs(), "ZERO_AR_DATE", "1");
-    assert_eq!(rt; plan.indexes.len(), 1);
-    assert_words(&rt, plan.indexes[0].get_args(), &["sD", "/o/libfoo.a"]);
-    assert_words(
-        &rt,
-        &plan.lines,
-        &[
-            "cargo:rustc-link-lib=static=foo",
-            "cargo:rustc-link-search=native=/o",
-        ],
+    assert_eq!(rt;
+        plan_text(rt.alloc())?.as_str(),
+        "ZERO_AR_DATE=1 \"ar\" \"cqD\" \"/o/libfoo.a\" \"/o/f268e9834a4b7b98-a.o\"\n\
+         \"ar\" \"sD\" \"/o/libfoo.a\"\n\
+         cargo:rustc-link-lib=static=foo\n\
+         cargo:rustc-link-search=native=/o\n"
     );
     Ok(())
 }
