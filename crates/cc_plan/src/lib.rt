@@ -13,6 +13,8 @@ mod names;
 mod object;
 mod plan;
 mod settings;
+#[cfg(test)]
+mod tests;
 mod tool;
 
 pub use archive::{archive_commands, index_commands};

@@ -1,0 +1,165 @@
+use crate::{
+    ArgumentCause, BuildConfig, Object, Plan, PlanError, compile_command, lib_and_archive_names,
+    object_path, objects_from_files, plan_commands, plan_sources, tool_of,
+};
+use cc_host::{Command, command_line};
+use cc_text::{Mem, Text, Words};
+use std::alloc::Global;
+use std::test::Fail;
+
+// What is wrong with an argument, where that is why a plan is refused.
+fn cause_of<T: Drop>(answer: Result<T, PlanError>) -> Option<ArgumentCause> {
+    match answer {
+        Err(PlanError::Argument(cause)) => Some(cause),
+        _ => None,
+    }
+}
+
+fn two_words(alloc: Global, first: &str, second: &str) -> Mem<Words> {
+    let mut words = Words::new(alloc);
+    words.push(first)?;
+    words.push(second)?;
+    Ok(words)
+}
+
+fn linux_settings(alloc: Global) -> Mem<BuildConfig> {
+    let target = Text::of(alloc, "x86_64-unknown-linux-gnu")?;
+    Ok(BuildConfig {
+        files: Words::new(alloc),
+        host: Some(target.try_clone()?),
+        target: Some(target),
+        opt_level: Some(Text::of(alloc, "0")?),
+        out_dir: Some(Text::of(alloc, "/o")?),
+        compiler: Some(Text::of(alloc, "cc")?),
+        archiver: None,
+        emit_rerun_if_env_changed: false,
+    })
+}
+
+// The variables of a command, each with a space behind it, and its program and words.
+fn push_command(text: &mut Text, alloc: Global, cmd: &Command) -> Mem<()> {
+    for (name, value) in cmd.get_envs().as_slice() {
+        text.push_str(name.as_str())?;
+        text.push('=')?;
+        text.push_str(value.as_str())?;
+        text.push(' ')?;
+    }
+    text.push_str(command_line(alloc, cmd)?.as_str())
+}
+
+fn compiled(alloc: Global, set: &BuildConfig) -> Result<Command, PlanError> {
+    let tool = tool_of(alloc, set)?;
+    let object = Object {
+        src: Text::of(alloc, "src/a.c")?,
+        dst: Text::of(alloc, "OBJECT")?,
+    };
+    compile_command(set, &tool, &object)
+}
+
+// The command that makes OBJECT from `src/a.c`.
+fn compile_text(alloc: Global) -> Result<Text, PlanError> {
+    let set = linux_settings(alloc)?;
+    let cmd = compiled(alloc, &set)?;
+    let mut text = Text::new(alloc);
+    push_command(&mut text, alloc, &cmd)?;
+    Ok(text)
+}
+
+fn planned(alloc: Global, set: &BuildConfig, output: &str) -> Result<Plan, PlanError> {
+    let sources = plan_sources(alloc, set, output)?;
+    plan_commands(alloc, set, output, &sources)
+}
+
+// The archive and index commands and the link lines, each with a line feed behind it.
+fn push_archive_and_lines(text: &mut Text, alloc: Global, plan: &Plan) -> Mem<()> {
+    for cmds in [&plan.archives, &plan.indexes] {
+        for cmd in cmds {
+            push_command(text, alloc, cmd)?;
+            text.push('\n')?;
+        }
+    }
+    for line in plan.lines.as_slice() {
+        text.push_str(line.as_str())?;
+        text.push('\n')?;
+    }
+    Ok(())
+}
+
+// What a plan of `src/a.c` for `foo` has behind its compile commands.
+fn plan_text(alloc: Global) -> Result<Text, PlanError> {
+    let mut set = linux_settings(alloc)?;
+    set.files.push("src/a.c")?;
+    let plan = planned(alloc, &set, "foo")?;
+    let mut text = Text::new(alloc);
+    push_archive_and_lines(&mut text, alloc, &plan)?;
+    Ok(text)
+}
+
+#[test]
+fn names_a_library_and_its_file(rt: HostRuntime) -> Result<(), Fail> {
+    for (output, name, file) in [
+        ("foo", "foo", "libfoo.a"),
+        ("libfoo.a", "foo", "libfoo.a"),
+        ("libfoo", "libfoo", "liblibfoo.a"),
+        (".a", ".a", "lib.a.a"),
+    ] {
+        let names = lib_and_archive_names(rt.alloc(), output)?;
+        assert_eq!(rt; names.0.as_str(), name);
+        assert_eq!(rt; names.1.as_str(), file);
+    }
+    for output in ["lib.a", "foo/", "foo/.", "a/b", "..", ""] {
+        let cause = cause_of(lib_and_archive_names(rt.alloc(), output));
+        assert_eq!(rt; cause, Some(ArgumentCause::Output), "{output}");
+    }
+    Ok(())
+}
+
+#[test]
+fn an_object_is_named_by_folder_and_extension(rt: HostRuntime) -> Result<(), Fail> {
+    for (source, object) in [
+        ("src/a.c", "/o/f268e9834a4b7b98-a.o"),
+        ("d/.a", "/o/9445dcca923899c8-.o"),
+        ("d/.b", "/o/9445dcca923899c8-.o"),
+        ("d/foo.c", "/o/c5c81f8acea901ea-foo.o"),
+        ("d/foo.cpp", "/o/a01b29cf2d44b1b2-foo.o"),
+    ] {
+        assert_eq!(rt; object_path(rt.alloc(), "/o", source)?.as_str(), object);
+    }
+    Ok(())
+}
+
+#[test]
+fn sources_have_a_name_and_objects_of_their_own(rt: HostRuntime) -> Result<(), Fail> {
+    for (first, second, want) in [
+        ("d/foo.c", "d/foo.cpp", None),
+        ("d/.a", "d/.b", Some(ArgumentCause::SameObject(0, 1))),
+        ("..", "d/foo.c", Some(ArgumentCause::NoFileName(0))),
+    ] {
+        let sources = two_words(rt.alloc(), first, second)?;
+        let objects = objects_from_files(rt.alloc(), &sources, "/o");
+        assert_eq!(rt; objects.is_ok(), want.is_none());
+        assert_eq!(rt; cause_of(objects), want);
+    }
+    Ok(())
+}
+
+#[test]
+fn compiles_with_the_words_of_the_target(rt: HostRuntime) -> Result<(), Fail> {
+    assert_eq!(rt;
+        compile_text(rt.alloc())?.as_str(),
+        "LC_ALL=C \"cc\" \"-O0\" \"-ffunction-sections\" \"-fdata-sections\" \"-fPIC\" \"-m64\" \"-march=x86-64\" \"-Wall\" \"-Wextra\" \"-o\" \"OBJECT\" \"-c\" \"src/a.c\""
+    );
+    Ok(())
+}
+
+#[test]
+fn plans_one_archive_its_index_and_two_lines(rt: HostRuntime) -> Result<(), Fail> {
+    assert_eq!(rt;
+        plan_text(rt.alloc())?.as_str(),
+        "ZERO_AR_DATE=1 \"ar\" \"cqD\" \"/o/libfoo.a\" \"/o/f268e9834a4b7b98-a.o\"\n\
+         \"ar\" \"sD\" \"/o/libfoo.a\"\n\
+         cargo:rustc-link-lib=static=foo\n\
+         cargo:rustc-link-search=native=/o\n"
+    );
+    Ok(())
+}
