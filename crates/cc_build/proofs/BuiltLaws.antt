@@ -1,11 +1,10 @@
 -- A part that did all the steps of a compile run is built.
-use Rattle.std.proofs.Common.{◌≡◌, ◌⊎◌, inl, inr, List, [], ◌∷◌, ◌++◌, ℕ, Option, Some, None, Result, Ok, Err, OnOk, Bool, true, false, if◌then◌else◌, is_some, refl, sym, ◌∙◌, ap, subst, append_assoc}
+use Rattle.std.proofs.Common.{◌≡◌, List, [], ◌∷◌, ◌++◌, ℕ, Option, Some, None, Result, Ok, Err, OnOk, refl, sym, ◌∙◌, ap, subst, append_assoc}
 use Rattle.std.specs.Option.{option_map}
-use Rattle.cc_host.specs.Part.{Step, IsWhole}
+use Rattle.cc_host.specs.Part.{IsWhole}
 use Rattle.cc_host.specs.Part.Step.{Removes}
 use Rattle.cc_host.specs.declared.event.Event.{Event}
 use Rattle.cc_host.specs.declared.event.Event.TheVariants.{Removed}
-use Rattle.cc_host.specs.declared.event.Removal.{Removal}
 use Rattle.cc_host.proofs.Parts.{whole_then}
 use Rattle.cc_plan.specs.declared.settings.BuildConfig.{BuildConfig}
 use Rattle.cc_plan.specs.declared.error.PlanError.{PlanError}
@@ -15,7 +14,7 @@ use Rattle.cc_build.specs.Built.{Built}
 use Rattle.cc_build.specs.Error.{ErrorSeen}
 use Rattle.cc_build.specs.Outcome.{Outcome}
 use Rattle.cc_build.specs.Refusal.{refusal_error, plan_error}
-use Rattle.cc_build.proofs.Splits.{whole_cut, removal, Cut}
+use Rattle.cc_build.proofs.Splits.{whole_cut, removal}
 
 -- settings whose error is none are not refused
 pub no_error : (set : BuildConfig) (output : List ℕ) → refusal_error set output ≡ None → refusal set output ≡ None
@@ -42,7 +41,7 @@ accepted_steps set output h =
 glued : (part f1 r1 f2 r2 f3 r3 f4 r4 f5 r5 : List Event) (x : Event) → part ≡ f1 ++ r1 → r1 ≡ f2 ++ r2 → r2 ≡ f3 ++ r3 → r3 ≡ f4 ++ r4 → r4 ≡ f5 ++ r5 → f3 ≡ x ∷ [] → part ≡ (f1 ++ f2) ++ x ∷ (f4 ++ f5) ++ r5
 glued part f1 r1 f2 r2 f3 r3 f4 r4 f5 r5 x e1 e2 e3 e4 e5 one =
     let whole : part ≡ f1 ++ (f2 ++ ((x ∷ []) ++ (f4 ++ (f5 ++ r5)))) =
-      e1 ∙ ap (λ l. f1 ++ l) (e2 ∙ ap (λ l. f2 ++ l) (e3 ∙ ap (λ l. l ++ r3) one ∙ ap (λ l. (x ∷ []) ++ l) (e4 ∙ ap (λ l. f4 ++ l) e5))) in
+    e1 ∙ ap (λ l. f1 ++ l) (e2 ∙ ap (λ l. f2 ++ l) (e3 ∙ ap (λ l. l ++ r3) one ∙ ap (λ l. (x ∷ []) ++ l) (e4 ∙ ap (λ l. f4 ++ l) e5))) in
     let joined : (f1 ++ f2) ++ x ∷ (f4 ++ f5) ++ r5 ≡ f1 ++ (f2 ++ ((x ∷ []) ++ (f4 ++ (f5 ++ r5)))) = simp append_assoc in
     whole ∙ sym joined
 

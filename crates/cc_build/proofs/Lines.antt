@@ -1,9 +1,9 @@
 -- Lines printed one after another.
-use Rattle.std.proofs.Common.{◌≡◌, ℕ, suc, ◌+◌, ◌<◌, List, [], ◌∷◌, ◌++◌, map, length, take, drop, get_or, refl, sym, ◌∙◌, ap, add-one}
+use Rattle.std.proofs.Common.{◌≡◌, ℕ, suc, ◌+◌, ◌<◌, List, [], ◌∷◌, ◌++◌, length, take, drop, get_or, refl, sym, ◌∙◌, ap, add-one}
 use Rattle.std.proofs.Math.Seq.{drop-cons}
 use Rattle.std.proofs.lemmas.Grind.{take_at_read}
 use Rattle.std.proofs.lemmas.List.{take-append-drop}
-use Rattle.cc_host.specs.Part.{Step, since}
+use Rattle.cc_host.specs.Part.{since}
 use Rattle.cc_host.specs.Part.Step.{Prints}
 use Rattle.cc_host.proofs.Parts.{since_since, since_append}
 use Rattle.cc_host.specs.declared.event.Event.{Event}

@@ -1,5 +1,5 @@
 -- How the outcomes of one stage of a run after another make up that of the run.
-use Rattle.std.proofs.Common.{MatchResult, IfOk, ℕ, ◌+◌, ◌<◌, length, take, drop, get_or, ◌≡◌, ◌⊎◌, inl, inr, List, [], ◌∷◌, ◌++◌, Option, Some, None, Result, Ok, Err, refl, sym, ◌∙◌, ap, subst}
+use Rattle.std.proofs.Common.{MatchResult, IfOk, ℕ, ◌+◌, ◌<◌, length, take, drop, get_or, ◌≡◌, ◌⊎◌, inl, inr, List, [], ◌∷◌, ◌++◌, Option, Some, None, Result, Ok, Err, sym, ◌∙◌, ap, subst}
 use Rattle.cc_host.specs.Command.{CommandSeen}
 use Rattle.cc_host.specs.declared.event.Role.{Role}
 use Rattle.cc_host.specs.Part.Step.{Runs}

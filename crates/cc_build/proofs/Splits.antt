@@ -1,7 +1,7 @@
 -- A part that did two lists of steps is cut between them.
-use Rattle.std.proofs.Common.{◌≡◌, ◌⊎◌, inl, inr, List, [], ◌∷◌, ◌++◌, Bool, true, false, if◌then◌else◌, refl, sym, ◌∙◌, ap, subst, ℕ}
+use Rattle.std.proofs.Common.{◌≡◌, ◌⊎◌, inl, inr, List, [], ◌∷◌, ◌++◌, Bool, true, false, if◌then◌else◌, refl, sym, ◌∙◌, ap, ℕ}
 use Rattle.cc_host.specs.Part.{Step, step_of, stop_of, done, stops, is_success, IsWhole}
-use Rattle.cc_host.specs.Part.Step.{Runs, Makes, Removes, Prints}
+use Rattle.cc_host.specs.Part.Step.{Runs, Removes}
 use Rattle.cc_host.specs.Command.{CommandSeen}
 use Rattle.cc_host.specs.declared.event.Event.{Event}
 use Rattle.cc_host.specs.declared.event.Event.TheVariants.{Ran, Missing, Fault, Made, Removed, Printed}

@@ -2,7 +2,7 @@
 use Rattle.std.proofs.Common.{◌≡◌, ◌⊎◌, inl, inr, ℕ, List, [], ◌∷◌, ◌++◌, Option, Some, None, Result, refl, sym, ◌∙◌, ap, subst}
 use Rattle.std.specs.Option.{option_map}
 use Rattle.cc_host.specs.Command.{CommandSeen}
-use Rattle.cc_host.specs.Part.{Step, runs, since, IsPartly}
+use Rattle.cc_host.specs.Part.{Step, runs, IsPartly}
 use Rattle.cc_host.specs.Part.Step.{Removes}
 use Rattle.cc_host.specs.declared.event.Event.{Event}
 use Rattle.cc_host.specs.declared.event.LineKind.TheVariants.{Link}
@@ -14,7 +14,7 @@ use Rattle.cc_plan.specs.declared.error.PlanError.TheVariants.{NoMemory as Wants
 use Rattle.cc_plan.specs.Plan.{library_of, compiles_of, archives_of, indexes_of, link_lines, prints, folder_steps, compile_steps, removal_steps, archive_steps, index_steps, link_steps, run_steps, late_steps, planned_steps}
 use Rattle.cc_plan.specs.Refusal.{refusal, first_of, early_refusal, late_refusal}
 use Rattle.cc_build.specs.Error.{ErrorSeen, no_memory}
-use Rattle.cc_build.specs.Outcome.{IsCausedBy, IsRefused, Outcome}
+use Rattle.cc_build.specs.Outcome.{IsRefused, Outcome}
 use Rattle.cc_build.specs.Refusal.{plan_error, refusal_error, late_error}
 
 -- the error of a refused plan, by its cause

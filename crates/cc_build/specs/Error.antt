@@ -1,5 +1,5 @@
 -- What an error is seen as.
-use Rattle.std.specs.Prelude.{ℕ, List, [], Option, Some, None}
+use Rattle.std.specs.Prelude.{ℕ, List, []}
 use Rattle.cc_build.specs.declared.error.ErrorKind.{ErrorKind}
 use Rattle.cc_build.specs.declared.error.ErrorKind.TheVariants.{NoMemory}
 

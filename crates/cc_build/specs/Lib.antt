@@ -1,6 +1,7 @@
 pub mod Built
 pub mod Error
 pub mod ErrorFields
+pub mod Order
 pub mod Outcome
 pub mod Refusal
 pub mod Stop

@@ -5,6 +5,7 @@ ghost use Rattle.cc_host.specs.Part.{since};
 ghost use Rattle.cc_plan.specs.Plan.{planned_steps};
 ghost use Rattle.cc_build.specs.Built.{Built};
 ghost use Rattle.cc_build.specs.Error.{no_memory};
+ghost use Rattle.cc_build.specs.Order.{ArchivesLast};
 ghost use Rattle.cc_build.specs.Outcome.{Outcome};
 ghost use Rattle.cc_build.specs.Refusal.{refusal_error};
 
@@ -126,10 +127,12 @@ impl<W: World> Build<W> {
     ///
     /// Makes the out dir where there is a source, runs one compile command per source, removes the old library, archives all
     /// objects, writes the index, and prints the link lines. Ok means that all of this was done, and nothing else. Else
-    /// the first steps of it were, and the error is that of the refused settings, or of the event that ended the run.
+    /// the first steps of it were, and the error is that of the refused settings, or of the event that ended the run. No archive
+    /// command is run before each source was compiled.
     pub fn try_compile<H: Host<W>>(&self, host: &mut H, output: &str) -> Result<(), Error>
         ensures extends { H.log host.new ≡ H.log host.old ++ since (H.log host.old) (H.log host.new) }
         ensures built { OnOk result (Built self.now output.now (since (H.log host.old) (H.log host.new))) }
+        ensures order { ArchivesLast self.now (since (H.log host.old) (H.log host.new)) }
         ensures outcome { Outcome (refusal_error self.now output.now) (planned_steps self.now output.now) (since (H.log host.old) (H.log host.new)) result }
     {
         compile(self.alloc, host, &self.config, output)

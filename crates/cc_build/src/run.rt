@@ -32,11 +32,13 @@ pub(crate) fn run_commands<W: World, H: Host<W>>(
     for cmd in cmds {
         match host.output(role, cmd, pipes) {
             Ok(Ran::Missing) => return Err(or_no_memory(missing(alloc, cmd))),
-            Ok(Ran::Done {
-                status,
-                out: _,
-                err: _,
-            }) => {
+            Ok(
+                Ran::Done {
+                    status,
+                    out: _,
+                    err: _,
+                },
+            ) => {
                 if !status.is_success() {
                     return Err(or_no_memory(failed(alloc, status, cmd)));
                 }

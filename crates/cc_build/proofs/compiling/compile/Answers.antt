@@ -1,4 +1,4 @@
-use Rattle.std.proofs.Common.{◌≡◌, ◌++◌, List, ℕ, None, refl, sym}
+use Rattle.std.proofs.Common.{◌++◌}
 use Rattle.std.proofs.lemmas.Result.{err_from_is_err_and}
 use Rattle.cc_host.specs.Part.{since}
 use Rattle.cc_plan.specs.Plan.{folder_steps, late_steps, planned_steps}

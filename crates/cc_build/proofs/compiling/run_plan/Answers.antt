@@ -1,4 +1,4 @@
-use Rattle.std.proofs.Common.{◌≡◌, ◌++◌, ◌∷◌, [], List, None}
+use Rattle.std.proofs.Common.{◌++◌, ◌∷◌, [], None}
 use Rattle.std.proofs.lemmas.Result.{err_from_is_err_and}
 use Rattle.cc_host.specs.Part.{since, runs, IsWhole}
 use Rattle.cc_host.specs.Part.Step.{Removes}

@@ -1,12 +1,12 @@
-use Rattle.std.proofs.Common.{◌≡◌, ◌++◌, ◌∷◌, [], List, None, subst}
+use Rattle.std.proofs.Common.{◌++◌, ◌∷◌, [], None}
 use Rattle.std.proofs.lemmas.Result.{err_from_is_err_and}
-use Rattle.cc_host.specs.Part.{since, runs, IsWhole, Step}
+use Rattle.cc_host.specs.Part.{since, runs, IsWhole}
 use Rattle.cc_host.specs.Part.Step.{Removes}
 use Rattle.cc_host.specs.declared.event.LineKind.TheVariants.{Link}
 use Rattle.cc_host.specs.declared.event.Role.TheVariants.{Archive, Index}
 use Rattle.cc_host.proofs.Parts.{since_extends}
 use Rattle.cc_plan.specs.Plan.{prints}
-use Rattle.cc_build.specs.Outcome.{IsRefused, Outcome}
+use Rattle.cc_build.specs.Outcome.{IsRefused}
 use Rattle.cc_build.proofs.Outcomes.{refused_more, refused_from, outcome_from}
 use Rattle.cc_build.proofs.compiling.write_library.Goals as goal
 
