@@ -65,7 +65,7 @@ last_event : (before after : List Event) (event : Event) → before ++ event ∷
 last_event before [] event last k b a = refl
 last_event before (e ∷ after) event last k b a =
     let c : calm (before ++ event ∷ e ∷ after) ≡ before ++ (e ∷ after) =
-      calm_then before (event ∷ e ∷ after) ∙ ap (λ l. l ++ calm (event ∷ e ∷ after)) (sym (calm_whole before b)) ∙ ap (λ l. before ++ (l ++ calm (e ∷ after))) k.1 ∙ ap (λ l. before ++ l) (sym (calm_whole (e ∷ after) a)) in
+    calm_then before (event ∷ e ∷ after) ∙ ap (λ l. l ++ calm (event ∷ e ∷ after)) (sym (calm_whole before b)) ∙ ap (λ l. before ++ (l ++ calm (e ∷ after))) k.1 ∙ ap (λ l. before ++ l) (sym (calm_whole (e ∷ after) a)) in
     let whole : before ++ event ∷ e ∷ after ≡ before ++ (e ∷ (after ++ event ∷ [])) = last ∙ ap (λ l. l ++ event ∷ []) c ∙ append_assoc before (e ∷ after) (event ∷ []) in
     let ends : event ∷ e ∷ after ≡ e ∷ (after ++ event ∷ []) = sym (drop-append_seam before (event ∷ e ∷ after)) ∙ ap (λ l. drop (length before) l) whole ∙ drop-append_seam before (e ∷ (after ++ event ∷ [])) in
     let same : event ≡ e = cc in
@@ -76,7 +76,7 @@ module _ (test : Step → Bool) (first rest : List Step) (before after : List Ev
   did : (step : Step) → IsPartly (first ++ rest) (before ++ event ∷ after) → list_any test first ≡ false → step_of event ≡ step ∷ [] → test step ≡ true → (t : List Step) × (done before ≡ first ++ t)
   did step p none is passes =
       let e : first ++ rest ≡ done before ++ step ∷ (done after ++ left (first ++ rest) (before ++ event ∷ after)) =
-        p.begun ∙ ap (λ l. l ++ left (first ++ rest) (before ++ event ∷ after)) (done_around before after event ∙ ap (λ l. done before ++ (l ++ done after)) is) ∙ append_assoc (done before) (step ∷ done after) (left (first ++ rest) (before ++ event ∷ after)) in
+      p.begun ∙ ap (λ l. l ++ left (first ++ rest) (before ++ event ∷ after)) (done_around before after event ∙ ap (λ l. done before ++ (l ++ done after)) is) ∙ append_assoc (done before) (step ∷ done after) (left (first ++ rest) (before ++ event ∷ after)) in
       cut test first rest (done before) (done after ++ left (first ++ rest) (before ++ event ∷ after)) step e none passes
 
   stopped : IsPartly (first ++ rest) (before ++ event ∷ after) → list_any test first ≡ false → IsStop event → ((step : Step) → Refuses step event → test step ≡ true) → (t : List Step) × (done before ≡ first ++ t)
@@ -122,12 +122,14 @@ missing_refused test role r (Prints kind bytes) c all is refusal = absurd refusa
 
 -- an event of a command of a role is on steps of that role alone
 pub only_of : (test : Step → Bool) (role : Role) (event : Event) → ((cmd : CommandSeen) → test (Runs role cmd) ≡ true) → IsOf role event → IsOnly test event
-only_of test role (Ran r c pipes status out err) all is =
-    ((λ step e. ap test (sym (where_success (is_success status) (Runs r c) step e)) ∙ ap (λ k. test (Runs k c)) is ∙ all c),
-     (λ step refusal. ran_refused test role r step c pipes status out err all is refusal))
-only_of test role (Missing r c) all is =
-    ((λ step e. absurd (cc)),
-     (λ step refusal. missing_refused test role r step c all is refusal))
+only_of test role (Ran r c pipes status out err) all is = (
+  (λ step e. ap test (sym (where_success (is_success status) (Runs r c) step e)) ∙ ap (λ k. test (Runs k c)) is ∙ all c),
+  (λ step refusal. ran_refused test role r step c pipes status out err all is refusal),
+)
+only_of test role (Missing r c) all is = (
+  (λ step e. absurd (cc)),
+  (λ step refusal. missing_refused test role r step c all is refusal),
+)
 only_of test role (Made scope path) all is = absurd is
 only_of test role (Removed path how) all is = absurd is
 only_of test role (Printed kind bytes) all is = absurd is
@@ -197,8 +199,8 @@ did_in : (part : List Event) (step : Step) → Contains (done part) step → Did
 did_in [] step has = absurd (omega (arith, has.1))
 did_in (event ∷ part) step has =
     ⊎_elim (λ h. did_by_first event part step (either event) h)
-      (λ h. let d = did_in part step h in (d.0, Contains-append_right (event ∷ []) part d.0 d.1, d.2))
-      (Contains-append_cases (step_of event) (done part) step has)
+    (λ h. let d = did_in part step h in (d.0, Contains-append_right (event ∷ []) part d.0 d.1, d.2))
+    (Contains-append_cases (step_of event) (done part) step has)
 
 -- each command among the steps that were done stands in the part with the end 0
 pub done_succeeds : (part : List Event) (role : Role) (cmd : CommandSeen) → Contains (done part) (Runs role cmd) → SucceedsIn part role cmd

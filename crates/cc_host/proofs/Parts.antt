@@ -85,9 +85,9 @@ partly_none steps = partly_of steps steps [] refl tt refl
 pub partly_whole : (steps : List Step) (part : List Event) → IsWhole steps part → IsPartly steps part
 partly_whole steps part w =
     partly_of steps [] part
-      (sym w.done_all ∙ sym (append-nil (done part)))
-      (subst (λ (l : List Event). StopsAt [] l) (sym w.unstopped) tt)
-      (calm_whole part w.unstopped ∙ sym (append-nil (calm part)) ∙ ap (λ l. calm part ++ l) (sym w.unstopped))
+    (sym w.done_all ∙ sym (append-nil (done part)))
+    (subst (λ (l : List Event). StopsAt [] l) (sym w.unstopped) tt)
+    (calm_whole part w.unstopped ∙ sym (append-nil (calm part)) ∙ ap (λ l. calm part ++ l) (sym w.unstopped))
 
 -- behind a part that was done whole, the events that end a run are those of the rest
 pub stops_then : (first : List Step) (a b : List Event) → IsWhole first a → stops (a ++ b) ≡ stops b
@@ -107,9 +107,9 @@ partly_then first second a b w p =
     let s : stops (a ++ b) ≡ stops b = stops_then first a b w in
     let k : a ++ calm b ≡ calm (a ++ b) = ap (λ l. l ++ calm b) (calm_whole a w.unstopped) ∙ sym (calm_then a b) in
     partly_of (first ++ second) (left second b) (a ++ b)
-      (ap (λ l. first ++ l) p.begun ∙ sym (append_assoc first (done b) (left second b)) ∙ ap (λ l. l ++ left second b) (sym d))
-      (subst (λ (l : List Event). StopsAt (left second b) l) (sym s) p.stop)
-      (ap (λ l. a ++ l) p.last ∙ sym (append_assoc a (calm b) (stops b)) ∙ ap (λ l. l ++ stops b) k ∙ ap (λ l. calm (a ++ b) ++ l) (sym s))
+    (ap (λ l. first ++ l) p.begun ∙ sym (append_assoc first (done b) (left second b)) ∙ ap (λ l. l ++ left second b) (sym d))
+    (subst (λ (l : List Event). StopsAt (left second b) l) (sym s) p.stop)
+    (ap (λ l. a ++ l) p.last ∙ sym (append_assoc a (calm b) (stops b)) ∙ ap (λ l. l ++ stops b) k ∙ ap (λ l. calm (a ++ b) ++ l) (sym s))
 
 -- behind a part that was done whole, the steps that are left are those of the rest
 pub left_then : (first second : List Step) (a b : List Event) → IsWhole first a → left (first ++ second) (a ++ b) ≡ left second b
@@ -156,9 +156,9 @@ pub partly_stop : (step : Step) (rest : List Step) (event : Event) → stop_of e
 partly_stop step rest event e refusal =
     let k = stop_alone event e in
     partly_of (step ∷ rest) (step ∷ rest) (event ∷ [])
-      (ap (λ l. l ++ step ∷ rest) (sym k.2))
-      (subst (λ (l : List Event). StopsAt (step ∷ rest) l) (sym k.0) refusal)
-      (sym k.0 ∙ ap (λ l. l ++ stops (event ∷ [])) (sym k.1))
+    (ap (λ l. l ++ step ∷ rest) (sym k.2))
+    (subst (λ (l : List Event). StopsAt (step ∷ rest) l) (sym k.0) refusal)
+    (sym k.0 ∙ ap (λ l. l ++ stops (event ∷ [])) (sym k.1))
 
 -- what its first step ended has all its steps left
 pub left_stop : (step : Step) (rest : List Step) (event : Event) → stop_of event ≡ event ∷ [] → left (step ∷ rest) (event ∷ []) ≡ step ∷ rest
@@ -227,7 +227,7 @@ module _ (role : Role) (cmds : List CommandSeen) (i : ℕ) where
   loop_more cmd before event lt at w did calm =
       let k = at_role cmd lt at in
       subst (λ (l : List Step). IsWhole l (before ++ event ∷ [])) (runs_take role (i + 1) cmds)
-        (step_more (runs role cmds) i (Runs role cmd) before event k.0 (ran_first before w) (did ∙ ap (λ s. s ∷ []) k.1) calm)
+      (step_more (runs role cmds) i (Runs role cmd) before event k.0 (ran_first before w) (did ∙ ap (λ s. s ∷ []) k.1) calm)
 
   -- the command at i was refused
   pub loop_partly : (cmd : CommandSeen) (before : List Event) (event : Event) → i < length cmds → cmd ≡ get_or cmds i cmd → IsWhole (runs role (take i cmds)) before → stop_of event ≡ event ∷ [] → Refuses (Runs role cmd) event → IsPartly (runs role cmds) (before ++ event ∷ [])

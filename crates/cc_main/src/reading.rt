@@ -47,11 +47,7 @@ fn set(answer: Result<(), Error>) -> Mem<Option<WordCause>>
     }
 }
 
-fn set_level<W: World>(
-    alloc: Global,
-    build: &mut Build<W>,
-    value: &str,
-) -> Mem<Option<WordCause>>
+fn set_level<W: World>(alloc: Global, build: &mut Build<W>, value: &str) -> Mem<Option<WordCause>>
     ensures { IfOk result (λ cause. (cause ≡ level_cause value.now) × (cause ≡ None → build.new ≡ record build.old { opt_level = Some value.now })) }
 {
     match number_of(alloc, value)? {
@@ -96,11 +92,7 @@ fn set_key<W: World>(
 }
 
 // Calls the setter of a word behind the name.
-fn set_word<W: World>(
-    alloc: Global,
-    build: &mut Build<W>,
-    word: &str,
-) -> Mem<Option<WordCause>>
+fn set_word<W: World>(alloc: Global, build: &mut Build<W>, word: &str) -> Mem<Option<WordCause>>
     ensures { IfOk result (λ cause. (cause ≡ word_cause word.now) × (cause ≡ None → build.new ≡ with_word build.old word.now)) }
 {
     match key_and_value(word) {

@@ -135,12 +135,7 @@ fn refuse<W: World, H: Host<W>>(alloc: Global, host: &mut H, error: Error) -> En
 
 // Compiles the sources of the build into the library of this name.
 #[tactic(auto, using(cc_host::proofs::Parts::since_append))]
-fn compile<W: World, H: Host<W>>(
-    alloc: Global,
-    build: &Build<W>,
-    name: &str,
-    host: &mut H,
-) -> Ended
+fn compile<W: World, H: Host<W>>(alloc: Global, build: &Build<W>, name: &str, host: &mut H) -> Ended
     ensures extends { H.log host.new ≡ H.log host.old ++ since (H.log host.old) (H.log host.new) }
     ensures answer { Answers build.now name.now (since (H.log host.old) (H.log host.new)) result }
 {

@@ -5,8 +5,8 @@
 //! memory refuses.
 #![tactic(auto)]
 
-mod cuts;
 mod case;
+mod cuts;
 mod family;
 mod hash;
 mod map;
@@ -21,10 +21,10 @@ mod table;
 mod text;
 mod words;
 
-pub use cuts::{after_prefix, before_suffix, key_and_value};
 pub use case::{
     contains_ignore_ascii_case, ends_with_ignore_ascii_case, starts_with_ignore_ascii_case,
 };
+pub use cuts::{after_prefix, before_suffix, key_and_value};
 pub use family::ToolFamily;
 pub use hash::{fnv1a, fnv1a_from, hex16};
 pub use map::VecMap;
