@@ -1,4 +1,5 @@
 pub mod AnswerLaws
 pub mod KeyLaws
 pub mod NumberLaws
+pub mod PromiseLaws
 pub mod WordLaws

@@ -78,10 +78,10 @@ pub record Refused (set : BuildConfig) (name : List ℕ) (part : List Event) (en
   pub known : is_wanting error.kind ≡ false
   pub is : ended ≡ ended_refused error
 
--- a compile run: it is built, or refused, or memory was wanted behind its first steps
+-- a compile run: it is built by its steps, or refused, or memory was wanted behind its first steps
 abbrev pub Answers : BuildConfig → List ℕ → List Event → Ended → Type 0
 Answers set name part ended =
-    ((ended ≡ ended_well) × Built set name part)
+    ((ended ≡ ended_well) × (Built set name part × IsPartly (planned_steps set name) part))
     ⊎ (Refused set name part ended
     ⊎ ((ended ≡ ended_wanting) × IsPartly (planned_steps set name) part))
 

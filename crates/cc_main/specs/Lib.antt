@@ -1,3 +1,4 @@
 pub mod Answer
+pub mod Promises
 pub mod Read
 pub mod Step

@@ -3,6 +3,7 @@ ghost use Rattle.std.specs.Prelude.{◌≡◌, ◌++◌, [], map, string_bytes, 
 ghost use Rattle.std.specs.Fmt.{decimal};
 ghost use Rattle.cc_host.specs.Part.{since};
 ghost use Rattle.cc_main.specs.Answer.{Tells, Answers, AnswersError, AnswersBad, AnswersWords, is_wanting, ended_wanting as wanting, cause_text as text_of, word_line as line_of_word, error_line as line_of_error};
+ghost use Rattle.cc_main.specs.Promises.{Headline, TellsLast, IsBegun, CompilesFirst, FaultsLast, IsComplete};
 ghost use Rattle.cc_main.specs.Read.{name_of, read};
 
 use crate::reading::read_words;
@@ -180,7 +181,19 @@ fn run<W: World, H: Host<W>>(alloc: Global, words: &[String], host: &mut H) -> E
 #[tactic(auto, using(cc_host::proofs::Parts::since_append))]
 pub fn drive<W: World, H: Host<W>>(alloc: Global, words: &[String], host: &mut H) -> Ended
     ensures extends { H.log host.new ≡ H.log host.old ++ since (H.log host.old) (H.log host.new) }
+
+    // The headline.
+    ensures built { Headline (read (map string_bytes words.now)) (since (H.log host.old) (H.log host.new)) result }
+
+    // The whole answer: each status with its cause.
     ensures answer { AnswersWords (read (map string_bytes words.now)) (since (H.log host.old) (H.log host.new)) result }
+
+    // What follows from it, sentence by sentence.
+    ensures told { TellsLast (since (H.log host.old) (H.log host.new)) result }
+    ensures begun { IsBegun (read (map string_bytes words.now)) (since (H.log host.old) (H.log host.new)) }
+    ensures order { CompilesFirst (read (map string_bytes words.now)) (since (H.log host.old) (H.log host.new)) }
+    ensures faults_last { FaultsLast (since (H.log host.old) (H.log host.new)) }
+    ensures complete { IsComplete (read (map string_bytes words.now)) (since (H.log host.old) (H.log host.new)) result }
 {
     run(alloc, words, host)
 }

@@ -1,5 +1,10 @@
+use Rattle.std.proofs.Common.{inl, refl}
+use Rattle.cc_host.proofs.Parts.{partly_whole}
 use Rattle.cc_main.proofs.AnswerLaws.{answers_behind}
 use Rattle.cc_main.proofs.top.compile.Goals as goal
+
+pub returns-in-Ok-clause-answer : goal.returns-in-Ok-clause-answer
+returns-in-Ok-clause-answer g c = inl (refl, (c.in-Ok.ensures.built, partly_whole _ _ c.in-Ok.ensures.outcome.1))
 
 pub returns-in-Err-clause-answer : goal.returns-in-Err-clause-answer
 returns-in-Err-clause-answer g c =

@@ -1,0 +1,201 @@
+-- What follows from an answer.
+use Rattle.std.proofs.Common.{◌≡◌, ◌⊎◌, inl, inr, ℕ, List, [], ◌∷◌, ◌++◌, Bool, true, false, Option, None, Some, Result, Ok, Err, refl, sym, ◌∙◌, ap, subst, append-nil, append_assoc}
+use Rattle.std.specs.Option.{option_map}
+use Rattle.cc_host.specs.Part.{Step, IsPartly, IsWhole, left, stops, calm, stop_of, StopsAt}
+use Rattle.cc_host.proofs.Parts.{partly_whole, stops_both, calm_whole, either, IsCalm, IsStop}
+use Rattle.cc_host.specs.declared.event.Event.{Event}
+use Rattle.cc_host.specs.declared.event.Event.TheVariants.{Printed, Fault}
+use Rattle.cc_host.specs.declared.event.HostCall.{HostCall}
+use Rattle.cc_host.specs.declared.event.HostCall.TheVariants.{Print}
+use Rattle.cc_host.specs.declared.event.LineKind.TheVariants.{Fault as FaultLine}
+use Rattle.cc_host.specs.declared.event.Why.{Why}
+use Rattle.cc_plan.specs.declared.settings.BuildConfig.{BuildConfig}
+use Rattle.cc_plan.specs.Plan.{planned_steps}
+use Rattle.cc_plan.specs.Refusal.{refusal}
+use Rattle.cc_plan.specs.Valid.{Valid}
+use Rattle.cc_plan.proofs.ValidLaws.{accepted}
+use Rattle.cc_build.specs.Built.{Built}
+use Rattle.cc_build.specs.Error.{ErrorSeen, no_memory}
+use Rattle.cc_build.specs.Order.{ArchivesLast, is_archive_event}
+use Rattle.cc_build.specs.Outcome.{IsCausedBy}
+use Rattle.cc_build.specs.Refusal.{plan_error, refusal_error}
+use Rattle.cc_build.specs.Stop.{stopped_by}
+use Rattle.cc_build.proofs.OrderLaws.{ordered}
+use Rattle.cc_main.specs.Answer.{Answers, AnswersBad, AnswersWords, Refused, Tells, error_line, word_line, is_wanting, ended_well, ended_refused, ended_bad, ended_wanting}
+use Rattle.cc_main.specs.Promises.{Headline, EndsWith, TellsLast, IsLine, Begun, IsBegun, CompilesFirst, FaultsLast, IsComplete}
+use Rattle.cc_main.specs.Read.{Request}
+use Rattle.cc_main.specs.declared.top.Ended.{Ended}
+use Rattle.cc_main.specs.declared.words.BadWord.{BadWord}
+
+-- the headline
+built_of : (q : Request) (part : List Event) (ended : Ended) → Answers q.1 q.0 part ended → ended.status ≡ 0 → Built q.1 q.0 part
+built_of q part ended (inl well) zero_is = well.1.0
+built_of q part ended (inr (inl r)) zero_is = let s : ended.status ≡ 1 = ap (λ (x : Ended). x.status) r.is in absurd (cc)
+built_of q part ended (inr (inr wanting)) zero_is = let s : ended.status ≡ 3 = ap (λ (x : Ended). x.status) wanting.0 in absurd (cc)
+
+pub headline : (words : Result Request BadWord) (part : List Event) (ended : Ended) → AnswersWords words part ended → Headline words part ended
+headline (Ok q) part ended a = built_of q part ended a
+headline (Err bad) part ended a = tt
+
+-- the line that tells it is last
+pub tells_last : (words : Result Request BadWord) (part : List Event) (ended : Ended) → AnswersWords words part ended → TellsLast part ended
+tells_last (Ok q) part ended (inl well) = inl well.0
+tells_last (Ok q) part ended (inr (inl r)) = inr (inl (r.error, (r.is, record { before = r.run; end = r.line; cut = r.cut; told = r.told })))
+tells_last (Ok q) part ended (inr (inr wanting)) = inr (inr (inr wanting.0))
+tells_last (Err bad) part ended (inl told) = inr (inr (inl (bad, (told.0, record { before = []; end = part; cut = refl; told = told.1 }))))
+tells_last (Err bad) part ended (inr wanting) = inr (inr (inr wanting.0))
+
+line_of : (line : List ℕ) (part : List Event) → Tells line part → IsLine part
+line_of line part (inl printed) = inr (inl (line, printed))
+line_of line part (inr faulted) = inr (inr faulted)
+
+begun_of : (q : Request) (part : List Event) (ended : Ended) → Answers q.1 q.0 part ended → Begun q part
+begun_of q part ended (inl well) = record { run = part; line = []; cut = sym (append-nil part); partly = well.1.1; told = inl refl }
+begun_of q part ended (inr (inl r)) = record { run = r.run; line = r.line; cut = r.cut; partly = r.refused.0; told = line_of (error_line r.error) r.line r.told }
+begun_of q part ended (inr (inr wanting)) = record { run = part; line = []; cut = sym (append-nil part); partly = wanting.1; told = inl refl }
+
+pub is_begun : (words : Result Request BadWord) (part : List Event) (ended : Ended) → AnswersWords words part ended → IsBegun words part
+is_begun (Ok q) part ended a = begun_of q part ended a
+is_begun (Err bad) part ended a = tt
+
+-- an event of a list with one more behind it is the last one, or stands before it
+module _ (event x : Event) (after : List Event) where
+  pub last_or_before : (before run : List Event) → run ++ x ∷ [] ≡ before ++ event ∷ after → ((after ≡ []) × (event ≡ x)) ⊎ ((rest : List Event) × ((run ≡ before ++ event ∷ rest) × (after ≡ rest ++ x ∷ [])))
+  last_or_before [] [] e = inl (cc, cc)
+  last_or_before [] (r ∷ run) e =
+      let same : r ≡ event = cc in
+      inr (run, (ap (λ h. h ∷ run) same, cc))
+  last_or_before (b ∷ before) [] e = let none : [] ≡ before ++ event ∷ after = cc in absurd (nothing before none)
+    where
+      nothing : (before : List Event) → [] ≡ before ++ event ∷ after → ⊥
+      nothing [] h = cc
+      nothing (c ∷ cs) h = cc
+  last_or_before (b ∷ before) (r ∷ run) e =
+      let same : r ≡ b = cc in
+      let rest : run ++ x ∷ [] ≡ before ++ event ∷ after = cc in
+      longer same (last_or_before before run rest)
+    where
+      longer : r ≡ b → ((after ≡ []) × (event ≡ x)) ⊎ ((rest : List Event) × ((run ≡ before ++ event ∷ rest) × (after ≡ rest ++ x ∷ []))) → ((after ≡ []) × (event ≡ x)) ⊎ ((rest : List Event) × ((r ∷ run ≡ b ∷ (before ++ event ∷ rest)) × (after ≡ rest ++ x ∷ [])))
+      longer same (inl last) = inl last
+      longer same (inr found) = inr (found.0, (ap (λ l. r ∷ l) found.1.0 ∙ ap (λ h. h ∷ (before ++ event ∷ found.0)) same, found.1.1))
+
+-- an event of a run with a line behind it, which is no such line, stands in the run
+in_run : (before after run : List Event) (event x : Event) → run ++ x ∷ [] ≡ before ++ event ∷ after → (event ≡ x → ⊥) → (rest : List Event) × ((run ≡ before ++ event ∷ rest) × (after ≡ rest ++ x ∷ []))
+in_run before after run event x e other = decide (last_or_before event x after before run e)
+  where
+    decide : ((after ≡ []) × (event ≡ x)) ⊎ ((rest : List Event) × ((run ≡ before ++ event ∷ rest) × (after ≡ rest ++ x ∷ []))) → (rest : List Event) × ((run ≡ before ++ event ∷ rest) × (after ≡ rest ++ x ∷ []))
+    decide (inl last) = absurd (other last.1)
+    decide (inr found) = found
+
+-- a line behind a run adds no archive command
+still_ordered : (set : BuildConfig) (part run line : List Event) → part ≡ run ++ line → IsLine line → ArchivesLast set run → ArchivesLast set part
+still_ordered set part run line cut (inl none) order before after event is archive =
+    order before after event (sym (cut ∙ ap (λ l. run ++ l) none ∙ append-nil run) ∙ is) archive
+still_ordered set part run line cut (inr (inl printed)) order before after event is archive =
+    let e : run ++ Printed FaultLine printed.0 ∷ [] ≡ before ++ event ∷ after = sym (cut ∙ ap (λ l. run ++ l) printed.1) ∙ is in
+    let found = in_run before after run event (Printed FaultLine printed.0) e (λ same. let t : false ≡ true = sym (ap is_archive_event same) ∙ archive in cc) in
+    order before found.0 event found.1.0 archive
+still_ordered set part run line cut (inr (inr faulted)) order before after event is archive =
+    let e : run ++ Fault Print faulted.0 ∷ [] ≡ before ++ event ∷ after = sym (cut ∙ ap (λ l. run ++ l) faulted.1) ∙ is in
+    let found = in_run before after run event (Fault Print faulted.0) e (λ same. let t : false ≡ true = sym (ap is_archive_event same) ∙ archive in cc) in
+    order before found.0 event found.1.0 archive
+
+order_of : (q : Request) (part : List Event) → Begun q part → ArchivesLast q.1 part
+order_of q part b = still_ordered q.1 part b.run b.line b.cut b.told (ordered {T = Unit {0}} q.1 q.0 b.run (Err no_memory) (b.partly, inl refl))
+
+pub compiles_first : (words : Result Request BadWord) (part : List Event) (ended : Ended) → AnswersWords words part ended → CompilesFirst words part
+compiles_first (Ok q) part ended a = order_of q part (begun_of q part ended a)
+compiles_first (Err bad) part ended a = tt
+
+no_refusal : (set : BuildConfig) (name : List ℕ) (e : ErrorSeen) → Valid set name → refusal_error set name ≡ Some e → ⊥
+no_refusal set name e valid refused = let none : refusal_error set name ≡ None = ap (option_map (plan_error set name)) (accepted set name valid) in cc
+
+front_empty : (a b : List Event) → a ++ b ≡ [] → a ≡ []
+front_empty [] b h = refl
+front_empty (x ∷ a) b h = absurd (cc)
+
+no_stop : (steps : List Step) (e : ErrorSeen) → stopped_by steps [] ≡ Some e → ⊥
+no_stop [] e h = cc
+no_stop (s ∷ steps) e h = cc
+
+no_cause : (q : Request) (part : List Event) (ended : Ended) (r : Refused q.1 q.0 part ended) → Valid q.1 q.0 → stops part ≡ [] → IsCausedBy (refusal_error q.1 q.0) (planned_steps q.1 q.0) r.run r.error → ⊥
+no_cause q part ended r valid calm_part (inl memory) = let t : true ≡ false = sym (ap (λ (x : ErrorSeen). is_wanting x.kind) memory) ∙ r.known in cc
+no_cause q part ended r valid calm_part (inr (inl refused)) = no_refusal q.1 q.0 r.error valid refused
+no_cause q part ended r valid calm_part (inr (inr stopped)) =
+    let none : stops r.run ≡ [] = front_empty (stops r.run) (stops r.line) (sym (stops_both r.run r.line) ∙ ap stops (sym r.cut) ∙ calm_part) in
+    no_stop (left (planned_steps q.1 q.0) r.run) r.error (ap (λ s. stopped_by (left (planned_steps q.1 q.0) r.run) s) (sym none) ∙ stopped)
+
+complete_of : (q : Request) (part : List Event) (ended : Ended) → Answers q.1 q.0 part ended → Valid q.1 q.0 → stops part ≡ [] → (ended ≡ ended_well) ⊎ (ended ≡ ended_wanting)
+complete_of q part ended (inl well) valid calm_part = inl well.0
+complete_of q part ended (inr (inl r)) valid calm_part = absurd (no_cause q part ended r valid calm_part r.refused.1)
+complete_of q part ended (inr (inr wanting)) valid calm_part = inr wanting.0
+
+pub complete : (words : Result Request BadWord) (part : List Event) (ended : Ended) → AnswersWords words part ended → IsComplete words part ended
+complete (Ok q) part ended a = complete_of q part ended a
+complete (Err bad) part ended a = tt
+
+-- the stop of a run is its last event
+two_stops : (steps : List Step) (a b : List Event) (x : Event) → StopsAt steps (a ++ x ∷ b) → (a ≡ []) × (b ≡ [])
+two_stops [] [] b x h = absurd h
+two_stops [] (y ∷ a) b x h = absurd h
+two_stops (s ∷ steps) [] [] x h = (refl, refl)
+two_stops (s ∷ steps) [] (y ∷ b) x h = absurd h
+two_stops (s ∷ steps) (y ∷ []) b x h = absurd h
+two_stops (s ∷ steps) (y ∷ z ∷ a) b x h = absurd h
+
+module _ (steps : List Step) (run before after : List Event) (call : HostCall) (why : Why) where
+  fault_ends : IsPartly steps run → run ≡ before ++ Fault call why ∷ after → after ≡ []
+  fault_ends p is =
+      let event : Event = Fault call why in
+      let s : stops run ≡ stops before ++ Fault call why ∷ stops after = ap stops is ∙ stops_both before (Fault call why ∷ after) in
+      let alone = two_stops (left steps run) (stops before) (stops after) (Fault call why) (subst (λ (l : List Event). StopsAt (left steps run) l) s p.stop) in
+      let one : stops run ≡ Fault call why ∷ [] = s ∙ ap (λ l. l ++ Fault call why ∷ stops after) alone.0 ∙ ap (λ l. Fault call why ∷ l) alone.1 in
+      ends after (last_or_before (Fault call why) (Fault call why) after before (calm run) (sym (ap (λ l. calm run ++ l) one) ∙ sym p.last ∙ is)) alone.1
+    where
+      ends : (after : List Event) → ((after ≡ []) × (Fault call why ≡ Fault call why)) ⊎ ((rest : List Event) × ((calm run ≡ before ++ Fault call why ∷ rest) × (after ≡ rest ++ Fault call why ∷ []))) → stops after ≡ [] → after ≡ []
+      ends after (inl last) none = last.0
+      ends after (inr found) none = absurd (inside found.0 (sym (stops_both found.0 (Fault call why ∷ [])) ∙ ap stops (sym found.1.1) ∙ none))
+        where
+          inside : (rest : List Event) → stops rest ++ Fault call why ∷ [] ≡ [] → ⊥
+          inside rest h = empty (stops rest) h
+            where
+              empty : (l : List Event) → l ++ Fault call why ∷ [] ≡ [] → ⊥
+              empty [] e = cc
+              empty (y ∷ l) e = cc
+
+faults_behind : (q : Request) (part : List Event) → Begun q part → FaultsLast part
+faults_behind q part b before after call why is = by_line b.told
+  where
+    by_line : IsLine b.line → IsLine after
+    by_line (inl none) =
+        inl (fault_ends (planned_steps q.1 q.0) b.run before after call why b.partly (sym (b.cut ∙ ap (λ l. b.run ++ l) none ∙ append-nil b.run) ∙ is))
+    by_line (inr (inl printed)) =
+        let found = in_run before after b.run (Fault call why) (Printed FaultLine printed.0) (sym (b.cut ∙ ap (λ l. b.run ++ l) printed.1) ∙ is) (λ same. cc) in
+        let none = fault_ends (planned_steps q.1 q.0) b.run before found.0 call why b.partly found.1.0 in
+        inr (inl (printed.0, found.1.1 ∙ ap (λ l. l ++ Printed FaultLine printed.0 ∷ []) none))
+    by_line (inr (inr faulted)) =
+        either_way (last_or_before (Fault call why) (Fault Print faulted.0) after before b.run (sym (b.cut ∙ ap (λ l. b.run ++ l) faulted.1) ∙ is))
+      where
+        either_way : ((after ≡ []) × (Fault call why ≡ Fault Print faulted.0)) ⊎ ((rest : List Event) × ((b.run ≡ before ++ Fault call why ∷ rest) × (after ≡ rest ++ Fault Print faulted.0 ∷ []))) → IsLine after
+        either_way (inl last) = inl last.0
+        either_way (inr found) =
+            let none = fault_ends (planned_steps q.1 q.0) b.run before found.0 call why b.partly found.1.0 in
+            inr (inr (faulted.0, found.1.1 ∙ ap (λ l. l ++ Fault Print faulted.0 ∷ []) none))
+
+alone_last : (x : Event) (before after : List Event) (event : Event) → x ∷ [] ≡ before ++ event ∷ after → after ≡ []
+alone_last x [] after event e = cc
+alone_last x (b ∷ before) after event e = let none : [] ≡ before ++ event ∷ after = cc in absurd (nothing before none)
+  where
+    nothing : (before : List Event) → [] ≡ before ++ event ∷ after → ⊥
+    nothing [] h = cc
+    nothing (c ∷ cs) h = cc
+
+none_inside : (before after : List Event) (event : Event) → [] ≡ before ++ event ∷ after → ⊥
+none_inside [] after event h = cc
+none_inside (c ∷ cs) after event h = cc
+
+pub faults_last : (words : Result Request BadWord) (part : List Event) (ended : Ended) → AnswersWords words part ended → FaultsLast part
+faults_last (Ok q) part ended a = faults_behind q part (begun_of q part ended a)
+faults_last (Err bad) part ended (inl (is, inl printed)) = λ before after call why e. inl (alone_last (Printed FaultLine (word_line bad)) before after (Fault call why) (sym printed ∙ e))
+faults_last (Err bad) part ended (inl (is, inr faulted)) = λ before after call why e. inl (alone_last (Fault Print faulted.0) before after (Fault call why) (sym faulted.1 ∙ e))
+faults_last (Err bad) part ended (inr (is, none)) = λ before after call why e. absurd (none_inside before after (Fault call why) (sym none ∙ e))

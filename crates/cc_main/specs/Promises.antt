@@ -1,0 +1,67 @@
+-- What follows from an answer, each in one sentence.
+use Rattle.std.specs.Prelude.{◌≡◌, ◌⊎◌, ℕ, List, [], ◌∷◌, ◌++◌, Result, IfOk}
+use Rattle.cc_host.specs.Part.{IsPartly, stops}
+use Rattle.cc_host.specs.declared.event.Event.{Event}
+use Rattle.cc_host.specs.declared.event.Event.TheVariants.{Printed, Fault}
+use Rattle.cc_host.specs.declared.event.HostCall.{HostCall}
+use Rattle.cc_host.specs.declared.event.HostCall.TheVariants.{Print}
+use Rattle.cc_host.specs.declared.event.LineKind.TheVariants.{Fault as FaultLine}
+use Rattle.cc_host.specs.declared.event.Why.{Why}
+use Rattle.cc_plan.specs.Plan.{planned_steps}
+use Rattle.cc_plan.specs.Valid.{Valid}
+use Rattle.cc_build.specs.Built.{Built}
+use Rattle.cc_build.specs.Error.{ErrorSeen}
+use Rattle.cc_build.specs.Order.{ArchivesLast}
+use Rattle.cc_main.specs.Answer.{Tells, error_line, word_line, ended_well, ended_refused, ended_bad, ended_wanting}
+use Rattle.cc_main.specs.Read.{Request}
+use Rattle.cc_main.specs.declared.top.Ended.{Ended}
+use Rattle.cc_main.specs.declared.words.BadWord.{BadWord}
+
+-- Status 0 means that the library of the words is built.
+abbrev pub Headline : Result Request BadWord → List Event → Ended → Type 0
+Headline words part ended = IfOk words (λ request. ended.status ≡ 0 → Built request.1 request.0 part)
+
+-- the part ends with this line of kind Fault, or with the fault of its print
+pub record EndsWith (line : List ℕ) (part : List Event) : Type 0 where
+  pub before : List Event
+  pub end : List Event
+  pub cut : part ≡ before ++ end
+  pub told : Tells line end
+
+-- With status 1 there is the error and no word, with 2 the word and no error, and the part ends with the line that tells it. Else there is neither.
+abbrev pub TellsLast : List Event → Ended → Type 0
+TellsLast part ended =
+    (ended ≡ ended_well)
+    ⊎ (((e : ErrorSeen) × ((ended ≡ ended_refused e) × EndsWith (error_line e) part))
+    ⊎ (((bad : BadWord) × ((ended ≡ ended_bad bad) × EndsWith (word_line bad) part))
+    ⊎ (ended ≡ ended_wanting)))
+
+-- nothing, or a line of kind Fault, or the fault of its print
+abbrev pub IsLine : List Event → Type 0
+IsLine line =
+    (line ≡ [])
+    ⊎ (((bytes : List ℕ) × (line ≡ Printed FaultLine bytes ∷ []))
+    ⊎ ((why : Why) × (line ≡ Fault Print why ∷ [])))
+
+-- On every exit the first steps of the compile run were done, each once and in order, and behind them stands at most a line of kind Fault.
+pub record Begun (request : Request) (part : List Event) : Type 0 where
+  pub run : List Event
+  pub line : List Event
+  pub cut : part ≡ run ++ line
+  pub partly : IsPartly (planned_steps request.1 request.0) run
+  pub told : IsLine line
+
+abbrev pub IsBegun : Result Request BadWord → List Event → Type 0
+IsBegun words part = IfOk words (λ request. Begun request part)
+
+-- No archive command stands in the part unless every source's compile command stands before it with the end 0.
+abbrev pub CompilesFirst : Result Request BadWord → List Event → Type 0
+CompilesFirst words part = IfOk words (λ request. ArchivesLast request.1 part)
+
+-- Behind a fault stands nothing but a line of kind Fault, or the fault of its print.
+abbrev pub FaultsLast : List Event → Type 0
+FaultsLast part = (before after : List Event) (call : HostCall) (why : Why) → part ≡ before ++ Fault call why ∷ after → IsLine after
+
+-- Valid settings, no fault, no failed command and no missing program: it is done, or memory was wanted.
+abbrev pub IsComplete : Result Request BadWord → List Event → Ended → Type 0
+IsComplete words part ended = IfOk words (λ request. Valid request.1 request.0 → stops part ≡ [] → (ended ≡ ended_well) ⊎ (ended ≡ ended_wanting))
