@@ -5,11 +5,12 @@
 #![tactic(auto)]
 
 mod reading;
+#[cfg(test)]
+mod tests;
 mod top;
 mod words;
 
 use cc_host::{BenchHost, Event, Host, LineKind};
-use std::alloc::Global;
 use std::io::Write;
 use std::process::ExitCode;
 use std::{env, io};
