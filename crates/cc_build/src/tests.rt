@@ -7,10 +7,17 @@ use std::test::Fail;
 // What goes wrong in a run.
 #[derive(Clone, Copy)]
 enum Trouble {
+    Nothing,
     NoLevel,
     NoCompiler,
     FirstSourceFails,
     LibraryStays,
+}
+
+#[derive(Drop)]
+struct Run {
+    host: BenchHost,
+    error: Option<Error>,
 }
 
 fn set_places(build: &mut Build<Bench>) -> Result<(), Error> {
@@ -29,38 +36,48 @@ fn add_sources(build: &mut Build<Bench>) -> Result<(), Error> {
     build.file("src/b.c")
 }
 
-// Two sources, and all that is wanted but the optimisation level.
-fn two_sources(alloc: Global) -> Result<Build<Bench>, Error> {
-    let mut build = Build::new(alloc)?;
-    set_places(&mut build)?;
-    set_tools(&mut build)?;
-    add_sources(&mut build)?;
-    Ok(build)
+fn set_level(build: &mut Build<Bench>, trouble: Trouble) -> Result<(), Error> {
+    match trouble {
+        Trouble::NoLevel => Ok(()),
+        _ => build.opt_level(0),
+    }
+}
+
+fn set_all(build: &mut Build<Bench>, trouble: Trouble) -> Result<(), Error> {
+    set_places(build)?;
+    set_tools(build)?;
+    add_sources(build)?;
+    set_level(build, trouble)
 }
 
 fn build_in(alloc: Global, trouble: Trouble) -> Result<Build<Bench>, Error> {
-    let mut build = two_sources(alloc)?;
-    match trouble {
-        Trouble::NoLevel => {}
-        _ => build.opt_level(0)?,
-    }
+    let mut build = Build::new(alloc)?;
+    set_all(&mut build, trouble)?;
     Ok(build)
+}
+
+fn trouble_host(host: &mut BenchHost, trouble: Trouble) -> Mem<()> {
+    let status = Status::Code(2);
+    match trouble {
+        Trouble::Nothing => Ok(()),
+        Trouble::NoLevel => Ok(()),
+        Trouble::NoCompiler => host.missing("cc"),
+        Trouble::FirstSourceFails => host.script(Role::Compile, "src/a.c", Script { status }),
+        Trouble::LibraryStays => host.fail(HostCall::Remove, 1),
+    }
 }
 
 fn host_in(alloc: Global, trouble: Trouble) -> Mem<BenchHost> {
     let mut host = BenchHost::new(alloc)?;
-    let status = Status::Code(2);
-    match trouble {
-        Trouble::NoLevel => {}
-        Trouble::NoCompiler => host.missing("cc")?,
-        Trouble::FirstSourceFails => host.script(Role::Compile, "src/a.c", Script { status })?,
-        Trouble::LibraryStays => host.fail(HostCall::Remove, 1)?,
-    }
+    trouble_host(&mut host, trouble)?;
     Ok(host)
 }
 
-fn compiled(build: &Build<Bench>, host: &mut BenchHost) -> Option<Error> {
-    build.try_compile(host, "foo").err()
+fn run_in(alloc: Global, trouble: Trouble) -> Result<Run, Error> {
+    let build = build_in(alloc, trouble)?;
+    let mut host = host_in(alloc, trouble)?;
+    let error = build.try_compile(&mut host, "foo").err();
+    Ok(Run { host, error })
 }
 
 // An event in one word, a command by its program.
@@ -75,76 +92,80 @@ fn word_of(event: &Event) -> &str {
     }
 }
 
-fn words_of(alloc: Global, log: &[Event]) -> Mem<Text> {
-    let mut text = Text::new(alloc);
-    for event in log {
-        text.push_str(word_of(event))?;
-        text.push(' ')?;
-    }
-    Ok(text)
-}
-
-// Kind, subject and message, a line each.
-fn lines_of(alloc: Global, error: &Error) -> Mem<Text> {
-    let mut text = Text::new(alloc);
-    let kind = match error.kind() {
+fn kind_of(error: &Error) -> &'static str {
+    match error.kind() {
         ErrorKind::IOError => "IOError",
         ErrorKind::EnvVarNotFound => "EnvVarNotFound",
         ErrorKind::ToolExecError => "ToolExecError",
         ErrorKind::ToolNotFound => "ToolNotFound",
         _ => "other",
-    };
-    for line in [kind, error.subject(), error.message()] {
-        text.push_str(line)?;
-        text.push('\n')?;
     }
+}
+
+fn push_line(text: &mut Text, line: &str) -> Mem<()> {
+    text.push_str(line)?;
+    text.push('\n')
+}
+
+fn push_events(text: &mut Text, log: &[Event]) -> Mem<()> {
+    for event in log {
+        text.push_str(word_of(event))?;
+        text.push(' ')?;
+    }
+    text.push('\n')
+}
+
+fn push_error(text: &mut Text, error: &Error) -> Mem<()> {
+    push_line(text, kind_of(error))?;
+    push_line(text, error.subject())?;
+    push_line(text, error.message())
+}
+
+// The events in a line, and then a copy of the error: its kind, subject and message.
+fn push_run(text: &mut Text, run: &Run) -> Mem<()> {
+    push_events(text, run.host.log())?;
+    match &run.error {
+        None => Ok(()),
+        Some(error) => {
+            let copy = error.try_clone()?;
+            push_error(text, &copy)
+        }
+    }
+}
+
+fn told(alloc: Global, trouble: Trouble) -> Result<Text, Error> {
+    let run = run_in(alloc, trouble)?;
+    let mut text = Text::new(alloc);
+    push_run(&mut text, &run)?;
     Ok(text)
 }
 
 #[test]
-fn compiles_all_sources_and_then_archives(rt: HostRuntime) -> Result<(), Fail> {
-    let mut build = two_sources(rt.alloc())?;
-    build.opt_level(0)?;
-    let mut host = BenchHost::new(rt.alloc())?;
-    let error = compiled(&build, &mut host);
-    assert!(rt; error.is_none());
-    let words = words_of(rt.alloc(), host.log())?;
-    assert_eq!(rt; words.as_str(), "made cc cc removed ar ar printed printed ");
-    Ok(())
-}
-
-#[test]
-fn an_error_names_what_ended_the_run(rt: HostRuntime) -> Result<(), Fail> {
-    for (trouble, lines, words) in [
+fn a_run_ends_at_its_first_trouble_and_names_it(rt: HostRuntime) -> Result<(), Fail> {
+    for (trouble, want) in [
+        (
+            Trouble::Nothing,
+            "made cc cc removed ar ar printed printed \n",
+        ),
         (
             Trouble::NoLevel,
-            "EnvVarNotFound\nOPT_LEVEL\nenvironment variable OPT_LEVEL not defined\n",
-            "made ",
+            "made \nEnvVarNotFound\nOPT_LEVEL\nenvironment variable OPT_LEVEL not defined\n",
         ),
         (
             Trouble::NoCompiler,
-            "ToolNotFound\ncc\nfailed to find tool \"cc\"\n",
-            "made missing ",
+            "made missing \nToolNotFound\ncc\nfailed to find tool \"cc\"\n",
         ),
         (
             Trouble::FirstSourceFails,
-            "ToolExecError\ncc\ncommand did not execute successfully (status code exit status: 2): \"cc\" \"-O0\" \"-ffunction-sections\" \"-fdata-sections\" \"-fPIC\" \"-m64\" \"-march=x86-64\" \"-Wall\" \"-Wextra\" \"-o\" \"/o/f268e9834a4b7b98-a.o\" \"-c\" \"src/a.c\"\n",
-            "made cc ",
+            "made cc \nToolExecError\ncc\ncommand did not execute successfully (status code exit status: 2): \"cc\" \"-O0\" \"-ffunction-sections\" \"-fdata-sections\" \"-fPIC\" \"-m64\" \"-march=x86-64\" \"-Wall\" \"-Wextra\" \"-o\" \"/o/f268e9834a4b7b98-a.o\" \"-c\" \"src/a.c\"\n",
         ),
         (
             Trouble::LibraryStays,
-            "IOError\n/o/libfoo.a\nremove failed: other\n",
-            "made cc cc fault ",
+            "made cc cc fault \nIOError\n/o/libfoo.a\nremove failed: other\n",
         ),
     ] {
-        let build = build_in(rt.alloc(), trouble)?;
-        let mut host = host_in(rt.alloc(), trouble)?;
-        let error = compiled(&build, &mut host);
-        assert_eq!(rt; words_of(rt.alloc(), host.log())?.as_str(), words);
-        let error = error.expect(&rt, "the run is refused");
-        assert_eq!(rt; lines_of(rt.alloc(), &error)?.as_str(), lines);
-        let second = error.try_clone()?;
-        assert_eq!(rt; lines_of(rt.alloc(), &second)?.as_str(), lines);
+        let text = told(rt.alloc(), trouble)?;
+        assert_eq!(rt; text.as_str(), want);
     }
     Ok(())
 }
