@@ -11,6 +11,8 @@ mod error;
 mod message;
 mod refusal;
 mod run;
+#[cfg(test)]
+mod tests;
 
 pub use build::Build;
 pub use error::{Error, ErrorKind};

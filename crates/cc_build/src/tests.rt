@@ -1,0 +1,171 @@
+use crate::{Build, Error, ErrorKind};
+use cc_host::{Bench, BenchHost, Event, Host, HostCall, Role, Script, Status};
+use cc_text::{Mem, Text};
+use std::alloc::Global;
+use std::test::Fail;
+
+// What goes wrong in a run.
+#[derive(Clone, Copy)]
+enum Trouble {
+    Nothing,
+    NoLevel,
+    NoCompiler,
+    FirstSourceFails,
+    LibraryStays,
+}
+
+#[derive(Drop)]
+struct Run {
+    host: BenchHost,
+    error: Option<Error>,
+}
+
+fn set_places(build: &mut Build<Bench>) -> Result<(), Error> {
+    build.target("x86_64-unknown-linux-gnu")?;
+    build.host("x86_64-unknown-linux-gnu")?;
+    build.out_dir("/o")
+}
+
+fn set_tools(build: &mut Build<Bench>) -> Result<(), Error> {
+    build.compiler("cc")?;
+    build.archiver("ar")
+}
+
+fn add_sources(build: &mut Build<Bench>) -> Result<(), Error> {
+    build.file("src/a.c")?;
+    build.file("src/b.c")
+}
+
+fn set_level(build: &mut Build<Bench>, trouble: Trouble) -> Result<(), Error> {
+    match trouble {
+        Trouble::NoLevel => Ok(()),
+        _ => build.opt_level(0),
+    }
+}
+
+fn set_all(build: &mut Build<Bench>, trouble: Trouble) -> Result<(), Error> {
+    set_places(build)?;
+    set_tools(build)?;
+    add_sources(build)?;
+    set_level(build, trouble)
+}
+
+fn build_in(alloc: Global, trouble: Trouble) -> Result<Build<Bench>, Error> {
+    let mut build = Build::new(alloc)?;
+    set_all(&mut build, trouble)?;
+    Ok(build)
+}
+
+fn trouble_host(host: &mut BenchHost, trouble: Trouble) -> Mem<()> {
+    let status = Status::Code(2);
+    match trouble {
+        Trouble::Nothing => Ok(()),
+        Trouble::NoLevel => Ok(()),
+        Trouble::NoCompiler => host.missing("cc"),
+        Trouble::FirstSourceFails => host.script(Role::Compile, "src/a.c", Script { status }),
+        Trouble::LibraryStays => host.fail(HostCall::Remove, 1),
+    }
+}
+
+fn host_in(alloc: Global, trouble: Trouble) -> Mem<BenchHost> {
+    let mut host = BenchHost::new(alloc)?;
+    trouble_host(&mut host, trouble)?;
+    Ok(host)
+}
+
+fn run_in(alloc: Global, trouble: Trouble) -> Result<Run, Error> {
+    let build = build_in(alloc, trouble)?;
+    let mut host = host_in(alloc, trouble)?;
+    let error = build.try_compile(&mut host, "foo").err();
+    Ok(Run { host, error })
+}
+
+// An event in one word, a command by its program.
+fn word_of(event: &Event) -> &str {
+    match event {
+        Event::Ran { cmd, .. } => cmd.get_program(),
+        Event::Missing { .. } => "missing",
+        Event::Made { .. } => "made",
+        Event::Removed { .. } => "removed",
+        Event::Printed { .. } => "printed",
+        Event::Fault { .. } => "fault",
+    }
+}
+
+fn kind_of(error: &Error) -> &'static str {
+    match error.kind() {
+        ErrorKind::IOError => "IOError",
+        ErrorKind::EnvVarNotFound => "EnvVarNotFound",
+        ErrorKind::ToolExecError => "ToolExecError",
+        ErrorKind::ToolNotFound => "ToolNotFound",
+        _ => "other",
+    }
+}
+
+fn push_line(text: &mut Text, line: &str) -> Mem<()> {
+    text.push_str(line)?;
+    text.push('\n')
+}
+
+fn push_events(text: &mut Text, log: &[Event]) -> Mem<()> {
+    for event in log {
+        text.push_str(word_of(event))?;
+        text.push(' ')?;
+    }
+    text.push('\n')
+}
+
+fn push_error(text: &mut Text, error: &Error) -> Mem<()> {
+    push_line(text, kind_of(error))?;
+    push_line(text, error.subject())?;
+    push_line(text, error.message())
+}
+
+// The events in a line, and then a copy of the error: its kind, subject and message.
+fn push_run(text: &mut Text, run: &Run) -> Mem<()> {
+    push_events(text, run.host.log())?;
+    match &run.error {
+        None => Ok(()),
+        Some(error) => {
+            let copy = error.try_clone()?;
+            push_error(text, &copy)
+        }
+    }
+}
+
+fn told(alloc: Global, trouble: Trouble) -> Result<Text, Error> {
+    let run = run_in(alloc, trouble)?;
+    let mut text = Text::new(alloc);
+    push_run(&mut text, &run)?;
+    Ok(text)
+}
+
+#[test]
+fn a_run_ends_at_its_first_trouble_and_names_it(rt: HostRuntime) -> Result<(), Fail> {
+    for (trouble, want) in [
+        (
+            Trouble::Nothing,
+            "made cc cc removed ar ar printed printed \n",
+        ),
+        (
+            Trouble::NoLevel,
+            "made \nEnvVarNotFound\nOPT_LEVEL\nenvironment variable OPT_LEVEL not defined\n",
+        ),
+        (
+            Trouble::NoCompiler,
+            "made missing \nToolNotFound\ncc\nfailed to find tool \"cc\"\n",
+        ),
+        (
+            Trouble::FirstSourceFails,
+            "made cc \nToolExecError\ncc\ncommand did not execute successfully (status code exit status: 2): \"cc\" \"-O0\" \"-ffunction-sections\" \"-fdata-sections\" \"-fPIC\" \"-m64\" \"-march=x86-64\" \"-Wall\" \"-Wextra\" \"-o\" \"/o/f268e9834a4b7b98-a.o\" \"-c\" \"src/a.c\"\n",
+        ),
+        (
+            Trouble::LibraryStays,
+            "made cc cc fault \nIOError\n/o/libfoo.a\nremove failed: other\n",
+        ),
+    ] {
+        let text = told(rt.alloc(), trouble)?;
+        assert_eq!(rt; text.as_str(), want);
+    }
+    Ok(())
+}
