@@ -36,7 +36,8 @@ impl<W: World> Model for Build<W> {
 impl<W: World> Build<W> {
     /// A build with no source and nothing set.
     pub fn new(alloc: Global) -> Result<Build<W>, Error>
-        ensures { IfOk result (λ b. b ≡ record { files = []; target = None; host = None; opt_level = None; out_dir = None; compiler = None; archiver = None; emit_rerun_if_env_changed = true }) }
+        ensures fresh { IfOk result (λ b. b ≡ record { files = []; target = None; host = None; opt_level = None; out_dir = None; compiler = None; archiver = None; emit_rerun_if_env_changed = true }) }
+        ensures refused { IfErr result (λ e. e ≡ no_memory) }
     {
         Ok(Build {
             alloc,

@@ -1,6 +1,7 @@
 // The error of a build.
 ghost use Rattle.std.specs.Prelude.{◌≡◌, IfOk, Some};
 ghost use Rattle.cc_build.specs.Error.{no_memory};
+ghost use Rattle.cc_build.specs.ErrorText.{kind_name as name_of_kind, shown};
 
 use cc_text::{Mem, NoMemory, Text};
 use std::fmt;
@@ -123,9 +124,27 @@ impl From<NoMemory> for Error {
     }
 }
 
+fn kind_name(kind: ErrorKind) -> &'static str
+    ensures { result.now ≡ name_of_kind kind }
+{
+    match kind {
+        ErrorKind::IOError => "IOError",
+        ErrorKind::EnvVarNotFound => "EnvVarNotFound",
+        ErrorKind::ToolExecError => "ToolExecError",
+        ErrorKind::ToolNotFound => "ToolNotFound",
+        ErrorKind::InvalidArgument => "InvalidArgument",
+        ErrorKind::UnknownTarget => "UnknownTarget",
+        ErrorKind::NoMemory => "NoMemory",
+    }
+}
+
 impl fmt::Display for Error {
+    ghost output = { λ e. Some (shown e) };
+
     fn fmt<W: fmt::Write>(&self, f: &mut fmt::Formatter<W>) -> fmt::Result {
-        write!(f, "{:?}: {}", self.kind(), self.message())
+        let kind = kind_name(self.kind());
+        let message = self.message();
+        write!(f, "{kind}: {message}")
     }
 }
 
