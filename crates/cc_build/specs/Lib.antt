@@ -2,6 +2,7 @@ pub mod Built
 pub mod Error
 pub mod ErrorFields
 pub mod ErrorText
+pub mod Failed
 pub mod Order
 pub mod Outcome
 pub mod Refusal

@@ -1,10 +1,11 @@
 -- What follows from an answer.
-use Rattle.std.proofs.Common.{◌≡◌, ◌⊎◌, inl, inr, ℕ, List, [], ◌∷◌, ◌++◌, Bool, true, false, Option, None, Some, Result, Ok, Err, refl, sym, ◌∙◌, ap, subst, append-nil, append_assoc}
+use Rattle.std.proofs.Common.{◌≡◌, ◌⊎◌, inl, inr, ℕ, List, [], ◌∷◌, ◌++◌, Bool, true, false, not, ◌||◌, if◌then◌else◌, Option, None, Some, Result, Ok, Err, refl, sym, ◌∙◌, ap, subst, append-nil, append_assoc}
+use Rattle.std.specs.List.{list_any}
 use Rattle.std.specs.Option.{option_map}
-use Rattle.cc_host.specs.Part.{Step, IsPartly, IsWhole, left, stops, calm, stop_of, StopsAt}
+use Rattle.cc_host.specs.Part.{Step, IsPartly, left, stops, calm, stop_of, StopsAt, is_success}
 use Rattle.cc_host.proofs.Parts.{partly_whole, stops_both, calm_whole, either, IsCalm, IsStop}
 use Rattle.cc_host.specs.declared.event.Event.{Event}
-use Rattle.cc_host.specs.declared.event.Event.TheVariants.{Printed, Fault}
+use Rattle.cc_host.specs.declared.event.Event.TheVariants.{Ran, Missing, Made, Removed, Printed, Fault}
 use Rattle.cc_host.specs.declared.event.HostCall.{HostCall}
 use Rattle.cc_host.specs.declared.event.HostCall.TheVariants.{Print}
 use Rattle.cc_host.specs.declared.event.LineKind.TheVariants.{Fault as FaultLine}
@@ -16,6 +17,7 @@ use Rattle.cc_plan.specs.Valid.{Valid}
 use Rattle.cc_plan.proofs.ValidLaws.{accepted}
 use Rattle.cc_build.specs.Built.{Built}
 use Rattle.cc_build.specs.Error.{ErrorSeen, no_memory}
+use Rattle.cc_build.specs.Failed.{Failed, HasFault, is_failed_command, is_fault}
 use Rattle.cc_build.specs.Order.{ArchivesLast, is_archive_event}
 use Rattle.cc_build.specs.Outcome.{IsCausedBy}
 use Rattle.cc_build.specs.Refusal.{plan_error, refusal_error}
@@ -130,8 +132,35 @@ complete_of q part ended (inl well) valid calm_part = inl well.0
 complete_of q part ended (inr (inl r)) valid calm_part = absurd (no_cause q part ended r valid calm_part r.refused.1)
 complete_of q part ended (inr (inr wanting)) valid calm_part = inr wanting.0
 
+-- a part without a failed command and without a fault has nothing that ends a run
+any_more : (test : Event → Bool) (event : Event) (part : List Event) → (list_any test (event ∷ part) ≡ true → ⊥) → (test event ≡ false) × (list_any test part ≡ true → ⊥)
+any_more test event part no = by_test (test event) refl
+  where
+    by_test : (b : Bool) → test event ≡ b → (test event ≡ false) × (list_any test part ≡ true → ⊥)
+    by_test true e = absurd (no (ap (λ c. c || list_any test part) e))
+    by_test false e = (e, λ h. no (ap (λ c. c || list_any test part) e ∙ h))
+
+ran_well : (b : Bool) (event : Event) → not b ≡ false → (if b then [] else event ∷ []) ≡ []
+ran_well true event h = refl
+ran_well false event h = absurd (cc)
+
+no_stop_of : (event : Event) → is_failed_command event ≡ false → is_fault event ≡ false → stop_of event ≡ []
+no_stop_of (Ran role cmd pipes status out err) f g = ran_well (is_success status) (Ran role cmd pipes status out err) f
+no_stop_of (Missing role cmd) f g = absurd (cc)
+no_stop_of (Fault call why) f g = absurd (cc)
+no_stop_of (Made scope path) f g = refl
+no_stop_of (Removed path how) f g = refl
+no_stop_of (Printed kind bytes) f g = refl
+
+pub unstopped : (part : List Event) → (Failed part → ⊥) → (HasFault part → ⊥) → stops part ≡ []
+unstopped [] f g = refl
+unstopped (event ∷ part) f g =
+    let a = any_more is_failed_command event part f in
+    let b = any_more is_fault event part g in
+    ap (λ l. l ++ stops part) (no_stop_of event a.0 b.0) ∙ unstopped part a.1 b.1
+
 pub complete : (words : Result Request BadWord) (part : List Event) (ended : Ended) → AnswersWords words part ended → IsComplete words part ended
-complete (Ok q) part ended a = complete_of q part ended a
+complete (Ok q) part ended a = λ valid f g. complete_of q part ended a valid (unstopped part f g)
 complete (Err bad) part ended a = tt
 
 -- the stop of a run is its last event

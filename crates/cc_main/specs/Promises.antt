@@ -1,6 +1,6 @@
 -- What follows from an answer, each in one sentence.
 use Rattle.std.specs.Prelude.{◌≡◌, ◌⊎◌, ℕ, List, [], ◌∷◌, ◌++◌, Result, IfOk}
-use Rattle.cc_host.specs.Part.{IsPartly, stops}
+use Rattle.cc_host.specs.Part.{IsPartly}
 use Rattle.cc_host.specs.declared.event.Event.{Event}
 use Rattle.cc_host.specs.declared.event.Event.TheVariants.{Printed, Fault}
 use Rattle.cc_host.specs.declared.event.HostCall.{HostCall}
@@ -11,6 +11,7 @@ use Rattle.cc_plan.specs.Plan.{planned_steps}
 use Rattle.cc_plan.specs.Valid.{Valid}
 use Rattle.cc_build.specs.Built.{Built}
 use Rattle.cc_build.specs.Error.{ErrorSeen}
+use Rattle.cc_build.specs.Failed.{Failed, HasFault}
 use Rattle.cc_build.specs.Order.{ArchivesLast}
 use Rattle.cc_main.specs.Answer.{Tells, error_line, word_line, ended_well, ended_refused, ended_bad, ended_wanting}
 use Rattle.cc_main.specs.Read.{Request}
@@ -62,6 +63,6 @@ CompilesFirst words part = IfOk words (λ request. ArchivesLast request.1 part)
 abbrev pub FaultsLast : List Event → Type 0
 FaultsLast part = (before after : List Event) (call : HostCall) (why : Why) → part ≡ before ++ Fault call why ∷ after → IsLine after
 
--- Valid settings, no fault, no failed command and no missing program: it is done, or memory was wanted.
+-- Valid settings, no failed command and no fault: it is done, or memory was wanted.
 abbrev pub IsComplete : Result Request BadWord → List Event → Ended → Type 0
-IsComplete words part ended = IfOk words (λ request. Valid request.1 request.0 → stops part ≡ [] → (ended ≡ ended_well) ⊎ (ended ≡ ended_wanting))
+IsComplete words part ended = IfOk words (λ request. Valid request.1 request.0 → (Failed part → ⊥) → (HasFault part → ⊥) → (ended ≡ ended_well) ⊎ (ended ≡ ended_wanting))
