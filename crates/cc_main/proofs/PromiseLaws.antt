@@ -134,11 +134,11 @@ complete_of q part ended (inr (inr wanting)) valid calm_part = inr wanting.0
 
 -- a part without a failed command and without a fault has nothing that ends a run
 any_more : (test : Event → Bool) (event : Event) (part : List Event) → (list_any test (event ∷ part) ≡ true → ⊥) → (test event ≡ false) × (list_any test part ≡ true → ⊥)
-any_more test event part no = by_test (test event) refl
+any_more test event part never = by_test (test event) refl
   where
     by_test : (b : Bool) → test event ≡ b → (test event ≡ false) × (list_any test part ≡ true → ⊥)
-    by_test true e = absurd (no (ap (λ c. c || list_any test part) e))
-    by_test false e = (e, λ h. no (ap (λ c. c || list_any test part) e ∙ h))
+    by_test true e = absurd (never (ap (λ c. c || list_any test part) e))
+    by_test false e = (e, λ h. never (ap (λ c. c || list_any test part) e ∙ h))
 
 ran_well : (b : Bool) (event : Event) → not b ≡ false → (if b then [] else event ∷ []) ≡ []
 ran_well true event h = refl

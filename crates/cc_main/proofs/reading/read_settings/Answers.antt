@@ -6,7 +6,7 @@ use Rattle.cc_main.proofs.reading.read_settings.Goals as goal
 
 pub loop-place-init : goal.loop-place-init
 unfolding values
-loop-place-init g c = record { rest = refl; build = c.in-Ok.ensures }
+loop-place-init g c = record { rest = refl; build = c.in-Ok.ensures.fresh }
 
 pub loop-place-preserved : goal.loop-place-preserved
 loop-place-preserved g c =
