@@ -1,9 +1,11 @@
 pub mod Archive
 pub mod Compile
+pub mod Flags
 pub mod Link
 pub mod Names
 pub mod Object
 pub mod Plan
 pub mod Refusal
+pub mod Settings
 pub mod Tool
 pub mod Valid

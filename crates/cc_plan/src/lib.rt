@@ -8,6 +8,7 @@
 mod archive;
 mod compile;
 mod error;
+mod flags;
 mod link;
 mod names;
 mod object;
@@ -20,6 +21,7 @@ mod tool;
 pub use archive::{archive_commands, index_commands};
 pub use compile::compile_command;
 pub use error::{ArgumentCause, PlanError};
+pub use flags::{BuildFlag, Definition, Definitions, Flags};
 pub use link::link_lines;
 pub use names::lib_and_archive_names;
 pub use object::{Object, object_path, objects_from_files};

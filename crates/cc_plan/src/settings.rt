@@ -1,37 +1,133 @@
 // The plain settings of a build.
-ghost use Rattle.std.specs.Prelude.{◌≡◌, [], None, true};
+ghost use Rattle.std.specs.Prelude.{◌≡◌, IfOk};
+ghost use Rattle.cc_plan.specs.Settings.{unset_settings};
 
-use cc_text::{Text, Words};
+use crate::{Definitions, Flags};
+use cc_text::{Mem, Text, Words};
 use std::alloc::Global;
 
-/// The plain settings of a build. A text that is none is not set.
+/// The plain settings of a build. What is none is not set.
 #[derive(Drop, Debug)]
 pub struct BuildConfig {
     /// The sources, in the order added.
     pub files: Words,
+    /// The folders of headers.
+    pub includes: Words,
+    /// The flags of sources in assembly.
+    pub asm_flags: Words,
+    /// The flags, in the order added.
+    pub flags: Flags,
+    /// The macros, in the order added.
+    pub definitions: Definitions,
+    /// The folder that the folders of sources count from.
+    pub source_root: Option<Text>,
+    /// The standard of the language.
+    pub std: Option<Text>,
     pub target: Option<Text>,
     pub host: Option<Text>,
     pub opt_level: Option<Text>,
     pub out_dir: Option<Text>,
     pub compiler: Option<Text>,
     pub archiver: Option<Text>,
+    /// The C++ library that the compiler is told of.
+    pub cpp_set_stdlib: Option<Text>,
+    pub shared_flag: Option<bool>,
+    pub static_flag: Option<bool>,
+    pub warnings: Option<bool>,
+    pub extra_warnings: Option<bool>,
+    pub pic: Option<bool>,
+    pub use_plt: Option<bool>,
+    pub static_crt: Option<bool>,
+    /// Whether flags of the environment are quoted as a shell quotes words.
+    pub shell_escaped_flags: Option<bool>,
+    pub no_default_flags: bool,
+    pub reproducible_codeview: bool,
+    pub cpp: bool,
+    pub warnings_into_errors: bool,
+    pub cargo_warnings: bool,
     pub emit_rerun_if_env_changed: bool,
 }
 
 impl BuildConfig {
-    /// No source, nothing set, and rerun lines on. It takes no memory.
+    /// No source, nothing set, warnings and rerun lines on, all else off. It takes no memory.
     pub fn new(alloc: Global) -> BuildConfig
-        ensures { result ≡ record { files = []; target = None; host = None; opt_level = None; out_dir = None; compiler = None; archiver = None; emit_rerun_if_env_changed = true } }
+        ensures { result ≡ unset_settings }
     {
         BuildConfig {
             files: Words::new(alloc),
+            includes: Words::new(alloc),
+            asm_flags: Words::new(alloc),
+            flags: Flags::new(alloc),
+            definitions: Definitions::new(alloc),
+            source_root: None,
+            std: None,
             target: None,
             host: None,
             opt_level: None,
             out_dir: None,
             compiler: None,
             archiver: None,
+            cpp_set_stdlib: None,
+            shared_flag: None,
+            static_flag: None,
+            warnings: None,
+            extra_warnings: None,
+            pic: None,
+            use_plt: None,
+            static_crt: None,
+            shell_escaped_flags: None,
+            no_default_flags: false,
+            reproducible_codeview: false,
+            cpp: false,
+            warnings_into_errors: false,
+            cargo_warnings: true,
             emit_rerun_if_env_changed: true,
         }
+    }
+
+    /// Second settings, equal to these.
+    pub fn try_clone(&self) -> Mem<BuildConfig>
+        ensures { IfOk result (λ set. set ≡ self.now) }
+    {
+        Ok(BuildConfig {
+            files: self.files.try_clone()?,
+            includes: self.includes.try_clone()?,
+            asm_flags: self.asm_flags.try_clone()?,
+            flags: self.flags.try_clone()?,
+            definitions: self.definitions.try_clone()?,
+            source_root: second(&self.source_root)?,
+            std: second(&self.std)?,
+            target: second(&self.target)?,
+            host: second(&self.host)?,
+            opt_level: second(&self.opt_level)?,
+            out_dir: second(&self.out_dir)?,
+            compiler: second(&self.compiler)?,
+            archiver: second(&self.archiver)?,
+            cpp_set_stdlib: second(&self.cpp_set_stdlib)?,
+            shared_flag: self.shared_flag,
+            static_flag: self.static_flag,
+            warnings: self.warnings,
+            extra_warnings: self.extra_warnings,
+            pic: self.pic,
+            use_plt: self.use_plt,
+            static_crt: self.static_crt,
+            shell_escaped_flags: self.shell_escaped_flags,
+            no_default_flags: self.no_default_flags,
+            reproducible_codeview: self.reproducible_codeview,
+            cpp: self.cpp,
+            warnings_into_errors: self.warnings_into_errors,
+            cargo_warnings: self.cargo_warnings,
+            emit_rerun_if_env_changed: self.emit_rerun_if_env_changed,
+        })
+    }
+}
+
+// A second text, equal to this one, or none.
+fn second(text: &Option<Text>) -> Mem<Option<Text>>
+    ensures { IfOk result (λ t. t ≡ text.now) }
+{
+    match text {
+        Some(text) => Ok(Some(text.try_clone()?)),
+        None => Ok(None),
     }
 }

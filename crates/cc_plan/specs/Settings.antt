@@ -1,0 +1,36 @@
+-- The settings of a new build.
+use Rattle.std.specs.Prelude.{[], None, true, false}
+use Rattle.cc_plan.specs.declared.settings.BuildConfig.{BuildConfig}
+
+-- no source and nothing set, warnings and rerun lines on, all else off
+abbrev pub unset_settings : BuildConfig
+unset_settings = record {
+  files = [];
+  includes = [];
+  asm_flags = [];
+  flags = [];
+  definitions = [];
+  source_root = None;
+  std = None;
+  target = None;
+  host = None;
+  opt_level = None;
+  out_dir = None;
+  compiler = None;
+  archiver = None;
+  cpp_set_stdlib = None;
+  shared_flag = None;
+  static_flag = None;
+  warnings = None;
+  extra_warnings = None;
+  pic = None;
+  use_plt = None;
+  static_crt = None;
+  shell_escaped_flags = None;
+  no_default_flags = false;
+  reproducible_codeview = false;
+  cpp = false;
+  warnings_into_errors = false;
+  cargo_warnings = true;
+  emit_rerun_if_env_changed = true;
+}
