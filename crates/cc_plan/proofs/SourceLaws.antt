@@ -7,44 +7,43 @@ use Rattle.std.specs.Option.{option_map}
 use Rattle.std.specs.Map.{update}
 use Rattle.std.specs.Path.{path_file_name}
 use Rattle.std.proofs.lemmas.Slice.Eq.{bytes_eq-Decides}
-use Rattle.cc_plan.specs.Object.{object_path}
 use Rattle.cc_plan.specs.Refusal.{place_from, earlier_place, source_refusal, first_of, sources_after, sources_refusal}
 use Rattle.cc_plan.specs.declared.error.ArgumentCause.{ArgumentCause}
 use Rattle.cc_plan.specs.declared.error.ArgumentCause.TheVariants.{NoFileName, SameObject}
 use Rattle.cc_plan.specs.declared.error.PlanError.TheVariants.{Argument}
 
 -- the source at a place, and then the rest
-pub next_source : (dir : List ℕ) (files : List (List ℕ)) (i : ℕ) (source : List ℕ) → i < length files → source ≡ get_or files i source → sources_after dir (take i files) (drop i files) ≡ first_of (source_refusal dir (take i files) source) (sources_after dir (take (i + 1) files) (drop (i + 1) files))
-next_source dir files i source within is =
+pub next_source : (path : List ℕ → List ℕ) (files : List (List ℕ)) (i : ℕ) (source : List ℕ) → i < length files → source ≡ get_or files i source → sources_after path (take i files) (drop i files) ≡ first_of (source_refusal path (take i files) source) (sources_after path (take (i + 1) files) (drop (i + 1) files))
+next_source path files i source within is =
     let d : drop i files ≡ source ∷ drop (i + 1) files = drop-cons files i source within ∙ ap (λ s. s ∷ drop (suc i) files) (sym is) ∙ ap (λ n. source ∷ drop n files) (sym (add-one i)) in
     let t : take (i + 1) files ≡ take i files ++ source ∷ [] = (take_at_read files i source within).1 ∙ ap (λ s. take i files ++ s ∷ []) (sym is) in
-    ap (λ l. sources_after dir (take i files) l) d ∙ ap (λ l. first_of (source_refusal dir (take i files) source) (sources_after dir l (drop (i + 1) files))) (sym t)
+    ap (λ l. sources_after path (take i files) l) d ∙ ap (λ l. first_of (source_refusal path (take i files) source) (sources_after path l (drop (i + 1) files))) (sym t)
 
 -- the source at a place is the first one with something wrong
-pub refused_source : (dir : List ℕ) (files : List (List ℕ)) (i : ℕ) (source : List ℕ) (cause : ArgumentCause) → i < length files → source ≡ get_or files i source → sources_after dir (take i files) (drop i files) ≡ sources_after dir [] files → source_refusal dir (take i files) source ≡ Some cause → sources_refusal dir files ≡ Some (Argument cause)
-refused_source dir files i source cause within is rest refused =
-    ap (λ r. option_map Argument r) (sym rest ∙ next_source dir files i source within is ∙ ap (λ r. first_of r (sources_after dir (take (i + 1) files) (drop (i + 1) files))) refused)
+pub refused_source : (path : List ℕ → List ℕ) (files : List (List ℕ)) (i : ℕ) (source : List ℕ) (cause : ArgumentCause) → i < length files → source ≡ get_or files i source → sources_after path (take i files) (drop i files) ≡ sources_after path [] files → source_refusal path (take i files) source ≡ Some cause → sources_refusal path files ≡ Some (Argument cause)
+refused_source path files i source cause within is rest refused =
+    ap (λ r. option_map Argument r) (sym rest ∙ next_source path files i source within is ∙ ap (λ r. first_of r (sources_after path (take (i + 1) files) (drop (i + 1) files))) refused)
 
 -- nothing is wrong with the source at a place
-pub taken_source : (dir : List ℕ) (files : List (List ℕ)) (i : ℕ) (source : List ℕ) → i < length files → source ≡ get_or files i source → sources_after dir (take i files) (drop i files) ≡ sources_after dir [] files → source_refusal dir (take i files) source ≡ None → sources_after dir (take (i + 1) files) (drop (i + 1) files) ≡ sources_after dir [] files
-taken_source dir files i source within is rest fine =
-    ap (λ r. first_of r (sources_after dir (take (i + 1) files) (drop (i + 1) files))) (sym fine) ∙ sym (next_source dir files i source within is) ∙ rest
+pub taken_source : (path : List ℕ → List ℕ) (files : List (List ℕ)) (i : ℕ) (source : List ℕ) → i < length files → source ≡ get_or files i source → sources_after path (take i files) (drop i files) ≡ sources_after path [] files → source_refusal path (take i files) source ≡ None → sources_after path (take (i + 1) files) (drop (i + 1) files) ≡ sources_after path [] files
+taken_source path files i source within is rest fine =
+    ap (λ r. first_of r (sources_after path (take (i + 1) files) (drop (i + 1) files))) (sym fine) ∙ sym (next_source path files i source within is) ∙ rest
 
-pub nameless_source : (dir : List ℕ) (files : List (List ℕ)) (i : ℕ) (source : List ℕ) → i < length files → path_file_name source ≡ None → source_refusal dir (take i files) source ≡ Some (NoFileName i)
+pub nameless_source : (path : List ℕ → List ℕ) (files : List (List ℕ)) (i : ℕ) (source : List ℕ) → i < length files → path_file_name source ≡ None → source_refusal path (take i files) source ≡ Some (NoFileName i)
 unfolding source_refusal
-nameless_source dir files i source within none =
+nameless_source path files i source within none =
     let n : length (take i files) ≡ i = length-take-le i files (omega arith) in
     rw (none, n) refl
 
-pub doubled_source : (dir : List ℕ) (files : List (List ℕ)) (i place : ℕ) (source : List ℕ) → i < length files → is_none (path_file_name source) ≡ false → place_from 0 (object_path dir source) (map (object_path dir) (take i files)) ≡ Some place → source_refusal dir (take i files) source ≡ Some (SameObject place i)
+pub doubled_source : (path : List ℕ → List ℕ) (files : List (List ℕ)) (i place : ℕ) (source : List ℕ) → i < length files → is_none (path_file_name source) ≡ false → place_from 0 (path source) (map path (take i files)) ≡ Some place → source_refusal path (take i files) source ≡ Some (SameObject place i)
 unfolding source_refusal earlier_place
-doubled_source dir files i place source within named at =
+doubled_source path files i place source within named at =
     let n : length (take i files) ≡ i = length-take-le i files (omega arith) in
     rw (named, at, n) refl
 
-pub fresh_source : (dir : List ℕ) (files : List (List ℕ)) (i : ℕ) (source : List ℕ) → is_none (path_file_name source) ≡ false → place_from 0 (object_path dir source) (map (object_path dir) (take i files)) ≡ None → source_refusal dir (take i files) source ≡ None
+pub fresh_source : (path : List ℕ → List ℕ) (files : List (List ℕ)) (i : ℕ) (source : List ℕ) → is_none (path_file_name source) ≡ false → place_from 0 (path source) (map path (take i files)) ≡ None → source_refusal path (take i files) source ≡ None
 unfolding source_refusal earlier_place
-fresh_source dir files i source named at = rw (named, at) refl
+fresh_source path files i source named at = rw (named, at) refl
 
 -- one text more behind others
 place_more : (n : ℕ) (text : List ℕ) (texts : List (List ℕ)) (t : List ℕ) → place_from n text (texts ++ t ∷ []) ≡ first_of (place_from n text texts) (if bytes_eq text t then Some (n + length texts) else None)

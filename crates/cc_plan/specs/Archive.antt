@@ -1,6 +1,8 @@
 -- The planned archive and index commands, in the words of `ar`: `c` makes the library, `q` adds members last, `s` writes its index,
 -- and `D` leaves out times and owners, so that one build gives the same bytes as the next.
-use Rattle.std.specs.Prelude.{ℕ, List, [], ◌∷◌, map, None, unwrap_or, codes}
+use Rattle.std.specs.Prelude.{ℕ, List, [], ◌∷◌, ◌++◌, map, None, unwrap_or, codes}
+use Rattle.cc_env.specs.Env.{EnvSeen}
+use Rattle.cc_env.specs.Snapshot.{child_of}
 use Rattle.cc_host.specs.Command.{CommandSeen}
 use Rattle.cc_plan.specs.declared.object.Object.{Object}
 use Rattle.cc_plan.specs.declared.settings.BuildConfig.{BuildConfig}
@@ -11,21 +13,26 @@ archiver_of set = unwrap_or set.archiver (codes "ar")
 abbrev pub paths_of : List Object → List (List ℕ)
 paths_of objects = map (λ o. o.dst) objects
 
-abbrev pub archive_of : BuildConfig → List ℕ → List Object → CommandSeen
-archive_of set library objects = record {
+-- the environment of a command that writes no times into members
+abbrev pub archive_env : EnvSeen → List (List ℕ × List ℕ)
+archive_env env = child_of env.inherited (env.explicit ++ (codes "ZERO_AR_DATE", codes "1") ∷ [])
+
+abbrev pub archive_of : BuildConfig → EnvSeen → List ℕ → List Object → CommandSeen
+archive_of set env library objects = record {
   program = archiver_of set;
   args = codes "cqD" ∷ library ∷ paths_of objects;
-  env = (codes "ZERO_AR_DATE", codes "1") ∷ [];
+  env = archive_env env;
   dir = None;
 }
 
 -- one command with all objects, where there is an object
-abbrev pub archives_of : BuildConfig → List ℕ → List Object → List CommandSeen
-archives_of set library [] = []
-archives_of set library (object ∷ objects) = archive_of set library (object ∷ objects) ∷ []
+abbrev pub archives_of : BuildConfig → EnvSeen → List ℕ → List Object → List CommandSeen
+archives_of set env library [] = []
+archives_of set env library (object ∷ objects) = archive_of set env library (object ∷ objects) ∷ []
 
-abbrev pub index_of : BuildConfig → List ℕ → CommandSeen
-index_of set library = record { program = archiver_of set; args = codes "sD" ∷ library ∷ []; env = []; dir = None }
+abbrev pub index_of : BuildConfig → EnvSeen → List ℕ → CommandSeen
+index_of set env library =
+    record { program = archiver_of set; args = codes "sD" ∷ library ∷ []; env = child_of env.inherited env.explicit; dir = None }
 
-abbrev pub indexes_of : BuildConfig → List ℕ → List CommandSeen
-indexes_of set library = index_of set library ∷ []
+abbrev pub indexes_of : BuildConfig → EnvSeen → List ℕ → List CommandSeen
+indexes_of set env library = index_of set env library ∷ []

@@ -1,10 +1,13 @@
--- What settings are refused for. The answer is that of the first part which doesn't hold, in the order of the definitions.
+-- What settings and snapshot are refused for. The answer is that of the first part which doesn't hold, in the order of the definitions.
 use Rattle.std.specs.Prelude.{ℕ, ◌+◌, List, [], ◌∷◌, ◌++◌, length, map, Bool, Option, Some, None, is_none, unwrap_or, true, false, codes, bytes_eq, if◌then◌else◌}
 use Rattle.std.specs.Option.{option_map}
 use Rattle.std.specs.Path.{path_file_name}
 use Rattle.cc_plan.specs.Names.{is_output_name}
+use Rattle.cc_env.specs.Env.{EnvSeen}
+use Rattle.cc_target.specs.Targets.{is_known}
+use Rattle.cc_plan.specs.Given.{out_dir_of, target_of, host_of, level_of}
 use Rattle.cc_plan.specs.Object.{object_path}
-use Rattle.cc_plan.specs.Tool.{is_known_target}
+use Rattle.cc_plan.specs.Tool.{words_refusal_of}
 use Rattle.cc_plan.specs.declared.error.ArgumentCause.{ArgumentCause}
 use Rattle.cc_plan.specs.declared.error.ArgumentCause.TheVariants.{Output, OutDir, NoFileName, SameObject}
 use Rattle.cc_plan.specs.declared.error.PlanError.{PlanError}
@@ -16,15 +19,15 @@ abbrev pub place_from : ℕ → List ℕ → List (List ℕ) → Option ℕ
 place_from n text [] = None
 place_from n text (t ∷ ts) = if bytes_eq text t then Some n else place_from (n + 1) text ts
 
--- the place of an earlier source with the same object
-unfoldable pub earlier_place : List ℕ → List (List ℕ) → List ℕ → Option ℕ
-earlier_place dir earlier source = place_from 0 (object_path dir source) (map (object_path dir) earlier)
+-- the place of an earlier source with the same object, where each source has the object that `path` gives it
+unfoldable pub earlier_place : (List ℕ → List ℕ) → List (List ℕ) → List ℕ → Option ℕ
+earlier_place path earlier source = place_from 0 (path source) (map path earlier)
 
 -- what is wrong with a source, after the earlier ones
-unfoldable pub source_refusal : List ℕ → List (List ℕ) → List ℕ → Option ArgumentCause
-source_refusal dir earlier source =
+unfoldable pub source_refusal : (List ℕ → List ℕ) → List (List ℕ) → List ℕ → Option ArgumentCause
+source_refusal path earlier source =
     if is_none (path_file_name source) then Some (NoFileName (length earlier))
-    else option_map (λ place. SameObject place (length earlier)) (earlier_place dir earlier source)
+    else option_map (λ place. SameObject place (length earlier)) (earlier_place path earlier source)
 
 -- the one of two refusals that comes first
 abbrev pub first_of : {X : Type 0} → Option X → Option X → Option X
@@ -32,12 +35,12 @@ first_of None second = second
 first_of (Some refusal) second = Some refusal
 
 -- the first source, in order, with something wrong
-abbrev pub sources_after : List ℕ → List (List ℕ) → List (List ℕ) → Option ArgumentCause
-sources_after dir earlier [] = None
-sources_after dir earlier (source ∷ sources) = first_of (source_refusal dir earlier source) (sources_after dir (earlier ++ source ∷ []) sources)
+abbrev pub sources_after : (List ℕ → List ℕ) → List (List ℕ) → List (List ℕ) → Option ArgumentCause
+sources_after path earlier [] = None
+sources_after path earlier (source ∷ sources) = first_of (source_refusal path earlier source) (sources_after path (earlier ++ source ∷ []) sources)
 
-abbrev pub sources_refusal : List ℕ → List (List ℕ) → Option PlanError
-sources_refusal dir sources = option_map Argument (sources_after dir [] sources)
+abbrev pub sources_refusal : (List ℕ → List ℕ) → List (List ℕ) → Option PlanError
+sources_refusal path sources = option_map Argument (sources_after path [] sources)
 
 abbrev pub name_refusal : List ℕ → Option PlanError
 name_refusal output = if is_output_name output then None else Some (Argument Output)
@@ -53,28 +56,32 @@ unset name (Some value) = None
 
 abbrev pub target_refusal : Option (List ℕ) → Option PlanError
 target_refusal None = Some (NotSet (codes "TARGET"))
-target_refusal (Some target) = if is_known_target target then None else Some (UnknownTarget target)
+target_refusal (Some target) = if is_known target then None else Some (UnknownTarget target)
 
--- what an archive, and each compile command, wants
-abbrev pub platform_refusal : BuildConfig → Option PlanError
-platform_refusal set = first_of (target_refusal set.target) (unset (codes "HOST") set.host)
+-- what an archive wants: the target and the host, which flags of the environment are looked up by
+unfoldable pub platform_refusal : BuildConfig → EnvSeen → Option PlanError
+platform_refusal set env = first_of (target_refusal (target_of set env)) (unset (codes "HOST") (host_of set env))
 
--- what the compiler wants
-abbrev pub tool_refusal : BuildConfig → Option PlanError
-tool_refusal set = first_of (unset (codes "OPT_LEVEL") set.opt_level) (platform_refusal set)
+-- what the compiler wants: the level, the target, what single words want, and the host, which flags of the environment are looked up by
+unfoldable pub tool_refusal : BuildConfig → EnvSeen → Option PlanError
+tool_refusal set env =
+    first_of (unset (codes "OPT_LEVEL") (level_of set env))
+    (first_of (target_refusal (target_of set env))
+    (first_of (words_refusal_of set env)
+    (unset (codes "HOST") (host_of set env))))
+
+-- the object of a source in the out dir
+abbrev pub object_in : BuildConfig → EnvSeen → List ℕ → List ℕ
+object_in set env source = object_path env.inherited set.source_root (unwrap_or (out_dir_of set env) []) source
 
 -- before the folder of the objects is made
-unfoldable pub early_refusal : BuildConfig → List ℕ → Option PlanError
-early_refusal set output = first_of (name_refusal output) (first_of (out_dir_refusal set.out_dir) (sources_refusal (unwrap_or set.out_dir []) set.files))
+unfoldable pub early_refusal : BuildConfig → EnvSeen → List ℕ → Option PlanError
+early_refusal set env output = first_of (name_refusal output) (first_of (out_dir_refusal (out_dir_of set env)) (sources_refusal (object_in set env) set.files))
 
 abbrev pub is_empty : List (List ℕ) → Bool
 is_empty [] = true
 is_empty (s ∷ ss) = false
 
--- after it is made
-unfoldable pub late_refusal : BuildConfig → Option PlanError
-late_refusal set = if is_empty set.files then platform_refusal set else tool_refusal set
-
--- the refusal of a compile run by its settings and its output
-abbrev pub refusal : BuildConfig → List ℕ → Option PlanError
-refusal set output = first_of (early_refusal set output) (late_refusal set)
+-- after it is made, where commands may run
+unfoldable pub late_refusal : BuildConfig → EnvSeen → Option PlanError
+late_refusal set env = if is_empty set.files then platform_refusal set env else tool_refusal set env

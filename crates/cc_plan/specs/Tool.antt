@@ -1,61 +1,57 @@
--- The planned tool: the compiler with the words and variables that every compile command has. One definition a group of words.
-use Rattle.std.specs.Prelude.{ℕ, List, [], ◌∷◌, ◌++◌, Bool, None, unwrap_or, codes, bytes_eq, if◌then◌else◌}
-use Rattle.cc_text.specs.declared.family.ToolFamily.TheVariants.{Gnu}
+-- The planned tool: the compiler with the words and variables that every compile command has.
+use Rattle.std.specs.Prelude.{ℕ, List, [], ◌∷◌, ◌++◌, Bool, Option, None, unwrap_or, map, codes, if◌then◌else◌}
+use Rattle.cc_env.specs.Env.{EnvSeen}
+use Rattle.cc_env.specs.Snapshot.{child_of}
 use Rattle.cc_host.specs.Command.{CommandSeen}
+use Rattle.cc_target.specs.Targets.{Info, info_of}
+use Rattle.cc_text.specs.declared.family.ToolFamily.{ToolFamily}
+use Rattle.cc_plan.specs.Families.{is_cl, family_of_name}
+use Rattle.cc_plan.specs.Given.{target_of, is_cargos_target, has_no_defaults, environment_flags}
+use Rattle.cc_plan.specs.ToolWords.{tool_words, tool_warnings, words_refusal}
+use Rattle.cc_plan.specs.declared.error.PlanError.{PlanError}
 use Rattle.cc_plan.specs.declared.settings.BuildConfig.{BuildConfig}
 use Rattle.cc_plan.specs.declared.tool.PlainTool.{PlainTool}
 
--- the one target that is known
-abbrev pub is_known_target : List ℕ → Bool
-is_known_target target = bytes_eq target (codes "x86_64-unknown-linux-gnu")
+-- the parts of no target
+abbrev pub no_info : Info
+no_info = record { full_arch = []; arch = []; vendor = []; os = []; env = []; abi = [] }
 
--- GCC spells the level `z` as `s`
-abbrev pub level_text : List ℕ → List ℕ
-level_text level = if bytes_eq level (codes "z") then codes "s" else level
+abbrev pub target_name : BuildConfig → EnvSeen → List ℕ
+target_name set env = unwrap_or (target_of set env) []
 
-abbrev pub level_word : List ℕ → List ℕ
-level_word level = codes "-O" ++ level_text level
+abbrev pub target_info : BuildConfig → EnvSeen → Info
+target_info set env = unwrap_or (info_of (target_name set env)) no_info
 
--- the level, and each function and datum in a section of its own
-unfoldable pub optimisation_words : List ℕ → List (List ℕ)
-optimisation_words level = level_word level ∷ codes "-ffunction-sections" ∷ codes "-fdata-sections" ∷ []
+-- the compiler: the set one, else the traditional name of the language's
+abbrev pub compiler_of : BuildConfig → List ℕ
+compiler_of set = unwrap_or set.compiler (if set.cpp then codes "c++" else codes "cc")
 
--- a hosted target wants code that can lie anywhere
-abbrev pub position_independence_words : List (List ℕ)
-position_independence_words = codes "-fPIC" ∷ []
-
--- addresses of 64 bits
-abbrev pub width_words : List (List ℕ)
-width_words = codes "-m64" ∷ []
-
--- the oldest processor of the target
-abbrev pub processor_words : List (List ℕ)
-processor_words = codes "-march=x86-64" ∷ []
-
-abbrev pub warning_words : List (List ℕ)
-warning_words = codes "-Wall" ∷ []
-
-abbrev pub extra_warning_words : List (List ℕ)
-extra_warning_words = codes "-Wextra" ∷ []
-
--- the groups in order
-unfoldable pub tool_words : List ℕ → List (List ℕ)
-tool_words level =
-    optimisation_words level ++ position_independence_words ++ width_words ++ processor_words ++ warning_words ++ extra_warning_words
+abbrev pub family_of : BuildConfig → ToolFamily
+family_of set = family_of_name (compiler_of set)
 
 -- messages of the compiler are not translated
-abbrev pub tool_env : List (List ℕ × List ℕ)
-tool_env = (codes "LC_ALL", codes "C") ∷ []
+abbrev pub language_variable : ToolFamily → List ℕ × List ℕ
+language_variable family = if is_cl family then (codes "VSLANG", codes "1033") else (codes "LC_ALL", codes "C")
 
-abbrev pub compiler_of : BuildConfig → List ℕ
-compiler_of set = unwrap_or set.compiler (codes "cc")
+-- the whole environment of the compiler
+abbrev pub tool_env : BuildConfig → EnvSeen → List (List ℕ × List ℕ)
+tool_env set env = child_of env.inherited (language_variable (family_of set) ∷ env.explicit)
 
--- the command of a level
-abbrev pub command_at : BuildConfig → List ℕ → CommandSeen
-command_at set level = record { program = compiler_of set; args = tool_words level; env = tool_env; dir = None }
+abbrev pub words_of : BuildConfig → EnvSeen → List (List ℕ)
+words_of set env =
+    tool_words (has_no_defaults set env) set env.inherited (is_cargos_target set env) (target_name set env) (target_info set env) (family_of set) (compiler_of set) (environment_flags set env)
 
-abbrev pub tool_command : BuildConfig → CommandSeen
-tool_command set = command_at set (unwrap_or set.opt_level [])
+-- what single words are refused for
+abbrev pub words_refusal_of : BuildConfig → EnvSeen → Option PlanError
+words_refusal_of set env =
+    words_refusal (has_no_defaults set env) set env.inherited (is_cargos_target set env) (target_name set env) (target_info set env) (family_of set) (compiler_of set)
 
-abbrev pub tool_of : BuildConfig → PlainTool
-tool_of set = record { family = Gnu; cmd = tool_command set }
+-- the texts of its warnings
+abbrev pub warnings_of : BuildConfig → EnvSeen → List (List ℕ)
+warnings_of set env = tool_warnings (has_no_defaults set env) set (family_of set)
+
+abbrev pub tool_command : BuildConfig → EnvSeen → CommandSeen
+tool_command set env = record { program = compiler_of set; args = words_of set env; env = tool_env set env; dir = None }
+
+abbrev pub tool_of : BuildConfig → EnvSeen → PlainTool
+tool_of set env = record { family = family_of set; cmd = tool_command set env }
