@@ -1,13 +1,15 @@
 // The object of each source.
 ghost use Rattle.std.specs.Prelude.{◌≡◌, IfOk, IfErr, OnOk, ◌⊎◌, Some, None, map};
 ghost use Rattle.cc_text.specs.Hash.{fnv1a, fnv1a_from};
-ghost use Rattle.cc_plan.specs.Object.{ended, hashed, object_name as name_of, object_path as path_of, objects_of};
+ghost use Rattle.std.specs.Option.{option_copied};
+ghost use Rattle.cc_plan.specs.Object.{after_variable, after_root, placed, ended, hashed, object_name as name_of, object_path as path_of, objects_of};
 ghost use Rattle.cc_plan.specs.Refusal.{sources_refusal};
 ghost use Rattle.cc_plan.specs.declared.error.PlanError.TheVariants.{NoMemory as WantsMemory};
 
 use crate::{ArgumentCause, PlanError};
+use cc_env::EnvSnapshot;
 use cc_text::{
-    Mem, Text, Words, extension, file_name, fnv1a, fnv1a_from, hex16, join, parent, with_extension,
+    Mem, Text, Words, after_prefix, extension, file_name, fnv1a, fnv1a_from, hex16, join, parent, strip_prefix, with_extension,
 };
 use std::alloc::Global;
 use std::collections::BTreeMap;
@@ -26,12 +28,53 @@ fn hash_part(start: u64, text: &str) -> u64
     fnv1a_from(fnv1a_from(start, text.as_bytes()), b"\xff")
 }
 
-// The hash of where a source lies.
-fn source_hash(source: &str) -> u64
-    ensures { result ≡ fnv1a (hashed source.now) }
+// The folder less the text of a variable that it begins with.
+fn after_variable<'a>(env: &EnvSnapshot, name: &str, folder: &'a str) -> Option<&'a str>
+    ensures { option_copied result ≡ after_variable env.now name.now folder.now }
 {
-    let folder = parent(source).unwrap_or("");
-    let hash = hash_part(hash_part(fnv1a(b""), "absolute"), folder);
+    match env.get(name) {
+        Some(value) => after_prefix(folder, value),
+        None => None,
+    }
+}
+
+// The folder from a root on, by components.
+fn after_root<'a>(root: Option<&str>, folder: &'a str) -> Option<&'a str>
+    ensures { option_copied result ≡ after_root (option_copied root.entry) folder.now }
+{
+    match root {
+        Some(root) => strip_prefix(folder, root),
+        None => None,
+    }
+}
+
+// Where a folder counts from, and the folder from there on.
+#[tactic(auto, unfolding(crate::specs::Object::placed))]
+fn placed<'a>(
+    env: &EnvSnapshot,
+    root: Option<&str>,
+    folder: &'a str,
+) -> (&'static str, &'a str)
+    ensures { (result.0.now, result.1.now) ≡ placed env.now (option_copied root.entry) folder.now }
+{
+    if let Some(rest) = after_variable(env, "OUT_DIR", folder) {
+        return ("out_dir", rest);
+    }
+    if let Some(rest) = after_variable(env, "CARGO_MANIFEST_DIR", folder) {
+        return ("manifest_dir", rest);
+    }
+    match after_root(root, folder) {
+        Some(rest) => ("source_root", rest),
+        None => ("absolute", folder),
+    }
+}
+
+// The hash of where a source lies.
+fn source_hash(env: &EnvSnapshot, root: Option<&str>, source: &str) -> u64
+    ensures { result ≡ fnv1a (hashed env.now (option_copied root.entry) source.now) }
+{
+    let (origin, folder) = placed(env, root, parent(source).unwrap_or(""));
+    let hash = hash_part(hash_part(fnv1a(b""), origin), folder);
     match extension(source) {
         Some(extension) => hash_part(hash, extension),
         None => hash,
@@ -40,34 +83,52 @@ fn source_hash(source: &str) -> u64
 
 // The name of an object: the digits of the hash, and the file name of the source.
 #[tactic(auto, unfolding(crate::specs::Object::object_name))]
-fn object_name(alloc: Global, source: &str) -> Mem<Text>
-    ensures { IfOk result (λ name. name ≡ name_of source.now) }
+fn object_name(
+    alloc: Global,
+    env: &EnvSnapshot,
+    root: Option<&str>,
+    source: &str,
+) -> Mem<Text>
+    ensures { IfOk result (λ name. name ≡ name_of env.now (option_copied root.entry) source.now) }
 {
-    let mut name = hex16(alloc, source_hash(source))?;
+    let mut name = hex16(alloc, source_hash(env, root, source))?;
     name.push_str("-")?;
     name.push_str(file_name(source).unwrap_or(""))?;
     Ok(name)
 }
 
-/// The object of a source in the folder `dir`: sixteen digits, a `-`, and the source's file name with the extension `o`.
+/// The object of a source in the folder `dst`: sixteen digits, a `-`, and the source's file name with the extension `o`.
 ///
-/// The digits are FNV-1a of 64 bits over `absolute`, the source's folder and its extension.
+/// The digits are FNV-1a of 64 bits over where the source's folder counts from, the folder from there on, and the source's extension. A
+/// folder counts from `OUT_DIR` or `CARGO_MANIFEST_DIR` where it begins with that text, else from the source root where that has it.
 #[tactic(auto, unfolding(crate::specs::Object::object_path))]
-pub fn object_path(alloc: Global, dir: &str, source: &str) -> Mem<Text>
-    ensures { IfOk result (λ path. path ≡ path_of dir.now source.now) }
+pub fn object_path(
+    alloc: Global,
+    env: &EnvSnapshot,
+    source_root: Option<&str>,
+    dst: &str,
+    source: &str,
+) -> Mem<Text>
+    ensures { IfOk result (λ path. path ≡ path_of env.now (option_copied source_root.entry) dst.now source.now) }
 {
-    let name = object_name(alloc, source)?;
-    let path = join(alloc, dir, name.as_str())?;
+    let name = object_name(alloc, env, source_root, source)?;
+    let path = join(alloc, dst, name.as_str())?;
     with_extension(alloc, path.as_str(), "o")
 }
 
 /// The object of each source in the folder `dst`, in the order of the sources.
 ///
 /// Refused at the first source that has no file name, or the object of an earlier one. Places count from 0.
-pub fn objects_from_files(alloc: Global, files: &Words, dst: &str) -> Result<Vec<Object>, PlanError>
-    ensures objects { IfOk result (λ objects. objects.items ≡ objects_of dst.now files.now) }
-    ensures allowed { OnOk result (sources_refusal dst.now files.now ≡ None) }
-    ensures refused { IfErr result (λ e. (e ≡ WantsMemory) ⊎ (sources_refusal dst.now files.now ≡ Some e)) }
+pub fn objects_from_files(
+    alloc: Global,
+    files: &Words,
+    dst: &str,
+    env: &EnvSnapshot,
+    source_root: Option<&str>,
+) -> Result<Vec<Object>, PlanError>
+    ensures objects { IfOk result (λ objects. objects.items ≡ objects_of env.now (option_copied source_root.entry) dst.now files.now) }
+    ensures allowed { OnOk result (sources_refusal (path_of env.now (option_copied source_root.entry) dst.now) files.now ≡ None) }
+    ensures refused { IfErr result (λ e. (e ≡ WantsMemory) ⊎ (sources_refusal (path_of env.now (option_copied source_root.entry) dst.now) files.now ≡ Some e)) }
 {
     let mut objects = Vec::new(alloc);
     let mut places = BTreeMap::new(alloc);
@@ -77,7 +138,7 @@ pub fn objects_from_files(alloc: Global, files: &Words, dst: &str) -> Result<Vec
         if file_name(src).is_none() {
             return Err(PlanError::Argument(ArgumentCause::NoFileName(place)));
         }
-        let dst = object_path(alloc, dst, src)?;
+        let dst = object_path(alloc, env, source_root, dst, src)?;
         if let Some(earlier) = places.get(dst.as_str()) {
             return Err(PlanError::Argument(ArgumentCause::SameObject(*earlier, place)));
         }

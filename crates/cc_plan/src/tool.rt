@@ -1,13 +1,21 @@
 // The tool of a compile command: the compiler with the words and variables that all sources share.
-ghost use Rattle.std.specs.Prelude.{◌≡◌, ◌++◌, IfOk, IfErr, OnOk, ◌⊎◌, Some, None};
-ghost use Rattle.cc_plan.specs.Tool.{level_text, level_word, optimisation_words, tool_words, command_at, tool_of};
-ghost use Rattle.cc_plan.specs.Tool.{position_independence_words as pic_words, width_words, processor_words, warning_words, extra_warning_words};
-ghost use Rattle.cc_plan.specs.Refusal.{platform_refusal, target_refusal, tool_refusal};
+ghost use Rattle.std.specs.Prelude.{◌≡◌, IfOk, IfErr, OnOk, ◌⊎◌, Some, None};
+ghost use Rattle.std.specs.Option.{option_copied};
+ghost use Rattle.cc_target.specs.Targets.{info_seen, info_of};
+ghost use Rattle.cc_plan.specs.Given.{target_of};
+ghost use Rattle.cc_plan.specs.Refusal.{unset, target_refusal, platform_refusal, tool_refusal};
+ghost use Rattle.cc_plan.specs.Tool.{compiler_of, family_of, language_variable, tool_env, tool_of, target_name, target_info, words_of, words_refusal_of};
 ghost use Rattle.cc_plan.specs.declared.error.PlanError.TheVariants.{NoMemory as WantsMemory, NotSet};
 
+use crate::given::{
+    environment_flags, has_no_defaults, host_of, is_cargos_target, level_of, target_of,
+};
+use crate::words::{family_of_name, is_cl, tool_words};
 use crate::{BuildConfig, PlanError};
+use cc_env::BuildEnv;
 use cc_host::Command;
-use cc_text::{Mem, Text, ToolFamily, Words};
+use cc_target::TargetInfo;
+use cc_text::{Mem, Text, ToolFamily, Vars, Words};
 use std::alloc::Global;
 
 /// A compiler with its words and variables, and its family.
@@ -15,76 +23,6 @@ use std::alloc::Global;
 pub struct PlainTool {
     pub family: ToolFamily,
     pub cmd: Command,
-}
-
-// GCC spells the level `z` as `s`.
-fn level_text(level: &str) -> &str
-    ensures { result.now ≡ level_text level.now }
-{
-    if level == "z" { "s" } else { level }
-}
-
-fn level_word(alloc: Global, level: &str) -> Mem<Text>
-    ensures { IfOk result (λ word. word ≡ level_word level.now) }
-{
-    let mut word = Text::of(alloc, "-O")?;
-    word.push_str(level_text(level))?;
-    Ok(word)
-}
-
-#[tactic(auto, unfolding(crate::specs::Tool::optimisation_words))]
-fn push_optimisation_words(words: &mut Words, alloc: Global, level: &str) -> Mem<()>
-    ensures { OnOk result (words.new ≡ words.old ++ optimisation_words level.now) }
-{
-    words.push_text(level_word(alloc, level)?)?;
-    words.push("-ffunction-sections")?;
-    words.push("-fdata-sections")?;
-    Ok(())
-}
-
-fn push_position_independence_words(words: &mut Words) -> Mem<()>
-    ensures { OnOk result (words.new ≡ words.old ++ pic_words) }
-{
-    words.push("-fPIC")
-}
-
-fn push_width_words(words: &mut Words) -> Mem<()>
-    ensures { OnOk result (words.new ≡ words.old ++ width_words) }
-{
-    words.push("-m64")
-}
-
-fn push_processor_words(words: &mut Words) -> Mem<()>
-    ensures { OnOk result (words.new ≡ words.old ++ processor_words) }
-{
-    words.push("-march=x86-64")
-}
-
-fn push_warning_words(words: &mut Words) -> Mem<()>
-    ensures { OnOk result (words.new ≡ words.old ++ warning_words) }
-{
-    words.push("-Wall")
-}
-
-fn push_extra_warning_words(words: &mut Words) -> Mem<()>
-    ensures { OnOk result (words.new ≡ words.old ++ extra_warning_words) }
-{
-    words.push("-Wextra")
-}
-
-// The groups of words, in order.
-#[tactic(auto, unfolding(crate::specs::Tool::tool_words))]
-fn tool_words(alloc: Global, level: &str) -> Mem<Words>
-    ensures { IfOk result (λ words. words ≡ tool_words level.now) }
-{
-    let mut words = Words::new(alloc);
-    push_optimisation_words(&mut words, alloc, level)?;
-    push_position_independence_words(&mut words)?;
-    push_width_words(&mut words)?;
-    push_processor_words(&mut words)?;
-    push_warning_words(&mut words)?;
-    push_extra_warning_words(&mut words)?;
-    Ok(words)
 }
 
 fn not_set(alloc: Global, name: &str) -> PlanError
@@ -96,61 +34,152 @@ fn not_set(alloc: Global, name: &str) -> PlanError
     }
 }
 
-fn check_target(alloc: Global, target: &Option<Text>) -> Result<(), PlanError>
-    ensures allowed { OnOk result (target_refusal target.now ≡ None) }
-    ensures refused { IfErr result (λ e. (e ≡ WantsMemory) ⊎ (target_refusal target.now ≡ Some e)) }
+// A value that is set, or else the refusal by its variable.
+fn demand<'a>(alloc: Global, name: &str, value: Option<&'a str>) -> Result<&'a str, PlanError>
+    ensures value { IfOk result (λ text. option_copied value.entry ≡ Some text.now) }
+    ensures allowed { OnOk result (unset name.now (option_copied value.entry) ≡ None) }
+    ensures refused { IfErr result (λ e. (e ≡ WantsMemory) ⊎ (unset name.now (option_copied value.entry) ≡ Some e)) }
 {
-    let Some(target) = target else {
-        return Err(not_set(alloc, "TARGET"));
+    match value {
+        Some(text) => Ok(text),
+        None => Err(not_set(alloc, name)),
+    }
+}
+
+// What is known of the target, which is set and known.
+fn known_target(alloc: Global, set: &BuildConfig, env: &BuildEnv) -> Result<TargetInfo, PlanError>
+    ensures info { IfOk result (λ target. info_seen target ≡ target_info set.now env.now) }
+    ensures allowed { OnOk result (target_refusal (target_of set.now env.now) ≡ None) }
+    ensures refused { IfErr result (λ e. (e ≡ WantsMemory) ⊎ (target_refusal (target_of set.now env.now) ≡ Some e)) }
+{
+    let name = match target_of(set, env) {
+        Some(name) => name,
+        None => return Err(not_set(alloc, "TARGET")),
     };
-    if target.as_str() == "x86_64-unknown-linux-gnu" {
-        Ok(())
-    } else {
-        Err(PlanError::UnknownTarget(target.try_clone()?))
+    match TargetInfo::from_rustc_target(name) {
+        Ok(target) => Ok(target),
+        Err(_) => Err(PlanError::UnknownTarget(Text::of(alloc, name)?)),
     }
 }
 
 // Whether the target is set and known, and the host set.
-pub(crate) fn check_platform(alloc: Global, set: &BuildConfig) -> Result<(), PlanError>
-    ensures allowed { OnOk result (platform_refusal set.now ≡ None) }
-    ensures refused { IfErr result (λ e. (e ≡ WantsMemory) ⊎ (platform_refusal set.now ≡ Some e)) }
+#[tactic(auto, unfolding(crate::specs::Refusal::platform_refusal))]
+pub(crate) fn check_platform(
+    alloc: Global,
+    set: &BuildConfig,
+    env: &BuildEnv,
+) -> Result<(), PlanError>
+    ensures allowed { OnOk result (platform_refusal set.now env.now ≡ None) }
+    ensures refused { IfErr result (λ e. (e ≡ WantsMemory) ⊎ (platform_refusal set.now env.now ≡ Some e)) }
 {
-    check_target(alloc, &set.target)?;
-    if set.host.is_none() {
-        return Err(not_set(alloc, "HOST"));
-    }
+    known_target(alloc, set, env)?;
+    demand(alloc, "HOST", host_of(set, env))?;
     Ok(())
 }
 
-fn tool_command(alloc: Global, set: &BuildConfig, level: &str) -> Mem<Command>
-    ensures { IfOk result (λ cmd. cmd ≡ command_at set.now level.now) }
+fn compiler_of(set: &BuildConfig) -> &str
+    ensures { result.now ≡ compiler_of set.now }
 {
-    let compiler = match &set.compiler {
+    match &set.compiler {
         Some(compiler) => compiler.as_str(),
-        None => "cc",
-    };
-    let words = tool_words(alloc, level)?;
-    let mut cmd = Command::new(alloc, compiler)?;
-    cmd.args(&words)?;
-    cmd.env("LC_ALL", "C")?;
+        None => {
+            if set.cpp {
+                "c++"
+            } else {
+                "cc"
+            }
+        }
+    }
+}
+
+// The family of the compiler, by its file name.
+pub(crate) fn family_of(set: &BuildConfig) -> ToolFamily
+    ensures { result ≡ family_of set.now }
+{
+    family_of_name(compiler_of(set))
+}
+
+fn language_variable(family: ToolFamily) -> (&'static str, &'static str)
+    ensures { (result.0.now, result.1.now) ≡ language_variable family }
+{
+    if is_cl(family) {
+        ("VSLANG", "1033")
+    } else {
+        ("LC_ALL", "C")
+    }
+}
+
+// The whole environment of the compiler.
+fn tool_env(alloc: Global, set: &BuildConfig, env: &BuildEnv) -> Mem<Vars>
+    ensures { IfOk result (λ vars. vars ≡ tool_env set.now env.now) }
+{
+    let (name, value) = language_variable(family_of(set));
+    let mut entries = Vars::new(alloc);
+    entries.push(name, value)?;
+    entries.extend(env.explicit())?;
+    env.inherited().child_vars(alloc, &entries)
+}
+
+// A command of the compiler with these words.
+fn tool_command(
+    alloc: Global,
+    set: &BuildConfig,
+    env: &BuildEnv,
+    words: &Words,
+) -> Mem<Command>
+    ensures { IfOk result (λ cmd. cmd ≡ record { program = compiler_of set.now; args = words.now; env = tool_env set.now env.now; dir = None }) }
+{
+    let vars = tool_env(alloc, set, env)?;
+    let mut cmd = Command::new(alloc, compiler_of(set))?;
+    cmd.args(words)?;
+    cmd.envs(&vars)?;
     Ok(cmd)
 }
 
-/// The tool of these settings.
+/// The tool of these settings in this environment.
 ///
-/// Refused where the optimisation level, the target or the host isn't set, or the target isn't known.
-pub fn tool_of(alloc: Global, set: &BuildConfig) -> Result<PlainTool, PlanError>
-    ensures tool { IfOk result (λ tool. tool ≡ tool_of set.now) }
-    ensures allowed { OnOk result (tool_refusal set.now ≡ None) }
-    ensures refused { IfErr result (λ e. (e ≡ WantsMemory) ⊎ (tool_refusal set.now ≡ Some e)) }
+/// Refused where the optimisation level, the target or the host is set nowhere, the target isn't known, or a word of the target is
+/// refused.
+#[tactic(auto, unfolding(crate::specs::Refusal::tool_refusal))]
+pub fn tool_of(alloc: Global, set: &BuildConfig, env: &BuildEnv) -> Result<PlainTool, PlanError>
+    ensures tool { IfOk result (λ tool. tool ≡ tool_of set.now env.now) }
+    ensures allowed { OnOk result (tool_refusal set.now env.now ≡ None) }
+    ensures refused { IfErr result (λ e. (e ≡ WantsMemory) ⊎ (tool_refusal set.now env.now ≡ Some e)) }
 {
-    let Some(level) = &set.opt_level else {
-        return Err(not_set(alloc, "OPT_LEVEL"));
-    };
-    check_platform(alloc, set)?;
-    let cmd = tool_command(alloc, set, level.as_str())?;
+    demand(alloc, "OPT_LEVEL", level_of(set, env))?;
+    let target = known_target(alloc, set, env)?;
+    let words = words_of(alloc, set, env, &target)?;
+    demand(alloc, "HOST", host_of(set, env))?;
+    let cmd = tool_command(alloc, set, env, &words)?;
     Ok(PlainTool {
-        family: ToolFamily::Gnu,
+        family: family_of(set),
         cmd,
     })
+}
+
+// The words of the compiler for a target.
+fn words_of(
+    alloc: Global,
+    set: &BuildConfig,
+    env: &BuildEnv,
+    target: &TargetInfo,
+) -> Result<Words, PlanError>
+    requires { info_seen target.now ≡ target_info set.now env.now }
+    ensures words { IfOk result (λ words. words ≡ words_of set.now env.now) }
+    ensures allowed { OnOk result (words_refusal_of set.now env.now ≡ None) }
+    ensures refused { IfErr result (λ e. (e ≡ WantsMemory) ⊎ (words_refusal_of set.now env.now ≡ Some e)) }
+{
+    let environment = environment_flags(alloc, set, env)?;
+    tool_words(
+        alloc,
+        has_no_defaults(set, env),
+        set,
+        env.inherited(),
+        is_cargos_target(set, env),
+        target_of(set, env).unwrap_or(""),
+        target,
+        family_of(set),
+        compiler_of(set),
+        environment.as_ref(),
+    )
 }

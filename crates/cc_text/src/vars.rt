@@ -76,6 +76,16 @@ impl Vars {
         Ok(())
     }
 
+    /// Adds copies of other pairs last. Refused for memory, the list stays as it was.
+    pub fn extend(&mut self, vars: &Vars) -> Mem<()>
+        ensures ok { OnOk result (self.new ≡ self.old ++ vars.now) }
+        ensures err { OnErr result (self.new ≡ self.old) }
+    {
+        let mut copies = vars.try_clone()?.vars;
+        self.vars.append(&mut copies)?;
+        Ok(())
+    }
+
     /// How many pairs there are.
     pub fn len(&self) -> usize
         ensures { result ≡ length self.now }
