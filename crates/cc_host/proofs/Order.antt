@@ -4,7 +4,7 @@ use Rattle.std.specs.List.{list_any}
 use Rattle.std.proofs.Math.Seq.{drop-append_seam}
 use Rattle.std.proofs.lemmas.List.Elements.{Contains-append_cases, Contains-append_left, Contains-append_right}
 use Rattle.cc_host.proofs.Parts.{IsCalm, IsStop, either, done_then, stops_both, calm_then, calm_whole}
-use Rattle.cc_host.specs.Part.{is_success, Step, Runs, Makes, Removes, Prints, step_of, done, stop_of, stops, calm, left, Refuses, StopsAt, IsPartly, runs}
+use Rattle.cc_host.specs.Part.{is_success, Step, Runs, Makes, Removes, Prints, Lists, step_of, done, stop_of, stops, calm, left, Refuses, StopsAt, IsPartly, runs}
 use Rattle.cc_host.specs.Command.{CommandSeen}
 use Rattle.cc_host.specs.declared.event.Role.{Role}
 use Rattle.cc_host.specs.declared.event.Role.TheVariants.{Compile, Archive}
@@ -12,7 +12,7 @@ use Rattle.cc_host.specs.declared.event.Pipes.{Pipes}
 use Rattle.cc_host.specs.declared.event.Status.{Status}
 use Rattle.cc_host.specs.declared.event.Status.TheVariants.{Code, NoCode}
 use Rattle.cc_host.specs.declared.event.Event.{Event}
-use Rattle.cc_host.specs.declared.event.Event.TheVariants.{Ran, Missing, Fault, Made, Removed, Printed}
+use Rattle.cc_host.specs.declared.event.Event.TheVariants.{Ran, Missing, Fault, Made, Removed, Printed, Listed}
 
 -- whatever step this event did or refused passes the test
 abbrev pub IsOnly : (Step → Bool) → Event → Type 0
@@ -113,12 +113,14 @@ ran_refused test role r (Runs at cmd) c pipes status out err all is refusal = ap
 ran_refused test role r (Makes scope path) c pipes status out err all is refusal = absurd refusal
 ran_refused test role r (Removes path) c pipes status out err all is refusal = absurd refusal
 ran_refused test role r (Prints kind bytes) c pipes status out err all is refusal = absurd refusal
+ran_refused test role r Lists c pipes status out err all is refusal = absurd refusal
 
 missing_refused : (test : Step → Bool) (role r : Role) (step : Step) (c : CommandSeen) → ((cmd : CommandSeen) → test (Runs role cmd) ≡ true) → r ≡ role → Refuses step (Missing r c) → test step ≡ true
 missing_refused test role r (Runs at cmd) c all is refusal = ap (λ k. test (Runs k cmd)) (sym refusal.0 ∙ is) ∙ all cmd
 missing_refused test role r (Makes scope path) c all is refusal = absurd refusal
 missing_refused test role r (Removes path) c all is refusal = absurd refusal
 missing_refused test role r (Prints kind bytes) c all is refusal = absurd refusal
+missing_refused test role r Lists c all is refusal = absurd refusal
 
 -- an event of a command of a role is on steps of that role alone
 pub only_of : (test : Step → Bool) (role : Role) (event : Event) → ((cmd : CommandSeen) → test (Runs role cmd) ≡ true) → IsOf role event → IsOnly test event
@@ -133,6 +135,7 @@ only_of test role (Missing r c) all is = (
 only_of test role (Made scope path) all is = absurd is
 only_of test role (Removed path how) all is = absurd is
 only_of test role (Printed kind bytes) all is = absurd is
+only_of test role (Listed vars) all is = absurd is
 only_of test role (Fault call why) all is = absurd is
 
 -- a step that runs a command of the role Archive
@@ -179,6 +182,7 @@ succeeds part role cmd (Missing r c) has e = absurd (cc)
 succeeds part role cmd (Made scope path) has e = absurd (cc)
 succeeds part role cmd (Removed path how) has e = absurd (cc)
 succeeds part role cmd (Printed kind bytes) has e = absurd (cc)
+succeeds part role cmd (Listed vars) has e = absurd (cc)
 succeeds part role cmd (Fault call why) has e = absurd (cc)
 
 -- an event of the part did this step

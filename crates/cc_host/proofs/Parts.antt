@@ -4,11 +4,11 @@ use Rattle.std.proofs.Math.Seq.{drop-append_seam, drop-append-add}
 use Rattle.std.proofs.Math.ListN.{get_or-map}
 use Rattle.std.proofs.lemmas.List.{length-append, length-map, map-append, take-append-drop, take_more, drop_more, take-map, drop-map}
 use Rattle.std.proofs.lemmas.Grind.{flat_map-append}
-use Rattle.cc_host.specs.Part.{since, is_success, Step, Runs, Makes, Removes, Prints, step_of, done, stop_of, stops, calm_of, calm, left, Refuses, StopsAt, IsPartly, IsWhole, runs}
+use Rattle.cc_host.specs.Part.{since, is_success, Step, Runs, Makes, Removes, Prints, Lists, step_of, done, stop_of, stops, calm_of, calm, listing_of, listings, left, Refuses, StopsAt, IsPartly, IsWhole, runs}
 use Rattle.cc_host.specs.Command.{CommandSeen}
 use Rattle.cc_host.specs.declared.event.Role.{Role}
 use Rattle.cc_host.specs.declared.event.Event.{Event}
-use Rattle.cc_host.specs.declared.event.Event.TheVariants.{Ran, Missing, Fault, Made, Removed, Printed}
+use Rattle.cc_host.specs.declared.event.Event.TheVariants.{Ran, Missing, Fault, Made, Removed, Printed, Listed}
 
 -- what was appended is what came since
 pub since_append : (old part : List Event) → since old (old ++ part) ≡ part
@@ -45,6 +45,7 @@ either (Fault call why) = inr (refl, refl, refl)
 either (Made scope path) = inl (refl, refl, (Makes scope path, refl))
 either (Removed path how) = inl (refl, refl, (Removes path, refl))
 either (Printed kind bytes) = inl (refl, refl, (Prints kind bytes, refl))
+either (Listed vars) = inl (refl, refl, (Lists, refl))
 
 pub done_then : (a b : List Event) → done (a ++ b) ≡ done a ++ done b
 done_then a b = flat_map-append step_of a b
@@ -54,6 +55,10 @@ stops_both a b = flat_map-append stop_of a b
 
 pub calm_then : (a b : List Event) → calm (a ++ b) ≡ calm a ++ calm b
 calm_then a b = flat_map-append calm_of a b
+
+-- the variables that two parts list, one after the other
+pub listings_then : (a b : List Event) → listings (a ++ b) ≡ listings a ++ listings b
+listings_then a b = flat_map-append listing_of a b
 
 calm_more : (event : Event) (part : List Event) → (stops part ≡ [] → part ≡ calm part) → stops (event ∷ part) ≡ [] → IsCalm event ⊎ IsStop event → event ∷ part ≡ calm (event ∷ part)
 calm_more event part rest none (inl k) = ap (λ l. event ∷ l) (rest (sym (ap (λ l. l ++ stops part) k.0) ∙ none)) ∙ sym (ap (λ l. l ++ calm part) k.1)

@@ -18,17 +18,19 @@ use Rattle.cc_host.specs.declared.script.Scripted.{Scripted}
 use Rattle.cc_host.specs.declared.calls.Failure.{Failure}
 use Rattle.cc_host.specs.Calls.{calls_of, is_due}
 
--- what a host in memory is seen as: its log, how often it failed, and what it was told of commands and of calls
+-- what a host in memory is seen as: its log, how often it failed, and what it was told of commands, of calls and of
+-- variables
 pub record BenchSeen : Type 0 where
   pub log : List Event
   pub faults : ℕ
   pub scripts : List Scripted
   pub missing : List (List ℕ)
   pub failures : List Failure
+  pub vars : List (List ℕ × List ℕ)
 
 -- a host that was told nothing, before its first call
 abbrev pub fresh : BenchSeen
-fresh = record { log = []; faults = 0; scripts = []; missing = []; failures = [] }
+fresh = record { log = []; faults = 0; scripts = []; missing = []; failures = []; vars = [] }
 
 abbrev pub same_role : Role → Role → Bool
 same_role Compile Compile = true
@@ -75,7 +77,7 @@ abbrev pub Answers : {T : Type 0} → HostCall → T → BenchSeen → BenchSeen
 Answers call answer old new (Ok x) = (fails_next call old ≡ false) × (x ≡ answer) × Keeps old.faults old new
 Answers call answer old new (Err e) = (is_fault e ≡ true → fails_next call old ≡ true) × IsFailure old new e
 
--- a host that was told nothing
+-- a host that was told nothing of commands and of calls
 abbrev pub IsPlain : BenchSeen → Type 0
 IsPlain host = (host.scripts ≡ []) × (host.missing ≡ []) × (host.failures ≡ [])
 
@@ -85,6 +87,6 @@ Gives answer (Ok x) = x ≡ answer
 Gives answer (Err (Failed _ _)) = ⊥
 Gives answer (Err NoMemory) = Unit {0}
 
--- what a command ends with on a host that was told nothing
+-- what a command ends with on such a host
 abbrev pub plain_end : Ran
 plain_end = Done (Code (pos 0)) [] []

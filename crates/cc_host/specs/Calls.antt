@@ -4,9 +4,9 @@ use Rattle.std.specs.List.{list_any}
 use Rattle.cc_host.specs.declared.event.Scope.{Scope}
 use Rattle.cc_host.specs.declared.event.Scope.TheVariants.{Build, Probe}
 use Rattle.cc_host.specs.declared.event.HostCall.{HostCall}
-use Rattle.cc_host.specs.declared.event.HostCall.TheVariants.{Output, MakeDir, Remove, Print}
+use Rattle.cc_host.specs.declared.event.HostCall.TheVariants.{Output, MakeDir, Remove, Print, Vars}
 use Rattle.cc_host.specs.declared.event.Event.{Event}
-use Rattle.cc_host.specs.declared.event.Event.TheVariants.{Ran, Missing, Made, Removed, Printed, Fault}
+use Rattle.cc_host.specs.declared.event.Event.TheVariants.{Ran, Missing, Made, Removed, Printed, Listed, Fault}
 use Rattle.cc_host.specs.declared.calls.Failure.{Failure}
 use Rattle.cc_host.specs.declared.calls.Counts.{Counts}
 
@@ -20,6 +20,7 @@ same_call Output Output = true
 same_call (MakeDir a) (MakeDir b) = same_scope a b
 same_call Remove Remove = true
 same_call Print Print = true
+same_call Vars Vars = true
 same_call _ _ = false
 
 -- the kind of the call that an event is of
@@ -29,6 +30,7 @@ kind_of (Missing role cmd) = Output
 kind_of (Made scope path) = MakeDir scope
 kind_of (Removed path how) = Remove
 kind_of (Printed kind bytes) = Print
+kind_of (Listed vars) = Vars
 kind_of (Fault call why) = call
 
 -- how many calls of the kind a log has
@@ -46,6 +48,7 @@ count_of (MakeDir Build) c = c.build_dirs
 count_of (MakeDir Probe) c = c.probe_dirs
 count_of Remove c = c.removals
 count_of Print c = c.prints
+count_of Vars c = c.listings
 
 abbrev pub plus_one_if : Bool → ℕ → ℕ
 plus_one_if more count = if more then count + 1 else count
@@ -58,6 +61,7 @@ counted call c = record {
   probe_dirs = plus_one_if (same_call (MakeDir Probe) call) c.probe_dirs;
   removals = plus_one_if (same_call Remove call) c.removals;
   prints = plus_one_if (same_call Print call) c.prints;
+  listings = plus_one_if (same_call Vars call) c.listings;
 }
 
 -- these are the counts of this log

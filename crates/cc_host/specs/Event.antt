@@ -14,7 +14,7 @@ use Rattle.cc_host.specs.declared.event.HostError.TheVariants.{Fault as Failed, 
 use Rattle.cc_host.specs.declared.event.Ran.{Ran}
 use Rattle.cc_host.specs.declared.event.Ran.TheVariants.{Missing as Absent, Done}
 use Rattle.cc_host.specs.declared.event.Event.{Event}
-use Rattle.cc_host.specs.declared.event.Event.TheVariants.{Ran as RanTo, Missing, Made, Removed, Printed, Fault}
+use Rattle.cc_host.specs.declared.event.Event.TheVariants.{Ran as RanTo, Missing, Made, Removed, Printed, Listed, Fault}
 
 -- a refused call adds its fault, and nothing where memory is refused
 abbrev pub refused : HostError → List Event
@@ -37,6 +37,10 @@ removed path (Err e) = refused e
 abbrev pub printed : {T : Type 0} → LineKind → List ℕ → Result T HostError → List Event
 printed kind bytes (Ok _) = Printed kind bytes ∷ []
 printed kind bytes (Err e) = refused e
+
+abbrev pub listed : Result (List (List ℕ × List ℕ)) HostError → List Event
+listed (Ok vars) = Listed vars ∷ []
+listed (Err e) = refused e
 
 -- A count rose. One that stands at its last value counts as risen.
 abbrev pub Rose : ℕ → ℕ → Type 0

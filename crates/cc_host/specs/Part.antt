@@ -7,9 +7,9 @@ use Rattle.cc_host.specs.declared.event.Scope.{Scope}
 use Rattle.cc_host.specs.declared.event.LineKind.{LineKind}
 use Rattle.cc_host.specs.declared.event.Status.{Status}
 use Rattle.cc_host.specs.declared.event.Status.TheVariants.{Code}
-use Rattle.cc_host.specs.declared.event.HostCall.TheVariants.{Output, MakeDir, Remove, Print}
+use Rattle.cc_host.specs.declared.event.HostCall.TheVariants.{Output, MakeDir, Remove, Print, Vars}
 use Rattle.cc_host.specs.declared.event.Event.{Event}
-use Rattle.cc_host.specs.declared.event.Event.TheVariants.{Ran, Missing, Fault, Made, Removed, Printed}
+use Rattle.cc_host.specs.declared.event.Event.TheVariants.{Ran, Missing, Fault, Made, Removed, Printed, Listed}
 
 -- the events since an earlier log
 abbrev pub since : List Event → List Event → List Event
@@ -26,8 +26,10 @@ pub data Step : Type 0 where
   Makes : Scope → List ℕ → Step
   Removes : List ℕ → Step
   Prints : LineKind → List ℕ → Step
+  Lists : Step
 
--- the step that an event did: a command that ended with 0, a folder made, a file removed, a line printed
+-- the step that an event did: a command that ended with 0, a folder made, a file removed, a line printed,
+-- the variables listed
 abbrev pub step_of : Event → List Step
 step_of (Ran role cmd pipes status out err) = if is_success status then Runs role cmd ∷ [] else []
 step_of (Missing role cmd) = []
@@ -35,6 +37,7 @@ step_of (Fault call why) = []
 step_of (Made scope path) = Makes scope path ∷ []
 step_of (Removed path how) = Removes path ∷ []
 step_of (Printed kind bytes) = Prints kind bytes ∷ []
+step_of (Listed vars) = Lists ∷ []
 
 -- the steps that were done, in order
 abbrev pub done : List Event → List Step
@@ -48,6 +51,7 @@ stop_of (Fault call why) = Fault call why ∷ []
 stop_of (Made scope path) = []
 stop_of (Removed path how) = []
 stop_of (Printed kind bytes) = []
+stop_of (Listed vars) = []
 
 -- the events that end a run
 abbrev pub stops : List Event → List Event
@@ -61,6 +65,7 @@ calm_of (Fault call why) = []
 calm_of (Made scope path) = Made scope path ∷ []
 calm_of (Removed path how) = Removed path how ∷ []
 calm_of (Printed kind bytes) = Printed kind bytes ∷ []
+calm_of (Listed vars) = Listed vars ∷ []
 
 -- the events that end no run
 abbrev pub calm : List Event → List Event
@@ -78,6 +83,7 @@ Refuses (Runs role cmd) (Fault call why) = call ≡ Output
 Refuses (Makes scope path) (Fault call why) = call ≡ MakeDir scope
 Refuses (Removes path) (Fault call why) = call ≡ Remove
 Refuses (Prints kind bytes) (Fault call why) = call ≡ Print
+Refuses Lists (Fault call why) = call ≡ Vars
 Refuses _ _ = ⊥
 
 -- nothing ended the run, or one event did, which refused the next step
@@ -96,6 +102,15 @@ pub record IsPartly (steps : List Step) (part : List Event) : Type 0 where
 pub record IsWhole (steps : List Step) (part : List Event) : Type 0 where
   pub done_all : done part ≡ steps
   pub unstopped : stops part ≡ []
+
+-- the variables that an event listed
+abbrev pub listing_of : Event → List (List (List ℕ × List ℕ))
+listing_of (Listed vars) = vars ∷ []
+listing_of _ = []
+
+-- the variables that were listed, call by call, in order
+abbrev pub listings : List Event → List (List (List ℕ × List ℕ))
+listings = flat_map listing_of
 
 -- each of these commands, in order
 abbrev pub runs : Role → List CommandSeen → List Step

@@ -1,8 +1,8 @@
 // A host in memory.
 ghost use Rattle.std.specs.Prelude.{◌≡◌, ◌≤◌, [], ◌∷◌, ◌++◌, IfOk, OnOk, OnErr, IfErr};
-ghost use Rattle.cc_host.specs.declared.event.HostCall.TheVariants.{Output, MakeDir, Remove as Removes, Print};
+ghost use Rattle.cc_host.specs.declared.event.HostCall.TheVariants.{Output, MakeDir, Remove as Removes, Print, Vars as ListsVars};
 ghost use Rattle.cc_host.specs.declared.event.Removal.TheVariants.{Absent};
-ghost use Rattle.cc_host.specs.Event.{refused, ran, made, removed, printed, IsCaused, IsSilent};
+ghost use Rattle.cc_host.specs.Event.{refused, ran, made, removed, printed, listed, IsCaused, IsSilent};
 ghost use Rattle.cc_host.specs.Calls.{CountsOf};
 ghost use Rattle.cc_host.specs.Bench.{BenchSeen, fresh, fails_next, answer_to, plain_end, Answers, Gives, IsFailure, IsPlain};
 
@@ -12,7 +12,7 @@ use crate::{
     Command, Event, Host, HostCall, HostError, LineKind, Pipes, Ran, Removal, Role, Scope, Script,
     Why, World,
 };
-use cc_text::{Bytes, Mem, Text, Words};
+use cc_text::{Bytes, Mem, Text, Vars, Words};
 use std::alloc::Global;
 use std::marker::Model;
 
@@ -21,8 +21,8 @@ pub struct Bench;
 
 impl World for Bench {}
 
-/// A host in memory. Commands end as they are scripted, or with 0, and write nothing. No file stands on it. A call faults
-/// only where `fail` was called.
+/// A host in memory. Commands end as they are scripted, or with 0, and write nothing. No file stands on it. Its variables are
+/// those that it was given, none at first. A call faults only where `fail` was called.
 #[derive(Drop)]
 pub struct BenchHost {
     alloc: Global,
@@ -31,13 +31,14 @@ pub struct BenchHost {
     scripts: Vec<Scripted>,
     missing: Words,
     failures: Vec<Failure>,
+    vars: Vars,
     counts: Counts,
 }
 
 impl Model for BenchHost {
     ghost Value = { BenchSeen };
 
-    ghost view = { λ h. record { log = h.events.items; faults = h.faults; scripts = h.scripts.items; missing = h.missing; failures = h.failures.items } };
+    ghost view = { λ h. record { log = h.events.items; faults = h.faults; scripts = h.scripts.items; missing = h.missing; failures = h.failures.items; vars = h.vars } };
 
     ghost invariant = { λ h. CountsOf h.events.items h.counts };
 }
@@ -54,6 +55,7 @@ impl BenchHost {
             scripts: Vec::new(alloc),
             missing: Words::new(alloc),
             failures: Vec::new(alloc),
+            vars: Vars::new(alloc),
             counts: Counts::new(),
         })
     }
@@ -85,6 +87,13 @@ impl BenchHost {
     {
         self.failures.push(Failure { call, nth })?;
         Ok(())
+    }
+
+    /// Gives the host its variables, in place of those that it had.
+    pub fn set_vars(&mut self, vars: Vars)
+        ensures { self.new ≡ record self.old { vars = vars } }
+    {
+        self.vars = vars;
     }
 
     // Whether the next call of the kind is to fail.
@@ -205,6 +214,22 @@ impl Host<Bench> for BenchHost {
         Ok(())
     }
 
+    fn vars(&mut self) -> Result<Vars, HostError>
+        ensures adds { self.new.log ≡ self.old.log ++ listed result }
+        ensures later { self.old.faults ≤ self.new.faults }
+        ensures cause { IfErr result (IsCaused ListsVars self.old.faults self.new.faults) }
+        ensures answers { Answers ListsVars self.old.vars self.old self.new result }
+        ensures plain { IsPlain self.old → IsPlain self.new × Gives self.old.vars result }
+    {
+        if self.fails_next(HostCall::Vars) {
+            return Err(self.fault(HostCall::Vars));
+        }
+        let answer = self.vars.try_clone()?;
+        let vars = self.vars.try_clone()?;
+        self.add(Event::Listed { vars })?;
+        Ok(answer)
+    }
+
     fn log(&self) -> &[Event] {
         &self.events
     }
@@ -270,6 +295,27 @@ mod tests {
         assert_eq!(rt; host.print(LineKind::Link, b"two\n"), Ok(()));
         assert_eq!(rt; host.remove_file("out/a.o"), Ok(Removal::Absent));
         assert_eq!(rt; host.log().len(), 5);
+        Ok(())
+    }
+
+    #[test]
+    fn variables_that_are_set_are_listed(rt: HostRuntime) -> Result<(), Fail> {
+        let alloc = rt.alloc();
+        let mut host = BenchHost::new(alloc)?;
+        assert!(rt; host.vars()?.is_empty());
+        let mut vars = Vars::new(alloc);
+        vars.push("CC", "clang")?;
+        vars.push("CFLAGS", "-O2 -é")?;
+        host.set_vars(vars);
+        host.fail(HostCall::Vars, 3)?;
+        let listed = host.vars()?;
+        assert_eq!(rt; listed.len(), 2);
+        let last = listed.get(1).expect(&rt, "a variable");
+        assert_eq!(rt; last.0.as_str(), "CFLAGS");
+        assert_eq!(rt; last.1.as_str(), "-O2 -é");
+        let refusal = host.vars().err();
+        assert_eq!(rt; refusal, Some(HostError::Fault(HostCall::Vars, Why::Other)));
+        assert_eq!(rt; host.log().len(), 3);
         Ok(())
     }
 }

@@ -20,6 +20,7 @@ pub struct Counts {
     probe_dirs: u64,
     removals: u64,
     prints: u64,
+    listings: u64,
 }
 
 impl Counts {
@@ -33,6 +34,7 @@ impl Counts {
             probe_dirs: 0,
             removals: 0,
             prints: 0,
+            listings: 0,
         }
     }
 
@@ -46,6 +48,7 @@ impl Counts {
             HostCall::MakeDir(Scope::Probe) => self.probe_dirs,
             HostCall::Remove => self.removals,
             HostCall::Print => self.prints,
+            HostCall::Vars => self.listings,
         }
     }
 
@@ -65,6 +68,7 @@ impl Counts {
         );
         self.removals = plus_one_if(self.removals, is_same_call(HostCall::Remove, call));
         self.prints = plus_one_if(self.prints, is_same_call(HostCall::Print, call));
+        self.listings = plus_one_if(self.listings, is_same_call(HostCall::Vars, call));
     }
 }
 
@@ -98,6 +102,7 @@ pub fn kind_of(event: &Event) -> HostCall
         Event::Made { scope, .. } => HostCall::MakeDir(*scope),
         Event::Removed { .. } => HostCall::Remove,
         Event::Printed { .. } => HostCall::Print,
+        Event::Listed { .. } => HostCall::Vars,
         Event::Fault { call, .. } => *call,
     }
 }

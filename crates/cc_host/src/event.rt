@@ -4,7 +4,7 @@ ghost use Rattle.cc_host.specs.Part.{is_success};
 ghost use Rattle.cc_host.specs.declared.event.HostError.TheVariants.{NoMemory as WantsMemory};
 
 use crate::Command;
-use cc_text::{Bytes, NoMemory, Text};
+use cc_text::{Bytes, NoMemory, Text, Vars};
 use std::alloc::AllocFailed;
 
 /// What a command is for.
@@ -102,6 +102,7 @@ pub enum HostCall {
     MakeDir(Scope),
     Remove,
     Print,
+    Vars,
 }
 
 /// Why a call faulted.
@@ -180,6 +181,10 @@ pub enum Event {
     Printed {
         kind: LineKind,
         bytes: Bytes,
+    },
+    /// The variables of the host's own environment were listed.
+    Listed {
+        vars: Vars,
     },
     /// A call faulted, and did nothing.
     Fault {

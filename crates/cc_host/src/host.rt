@@ -1,10 +1,11 @@
 // A host: what runs commands, keeps files and prints. Each call appends to the host's log what it did.
 ghost use Rattle.std.specs.Prelude.{◌≡◌, ◌≤◌, ◌++◌, List, ℕ, IfOk, IfErr};
 ghost use Rattle.cc_host.specs.declared.event.Event.{Event};
-ghost use Rattle.cc_host.specs.declared.event.HostCall.TheVariants.{Output, MakeDir, Remove, Print};
-ghost use Rattle.cc_host.specs.Event.{ran, made, removed, printed, IsCaused, IsSilent};
+ghost use Rattle.cc_host.specs.declared.event.HostCall.TheVariants.{Output, MakeDir, Remove, Print, Vars as ListsVars};
+ghost use Rattle.cc_host.specs.Event.{ran, made, removed, printed, listed, IsCaused, IsSilent};
 
 use crate::{Command, Event, HostError, LineKind, Pipes, Ran, Removal, Role, Scope};
+use cc_text::Vars;
 
 /// Names the answers of a world.
 pub trait World: Send + Sync {}
@@ -43,6 +44,12 @@ pub trait Host<W: World> {
         ensures adds { log self.new ≡ log self.old ++ printed kind bytes.now result }
         ensures later { faults self.old ≤ faults self.new }
         ensures cause { IfErr result (IsCaused Print (faults self.old) (faults self.new)) };
+
+    /// Lists the variables of the host's own environment.
+    fn vars(&mut self) -> Result<Vars, HostError>
+        ensures adds { log self.new ≡ log self.old ++ listed result }
+        ensures later { faults self.old ≤ faults self.new }
+        ensures cause { IfErr result (IsCaused ListsVars (faults self.old) (faults self.new)) };
 
     /// The events so far, oldest first, lent.
     fn log(&self) -> &[Event]

@@ -3,7 +3,7 @@ use Rattle.std.proofs.lemmas.List.Sums.{count_by-le-length}
 use Rattle.std.proofs.lemmas.Grind.{common_steps}
 use Rattle.cc_host.specs.declared.event.Event.{Event}
 use Rattle.cc_host.specs.declared.event.HostCall.{HostCall}
-use Rattle.cc_host.specs.declared.event.HostCall.TheVariants.{Output, MakeDir, Remove, Print}
+use Rattle.cc_host.specs.declared.event.HostCall.TheVariants.{Output, MakeDir, Remove, Print, Vars}
 use Rattle.cc_host.specs.declared.event.Scope.TheVariants.{Build, Probe}
 use Rattle.cc_host.specs.declared.calls.Counts.{Counts}
 use Rattle.cc_host.specs.Calls.{calls_of, kind_of, same_call, count_of, counted, plus_one_if}
@@ -23,6 +23,7 @@ count-counted (MakeDir Build) call c = refl
 count-counted (MakeDir Probe) call c = refl
 count-counted Remove call c = refl
 count-counted Print call c = refl
+count-counted Vars call c = refl
 
 pub count-requires : goal.count-requires
 count-requires c =

@@ -1,5 +1,5 @@
 use Rattle.std.proofs.Common.{arith}
-use Rattle.cc_host.specs.declared.event.HostCall.TheVariants.{Output, MakeDir, Remove, Print}
+use Rattle.cc_host.specs.declared.event.HostCall.TheVariants.{Output, MakeDir, Remove, Print, Vars}
 use Rattle.cc_host.specs.declared.event.Scope.TheVariants.{Build, Probe}
 use Rattle.cc_host.proofs.calls.Counts.count.Goals as goal
 
@@ -17,3 +17,6 @@ plus_one_if-self-requires-4 c = omega (arith, c.requires Remove)
 
 pub plus_one_if-self-requires-5 : goal.plus_one_if-self-requires-5
 plus_one_if-self-requires-5 c = omega (arith, c.requires Print)
+
+pub plus_one_if-self-requires-6 : goal.plus_one_if-self-requires-6
+plus_one_if-self-requires-6 c = omega (arith, c.requires Vars)
