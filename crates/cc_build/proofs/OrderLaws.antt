@@ -2,16 +2,20 @@
 use Rattle.std.proofs.Common.{◌≡◌, ◌⊎◌, ◌+◌, inl, inr, arith, ℕ, List, [], ◌∷◌, ◌++◌, length, Option, Result, Ok, Err, Bool, true, false, ◌||◌, if◌then◌else◌, is_some, refl, sym, ◌∙◌, ap, subst, append_assoc, append-nil}
 use Rattle.std.proofs.lemmas.List.{length-append}
 use Rattle.std.specs.List.{list_any}
-use Rattle.cc_host.specs.Part.{Step, done, left, IsPartly}
+use Rattle.cc_host.specs.Part.{Step, runs, done, left, IsPartly}
 use Rattle.cc_host.specs.Part.Step.{Makes}
 use Rattle.cc_host.specs.declared.event.Event.{Event}
-use Rattle.cc_host.specs.declared.event.Event.TheVariants.{Ran, Missing, Fault, Made, Removed, Printed}
+use Rattle.cc_host.specs.declared.event.Event.TheVariants.{Ran, Missing, Fault, Made, Removed, Printed, Listed}
 use Rattle.cc_host.specs.declared.event.Role.TheVariants.{Compile, Archive, Index, Expand}
 use Rattle.cc_host.specs.declared.event.Scope.TheVariants.{Build}
 use Rattle.cc_host.proofs.Order.{IsOf, is_archive, archives_after, compiles_alone}
 use Rattle.cc_host.proofs.Parts.{done_then, partly_more, partly_whole}
+use Rattle.cc_env.specs.Env.{EnvSeen}
 use Rattle.cc_plan.specs.declared.settings.BuildConfig.{BuildConfig}
-use Rattle.cc_plan.specs.Plan.{dir_of, compiles_of, folder_steps, compile_steps, late_steps, planned_steps, removal_steps, archive_steps, index_steps, link_steps}
+use Rattle.cc_host.specs.declared.event.LineKind.{LineKind}
+use Rattle.cc_host.specs.declared.event.LineKind.TheVariants.{Warning}
+use Rattle.cc_plan.specs.Given.{is_disabled}
+use Rattle.cc_plan.specs.Plan.{dir_of, warning_lines, prints, compiles_of, folder_steps, compile_steps, late_steps, planned_steps, removal_steps, archive_steps, index_steps, link_steps}
 use Rattle.cc_plan.specs.Refusal.{early_refusal, late_refusal, is_empty}
 use Rattle.cc_build.specs.Error.{ErrorSeen}
 use Rattle.cc_build.specs.Order.{is_archive_event, ArchivesLast}
@@ -31,6 +35,7 @@ of_archive (Made scope path) is = absurd (cc)
 of_archive (Removed path how) is = absurd (cc)
 of_archive (Printed kind bytes) is = absurd (cc)
 of_archive (Fault call why) is = absurd (cc)
+of_archive (Listed vars) is = absurd (cc)
 
 or_rest : (t more whole : Bool) → (t || more) ≡ false → (more ≡ false → whole ≡ false) → (t || whole) ≡ false
 or_rest true more whole e rest = absurd (cc)
@@ -56,46 +61,60 @@ no_archive steps part before after event p none is of =
     longer steps step behind.0 (done (event ∷ after) ++ left steps part)
     (cut ∙ append_assoc (done before) (done (event ∷ after)) (left steps part) ∙ ap (λ l. l ++ (done (event ∷ after) ++ left steps part)) behind.1)
 
-no_folder_archives : (set : BuildConfig) → list_any is_archive (folder_steps set) ≡ false
+no_folder_archives : (set : BuildConfig) (env : EnvSeen) → list_any is_archive (folder_steps set env) ≡ false
 unfolding folder_steps
-no_folder_archives set = by_files (is_empty set.files)
+no_folder_archives set env = by_files (is_empty set.files)
   where
-    by_files : (empty : Bool) → list_any is_archive (if empty then [] else Makes Build (dir_of set) ∷ []) ≡ false
+    by_files : (empty : Bool) → list_any is_archive (if empty then [] else Makes Build (dir_of set env) ∷ []) ≡ false
     by_files true = refl
     by_files false = refl
 
-no_compile_archives : (set : BuildConfig) → list_any is_archive (compile_steps set) ≡ false
+no_line_archives : (kind : LineKind) (lines : List (List ℕ)) → list_any is_archive (prints kind lines) ≡ false
+unfolding prints
+no_line_archives kind [] = refl
+no_line_archives kind (line ∷ lines) = no_line_archives kind lines
+
+no_compile_archives : (set : BuildConfig) (env : EnvSeen) → list_any is_archive (compile_steps set env) ≡ false
 unfolding compile_steps
-no_compile_archives set = compiles_alone (compiles_of set)
+no_compile_archives set env = none_both (prints Warning (warning_lines set env)) (runs Compile (compiles_of set env)) (no_line_archives Warning (warning_lines set env)) (compiles_alone (compiles_of set env))
 
 -- these steps begin with those of the folder and the sources, or none of them archives
-abbrev IsOrdered : (folder compile steps : List Step) → Type 0
+abbrev pub IsOrdered : (folder compile steps : List Step) → Type 0
 IsOrdered folder compile steps = ((rest : List Step) × (steps ≡ (folder ++ compile) ++ rest)) ⊎ (list_any is_archive steps ≡ false)
 
-by_checks : (early late : Bool) (folder compile more : List Step) → list_any is_archive folder ≡ false → IsOrdered folder compile (if early then [] else folder ++ (if late then [] else compile ++ more))
-by_checks true late folder compile more none = inr refl
-by_checks false true folder compile more none = inr (none_both folder [] none refl)
-by_checks false false folder compile more none = inl (more, sym (append_assoc folder compile more))
+by_checks : (early disabled late : Bool) (folder compile more : List Step) → list_any is_archive folder ≡ false → IsOrdered folder compile (if early then [] else folder ++ (if disabled then [] else (if late then [] else compile ++ more)))
+by_checks true disabled late folder compile more none = inr refl
+by_checks false true late folder compile more none = inr (none_both folder [] none refl)
+by_checks false false true folder compile more none = inr (none_both folder [] none refl)
+by_checks false false false folder compile more none = inl (more, sym (append_assoc folder compile more))
 
-planned : (set : BuildConfig) (output : List ℕ) → IsOrdered (folder_steps set) (compile_steps set) (planned_steps set output)
+pub planned : (set : BuildConfig) (env : EnvSeen) (output : List ℕ) → IsOrdered (folder_steps set env) (compile_steps set env) (planned_steps set env output)
 unfolding planned_steps late_steps
-planned set output =
-    by_checks (is_some (early_refusal set output)) (is_some (late_refusal set)) (folder_steps set) (compile_steps set)
-    (removal_steps set output ++ (archive_steps set output ++ (index_steps set output ++ link_steps set output)))
-    (no_folder_archives set)
+planned set env output =
+    by_checks (is_some (early_refusal set env output)) (is_disabled env) (is_some (late_refusal set env)) (folder_steps set env) (compile_steps set env)
+    (removal_steps set env output ++ (archive_steps set env output ++ (index_steps set env output ++ link_steps set env output)))
+    (no_folder_archives set env)
 
 begun : {T : Type 0} (refusal : Option ErrorSeen) (steps : List Step) (part : List Event) (r : Result T ErrorSeen) → Outcome refusal steps part r → IsPartly steps part
 begun refusal steps part (Ok x) o = partly_whole steps part o.1
 begun refusal steps part (Err e) o = o.0
 
-archives_last : (set : BuildConfig) (steps : List Step) (part : List Event) → IsPartly steps part → IsOrdered (folder_steps set) (compile_steps set) steps → ArchivesLast set part
-archives_last set steps part p (inl k) = λ before after event is archives.
-    archives_after (folder_steps set ++ compile_steps set) k.0 part before after event (subst (λ (l : List Step). IsPartly l part) k.1 p)
-    (none_both (folder_steps set) (compile_steps set) (no_folder_archives set) (no_compile_archives set)) is (of_archive event archives)
-archives_last set steps part p (inr none) = λ before after event is archives.
-    absurd (no_archive steps part before after event p none is (of_archive event archives))
+-- a part of steps that begin with these archives behind them, if it archives at all
+pub archives_behind : (first steps : List Step) (part : List Event) → list_any is_archive first ≡ false → IsPartly steps part → ((rest : List Step) × (steps ≡ first ++ rest)) ⊎ (list_any is_archive steps ≡ false) → (before after : List Event) (event : Event) → part ≡ before ++ event ∷ after → is_archive_event event ≡ true → (rest : List Step) × (done before ≡ first ++ rest)
+archives_behind first steps part none p (inl k) before after event is archives =
+    archives_after first k.0 part before after event (subst (λ (l : List Step). IsPartly l part) k.1 p) none is (of_archive event archives)
+archives_behind first steps part none p (inr alone) before after event is archives =
+    absurd (no_archive steps part before after event p alone is (of_archive event archives))
+
+-- neither the folder nor the sources archive
+pub no_source_archives : (set : BuildConfig) (env : EnvSeen) → list_any is_archive (folder_steps set env ++ compile_steps set env) ≡ false
+no_source_archives set env = none_both (folder_steps set env) (compile_steps set env) (no_folder_archives set env) (no_compile_archives set env)
+
+archives_last : (set : BuildConfig) (env : EnvSeen) (steps : List Step) (part : List Event) → IsPartly steps part → IsOrdered (folder_steps set env) (compile_steps set env) steps → ArchivesLast set env part
+archives_last set env steps part p k = λ before after event is archives.
+    archives_behind (folder_steps set env ++ compile_steps set env) steps part (no_source_archives set env) p k before after event is archives
 
 -- a compile run archives behind the folder and all sources
-pub ordered : {T : Type 0} (set : BuildConfig) (output : List ℕ) (part : List Event) (r : Result T ErrorSeen) → Outcome (refusal_error set output) (planned_steps set output) part r → ArchivesLast set part
-ordered set output part r o =
-    archives_last set (planned_steps set output) part (begun (refusal_error set output) (planned_steps set output) part r o) (planned set output)
+pub ordered : {T : Type 0} (set : BuildConfig) (env : EnvSeen) (output : List ℕ) (part : List Event) (r : Result T ErrorSeen) → Outcome (refusal_error set env output) (planned_steps set env output) part r → ArchivesLast set env part
+ordered set env output part r o =
+    archives_last set env (planned_steps set env output) part (begun (refusal_error set env output) (planned_steps set env output) part r o) (planned set env output)

@@ -4,7 +4,7 @@ use Rattle.cc_host.specs.Part.{Step, step_of, stop_of, done, stops, is_success, 
 use Rattle.cc_host.specs.Part.Step.{Runs, Removes}
 use Rattle.cc_host.specs.Command.{CommandSeen}
 use Rattle.cc_host.specs.declared.event.Event.{Event}
-use Rattle.cc_host.specs.declared.event.Event.TheVariants.{Ran, Missing, Fault, Made, Removed, Printed}
+use Rattle.cc_host.specs.declared.event.Event.TheVariants.{Ran, Missing, Fault, Made, Removed, Printed, Listed}
 use Rattle.cc_host.specs.declared.event.Removal.{Removal}
 use Rattle.cc_host.specs.declared.event.Role.{Role}
 use Rattle.cc_host.proofs.Parts.{either, IsCalm, IsStop}
@@ -69,6 +69,7 @@ removal path (Missing role cmd ∷ part) w = let e = w.unstopped in absurd (cc)
 removal path (Fault call why ∷ part) w = let e = w.unstopped in absurd (cc)
 removal path (Made scope folder ∷ part) w = let e = w.done_all in absurd (cc)
 removal path (Printed kind bytes ∷ part) w = let e = w.done_all in absurd (cc)
+removal path (Listed vars ∷ part) w = let e = w.done_all in absurd (cc)
 removal path (Removed file how ∷ part) w =
     let e = w.done_all in
     let same : file ≡ path = cc in

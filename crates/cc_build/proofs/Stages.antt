@@ -1,65 +1,72 @@
 -- How the checks of settings and the stages of a plan make up a compile run.
-use Rattle.std.proofs.Common.{◌≡◌, ◌⊎◌, inl, inr, ℕ, List, [], ◌∷◌, ◌++◌, Option, Some, None, Result, refl, sym, ◌∙◌, ap, subst}
+use Rattle.std.proofs.Common.{◌≡◌, ◌⊎◌, inl, inr, ℕ, List, [], ◌∷◌, ◌++◌, Option, Some, None, Bool, true, false, Result, refl, sym, ◌∙◌, ap, subst}
 use Rattle.std.specs.Option.{option_map}
 use Rattle.cc_host.specs.Command.{CommandSeen}
 use Rattle.cc_host.specs.Part.{Step, runs, IsPartly}
 use Rattle.cc_host.specs.Part.Step.{Removes}
 use Rattle.cc_host.specs.declared.event.Event.{Event}
-use Rattle.cc_host.specs.declared.event.LineKind.TheVariants.{Link}
+use Rattle.cc_host.specs.declared.event.LineKind.TheVariants.{Link, Warning}
 use Rattle.cc_host.specs.declared.event.Role.TheVariants.{Archive, Compile, Index}
 use Rattle.cc_host.proofs.Parts.{partly_none}
+use Rattle.cc_env.specs.Env.{EnvSeen}
 use Rattle.cc_plan.specs.declared.settings.BuildConfig.{BuildConfig}
 use Rattle.cc_plan.specs.declared.error.PlanError.{PlanError}
 use Rattle.cc_plan.specs.declared.error.PlanError.TheVariants.{NoMemory as WantsMemory}
-use Rattle.cc_plan.specs.Plan.{library_of, compiles_of, archives_of, indexes_of, link_lines, prints, folder_steps, compile_steps, removal_steps, archive_steps, index_steps, link_steps, run_steps, late_steps, planned_steps}
-use Rattle.cc_plan.specs.Refusal.{refusal, first_of, early_refusal, late_refusal}
+use Rattle.cc_plan.specs.Given.{is_disabled}
+use Rattle.cc_plan.specs.Plan.{warning_lines, library_of, compiles_of, archives_of, indexes_of, link_lines, prints, folder_steps, compile_steps, removal_steps, archive_steps, index_steps, link_steps, run_steps, late_steps, planned_steps}
+use Rattle.cc_plan.specs.Refusal.{first_of, early_refusal, late_refusal}
 use Rattle.cc_build.specs.Error.{ErrorSeen, no_memory}
 use Rattle.cc_build.specs.Outcome.{IsRefused, Outcome}
-use Rattle.cc_build.specs.Refusal.{plan_error, refusal_error, late_error}
+use Rattle.cc_build.specs.Refusal.{plan_error, disabled_error, refusal_error, early_error, late_error}
 
 -- the error of a refused plan, by its cause
-pub plan_cause : (set : BuildConfig) (output : List ℕ) (error : PlanError) (e : ErrorSeen) (r : Option PlanError) → (e ≡ no_memory) ⊎ (e ≡ plan_error set output error) → (error ≡ WantsMemory) ⊎ (r ≡ Some error) → (e ≡ no_memory) ⊎ (option_map (plan_error set output) r ≡ Some e)
+pub plan_cause : (set : BuildConfig) (env : EnvSeen) (output : List ℕ) (error : PlanError) (e : ErrorSeen) (r : Option PlanError) → (e ≡ no_memory) ⊎ (e ≡ plan_error set env output error) → (error ≡ WantsMemory) ⊎ (r ≡ Some error) → (e ≡ no_memory) ⊎ (option_map (plan_error set env output) r ≡ Some e)
 unfolding plan_error
-plan_cause set output error e r (inl memory) cause = inl memory
-plan_cause set output error e r (inr is) (inl wants) = inl (is ∙ ap (plan_error set output) wants)
-plan_cause set output error e r (inr is) (inr refused) = inr (ap (option_map (plan_error set output)) refused ∙ ap Some (sym is))
+plan_cause set env output error e r (inl memory) cause = inl memory
+plan_cause set env output error e r (inr is) (inl wants) = inl (is ∙ ap (plan_error set env output) wants)
+plan_cause set env output error e r (inr is) (inr refused) = inr (ap (option_map (plan_error set env output)) refused ∙ ap Some (sym is))
 
 -- nothing was asked, and the error has its cause
 pub refused_none : (refusal : Option ErrorSeen) (steps : List Step) (part : List Event) (e : ErrorSeen) → part ≡ [] → (e ≡ no_memory) ⊎ (refusal ≡ Some e) → IsRefused refusal steps part e
 refused_none refusal steps part e none (inl memory) = (subst (λ (p : List Event). IsPartly steps p) (sym none) (partly_none steps), inl memory)
 refused_none refusal steps part e none (inr refused) = (subst (λ (p : List Event). IsPartly steps p) (sym none) (partly_none steps), inr (inl refused))
 
--- a refusal of the first checks is that of all
-pub early_first : (set : BuildConfig) (output : List ℕ) (error : PlanError) → (error ≡ WantsMemory) ⊎ (early_refusal set output ≡ Some error) → (error ≡ WantsMemory) ⊎ (refusal set output ≡ Some error)
-early_first set output error (inl wants) = inl wants
-early_first set output error (inr refused) = inr (ap (λ r. first_of r (late_refusal set)) refused)
+-- an error of the first checks is that of all
+pub early_first : (set : BuildConfig) (env : EnvSeen) (output : List ℕ) (e : ErrorSeen) → (e ≡ no_memory) ⊎ (early_error set env output ≡ Some e) → (e ≡ no_memory) ⊎ (refusal_error set env output ≡ Some e)
+early_first set env output e (inl memory) = inl memory
+early_first set env output e (inr refused) = inr (ap (λ r. first_of r (late_error set env output)) refused)
 
 -- where the first checks pass, the later ones decide
-pub late_decides : (set : BuildConfig) (output : List ℕ) → early_refusal set output ≡ None → late_error set output ≡ refusal_error set output
-late_decides set output passed = ap (λ r. option_map (plan_error set output) (first_of r (late_refusal set))) (sym passed)
+pub late_decides : (set : BuildConfig) (env : EnvSeen) (output : List ℕ) → early_refusal set env output ≡ None → late_error set env output ≡ refusal_error set env output
+late_decides set env output passed = ap (λ r. first_of (option_map (plan_error set env output) r) (late_error set env output)) (sym passed)
 
 -- where the first checks pass, the folder and the rest are planned
-pub early_passed : (set : BuildConfig) (output : List ℕ) → early_refusal set output ≡ None → folder_steps set ++ late_steps set output ≡ planned_steps set output
+pub early_passed : (set : BuildConfig) (env : EnvSeen) (output : List ℕ) → early_refusal set env output ≡ None → folder_steps set env ++ late_steps set env output ≡ planned_steps set env output
 unfolding planned_steps
-early_passed set output passed = rw passed refl
+early_passed set env output passed = rw passed refl
 
 -- where the later checks pass too, the whole run is planned
-pub late_passed : (set : BuildConfig) (output : List ℕ) → late_refusal set ≡ None → run_steps set output ≡ late_steps set output
+pub late_passed : (set : BuildConfig) (env : EnvSeen) (output : List ℕ) → is_disabled env ≡ false → late_refusal set env ≡ None → run_steps set env output ≡ late_steps set env output
 unfolding late_steps
-late_passed set output passed = rw passed refl
+late_passed set env output enabled passed = rw (enabled, passed) refl
 
-pub no_late_error : (set : BuildConfig) (output : List ℕ) → late_refusal set ≡ None → late_error set output ≡ None
-no_late_error set output passed = ap (option_map (plan_error set output)) passed
+pub no_late_error : (set : BuildConfig) (env : EnvSeen) (output : List ℕ) → is_disabled env ≡ false → late_refusal set env ≡ None → late_error set env output ≡ None
+no_late_error set env output enabled passed = rw (enabled, passed) refl
+
+-- where commands may run, an error of the later checks is that of the refused plan
+pub late_refused : (set : BuildConfig) (env : EnvSeen) (output : List ℕ) (e : ErrorSeen) → is_disabled env ≡ false → (e ≡ no_memory) ⊎ (option_map (plan_error set env output) (late_refusal set env) ≡ Some e) → (e ≡ no_memory) ⊎ (late_error set env output ≡ Some e)
+late_refused set env output e enabled (inl memory) = inl memory
+late_refused set env output e enabled (inr refused) = inr (rw enabled refused)
+
+-- where no command may run, that is the error
+pub late_disabled : (set : BuildConfig) (env : EnvSeen) (output : List ℕ) (e : ErrorSeen) → is_disabled env ≡ true → (e ≡ no_memory) ⊎ (e ≡ disabled_error) → (e ≡ no_memory) ⊎ (late_error set env output ≡ Some e)
+late_disabled set env output e disabled (inl memory) = inl memory
+late_disabled set env output e disabled (inr is) = inr (rw disabled (ap Some (sym is)))
 
 -- the stages of a plan are the planned steps
-pub stages : (set : BuildConfig) (output : List ℕ) (compiles archives indexes : List CommandSeen) (lines : List (List ℕ)) (library : List ℕ) → compiles ≡ compiles_of set → archives ≡ archives_of set output → indexes ≡ indexes_of set output → lines ≡ link_lines set output → library ≡ library_of set output → runs Compile compiles ++ ((Removes library ∷ []) ++ (runs Archive archives ++ (runs Index indexes ++ prints Link lines))) ≡ run_steps set output
+pub stages : (set : BuildConfig) (env : EnvSeen) (output : List ℕ) (warnings : List (List ℕ)) (compiles archives indexes : List CommandSeen) (lines : List (List ℕ)) (library : List ℕ) → warnings ≡ warning_lines set env → compiles ≡ compiles_of set env → archives ≡ archives_of set env output → indexes ≡ indexes_of set env output → lines ≡ link_lines set env output → library ≡ library_of set env output → (prints Warning warnings ++ runs Compile compiles) ++ ((Removes library ∷ []) ++ (runs Archive archives ++ (runs Index indexes ++ prints Link lines))) ≡ run_steps set env output
 unfolding compile_steps removal_steps archive_steps index_steps link_steps
-stages set output compiles archives indexes lines library e1 e2 e3 e4 e5 =
-    ap (λ l. runs Compile l ++ ((Removes library ∷ []) ++ (runs Archive archives ++ (runs Index indexes ++ prints Link lines)))) e1
-    ∙ ap (λ l. runs Compile (compiles_of set) ++ ((Removes l ∷ []) ++ (runs Archive archives ++ (runs Index indexes ++ prints Link lines)))) e5
-    ∙ ap (λ l. runs Compile (compiles_of set) ++ ((Removes (library_of set output) ∷ []) ++ (runs Archive l ++ (runs Index indexes ++ prints Link lines)))) e2
-    ∙ ap (λ l. runs Compile (compiles_of set) ++ ((Removes (library_of set output) ∷ []) ++ (runs Archive (archives_of set output) ++ (runs Index l ++ prints Link lines)))) e3
-    ∙ ap (λ l. runs Compile (compiles_of set) ++ ((Removes (library_of set output) ∷ []) ++ (runs Archive (archives_of set output) ++ (runs Index (indexes_of set output) ++ prints Link l)))) e4
+stages set env output warnings compiles archives indexes lines library e0 e1 e2 e3 e4 e5 = rw (e0, e1, e2, e3, e4, e5) refl
 
 -- an outcome by other names
 pub renamed : {T : Type 0} (refusal refusal' : Option ErrorSeen) (steps steps' : List Step) (part : List Event) (r : Result T ErrorSeen) → refusal ≡ refusal' → steps ≡ steps' → Outcome refusal steps part r → Outcome refusal' steps' part r

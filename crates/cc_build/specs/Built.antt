@@ -1,25 +1,32 @@
 -- What the part of a compile run that answers Ok is.
-use Rattle.std.specs.Prelude.{◌≡◌, ℕ, List, ◌∷◌, ◌++◌, None}
+use Rattle.std.specs.Prelude.{◌≡◌, ℕ, List, ◌∷◌, ◌++◌, None, false}
+use Rattle.cc_env.specs.Env.{EnvSeen}
 use Rattle.cc_host.specs.Part.{IsWhole}
 use Rattle.cc_host.specs.declared.event.Removal.{Removal}
 use Rattle.cc_host.specs.declared.event.Event.{Event}
 use Rattle.cc_host.specs.declared.event.Event.TheVariants.{Removed}
 use Rattle.cc_plan.specs.declared.settings.BuildConfig.{BuildConfig}
 use Rattle.cc_plan.specs.Plan.{library_of, folder_steps, compile_steps, archive_steps, index_steps, link_steps}
-use Rattle.cc_plan.specs.Refusal.{refusal}
+use Rattle.cc_plan.specs.Given.{is_disabled}
+use Rattle.cc_plan.specs.Refusal.{early_refusal, late_refusal}
+
+-- Nothing refuses these settings.
+pub record Accepted (set : BuildConfig) (env : EnvSeen) (output : List ℕ) : Type 0 where
+  pub early : early_refusal set env output ≡ None
+  pub enabled : is_disabled env ≡ false
+  pub late : late_refusal set env ≡ None
 
 -- The part is cut at the removal of the old library, and before the link lines.
-pub record Built (set : BuildConfig) (output : List ℕ) (part : List Event) : Type 0 where
-  -- the settings are not refused
-  pub accepted : refusal set output ≡ None
+pub record Built (set : BuildConfig) (env : EnvSeen) (output : List ℕ) (part : List Event) : Type 0 where
+  pub accepted : Accepted set env output
   pub runs : List Event
   pub how : Removal
   pub archives : List Event
   pub lines : List Event
-  pub cut : part ≡ runs ++ Removed (library_of set output) how ∷ archives ++ lines
-  -- the folder was made, and one planned command per source ended with 0, in the order added
-  pub compiled : IsWhole (folder_steps set ++ compile_steps set) runs
+  pub cut : part ≡ runs ++ Removed (library_of set env output) how ∷ archives ++ lines
+  -- the folder was made, the warnings were printed, and one planned command per source ended with 0, in the order added
+  pub compiled : IsWhole (folder_steps set env ++ compile_steps set env) runs
   -- the planned archive and then index commands ended with 0
-  pub archived : IsWhole (archive_steps set output ++ index_steps set output) archives
+  pub archived : IsWhole (archive_steps set env output ++ index_steps set env output) archives
   -- exactly the link lines were printed
-  pub linked : IsWhole (link_steps set output) lines
+  pub linked : IsWhole (link_steps set env output) lines

@@ -1,8 +1,11 @@
+pub mod Build
 pub mod Built
+pub mod Captured
 pub mod Error
 pub mod ErrorFields
 pub mod ErrorText
 pub mod Failed
+pub mod Flags
 pub mod Order
 pub mod Outcome
 pub mod Refusal

@@ -1,15 +1,15 @@
 -- The errors of refused settings, with the texts of their messages.
-use Rattle.std.specs.Prelude.{ℕ, List, [], ◌++◌, Option, unwrap_or, slice_get, codes}
+use Rattle.std.specs.Prelude.{ℕ, List, [], ◌++◌, Option, Some, unwrap_or, slice_get, codes, if◌then◌else◌}
 use Rattle.std.specs.Option.{option_map}
+use Rattle.cc_env.specs.Env.{EnvSeen}
 use Rattle.cc_plan.specs.declared.error.ArgumentCause.{ArgumentCause}
 use Rattle.cc_plan.specs.declared.error.ArgumentCause.TheVariants.{Output, OutDir, NoFileName, SameObject}
 use Rattle.cc_plan.specs.declared.error.PlanError.{PlanError}
-use Rattle.cc_plan.specs.declared.error.PlanError.TheVariants.{Argument, NotSet, UnknownTarget, NoMemory as WantsMemory}
+use Rattle.cc_plan.specs.declared.error.PlanError.TheVariants.{Argument, NotSet, UnknownTarget, QnxArch, NoMemory as WantsMemory}
 use Rattle.cc_plan.specs.declared.settings.BuildConfig.{BuildConfig}
-use Rattle.cc_plan.specs.Object.{object_path}
-use Rattle.cc_plan.specs.Plan.{dir_of}
-use Rattle.cc_plan.specs.Refusal.{refusal, early_refusal, late_refusal}
-use Rattle.cc_build.specs.declared.error.ErrorKind.TheVariants.{InvalidArgument, EnvVarNotFound, UnknownTarget as IsUnknown}
+use Rattle.cc_plan.specs.Given.{is_disabled}
+use Rattle.cc_plan.specs.Refusal.{first_of, object_in, early_refusal, late_refusal}
+use Rattle.cc_build.specs.declared.error.ErrorKind.TheVariants.{InvalidArgument, InvalidTarget, EnvVarNotFound, Disabled, UnknownTarget as IsUnknown}
 use Rattle.cc_build.specs.Error.{ErrorSeen, no_memory}
 
 abbrev pub source_at : BuildConfig → ℕ → List ℕ
@@ -27,26 +27,36 @@ unset_error name = record { kind = EnvVarNotFound; subject = name; message = cod
 abbrev pub unknown_error : List ℕ → ErrorSeen
 unknown_error target = record { kind = IsUnknown; subject = target; message = codes "unknown target " ++ target }
 
-abbrev pub argument_error : BuildConfig → List ℕ → ArgumentCause → ErrorSeen
-argument_error set output Output = invalid output (codes "argument must be a single normal path component")
-argument_error set output OutDir = invalid [] (codes "out dir must not be empty")
-argument_error set output (NoFileName place) = invalid (source_at set place) (codes "No file_name for object file path!")
-argument_error set output (SameObject first second) = same_object_error (object_path (dir_of set) (source_at set second))
+-- an architecture that the QNX compilers have no name for
+abbrev pub qnx_error : List ℕ → ErrorSeen
+qnx_error arch = record { kind = InvalidTarget; subject = arch; message = codes "Unknown architecture for Neutrino QNX: " ++ arch }
+
+-- no command may run; it is about the variable that says so
+abbrev pub disabled_error : ErrorSeen
+disabled_error = record { kind = Disabled; subject = codes "CC_FORCE_DISABLE"; message = codes "cc has been disabled by CC_FORCE_DISABLE" }
+
+abbrev pub argument_error : BuildConfig → EnvSeen → List ℕ → ArgumentCause → ErrorSeen
+argument_error set env output Output = invalid output (codes "argument must be a single normal path component")
+argument_error set env output OutDir = invalid [] (codes "out dir must not be empty")
+argument_error set env output (NoFileName place) = invalid (source_at set place) (codes "No file_name for object file path!")
+argument_error set env output (SameObject first second) = same_object_error (object_in set env (source_at set second))
 
 -- the error of a refusal, for a compile run of these settings with this output
-unfoldable pub plan_error : BuildConfig → List ℕ → PlanError → ErrorSeen
-plan_error set output (Argument cause) = argument_error set output cause
-plan_error set output (NotSet name) = unset_error name
-plan_error set output (UnknownTarget target) = unknown_error target
-plan_error set output WantsMemory = no_memory
+unfoldable pub plan_error : BuildConfig → EnvSeen → List ℕ → PlanError → ErrorSeen
+plan_error set env output (Argument cause) = argument_error set env output cause
+plan_error set env output (NotSet name) = unset_error name
+plan_error set env output (UnknownTarget target) = unknown_error target
+plan_error set env output (QnxArch arch) = qnx_error arch
+plan_error set env output WantsMemory = no_memory
 
--- the error of settings that are refused
-abbrev pub refusal_error : BuildConfig → List ℕ → Option ErrorSeen
-refusal_error set output = option_map (plan_error set output) (refusal set output)
+-- the error of settings that are refused before the folder of the objects is made
+abbrev pub early_error : BuildConfig → EnvSeen → List ℕ → Option ErrorSeen
+early_error set env output = option_map (plan_error set env output) (early_refusal set env output)
 
--- the same, of each half of the checks
-abbrev pub early_error : BuildConfig → List ℕ → Option ErrorSeen
-early_error set output = option_map (plan_error set output) (early_refusal set output)
+-- the same, behind it
+abbrev pub late_error : BuildConfig → EnvSeen → List ℕ → Option ErrorSeen
+late_error set env output = if is_disabled env then Some disabled_error else option_map (plan_error set env output) (late_refusal set env)
 
-abbrev pub late_error : BuildConfig → List ℕ → Option ErrorSeen
-late_error set output = option_map (plan_error set output) (late_refusal set)
+-- the error of settings that are refused: that of the first part which doesn't hold
+abbrev pub refusal_error : BuildConfig → EnvSeen → List ℕ → Option ErrorSeen
+refusal_error set env output = first_of (early_error set env output) (late_error set env output)

@@ -5,11 +5,11 @@ use Rattle.cc_text.specs.Quoted.{quoted}
 use Rattle.cc_host.specs.Command.{CommandSeen}
 use Rattle.cc_host.specs.CommandLine.{command_line}
 use Rattle.cc_host.specs.Part.{Step}
-use Rattle.cc_host.specs.Part.Step.{Runs, Makes, Removes, Prints}
+use Rattle.cc_host.specs.Part.Step.{Runs, Makes, Removes, Prints, Lists}
 use Rattle.cc_host.specs.declared.event.Event.{Event}
 use Rattle.cc_host.specs.declared.event.Event.TheVariants.{Ran, Missing, Fault}
 use Rattle.cc_host.specs.declared.event.HostCall.{HostCall}
-use Rattle.cc_host.specs.declared.event.HostCall.TheVariants.{Output, MakeDir, Remove, Print}
+use Rattle.cc_host.specs.declared.event.HostCall.TheVariants.{Output, MakeDir, Remove, Print, Vars}
 use Rattle.cc_host.specs.declared.event.HostError.{HostError}
 use Rattle.cc_host.specs.declared.event.HostError.TheVariants.{Fault as Faulted, NoMemory as WantsMemory}
 use Rattle.cc_host.specs.declared.event.Status.{Status}
@@ -24,6 +24,7 @@ call_name Output = codes "output"
 call_name (MakeDir scope) = codes "make dir"
 call_name Remove = codes "remove"
 call_name Print = codes "print"
+call_name Vars = codes "vars"
 
 abbrev pub why_name : Why → List ℕ
 why_name NotFound = codes "not found"
@@ -69,6 +70,7 @@ stop_error (Runs role cmd) (Fault call why) = unstarted_error cmd
 stop_error (Makes scope path) (Fault call why) = fault_error call why path
 stop_error (Removes path) (Fault call why) = fault_error call why path
 stop_error (Prints kind bytes) (Fault call why) = fault_error call why []
+stop_error Lists (Fault call why) = fault_error call why []
 stop_error _ _ = no_memory
 
 -- the error of the one event that ended a run, where these steps were left

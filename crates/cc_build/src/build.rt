@@ -1,155 +1,153 @@
-// A build: its settings, the setters, and the compile run.
-ghost use Rattle.std.specs.Prelude.{◌≡◌, ◌++◌, [], ◌∷◌, Some, None, true, IfOk, IfErr, OnOk, OnErr, string_bytes};
-ghost use Rattle.std.specs.Fmt.{decimal};
+// A build: its settings and its environment, and the compile run.
+ghost use Rattle.std.specs.Prelude.{◌≡◌, ◌++◌, [], ◌∷◌, None, IfOk, IfErr, OnOk, OnErr, ◌⊎◌, Some, unwrap_or};
+ghost use Rattle.cc_env.specs.Snapshot.{snapshot_of};
 ghost use Rattle.cc_host.specs.Part.{since};
+ghost use Rattle.cc_host.specs.Part.Step.{Lists};
+ghost use Rattle.cc_plan.specs.Given.{variable_flags};
 ghost use Rattle.cc_plan.specs.Plan.{planned_steps};
+ghost use Rattle.cc_plan.specs.Settings.{unset_settings};
 ghost use Rattle.cc_build.specs.Built.{Built};
+ghost use Rattle.cc_build.specs.Captured.{Captures};
 ghost use Rattle.cc_build.specs.Error.{no_memory};
+ghost use Rattle.cc_build.specs.Flags.{always, flags_error};
 ghost use Rattle.cc_build.specs.Order.{ArchivesLast};
 ghost use Rattle.cc_build.specs.Outcome.{Outcome};
 ghost use Rattle.cc_build.specs.Refusal.{refusal_error};
 
 use crate::Error;
 use crate::compiling::compile;
+use crate::environment::flags_of_variable;
+use crate::lists::always;
+use crate::run::list_vars;
+use cc_env::{BuildEnv, EnvSnapshot};
 use cc_host::{Host, World};
 use cc_plan::BuildConfig;
-use cc_text::{Mem, Text};
+use cc_text::{Vars, Words};
 use std::alloc::Global;
 use std::marker::{Model, PhantomData};
 
-/// The settings of a compile run, in the world `W`. Contracts see the settings.
+/// The settings of a compile run with its environment, in the world `W`. Contracts see both.
 #[derive(Drop)]
 pub struct Build<W: World> {
-    alloc: Global,
-    config: BuildConfig,
+    pub(crate) alloc: Global,
+    pub(crate) config: BuildConfig,
+    pub(crate) env: BuildEnv,
     world: PhantomData<W>,
 }
 
 impl<W: World> Model for Build<W> {
-    ghost use Rattle.cc_plan.specs.declared.settings.BuildConfig.{BuildConfig as Config};
+    ghost use Rattle.cc_build.specs.Build.{BuildSeen};
 
-    ghost Value = { Config };
+    ghost Value = { BuildSeen };
 
-    ghost view = { λ b. b.config };
+    ghost view = { λ b. record { config = b.config; env = b.env } };
 }
 
 impl<W: World> Build<W> {
-    /// A build with no source and nothing set.
+    /// A build with no source, nothing set and an empty environment.
     pub fn new(alloc: Global) -> Result<Build<W>, Error>
-        ensures fresh { IfOk result (λ b. b ≡ record { files = []; target = None; host = None; opt_level = None; out_dir = None; compiler = None; archiver = None; emit_rerun_if_env_changed = true }) }
+        ensures fresh { IfOk result (λ b. b ≡ record { config = unset_settings; env = record { inherited = []; explicit = [] } }) }
         ensures refused { IfErr result (λ e. e ≡ no_memory) }
     {
         Ok(Build {
             alloc,
             config: BuildConfig::new(alloc),
+            env: BuildEnv::empty(alloc),
             world: PhantomData,
         })
     }
 
-    /// Adds a source last: a path, as the compiler is given it. Refused for memory, the build stays as it was.
-    pub fn file(&mut self, p: &str) -> Result<(), Error>
-        ensures ok { OnOk result (self.new ≡ record self.old { files = self.old.files ++ p.now ∷ [] }) }
+    /// A second build, equal to this one.
+    pub fn try_clone(&self) -> Result<Build<W>, Error>
+        ensures equal { IfOk result (λ b. b ≡ self.now) }
+        ensures refused { IfErr result (λ e. e ≡ no_memory) }
+    {
+        Ok(Build {
+            alloc: self.alloc,
+            config: self.config.try_clone()?,
+            env: self.env.try_clone()?,
+            world: PhantomData,
+        })
+    }
+
+    /// The sources, in the order added, lent.
+    pub fn get_files(&self) -> &Words
+        ensures { result.now ≡ self.now.config.files }
+    {
+        &self.config.files
+    }
+
+    /// The plain settings, lent.
+    pub fn settings(&self) -> &BuildConfig
+        ensures { result.now ≡ self.now.config }
+    {
+        &self.config
+    }
+
+    /// The variables that the build inherits and sets, lent.
+    pub fn environment(&self) -> &BuildEnv
+        ensures { result.now ≡ self.now.env }
+    {
+        &self.env
+    }
+
+    /// Takes these variables as the environment that the build inherits. Of a name that is given more than once the last value counts.
+    /// Refused for memory, the build stays as it was.
+    pub fn set_envs_snapshot(&mut self, vars: &Vars) -> Result<(), Error>
+        ensures ok { OnOk result (self.new ≡ record self.old { env = record self.old.env { inherited = snapshot_of vars.now } }) }
         ensures err { OnErr result (self.new ≡ self.old) }
         ensures refused { IfErr result (λ e. e ≡ no_memory) }
     {
-        self.config.files.push(p)?;
+        let snapshot = EnvSnapshot::from_vars(self.alloc, vars)?;
+        self.env.set_inherited(snapshot);
         Ok(())
     }
 
-    /// Sets the target, as Rust's compiler names it. Refused for memory, the build stays as it was.
-    pub fn target(&mut self, target: &str) -> Result<(), Error>
-        ensures ok { OnOk result (self.new ≡ record self.old { target = Some target.now }) }
+    /// Takes the variables of the host as the environment that the build inherits. Refused, the build stays as it was.
+    pub fn capture<H: Host<W>>(&mut self, host: &mut H) -> Result<(), Error>
+        ensures extends { H.log host.new ≡ H.log host.old ++ since (H.log host.old) (H.log host.new) }
+        ensures captured { OnOk result (Captures self.old self.new (since (H.log host.old) (H.log host.new))) }
         ensures err { OnErr result (self.new ≡ self.old) }
-        ensures refused { IfErr result (λ e. e ≡ no_memory) }
+        ensures outcome { Outcome None (Lists ∷ []) (since (H.log host.old) (H.log host.new)) result }
     {
-        self.config.target = Some(Text::of(self.alloc, target)?);
-        Ok(())
+        let vars = list_vars(self.alloc, host)?;
+        self.set_envs_snapshot(&vars)
     }
 
-    /// Sets the host, as Rust's compiler names it. Refused for memory, the build stays as it was.
-    pub fn host(&mut self, host: &str) -> Result<(), Error>
-        ensures ok { OnOk result (self.new ≡ record self.old { host = Some host.now }) }
+    /// Adds the flags of a variable, as `CFLAGS`, last: those of each of its names for this target and host that is set, the most
+    /// general name first. They are always given.
+    ///
+    /// Refused where the target or the host is set nowhere, or none of the names is set. Refused, the build stays as it was.
+    pub fn try_flags_from_environment<H: Host<W>>(
+        &mut self,
+        host: &mut H,
+        environ_key: &str,
+    ) -> Result<(), Error>
+        ensures quiet { H.log host.new ≡ H.log host.old }
+        ensures ok { OnOk result (self.new ≡ record self.old { config = record self.old.config { flags = self.old.config.flags ++ always (unwrap_or (variable_flags self.old.config self.old.env environ_key.now) []) } }) }
+        ensures allowed { OnOk result (flags_error self.old.config self.old.env environ_key.now ≡ None) }
         ensures err { OnErr result (self.new ≡ self.old) }
-        ensures refused { IfErr result (λ e. e ≡ no_memory) }
+        ensures refused { IfErr result (λ e. (e ≡ no_memory) ⊎ (flags_error self.old.config self.old.env environ_key.now ≡ Some e)) }
     {
-        self.config.host = Some(Text::of(self.alloc, host)?);
+        let _ = host.log();
+        let words = flags_of_variable(self.alloc, &self.config, &self.env, environ_key)?;
+        let flags = always(self.alloc, &words)?;
+        self.config.flags.append(flags)?;
         Ok(())
-    }
-
-    /// Sets the optimisation level to a number, which is kept in decimal. Refused for memory, the build stays as it was.
-    pub fn opt_level(&mut self, opt_level: u32) -> Result<(), Error>
-        ensures ok { OnOk result (self.new ≡ record self.old { opt_level = Some (decimal opt_level) }) }
-        ensures err { OnErr result (self.new ≡ self.old) }
-        ensures refused { IfErr result (λ e. e ≡ no_memory) }
-    {
-        let level = decimal(self.alloc, opt_level)?;
-        self.config.opt_level = Some(level);
-        Ok(())
-    }
-
-    /// Sets the folder of the objects and of the library. Refused for memory, the build stays as it was.
-    pub fn out_dir(&mut self, out_dir: &str) -> Result<(), Error>
-        ensures ok { OnOk result (self.new ≡ record self.old { out_dir = Some out_dir.now }) }
-        ensures err { OnErr result (self.new ≡ self.old) }
-        ensures refused { IfErr result (λ e. e ≡ no_memory) }
-    {
-        self.config.out_dir = Some(Text::of(self.alloc, out_dir)?);
-        Ok(())
-    }
-
-    /// Sets the compiler: a program, or its path. Refused for memory, the build stays as it was.
-    pub fn compiler(&mut self, compiler: &str) -> Result<(), Error>
-        ensures ok { OnOk result (self.new ≡ record self.old { compiler = Some compiler.now }) }
-        ensures err { OnErr result (self.new ≡ self.old) }
-        ensures refused { IfErr result (λ e. e ≡ no_memory) }
-    {
-        self.config.compiler = Some(Text::of(self.alloc, compiler)?);
-        Ok(())
-    }
-
-    /// Sets the archiver: a program, or its path. Refused for memory, the build stays as it was.
-    pub fn archiver(&mut self, archiver: &str) -> Result<(), Error>
-        ensures ok { OnOk result (self.new ≡ record self.old { archiver = Some archiver.now }) }
-        ensures err { OnErr result (self.new ≡ self.old) }
-        ensures refused { IfErr result (λ e. e ≡ no_memory) }
-    {
-        self.config.archiver = Some(Text::of(self.alloc, archiver)?);
-        Ok(())
-    }
-
-    /// Sets whether lines are printed that make Cargo run the script again where a variable changes. It takes no memory.
-    pub fn emit_rerun_if_env_changed(&mut self, emit_rerun_if_env_changed: bool)
-        ensures { self.new ≡ record self.old { emit_rerun_if_env_changed = emit_rerun_if_env_changed } }
-    {
-        self.config.emit_rerun_if_env_changed = emit_rerun_if_env_changed;
     }
 
     /// Compiles the sources and archives them into the library of `output`, a name such as `foo` or `libfoo.a`.
     ///
-    /// Makes the out dir where there is a source, runs one compile command per source, removes the old library, archives all
-    /// objects, writes the index, and prints the link lines. Ok means that all of this was done, and nothing else. Else
+    /// Makes the out dir where there is a source, prints the warnings, runs one compile command per source, removes the old library,
+    /// archives all objects, writes the index, and prints the link lines. Ok means that all of this was done, and nothing else. Else
     /// the first steps of it were, and the error is that of the refused settings, or of the event that ended the run. No archive
     /// command is run before each source was compiled.
     pub fn try_compile<H: Host<W>>(&self, host: &mut H, output: &str) -> Result<(), Error>
         ensures extends { H.log host.new ≡ H.log host.old ++ since (H.log host.old) (H.log host.new) }
-        ensures built { OnOk result (Built self.now output.now (since (H.log host.old) (H.log host.new))) }
-        ensures order { ArchivesLast self.now (since (H.log host.old) (H.log host.new)) }
-        ensures outcome { Outcome (refusal_error self.now output.now) (planned_steps self.now output.now) (since (H.log host.old) (H.log host.new)) result }
+        ensures built { OnOk result (Built self.now.config self.now.env output.now (since (H.log host.old) (H.log host.new))) }
+        ensures order { ArchivesLast self.now.config self.now.env (since (H.log host.old) (H.log host.new)) }
+        ensures outcome { Outcome (refusal_error self.now.config self.now.env output.now) (planned_steps self.now.config self.now.env output.now) (since (H.log host.old) (H.log host.new)) result }
     {
-        compile(self.alloc, host, &self.config, output)
+        compile(self.alloc, host, &self.config, &self.env, output)
     }
-}
-
-fn decimal(alloc: Global, n: u32) -> Result<Text, Error>
-    ensures text { IfOk result (λ t. t ≡ decimal n) }
-    ensures refused { IfErr result (λ e. e ≡ no_memory) }
-{
-    let digits = number(alloc, n)?;
-    Ok(Text::of(alloc, digits.as_str())?)
-}
-
-fn number(alloc: Global, n: u32) -> Mem<String>
-    ensures { IfOk result (λ s. string_bytes s ≡ decimal n) }
-{
-    Ok(format!(in alloc; "{n}")?)
 }

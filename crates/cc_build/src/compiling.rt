@@ -2,7 +2,7 @@
 ghost use Rattle.std.specs.Prelude.{◌≡◌, ◌++◌, [], ◌∷◌, None};
 ghost use Rattle.cc_host.specs.Part.{since, runs};
 ghost use Rattle.cc_host.specs.Part.Step.{Removes};
-ghost use Rattle.cc_host.specs.declared.event.LineKind.TheVariants.{Link};
+ghost use Rattle.cc_host.specs.declared.event.LineKind.TheVariants.{Link, Warning};
 ghost use Rattle.cc_host.specs.declared.event.Role.TheVariants.{Archive, Index, Compile};
 ghost use Rattle.cc_plan.specs.Names.{library_name};
 ghost use Rattle.cc_plan.specs.Plan.{objects_of, library_of, prints, folder_steps, late_steps, planned_steps};
@@ -11,10 +11,11 @@ ghost use Rattle.cc_build.specs.Refusal.{late_error, refusal_error};
 
 use crate::Error;
 use crate::message::or_no_memory;
-use crate::refusal::{dir_of, plan_error};
+use crate::refusal::{dir_of, disabled, plan_error};
 use crate::run::{make_folder, print_lines, remove_library, run_commands};
+use cc_env::BuildEnv;
 use cc_host::{Host, LineKind, Role, World};
-use cc_plan::{BuildConfig, Plan, Sources, plan_commands, plan_sources};
+use cc_plan::{BuildConfig, Plan, Sources, is_disabled, plan_commands, plan_sources};
 use std::alloc::Global;
 
 // Removes the old library, archives, indexes, and prints the link lines.
@@ -34,7 +35,21 @@ fn write_library<W: World, H: Host<W>>(
     print_lines(alloc, host, LineKind::Link, &plan.lines)
 }
 
-// Compiles the sources in order, up to the first command that fails, and writes the library.
+// Prints the warnings and compiles the sources in order, up to the first command that fails.
+#[tactic(auto, using(cc_host::proofs::Parts::since_append))]
+fn compile_plan<W: World, H: Host<W>>(
+    alloc: Global,
+    host: &mut H,
+    plan: &Plan,
+) -> Result<(), Error>
+    ensures extends { H.log host.new ≡ H.log host.old ++ since (H.log host.old) (H.log host.new) }
+    ensures outcome { Outcome None (prints Warning plan.now.warnings ++ runs Compile plan.now.compiles.items) (since (H.log host.old) (H.log host.new)) result }
+{
+    print_lines(alloc, host, LineKind::Warning, &plan.warnings)?;
+    run_commands(alloc, host, Role::Compile, &plan.compiles)
+}
+
+// Compiles the sources, and writes the library.
 #[tactic(auto, using(cc_host::proofs::Parts::since_append))]
 fn run_plan<W: World, H: Host<W>>(
     alloc: Global,
@@ -43,30 +58,34 @@ fn run_plan<W: World, H: Host<W>>(
     plan: &Plan,
 ) -> Result<(), Error>
     ensures extends { H.log host.new ≡ H.log host.old ++ since (H.log host.old) (H.log host.new) }
-    ensures outcome { Outcome None (runs Compile plan.now.compiles.items ++ ((Removes library.now ∷ []) ++ (runs Archive plan.now.archives.items ++ (runs Index plan.now.indexes.items ++ prints Link plan.now.lines)))) (since (H.log host.old) (H.log host.new)) result }
+    ensures outcome { Outcome None ((prints Warning plan.now.warnings ++ runs Compile plan.now.compiles.items) ++ ((Removes library.now ∷ []) ++ (runs Archive plan.now.archives.items ++ (runs Index plan.now.indexes.items ++ prints Link plan.now.lines)))) (since (H.log host.old) (H.log host.new)) result }
 {
-    run_commands(alloc, host, Role::Compile, &plan.compiles)?;
+    compile_plan(alloc, host, plan)?;
     write_library(alloc, host, library, plan)
 }
 
-// Plans the commands, and runs the plan.
+// Plans the commands where they may run, and runs the plan.
 #[tactic(auto, using(cc_host::proofs::Parts::since_append))]
 fn compile_sources<W: World, H: Host<W>>(
     alloc: Global,
     host: &mut H,
     set: &BuildConfig,
+    env: &BuildEnv,
     output: &str,
     sources: &Sources,
 ) -> Result<(), Error>
     requires name { sources.now.name ≡ library_name output.now }
-    requires library { sources.now.library ≡ library_of set.now output.now }
-    requires objects { sources.now.objects.items ≡ objects_of set.now }
+    requires library { sources.now.library ≡ library_of set.now env.now output.now }
+    requires objects { sources.now.objects.items ≡ objects_of set.now env.now }
     ensures extends { H.log host.new ≡ H.log host.old ++ since (H.log host.old) (H.log host.new) }
-    ensures outcome { Outcome (late_error set.now output.now) (late_steps set.now output.now) (since (H.log host.old) (H.log host.new)) result }
+    ensures outcome { Outcome (late_error set.now env.now output.now) (late_steps set.now env.now output.now) (since (H.log host.old) (H.log host.new)) result }
 {
-    match plan_commands(alloc, set, output, sources) {
+    if is_disabled(env) {
+        return Err(or_no_memory(disabled(alloc)));
+    }
+    match plan_commands(alloc, set, env, output, sources) {
         Ok(plan) => run_plan(alloc, host, sources.library.as_str(), &plan),
-        Err(error) => Err(or_no_memory(plan_error(alloc, set, output, error))),
+        Err(error) => Err(or_no_memory(plan_error(alloc, set, env, output, error))),
     }
 }
 
@@ -76,14 +95,15 @@ fn prepare_folder<W: World, H: Host<W>>(
     alloc: Global,
     host: &mut H,
     set: &BuildConfig,
+    env: &BuildEnv,
 ) -> Result<(), Error>
     ensures extends { H.log host.new ≡ H.log host.old ++ since (H.log host.old) (H.log host.new) }
-    ensures outcome { Outcome None (folder_steps set.now) (since (H.log host.old) (H.log host.new)) result }
+    ensures outcome { Outcome None (folder_steps set.now env.now) (since (H.log host.old) (H.log host.new)) result }
 {
     if set.files.is_empty() {
         return Ok(());
     }
-    make_folder(alloc, host, dir_of(set))
+    make_folder(alloc, host, dir_of(set, env))
 }
 
 /// Checks the settings, makes the folder, plans the commands and runs them.
@@ -92,15 +112,16 @@ pub(crate) fn compile<W: World, H: Host<W>>(
     alloc: Global,
     host: &mut H,
     set: &BuildConfig,
+    env: &BuildEnv,
     output: &str,
 ) -> Result<(), Error>
     ensures extends { H.log host.new ≡ H.log host.old ++ since (H.log host.old) (H.log host.new) }
-    ensures outcome { Outcome (refusal_error set.now output.now) (planned_steps set.now output.now) (since (H.log host.old) (H.log host.new)) result }
+    ensures outcome { Outcome (refusal_error set.now env.now output.now) (planned_steps set.now env.now output.now) (since (H.log host.old) (H.log host.new)) result }
 {
-    let sources = match plan_sources(alloc, set, output) {
+    let sources = match plan_sources(alloc, set, env, output) {
         Ok(sources) => sources,
-        Err(error) => return Err(or_no_memory(plan_error(alloc, set, output, error))),
+        Err(error) => return Err(or_no_memory(plan_error(alloc, set, env, output, error))),
     };
-    prepare_folder(alloc, host, set)?;
-    compile_sources(alloc, host, set, output, &sources)
+    prepare_folder(alloc, host, set, env)?;
+    compile_sources(alloc, host, set, env, output, &sources)
 }

@@ -1,16 +1,18 @@
 // The error of a build.
-ghost use Rattle.std.specs.Prelude.{◌≡◌, IfOk, Some};
+ghost use Rattle.std.specs.Prelude.{◌≡◌, [], IfOk, Some};
 ghost use Rattle.cc_build.specs.Error.{no_memory};
+ghost use Rattle.cc_build.specs.declared.error.ErrorKind.TheVariants.{NoMemory as OutOfMemory};
 ghost use Rattle.cc_build.specs.ErrorText.{kind_name as name_of_kind, shown};
 
 use cc_text::{Mem, NoMemory, Text};
+use std::alloc::Global;
 use std::fmt;
 use std::marker::Model;
 
 /// What kind an error is of.
 #[derive(Clone, Copy, Debug, PartialEq, Eq)]
 pub enum ErrorKind {
-    /// The host couldn't make a folder, remove a file or print.
+    /// The host couldn't make a folder, remove a file, print or list its variables.
     IOError,
     /// A variable that is wanted is set nowhere.
     EnvVarNotFound,
@@ -20,8 +22,12 @@ pub enum ErrorKind {
     ToolNotFound,
     /// An argument is wrong.
     InvalidArgument,
+    /// A tool has no name for the target's architecture.
+    InvalidTarget,
     /// The target isn't known.
     UnknownTarget,
+    /// `CC_FORCE_DISABLE` is true, so no command may run.
+    Disabled,
     /// Memory was refused. Subject and message are empty.
     NoMemory,
 }
@@ -50,6 +56,16 @@ impl Model for Error {
 }
 
 impl Error {
+    /// An error of this kind, subject and message. Want of memory has neither.
+    pub fn of(alloc: Global, kind: ErrorKind, subject: &str, message: &str) -> Mem<Error>
+        requires { kind ≡ OutOfMemory → (subject.now ≡ []) × (message.now ≡ []) }
+        ensures { IfOk result (λ e. e ≡ record { kind = kind; subject = subject.now; message = message.now }) }
+    {
+        let subject = Text::of(alloc, subject)?;
+        let message = Text::of(alloc, message)?;
+        Ok(Error::told(kind, subject, message))
+    }
+
     // An error that tells something.
     pub(crate) fn told(kind: ErrorKind, subject: Text, message: Text) -> Error
         ensures { result ≡ record { kind = kind; subject = subject; message = message } }
@@ -133,7 +149,9 @@ fn kind_name(kind: ErrorKind) -> &'static str
         ErrorKind::ToolExecError => "ToolExecError",
         ErrorKind::ToolNotFound => "ToolNotFound",
         ErrorKind::InvalidArgument => "InvalidArgument",
+        ErrorKind::InvalidTarget => "InvalidTarget",
         ErrorKind::UnknownTarget => "UnknownTarget",
+        ErrorKind::Disabled => "Disabled",
         ErrorKind::NoMemory => "NoMemory",
     }
 }

@@ -1,18 +1,22 @@
 //! `Build`: settings, and the compile run that they ask for.
 //!
-//! Stands on `cc_text`, `cc_host` and `cc_plan`. A run makes the plan, asks the host for its steps one after another,
+//! Stands on `cc_text`, `cc_env`, `cc_host` and `cc_plan`. A run makes the plan, asks the host for its steps one after another,
 //! and stops at the first that is refused. The crate above uses one thing: `try_compile` answers Ok only where `Built`
 //! holds, and each error has its cause in the settings or in the log (`specs/Outcome.antt`).
 #![tactic(auto)]
 
 mod build;
 mod compiling;
+mod environment;
 mod error;
+mod lists;
+mod marks;
 mod message;
 mod refusal;
 mod run;
 #[cfg(test)]
 mod tests;
+mod texts;
 
 pub use build::Build;
 pub use error::{Error, ErrorKind};

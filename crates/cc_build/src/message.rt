@@ -27,6 +27,7 @@ fn call_name(call: HostCall) -> &'static str
         HostCall::MakeDir(_) => "make dir",
         HostCall::Remove => "remove",
         HostCall::Print => "print",
+        HostCall::Vars => "vars",
     }
 }
 
@@ -115,7 +116,7 @@ fn fault(alloc: Global, call: HostCall, why: Why, subject: &str) -> Mem<Error>
     Ok(Error::told(ErrorKind::IOError, subject, message))
 }
 
-// What the host answered in place of making a folder, removing a file or printing.
+// What the host answered in place of making a folder, removing a file, printing or listing its variables.
 pub(crate) fn host_error(alloc: Global, error: HostError, subject: &str) -> Mem<Error>
     ensures { IfOk result (λ e. e ≡ host_error error subject.now) }
 {

@@ -1,11 +1,12 @@
 // The errors of refused settings.
 ghost use Rattle.std.specs.Prelude.{◌≡◌, IfOk};
-ghost use Rattle.cc_plan.specs.Object.{object_path as path_of};
 ghost use Rattle.cc_plan.specs.Plan.{dir_of};
-ghost use Rattle.cc_build.specs.Refusal.{source_at, invalid as invalid_error, same_object_error, unset_error, unknown_error, argument_error, plan_error};
+ghost use Rattle.cc_plan.specs.Refusal.{object_in};
+ghost use Rattle.cc_build.specs.Refusal.{source_at, invalid as invalid_error, same_object_error, unset_error, unknown_error, qnx_error, disabled_error, argument_error, plan_error};
 
 use crate::{Error, ErrorKind};
-use cc_plan::{ArgumentCause, BuildConfig, PlanError, object_path};
+use cc_env::BuildEnv;
+use cc_plan::{ArgumentCause, BuildConfig, PlanError, object_path, out_dir_of};
 use cc_text::{Mem, Text};
 use std::alloc::Global;
 
@@ -18,13 +19,10 @@ fn source_at(set: &BuildConfig, place: u64) -> &str
     }
 }
 
-pub(crate) fn dir_of(set: &BuildConfig) -> &str
-    ensures { result.now ≡ dir_of set.now }
+pub(crate) fn dir_of<'a>(set: &'a BuildConfig, env: &'a BuildEnv) -> &'a str
+    ensures { result.now ≡ dir_of set.now env.now }
 {
-    match &set.out_dir {
-        Some(dir) => dir.as_str(),
-        None => "",
-    }
+    out_dir_of(set, env).unwrap_or("")
 }
 
 // An error of kind InvalidArgument with a text alone as its message.
@@ -36,10 +34,21 @@ fn invalid(alloc: Global, subject: &str, message: &str) -> Mem<Error>
     Ok(Error::told(ErrorKind::InvalidArgument, subject, message))
 }
 
-fn same_object(alloc: Global, set: &BuildConfig, source: &str) -> Mem<Error>
-    ensures { IfOk result (λ e. e ≡ same_object_error (path_of (dir_of set.now) source.now)) }
+// The object of a source in the out dir.
+fn object_in(alloc: Global, set: &BuildConfig, env: &BuildEnv, source: &str) -> Mem<Text>
+    ensures { IfOk result (λ path. path ≡ object_in set.now env.now source.now) }
 {
-    let subject = object_path(alloc, dir_of(set), source)?;
+    let root = match &set.source_root {
+        Some(root) => Some(root.as_str()),
+        None => None,
+    };
+    object_path(alloc, env.inherited(), root, dir_of(set, env), source)
+}
+
+fn same_object(alloc: Global, set: &BuildConfig, env: &BuildEnv, source: &str) -> Mem<Error>
+    ensures { IfOk result (λ e. e ≡ same_object_error (object_in set.now env.now source.now)) }
+{
+    let subject = object_in(alloc, set, env, source)?;
     let mut message = Text::of(alloc, "two sources have the object ")?;
     message.push_str(subject.as_str())?;
     Ok(Error::told(ErrorKind::InvalidArgument, subject, message))
@@ -48,10 +57,11 @@ fn same_object(alloc: Global, set: &BuildConfig, source: &str) -> Mem<Error>
 fn argument_error(
     alloc: Global,
     set: &BuildConfig,
+    env: &BuildEnv,
     output: &str,
     cause: ArgumentCause,
 ) -> Mem<Error>
-    ensures { IfOk result (λ e. e ≡ argument_error set.now output.now cause) }
+    ensures { IfOk result (λ e. e ≡ argument_error set.now env.now output.now cause) }
 {
     match cause {
         ArgumentCause::Output => invalid(
@@ -65,11 +75,13 @@ fn argument_error(
             source_at(set, place),
             "No file_name for object file path!",
         ),
-        ArgumentCause::SameObject(_, second) => same_object(alloc, set, source_at(set, second)),
+        ArgumentCause::SameObject(_, second) => {
+            same_object(alloc, set, env, source_at(set, second))
+        },
     }
 }
 
-fn not_set(alloc: Global, name: Text) -> Mem<Error>
+pub(crate) fn not_set(alloc: Global, name: Text) -> Mem<Error>
     ensures { IfOk result (λ e. e ≡ unset_error name) }
 {
     let mut message = Text::of(alloc, "environment variable ")?;
@@ -86,20 +98,39 @@ fn unknown_target(alloc: Global, target: Text) -> Mem<Error>
     Ok(Error::told(ErrorKind::UnknownTarget, target, message))
 }
 
+fn qnx_arch(alloc: Global, arch: Text) -> Mem<Error>
+    ensures { IfOk result (λ e. e ≡ qnx_error arch) }
+{
+    let mut message = Text::of(alloc, "Unknown architecture for Neutrino QNX: ")?;
+    message.push_str(arch.as_str())?;
+    Ok(Error::told(ErrorKind::InvalidTarget, arch, message))
+}
+
+// No command may run.
+pub(crate) fn disabled(alloc: Global) -> Mem<Error>
+    ensures { IfOk result (λ e. e ≡ disabled_error) }
+{
+    let subject = Text::of(alloc, "CC_FORCE_DISABLE")?;
+    let message = Text::of(alloc, "cc has been disabled by CC_FORCE_DISABLE")?;
+    Ok(Error::told(ErrorKind::Disabled, subject, message))
+}
+
 // The error of a refusal, for a compile run of these settings with this output.
 #[tactic(auto, unfolding(crate::specs::Refusal::plan_error))]
 pub(crate) fn plan_error(
     alloc: Global,
     set: &BuildConfig,
+    env: &BuildEnv,
     output: &str,
     error: PlanError,
 ) -> Mem<Error>
-    ensures { IfOk result (λ e. e ≡ plan_error set.now output.now error) }
+    ensures { IfOk result (λ e. e ≡ plan_error set.now env.now output.now error) }
 {
     match error {
-        PlanError::Argument(cause) => argument_error(alloc, set, output, cause),
+        PlanError::Argument(cause) => argument_error(alloc, set, env, output, cause),
         PlanError::NotSet(name) => not_set(alloc, name),
         PlanError::UnknownTarget(target) => unknown_target(alloc, target),
+        PlanError::QnxArch(arch) => qnx_arch(alloc, arch),
         PlanError::NoMemory => Ok(Error::no_memory()),
     }
 }

@@ -1,7 +1,8 @@
 // The steps of a run, asked of a host one after another up to the first that is refused.
 ghost use Rattle.std.specs.Prelude.{◌≡◌, ◌++◌, [], ◌∷◌, None, IfOk};
 ghost use Rattle.cc_host.specs.Part.{since, runs};
-ghost use Rattle.cc_host.specs.Part.Step.{Makes, Removes, Prints};
+ghost use Rattle.cc_host.specs.Part.Step.{Makes, Removes, Prints, Lists};
+ghost use Rattle.cc_host.specs.declared.event.Event.TheVariants.{Listed};
 ghost use Rattle.cc_host.specs.declared.event.LineKind.TheVariants.{Link};
 ghost use Rattle.cc_host.specs.declared.event.Scope.TheVariants.{Build};
 ghost use Rattle.cc_plan.specs.Link.{printed_line as line_of};
@@ -11,7 +12,7 @@ ghost use Rattle.cc_build.specs.Outcome.{Outcome};
 use crate::Error;
 use crate::message::{failed, host_error, missing, or_no_memory, unstarted};
 use cc_host::{Command, Host, HostError, LineKind, OutputKind, Pipes, Ran, Role, Scope, World};
-use cc_text::{Mem, Text, Words};
+use cc_text::{Mem, Text, Vars, Words};
 use std::alloc::Global;
 
 /// Runs the commands in order, up to the first that fails. Their outputs go where those of the program go.
@@ -79,6 +80,19 @@ pub(crate) fn remove_library<W: World, H: Host<W>>(
     match host.remove_file(path) {
         Ok(_) => Ok(()),
         Err(error) => Err(or_no_memory(host_error(alloc, error, path))),
+    }
+}
+
+/// Lists the variables of the host.
+#[tactic(auto, using(cc_host::proofs::Parts::since_append))]
+pub(crate) fn list_vars<W: World, H: Host<W>>(alloc: Global, host: &mut H) -> Result<Vars, Error>
+    ensures extends { H.log host.new ≡ H.log host.old ++ since (H.log host.old) (H.log host.new) }
+    ensures listed { IfOk result (λ vars. since (H.log host.old) (H.log host.new) ≡ Listed vars ∷ []) }
+    ensures outcome { Outcome None (Lists ∷ []) (since (H.log host.old) (H.log host.new)) result }
+{
+    match host.vars() {
+        Ok(vars) => Ok(vars),
+        Err(error) => Err(or_no_memory(host_error(alloc, error, ""))),
     }
 }
 

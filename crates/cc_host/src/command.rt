@@ -66,6 +66,14 @@ impl Command {
         self.env.push(name, value)
     }
 
+    /// Adds each of these variables, in order, last. Refused for memory, the command stays as it was.
+    pub fn envs(&mut self, vars: &Vars) -> Mem<()>
+        ensures ok { OnOk result (self.new ≡ record self.old { env = self.old.env ++ vars.now }) }
+        ensures err { OnErr result (self.new ≡ self.old) }
+    {
+        self.env.extend(vars)
+    }
+
     /// Sets the folder that it runs in. Refused for memory, the command stays as it was.
     pub fn current_dir(&mut self, dir: &str) -> Mem<()>
         ensures ok { OnOk result (self.new ≡ record self.old { dir = Some dir.now }) }

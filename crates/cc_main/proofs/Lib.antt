@@ -1,5 +1,7 @@
 pub mod AnswerLaws
+pub mod FlagLaws
 pub mod KeyLaws
 pub mod NumberLaws
 pub mod PromiseLaws
+pub mod SettingLaws
 pub mod WordLaws

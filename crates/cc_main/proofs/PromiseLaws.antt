@@ -2,35 +2,39 @@
 use Rattle.std.proofs.Common.{◌≡◌, ◌⊎◌, inl, inr, ℕ, List, [], ◌∷◌, ◌++◌, Bool, true, false, not, ◌||◌, if◌then◌else◌, Option, None, Some, Result, Ok, Err, refl, sym, ◌∙◌, ap, subst, append-nil, append_assoc}
 use Rattle.std.specs.List.{list_any}
 use Rattle.std.specs.Option.{option_map}
-use Rattle.cc_host.specs.Part.{Step, IsPartly, left, stops, calm, stop_of, StopsAt, is_success}
-use Rattle.cc_host.proofs.Parts.{partly_whole, stops_both, calm_whole, either, IsCalm, IsStop}
+use Rattle.cc_env.specs.Env.{EnvSeen}
+use Rattle.cc_host.specs.Part.{Step, IsPartly, done, left, stops, calm, stop_of, StopsAt, is_success, listings}
+use Rattle.cc_host.specs.Part.Step.{Lists}
+use Rattle.cc_host.proofs.Order.{is_archive}
+use Rattle.cc_host.proofs.Parts.{partly_whole, stops_both, calm_whole, listings_then}
 use Rattle.cc_host.specs.declared.event.Event.{Event}
-use Rattle.cc_host.specs.declared.event.Event.TheVariants.{Ran, Missing, Made, Removed, Printed, Fault}
+use Rattle.cc_host.specs.declared.event.Event.TheVariants.{Ran, Missing, Made, Removed, Printed, Listed, Fault}
 use Rattle.cc_host.specs.declared.event.HostCall.{HostCall}
 use Rattle.cc_host.specs.declared.event.HostCall.TheVariants.{Print}
 use Rattle.cc_host.specs.declared.event.LineKind.TheVariants.{Fault as FaultLine}
 use Rattle.cc_host.specs.declared.event.Why.{Why}
 use Rattle.cc_plan.specs.declared.settings.BuildConfig.{BuildConfig}
-use Rattle.cc_plan.specs.Plan.{planned_steps}
-use Rattle.cc_plan.specs.Refusal.{refusal}
+use Rattle.cc_plan.specs.Given.{is_disabled}
+use Rattle.cc_plan.specs.Plan.{planned_steps, folder_steps, compile_steps}
+use Rattle.cc_plan.specs.Refusal.{early_refusal, late_refusal}
 use Rattle.cc_plan.specs.Valid.{Valid}
-use Rattle.cc_plan.proofs.ValidLaws.{accepted}
-use Rattle.cc_build.specs.Built.{Built}
+use Rattle.cc_plan.proofs.ValidLaws.{early_accepted, late_accepted}
+use Rattle.cc_build.specs.Captured.{with_vars}
 use Rattle.cc_build.specs.Error.{ErrorSeen, no_memory}
 use Rattle.cc_build.specs.Failed.{Failed, HasFault, is_failed_command, is_fault}
-use Rattle.cc_build.specs.Order.{ArchivesLast, is_archive_event}
+use Rattle.cc_build.specs.Order.{is_archive_event}
 use Rattle.cc_build.specs.Outcome.{IsCausedBy}
 use Rattle.cc_build.specs.Refusal.{plan_error, refusal_error}
 use Rattle.cc_build.specs.Stop.{stopped_by}
-use Rattle.cc_build.proofs.OrderLaws.{ordered}
-use Rattle.cc_main.specs.Answer.{Answers, AnswersBad, AnswersWords, Refused, Tells, error_line, word_line, is_wanting, ended_well, ended_refused, ended_bad, ended_wanting}
-use Rattle.cc_main.specs.Promises.{Headline, EndsWith, TellsLast, IsLine, Begun, IsBegun, CompilesFirst, FaultsLast, IsComplete}
+use Rattle.cc_build.proofs.OrderLaws.{IsOrdered, planned, archives_behind, no_source_archives}
+use Rattle.cc_main.specs.Answer.{Answers, AnswersBad, AnswersWords, BuiltBy, Refused, Tells, first_listing, heard, env_in, steps_of, error_of, error_line, word_line, is_wanting, ended_well, ended_refused, ended_bad, ended_wanting}
+use Rattle.cc_main.specs.Promises.{Headline, EndsWith, TellsLast, IsLine, Begun, IsBegun, ArchivesBehind, CompilesFirst, FaultsLast, IsComplete}
 use Rattle.cc_main.specs.Read.{Request}
 use Rattle.cc_main.specs.declared.top.Ended.{Ended}
 use Rattle.cc_main.specs.declared.words.BadWord.{BadWord}
 
 -- the headline
-built_of : (q : Request) (part : List Event) (ended : Ended) → Answers q.1 q.0 part ended → ended.status ≡ 0 → Built q.1 q.0 part
+built_of : (q : Request) (part : List Event) (ended : Ended) → Answers q part ended → ended.status ≡ 0 → BuiltBy q part
 built_of q part ended (inl well) zero_is = well.1.0
 built_of q part ended (inr (inl r)) zero_is = let s : ended.status ≡ 1 = ap (λ (x : Ended). x.status) r.is in absurd (cc)
 built_of q part ended (inr (inr wanting)) zero_is = let s : ended.status ≡ 3 = ap (λ (x : Ended). x.status) wanting.0 in absurd (cc)
@@ -51,7 +55,7 @@ line_of : (line : List ℕ) (part : List Event) → Tells line part → IsLine p
 line_of line part (inl printed) = inr (inl (line, printed))
 line_of line part (inr faulted) = inr (inr faulted)
 
-begun_of : (q : Request) (part : List Event) (ended : Ended) → Answers q.1 q.0 part ended → Begun q part
+begun_of : (q : Request) (part : List Event) (ended : Ended) → Answers q part ended → Begun q part
 begun_of q part ended (inl well) = record { run = part; line = []; cut = sym (append-nil part); partly = well.1.1; told = inl refl }
 begun_of q part ended (inr (inl r)) = record { run = r.run; line = r.line; cut = r.cut; partly = r.refused.0; told = line_of (error_line r.error) r.line r.told }
 begun_of q part ended (inr (inr wanting)) = record { run = part; line = []; cut = sym (append-nil part); partly = wanting.1; told = inl refl }
@@ -89,28 +93,56 @@ in_run before after run event x e other = decide (last_or_before event x after b
     decide (inl last) = absurd (other last.1)
     decide (inr found) = found
 
+-- behind these steps alone a part archives
+abbrev Behind : List Step → List Event → Type 0
+Behind first part = (before after : List Event) (event : Event) → part ≡ before ++ event ∷ after → is_archive_event event ≡ true → (rest : List Step) × (done before ≡ first ++ rest)
+
 -- a line behind a run adds no archive command
-still_ordered : (set : BuildConfig) (part run line : List Event) → part ≡ run ++ line → IsLine line → ArchivesLast set run → ArchivesLast set part
-still_ordered set part run line cut (inl none) order before after event is archive =
+still_behind : (first : List Step) (part run line : List Event) → part ≡ run ++ line → IsLine line → Behind first run → Behind first part
+still_behind first part run line cut (inl none) order before after event is archive =
     order before after event (sym (cut ∙ ap (λ l. run ++ l) none ∙ append-nil run) ∙ is) archive
-still_ordered set part run line cut (inr (inl printed)) order before after event is archive =
+still_behind first part run line cut (inr (inl printed)) order before after event is archive =
     let e : run ++ Printed FaultLine printed.0 ∷ [] ≡ before ++ event ∷ after = sym (cut ∙ ap (λ l. run ++ l) printed.1) ∙ is in
     let found = in_run before after run event (Printed FaultLine printed.0) e (λ same. let t : false ≡ true = sym (ap is_archive_event same) ∙ archive in cc) in
     order before found.0 event found.1.0 archive
-still_ordered set part run line cut (inr (inr faulted)) order before after event is archive =
+still_behind first part run line cut (inr (inr faulted)) order before after event is archive =
     let e : run ++ Fault Print faulted.0 ∷ [] ≡ before ++ event ∷ after = sym (cut ∙ ap (λ l. run ++ l) faulted.1) ∙ is in
     let found = in_run before after run event (Fault Print faulted.0) e (λ same. let t : false ≡ true = sym (ap is_archive_event same) ∙ archive in cc) in
     order before found.0 event found.1.0 archive
 
-order_of : (q : Request) (part : List Event) → Begun q part → ArchivesLast q.1 part
-order_of q part b = still_ordered q.1 part b.run b.line b.cut b.told (ordered {T = Unit {0}} q.1 q.0 b.run (Err no_memory) (b.partly, inl refl))
+no_listing : (line : List Event) → IsLine line → listings line ≡ []
+no_listing line (inl none) = ap listings none
+no_listing line (inr (inl printed)) = ap listings printed.1
+no_listing line (inr (inr faulted)) = ap listings faulted.1
+
+-- a line behind a run lists no variables
+heard_same : (part run line : List Event) → part ≡ run ++ line → IsLine line → heard part ≡ heard run
+heard_same part run line cut told =
+    ap first_listing (ap listings cut ∙ listings_then run line ∙ ap (λ l. listings run ++ l) (no_listing line told) ∙ append-nil (listings run))
+
+-- the steps of a request begin with the listing, the folder and the sources, or none of them archives
+listed_first : (folder compile steps : List Step) → IsOrdered folder compile steps → ((rest : List Step) × (Lists ∷ steps ≡ (Lists ∷ (folder ++ compile)) ++ rest)) ⊎ (list_any is_archive (Lists ∷ steps) ≡ false)
+listed_first folder compile steps (inl k) = inl (k.0, ap (λ l. Lists ∷ l) k.1)
+listed_first folder compile steps (inr none) = inr none
+
+order_in : (q : Request) (run : List Event) → IsPartly (steps_of q run) run → Behind (Lists ∷ (folder_steps q.1.config (env_in q run) ++ compile_steps q.1.config (env_in q run))) run
+order_in q run p =
+    archives_behind (Lists ∷ (folder_steps q.1.config (env_in q run) ++ compile_steps q.1.config (env_in q run))) (steps_of q run) run (no_source_archives q.1.config (env_in q run)) p
+    (listed_first (folder_steps q.1.config (env_in q run)) (compile_steps q.1.config (env_in q run)) (planned_steps q.1.config (env_in q run) q.0) (planned q.1.config (env_in q run) q.0))
+
+order_of : (q : Request) (part : List Event) → Begun q part → ArchivesBehind q part
+order_of q part b =
+    let first : List (List ℕ × List ℕ) → List Step = λ vars. Lists ∷ (folder_steps q.1.config (with_vars q.1.env vars) ++ compile_steps q.1.config (with_vars q.1.env vars)) in
+    subst (λ (vars : List (List ℕ × List ℕ)). Behind (first vars) part) (sym (heard_same part b.run b.line b.cut b.told))
+    (still_behind (first (heard b.run)) part b.run b.line b.cut b.told (order_in q b.run b.partly))
 
 pub compiles_first : (words : Result Request BadWord) (part : List Event) (ended : Ended) → AnswersWords words part ended → CompilesFirst words part
 compiles_first (Ok q) part ended a = order_of q part (begun_of q part ended a)
 compiles_first (Err bad) part ended a = tt
 
-no_refusal : (set : BuildConfig) (name : List ℕ) (e : ErrorSeen) → Valid set name → refusal_error set name ≡ Some e → ⊥
-no_refusal set name e valid refused = let none : refusal_error set name ≡ None = ap (option_map (plan_error set name)) (accepted set name valid) in cc
+no_refusal : (set : BuildConfig) (env : EnvSeen) (name : List ℕ) (e : ErrorSeen) → Valid set env name → refusal_error set env name ≡ Some e → ⊥
+no_refusal set env name e valid refused =
+    let none : refusal_error set env name ≡ None = rw (early_accepted set env name valid, valid.enabled, late_accepted set env name valid) refl in cc
 
 front_empty : (a b : List Event) → a ++ b ≡ [] → a ≡ []
 front_empty [] b h = refl
@@ -120,16 +152,20 @@ no_stop : (steps : List Step) (e : ErrorSeen) → stopped_by steps [] ≡ Some e
 no_stop [] e h = cc
 no_stop (s ∷ steps) e h = cc
 
-no_cause : (q : Request) (part : List Event) (ended : Ended) (r : Refused q.1 q.0 part ended) → Valid q.1 q.0 → stops part ≡ [] → IsCausedBy (refusal_error q.1 q.0) (planned_steps q.1 q.0) r.run r.error → ⊥
+no_cause : (q : Request) (part : List Event) (ended : Ended) (r : Refused q part ended) → Valid q.1.config (env_in q r.run) q.0 → stops part ≡ [] → IsCausedBy (error_of q r.run) (steps_of q r.run) r.run r.error → ⊥
 no_cause q part ended r valid calm_part (inl memory) = let t : true ≡ false = sym (ap (λ (x : ErrorSeen). is_wanting x.kind) memory) ∙ r.known in cc
-no_cause q part ended r valid calm_part (inr (inl refused)) = no_refusal q.1 q.0 r.error valid refused
+no_cause q part ended r valid calm_part (inr (inl refused)) = no_refusal q.1.config (env_in q r.run) q.0 r.error valid refused
 no_cause q part ended r valid calm_part (inr (inr stopped)) =
     let none : stops r.run ≡ [] = front_empty (stops r.run) (stops r.line) (sym (stops_both r.run r.line) ∙ ap stops (sym r.cut) ∙ calm_part) in
-    no_stop (left (planned_steps q.1 q.0) r.run) r.error (ap (λ s. stopped_by (left (planned_steps q.1 q.0) r.run) s) (sym none) ∙ stopped)
+    no_stop (left (steps_of q r.run) r.run) r.error (ap (λ s. stopped_by (left (steps_of q r.run) r.run) s) (sym none) ∙ stopped)
 
-complete_of : (q : Request) (part : List Event) (ended : Ended) → Answers q.1 q.0 part ended → Valid q.1 q.0 → stops part ≡ [] → (ended ≡ ended_well) ⊎ (ended ≡ ended_wanting)
+valid_in : (q : Request) (part : List Event) (ended : Ended) (r : Refused q part ended) → Valid q.1.config (env_in q part) q.0 → Valid q.1.config (env_in q r.run) q.0
+valid_in q part ended r valid =
+    subst (λ (vars : List (List ℕ × List ℕ)). Valid q.1.config (with_vars q.1.env vars) q.0) (heard_same part r.run r.line r.cut (line_of (error_line r.error) r.line r.told)) valid
+
+complete_of : (q : Request) (part : List Event) (ended : Ended) → Answers q part ended → Valid q.1.config (env_in q part) q.0 → stops part ≡ [] → (ended ≡ ended_well) ⊎ (ended ≡ ended_wanting)
 complete_of q part ended (inl well) valid calm_part = inl well.0
-complete_of q part ended (inr (inl r)) valid calm_part = absurd (no_cause q part ended r valid calm_part r.refused.1)
+complete_of q part ended (inr (inl r)) valid calm_part = absurd (no_cause q part ended r (valid_in q part ended r valid) calm_part r.refused.1)
 complete_of q part ended (inr (inr wanting)) valid calm_part = inr wanting.0
 
 -- a part without a failed command and without a fault has nothing that ends a run
@@ -151,6 +187,7 @@ no_stop_of (Fault call why) f g = absurd (cc)
 no_stop_of (Made scope path) f g = refl
 no_stop_of (Removed path how) f g = refl
 no_stop_of (Printed kind bytes) f g = refl
+no_stop_of (Listed vars) f g = refl
 
 pub unstopped : (part : List Event) → (Failed part → ⊥) → (HasFault part → ⊥) → stops part ≡ []
 unstopped [] f g = refl
@@ -197,10 +234,10 @@ faults_behind q part b before after call why is = by_line b.told
   where
     by_line : IsLine b.line → IsLine after
     by_line (inl none) =
-        inl (fault_ends (planned_steps q.1 q.0) b.run before after call why b.partly (sym (b.cut ∙ ap (λ l. b.run ++ l) none ∙ append-nil b.run) ∙ is))
+        inl (fault_ends (steps_of q b.run) b.run before after call why b.partly (sym (b.cut ∙ ap (λ l. b.run ++ l) none ∙ append-nil b.run) ∙ is))
     by_line (inr (inl printed)) =
         let found = in_run before after b.run (Fault call why) (Printed FaultLine printed.0) (sym (b.cut ∙ ap (λ l. b.run ++ l) printed.1) ∙ is) (λ same. cc) in
-        let none = fault_ends (planned_steps q.1 q.0) b.run before found.0 call why b.partly found.1.0 in
+        let none = fault_ends (steps_of q b.run) b.run before found.0 call why b.partly found.1.0 in
         inr (inl (printed.0, found.1.1 ∙ ap (λ l. l ++ Printed FaultLine printed.0 ∷ []) none))
     by_line (inr (inr faulted)) =
         either_way (last_or_before (Fault call why) (Fault Print faulted.0) after before b.run (sym (b.cut ∙ ap (λ l. b.run ++ l) faulted.1) ∙ is))
@@ -208,7 +245,7 @@ faults_behind q part b before after call why is = by_line b.told
         either_way : ((after ≡ []) × (Fault call why ≡ Fault Print faulted.0)) ⊎ ((rest : List Event) × ((b.run ≡ before ++ Fault call why ∷ rest) × (after ≡ rest ++ Fault Print faulted.0 ∷ []))) → IsLine after
         either_way (inl last) = inl last.0
         either_way (inr found) =
-            let none = fault_ends (planned_steps q.1 q.0) b.run before found.0 call why b.partly found.1.0 in
+            let none = fault_ends (steps_of q b.run) b.run before found.0 call why b.partly found.1.0 in
             inr (inr (faulted.0, found.1.1 ∙ ap (λ l. l ++ Fault Print faulted.0 ∷ []) none))
 
 alone_last : (x : Event) (before after : List Event) (event : Event) → x ∷ [] ≡ before ++ event ∷ after → after ≡ []

@@ -3,14 +3,14 @@ use Rattle.std.proofs.Common.{◌≡◌, ℕ, suc, ◌+◌, ◌<◌, List, [], �
 use Rattle.std.proofs.Math.Seq.{drop-cons}
 use Rattle.std.proofs.lemmas.Grind.{take_at_read}
 use Rattle.std.proofs.lemmas.List.{map-append}
-use Rattle.cc_plan.specs.declared.settings.BuildConfig.{BuildConfig}
+use Rattle.cc_build.specs.Build.{BuildSeen}
 use Rattle.cc_main.specs.Read.{bad_at, bad_or, bad_word, first_bad, word_cause, settings_of}
 use Rattle.cc_main.specs.Step.{with_word}
 use Rattle.cc_main.specs.declared.words.BadWord.{BadWord}
 use Rattle.cc_main.specs.declared.words.ReadError.{ReadError}
 use Rattle.cc_main.specs.declared.words.ReadError.TheVariants.{Bad}
 use Rattle.cc_main.specs.declared.words.WordCause.{WordCause}
-use Rattle.cc_main.proofs.KeyLaws.{next_settings}
+use Rattle.cc_main.proofs.SettingLaws.{next_settings}
 
 module _ {A : Type 0} (text : A → List ℕ) (words : List A) (i : ℕ) (word : A) where
   next_bad : (n : ℕ) → i < length words → word ≡ get_or words i word → first_bad n (map text (drop i words)) ≡ bad_or n (word_cause (text word)) (first_bad (n + 1) (map text (drop (i + 1) words)))
@@ -29,7 +29,7 @@ module _ {A : Type 0} (text : A → List ℕ) (words : List A) (i : ℕ) (word :
       ap (λ n. first_bad n (map text (drop (i + 1) words))) (omega arith)
       ∙ ap (λ c. bad_or (2 + i) c (first_bad (2 + i + 1) (map text (drop (i + 1) words)))) (sym fine) ∙ sym (next_bad (2 + i) within is) ∙ rest
 
-  pub set_here : (old new : BuildConfig) → i < length words → word ≡ get_or words i word → old ≡ settings_of (map text (take i words)) → new ≡ with_word old (text word) → new ≡ settings_of (map text (take (i + 1) words))
+  pub set_here : (old new : BuildSeen) → i < length words → word ≡ get_or words i word → old ≡ settings_of (map text (take i words)) → new ≡ with_word old (text word) → new ≡ settings_of (map text (take (i + 1) words))
   set_here old new within is before set =
       let more : take (i + 1) words ≡ take i words ++ word ∷ [] = (take_at_read words i word within).1 ∙ ap (λ w. take i words ++ w ∷ []) (sym is) in
       set ∙ ap (λ s. with_word s (text word)) before ∙ sym (next_settings (map text (take i words)) (text word)) ∙ ap settings_of (sym (ap (map text) more ∙ map-append text (take i words) (word ∷ [])))

@@ -1,15 +1,18 @@
 -- What the program answers to its words, and what it did for them.
-use Rattle.std.specs.Prelude.{◌≡◌, ◌⊎◌, ℕ, List, [], ◌∷◌, ◌++◌, Bool, true, false, Some, None, Result, Ok, Err, codes}
+use Rattle.std.specs.Prelude.{◌≡◌, ◌⊎◌, ℕ, List, [], ◌∷◌, ◌++◌, Bool, true, false, Option, Some, None, Result, Ok, Err, codes}
 use Rattle.std.specs.Fmt.{decimal}
-use Rattle.cc_host.specs.Part.{IsPartly}
+use Rattle.cc_env.specs.Env.{EnvSeen}
+use Rattle.cc_host.specs.Part.{Step, IsPartly, listings}
+use Rattle.cc_host.specs.Part.Step.{Lists}
 use Rattle.cc_host.specs.declared.event.Event.{Event}
-use Rattle.cc_host.specs.declared.event.Event.TheVariants.{Printed, Fault}
+use Rattle.cc_host.specs.declared.event.Event.TheVariants.{Printed, Fault, Listed}
 use Rattle.cc_host.specs.declared.event.HostCall.TheVariants.{Print}
 use Rattle.cc_host.specs.declared.event.LineKind.TheVariants.{Fault as FaultLine}
 use Rattle.cc_host.specs.declared.event.Why.{Why}
 use Rattle.cc_plan.specs.declared.settings.BuildConfig.{BuildConfig}
 use Rattle.cc_plan.specs.Plan.{planned_steps}
 use Rattle.cc_build.specs.Built.{Built}
+use Rattle.cc_build.specs.Captured.{with_vars}
 use Rattle.cc_build.specs.Error.{ErrorSeen}
 use Rattle.cc_build.specs.Outcome.{IsRefused}
 use Rattle.cc_build.specs.declared.error.ErrorKind.{ErrorKind}
@@ -68,22 +71,67 @@ AnswersError e part ended =
     ((ended ≡ ended_refused e) × (is_wanting e.kind ≡ false) × Tells (error_line e) part) ⊎ ((ended ≡ ended_wanting) × (part ≡ []))
 
 -- a compile run that was refused: its first steps were done, and the line of its error was printed last
-pub record Refused (set : BuildConfig) (name : List ℕ) (part : List Event) (ended : Ended) : Type 0 where
+pub record RunRefused (set : BuildConfig) (env : EnvSeen) (name : List ℕ) (part : List Event) (ended : Ended) : Type 0 where
   pub error : ErrorSeen
   pub run : List Event
   pub line : List Event
   pub cut : part ≡ run ++ line
   pub told : Tells (error_line error) line
-  pub refused : IsRefused (refusal_error set name) (planned_steps set name) run error
+  pub refused : IsRefused (refusal_error set env name) (planned_steps set env name) run error
   pub known : is_wanting error.kind ≡ false
   pub is : ended ≡ ended_refused error
 
 -- a compile run: it is built by its steps, or refused, or memory was wanted behind its first steps
-abbrev pub Answers : BuildConfig → List ℕ → List Event → Ended → Type 0
-Answers set name part ended =
-    ((ended ≡ ended_well) × (Built set name part × IsPartly (planned_steps set name) part))
-    ⊎ (Refused set name part ended
-    ⊎ ((ended ≡ ended_wanting) × IsPartly (planned_steps set name) part))
+abbrev pub RunAnswers : BuildConfig → EnvSeen → List ℕ → List Event → Ended → Type 0
+RunAnswers set env name part ended =
+    ((ended ≡ ended_well) × (Built set env name part × IsPartly (planned_steps set env name) part))
+    ⊎ (RunRefused set env name part ended
+    ⊎ ((ended ≡ ended_wanting) × IsPartly (planned_steps set env name) part))
+
+abbrev pub first_listing : List (List (List ℕ × List ℕ)) → List (List ℕ × List ℕ)
+first_listing [] = []
+first_listing (vars ∷ more) = vars
+
+-- the variables that the host listed first in a part, or none
+abbrev pub heard : List Event → List (List ℕ × List ℕ)
+heard part = first_listing (listings part)
+
+-- the environment of a request with the snapshot of the variables that were listed
+abbrev pub env_in : Request → List Event → EnvSeen
+env_in request part = with_vars request.1.env (heard part)
+
+-- the steps of a request: the host lists its variables, then come those of the compile run
+abbrev pub steps_of : Request → List Event → List Step
+steps_of request part = Lists ∷ planned_steps request.1.config (env_in request part) request.0
+
+-- the error of a request's settings
+abbrev pub error_of : Request → List Event → Option ErrorSeen
+error_of request part = refusal_error request.1.config (env_in request part) request.0
+
+-- The host listed its variables, and then the library was built with their snapshot.
+pub record BuiltBy (request : Request) (part : List Event) : Type 0 where
+  pub vars : List (List ℕ × List ℕ)
+  pub run : List Event
+  pub cut : part ≡ Listed vars ∷ run
+  pub built : Built request.1.config (with_vars request.1.env vars) request.0 run
+
+-- a request that was refused: its first steps were done, and the line of its error was printed last
+pub record Refused (request : Request) (part : List Event) (ended : Ended) : Type 0 where
+  pub error : ErrorSeen
+  pub run : List Event
+  pub line : List Event
+  pub cut : part ≡ run ++ line
+  pub told : Tells (error_line error) line
+  pub refused : IsRefused (error_of request run) (steps_of request run) run error
+  pub known : is_wanting error.kind ≡ false
+  pub is : ended ≡ ended_refused error
+
+-- a request: it is built by its steps, or refused, or memory was wanted behind its first steps
+abbrev pub Answers : Request → List Event → Ended → Type 0
+Answers request part ended =
+    ((ended ≡ ended_well) × (BuiltBy request part × IsPartly (steps_of request part) part))
+    ⊎ (Refused request part ended
+    ⊎ ((ended ≡ ended_wanting) × IsPartly (steps_of request part) part))
 
 -- bad words: their line alone was printed, or memory for it was wanted
 abbrev pub AnswersBad : BadWord → List Event → Ended → Type 0
@@ -91,5 +139,5 @@ AnswersBad bad part ended = ((ended ≡ ended_bad bad) × Tells (word_line bad) 
 
 -- What the words ask for was answered. Words that can't be read for want of memory ask for nothing.
 abbrev pub AnswersWords : Result Request BadWord → List Event → Ended → Type 0
-AnswersWords (Ok request) part ended = Answers request.1 request.0 part ended
+AnswersWords (Ok request) part ended = Answers request part ended
 AnswersWords (Err bad) part ended = AnswersBad bad part ended

@@ -1,4 +1,5 @@
 pub mod Answer
 pub mod Promises
 pub mod Read
+pub mod Sets
 pub mod Step

@@ -1,26 +1,26 @@
 -- What follows from an answer, each in one sentence.
-use Rattle.std.specs.Prelude.{◌≡◌, ◌⊎◌, ℕ, List, [], ◌∷◌, ◌++◌, Result, IfOk}
-use Rattle.cc_host.specs.Part.{IsPartly}
+use Rattle.std.specs.Prelude.{◌≡◌, ◌⊎◌, ℕ, List, [], ◌∷◌, ◌++◌, true, Result, IfOk}
+use Rattle.cc_host.specs.Part.{Step, done, IsPartly}
+use Rattle.cc_host.specs.Part.Step.{Lists}
 use Rattle.cc_host.specs.declared.event.Event.{Event}
 use Rattle.cc_host.specs.declared.event.Event.TheVariants.{Printed, Fault}
 use Rattle.cc_host.specs.declared.event.HostCall.{HostCall}
 use Rattle.cc_host.specs.declared.event.HostCall.TheVariants.{Print}
 use Rattle.cc_host.specs.declared.event.LineKind.TheVariants.{Fault as FaultLine}
 use Rattle.cc_host.specs.declared.event.Why.{Why}
-use Rattle.cc_plan.specs.Plan.{planned_steps}
+use Rattle.cc_plan.specs.Plan.{folder_steps, compile_steps}
 use Rattle.cc_plan.specs.Valid.{Valid}
-use Rattle.cc_build.specs.Built.{Built}
 use Rattle.cc_build.specs.Error.{ErrorSeen}
 use Rattle.cc_build.specs.Failed.{Failed, HasFault}
-use Rattle.cc_build.specs.Order.{ArchivesLast}
-use Rattle.cc_main.specs.Answer.{Tells, error_line, word_line, ended_well, ended_refused, ended_bad, ended_wanting}
+use Rattle.cc_build.specs.Order.{is_archive_event}
+use Rattle.cc_main.specs.Answer.{Tells, BuiltBy, env_in, steps_of, error_line, word_line, ended_well, ended_refused, ended_bad, ended_wanting}
 use Rattle.cc_main.specs.Read.{Request}
 use Rattle.cc_main.specs.declared.top.Ended.{Ended}
 use Rattle.cc_main.specs.declared.words.BadWord.{BadWord}
 
--- Status 0 means that the library of the words is built.
+-- Status 0 means that the host listed its variables, and that the library of the words is built with their snapshot.
 abbrev pub Headline : Result Request BadWord → List Event → Ended → Type 0
-Headline words part ended = IfOk words (λ request. ended.status ≡ 0 → Built request.1 request.0 part)
+Headline words part ended = IfOk words (λ request. ended.status ≡ 0 → BuiltBy request part)
 
 -- the part ends with this line of kind Fault, or with the fault of its print
 pub record EndsWith (line : List ℕ) (part : List Event) : Type 0 where
@@ -44,20 +44,23 @@ IsLine line =
     ⊎ (((bytes : List ℕ) × (line ≡ Printed FaultLine bytes ∷ []))
     ⊎ ((why : Why) × (line ≡ Fault Print why ∷ [])))
 
--- On every exit the first steps of the compile run were done, each once and in order, and behind them stands at most a line of kind Fault.
+-- On every exit the first steps of the request were done, each once and in order, and behind them stands at most a line of kind Fault.
 pub record Begun (request : Request) (part : List Event) : Type 0 where
   pub run : List Event
   pub line : List Event
   pub cut : part ≡ run ++ line
-  pub partly : IsPartly (planned_steps request.1 request.0) run
+  pub partly : IsPartly (steps_of request run) run
   pub told : IsLine line
 
 abbrev pub IsBegun : Result Request BadWord → List Event → Type 0
 IsBegun words part = IfOk words (λ request. Begun request part)
 
--- No archive command stands in the part unless every source's compile command stands before it with the end 0.
+-- No archive command stands in the part unless, before it, the folder was made and every source's compile command ended with 0.
+abbrev pub ArchivesBehind : Request → List Event → Type 0
+ArchivesBehind request part = (before after : List Event) (event : Event) → part ≡ before ++ event ∷ after → is_archive_event event ≡ true → (rest : List Step) × (done before ≡ (Lists ∷ (folder_steps request.1.config (env_in request part) ++ compile_steps request.1.config (env_in request part))) ++ rest)
+
 abbrev pub CompilesFirst : Result Request BadWord → List Event → Type 0
-CompilesFirst words part = IfOk words (λ request. ArchivesLast request.1 part)
+CompilesFirst words part = IfOk words (λ request. ArchivesBehind request part)
 
 -- Behind a fault stands nothing but a line of kind Fault, or the fault of its print.
 abbrev pub FaultsLast : List Event → Type 0
@@ -65,4 +68,4 @@ FaultsLast part = (before after : List Event) (call : HostCall) (why : Why) → 
 
 -- Valid settings, no failed command and no fault: it is done, or memory was wanted.
 abbrev pub IsComplete : Result Request BadWord → List Event → Ended → Type 0
-IsComplete words part ended = IfOk words (λ request. Valid request.1 request.0 → (Failed part → ⊥) → (HasFault part → ⊥) → (ended ≡ ended_well) ⊎ (ended ≡ ended_wanting))
+IsComplete words part ended = IfOk words (λ request. Valid request.1.config (env_in request part) request.0 → (Failed part → ⊥) → (HasFault part → ⊥) → (ended ≡ ended_well) ⊎ (ended ≡ ended_wanting))

@@ -1,11 +1,16 @@
 -- What the words of the program ask for: `compile NAME key=value ...`.
-use Rattle.std.specs.Prelude.{◌≡◌, ℕ, ◌+◌, ◌^◌, List, [], ◌∷◌, ◌++◌, Bool, true, false, ◌&&◌, ◌||◌, fold, Option, Some, None, Result, Ok, Err, is_some, nat_lt, codes, bytes_eq, if◌then◌else◌}
+use Rattle.std.specs.Prelude.{◌≡◌, ℕ, ◌+◌, ◌^◌, List, [], ◌∷◌, ◌++◌, Bool, true, false, not, ◌&&◌, ◌||◌, fold, map, Option, Some, None, Result, Ok, Err, is_some, nat_lt, codes, bytes_eq, unwrap_or, if◌then◌else◌}
 use Prim.Native.String.{String}
 use Rattle.std.specs.Fmt.{decimal}
-use Rattle.std.specs.List.{flat_map}
+use Rattle.std.specs.List.{flat_map, list_any}
+use Rattle.std.specs.Option.{option_map}
 use Rattle.std.specs.Str.Parse.{digits_value}
 use Rattle.cc_text.specs.Cuts.{key_and_value}
-use Rattle.cc_plan.specs.declared.settings.BuildConfig.{BuildConfig}
+use Rattle.cc_plan.specs.Flags.{without}
+use Rattle.cc_plan.specs.declared.flags.BuildFlag.{BuildFlag}
+use Rattle.cc_plan.specs.declared.flags.BuildFlag.TheVariants.{Always}
+use Rattle.cc_plan.specs.declared.flags.Definition.{Definition}
+use Rattle.cc_build.specs.Build.{BuildSeen}
 use Rattle.cc_main.specs.declared.words.BadWord.{BadWord}
 use Rattle.cc_main.specs.declared.words.WordCause.{WordCause}
 use Rattle.cc_main.specs.declared.words.WordCause.TheVariants.{NoCommand, UnknownCommand, NoName, NoValue, UnknownKey, BadValue}
@@ -34,22 +39,39 @@ abbrev pub IsTruthOf : List ℕ → Option Bool → Type 0
 IsTruthOf text None = is_truth text ≡ false
 IsTruthOf text (Some on) = (is_truth text ≡ true) × (on ≡ is text "true")
 
+-- a key whose value is one text
 unfoldable pub is_text_key : List ℕ → Bool
-is_text_key key = is key "file" || is key "target" || is key "host" || is key "out_dir" || is key "compiler" || is key "archiver"
+is_text_key key =
+    is key "source_root" || is key "std" || is key "target" || is key "host" || is key "opt_level_str" || is key "out_dir"
+    || is key "compiler" || is key "archiver" || is key "cpp_set_stdlib"
 
-abbrev pub level_cause : List ℕ → Option WordCause
-level_cause value = if is_number value then None else Some BadValue
+-- a key whose values are kept one after another
+unfoldable pub is_item_key : List ℕ → Bool
+is_item_key key = is key "file" || is key "include" || is key "asm_flag" || is key "flag" || is key "remove_flag" || is key "define"
 
-abbrev pub truth_cause : List ℕ → Option WordCause
-truth_cause value = if is_truth value then None else Some BadValue
+-- a key of a setting that is on or off, or unset
+unfoldable pub is_choice_key : List ℕ → Bool
+is_choice_key key =
+    is key "shared_flag" || is key "static_flag" || is key "warnings" || is key "extra_warnings" || is key "pic" || is key "use_plt"
+    || is key "static_crt" || is key "shell_escaped_flags"
+
+-- a key of a setting that is on or off
+unfoldable pub is_switch_key : List ℕ → Bool
+is_switch_key key =
+    is key "no_default_flags" || is key "reproducible_codeview" || is key "cpp" || is key "warnings_into_errors" || is key "cargo_warnings"
+    || is key "emit_rerun_if_env_changed"
+
+abbrev pub cause_unless : Bool → Option WordCause
+cause_unless fine = if fine then None else Some BadValue
 
 -- what is wrong with a value, or with its key
 unfoldable pub key_cause : List ℕ → List ℕ → Option WordCause
 key_cause key value =
-    if is_text_key key then None
-    else (if is key "opt_level" then level_cause value
-    else (if is key "emit_rerun_if_env_changed" then truth_cause value
-    else Some UnknownKey))
+    if is_text_key key || is_item_key key then None
+    else (if is_choice_key key || is_switch_key key then cause_unless (is_truth value)
+    else (if is key "opt_level" then cause_unless (is_number value)
+    else (if is key "env" then cause_unless (is_some (key_and_value value))
+    else Some UnknownKey)))
 
 abbrev pub pair_cause : Option (List ℕ × List ℕ) → Option WordCause
 pair_cause None = Some NoValue
@@ -71,44 +93,110 @@ abbrev pub first_bad : ℕ → List (List ℕ) → Option BadWord
 first_bad n [] = None
 first_bad n (word ∷ words) = bad_or n (word_cause word) (first_bad (n + 1) words)
 
--- the value of a pair, where it has this key
-abbrev pub value_of : String → List ℕ → List ℕ → List (List ℕ)
-value_of name key value = if is key name then value ∷ [] else []
+-- the value of a pair, where its key passes the test
+abbrev pub value_of : (List ℕ → Bool) → List ℕ → List ℕ → List (List ℕ)
+value_of test key value = if test key then value ∷ [] else []
 
-abbrev pub pair_value : String → Option (List ℕ × List ℕ) → List (List ℕ)
-pair_value name None = []
-pair_value name (Some pair) = value_of name pair.0 pair.1
+abbrev pub pair_value : (List ℕ → Bool) → Option (List ℕ × List ℕ) → List (List ℕ)
+pair_value test None = []
+pair_value test (Some pair) = value_of test pair.0 pair.1
 
--- the values of a key, in the order of the words
-unfoldable pub values : String → List (List ℕ) → List (List ℕ)
-values name words = flat_map (λ word. pair_value name (key_and_value word)) words
+-- the values of the keys that pass the test, in the order of the words
+unfoldable pub values : (List ℕ → Bool) → List (List ℕ) → List (List ℕ)
+values test words = flat_map (λ word. pair_value test (key_and_value word)) words
+
+-- this key
+abbrev pub by : String → List ℕ → Bool
+by name key = is key name
+
+-- one of these two keys
+abbrev pub by_either : String → String → List ℕ → Bool
+by_either first second key = is key first || is key second
 
 -- the last of these, or what was before them
 abbrev pub latest : Option (List ℕ) → List (List ℕ) → Option (List ℕ)
 latest before values = fold (λ old value. Some value) before values
 
-abbrev pub last_value : String → List (List ℕ) → Option (List ℕ)
-last_value name words = latest None (values name words)
-
 -- the last truth value, or what was before them
 abbrev pub latest_truth : Bool → List (List ℕ) → Bool
 latest_truth before values = fold (λ old value. is value "true") before values
 
+abbrev pub latest_choice : Option Bool → List (List ℕ) → Option Bool
+latest_choice before values = fold (λ old value. Some (is value "true")) before values
+
+-- a text, or none where it is empty
+abbrev pub unless_empty : List ℕ → Option (List ℕ)
+unless_empty [] = None
+unless_empty (b ∷ text) = Some (b ∷ text)
+
+-- the last text, or none where that is empty
+abbrev pub latest_nonempty : Option (List ℕ) → List (List ℕ) → Option (List ℕ)
+latest_nonempty before values = fold (λ old value. unless_empty value) before values
+
+-- a macro of `K` or `K=V`
+abbrev pub definition_parts : List ℕ → Option (List ℕ × List ℕ) → Definition
+definition_parts value None = record { name = value; value = None }
+definition_parts value (Some pair) = record { name = pair.0; value = Some pair.1 }
+
+abbrev pub definition_of : List ℕ → Definition
+definition_of value = definition_parts value (key_and_value value)
+
+-- a variable of `K=V`
+abbrev pub variable_of : List ℕ → List ℕ × List ℕ
+variable_of value = unwrap_or (key_and_value value) (value, [])
+
+-- one of these is the text
+abbrev pub is_among : List (List ℕ) → List ℕ → Bool
+is_among texts text = list_any (λ t. bytes_eq text t) texts
+
+-- the flag of a word, unless one of the words behind it takes it out
+abbrev pub flag_of : Option (List ℕ × List ℕ) → List (List ℕ) → List BuildFlag
+flag_of None removed = []
+flag_of (Some pair) removed = if is pair.0 "flag" && not (is_among removed pair.1) then Always pair.1 ∷ [] else []
+
+-- the flags, in order: each stands where no later word takes it out
+abbrev pub flags_of : List (List ℕ) → List BuildFlag
+flags_of [] = []
+flags_of (word ∷ words) = flag_of (key_and_value word) (values (by "remove_flag") words) ++ flags_of words
+
 -- a list setting has the values of its key in order, a single one the last
-abbrev pub settings_of : List (List ℕ) → BuildConfig
+abbrev pub settings_of : List (List ℕ) → BuildSeen
 settings_of words = record {
-  files = values "file" words;
-  target = last_value "target" words;
-  host = last_value "host" words;
-  opt_level = last_value "opt_level" words;
-  out_dir = last_value "out_dir" words;
-  compiler = last_value "compiler" words;
-  archiver = last_value "archiver" words;
-  emit_rerun_if_env_changed = latest_truth true (values "emit_rerun_if_env_changed" words);
+  config = record {
+    files = values (by "file") words;
+    includes = values (by "include") words;
+    asm_flags = values (by "asm_flag") words;
+    flags = flags_of words;
+    definitions = map definition_of (values (by "define") words);
+    source_root = latest None (values (by "source_root") words);
+    std = latest None (values (by "std") words);
+    target = latest None (values (by "target") words);
+    host = latest None (values (by "host") words);
+    opt_level = latest None (values (by_either "opt_level" "opt_level_str") words);
+    out_dir = latest None (values (by "out_dir") words);
+    compiler = latest None (values (by "compiler") words);
+    archiver = latest None (values (by "archiver") words);
+    cpp_set_stdlib = latest_nonempty None (values (by "cpp_set_stdlib") words);
+    shared_flag = latest_choice None (values (by "shared_flag") words);
+    static_flag = latest_choice None (values (by "static_flag") words);
+    warnings = latest_choice None (values (by "warnings") words);
+    extra_warnings = latest_choice None (values (by_either "extra_warnings" "warnings") words);
+    pic = latest_choice None (values (by "pic") words);
+    use_plt = latest_choice None (values (by "use_plt") words);
+    static_crt = latest_choice None (values (by "static_crt") words);
+    shell_escaped_flags = latest_choice None (values (by "shell_escaped_flags") words);
+    no_default_flags = latest_truth false (values (by "no_default_flags") words);
+    reproducible_codeview = latest_truth false (values (by "reproducible_codeview") words);
+    cpp = latest_truth false (values (by "cpp") words);
+    warnings_into_errors = latest_truth false (values (by "warnings_into_errors") words);
+    cargo_warnings = latest_truth true (values (by "cargo_warnings") words);
+    emit_rerun_if_env_changed = latest_truth true (values (by "emit_rerun_if_env_changed") words);
+  };
+  env = record { inherited = []; explicit = map variable_of (values (by "env") words) };
 }
 
 abbrev pub Request : Type 0
-Request = List ℕ × BuildConfig
+Request = List ℕ × BuildSeen
 
 abbrev pub read_settings : List ℕ → List (List ℕ) → Option BadWord → Result Request BadWord
 read_settings name words (Some bad) = Err bad

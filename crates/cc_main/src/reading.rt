@@ -1,7 +1,9 @@
 // Reads the words of the program.
-ghost use Rattle.std.specs.Prelude.{◌≡◌, ◌⊎◌, Ok, Err, Some, None, map, IfOk, IfErr, MatchResult, IsErr, string_bytes};
-ghost use Rattle.cc_main.specs.Read.{bad_at, is, IsNumberOf, IsTruthOf, level_cause, truth_cause, key_cause, word_cause, first_bad, bad_word, read, name_of, refusal_of, settings_of};
+ghost use Rattle.std.specs.Prelude.{◌≡◌, ◌⊎◌, ◌++◌, [], ◌∷◌, List, ℕ, Ok, Err, Some, None, map, true, false, IfOk, IfErr, OnOk, MatchResult, IsErr, string_bytes, codes};
+ghost use Rattle.std.specs.Option.{option_copied};
+ghost use Rattle.cc_main.specs.Read.{bad_at, is, IsNumberOf, IsTruthOf, is_truth, is_text_key, is_item_key, is_choice_key, is_switch_key, is_number, cause_unless, definition_of, unless_empty, key_cause, word_cause, first_bad, bad_word, read, name_of, refusal_of, settings_of};
 ghost use Rattle.cc_main.specs.Step.{with_key, with_word};
+ghost use Rattle.cc_main.specs.Sets.{Sets};
 ghost use Rattle.cc_main.specs.declared.words.ReadError.TheVariants.{Bad, NoMemory as WantsMemory};
 
 use crate::words::{BadWord, Job, ReadError, Request, WordCause};
@@ -47,8 +49,140 @@ fn set(answer: Result<(), Error>) -> Mem<Option<WordCause>>
     }
 }
 
+fn unless_empty(text: &str) -> Option<&str>
+    ensures { option_copied result ≡ unless_empty text.now }
+{
+    match text {
+        "" => None,
+        text => Some(text),
+    }
+}
+
+// Calls the setter of a key whose value is one text, or of another key.
+fn set_key<W: World>(
+    alloc: Global,
+    build: &mut Build<W>,
+    key: &str,
+    value: &str,
+) -> Mem<Option<WordCause>>
+    ensures { IfOk result (Sets build.old build.new key.now value.now) }
+{
+    match key {
+        "source_root" => set(build.source_root(value)),
+        "std" => set(build.std(value)),
+        "target" => set(build.target(value)),
+        "host" => set(build.host(value)),
+        "opt_level_str" => set(build.opt_level_str(value)),
+        "out_dir" => set(build.out_dir(value)),
+        "compiler" => set(build.compiler(value)),
+        "archiver" => set(build.archiver(value)),
+        "cpp_set_stdlib" => set(build.cpp_set_stdlib(unless_empty(value))),
+        _ => set_item(alloc, build, key, value),
+    }
+}
+
+// Adds the macro of `K` or `K=V`.
+fn define<W: World>(build: &mut Build<W>, value: &str) -> Result<(), Error>
+    ensures { OnOk result (build.new ≡ record build.old { config = record build.old.config { definitions = build.old.config.definitions ++ definition_of value.now ∷ [] } }) }
+{
+    match key_and_value(value) {
+        Some((name, value)) => build.define(name, Some(value)),
+        None => build.define(value, None),
+    }
+}
+
+// Calls the setter of a key whose values are kept one after another, or of another key.
+fn set_item<W: World>(
+    alloc: Global,
+    build: &mut Build<W>,
+    key: &str,
+    value: &str,
+) -> Mem<Option<WordCause>>
+    requires { is_text_key key.now ≡ false }
+    ensures { IfOk result (Sets build.old build.new key.now value.now) }
+{
+    match key {
+        "file" => set(build.file(value)),
+        "include" => set(build.include(value)),
+        "asm_flag" => set(build.asm_flag(value)),
+        "flag" => set(build.flag(value)),
+        "define" => set(define(build, value)),
+        "remove_flag" => {
+            build.remove_flag(value);
+            Ok(None)
+        }
+        _ => set_other(alloc, build, key, value),
+    }
+}
+
+#[tactic(auto, unfolding(crate::specs::Read::is_choice_key))]
+fn is_choice_key(key: &str) -> bool
+    ensures { result ≡ is_choice_key key.now }
+{
+    matches!(
+        key,
+        "shared_flag"
+            | "static_flag"
+            | "warnings"
+            | "extra_warnings"
+            | "pic"
+            | "use_plt"
+            | "static_crt"
+            | "shell_escaped_flags"
+    )
+}
+
+#[tactic(auto, unfolding(crate::specs::Read::is_switch_key))]
+fn is_switch_key(key: &str) -> bool
+    ensures { result ≡ is_switch_key key.now }
+{
+    matches!(
+        key,
+        "no_default_flags"
+            | "reproducible_codeview"
+            | "cpp"
+            | "warnings_into_errors"
+            | "cargo_warnings"
+            | "emit_rerun_if_env_changed"
+    )
+}
+
+// Sets what is on or off, or unset.
+fn set_choice<W: World>(build: &mut Build<W>, key: &str, on: bool)
+    requires { is_choice_key key.now ≡ true }
+    ensures { (value : List ℕ) → is value "true" ≡ on → build.new ≡ with_key build.old key.now value }
+{
+    match key {
+        "shared_flag" => build.shared_flag(on),
+        "static_flag" => build.static_flag(on),
+        "warnings" => build.warnings(on),
+        "extra_warnings" => build.extra_warnings(on),
+        "pic" => build.pic(on),
+        "use_plt" => build.use_plt(on),
+        "static_crt" => build.static_crt(on),
+        "shell_escaped_flags" => build.shell_escaped_flags(on),
+        _ => {}
+    }
+}
+
+// Sets what is on or off.
+fn set_switch<W: World>(build: &mut Build<W>, key: &str, on: bool)
+    requires { is_switch_key key.now ≡ true }
+    ensures { (value : List ℕ) → is value "true" ≡ on → build.new ≡ with_key build.old key.now value }
+{
+    match key {
+        "no_default_flags" => build.no_default_flags(on),
+        "reproducible_codeview" => build.reproducible_codeview(on),
+        "cpp" => build.cpp(on),
+        "warnings_into_errors" => build.warnings_into_errors(on),
+        "cargo_warnings" => build.cargo_warnings(on),
+        "emit_rerun_if_env_changed" => build.emit_rerun_if_env_changed(on),
+        _ => {}
+    }
+}
+
 fn set_level<W: World>(alloc: Global, build: &mut Build<W>, value: &str) -> Mem<Option<WordCause>>
-    ensures { IfOk result (λ cause. (cause ≡ level_cause value.now) × (cause ≡ None → build.new ≡ record build.old { opt_level = Some value.now })) }
+    ensures { IfOk result (λ cause. (cause ≡ cause_unless (is_number value.now)) × (cause ≡ None → build.new ≡ record build.old { config = record build.old.config { opt_level = Some value.now } })) }
 {
     match number_of(alloc, value)? {
         Some(n) => set(build.opt_level(n)),
@@ -56,38 +190,53 @@ fn set_level<W: World>(alloc: Global, build: &mut Build<W>, value: &str) -> Mem<
     }
 }
 
-fn set_rerun<W: World>(build: &mut Build<W>, value: &str) -> Option<WordCause>
-    ensures cause { result ≡ truth_cause value.now }
-    ensures set { result ≡ None → build.new ≡ record build.old { emit_rerun_if_env_changed = is value.now "true" } }
+// Sets the variable of `K=V`.
+fn set_variable<W: World>(build: &mut Build<W>, value: &str) -> Mem<Option<WordCause>>
+    ensures { IfOk result (Sets build.old build.new (codes "env") value.now) }
 {
-    match truth_of(value) {
-        Some(on) => {
-            build.emit_rerun_if_env_changed(on);
-            None
-        }
-        None => Some(WordCause::BadValue),
+    match key_and_value(value) {
+        Some((name, value)) => set(build.env(name, value)),
+        None => Ok(Some(WordCause::BadValue)),
     }
 }
 
-// Calls the setter of the key.
-fn set_key<W: World>(
+// Calls the setter of a key of another kind, if there is one.
+fn set_other<W: World>(
     alloc: Global,
     build: &mut Build<W>,
     key: &str,
     value: &str,
 ) -> Mem<Option<WordCause>>
-    ensures { IfOk result (λ cause. (cause ≡ key_cause key.now value.now) × (cause ≡ None → build.new ≡ with_key build.old key.now value.now)) }
+    requires text { is_text_key key.now ≡ false }
+    requires item { is_item_key key.now ≡ false }
+    ensures { IfOk result (Sets build.old build.new key.now value.now) }
 {
+    if is_choice_key(key) || is_switch_key(key) {
+        return Ok(set_truth(build, key, value));
+    }
     match key {
-        "file" => set(build.file(value)),
-        "target" => set(build.target(value)),
-        "host" => set(build.host(value)),
-        "out_dir" => set(build.out_dir(value)),
-        "compiler" => set(build.compiler(value)),
-        "archiver" => set(build.archiver(value)),
         "opt_level" => set_level(alloc, build, value),
-        "emit_rerun_if_env_changed" => Ok(set_rerun(build, value)),
+        "env" => set_variable(build, value),
         _ => Ok(Some(WordCause::UnknownKey)),
+    }
+}
+
+// Sets what is on or off by a truth value.
+fn set_truth<W: World>(build: &mut Build<W>, key: &str, value: &str) -> Option<WordCause>
+    requires { (is_choice_key key.now ≡ true) ⊎ (is_switch_key key.now ≡ true) }
+    ensures cause { result ≡ cause_unless (is_truth value.now) }
+    ensures set { result ≡ None → build.new ≡ with_key build.old key.now value.now }
+{
+    match truth_of(value) {
+        Some(on) => {
+            if is_choice_key(key) {
+                set_choice(build, key, on);
+            } else {
+                set_switch(build, key, on);
+            }
+            None
+        }
+        None => Some(WordCause::BadValue),
     }
 }
 

@@ -2,7 +2,7 @@
 ghost use Rattle.std.specs.Prelude.{◌≡◌, ◌++◌, [], map, string_bytes, IfOk, OnOk, OnErr};
 ghost use Rattle.std.specs.Fmt.{decimal};
 ghost use Rattle.cc_host.specs.Part.{since};
-ghost use Rattle.cc_main.specs.Answer.{Tells, Answers, AnswersError, AnswersBad, AnswersWords, is_wanting, ended_wanting as wanting, cause_text as text_of, word_line as line_of_word, error_line as line_of_error};
+ghost use Rattle.cc_main.specs.Answer.{Tells, RunAnswers, Answers, AnswersError, AnswersBad, AnswersWords, is_wanting, ended_wanting as wanting, cause_text as text_of, word_line as line_of_word, error_line as line_of_error};
 ghost use Rattle.cc_main.specs.Promises.{Headline, TellsLast, IsBegun, CompilesFirst, FaultsLast, IsComplete};
 ghost use Rattle.cc_main.specs.Read.{name_of, read};
 
@@ -134,11 +134,11 @@ fn refuse<W: World, H: Host<W>>(alloc: Global, host: &mut H, error: Error) -> En
     }
 }
 
-// Compiles the sources of the build into the library of this name.
+// Compiles the sources of the build, whose environment was captured, into the library of this name.
 #[tactic(auto, using(cc_host::proofs::Parts::since_append))]
 fn compile<W: World, H: Host<W>>(alloc: Global, build: &Build<W>, name: &str, host: &mut H) -> Ended
     ensures extends { H.log host.new ≡ H.log host.old ++ since (H.log host.old) (H.log host.new) }
-    ensures answer { Answers build.now name.now (since (H.log host.old) (H.log host.new)) result }
+    ensures answer { RunAnswers build.now.config build.now.env name.now (since (H.log host.old) (H.log host.new)) result }
 {
     match build.try_compile(host, name) {
         Ok(()) => Ended {
@@ -150,13 +150,31 @@ fn compile<W: World, H: Host<W>>(alloc: Global, build: &Build<W>, name: &str, ho
     }
 }
 
-// Does what was asked for.
-fn serve<W: World, H: Host<W>>(alloc: Global, request: &Request<W>, host: &mut H) -> Ended
+// Takes the host's variables, and compiles.
+#[tactic(auto, using(cc_host::proofs::Parts::since_append))]
+fn capture_and_compile<W: World, H: Host<W>>(
+    alloc: Global,
+    build: &mut Build<W>,
+    name: &str,
+    host: &mut H,
+) -> Ended
     ensures extends { H.log host.new ≡ H.log host.old ++ since (H.log host.old) (H.log host.new) }
-    ensures answer { Answers request.now.build (name_of request.now.job) (since (H.log host.old) (H.log host.new)) result }
+    ensures answer { Answers (name.now, build.old) (since (H.log host.old) (H.log host.new)) result }
 {
-    match &request.job {
-        Job::Compile(name) => compile(alloc, &request.build, name.as_str(), host),
+    match build.capture(host) {
+        Ok(()) => compile(alloc, build, name, host),
+        Err(error) => refuse(alloc, host, error),
+    }
+}
+
+// Does what was asked for.
+fn serve<W: World, H: Host<W>>(alloc: Global, request: Request<W>, host: &mut H) -> Ended
+    ensures extends { H.log host.new ≡ H.log host.old ++ since (H.log host.old) (H.log host.new) }
+    ensures answer { Answers (name_of request.job, request.build) (since (H.log host.old) (H.log host.new)) result }
+{
+    let Request { job, mut build } = request;
+    match job {
+        Job::Compile(name) => capture_and_compile(alloc, &mut build, name.as_str(), host),
     }
 }
 
@@ -167,7 +185,7 @@ fn run<W: World, H: Host<W>>(alloc: Global, words: &[String], host: &mut H) -> E
     ensures answer { AnswersWords (read (map string_bytes words.now)) (since (H.log host.old) (H.log host.new)) result }
 {
     match read_words::<W>(alloc, words) {
-        Ok(request) => serve(alloc, &request, host),
+        Ok(request) => serve(alloc, request, host),
         Err(ReadError::Bad(bad)) => refuse_word(alloc, host, bad),
         Err(ReadError::NoMemory) => ended_wanting(),
     }
@@ -175,8 +193,8 @@ fn run<W: World, H: Host<W>>(alloc: Global, words: &[String], host: &mut H) -> E
 
 /// Reads the words, runs what they ask for on the host, and prints.
 ///
-/// Status 0 of `compile NAME ..` means: the part of the log that this call added starts one planned compile command per
-/// source, in the order added, each ended with 0; then the old library is removed; then the planned archive and index
+/// Status 0 of `compile NAME ..` means: in the part of the log that this call added the host listed its variables; then it starts one
+/// planned compile command per source, in the order added, each ended with 0; then the old library is removed; then the planned archive and index
 /// commands ended with 0; then exactly the link lines were printed.
 #[tactic(auto, using(cc_host::proofs::Parts::since_append))]
 pub fn drive<W: World, H: Host<W>>(alloc: Global, words: &[String], host: &mut H) -> Ended

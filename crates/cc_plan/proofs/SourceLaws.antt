@@ -1,5 +1,5 @@
 -- One source more, in the order in which sources are taken.
-use Rattle.std.proofs.Common.{◌≡◌, ℕ, suc, ◌+◌, ◌<◌, List, [], ◌∷◌, ◌++◌, length, take, drop, get_or, map, Bool, true, false, Option, Some, None, is_none, bytes_eq, if◌then◌else◌, refl, sym, ◌∙◌, ap, add-one, arith, zero-add}
+use Rattle.std.proofs.Common.{◌≡◌, ℕ, suc, ◌+◌, ◌<◌, List, [], ◌∷◌, ◌++◌, length, take, drop, get_or, map, Bool, true, false, Option, Some, None, is_none, bytes_eq, if◌then◌else◌, refl, sym, ◌∙◌, ap, subst, IsTrue, ◌↔◌, unwrap_or, ◌⊎◌, inl, inr, add-one, arith, zero-add}
 use Rattle.std.proofs.Math.Seq.{drop-cons}
 use Rattle.std.proofs.lemmas.Grind.{take_at_read}
 use Rattle.std.proofs.lemmas.List.{length-take-le}
@@ -7,10 +7,15 @@ use Rattle.std.specs.Option.{option_map}
 use Rattle.std.specs.Map.{update}
 use Rattle.std.specs.Path.{path_file_name}
 use Rattle.std.proofs.lemmas.Slice.Eq.{bytes_eq-Decides}
-use Rattle.cc_plan.specs.Refusal.{place_from, earlier_place, source_refusal, first_of, sources_after, sources_refusal}
+use Rattle.cc_env.specs.Env.{EnvSeen}
+use Rattle.cc_plan.specs.Given.{out_dir_of}
+use Rattle.cc_plan.specs.Object.{object_path}
+use Rattle.cc_plan.specs.declared.error.PlanError.{PlanError}
+use Rattle.cc_plan.specs.declared.settings.BuildConfig.{BuildConfig}
+use Rattle.cc_plan.specs.Refusal.{name_refusal, out_dir_refusal, early_refusal, late_refusal, tool_refusal, is_empty, place_from, earlier_place, source_refusal, first_of, sources_after, sources_refusal}
 use Rattle.cc_plan.specs.declared.error.ArgumentCause.{ArgumentCause}
 use Rattle.cc_plan.specs.declared.error.ArgumentCause.TheVariants.{NoFileName, SameObject}
-use Rattle.cc_plan.specs.declared.error.PlanError.TheVariants.{Argument}
+use Rattle.cc_plan.specs.declared.error.PlanError.TheVariants.{Argument, NoMemory as WantsMemory}
 
 -- the source at a place, and then the rest
 pub next_source : (path : List ℕ → List ℕ) (files : List (List ℕ)) (i : ℕ) (source : List ℕ) → i < length files → source ≡ get_or files i source → sources_after path (take i files) (drop i files) ≡ first_of (source_refusal path (take i files) source) (sources_after path (take (i + 1) files) (drop (i + 1) files))
@@ -85,3 +90,22 @@ places_more old texts t i length_is known new text =
         rw e (sym (place_more 0 text texts t ∙ none_first _ _ none ∙ rw eq (ap Some (zero-add (length texts) ∙ sym length_is))))
     by_test false e =
         rw e (known text ∙ sym (place_more 0 text texts t ∙ rw (turned t text e) (first_none (place_from 0 text texts))))
+
+-- where the checks before them pass, a refusal of the sources is that of all
+pub early_by_sources : (set : BuildConfig) (env : EnvSeen) (output dir : List ℕ) (e : PlanError) → name_refusal output ≡ None → out_dir_of set env ≡ Some dir → out_dir_refusal (out_dir_of set env) ≡ None → (e ≡ WantsMemory) ⊎ (sources_refusal (object_path env.inherited set.source_root dir) set.files ≡ Some e) → (e ≡ WantsMemory) ⊎ (early_refusal set env output ≡ Some e)
+unfolding early_refusal
+early_by_sources set env output dir e name is passed (inl memory) = inl memory
+early_by_sources set env output dir e name is passed (inr refused) =
+    let path : unwrap_or (out_dir_of set env) [] ≡ dir = ap (λ d. unwrap_or d []) is in
+    inr (rw (name, passed) (subst (λ (d : List ℕ). sources_refusal (λ source. object_path env.inherited set.source_root d source) set.files ≡ Some e) (sym path) refused))
+
+some_files : (files : List (List ℕ)) → (files ≡ [] → ⊥) → is_empty files ≡ false
+some_files [] h = absurd (h refl)
+some_files (file ∷ files) h = refl
+
+-- where there is a source, what the tool passes is passed behind the folder
+pub late_by_tool : (set : BuildConfig) (env : EnvSeen) (empty : Bool) → (IsTrue empty ↔ (set.files ≡ [])) → empty ≡ false → tool_refusal set env ≡ None → late_refusal set env ≡ None
+unfolding late_refusal
+late_by_tool set env empty same is passed =
+    let some : is_empty set.files ≡ false = some_files set.files (λ none. let t : IsTrue empty = same.1 none in cc) in
+    rw some passed

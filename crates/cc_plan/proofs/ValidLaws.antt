@@ -3,9 +3,10 @@ use Rattle.std.proofs.Common.{◌≡◌, ◌≢◌, ℕ, ◌+◌, List, [], ◌�
 use Rattle.std.specs.List.{AllByRecursion}
 use Rattle.std.specs.Path.{path_file_name}
 use Rattle.std.proofs.lemmas.Slice.Eq.{bytes_eq-Decides}
-use Rattle.cc_plan.specs.Object.{object_path}
-use Rattle.cc_plan.specs.Plan.{dir_of}
-use Rattle.cc_plan.specs.Refusal.{place_from, earlier_place, source_refusal, sources_after, out_dir_refusal, unset, target_refusal, platform_refusal, tool_refusal, early_refusal, late_refusal, refusal, is_empty}
+use Rattle.cc_env.specs.Env.{EnvSeen}
+use Rattle.cc_plan.specs.Given.{out_dir_of, target_of, host_of, level_of}
+use Rattle.cc_plan.specs.Tool.{words_refusal_of}
+use Rattle.cc_plan.specs.Refusal.{place_from, earlier_place, source_refusal, sources_after, out_dir_refusal, unset, target_refusal, platform_refusal, tool_refusal, early_refusal, late_refusal, object_in, is_empty}
 use Rattle.cc_plan.specs.Valid.{IsNoneOf, AreApart, IsKnown, IsSetNonempty, Valid}
 use Rattle.cc_plan.specs.declared.settings.BuildConfig.{BuildConfig}
 
@@ -34,17 +35,17 @@ map_both : (f : List ℕ → List ℕ) (xs ys : List (List ℕ)) → map f (xs +
 map_both f [] ys = refl
 map_both f (x ∷ xs) ys = ap (λ l. f x ∷ l) (map_both f xs ys)
 
-no_refusal : (dir : List ℕ) (earlier : List (List ℕ)) (source : List ℕ) → IsSome (path_file_name source) → IsNoneOf (object_path dir source) (map (object_path dir) earlier) → source_refusal dir earlier source ≡ None
+no_refusal : (path : List ℕ → List ℕ) (earlier : List (List ℕ)) (source : List ℕ) → IsSome (path_file_name source) → IsNoneOf (path source) (map (path) earlier) → source_refusal path earlier source ≡ None
 unfolding source_refusal earlier_place
-no_refusal dir earlier source has fresh = rw (named (path_file_name source) has, no_place 0 (object_path dir source) (map (object_path dir) earlier) fresh) refl
+no_refusal path earlier source has fresh = rw (named (path_file_name source) has, no_place 0 (path source) (map (path) earlier) fresh) refl
 
-all_taken : (dir : List ℕ) (earlier sources : List (List ℕ)) → AllByRecursion (λ source. IsSome (path_file_name source)) sources → AreApart (map (object_path dir) (earlier ++ sources)) → sources_after dir earlier sources ≡ None
-all_taken dir earlier [] has apart = refl
-all_taken dir earlier (source ∷ sources) has apart =
-    let split : AreApart (map (object_path dir) earlier ++ object_path dir source ∷ map (object_path dir) sources) = subst AreApart (map_both (object_path dir) earlier (source ∷ sources)) apart in
-    let fresh = new (map (object_path dir) earlier) (object_path dir source) (map (object_path dir) sources) split in
-    rw (no_refusal dir earlier source has.0 fresh)
-    (all_taken dir (earlier ++ source ∷ []) sources has.1 (subst (λ (l : List (List ℕ)). AreApart (map (object_path dir) l)) (sym (append_assoc earlier (source ∷ []) sources)) apart))
+all_taken : (path : List ℕ → List ℕ) (earlier sources : List (List ℕ)) → AllByRecursion (λ source. IsSome (path_file_name source)) sources → AreApart (map (path) (earlier ++ sources)) → sources_after path earlier sources ≡ None
+all_taken path earlier [] has apart = refl
+all_taken path earlier (source ∷ sources) has apart =
+    let split : AreApart (map (path) earlier ++ path source ∷ map (path) sources) = subst AreApart (map_both (path) earlier (source ∷ sources)) apart in
+    let fresh = new (map (path) earlier) (path source) (map (path) sources) split in
+    rw (no_refusal path earlier source has.0 fresh)
+    (all_taken path (earlier ++ source ∷ []) sources has.1 (subst (λ (l : List (List ℕ)). AreApart (map (path) l)) (sym (append_assoc earlier (source ∷ []) sources)) apart))
 
 dir_set : (dir : Option (List ℕ)) → IsSetNonempty dir → out_dir_refusal dir ≡ None
 dir_set None h = absurd h
@@ -59,14 +60,20 @@ is_known : (target : Option (List ℕ)) → IsKnown target → target_refusal ta
 is_known None h = absurd h
 is_known (Some target) h = rw h refl
 
-late_valid : (set : BuildConfig) (empty : Bool) → IsKnown set.target → IsSome set.host → (empty ≡ false → IsSome set.opt_level) → (if empty then platform_refusal set else tool_refusal set) ≡ None
-late_valid set true target host level = rw (is_known set.target target, is_set _ set.host host) refl
-late_valid set false target host level = rw (is_set _ set.opt_level (level refl), is_known set.target target, is_set _ set.host host) refl
+late_valid : (set : BuildConfig) (env : EnvSeen) (empty : Bool) → IsKnown (target_of set env) → IsSome (host_of set env) → (empty ≡ false → IsSome (level_of set env)) → (empty ≡ false → words_refusal_of set env ≡ None) → (if empty then platform_refusal set env else tool_refusal set env) ≡ None
+unfolding platform_refusal tool_refusal
+late_valid set env true target host level words = rw (is_known (target_of set env) target, is_set _ (host_of set env) host) refl
+late_valid set env false target host level words = rw (is_set _ (level_of set env) (level refl), is_known (target_of set env) target, words refl, is_set _ (host_of set env) host) refl
 
-pub accepted : (set : BuildConfig) (output : List ℕ) → Valid set output → refusal set output ≡ None
-unfolding early_refusal late_refusal
-accepted set output v =
-    let dir : out_dir_refusal set.out_dir ≡ None = dir_set set.out_dir v.out_dir in
-    let sources : sources_after (dir_of set) [] set.files ≡ None = all_taken (dir_of set) [] set.files v.named v.apart in
-    let late = late_valid set (is_empty set.files) v.target v.host v.level in
-    rw (v.name, dir, sources) late
+-- valid settings pass the checks before the folder is made
+pub early_accepted : (set : BuildConfig) (env : EnvSeen) (output : List ℕ) → Valid set env output → early_refusal set env output ≡ None
+unfolding early_refusal
+early_accepted set env output v =
+    let dir : out_dir_refusal (out_dir_of set env) ≡ None = dir_set (out_dir_of set env) v.out_dir in
+    let sources : sources_after (object_in set env) [] set.files ≡ None = all_taken (object_in set env) [] set.files v.named v.apart in
+    rw (v.name, dir, sources) refl
+
+-- and those behind it
+pub late_accepted : (set : BuildConfig) (env : EnvSeen) (output : List ℕ) → Valid set env output → late_refusal set env ≡ None
+unfolding late_refusal
+late_accepted set env output v = late_valid set env (is_empty set.files) v.target v.host v.level v.words

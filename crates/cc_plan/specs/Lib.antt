@@ -1,6 +1,9 @@
 pub mod Archive
 pub mod Compile
+pub mod CompileWords
+pub mod Families
 pub mod Flags
+pub mod Given
 pub mod Link
 pub mod Names
 pub mod Object
@@ -8,4 +11,5 @@ pub mod Plan
 pub mod Refusal
 pub mod Settings
 pub mod Tool
+pub mod ToolWords
 pub mod Valid

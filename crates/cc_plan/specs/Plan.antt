@@ -58,11 +58,9 @@ folder_steps set env = if is_empty set.files then [] else Makes Build (dir_of se
 unfoldable pub prints : LineKind → List (List ℕ) → List Step
 prints kind lines = map (λ line. Prints kind (printed_line line)) lines
 
-unfoldable pub warning_steps : BuildConfig → EnvSeen → List Step
-warning_steps set env = prints Warning (warning_lines set env)
-
+-- the warnings of the plan are printed, then each source is compiled
 unfoldable pub compile_steps : BuildConfig → EnvSeen → List Step
-compile_steps set env = runs Compile (compiles_of set env)
+compile_steps set env = prints Warning (warning_lines set env) ++ runs Compile (compiles_of set env)
 
 -- the old library is removed
 unfoldable pub removal_steps : BuildConfig → EnvSeen → List ℕ → List Step
@@ -80,7 +78,7 @@ link_steps set env output = prints Link (link_lines set env output)
 -- the steps behind the folder
 abbrev pub run_steps : BuildConfig → EnvSeen → List ℕ → List Step
 run_steps set env output =
-    warning_steps set env ++ (compile_steps set env ++ (removal_steps set env output ++ (archive_steps set env output ++ (index_steps set env output ++ link_steps set env output))))
+    compile_steps set env ++ (removal_steps set env output ++ (archive_steps set env output ++ (index_steps set env output ++ link_steps set env output)))
 
 -- the same, where commands may run and the settings are not refused behind the folder
 unfoldable pub late_steps : BuildConfig → EnvSeen → List ℕ → List Step

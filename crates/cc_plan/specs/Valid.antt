@@ -1,12 +1,13 @@
--- Settings and an output that a compile run doesn't refuse.
+-- Settings, an environment and an output that a compile run doesn't refuse.
 use Rattle.std.specs.Prelude.{◌≡◌, ◌≢◌, ℕ, List, [], ◌∷◌, map, true, false, Option, Some, None, IsSome}
 use Rattle.std.specs.List.{AllByRecursion}
 use Rattle.std.specs.Path.{path_file_name}
 use Rattle.cc_plan.specs.Names.{is_output_name}
-use Rattle.cc_plan.specs.Object.{object_path}
-use Rattle.cc_plan.specs.Tool.{is_known_target}
-use Rattle.cc_plan.specs.Refusal.{is_empty}
-use Rattle.cc_plan.specs.Plan.{dir_of}
+use Rattle.cc_env.specs.Env.{EnvSeen}
+use Rattle.cc_target.specs.Targets.{is_known}
+use Rattle.cc_plan.specs.Given.{out_dir_of, target_of, host_of, level_of, is_disabled}
+use Rattle.cc_plan.specs.Refusal.{is_empty, object_in}
+use Rattle.cc_plan.specs.Tool.{words_refusal_of}
 use Rattle.cc_plan.specs.declared.settings.BuildConfig.{BuildConfig}
 
 -- a text is none of these
@@ -21,18 +22,22 @@ AreApart (t ∷ ts) = IsNoneOf t ts × AreApart ts
 
 abbrev pub IsKnown : Option (List ℕ) → Type 0
 IsKnown None = ⊥
-IsKnown (Some target) = is_known_target target ≡ true
+IsKnown (Some target) = is_known target ≡ true
 
 abbrev pub IsSetNonempty : Option (List ℕ) → Type 0
 IsSetNonempty None = ⊥
 IsSetNonempty (Some []) = ⊥
 IsSetNonempty (Some (b ∷ bs)) = Unit {0}
 
-pub record Valid (set : BuildConfig) (output : List ℕ) : Type 0 where
+pub record Valid (set : BuildConfig) (env : EnvSeen) (output : List ℕ) : Type 0 where
   pub name : is_output_name output ≡ true
-  pub out_dir : IsSetNonempty set.out_dir
+  pub out_dir : IsSetNonempty (out_dir_of set env)
   pub named : AllByRecursion (λ source. IsSome (path_file_name source)) set.files
-  pub apart : AreApart (map (object_path (dir_of set)) set.files)
-  pub target : IsKnown set.target
-  pub host : IsSome set.host
-  pub level : is_empty set.files ≡ false → IsSome set.opt_level
+  pub apart : AreApart (map (object_in set env) set.files)
+  -- commands may run
+  pub enabled : is_disabled env ≡ false
+  pub target : IsKnown (target_of set env)
+  pub host : IsSome (host_of set env)
+  pub level : is_empty set.files ≡ false → IsSome (level_of set env)
+  -- no word is refused: the QNX compilers have a name for the architecture, and the demanded sysroot is set
+  pub words : is_empty set.files ≡ false → words_refusal_of set env ≡ None

@@ -1,10 +1,11 @@
 // The archive and index commands.
 ghost use Rattle.std.specs.Prelude.{◌≡◌, IfOk};
-ghost use Rattle.cc_plan.specs.Archive.{archiver_of, archive_of, archives_of, index_of, indexes_of};
+ghost use Rattle.cc_plan.specs.Archive.{archiver_of, archive_env, archive_of, archives_of, index_of, indexes_of};
 
 use crate::{BuildConfig, Object};
+use cc_env::BuildEnv;
 use cc_host::Command;
-use cc_text::Mem;
+use cc_text::{Mem, Vars};
 use std::alloc::Global;
 
 // The set archiver, else `ar`.
@@ -17,16 +18,27 @@ fn archiver_of(set: &BuildConfig) -> &str
     }
 }
 
+// The environment of a command that writes no times into members.
+fn archive_env(alloc: Global, env: &BuildEnv) -> Mem<Vars>
+    ensures { IfOk result (λ vars. vars ≡ archive_env env.now) }
+{
+    let mut entries = env.explicit().try_clone()?;
+    entries.push("ZERO_AR_DATE", "1")?;
+    env.inherited().child_vars(alloc, &entries)
+}
+
 fn archive_command(
     alloc: Global,
     set: &BuildConfig,
+    env: &BuildEnv,
     library: &str,
     objects: &[Object],
 ) -> Mem<Command>
-    ensures { IfOk result (λ cmd. cmd ≡ archive_of set.now library.now objects.now) }
+    ensures { IfOk result (λ cmd. cmd ≡ archive_of set.now env.now library.now objects.now) }
 {
+    let vars = archive_env(alloc, env)?;
     let mut cmd = Command::new(alloc, archiver_of(set))?;
-    cmd.env("ZERO_AR_DATE", "1")?;
+    cmd.envs(&vars)?;
     cmd.arg("cqD")?;
     cmd.arg(library)?;
     for object in objects {
@@ -39,26 +51,40 @@ fn archive_command(
 pub fn archive_commands(
     alloc: Global,
     set: &BuildConfig,
+    env: &BuildEnv,
     library: &str,
     objects: &[Object],
 ) -> Mem<Vec<Command>>
-    ensures { IfOk result (λ cmds. cmds.items ≡ archives_of set.now library.now objects.now) }
+    ensures { IfOk result (λ cmds. cmds.items ≡ archives_of set.now env.now library.now objects.now) }
 {
     let mut cmds = Vec::new(alloc);
     if !objects.is_empty() {
-        cmds.push(archive_command(alloc, set, library, objects)?)?;
+        cmds.push(archive_command(alloc, set, env, library, objects)?)?;
     }
     Ok(cmds)
 }
 
-/// The commands that write the index of the library.
-pub fn index_commands(alloc: Global, set: &BuildConfig, library: &str) -> Mem<Vec<Command>>
-    ensures { IfOk result (λ cmds. cmds.items ≡ indexes_of set.now library.now) }
+fn index_command(alloc: Global, set: &BuildConfig, env: &BuildEnv, library: &str) -> Mem<Command>
+    ensures { IfOk result (λ cmd. cmd ≡ index_of set.now env.now library.now) }
 {
+    let vars = env.child_vars(alloc)?;
     let mut cmd = Command::new(alloc, archiver_of(set))?;
+    cmd.envs(&vars)?;
     cmd.arg("sD")?;
     cmd.arg(library)?;
+    Ok(cmd)
+}
+
+/// The commands that write the index of the library.
+pub fn index_commands(
+    alloc: Global,
+    set: &BuildConfig,
+    env: &BuildEnv,
+    library: &str,
+) -> Mem<Vec<Command>>
+    ensures { IfOk result (λ cmds. cmds.items ≡ indexes_of set.now env.now library.now) }
+{
     let mut cmds = Vec::new(alloc);
-    cmds.push(cmd)?;
+    cmds.push(index_command(alloc, set, env, library)?)?;
     Ok(cmds)
 }

@@ -27,6 +27,8 @@ pub enum PlanError {
     NotSet(Text),
     /// The target of this name isn't known.
     UnknownTarget(Text),
+    /// The QNX compilers have no name for this architecture.
+    QnxArch(Text),
     /// Memory was refused.
     NoMemory,
 }

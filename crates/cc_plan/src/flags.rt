@@ -71,6 +71,16 @@ impl Flags {
         Ok(())
     }
 
+    /// Adds other flags last, and takes them over. Refused for memory, the list stays as it was.
+    pub fn append(&mut self, flags: Flags) -> Mem<()>
+        ensures ok { OnOk result (self.new ≡ self.old ++ flags) }
+        ensures err { OnErr result (self.new ≡ self.old) }
+    {
+        let mut flags = flags.flags;
+        self.flags.append(&mut flags)?;
+        Ok(())
+    }
+
     /// Takes out every `Always` flag that is this word, and no other. It takes no memory.
     pub fn remove(&mut self, word: &str)
         ensures { self.new ≡ without word.now self.old }

@@ -1,14 +1,15 @@
 //! The plan of a compile run: settings become commands, archives and link lines, as values.
 //!
-//! Stands on `cc_text` and `cc_host`, of which it uses commands alone: nothing here asks a host. The crate above uses
-//! one thing: each planned value equals its definition in `specs/`, and each refusal comes exactly where
-//! `specs/Refusal.antt` says.
+//! Stands on `cc_text`, `cc_env` and `cc_target`, and on `cc_host`, of which it uses commands alone: nothing here asks
+//! a host. The crate above uses one thing: each planned value equals its definition in `specs/`, and each refusal comes
+//! exactly where `specs/Refusal.antt` says.
 #![tactic(auto)]
 
 mod archive;
 mod compile;
 mod error;
 mod flags;
+mod given;
 mod link;
 mod names;
 mod object;
@@ -17,11 +18,13 @@ mod settings;
 #[cfg(test)]
 mod tests;
 mod tool;
+mod words;
 
 pub use archive::{archive_commands, index_commands};
 pub use compile::compile_command;
 pub use error::{ArgumentCause, PlanError};
 pub use flags::{BuildFlag, Definition, Definitions, Flags};
+pub use given::{host_of, is_disabled, level_of, out_dir_of, target_of, variable_flags};
 pub use link::link_lines;
 pub use names::lib_and_archive_names;
 pub use object::{Object, object_path, objects_from_files};

@@ -136,13 +136,15 @@ fn tool_command(
     Ok(cmd)
 }
 
-/// The tool of these settings in this environment.
-///
-/// Refused where the optimisation level, the target or the host is set nowhere, the target isn't known, or a word of the target is
-/// refused.
+// What is known of the target, and the tool for it.
 #[tactic(auto, unfolding(crate::specs::Refusal::tool_refusal))]
-pub fn tool_of(alloc: Global, set: &BuildConfig, env: &BuildEnv) -> Result<PlainTool, PlanError>
-    ensures tool { IfOk result (λ tool. tool ≡ tool_of set.now env.now) }
+pub(crate) fn target_and_tool(
+    alloc: Global,
+    set: &BuildConfig,
+    env: &BuildEnv,
+) -> Result<(TargetInfo, PlainTool), PlanError>
+    ensures info { IfOk result (λ both. info_seen both.0 ≡ target_info set.now env.now) }
+    ensures tool { IfOk result (λ both. both.1 ≡ tool_of set.now env.now) }
     ensures allowed { OnOk result (tool_refusal set.now env.now ≡ None) }
     ensures refused { IfErr result (λ e. (e ≡ WantsMemory) ⊎ (tool_refusal set.now env.now ≡ Some e)) }
 {
@@ -151,10 +153,21 @@ pub fn tool_of(alloc: Global, set: &BuildConfig, env: &BuildEnv) -> Result<Plain
     let words = words_of(alloc, set, env, &target)?;
     demand(alloc, "HOST", host_of(set, env))?;
     let cmd = tool_command(alloc, set, env, &words)?;
-    Ok(PlainTool {
-        family: family_of(set),
-        cmd,
-    })
+    let family = family_of(set);
+    Ok((target, PlainTool { family, cmd }))
+}
+
+/// The tool of these settings in this environment.
+///
+/// Refused where the optimisation level, the target or the host is set nowhere, the target isn't known, or a word of the target is
+/// refused.
+pub fn tool_of(alloc: Global, set: &BuildConfig, env: &BuildEnv) -> Result<PlainTool, PlanError>
+    ensures tool { IfOk result (λ tool. tool ≡ tool_of set.now env.now) }
+    ensures allowed { OnOk result (tool_refusal set.now env.now ≡ None) }
+    ensures refused { IfErr result (λ e. (e ≡ WantsMemory) ⊎ (tool_refusal set.now env.now ≡ Some e)) }
+{
+    let (_, tool) = target_and_tool(alloc, set, env)?;
+    Ok(tool)
 }
 
 // The words of the compiler for a target.

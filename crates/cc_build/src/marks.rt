@@ -1,0 +1,106 @@
+// The setters of one truth value. None of them takes memory.
+ghost use Rattle.std.specs.Prelude.{◌≡◌, Some};
+
+use crate::Build;
+use cc_host::World;
+
+impl<W: World> Build<W> {
+    /// Sets whether the compiler is told `-shared`. It takes no memory.
+    pub fn shared_flag(&mut self, shared_flag: bool)
+        ensures { self.new ≡ record self.old { config = record self.old.config { shared_flag = Some shared_flag } } }
+    {
+        self.config.shared_flag = Some(shared_flag);
+    }
+
+    /// Sets whether the compiler is told `-static`. It takes no memory.
+    pub fn static_flag(&mut self, static_flag: bool)
+        ensures { self.new ≡ record self.old { config = record self.old.config { static_flag = Some static_flag } } }
+    {
+        self.config.static_flag = Some(static_flag);
+    }
+
+    /// Sets whether extra warnings are on. It takes no memory.
+    pub fn extra_warnings(&mut self, extra_warnings: bool)
+        ensures { self.new ≡ record self.old { config = record self.old.config { extra_warnings = Some extra_warnings } } }
+    {
+        self.config.extra_warnings = Some(extra_warnings);
+    }
+
+    /// Sets whether code can lie anywhere. It takes no memory.
+    pub fn pic(&mut self, pic: bool)
+        ensures { self.new ≡ record self.old { config = record self.old.config { pic = Some pic } } }
+    {
+        self.config.pic = Some(pic);
+    }
+
+    /// Sets whether calls of shared libraries may go by a table. It takes no memory.
+    pub fn use_plt(&mut self, use_plt: bool)
+        ensures { self.new ≡ record self.old { config = record self.old.config { use_plt = Some use_plt } } }
+    {
+        self.config.use_plt = Some(use_plt);
+    }
+
+    /// Sets whether the C library of Visual Studio is linked statically. It takes no memory.
+    pub fn static_crt(&mut self, static_crt: bool)
+        ensures { self.new ≡ record self.old { config = record self.old.config { static_crt = Some static_crt } } }
+    {
+        self.config.static_crt = Some(static_crt);
+    }
+
+    /// Sets whether flags of the environment are quoted as a shell quotes words. It takes no memory.
+    pub fn shell_escaped_flags(&mut self, shell_escaped_flags: bool)
+        ensures { self.new ≡ record self.old { config = record self.old.config { shell_escaped_flags = Some shell_escaped_flags } } }
+    {
+        self.config.shell_escaped_flags = Some(shell_escaped_flags);
+    }
+
+    /// Sets whether warnings are on, the extra ones too. It takes no memory.
+    pub fn warnings(&mut self, warnings: bool)
+        ensures { self.new ≡ record self.old { config = record self.old.config { warnings = Some warnings; extra_warnings = Some warnings } } }
+    {
+        self.config.warnings = Some(warnings);
+        self.config.extra_warnings = Some(warnings);
+    }
+
+    /// Sets whether the words that a target and a level bring are left out. It takes no memory.
+    pub fn no_default_flags(&mut self, no_default_flags: bool)
+        ensures { self.new ≡ record self.old { config = record self.old.config { no_default_flags = no_default_flags } } }
+    {
+        self.config.no_default_flags = no_default_flags;
+    }
+
+    /// Sets whether CodeView debug information names no folder of the build. It takes no memory.
+    pub fn reproducible_codeview(&mut self, reproducible_codeview: bool)
+        ensures { self.new ≡ record self.old { config = record self.old.config { reproducible_codeview = reproducible_codeview } } }
+    {
+        self.config.reproducible_codeview = reproducible_codeview;
+    }
+
+    /// Sets whether the sources are C++. It takes no memory.
+    pub fn cpp(&mut self, cpp: bool)
+        ensures { self.new ≡ record self.old { config = record self.old.config { cpp = cpp } } }
+    {
+        self.config.cpp = cpp;
+    }
+
+    /// Sets whether warnings are errors. It takes no memory.
+    pub fn warnings_into_errors(&mut self, warnings_into_errors: bool)
+        ensures { self.new ≡ record self.old { config = record self.old.config { warnings_into_errors = warnings_into_errors } } }
+    {
+        self.config.warnings_into_errors = warnings_into_errors;
+    }
+
+    /// Sets whether warnings are printed for Cargo. It takes no memory.
+    pub fn cargo_warnings(&mut self, cargo_warnings: bool)
+        ensures { self.new ≡ record self.old { config = record self.old.config { cargo_warnings = cargo_warnings } } }
+    {
+        self.config.cargo_warnings = cargo_warnings;
+    }
+
+    /// Sets whether lines are printed that make Cargo run the script again where a variable changes. It takes no memory.
+    pub fn emit_rerun_if_env_changed(&mut self, emit_rerun_if_env_changed: bool)
+        ensures { self.new ≡ record self.old { config = record self.old.config { emit_rerun_if_env_changed = emit_rerun_if_env_changed } } }
+    {
+        self.config.emit_rerun_if_env_changed = emit_rerun_if_env_changed;
+    }
+}
