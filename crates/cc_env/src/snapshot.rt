@@ -1,0 +1,213 @@
+// A snapshot of an environment.
+ghost use Rattle.std.specs.Prelude.{◌≡◌, ◌↔◌, [], ◌++◌, List, ℕ, IfOk, IsErr, IsTrue, Some, None, bytes_eq};
+ghost use Rattle.std.specs.Option.{option_copied};
+ghost use Rattle.std.specs.Cmp.{partial_equiv_from_equiv};
+ghost use Rattle.cc_text.specs.Map.{HasDistinctKeys};
+ghost use Rattle.cc_text.specs.Vars.{same_vars, same_vars-equiv};
+ghost use Rattle.cc_env.specs.Snapshot.{last_value, snapshot_of, child_of, debug_text};
+
+use crate::index::{Places, put_all};
+use cc_text::{Mem, Vars};
+use std::alloc::Global;
+use std::collections::BTreeMap;
+use std::fmt;
+use std::marker::Model;
+
+/// A name that isn't set.
+#[derive(Clone, Copy, Debug, PartialEq, Eq)]
+pub struct NotSet;
+
+/// The variables of an environment. Contracts see a list of names and values in which no name is there twice.
+#[derive(Drop)]
+pub struct EnvSnapshot {
+    alloc: Global,
+    vars: Vars,
+    places: Places,
+}
+
+impl Model for EnvSnapshot {
+    ghost use Rattle.std.specs.Prelude.{List, ℕ};
+    ghost use Rattle.std.specs.BTreeMap.{get_by_text};
+    ghost use Rattle.cc_env.specs.Index.{IsIndexed};
+
+    ghost Value = { List (List ℕ × List ℕ) };
+
+    ghost view = { λ e. e.vars };
+
+    ghost invariant = { λ e. IsIndexed e.vars (get_by_text e.places) };
+}
+
+impl EnvSnapshot {
+    /// The environment without variables. It takes no memory.
+    pub fn empty(alloc: Global) -> EnvSnapshot
+        ensures { result ≡ [] }
+    {
+        EnvSnapshot {
+            alloc,
+            vars: Vars::new(alloc),
+            places: BTreeMap::new(alloc),
+        }
+    }
+
+    /// The snapshot of some pairs: each name once, at the place of its first pair, with its last value.
+    pub fn from_vars(alloc: Global, vars: &Vars) -> Mem<EnvSnapshot>
+        ensures snapshot { IfOk result (λ env. env ≡ snapshot_of vars.now) }
+        ensures last { IfOk result (λ env. (name : List ℕ) → last_value env name ≡ last_value vars.now name) }
+    {
+        let mut kept = Vars::new(alloc);
+        let mut places = BTreeMap::new(alloc);
+        put_all(alloc, &mut kept, &BTreeMap::new(alloc), &mut places, vars)?;
+        Ok(EnvSnapshot {
+            alloc,
+            vars: kept,
+            places,
+        })
+    }
+
+    /// The value of a name, or none where it isn't set. It takes no memory.
+    pub fn get(&self, name: &str) -> Option<&str>
+        ensures { option_copied result ≡ last_value self.now name.now }
+    {
+        let place = *self.places.get(name)?;
+        let (_, value) = self.vars.get(place)?;
+        Some(value.as_str())
+    }
+
+    /// The value of a name that Cargo sets. `NotSet` comes where it isn't set, and only there. It takes no memory.
+    pub fn get_cargo_var(&self, name: &str) -> Result<&str, NotSet>
+        ensures set { IfOk result (λ value. last_value self.now name.now ≡ Some value.now) }
+        ensures unset { IsErr result ↔ (last_value self.now name.now ≡ None) }
+    {
+        match self.get(name) {
+            Some(value) => Ok(value),
+            None => Err(NotSet),
+        }
+    }
+
+    /// The variables in order, lent.
+    pub fn vars(&self) -> &Vars
+        ensures vars { result.now ≡ self.now }
+        ensures distinct { HasDistinctKeys bytes_eq self.now }
+    {
+        &self.vars
+    }
+
+    /// The variables of a child that inherits these and is given some entries: each entry, in order, replaces the
+    /// value of its name, or is added last.
+    pub fn child_vars(&self, alloc: Global, entries: &Vars) -> Mem<Vars>
+        ensures child { IfOk result (λ vars. vars ≡ child_of self.now entries.now) }
+        ensures last { IfOk result (λ vars. (name : List ℕ) → last_value vars name ≡ last_value (self.now ++ entries.now) name) }
+        ensures inherits { IfOk result (λ vars. (name : List ℕ) → last_value entries.now name ≡ None → last_value vars name ≡ last_value self.now name) }
+    {
+        let mut vars = self.vars.try_clone()?;
+        let mut more = BTreeMap::new(alloc);
+        put_all(alloc, &mut vars, &self.places, &mut more, entries)?;
+        Ok(vars)
+    }
+
+    /// A second snapshot of the same variables.
+    pub fn try_clone(&self) -> Mem<EnvSnapshot>
+        ensures { IfOk result (λ env. env ≡ self.now) }
+    {
+        EnvSnapshot::from_vars(self.alloc, &self.vars)
+    }
+}
+
+impl PartialEq for EnvSnapshot {
+    ghost eq = { same_vars };
+
+    ghost laws = { partial_equiv_from_equiv same_vars-equiv };
+
+    fn eq(&self, other: &EnvSnapshot) -> bool
+        ensures value { result ≡ same_vars self.now other.now }
+        ensures equal { IsTrue result ↔ (self.now ≡ other.now) }
+    {
+        self.vars == other.vars
+    }
+}
+
+impl Eq for EnvSnapshot {
+    ghost laws = { same_vars-equiv };
+}
+
+impl fmt::Debug for EnvSnapshot {
+    ghost debug_output = { λ env. Some (debug_text env) };
+
+    fn fmt<W: fmt::Write>(&self, f: &mut fmt::Formatter<W>) -> fmt::Result {
+        let count = self.vars.len();
+        write!(f, "EnvSnapshot(<{count} variables>)")
+    }
+}
+
+#[cfg(test)]
+mod tests {
+    use super::*;
+    use std::test::Fail;
+
+    /// The pairs of a list.
+    fn listed(alloc: Global, pairs: &[(&str, &str)]) -> Mem<Vars> {
+        let mut vars = Vars::new(alloc);
+        for (name, value) in pairs {
+            vars.push(name, value)?;
+        }
+        Ok(vars)
+    }
+
+    #[test]
+    fn the_last_value_stands_at_the_first_place(rt: HostRuntime) -> Result<(), Fail> {
+        let alloc = rt.alloc();
+        let vars = listed(alloc, &[("A", "1"), ("B", "2"), ("A", "3")])?;
+        let env = EnvSnapshot::from_vars(alloc, &vars)?;
+        assert!(rt; *env.vars() == listed(alloc, &[("A", "3"), ("B", "2")])?);
+        assert_eq!(rt; env.get_cargo_var("A"), Ok("3"));
+        assert_eq!(rt; env.get_cargo_var("Z"), Err(NotSet));
+        assert!(rt; env.get("Z").is_none());
+        let mut text = String::new(alloc);
+        write!(text, "{env:?}")?;
+        assert_eq!(rt; text.as_str(), "EnvSnapshot(<2 variables>)");
+        assert!(rt; EnvSnapshot::from_vars(alloc, env.vars())? == env);
+        assert!(rt; env.try_clone()? == env);
+        assert!(rt; EnvSnapshot::empty(alloc) != env);
+        Ok(())
+    }
+
+    #[test]
+    fn entries_replace_in_place_or_come_last(rt: HostRuntime) -> Result<(), Fail> {
+        let alloc = rt.alloc();
+        let vars = listed(alloc, &[("A", "1"), ("é", "2"), ("\u{1f600}", "3")])?;
+        let env = EnvSnapshot::from_vars(alloc, &vars)?;
+        let entries = listed(
+            alloc,
+            &[("é", "ü"), ("C", "4"), ("C", "5"), ("\u{1f600}", "")],
+        )?;
+        let child = env.child_vars(alloc, &entries)?;
+        let want = listed(
+            alloc,
+            &[("A", "1"), ("é", "ü"), ("\u{1f600}", ""), ("C", "5")],
+        )?;
+        assert!(rt; child == want);
+        Ok(())
+    }
+
+    #[test]
+    fn each_of_hundreds_of_names_is_found(rt: HostRuntime) -> Result<(), Fail> {
+        let alloc = rt.alloc();
+        let mut vars = Vars::new(alloc);
+        for round in 0..3u32 {
+            for n in 0..500u32 {
+                let name = format!(in alloc; "NAME_{n}")?;
+                let value = format!(in alloc; "{round}")?;
+                vars.push(name.as_str(), value.as_str())?;
+            }
+        }
+        let env = EnvSnapshot::from_vars(alloc, &vars)?;
+        assert_eq!(rt; env.vars().len(), 500);
+        for n in 0..500u32 {
+            let name = format!(in alloc; "NAME_{n}")?;
+            assert_eq!(rt; env.get(name.as_str()), Some("2"));
+        }
+        let child = env.child_vars(alloc, &vars)?;
+        assert!(rt; child == *env.vars());
+        Ok(())
+    }
+}
