@@ -1,5 +1,5 @@
 -- A number that Rust reads, as a definition that computes.
-use Rattle.std.proofs.Common.{◌≡◌, ℕ, ◌<◌, ◌^◌, Bool, true, false, cond, ◌&&◌, List, [], ◌∷◌, Option, Some, None, Result, Ok, Err, length, nat_lt, refl, ap, arith}
+use Rattle.std.proofs.Common.{◌≡◌, ℕ, ◌<◌, ◌^◌, Bool, true, false, cond, ◌&&◌, List, [], ◌∷◌, Some, None, Result, Ok, Err, length, nat_lt, refl, ap}
 use Rattle.std.specs.Bool.{Decides}
 use Rattle.std.specs.Char.{digit_value}
 use Rattle.std.specs.List.{list_all}
