@@ -1,0 +1,7 @@
+use Rattle.std.proofs.Common.{◌∙◌, ℕ, List, Bor, bytes_eq}
+use Rattle.cc_flags.proofs.AmongLemmas.{list_any_map}
+use Rattle.cc_flags.proofs.among.is_among.Goals as goal
+
+pub returns : goal.returns
+returns c =
+    c.contains.ensures.value ∙ list_any_map (λ (name : Bor (List ℕ)). name.now) (λ name. bytes_eq name c.args.text.now) c.args.names.now

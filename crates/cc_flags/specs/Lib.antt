@@ -1,0 +1,4 @@
+pub mod Features
+pub mod Fields
+pub mod Pairs
+pub mod Wanted

@@ -1,0 +1,220 @@
+// The fields that pairs give.
+ghost use Rattle.std.specs.Prelude.{◌≡◌, ◌++◌, IfOk, OnOk, find, flat_map, filter};
+ghost use Rattle.std.specs.Option.{option_copied};
+ghost use Rattle.cc_text.specs.Words.{texts};
+ghost use Rattle.cc_flags.specs.Pairs.{is_among};
+ghost use Rattle.cc_flags.specs.Fields.{truth_of, u32_of, last_of, is_given, text_of, text_or_true_of, switch, switch_of, is_on, plugin_of, number_in, number_of, feature_names, features_in, features_of, needs_text, is_invalid, invalid_pair};
+
+use crate::among::is_among;
+use crate::pairs::{Pair, parts_at};
+use cc_text::{Mem, Text, Words};
+use std::alloc::Global;
+
+/// What a word says: yes, no, or neither.
+#[tactic(auto, unfolding(crate::specs::Fields::truth_of))]
+fn truth_of(word: &str) -> Option<bool>
+    ensures { result ≡ truth_of word.now }
+{
+    if is_among(word, &["y", "yes", "on", "true"]) {
+        Some(true)
+    } else if is_among(word, &["n", "no", "off", "false"]) {
+        Some(false)
+    } else {
+        None
+    }
+}
+
+/// A number of 32 bits in decimal, as Rust reads it.
+fn u32_of(text: &str) -> Option<u32>
+    ensures { result ≡ u32_of text.now }
+{
+    text.parse::<u32>().ok()
+}
+
+/// The last pair of some keys.
+fn last_of<'a>(pairs: &'a [Pair], keys: &[&str]) -> Option<&'a Pair>
+    ensures { option_copied result ≡ last_of (texts keys.now) pairs.now }
+{
+    pairs
+        .iter()
+        .rev()
+        .find(|pair| is_among(pair.key.as_str(), keys))
+}
+
+/// Whether some pair has one of the keys.
+pub fn is_given(pairs: &[Pair], keys: &[&str]) -> bool
+    ensures { result ≡ is_given (texts keys.now) pairs.now }
+{
+    last_of(pairs, keys).is_some()
+}
+
+fn copy_of(text: &Option<Text>) -> Mem<Option<Text>>
+    ensures { IfOk result (λ copy. copy ≡ text.now) }
+{
+    match text {
+        Some(text) => Ok(Some(text.try_clone()?)),
+        None => Ok(None),
+    }
+}
+
+/// The value of the last pair of some keys.
+#[tactic(auto, unfolding(crate::specs::Fields::text_of))]
+pub fn text_of(pairs: &[Pair], keys: &[&str]) -> Mem<Option<Text>>
+    ensures { IfOk result (λ text. text ≡ text_of (texts keys.now) pairs.now) }
+{
+    match last_of(pairs, keys) {
+        Some(pair) => copy_of(&pair.value),
+        None => Ok(None),
+    }
+}
+
+/// The value of the last pair of some keys, where no value stands for `true`.
+#[tactic(auto, unfolding(crate::specs::Fields::text_or_true_of))]
+pub fn text_or_true_of(alloc: Global, pairs: &[Pair], keys: &[&str]) -> Mem<Option<Text>>
+    ensures { IfOk result (λ text. text ≡ text_or_true_of (texts keys.now) pairs.now) }
+{
+    match last_of(pairs, keys) {
+        Some(pair) => match &pair.value {
+            Some(value) => Ok(Some(value.try_clone()?)),
+            None => Ok(Some(Text::of(alloc, "true")?)),
+        },
+        None => Ok(None),
+    }
+}
+
+#[tactic(auto, unfolding(crate::specs::Fields::switch))]
+fn switch(value: &Option<Text>) -> Option<bool>
+    ensures { result ≡ switch value.now }
+{
+    match value {
+        Some(word) => truth_of(word.as_str()),
+        None => Some(true),
+    }
+}
+
+/// What the last pair of some keys says: yes without a value.
+#[tactic(auto, unfolding(crate::specs::Fields::switch_of))]
+pub fn switch_of(pairs: &[Pair], keys: &[&str]) -> Option<bool>
+    ensures { result ≡ switch_of (texts keys.now) pairs.now }
+{
+    match last_of(pairs, keys) {
+        Some(pair) => switch(&pair.value),
+        None => None,
+    }
+}
+
+#[tactic(auto, unfolding(crate::specs::Fields::is_on))]
+fn is_on(value: &Option<Text>) -> bool
+    ensures { result ≡ is_on value.now }
+{
+    match value {
+        Some(word) => truth_of(word.as_str()).unwrap_or(true),
+        None => true,
+    }
+}
+
+/// Whether the last pair of some keys asks for a plugin: also by a value that names one.
+#[tactic(auto, unfolding(crate::specs::Fields::plugin_of))]
+pub fn plugin_of(pairs: &[Pair], keys: &[&str]) -> Option<bool>
+    ensures { result ≡ plugin_of (texts keys.now) pairs.now }
+{
+    match last_of(pairs, keys) {
+        Some(pair) => Some(is_on(&pair.value)),
+        None => None,
+    }
+}
+
+fn number_in(value: &Option<Text>) -> Option<u32>
+    ensures { result ≡ number_in value.now }
+{
+    match value {
+        Some(text) => u32_of(text.as_str()),
+        None => None,
+    }
+}
+
+/// The number in the last pair of some keys.
+#[tactic(auto, unfolding(crate::specs::Fields::number_of))]
+pub fn number_of(pairs: &[Pair], keys: &[&str]) -> Option<u32>
+    ensures { result ≡ number_of (texts keys.now) pairs.now }
+{
+    match last_of(pairs, keys) {
+        Some(pair) => number_in(&pair.value),
+        None => None,
+    }
+}
+
+/// Adds the names of a value between commas, without empty ones.
+#[tactic(auto, unfolding(crate::specs::Fields::feature_names))]
+fn push_feature_names(words: &mut Words, alloc: Global, value: &Option<Text>) -> Mem<()>
+    ensures { OnOk result (words.new ≡ words.old ++ feature_names value.now) }
+{
+    if let Some(value) = value {
+        let names = parts_at(alloc, value.as_str(), ',')?;
+        for name in &names {
+            if !name.is_empty() {
+                words.push(name)?;
+            }
+        }
+    }
+    Ok(())
+}
+
+/// Adds the names of features that a pair has.
+#[tactic(auto, unfolding(crate::specs::Fields::features_in))]
+fn push_features_in(words: &mut Words, alloc: Global, pair: &Pair) -> Mem<()>
+    ensures { OnOk result (words.new ≡ words.old ++ features_in pair.now) }
+{
+    if pair.key.as_str() == "-Ctarget-feature" {
+        push_feature_names(words, alloc, &pair.value)?;
+    }
+    Ok(())
+}
+
+/// The names of features of each pair, in order.
+#[tactic(auto, unfolding(crate::specs::Fields::features_of))]
+pub fn features_of(alloc: Global, pairs: &[Pair]) -> Mem<Words>
+    ensures { IfOk result (λ names. names ≡ features_of pairs.now) }
+{
+    let mut names = Words::new(alloc);
+    for pair in pairs {
+        push_features_in(&mut names, alloc, pair)?;
+    }
+    Ok(names)
+}
+
+#[tactic(auto, unfolding(crate::specs::Fields::needs_text))]
+fn needs_text(key: &str) -> bool
+    ensures { result ≡ needs_text key.now }
+{
+    is_among(
+        key,
+        &[
+            "-Ccode-model",
+            "-Crelocation-model",
+            "-Zbranch-protection",
+            "-Cbranch-protection",
+            "-Zstack-protector",
+            "-Cstack-protector",
+            "-Ctarget-cpu",
+            "-Ctarget-feature",
+        ],
+    )
+}
+
+#[tactic(auto, unfolding(crate::specs::Fields::is_invalid))]
+fn is_invalid(pair: &Pair) -> bool
+    ensures { result ≡ is_invalid pair.now }
+{
+    let key = pair.key.as_str();
+    needs_text(key) && pair.value.is_none()
+        || key == "-Cdwarf-version" && number_in(&pair.value).is_none()
+}
+
+/// The first pair without the value that it needs.
+#[tactic(auto, unfolding(crate::specs::Fields::invalid_pair))]
+pub fn invalid_pair(pairs: &[Pair]) -> Option<&Pair>
+    ensures { option_copied result ≡ invalid_pair pairs.now }
+{
+    pairs.iter().find(|pair| is_invalid(pair))
+}
