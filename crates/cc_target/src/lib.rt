@@ -1,0 +1,15 @@
+//! What is known of each target by its Rust name, as a table with one row a target.
+//!
+//! Stands on `cc_text`. The crates above use one thing: each call gives what the row of the name says, and no row,
+//! no answer. No call takes memory. Targets of the Visual Studio tools aren't in the table yet.
+#![tactic(auto)]
+
+mod info;
+mod rows;
+#[cfg(test)]
+mod tests;
+mod tools;
+
+pub use info::{TargetInfo, UnknownTarget};
+pub use rows::table_is_sound;
+pub use tools::{gnu_candidate, gnu_prefix, llvm_target};
