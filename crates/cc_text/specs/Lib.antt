@@ -10,3 +10,4 @@ pub mod Pieces
 pub mod Quoted
 pub mod Shell
 pub mod Vars
+pub mod Words

@@ -19,6 +19,8 @@ mod quoting;
 mod shell;
 mod table;
 mod text;
+mod vars;
+mod within;
 mod words;
 
 pub use case::{
@@ -37,4 +39,6 @@ pub use quoting::quoted;
 pub use shell::shell_words;
 pub use table::{lookup, lookup_sorted};
 pub use text::{Bytes, Text};
-pub use words::{Vars, Words};
+pub use vars::Vars;
+pub use within::{begins_with, contains, ends_with};
+pub use words::Words;

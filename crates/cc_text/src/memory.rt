@@ -10,6 +10,10 @@ pub struct NoMemory;
 pub type Mem<T> = Result<T, NoMemory>;
 
 impl fmt::Display for NoMemory {
+    ghost use Rattle.std.specs.Prelude.{Some, codes};
+
+    ghost output = { λ _. Some (codes "out of memory") };
+
     fn fmt<W: fmt::Write>(&self, f: &mut fmt::Formatter<W>) -> fmt::Result {
         write!(f, "out of memory")
     }
@@ -26,5 +30,21 @@ impl From<AllocError> for NoMemory {
 impl<T: Drop> From<AllocFailed<T>> for NoMemory {
     fn from(_: AllocFailed<T>) -> Self {
         NoMemory
+    }
+}
+
+#[cfg(test)]
+mod tests {
+    use super::*;
+    use std::test::Fail;
+
+    #[test]
+    fn each_refusal_of_an_allocator_is_want_of_memory(rt: HostRuntime) -> Result<(), Fail> {
+        assert_eq!(rt; NoMemory::from(AllocError), NoMemory);
+        assert_eq!(rt; NoMemory::from(AllocFailed { value: 7u32 }), NoMemory);
+        let mut text = String::new(rt.alloc());
+        write!(text, "{NoMemory}")?;
+        assert_eq!(rt; text.as_str(), "out of memory");
+        Ok(())
     }
 }

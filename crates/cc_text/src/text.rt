@@ -1,8 +1,13 @@
 // A text and a list of bytes, each seen as its bytes.
 ghost use Rattle.std.specs.Prelude.{◌≡◌, ◌++◌, [], List, ℕ, IfOk, OnOk, OnErr, encode_utf8, string_bytes};
+ghost use Rattle.std.specs.Prelude.{Some, bytes_eq, refl};
+ghost use Rattle.std.specs.Ordering.{nat_cmp};
+ghost use Rattle.std.specs.Cmp.{partial_equiv_from_equiv};
+ghost use Rattle.std.specs.Cmp.Lexicographic.{slice_cmp, nat_list_eq_equiv, nat_list_cmp_total, texts_ties, texts_po};
 
 use crate::Mem;
 use std::alloc::Global;
+use std::cmp::Ordering;
 use std::marker::Model;
 
 /// A text that owns its bytes. Contracts see those bytes.
@@ -71,6 +76,44 @@ impl Text {
     }
 }
 
+impl PartialEq for Text {
+    ghost eq = { bytes_eq };
+
+    ghost laws = { partial_equiv_from_equiv nat_list_eq_equiv };
+
+    fn eq(&self, other: &Text) -> bool {
+        self.as_str() == other.as_str()
+    }
+}
+
+impl Eq for Text {
+    ghost laws = { nat_list_eq_equiv };
+}
+
+impl PartialOrd for Text {
+    ghost partial_cmp = { λ a b. Some (slice_cmp nat_cmp a b) };
+
+    ghost laws = { texts_po };
+
+    fn partial_cmp(&self, other: &Text) -> Option<Ordering> {
+        Some(self.cmp(other))
+    }
+}
+
+impl Ord for Text {
+    ghost cmp = { slice_cmp nat_cmp };
+
+    ghost total = { nat_list_cmp_total };
+
+    ghost matches_partial_cmp = { λ a b. refl };
+
+    ghost matches_eq = { texts_ties };
+
+    fn cmp(&self, other: &Text) -> Ordering {
+        self.as_str().cmp(other.as_str())
+    }
+}
+
 /// A list of bytes that owns them. Contracts see the list.
 #[derive(Drop, Debug)]
 pub struct Bytes {
@@ -107,5 +150,43 @@ impl Bytes {
         Ok(Bytes {
             bytes: self.bytes.clone()?,
         })
+    }
+}
+
+impl PartialEq for Bytes {
+    ghost eq = { bytes_eq };
+
+    ghost laws = { partial_equiv_from_equiv nat_list_eq_equiv };
+
+    fn eq(&self, other: &Bytes) -> bool {
+        self.as_slice() == other.as_slice()
+    }
+}
+
+impl Eq for Bytes {
+    ghost laws = { nat_list_eq_equiv };
+}
+
+#[cfg(test)]
+mod tests {
+    use super::*;
+    use std::collections::BTreeSet;
+    use std::test::Fail;
+
+    #[test]
+    fn texts_are_ordered_by_their_bytes(rt: HostRuntime) -> Result<(), Fail> {
+        let alloc = rt.alloc();
+        let mut set = BTreeSet::new(alloc);
+        for text in ["b", "\u{1f600}", "é", "a", "b", "B", ""] {
+            set.insert(Text::of(alloc, text)?)?;
+        }
+        let want = ["", "B", "a", "b", "é", "\u{1f600}"];
+        assert_eq!(rt; set.len(), want.len());
+        for (text, want) in set.iter().zip(want) {
+            assert_eq!(rt; text.as_str(), want);
+        }
+        assert!(rt; Bytes::of(alloc, b"a")? == Bytes::of(alloc, b"a")?);
+        assert!(rt; Bytes::of(alloc, b"a")? != Bytes::of(alloc, b"ab")?);
+        Ok(())
     }
 }

@@ -1,7 +1,8 @@
-// A list of texts, and a list of pairs of texts.
-ghost use Rattle.std.specs.Prelude.{◌≡◌, ◌++◌, [], ◌∷◌, List, ℕ, length, slice_get, IfOk, OnOk, OnErr, IsTrue, ◌↔◌};
+// A list of texts.
+ghost use Rattle.std.specs.Prelude.{◌≡◌, ◌++◌, [], ◌∷◌, List, ℕ, length, map, slice_get, IfOk, OnOk, OnErr, IsTrue, ◌↔◌};
 ghost use Rattle.std.specs.Option.{option_copied};
-ghost use Rattle.cc_text.specs.Vars.{with_var, place_of};
+ghost use Rattle.std.specs.Cmp.{partial_equiv_from_equiv};
+ghost use Rattle.cc_text.specs.Words.{texts, choose, entry_seen, same_words, same_words-equiv};
 
 use crate::{Mem, Text};
 use std::alloc::Global;
@@ -47,6 +48,53 @@ impl Words {
         Ok(())
     }
 
+    /// Adds a word last: the front, then the text. Refused for memory, the list stays as it was.
+    pub fn push_joined(&mut self, front: &str, text: &str) -> Mem<()>
+        ensures ok { OnOk result (self.new ≡ self.old ++ (front.now ++ text.now) ∷ []) }
+        ensures err { OnErr result (self.new ≡ self.old) }
+    {
+        let mut word = Text::of(*self.words.allocator(), front)?;
+        word.push_str(text)?;
+        self.push_text(word)
+    }
+
+    /// Adds other words last, and takes them over. Refused for memory, the list stays as it was.
+    pub fn append(&mut self, words: Words) -> Mem<()>
+        ensures ok { OnOk result (self.new ≡ self.old ++ words) }
+        ensures err { OnErr result (self.new ≡ self.old) }
+    {
+        let mut words = words.words;
+        self.words.append(&mut words)?;
+        Ok(())
+    }
+
+    /// Adds copies of other words last. Refused for memory, the list stays as it was.
+    pub fn extend(&mut self, words: &Words) -> Mem<()>
+        ensures ok { OnOk result (self.new ≡ self.old ++ words.now) }
+        ensures err { OnErr result (self.new ≡ self.old) }
+    {
+        let copies = words.try_clone()?;
+        self.append(copies)
+    }
+
+    /// Adds some words last, in order. Refused for memory, the list stays as it was.
+    pub fn push_all(&mut self, words: &[&str]) -> Mem<()>
+        ensures ok { OnOk result (self.new ≡ self.old ++ texts words.now) }
+        ensures err { OnErr result (self.new ≡ self.old) }
+    {
+        let copies = words_of(*self.words.allocator(), words)?;
+        self.append(copies)
+    }
+
+    /// Adds the words of each entry whose condition holds, in order. Refused for memory, the list stays as it was.
+    pub fn push_chosen(&mut self, entries: &[(bool, &[&str])]) -> Mem<()>
+        ensures ok { OnOk result (self.new ≡ self.old ++ choose (map entry_seen entries.now)) }
+        ensures err { OnErr result (self.new ≡ self.old) }
+    {
+        let copies = chosen_words(*self.words.allocator(), entries)?;
+        self.append(copies)
+    }
+
     /// How many words there are.
     pub fn len(&self) -> usize
         ensures { result ≡ length self.now }
@@ -87,100 +135,43 @@ impl Words {
     }
 }
 
-/// A list of pairs of texts: names and values.
-#[derive(Drop, Debug)]
-pub struct Vars {
-    vars: Vec<(Text, Text)>,
+// Some texts, as a list of their own.
+fn words_of(alloc: Global, pieces: &[&str]) -> Mem<Words>
+    ensures { IfOk result (λ words. words ≡ texts pieces.now) }
+{
+    let mut words = Words::new(alloc);
+    for text in pieces {
+        words.push(text)?;
+    }
+    Ok(words)
 }
 
-impl Model for Vars {
-    ghost Value = { List (List ℕ × List ℕ) };
-
-    ghost view = { λ v. v.vars.items };
+// The words of each entry whose condition holds, as a list of their own.
+#[tactic(auto, unfolding(crate::specs::Words::choose))]
+fn chosen_words(alloc: Global, entries: &[(bool, &[&str])]) -> Mem<Words>
+    ensures { IfOk result (λ words. words ≡ choose (map entry_seen entries.now)) }
+{
+    let mut words = Words::new(alloc);
+    for (wanted, texts) in entries {
+        if *wanted {
+            words.push_all(texts)?;
+        }
+    }
+    Ok(words)
 }
 
-impl Vars {
-    /// The empty list. It takes no memory.
-    pub fn new(alloc: Global) -> Vars
-        ensures { result ≡ [] }
-    {
-        Vars {
-            vars: Vec::new(alloc),
-        }
-    }
+impl PartialEq for Words {
+    ghost eq = { same_words };
 
-    /// Adds a pair last. Refused for memory, the list stays as it was.
-    pub fn push(&mut self, name: &str, value: &str) -> Mem<()>
-        ensures ok { OnOk result (self.new ≡ self.old ++ (name.now, value.now) ∷ []) }
-        ensures err { OnErr result (self.new ≡ self.old) }
-    {
-        let alloc = *self.vars.allocator();
-        let name = Text::of(alloc, name)?;
-        let value = Text::of(alloc, value)?;
-        self.vars.push((name, value))?;
-        Ok(())
-    }
+    ghost laws = { partial_equiv_from_equiv same_words-equiv };
 
-    /// The place of the first pair of a name, or none. It takes no memory.
-    fn place_of(&self, name: &str) -> Option<usize>
-        ensures { result ≡ place_of self.now name.now }
-    {
-        self.vars.iter().position(|pair| pair.0.as_str() == name)
+    fn eq(&self, other: &Words) -> bool {
+        self.words == other.words
     }
+}
 
-    /// Gives a name a value: in the place of the first pair of that name, else in a pair that is added last.
-    /// Refused for memory, the list stays as it was.
-    pub fn set(&mut self, name: &str, value: &str) -> Mem<()>
-        ensures ok { OnOk result (self.new ≡ with_var self.old name.now value.now) }
-        ensures err { OnErr result (self.new ≡ self.old) }
-    {
-        match self.place_of(name) {
-            Some(place) => {
-                self.vars[place].1 = Text::of(*self.vars.allocator(), value)?;
-                Ok(())
-            }
-            None => self.push(name, value),
-        }
-    }
-
-    /// How many pairs there are.
-    pub fn len(&self) -> usize
-        ensures { result ≡ length self.now }
-    {
-        self.vars.len()
-    }
-
-    /// Whether there is no pair.
-    pub fn is_empty(&self) -> bool
-        ensures { IsTrue result ↔ (self.now ≡ []) }
-    {
-        self.vars.is_empty()
-    }
-
-    /// The pair at a place, from 0, or none past the end.
-    pub fn get(&self, place: usize) -> Option<&(Text, Text)>
-        ensures { option_copied result ≡ slice_get self.now place }
-    {
-        self.vars.get(place)
-    }
-
-    /// The pairs in order, lent.
-    pub fn as_slice(&self) -> &[(Text, Text)]
-        ensures { result.now ≡ self.now }
-    {
-        self.vars.as_slice()
-    }
-
-    /// A second list of the same pairs.
-    pub fn try_clone(&self) -> Mem<Vars>
-        ensures { IfOk result (λ v. v ≡ self.now) }
-    {
-        let mut vars = Vars::new(*self.vars.allocator());
-        for (name, value) in &self.vars {
-            vars.push(name.as_str(), value.as_str())?;
-        }
-        Ok(vars)
-    }
+impl Eq for Words {
+    ghost laws = { same_words-equiv };
 }
 
 #[cfg(test)]
@@ -189,19 +180,22 @@ mod tests {
     use std::test::Fail;
 
     #[test]
-    fn a_set_value_stands_in_the_place_of_the_first(rt: HostRuntime) -> Result<(), Fail> {
-        let mut vars = Vars::new(rt.alloc());
-        for (name, value) in [("A", "1"), ("B", "2"), ("A", "3"), ("C", "é")] {
-            vars.push(name, value)?;
+    fn words_are_added_in_order(rt: HostRuntime) -> Result<(), Fail> {
+        let alloc = rt.alloc();
+        let mut words = Words::new(alloc);
+        words.push_all(&["é", "b"])?;
+        words.push_joined("-O", "\u{1f600}")?;
+        words.push_chosen(&[(true, &["c", "d"]), (false, &["x"]), (true, &["e"])])?;
+        let mut all = Words::new(alloc);
+        all.push("a")?;
+        all.extend(&words)?;
+        assert!(rt; words != all);
+        let want = ["a", "é", "b", "-O\u{1f600}", "c", "d", "e"];
+        assert_eq!(rt; all.len(), want.len());
+        for (word, want) in all.as_slice().iter().zip(want) {
+            assert_eq!(rt; word.as_str(), want);
         }
-        vars.set("A", "4")?;
-        vars.set("D", "5")?;
-        assert_eq!(rt; vars.len(), 5);
-        for (place, name, value) in [(0, "A", "4"), (1, "B", "2"), (2, "A", "3"), (4, "D", "5")] {
-            let pair = vars.get(place).expect(&rt, "a pair");
-            assert_eq!(rt; pair.0.as_str(), name);
-            assert_eq!(rt; pair.1.as_str(), value);
-        }
+        assert!(rt; all == all.try_clone()?);
         Ok(())
     }
 }

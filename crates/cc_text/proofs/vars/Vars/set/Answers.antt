@@ -2,7 +2,7 @@ use Rattle.std.proofs.Common.{length, arith, ap}
 use Rattle.cc_text.specs.Vars.{is_named}
 use Rattle.cc_text.proofs.PositionLemmas.{place_is}
 use Rattle.cc_text.proofs.VarsLemmas.{set_at, add_last}
-use Rattle.cc_text.proofs.words.Vars.set.Goals as goal
+use Rattle.cc_text.proofs.vars.Vars.set.Goals as goal
 
 pub index_mut-requires : goal.index_mut-requires
 index_mut-requires c =

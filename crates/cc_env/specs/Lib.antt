@@ -1,0 +1,4 @@
+pub mod Env
+pub mod Index
+pub mod Names
+pub mod Snapshot

@@ -1,0 +1,140 @@
+// A snapshot of an environment.
+ghost use Rattle.std.specs.Prelude.{◌≡◌, ◌↔◌, [], ◌++◌, List, ℕ, IfOk, IsErr, IsTrue, Some, None, bytes_eq};
+ghost use Rattle.std.specs.Option.{option_copied};
+ghost use Rattle.std.specs.Cmp.{partial_equiv_from_equiv};
+ghost use Rattle.cc_text.specs.Map.{HasDistinctKeys};
+ghost use Rattle.cc_text.specs.Vars.{same_vars, same_vars-equiv};
+ghost use Rattle.cc_env.specs.Snapshot.{last_value, snapshot_of, child_of, debug_text};
+
+use crate::index::{Places, put_all};
+use cc_text::{Mem, Vars};
+use std::alloc::Global;
+use std::collections::BTreeMap;
+use std::fmt;
+use std::marker::Model;
+
+/// A name that isn't set.
+#[derive(Clone, Copy, Debug, PartialEq, Eq)]
+pub struct NotSet;
+
+/// The variables of an environment. Contracts see a list of names and values in which no name is there twice.
+#[derive(Drop)]
+pub struct EnvSnapshot {
+    alloc: Global,
+    vars: Vars,
+    places: Places,
+}
+
+impl Model for EnvSnapshot {
+    ghost use Rattle.std.specs.Prelude.{List, ℕ};
+    ghost use Rattle.std.specs.BTreeMap.{get_by_text};
+    ghost use Rattle.cc_env.specs.Index.{IsIndexed};
+
+    ghost Value = { List (List ℕ × List ℕ) };
+
+    ghost view = { λ e. e.vars };
+
+    ghost invariant = { λ e. IsIndexed e.vars (get_by_text e.places) };
+}
+
+impl EnvSnapshot {
+    /// The environment without variables. It takes no memory.
+    pub fn empty(alloc: Global) -> EnvSnapshot
+        ensures { result ≡ [] }
+    {
+        EnvSnapshot {
+            alloc,
+            vars: Vars::new(alloc),
+            places: BTreeMap::new(alloc),
+        }
+    }
+
+    /// The snapshot of some pairs: each name once, at the place of its first pair, with its last value.
+    pub fn from_vars(alloc: Global, vars: &Vars) -> Mem<EnvSnapshot>
+        ensures snapshot { IfOk result (λ env. env ≡ snapshot_of vars.now) }
+        ensures last { IfOk result (λ env. (name : List ℕ) → last_value env name ≡ last_value vars.now name) }
+    {
+        let mut kept = Vars::new(alloc);
+        let mut places = BTreeMap::new(alloc);
+        put_all(alloc, &mut kept, &BTreeMap::new(alloc), &mut places, vars)?;
+        Ok(EnvSnapshot {
+            alloc,
+            vars: kept,
+            places,
+        })
+    }
+
+    /// The value of a name, or none where it isn't set. It takes no memory.
+    pub fn get(&self, name: &str) -> Option<&str>
+        ensures { option_copied result ≡ last_value self.now name.now }
+    {
+        let place = *self.places.get(name)?;
+        let (_, value) = self.vars.get(place)?;
+        Some(value.as_str())
+    }
+
+    /// The value of a name that Cargo sets. `NotSet` comes where it isn't set, and only there. It takes no memory.
+    pub fn get_cargo_var(&self, name: &str) -> Result<&str, NotSet>
+        ensures set { IfOk result (λ value. last_value self.now name.now ≡ Some value.now) }
+        ensures unset { IsErr result ↔ (last_value self.now name.now ≡ None) }
+    {
+        match self.get(name) {
+            Some(value) => Ok(value),
+            None => Err(NotSet),
+        }
+    }
+
+    /// The variables in order, lent.
+    pub fn vars(&self) -> &Vars
+        ensures vars { result.now ≡ self.now }
+        ensures distinct { HasDistinctKeys bytes_eq self.now }
+    {
+        &self.vars
+    }
+
+    /// The variables of a child that inherits these and is given some entries: each entry, in order, replaces the
+    /// value of its name, or is added last.
+    pub fn child_vars(&self, alloc: Global, entries: &Vars) -> Mem<Vars>
+        ensures child { IfOk result (λ vars. vars ≡ child_of self.now entries.now) }
+        ensures last { IfOk result (λ vars. (name : List ℕ) → last_value vars name ≡ last_value (self.now ++ entries.now) name) }
+        ensures inherits { IfOk result (λ vars. (name : List ℕ) → last_value entries.now name ≡ None → last_value vars name ≡ last_value self.now name) }
+    {
+        let mut vars = self.vars.try_clone()?;
+        let mut more = BTreeMap::new(alloc);
+        put_all(alloc, &mut vars, &self.places, &mut more, entries)?;
+        Ok(vars)
+    }
+
+    /// A second snapshot of the same variables.
+    pub fn try_clone(&self) -> Mem<EnvSnapshot>
+        ensures { IfOk result (λ env. env ≡ self.now) }
+    {
+        EnvSnapshot::from_vars(self.alloc, &self.vars)
+    }
+}
+
+impl PartialEq for EnvSnapshot {
+    ghost eq = { same_vars };
+
+    ghost laws = { partial_equiv_from_equiv same_vars-equiv };
+
+    fn eq(&self, other: &EnvSnapshot) -> bool
+        ensures value { result ≡ same_vars self.now other.now }
+        ensures equal { IsTrue result ↔ (self.now ≡ other.now) }
+    {
+        self.vars == other.vars
+    }
+}
+
+impl Eq for EnvSnapshot {
+    ghost laws = { same_vars-equiv };
+}
+
+impl fmt::Debug for EnvSnapshot {
+    ghost debug_output = { λ env. Some (debug_text env) };
+
+    fn fmt<W: fmt::Write>(&self, f: &mut fmt::Formatter<W>) -> fmt::Result {
+        let count = self.vars.len();
+        write!(f, "EnvSnapshot(<{count} variables>)")
+    }
+}

@@ -1,0 +1,36 @@
+// Values that turn something on.
+ghost use Rattle.std.specs.Prelude.{◌≡◌};
+ghost use Rattle.cc_env.specs.Names.{is_true_value};
+
+/// Whether a value turns something on: any does but the empty text, `0`, `no` and `false`. It takes no memory.
+#[tactic(auto, unfolding(crate::specs::Names::is_true_value))]
+pub fn env_value_is_true(value: &str) -> bool
+    ensures { result ≡ is_true_value value.now }
+{
+    !(value == "" || value == "0" || value == "no" || value == "false")
+}
+
+#[cfg(test)]
+mod tests {
+    use super::*;
+
+    #[test]
+    fn a_value_turns_on_unless_it_says_no(rt: HostRuntime) {
+        let cases = [
+            ("", false),
+            ("0", false),
+            ("no", false),
+            ("false", false),
+            ("1", true),
+            ("00", true),
+            ("No", true),
+            ("FALSE", true),
+            (" ", true),
+            ("n", true),
+            ("é\u{1f600}", true),
+        ];
+        for (value, want) in cases {
+            assert_eq!(rt; env_value_is_true(value), want, "{value}");
+        }
+    }
+}
