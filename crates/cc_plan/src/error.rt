@@ -27,6 +27,8 @@ pub enum PlanError {
     NotSet(Text),
     /// The target of this name isn't known.
     UnknownTarget(Text),
+    /// The compiler of QNX has no variant for this full architecture.
+    QnxArch(Text),
     /// Memory was refused.
     NoMemory,
 }

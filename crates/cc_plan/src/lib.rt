@@ -17,6 +17,7 @@ mod settings;
 #[cfg(test)]
 mod tests;
 mod tool;
+mod words;
 
 pub use archive::{archive_commands, index_commands};
 pub use compile::compile_command;
