@@ -23,13 +23,19 @@ object_words family target object =
     if is_visual_studio family && not (is_asm object.src && is_arm target) then (codes "-Fo" ++ object.dst) ∷ []
     else codes "-o" ∷ object.dst ∷ []
 
+-- the name that stands for the object
+unfoldable pub object_name_words : List ℕ → List (List ℕ)
+object_name_words name = codes "-Xclang" ∷ (codes "-object-file-name=" ++ name) ∷ []
+
 -- debug information in which no folder and no command line stands
+unfoldable pub same_codeview_words : List ℕ → List (List ℕ)
+same_codeview_words object =
+    object_name_words (name_of object) ++ word "/clang:-gno-codeview-command-line" ++ word "/clang:-fdebug-compilation-dir=."
+
+-- the same, where it is wanted and Clang takes the words of the Visual Studio compiler
 unfoldable pub codeview_words : ToolFamily → Bool → Object → List (List ℕ)
-codeview_words family reproducible object = when (reproducible && is_clang_cl family && not (is_asm object.src)) (
-    word "-Xclang"
-    ++ (codes "-object-file-name=" ++ name_of object.dst) ∷ []
-    ++ word "/clang:-gno-codeview-command-line"
-    ++ word "/clang:-fdebug-compilation-dir=.")
+codeview_words family reproducible object =
+    when (reproducible && is_clang_cl family && not (is_asm object.src)) (same_codeview_words object.dst)
 
 -- the extension by which the Visual Studio compiler doesn't know C++
 abbrev pub has_extension_cc : List ℕ → Bool

@@ -2,6 +2,7 @@
 use Rattle.std.specs.Prelude.{ℕ, Bool, true, false, not, ◌&&◌, ◌||◌, ◌==◌, List, [], ◌∷◌, ◌++◌, Option, Some, None, unwrap_or, is_none, map, codes, if◌then◌else◌}
 use Rattle.std.specs.List.{list_any, slice_split}
 use Rattle.std.specs.Option.{option_to_list}
+use Rattle.cc_env.specs.Snapshot.{last_value}
 use Rattle.cc_text.specs.Words.{when, choose, entry}
 use Rattle.cc_text.specs.declared.family.ToolFamily.{ToolFamily}
 use Rattle.cc_target.specs.Targets.{Info}
@@ -9,6 +10,10 @@ use Rattle.cc_plan.specs.declared.error.PlanError.{PlanError}
 use Rattle.cc_plan.specs.declared.error.PlanError.TheVariants.{NotSet, QnxArch}
 use Rattle.cc_plan.specs.Families.{is_gnu, is_clang, is_gnu_like, is_cl, has_windows_target, has_android_target}
 use Rattle.cc_plan.specs.Texts.{is, has, word}
+
+-- the value of a variable, or nothing
+unfoldable pub value_or_empty : List (List ℕ × List ℕ) → List ℕ → List ℕ
+value_or_empty env name = unwrap_or (last_value env name) []
 
 -- GCC spells the level `z` as `s`
 abbrev pub level_text : ToolFamily → List ℕ → List ℕ
@@ -40,11 +45,14 @@ unfoldable pub sysroot_words : Option (List ℕ) → List (List ℕ)
 sysroot_words None = []
 sysroot_words (Some sysroot) = (codes "--sysroot=" ++ sysroot) ∷ []
 
+-- threads, where the target's name has them
+unfoldable pub thread_words : List ℕ → List (List ℕ)
+thread_words name = when (has name "threads") (word "-pthread")
+
 -- the sysroot where it is set, and threads where the target's name has them
 unfoldable pub wasi_words : Info → List ℕ → Option (List ℕ) → List (List ℕ)
 wasi_words target name sysroot = when (is target.os "wasi") (
-    sysroot_words sysroot
-    ++ when (has name "threads") (word "-pthread"))
+    sysroot_words sysroot ++ thread_words name)
 
 -- the variant of QNX's compiler for a full architecture
 unfoldable pub qnx_variant : List ℕ → Option (List ℕ)
@@ -95,12 +103,16 @@ wasm_feature_words = map codes (
 unfoldable pub wasm_linux_words : Option (List ℕ) → List (List ℕ)
 wasm_linux_words sysroot = wasm_feature_words ++ sysroot_words sysroot ++ word "-pthread"
 
+-- the target by LLVM's name
+unfoldable pub target_words : List ℕ → List (List ℕ)
+target_words llvm = (codes "--target=" ++ llvm) ∷ []
+
 -- the target as Clang takes it, with what its C library wants
 unfoldable pub clang_target_words : Info → List ℕ → Bool → Option (List ℕ) → Option (List ℕ) → List (List ℕ)
 clang_target_words target llvm cpp set_stdlib musl_sysroot =
     freebsd_words target cpp set_stdlib
     ++ when (is_wasm_linux target) (wasm_linux_words musl_sysroot)
-    ++ (codes "--target=" ++ llvm) ∷ []
+    ++ target_words llvm
 
 -- the sysroot of musl for WebAssembly isn't set
 unfoldable pub sysroot_refusal : Info → Option (List ℕ) → Option PlanError
@@ -137,5 +149,9 @@ is_x86_64_visual_studio target = is target.arch "x86_64" && is target.os "window
 abbrev pub is_sanitized : ToolFamily → Info → Bool
 is_sanitized family target = (is_gnu_like family && is_x86_64_glibc target) || (is_cl family && is_x86_64_visual_studio target)
 
-unfoldable pub sanitizer_words : ToolFamily → Info → Bool → List ℕ → List (List ℕ)
-sanitizer_words family target cargos sanitizers = when (cargos && has_address_sanitizer sanitizers && is_sanitized family target) (word "-fsanitize=address")
+-- Cargo's target has the address sanitizer, and the compiler is given it
+unfoldable pub wants_sanitizer : ToolFamily → Info → Bool → List (List ℕ × List ℕ) → Bool
+wants_sanitizer family target cargos env = cargos && has_address_sanitizer (value_or_empty env (codes "CARGO_CFG_SANITIZE")) && is_sanitized family target
+
+unfoldable pub sanitizer_words : ToolFamily → Info → Bool → List (List ℕ × List ℕ) → List (List ℕ)
+sanitizer_words family target cargos env = when (wants_sanitizer family target cargos env) (word "-fsanitize=address")

@@ -42,7 +42,7 @@ abbrev pub is_gnu_like : ToolFamily → Bool
 is_gnu_like family = not (is_visual_studio family)
 
 -- the file name of a path, or the empty name
-abbrev pub name_of : List ℕ → List ℕ
+unfoldable pub name_of : List ℕ → List ℕ
 name_of path = unwrap_or (path_file_name path) []
 
 -- the literal, of small letters, stands in the name, in either case of ASCII letters

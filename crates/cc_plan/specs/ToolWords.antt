@@ -1,31 +1,26 @@
 -- The words of a tool: those that a target and a level bring, unless they are left out, and those of the settings.
 use Rattle.std.specs.Prelude.{ℕ, Bool, not, ◌&&◌, List, [], ◌∷◌, ◌++◌, Option, Some, None, unwrap_or, is_some, codes, if◌then◌else◌}
-use Prim.Native.String.{String}
 use Rattle.cc_env.specs.Snapshot.{last_value}
 use Rattle.cc_text.specs.Words.{when}
 use Rattle.cc_text.specs.declared.family.ToolFamily.{ToolFamily}
 use Rattle.cc_target.specs.Targets.{Info, llvm_of}
 use Rattle.cc_plan.specs.declared.error.PlanError.{PlanError}
 use Rattle.cc_plan.specs.declared.settings.BuildConfig.{BuildConfig}
-use Rattle.cc_plan.specs.DefaultWords.{optimisation_words, position_independence_words, wasi_words, qnx_words, qnx_refusal, width_words, is_told_target, clang_target_words, sysroot_refusal, linkage_words, standard_library_words, sanitizer_words}
+use Rattle.cc_plan.specs.DefaultWords.{optimisation_words, position_independence_words, wasi_words, qnx_words, qnx_refusal, width_words, is_told_target, clang_target_words, sysroot_refusal, linkage_words, standard_library_words, sanitizer_words, value_or_empty}
 use Rattle.cc_plan.specs.Families.{is_gnu, is_gnu_like, is_visual_studio}
 use Rattle.cc_plan.specs.GnuWords.{gnu_words, processor_words, bare_and_arm_words, riscv_words}
 use Rattle.cc_plan.specs.SettingWords.{standard_words, include_words, error_words, warning_words, extra_warning_words, flag_words, definition_words, environment_words}
 use Rattle.cc_plan.specs.Texts.{has}
 use Rattle.cc_plan.specs.VisualStudioWords.{visual_studio_words, visual_studio_target_words}
 
--- the value of a variable, or nothing
-abbrev pub value_or_empty : List (List ℕ × List ℕ) → String → List ℕ
-value_or_empty env name = unwrap_or (last_value env (codes name)) []
-
 -- the level that is set, else Cargo's
 abbrev pub level_of : Option (List ℕ) → List (List ℕ × List ℕ) → List ℕ
 level_of (Some level) env = level
-level_of None env = value_or_empty env "OPT_LEVEL"
+level_of None env = value_or_empty env (codes "OPT_LEVEL")
 
 -- Cargo's target wants its C library linked statically
 unfoldable pub has_static_crt : List (List ℕ × List ℕ) → Bool → Bool
-has_static_crt env cargos = cargos && has (value_or_empty env "CARGO_CFG_TARGET_FEATURE") "crt-static"
+has_static_crt env cargos = cargos && has (value_or_empty env (codes "CARGO_CFG_TARGET_FEATURE")) "crt-static"
 
 -- the name that LLVM has for a target, else its own
 abbrev pub llvm_name : List ℕ → List ℕ
@@ -63,7 +58,7 @@ default_words set env cargos name target family program =
     ++ gcc_words set env cargos target family
     ++ linkage_words target name set.static_flag set.shared_flag
     ++ standard_library_words family set.cpp set.cpp_set_stdlib
-    ++ sanitizer_words family target cargos (value_or_empty env "CARGO_CFG_SANITIZE")
+    ++ sanitizer_words family target cargos env
 
 -- the groups of the settings, in order
 unfoldable pub setting_words : BuildConfig → ToolFamily → Option (List (List ℕ)) → List (List ℕ)

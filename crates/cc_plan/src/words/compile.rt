@@ -46,7 +46,28 @@ fn push_object_words(
     Ok(())
 }
 
+// The name that stands for the object.
+#[tactic(auto, unfolding(crate::specs::CompileWords::object_name_words))]
+fn push_object_name_words(words: &mut Words, name: &str) -> Mem<()>
+    ensures { OnOk result (words.new ≡ words.old ++ spec.object_name_words name.now) }
+{
+    words.push("-Xclang")?;
+    words.push_joined("-object-file-name=", name)?;
+    Ok(())
+}
+
 // Debug information in which no folder and no command line stands.
+#[tactic(auto, unfolding(crate::specs::CompileWords::same_codeview_words))]
+fn push_same_codeview_words(words: &mut Words, object: &str) -> Mem<()>
+    ensures { OnOk result (words.new ≡ words.old ++ spec.same_codeview_words object.now) }
+{
+    push_object_name_words(words, name_of(object))?;
+    words.push("/clang:-gno-codeview-command-line")?;
+    words.push("/clang:-fdebug-compilation-dir=.")?;
+    Ok(())
+}
+
+// The same, where it is wanted and Clang takes the words of the Visual Studio compiler.
 #[tactic(auto, unfolding(crate::specs::CompileWords::codeview_words))]
 fn push_codeview_words(
     words: &mut Words,
@@ -57,10 +78,7 @@ fn push_codeview_words(
     ensures { OnOk result (words.new ≡ words.old ++ spec.codeview_words family reproducible object.now) }
 {
     if reproducible && is_clang_cl(family) && !is_asm(object.src.as_str()) {
-        words.push("-Xclang")?;
-        words.push_joined("-object-file-name=", name_of(object.dst.as_str()))?;
-        words.push("/clang:-gno-codeview-command-line")?;
-        words.push("/clang:-fdebug-compilation-dir=.")?;
+        push_same_codeview_words(words, object.dst.as_str())?;
     }
     Ok(())
 }

@@ -7,7 +7,8 @@ ghost use Rattle.cc_plan.specs.DefaultWords as spec;
 use crate::words::family::{
     has_android_target, has_windows_target, is_clang, is_cl, is_gnu, is_gnu_like,
 };
-use crate::words::texts::{has, push_when};
+use crate::words::texts::{has, value_or_empty};
+use cc_env::EnvSnapshot;
 use cc_target::TargetInfo;
 use cc_text::{Mem, ToolFamily, Words};
 
@@ -79,6 +80,17 @@ fn push_sysroot_words(words: &mut Words, sysroot: Option<&str>) -> Mem<()>
     Ok(())
 }
 
+// Threads, where the target's name has them.
+#[tactic(auto, unfolding(crate::specs::DefaultWords::thread_words))]
+fn push_thread_words(words: &mut Words, name: &str) -> Mem<()>
+    ensures { OnOk result (words.new ≡ words.old ++ spec.thread_words name.now) }
+{
+    if has(name, "threads") {
+        words.push("-pthread")?;
+    }
+    Ok(())
+}
+
 // The sysroot where it is set, and threads where the target's name has them.
 #[tactic(auto, unfolding(crate::specs::DefaultWords::wasi_words))]
 pub(super) fn push_wasi_words(
@@ -91,7 +103,7 @@ pub(super) fn push_wasi_words(
 {
     if target.os == "wasi" {
         push_sysroot_words(words, sysroot)?;
-        push_when(words, has(name, "threads"), "-pthread")?;
+        push_thread_words(words, name)?;
     }
     Ok(())
 }
@@ -223,6 +235,15 @@ fn push_wasm_linux_words(words: &mut Words, sysroot: Option<&str>) -> Mem<()>
     Ok(())
 }
 
+// The target by LLVM's name.
+#[tactic(auto, unfolding(crate::specs::DefaultWords::target_words))]
+pub(super) fn push_target_words(words: &mut Words, llvm: &str) -> Mem<()>
+    ensures { OnOk result (words.new ≡ words.old ++ spec.target_words llvm.now) }
+{
+    words.push_joined("--target=", llvm)?;
+    Ok(())
+}
+
 // The target as Clang takes it, with what its C library wants.
 #[tactic(auto, unfolding(crate::specs::DefaultWords::clang_target_words))]
 pub(super) fn push_clang_target_words(
@@ -239,7 +260,7 @@ pub(super) fn push_clang_target_words(
     if is_wasm_linux(target) {
         push_wasm_linux_words(words, musl_sysroot)?;
     }
-    words.push_joined("--target=", llvm)?;
+    push_target_words(words, llvm)?;
     Ok(())
 }
 
@@ -315,17 +336,32 @@ fn is_sanitized(family: ToolFamily, target: &TargetInfo) -> bool
         || is_cl(family) && is_x86_64_visual_studio(target)
 }
 
+// Cargo's target has the address sanitizer, and the compiler is given it.
+#[tactic(auto, unfolding(crate::specs::DefaultWords::wants_sanitizer))]
+fn wants_sanitizer(
+    family: ToolFamily,
+    target: &TargetInfo,
+    cargos: bool,
+    env: &EnvSnapshot,
+) -> bool
+    ensures { result ≡ spec.wants_sanitizer family (info_seen target.now) cargos env.now }
+{
+    cargos
+        && has_address_sanitizer(value_or_empty(env, "CARGO_CFG_SANITIZE"))
+        && is_sanitized(family, target)
+}
+
 #[tactic(auto, unfolding(crate::specs::DefaultWords::sanitizer_words))]
 pub(super) fn push_sanitizer_words(
     words: &mut Words,
     family: ToolFamily,
     target: &TargetInfo,
     cargos: bool,
-    sanitizers: &str,
+    env: &EnvSnapshot,
 ) -> Mem<()>
-    ensures { OnOk result (words.new ≡ words.old ++ spec.sanitizer_words family (info_seen target.now) cargos sanitizers.now) }
+    ensures { OnOk result (words.new ≡ words.old ++ spec.sanitizer_words family (info_seen target.now) cargos env.now) }
 {
-    if cargos && has_address_sanitizer(sanitizers) && is_sanitized(family, target) {
+    if wants_sanitizer(family, target, cargos, env) {
         words.push("-fsanitize=address")?;
     }
     Ok(())

@@ -56,6 +56,7 @@ pub(super) fn is_cl(family: ToolFamily) -> bool
 }
 
 // The file name of a path, or the empty name.
+#[tactic(auto, unfolding(crate::specs::Families::name_of))]
 pub(super) fn name_of(path: &str) -> &str
     ensures { result.now ≡ families.name_of path.now }
 {

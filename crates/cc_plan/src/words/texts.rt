@@ -1,10 +1,11 @@
-// Tests of texts, the text of an option, and a word that may be wanted.
-ghost use Rattle.std.specs.Prelude.{◌≡◌, ◌++◌, [], ◌∷◌, OnOk};
+// Tests of texts, and texts that may be set.
+ghost use Rattle.std.specs.Prelude.{◌≡◌};
 ghost use Rattle.std.specs.Option.{option_copied};
-ghost use Rattle.cc_text.specs.Words.{when};
+ghost use Rattle.cc_plan.specs.DefaultWords.{value_or_empty};
 ghost use Rattle.cc_plan.specs.Texts.{begins_with, is_within};
 
-use cc_text::{Mem, Text, Words};
+use cc_env::EnvSnapshot;
+use cc_text::Text;
 
 // The text begins with the prefix. Case counts.
 #[tactic(auto, unfolding(crate::specs::Texts::begins_with))]
@@ -21,14 +22,12 @@ pub(super) fn has(text: &str, needle: &str) -> bool
     cc_text::contains(text, needle)
 }
 
-// Adds a word last, where it is wanted.
-pub(super) fn push_when(words: &mut Words, wanted: bool, word: &str) -> Mem<()>
-    ensures { OnOk result (words.new ≡ words.old ++ when wanted (word.now ∷ [])) }
+// The value of a variable, or nothing.
+#[tactic(auto, unfolding(crate::specs::DefaultWords::value_or_empty))]
+pub(super) fn value_or_empty<'a>(env: &'a EnvSnapshot, name: &str) -> &'a str
+    ensures { result.now ≡ value_or_empty env.now name.now }
 {
-    if wanted {
-        words.push(word)?;
-    }
-    Ok(())
+    env.get(name).unwrap_or("")
 }
 
 // The text that is set, lent.

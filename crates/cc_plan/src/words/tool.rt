@@ -19,7 +19,7 @@ use crate::words::settings::{
     push_definition_words, push_environment_words, push_error_words, push_extra_warning_words,
     push_flag_words, push_include_words, push_standard_words, push_warning_words,
 };
-use crate::words::texts::{has, lent};
+use crate::words::texts::{has, lent, value_or_empty};
 use crate::words::visual_studio::{push_visual_studio_target_words, push_visual_studio_words};
 use crate::{BuildConfig, PlanError};
 use cc_env::EnvSnapshot;
@@ -33,7 +33,7 @@ fn level_of<'a>(level: &'a Option<Text>, env: &'a EnvSnapshot) -> &'a str
 {
     match level {
         Some(level) => level.as_str(),
-        None => env.get("OPT_LEVEL").unwrap_or(""),
+        None => value_or_empty(env, "OPT_LEVEL"),
     }
 }
 
@@ -42,7 +42,7 @@ fn level_of<'a>(level: &'a Option<Text>, env: &'a EnvSnapshot) -> &'a str
 fn has_static_crt(env: &EnvSnapshot, cargos: bool) -> bool
     ensures { result ≡ spec.has_static_crt env.now cargos }
 {
-    cargos && has(env.get("CARGO_CFG_TARGET_FEATURE").unwrap_or(""), "crt-static")
+    cargos && has(value_or_empty(env, "CARGO_CFG_TARGET_FEATURE"), "crt-static")
 }
 
 // The name that LLVM has for a target, else its own.
@@ -132,7 +132,6 @@ fn push_default_words(
     let level = level_of(&set.opt_level, env);
     let crt = has_static_crt(env, cargos);
     let set_stdlib = lent(&set.cpp_set_stdlib);
-    let sanitizers = env.get("CARGO_CFG_SANITIZE").unwrap_or("");
     push_visual_studio_words(words, family, set.static_crt, crt, level)?;
     push_gnu_like_words(words, set, env, name, target, family)?;
     push_width_words(words, family, target)?;
@@ -141,7 +140,7 @@ fn push_default_words(
     push_gcc_words(words, set, env, cargos, target, family)?;
     push_linkage_words(words, target, name, set.static_flag, set.shared_flag)?;
     push_standard_library_words(words, family, set.cpp, set_stdlib)?;
-    push_sanitizer_words(words, family, target, cargos, sanitizers)?;
+    push_sanitizer_words(words, family, target, cargos, env)?;
     Ok(())
 }
 

@@ -4,8 +4,8 @@ ghost use Rattle.std.specs.Option.{option_copied};
 ghost use Rattle.cc_target.specs.Targets.{info_seen};
 ghost use Rattle.cc_plan.specs.VisualStudioWords as spec;
 
+use crate::words::defaults::push_target_words;
 use crate::words::family::{is_clang_cl, is_visual_studio};
-use crate::words::texts::push_when;
 use cc_target::TargetInfo;
 use cc_text::{Mem, ToolFamily, Words};
 
@@ -49,23 +49,63 @@ pub(super) fn push_visual_studio_words(
     Ok(())
 }
 
+// Instructions that every processor of Rust's target has.
+#[tactic(auto, unfolding(crate::specs::VisualStudioWords::sse_words))]
+fn push_sse_words(words: &mut Words, target: &TargetInfo) -> Mem<()>
+    ensures { OnOk result (words.new ≡ words.old ++ spec.sse_words (info_seen target.now)) }
+{
+    if target.arch == "x86" {
+        words.push("-arch:SSE2")?;
+    }
+    Ok(())
+}
+
 // What tells Clang in this form its target.
 #[tactic(auto, unfolding(crate::specs::VisualStudioWords::clang_cl_words))]
 fn push_clang_cl_words(words: &mut Words, target: &TargetInfo, llvm: &str) -> Mem<()>
     ensures { OnOk result (words.new ≡ words.old ++ spec.clang_cl_words (info_seen target.now) llvm.now) }
 {
-    words.push_joined("--target=", llvm)?;
-    push_when(words, target.arch == "x86", "-arch:SSE2")?;
+    push_target_words(words, llvm)?;
+    push_sse_words(words, target)?;
     Ok(())
 }
 
-// What tells the Visual Studio compiler itself of instructions.
+// What tells the Visual Studio compiler itself of its target.
 #[tactic(auto, unfolding(crate::specs::VisualStudioWords::cl_words))]
 fn push_cl_words(words: &mut Words, target: &TargetInfo) -> Mem<()>
     ensures { OnOk result (words.new ≡ words.old ++ spec.cl_words (info_seen target.now)) }
 {
-    push_when(words, target.full_arch == "i586", "-arch:IA32")?;
-    push_when(words, target.full_arch == "arm64ec", "-arm64EC")?;
+    let i586 = target.full_arch == "i586";
+    let arm64ec = target.full_arch == "arm64ec";
+    words.push_chosen(&[(i586, &["-arch:IA32"]), (arm64ec, &["-arm64EC"])])?;
+    Ok(())
+}
+
+#[tactic(auto, unfolding(crate::specs::VisualStudioWords::instruction_words))]
+fn push_instruction_words(
+    words: &mut Words,
+    family: ToolFamily,
+    target: &TargetInfo,
+    llvm: &str,
+) -> Mem<()>
+    ensures { OnOk result (words.new ≡ words.old ++ spec.instruction_words family (info_seen target.now) llvm.now) }
+{
+    if is_clang_cl(family) {
+        push_clang_cl_words(words, target, llvm)?;
+    } else {
+        push_cl_words(words, target)?;
+    }
+    Ok(())
+}
+
+// Headers of Windows are those of a desktop.
+#[tactic(auto, unfolding(crate::specs::VisualStudioWords::desktop_words))]
+fn push_desktop_words(words: &mut Words, target: &TargetInfo) -> Mem<()>
+    ensures { OnOk result (words.new ≡ words.old ++ spec.desktop_words (info_seen target.now)) }
+{
+    if target.arch == "arm" {
+        words.push("-D_ARM_WINAPI_PARTITION_DESKTOP_SDK_AVAILABLE=1")?;
+    }
     Ok(())
 }
 
@@ -81,14 +121,8 @@ pub(super) fn push_visual_studio_target_words(
 {
     if is_visual_studio(family) {
         words.push("-Brepro")?;
-        if is_clang_cl(family) {
-            push_clang_cl_words(words, target, llvm)?;
-        } else {
-            push_cl_words(words, target)?;
-        }
-        if target.arch == "arm" {
-            words.push("-D_ARM_WINAPI_PARTITION_DESKTOP_SDK_AVAILABLE=1")?;
-        }
+        push_instruction_words(words, family, target, llvm)?;
+        push_desktop_words(words, target)?;
     }
     Ok(())
 }
