@@ -23,6 +23,7 @@ impl Model for BuildEnv {
 }
 
 // The last value of a name, or none.
+#[tactic(auto, unfolding(crate::specs::Snapshot::last_value))]
 fn last_of<'a>(vars: &'a Vars, name: &str) -> Option<&'a Text>
     ensures { option_copied result ≡ last_value vars.now name.now }
 {
@@ -75,6 +76,7 @@ impl BuildEnv {
     }
 
     /// The value of a name: that of its last explicit entry, else the snapshot's, or none. It takes no memory.
+    #[tactic(auto, using(crate::proofs::EnvLemmas::overridable_is))]
     pub fn overridable(&self, name: &str) -> Option<&str>
         ensures value { option_copied result ≡ overridable self.now name.now }
         ensures inherits { last_value self.now.explicit name.now ≡ None → option_copied result ≡ last_value self.now.inherited name.now }
@@ -87,6 +89,7 @@ impl BuildEnv {
 
     /// The variables of a child: the snapshot's, in which each explicit entry, in order, replaces the value of its
     /// name or is added last. So each name has the value that `overridable` gives.
+    #[tactic(auto, unfolding(crate::specs::Env::overridable))]
     pub fn child_vars(&self, alloc: Global) -> Mem<Vars>
         ensures child { IfOk result (λ vars. vars ≡ child_of self.now.inherited self.now.explicit) }
         ensures last { IfOk result (λ vars. (name : List ℕ) → last_value vars name ≡ overridable self.now name) }
@@ -102,5 +105,54 @@ impl BuildEnv {
             inherited: self.inherited.try_clone()?,
             explicit: self.explicit.try_clone()?,
         })
+    }
+}
+
+#[cfg(test)]
+mod tests {
+    use super::*;
+    use std::test::Fail;
+
+    /// A build with inherited `A=3` and `B=2`, and the entries `B=7`, `B=9` and `C=8`.
+    fn build_env(alloc: Global) -> Mem<BuildEnv> {
+        let mut vars = Vars::new(alloc);
+        for (name, value) in [("A", "1"), ("B", "2"), ("A", "3")] {
+            vars.push(name, value)?;
+        }
+        let mut env = BuildEnv::empty(alloc);
+        env.set_inherited(EnvSnapshot::from_vars(alloc, &vars)?);
+        for (name, value) in [("B", "7"), ("B", "9"), ("C", "8")] {
+            env.add_explicit(name, value)?;
+        }
+        Ok(env)
+    }
+
+    #[test]
+    fn explicit_entries_count_before_the_snapshot(rt: HostRuntime) -> Result<(), Fail> {
+        let env = build_env(rt.alloc())?;
+        let cases = [
+            ("A", Some("3")),
+            ("B", Some("9")),
+            ("C", Some("8")),
+            ("Z", None),
+        ];
+        for (name, want) in cases {
+            assert_eq!(rt; env.overridable(name), want);
+        }
+        assert_eq!(rt; env.inherited().get("B"), Some("2"));
+        assert_eq!(rt; env.explicit().len(), 3);
+        Ok(())
+    }
+
+    #[test]
+    fn a_child_has_the_value_that_counts(rt: HostRuntime) -> Result<(), Fail> {
+        let alloc = rt.alloc();
+        let env = build_env(alloc)?.try_clone()?;
+        let mut want = Vars::new(alloc);
+        for (name, value) in [("A", "3"), ("B", "9"), ("C", "8")] {
+            want.push(name, value)?;
+        }
+        assert!(rt; env.child_vars(alloc)? == want);
+        Ok(())
     }
 }

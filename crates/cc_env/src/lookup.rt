@@ -60,5 +60,62 @@ pub fn flags_of(
             words.append(flag_words(alloc, value, shell)?)?;
         }
     }
-    Ok(if found { Some(words) } else { None })
+    if found { Ok(Some(words)) } else { Ok(None) }
+}
+
+#[cfg(test)]
+mod tests {
+    use super::*;
+    use cc_text::Vars;
+    use std::test::Fail;
+
+    const HOST: &str = "x86_64-unknown-linux-gnu";
+
+    /// The snapshot of some pairs.
+    fn snapshot(alloc: Global, pairs: &[(&str, &str)]) -> Mem<EnvSnapshot> {
+        let mut vars = Vars::new(alloc);
+        for (name, value) in pairs {
+            vars.push(name, value)?;
+        }
+        EnvSnapshot::from_vars(alloc, &vars)
+    }
+
+    #[test]
+    fn one_value_by_the_first_name_and_flags_from_the_last(rt: HostRuntime) -> Result<(), Fail> {
+        let alloc = rt.alloc();
+        let env = snapshot(
+            alloc,
+            &[
+                ("CFLAGS", "-a"),
+                ("HOST_CFLAGS", "-b"),
+                ("CFLAGS_x86_64-unknown-linux-gnu", "-c"),
+                ("TARGET_CFLAGS", "-d"),
+            ],
+        )?;
+        let value = single(alloc, &env, "CFLAGS", HOST, HOST)?.expect(&rt, "a value");
+        assert_eq!(rt; value.as_str(), "-c");
+        let flags = flags_of(alloc, &env, "CFLAGS", HOST, HOST, false)?.expect(&rt, "flags");
+        let want = ["-a", "-b", "-c"];
+        assert_eq!(rt; flags.len(), want.len());
+        for (flag, want) in flags.as_slice().iter().zip(want) {
+            assert_eq!(rt; flag.as_str(), want);
+        }
+        assert!(rt; single(alloc, &env, "CXXFLAGS", HOST, HOST)?.is_none());
+        assert!(rt; flags_of(alloc, &env, "CXXFLAGS", HOST, HOST, true)?.is_none());
+        Ok(())
+    }
+
+    #[test]
+    fn a_value_is_split_by_a_shell_or_between_blanks(rt: HostRuntime) -> Result<(), Fail> {
+        let alloc = rt.alloc();
+        let env = snapshot(alloc, &[("F", " 'é \u{1f600}'\t-x "), ("E", "")])?;
+        let plain = flags_of(alloc, &env, "F", "t", HOST, false)?.expect(&rt, "flags");
+        let shell = flags_of(alloc, &env, "F", "t", HOST, true)?.expect(&rt, "flags");
+        assert_eq!(rt; plain.len(), 3);
+        assert_eq!(rt; shell.len(), 2);
+        assert_eq!(rt; shell.as_slice()[0].as_str(), "é \u{1f600}");
+        let empty = flags_of(alloc, &env, "E", "t", HOST, true)?.expect(&rt, "flags");
+        assert!(rt; empty.is_empty());
+        Ok(())
+    }
 }

@@ -41,3 +41,49 @@ pub fn target_envs(alloc: Global, var: &str, target: &str, host: &str) -> Mem<Wo
     words.push(var)?;
     Ok(words)
 }
+
+#[cfg(test)]
+mod tests {
+    use super::*;
+    use std::test::Fail;
+
+    #[test]
+    fn a_variable_has_four_names(rt: HostRuntime) -> Result<(), Fail> {
+        let host = "x86_64-unknown-linux-gnu";
+        let cases = [
+            (
+                "CFLAGS",
+                host,
+                [
+                    "CFLAGS_x86_64-unknown-linux-gnu",
+                    "CFLAGS_x86_64_unknown_linux_gnu",
+                    "HOST_CFLAGS",
+                    "CFLAGS",
+                ],
+            ),
+            (
+                "AR",
+                "thumbv8m.main-none-eabi",
+                [
+                    "AR_thumbv8m.main-none-eabi",
+                    "AR_thumbv8m_main_none_eabi",
+                    "TARGET_AR",
+                    "AR",
+                ],
+            ),
+            (
+                "É",
+                "é-\u{1f600}.",
+                ["É_é-\u{1f600}.", "É_é_\u{1f600}_", "TARGET_É", "É"],
+            ),
+        ];
+        for (var, target, want) in cases {
+            let names = target_envs(rt.alloc(), var, target, host)?;
+            assert_eq!(rt; names.len(), want.len());
+            for (name, want) in names.as_slice().iter().zip(want) {
+                assert_eq!(rt; name.as_str(), want);
+            }
+        }
+        Ok(())
+    }
+}

@@ -138,3 +138,76 @@ impl fmt::Debug for EnvSnapshot {
         write!(f, "EnvSnapshot(<{count} variables>)")
     }
 }
+
+#[cfg(test)]
+mod tests {
+    use super::*;
+    use std::test::Fail;
+
+    /// The pairs of a list.
+    fn listed(alloc: Global, pairs: &[(&str, &str)]) -> Mem<Vars> {
+        let mut vars = Vars::new(alloc);
+        for (name, value) in pairs {
+            vars.push(name, value)?;
+        }
+        Ok(vars)
+    }
+
+    #[test]
+    fn the_last_value_stands_at_the_first_place(rt: HostRuntime) -> Result<(), Fail> {
+        let alloc = rt.alloc();
+        let vars = listed(alloc, &[("A", "1"), ("B", "2"), ("A", "3")])?;
+        let env = EnvSnapshot::from_vars(alloc, &vars)?;
+        assert!(rt; *env.vars() == listed(alloc, &[("A", "3"), ("B", "2")])?);
+        assert_eq!(rt; env.get_cargo_var("A"), Ok("3"));
+        assert_eq!(rt; env.get_cargo_var("Z"), Err(NotSet));
+        assert!(rt; env.get("Z").is_none());
+        let mut text = String::new(alloc);
+        write!(text, "{env:?}")?;
+        assert_eq!(rt; text.as_str(), "EnvSnapshot(<2 variables>)");
+        assert!(rt; EnvSnapshot::from_vars(alloc, env.vars())? == env);
+        assert!(rt; env.try_clone()? == env);
+        assert!(rt; EnvSnapshot::empty(alloc) != env);
+        Ok(())
+    }
+
+    #[test]
+    fn entries_replace_in_place_or_come_last(rt: HostRuntime) -> Result<(), Fail> {
+        let alloc = rt.alloc();
+        let vars = listed(alloc, &[("A", "1"), ("é", "2"), ("\u{1f600}", "3")])?;
+        let env = EnvSnapshot::from_vars(alloc, &vars)?;
+        let entries = listed(
+            alloc,
+            &[("é", "ü"), ("C", "4"), ("C", "5"), ("\u{1f600}", "")],
+        )?;
+        let child = env.child_vars(alloc, &entries)?;
+        let want = listed(
+            alloc,
+            &[("A", "1"), ("é", "ü"), ("\u{1f600}", ""), ("C", "5")],
+        )?;
+        assert!(rt; child == want);
+        Ok(())
+    }
+
+    #[test]
+    fn each_of_hundreds_of_names_is_found(rt: HostRuntime) -> Result<(), Fail> {
+        let alloc = rt.alloc();
+        let mut vars = Vars::new(alloc);
+        for round in 0..3u32 {
+            for n in 0..500u32 {
+                let name = format!(in alloc; "NAME_{n}")?;
+                let value = format!(in alloc; "{round}")?;
+                vars.push(name.as_str(), value.as_str())?;
+            }
+        }
+        let env = EnvSnapshot::from_vars(alloc, &vars)?;
+        assert_eq!(rt; env.vars().len(), 500);
+        for n in 0..500u32 {
+            let name = format!(in alloc; "NAME_{n}")?;
+            assert_eq!(rt; env.get(name.as_str()), Some("2"));
+        }
+        let child = env.child_vars(alloc, &vars)?;
+        assert!(rt; child == *env.vars());
+        Ok(())
+    }
+}
