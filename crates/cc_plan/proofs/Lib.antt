@@ -1,2 +1,4 @@
+pub mod DashLemmas
 pub mod SourceLaws
 pub mod ValidLaws
+pub mod WithinLemmas

@@ -1,0 +1,56 @@
+-- The words of a compile command that are an object's own.
+use Rattle.std.specs.Prelude.{ℕ, Bool, false, not, ◌&&◌, ◌||◌, List, [], ◌∷◌, ◌++◌, Option, Some, None, unwrap_or, codes, if◌then◌else◌}
+use Rattle.std.specs.Option.{option_map_or}
+use Rattle.std.specs.Path.{path_extension}
+use Rattle.cc_text.specs.Case.{lowered}
+use Rattle.cc_text.specs.Words.{when}
+use Rattle.cc_text.specs.declared.family.ToolFamily.{ToolFamily}
+use Rattle.cc_target.specs.Targets.{Info, is_arm}
+use Rattle.cc_plan.specs.declared.object.Object.{Object}
+use Rattle.cc_plan.specs.Families.{is_visual_studio, is_clang_cl, is_cl, name_of}
+use Rattle.cc_plan.specs.Texts.{is, word}
+
+abbrev pub is_asm_extension : List ℕ → Bool
+is_asm_extension extension = is (lowered extension) "asm" || is (lowered extension) "s"
+
+-- the source is assembly
+unfoldable pub is_asm : List ℕ → Bool
+is_asm source = option_map_or is_asm_extension (path_extension source) false
+
+-- the object, which the Visual Studio compilers take in one word, but for assembly for Arm
+unfoldable pub object_words : ToolFamily → Info → Object → List (List ℕ)
+object_words family target object =
+    if is_visual_studio family && not (is_asm object.src && is_arm target) then (codes "-Fo" ++ object.dst) ∷ []
+    else codes "-o" ∷ object.dst ∷ []
+
+-- the name that stands for the object
+unfoldable pub object_name_words : List ℕ → List (List ℕ)
+object_name_words name = codes "-Xclang" ∷ (codes "-object-file-name=" ++ name) ∷ []
+
+-- debug information in which no folder and no command line stands
+unfoldable pub same_codeview_words : List ℕ → List (List ℕ)
+same_codeview_words object =
+    object_name_words (name_of object) ++ word "/clang:-gno-codeview-command-line" ++ word "/clang:-fdebug-compilation-dir=."
+
+-- the same, where it is wanted and Clang takes the words of the Visual Studio compiler
+unfoldable pub codeview_words : ToolFamily → Bool → Object → List (List ℕ)
+codeview_words family reproducible object =
+    when (reproducible && is_clang_cl family && not (is_asm object.src)) (same_codeview_words object.dst)
+
+-- the extension by which the Visual Studio compiler doesn't know C++
+abbrev pub has_extension_cc : List ℕ → Bool
+has_extension_cc source = option_map_or (λ extension. is extension "cc") (path_extension source) false
+
+-- the source, last
+unfoldable pub source_words : ToolFamily → Bool → List ℕ → List (List ℕ)
+source_words family cpp source =
+    if is_cl family && cpp && has_extension_cc source then (codes "-Tp" ++ source) ∷ []
+    else when (is_clang_cl family) (word "--") ++ source ∷ []
+
+abbrev pub compile_words : Bool → Bool → List (List ℕ) → ToolFamily → Info → Object → List (List ℕ)
+compile_words cpp reproducible_codeview asm_flags family target object =
+    object_words family target object
+    ++ codeview_words family reproducible_codeview object
+    ++ word "-c"
+    ++ when (is_asm object.src) asm_flags
+    ++ source_words family cpp object.src

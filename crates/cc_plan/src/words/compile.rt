@@ -1,0 +1,133 @@
+// The words of a compile command that are an object's own.
+ghost use Rattle.std.specs.Prelude.{◌≡◌, ◌++◌, IfOk, OnOk};
+ghost use Rattle.std.specs.Option.{option_copied};
+ghost use Rattle.cc_target.specs.Targets.{info_seen};
+ghost use Rattle.cc_plan.specs.CompileWords as spec;
+
+use crate::Object;
+use crate::words::family::{is_cl, is_clang_cl, is_visual_studio, name_of};
+use cc_target::TargetInfo;
+use cc_text::{Mem, ToolFamily, Words, extension};
+use std::alloc::Global;
+
+fn is_asm_extension(extension: &str) -> bool
+    ensures { result ≡ spec.is_asm_extension extension.now }
+{
+    extension.eq_ignore_ascii_case("asm") || extension.eq_ignore_ascii_case("s")
+}
+
+// The source is assembly.
+#[tactic(auto, unfolding(crate::specs::CompileWords::is_asm))]
+fn is_asm(source: &str) -> bool
+    ensures { result ≡ spec.is_asm source.now }
+{
+    match extension(source) {
+        Some(extension) => is_asm_extension(extension),
+        None => false,
+    }
+}
+
+// The object, which the Visual Studio compilers take in one word, but for assembly for Arm.
+#[tactic(auto, unfolding(crate::specs::CompileWords::object_words))]
+fn push_object_words(
+    words: &mut Words,
+    family: ToolFamily,
+    target: &TargetInfo,
+    object: &Object,
+) -> Mem<()>
+    ensures { OnOk result (words.new ≡ words.old ++ spec.object_words family (info_seen target.now) object.now) }
+{
+    if is_visual_studio(family) && !(is_asm(object.src.as_str()) && target.is_arm()) {
+        words.push_joined("-Fo", object.dst.as_str())?;
+    } else {
+        words.push("-o")?;
+        words.push(object.dst.as_str())?;
+    }
+    Ok(())
+}
+
+// The name that stands for the object.
+#[tactic(auto, unfolding(crate::specs::CompileWords::object_name_words))]
+fn push_object_name_words(words: &mut Words, name: &str) -> Mem<()>
+    ensures { OnOk result (words.new ≡ words.old ++ spec.object_name_words name.now) }
+{
+    words.push("-Xclang")?;
+    words.push_joined("-object-file-name=", name)?;
+    Ok(())
+}
+
+// Debug information in which no folder and no command line stands.
+#[tactic(auto, unfolding(crate::specs::CompileWords::same_codeview_words))]
+fn push_same_codeview_words(words: &mut Words, object: &str) -> Mem<()>
+    ensures { OnOk result (words.new ≡ words.old ++ spec.same_codeview_words object.now) }
+{
+    push_object_name_words(words, name_of(object))?;
+    words.push("/clang:-gno-codeview-command-line")?;
+    words.push("/clang:-fdebug-compilation-dir=.")?;
+    Ok(())
+}
+
+// The same, where it is wanted and Clang takes the words of the Visual Studio compiler.
+#[tactic(auto, unfolding(crate::specs::CompileWords::codeview_words))]
+fn push_codeview_words(
+    words: &mut Words,
+    family: ToolFamily,
+    reproducible: bool,
+    object: &Object,
+) -> Mem<()>
+    ensures { OnOk result (words.new ≡ words.old ++ spec.codeview_words family reproducible object.now) }
+{
+    if reproducible && is_clang_cl(family) && !is_asm(object.src.as_str()) {
+        push_same_codeview_words(words, object.dst.as_str())?;
+    }
+    Ok(())
+}
+
+// The extension of the source is `cc`.
+fn has_extension_cc(source: &str) -> bool
+    ensures { result ≡ spec.has_extension_cc source.now }
+{
+    match extension(source) {
+        Some(extension) => extension == "cc",
+        None => false,
+    }
+}
+
+// The source, last.
+#[tactic(auto, unfolding(crate::specs::CompileWords::source_words))]
+fn push_source_words(words: &mut Words, family: ToolFamily, cpp: bool, source: &str) -> Mem<()>
+    ensures { OnOk result (words.new ≡ words.old ++ spec.source_words family cpp source.now) }
+{
+    if is_cl(family) && cpp && has_extension_cc(source) {
+        words.push_joined("-Tp", source)?;
+    } else {
+        if is_clang_cl(family) {
+            words.push("--")?;
+        }
+        words.push(source)?;
+    }
+    Ok(())
+}
+
+/// The words of a compile command that follow those of the tool: the object, the flags of its own, and the source.
+pub(crate) fn compile_words(
+    alloc: Global,
+    cpp: bool,
+    reproducible_codeview: bool,
+    asm_flags: &Words,
+    family: ToolFamily,
+    target: &TargetInfo,
+    object: &Object,
+) -> Mem<Words>
+    ensures { IfOk result (λ words. words ≡ spec.compile_words cpp reproducible_codeview asm_flags.now family (info_seen target.now) object.now) }
+{
+    let mut words = Words::new(alloc);
+    push_object_words(&mut words, family, target, object)?;
+    push_codeview_words(&mut words, family, reproducible_codeview, object)?;
+    words.push("-c")?;
+    if is_asm(object.src.as_str()) {
+        words.extend(asm_flags)?;
+    }
+    push_source_words(&mut words, family, cpp, object.src.as_str())?;
+    Ok(words)
+}

@@ -1,0 +1,179 @@
+// The words that settings bring, whatever the target, a function a group.
+ghost use Rattle.std.specs.Prelude.{◌≡◌, ◌++◌, [], ◌∷◌, OnOk};
+ghost use Rattle.std.specs.Option.{option_copied};
+ghost use Rattle.cc_plan.specs.SettingWords as spec;
+
+use crate::words::family::{is_gnu_like, is_visual_studio};
+use crate::{BuildFlag, Definition};
+use cc_text::{Mem, Text, ToolFamily, Words};
+use std::alloc::Global;
+
+fn standard_flag(family: ToolFamily) -> &'static str
+    ensures { result.now ≡ spec.standard_flag family }
+{
+    if is_visual_studio(family) {
+        "-std:"
+    } else {
+        "-std="
+    }
+}
+
+// The standard of the language.
+#[tactic(auto, unfolding(crate::specs::SettingWords::standard_words))]
+pub(super) fn push_standard_words(
+    words: &mut Words,
+    family: ToolFamily,
+    standard: Option<&str>,
+) -> Mem<()>
+    ensures { OnOk result (words.new ≡ words.old ++ spec.standard_words family (option_copied standard.entry)) }
+{
+    if let Some(standard) = standard {
+        words.push_joined(standard_flag(family), standard)?;
+    }
+    Ok(())
+}
+
+// `-I` and the folder, for each.
+#[tactic(auto, unfolding(crate::specs::SettingWords::include_words))]
+pub(super) fn push_include_words(words: &mut Words, folders: &[Text]) -> Mem<()>
+    ensures { OnOk result (words.new ≡ words.old ++ spec.include_words folders.now) }
+{
+    for folder in folders {
+        words.push("-I")?;
+        words.push(folder.as_str())?;
+    }
+    Ok(())
+}
+
+// Warnings are errors.
+#[tactic(auto, unfolding(crate::specs::SettingWords::error_words))]
+pub(super) fn push_error_words(
+    words: &mut Words,
+    family: ToolFamily,
+    into_errors: bool,
+) -> Mem<()>
+    ensures { OnOk result (words.new ≡ words.old ++ spec.error_words family into_errors) }
+{
+    if into_errors {
+        if is_visual_studio(family) {
+            words.push("-WX")?;
+        } else {
+            words.push("-Werror")?;
+        }
+    }
+    Ok(())
+}
+
+// The usual warnings, where they are on; none at all, where they are off.
+#[tactic(auto, unfolding(crate::specs::SettingWords::warnings_word))]
+fn push_warnings_word(words: &mut Words, family: ToolFamily, on: bool) -> Mem<()>
+    ensures { OnOk result (words.new ≡ words.old ++ spec.warnings_word family on) }
+{
+    if on {
+        if is_visual_studio(family) {
+            words.push("-W4")?;
+        } else {
+            words.push("-Wall")?;
+        }
+    } else if is_visual_studio(family) {
+        words.push("-W0")?;
+    } else {
+        words.push("-w")?;
+    }
+    Ok(())
+}
+
+// Warnings that aren't set are on, where the environment has no flags of its own, and else left to those.
+#[tactic(auto, unfolding(crate::specs::SettingWords::warning_words))]
+pub(super) fn push_warning_words(
+    words: &mut Words,
+    family: ToolFamily,
+    warnings: Option<bool>,
+    environment: Option<&Words>,
+) -> Mem<()>
+    ensures { OnOk result (words.new ≡ words.old ++ spec.warning_words family warnings (option_copied environment.entry)) }
+{
+    match warnings {
+        Some(on) => push_warnings_word(words, family, on)?,
+        None => {
+            if environment.is_none() {
+                push_warnings_word(words, family, true)?;
+            }
+        }
+    }
+    Ok(())
+}
+
+#[tactic(auto, unfolding(crate::specs::SettingWords::extra_warning_words))]
+pub(super) fn push_extra_warning_words(
+    words: &mut Words,
+    family: ToolFamily,
+    extra: Option<bool>,
+    environment: Option<&Words>,
+) -> Mem<()>
+    ensures { OnOk result (words.new ≡ words.old ++ spec.extra_warning_words family extra (option_copied environment.entry)) }
+{
+    if is_gnu_like(family) && extra.unwrap_or(environment.is_none()) {
+        words.push("-Wextra")?;
+    }
+    Ok(())
+}
+
+// A flag that is always given; one that wants support isn't asked about, and isn't given.
+fn push_flag(words: &mut Words, flag: &BuildFlag) -> Mem<()>
+    ensures { OnOk result (words.new ≡ words.old ++ spec.flag_word flag.now) }
+{
+    match flag {
+        BuildFlag::Always(word) => words.push(word.as_str())?,
+        BuildFlag::IfSupported(_) => {}
+    }
+    Ok(())
+}
+
+#[tactic(auto, unfolding(crate::specs::SettingWords::flag_words))]
+pub(super) fn push_flag_words(words: &mut Words, flags: &[BuildFlag]) -> Mem<()>
+    ensures { OnOk result (words.new ≡ words.old ++ spec.flag_words flags.now) }
+{
+    for flag in flags {
+        push_flag(words, flag)?;
+    }
+    Ok(())
+}
+
+// `-D` and the name of the macro, with `=` and the value where it has one.
+fn push_definition(words: &mut Words, alloc: Global, definition: &Definition) -> Mem<()>
+    ensures { OnOk result (words.new ≡ words.old ++ spec.definition_word definition.now ∷ []) }
+{
+    let mut word = Text::of(alloc, "-D")?;
+    word.push_str(definition.name.as_str())?;
+    if let Some(value) = &definition.value {
+        word.push_str("=")?;
+        word.push_str(value.as_str())?;
+    }
+    words.push_text(word)?;
+    Ok(())
+}
+
+#[tactic(auto, unfolding(crate::specs::SettingWords::definition_words))]
+pub(super) fn push_definition_words(
+    words: &mut Words,
+    alloc: Global,
+    definitions: &[Definition],
+) -> Mem<()>
+    ensures { OnOk result (words.new ≡ words.old ++ spec.definition_words definitions.now) }
+{
+    for definition in definitions {
+        push_definition(words, alloc, definition)?;
+    }
+    Ok(())
+}
+
+// The flags of the environment.
+pub(super) fn push_environment_words(words: &mut Words, environment: Option<&Words>) -> Mem<()>
+    ensures { OnOk result (words.new ≡ words.old ++ spec.environment_words (option_copied environment.entry)) }
+{
+    if let Some(environment) = environment {
+        words.extend(environment)?;
+    }
+    Ok(())
+}
