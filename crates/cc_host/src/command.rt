@@ -50,12 +50,7 @@ impl Command {
         ensures ok { OnOk result (self.new ≡ record self.old { args = self.old.args ++ words.now }) }
         ensures err { OnErr result (self.new ≡ self.old) }
     {
-        let mut args = self.args.try_clone()?;
-        for word in words.as_slice() {
-            args.push(word.as_str())?;
-        }
-        self.args = args;
-        Ok(())
+        self.args.extend(words)
     }
 
     /// Adds a variable last. Refused for memory, the command stays as it was.

@@ -1,0 +1,28 @@
+-- A command as a child of the machine, and what is kept of its end.
+use Rattle.std.specs.Prelude.{◌≡◌, ℕ, ℤ, Bool, false, List, [], reverse, Option, Some, None, option_map, if◌then◌else◌}
+use Rattle.cc_text.specs.Vars.{lookup}
+use Rattle.cc_host.specs.Event.{is_captured}
+use Rattle.cc_host.specs.declared.event.Pipes.{Pipes}
+use Rattle.cc_host.specs.declared.event.Status.{Status}
+use Rattle.cc_host.specs.declared.event.Status.TheVariants.{Code, NoCode}
+use Rattle.cc_hosts.specs.declared.child.Outcome.{Outcome}
+use Rattle.cc_hosts.specs.declared.child.Outcome.TheVariants.{Missing, Failed, Ended}
+
+-- what a child gets for a name: the value of the last pair of that name
+abbrev pub child_value : List (List ℕ × List ℕ) → List ℕ → Option (Option (List ℕ))
+child_value env name = option_map Some (lookup (reverse env) name)
+
+-- how a child ended, by the number that it ended with
+abbrev pub status_of : Option ℤ → Status
+status_of (Some code) = Code code
+status_of None = NoCode
+
+-- what is kept of an output
+abbrev pub kept : Bool → List ℕ → List ℕ
+kept wanted bytes = if wanted then bytes else []
+
+-- what wasn't captured or heard wasn't kept
+abbrev pub IsSilentEnd : Pipes → Outcome → Type 0
+IsSilentEnd pipes Missing = Unit {0}
+IsSilentEnd pipes (Failed why) = Unit {0}
+IsSilentEnd pipes (Ended end) = (is_captured pipes.out ≡ false → end.out ≡ []) × (pipes.hear ≡ false → end.err ≡ [])

@@ -1,0 +1,26 @@
+-- The entries of an environment.
+use Rattle.std.specs.Prelude.{ℕ, List, [], ◌∷◌, Option, Some, None, option_to_list, if◌then◌else◌}
+use Rattle.std.specs.Str.{is_utf8}
+use Rattle.cc_text.specs.Cuts.{key_and_value}
+
+-- the text of an entry that is UTF-8
+unfoldable pub text_of : List ℕ → Option (List ℕ)
+text_of entry = if is_utf8 entry then Some entry else None
+
+-- a variable that has a name
+abbrev pub with_name : Option (List ℕ × List ℕ) → Option (List ℕ × List ℕ)
+with_name None = None
+with_name (Some ([], value)) = None
+with_name (Some (b ∷ name, value)) = Some (b ∷ name, value)
+
+-- the name and the value of an entry NAME=VALUE
+unfoldable pub variable_of : List ℕ → Option (List ℕ × List ℕ)
+variable_of entry = with_name (key_and_value entry)
+
+abbrev pub variables_of : Option (List ℕ) → List (List ℕ × List ℕ)
+variables_of None = []
+variables_of (Some text) = option_to_list (variable_of text)
+
+-- the variable of an entry that is text and has one
+abbrev pub entry_vars : List ℕ → List (List ℕ × List ℕ)
+entry_vars entry = variables_of (text_of entry)
