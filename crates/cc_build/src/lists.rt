@@ -116,7 +116,7 @@ impl<W: World> Build<W> {
     }
 
     /// Does what `env` does. Refused for memory, the build stays as it was.
-    pub fn __set_env(&mut self, key: &str, val: &str) -> Result<(), Error>
+    pub fn set_env(&mut self, key: &str, val: &str) -> Result<(), Error>
         ensures ok { OnOk result (self.new ≡ record self.old { env = record self.old.env { explicit = self.old.env.explicit ++ (key.now, val.now) ∷ [] } }) }
         ensures err { OnErr result (self.new ≡ self.old) }
         ensures refused { IfErr result (λ e. e ≡ no_memory) }

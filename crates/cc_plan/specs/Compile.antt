@@ -8,7 +8,7 @@ use Rattle.cc_plan.specs.declared.settings.BuildConfig.{BuildConfig}
 use Rattle.cc_plan.specs.declared.tool.PlainTool.{PlainTool}
 
 abbrev pub compile_of : BuildConfig → Info → PlainTool → Object → CommandSeen
-compile_of set info tool object = record tool.cmd { args = tool.cmd.args ++ compile_words set tool.family info object }
+compile_of set info tool object = record tool.cmd { args = tool.cmd.args ++ compile_words set.cpp set.reproducible_codeview set.asm_flags tool.family info object }
 
 -- one command an object, in order
 abbrev pub compiles_of : BuildConfig → Info → PlainTool → List Object → List CommandSeen

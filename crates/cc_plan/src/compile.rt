@@ -22,7 +22,15 @@ pub fn compile_command(
     ensures command { IfOk result (λ cmd. cmd ≡ compile_of set.now (info_seen target.now) tool.now object.now) }
     ensures refused { IfErr result (λ e. e ≡ WantsMemory) }
 {
-    let words = compile_words(alloc, set, tool.family, target, object)?;
+    let words = compile_words(
+        alloc,
+        set.cpp,
+        set.reproducible_codeview,
+        &set.asm_flags,
+        tool.family,
+        target,
+        object,
+    )?;
     let mut cmd = tool.cmd.try_clone()?;
     cmd.args(&words)?;
     Ok(cmd)

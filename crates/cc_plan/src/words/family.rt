@@ -45,7 +45,7 @@ pub(super) fn is_clang_cl(family: ToolFamily) -> bool
     }
 }
 
-pub(super) fn is_cl(family: ToolFamily) -> bool
+pub(crate) fn is_cl(family: ToolFamily) -> bool
     ensures { result ≡ families.is_cl family }
 {
     match family {

@@ -12,5 +12,5 @@ mod tool;
 mod visual_studio;
 
 pub(crate) use compile::compile_words;
-pub(crate) use family::family_of_name;
+pub(crate) use family::{family_of_name, is_cl};
 pub(crate) use tool::{tool_warnings, tool_words};
