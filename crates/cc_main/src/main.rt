@@ -1,7 +1,7 @@
-//! The command: its words ask for a compile run, which it drives on a host.
+//! The command: its words ask for a compile run, which it drives on the machine.
 //!
 //! Stands on `cc_build` and the crates below it. `drive` reads the words and runs what they ask for; its contract is the
-//! theorem of the repository. `main` alone knows the process: it takes the words, and writes what was printed.
+//! theorem of the repository. `main` alone knows the process: it takes the words, and makes the host that runs processes.
 #![tactic(auto)]
 
 mod reading;
@@ -10,29 +10,41 @@ mod tests;
 mod top;
 mod words;
 
-use cc_host::{BenchHost, Event, Host, LineKind};
-use std::io::Write;
+use cc_hosts::ProcessHost;
 use std::process::ExitCode;
 use std::{env, io};
 use top::drive;
 
 static HELP: &str = "\
-Compiles C sources into a static library, and prints how Cargo links it.
+Compiles C, C++ and assembly into a static library, and prints how Cargo links it.
 
 usage: cc_main compile NAME key=value ...
 
 commands:
   compile NAME   compile the sources, and archive them into lib<NAME>.a
 
-keys of compile:
-  file=PATH                           add a source
-  target=NAME                         the target, as rustc names it
-  host=NAME                           the host, as rustc names it
-  opt_level=NUMBER                    the optimisation level
-  out_dir=PATH                        the folder of the objects and of the library
-  compiler=PROGRAM                    the compiler, else cc
-  archiver=PROGRAM                    the archiver, else ar
-  emit_rerun_if_env_changed=true|false  whether lines are printed for variables that were read
+keys that may stand again, each adding one:
+  file=PATH              a source
+  include=DIR            a folder of headers
+  define=K, define=K=V   a macro
+  flag=WORD              a flag of the compiler
+  remove_flag=WORD       takes out every earlier flag that is this word
+  asm_flag=WORD          a flag of sources in assembly
+  env=K=V                a variable of the commands
+
+keys of which the last counts:
+  target=NAME, host=NAME   as rustc names them, else TARGET and HOST
+  out_dir=PATH             the folder of the objects and of the library, else OUT_DIR
+  opt_level=NUMBER, opt_level_str=LEVEL   the optimisation level, else OPT_LEVEL
+  compiler=PROGRAM         the compiler, else cc or c++
+  archiver=PROGRAM         the archiver, else ar
+  source_root=DIR          the folder that folders of sources count from in the names of objects
+  std=NAME                 the standard of the language
+  cpp_set_stdlib=NAME      the C++ library that the compiler is told of
+
+keys of true or false:
+  cpp  pic  use_plt  static_crt  static_flag  shared_flag  warnings  extra_warnings  warnings_into_errors
+  no_default_flags  reproducible_codeview  shell_escaped_flags  cargo_warnings  emit_rerun_if_env_changed
 
 options:
   --help      print this text
@@ -56,20 +68,6 @@ fn words_of(rt: &HostRuntime) -> io::Result<Vec<String>> {
     Ok(words)
 }
 
-// Writes what was printed: lines of kind Fault to standard error, all others to standard output.
-fn write_lines(rt: &HostRuntime, log: &[Event]) -> io::Result<()> {
-    for event in log {
-        if let Event::Printed { kind, bytes } = event {
-            if *kind == LineKind::Fault {
-                rt.stderr().write_all(bytes.as_slice())?;
-            } else {
-                rt.stdout().write_all(bytes.as_slice())?;
-            }
-        }
-    }
-    Ok(())
-}
-
 fn main(rt: HostRuntime) -> io::Result<ExitCode> {
     let words = match words_of(&rt) {
         Ok(words) => words,
@@ -89,10 +87,10 @@ fn main(rt: HostRuntime) -> io::Result<ExitCode> {
             return Ok(ExitCode::from(0));
         }
     }
-    let Ok(mut host) = BenchHost::new(rt.alloc()) else {
+    let alloc = rt.alloc();
+    let Ok(mut host) = ProcessHost::new(rt) else {
         return Ok(ExitCode::from(3));
     };
-    let ended = drive(rt.alloc(), &words, &mut host);
-    write_lines(&rt, host.log())?;
+    let ended = drive(alloc, &words, &mut host);
     Ok(ExitCode::from(ended.status))
 }

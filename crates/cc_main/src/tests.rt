@@ -3,7 +3,7 @@ use crate::top::{Ended, drive};
 use crate::words::{BadWord, WordCause};
 use cc_build::ErrorKind;
 use cc_host::{BenchHost, Event, Host, HostCall, command_line};
-use cc_text::{Mem, Text};
+use cc_text::{Mem, Text, Vars};
 use std::alloc::Global;
 use std::test::Fail;
 
@@ -51,6 +51,7 @@ fn push_event(alloc: Global, text: &mut Text, event: &Event) -> Mem<()> {
             Err(_) => text.push_str("not text"),
         },
         Event::Fault { .. } => text.push_str("fault"),
+        Event::Listed { .. } => text.push_str("listed"),
     }
 }
 
@@ -73,7 +74,8 @@ fn two_sources_become_a_library_and_two_link_lines(rt: HostRuntime) -> Result<()
     let log = log_text(alloc, &host)?;
     assert_eq!(rt;
         log.as_str(),
-        "made /o
+        "listed
+made /o
 LC_ALL=C \"cc\" \"-O0\" \"-ffunction-sections\" \"-fdata-sections\" \"-fPIC\" \"-m64\" \"-march=x86-64\" \"-Wall\" \"-Wextra\" \"-o\" \"/o/f268e9834a4b7b98-a.o\" \"-c\" \"src/a.c\"
 LC_ALL=C \"cc\" \"-O0\" \"-ffunction-sections\" \"-fdata-sections\" \"-fPIC\" \"-m64\" \"-march=x86-64\" \"-Wall\" \"-Wextra\" \"-o\" \"/o/f268e9834a4b7b98-b.o\" \"-c\" \"src/b.c\"
 removed /o/libfoo.a
@@ -116,6 +118,24 @@ fn bad_words_are_told_by_place_and_cause(rt: HostRuntime) -> Result<(), Fail> {
             WordCause::BadValue,
             "word 2: bad value\n",
         ),
+        (
+            "compile f cpp",
+            2,
+            WordCause::NoValue,
+            "word 2: no value\n",
+        ),
+        (
+            "compile f cpp=1",
+            2,
+            WordCause::BadValue,
+            "word 2: bad value\n",
+        ),
+        (
+            "compile f env=A",
+            2,
+            WordCause::BadValue,
+            "word 2: bad value\n",
+        ),
     ] {
         let mut host = BenchHost::new(alloc)?;
         let ended = drive_line(alloc, line, &mut host)?;
@@ -133,17 +153,17 @@ fn refused_settings_are_told_by_kind_and_message(rt: HostRuntime) -> Result<(), 
         (
             "compile a/b file=a.c",
             ErrorKind::InvalidArgument,
-            "error occurred in cc-rs: argument must be a single normal path component\n",
+            "listed\nerror occurred in cc-rs: argument must be a single normal path component\n",
         ),
         (
             "compile foo file=d/.a file=d/.b",
             ErrorKind::InvalidArgument,
-            "error occurred in cc-rs: two sources have the object /o/9445dcca923899c8-.o\n",
+            "listed\nerror occurred in cc-rs: two sources have the object /o/9445dcca923899c8-.o\n",
         ),
         (
             "compile foo file=..",
             ErrorKind::InvalidArgument,
-            "error occurred in cc-rs: No file_name for object file path!\n",
+            "listed\nerror occurred in cc-rs: No file_name for object file path!\n",
         ),
     ] {
         let mut host = BenchHost::new(alloc)?;
@@ -185,7 +205,167 @@ fn a_missing_compiler_is_named(rt: HostRuntime) -> Result<(), Fail> {
     );
     assert_eq!(rt;
         log_text(alloc, &host)?.as_str(),
-        "made /o\nmissing\nerror occurred in cc-rs: failed to find tool \"cc\"\n"
+        "listed\nmade /o\nmissing\nerror occurred in cc-rs: failed to find tool \"cc\"\n"
     );
+    Ok(())
+}
+
+// Drives a line with the settings on a host with one variable.
+fn drive_with(
+    alloc: Global,
+    name: &str,
+    value: &str,
+    line: &str,
+    host: &mut BenchHost,
+) -> Mem<Ended> {
+    let mut vars = Vars::new(alloc);
+    vars.push(name, value)?;
+    host.set_vars(vars);
+    drive_set(alloc, line, host)
+}
+
+#[test]
+fn a_disabled_build_runs_no_command(rt: HostRuntime) -> Result<(), Fail> {
+    let alloc = rt.alloc();
+    for (value, line, status, kind, told) in [
+        (
+            "1",
+            "compile foo file=a.c",
+            1,
+            Some(ErrorKind::Disabled),
+            "listed\nmade /o\nerror occurred in cc-rs: cc has been disabled by CC_FORCE_DISABLE\n",
+        ),
+        (
+            "1",
+            "compile a/b file=a.c",
+            1,
+            Some(ErrorKind::InvalidArgument),
+            "listed\nerror occurred in cc-rs: argument must be a single normal path component\n",
+        ),
+    ] {
+        let mut host = BenchHost::new(alloc)?;
+        let ended = drive_with(alloc, "CC_FORCE_DISABLE", value, line, &mut host)?;
+        assert_eq!(rt; ended.status, status, "{line}");
+        assert_eq!(rt; ended.error.map(|e| e.kind()), kind, "{line}");
+        assert_eq!(rt; log_text(alloc, &host)?.as_str(), told, "{line}");
+    }
+    let mut host = BenchHost::new(alloc)?;
+    let ended = drive_with(
+        alloc,
+        "CC_FORCE_DISABLE",
+        "no",
+        "compile foo file=a.c",
+        &mut host,
+    )?;
+    assert_eq!(rt; ended.status, 0);
+    Ok(())
+}
+
+#[test]
+fn what_is_set_nowhere_is_told_by_its_name(rt: HostRuntime) -> Result<(), Fail> {
+    let alloc = rt.alloc();
+    for (line, kind, subject) in [
+        (
+            "compile foo file=a.c",
+            ErrorKind::EnvVarNotFound,
+            "OUT_DIR",
+        ),
+        (
+            "compile foo file=a.c out_dir=",
+            ErrorKind::InvalidArgument,
+            "",
+        ),
+        (
+            "compile foo file=a.c out_dir=/o",
+            ErrorKind::EnvVarNotFound,
+            "OPT_LEVEL",
+        ),
+        (
+            "compile foo file=a.c out_dir=/o opt_level=0 host=h target=x",
+            ErrorKind::UnknownTarget,
+            "x",
+        ),
+        (
+            "compile q file=a.c out_dir=/o opt_level=0 host=h target=i686-pc-nto-qnx700",
+            ErrorKind::InvalidTarget,
+            "i686",
+        ),
+    ] {
+        let mut host = BenchHost::new(alloc)?;
+        let ended = drive_line(alloc, line, &mut host)?;
+        let error = ended.error.expect(&rt, "an error");
+        assert_eq!(rt; error.kind(), kind, "{line}");
+        assert_eq!(rt; error.subject(), subject, "{line}");
+    }
+    Ok(())
+}
+
+#[test]
+fn variables_that_are_not_listed_end_the_run(rt: HostRuntime) -> Result<(), Fail> {
+    let alloc = rt.alloc();
+    let mut host = BenchHost::new(alloc)?;
+    host.fail(HostCall::Vars, 1)?;
+    let ended = drive_set(alloc, "compile foo file=a.c", &mut host)?;
+    assert_eq!(rt; ended.error.map(|e| e.kind()), Some(ErrorKind::IOError));
+    assert_eq!(rt;
+        log_text(alloc, &host)?.as_str(),
+        "fault\nerror occurred in cc-rs: vars failed: other\n"
+    );
+    Ok(())
+}
+
+#[test]
+fn cargos_variables_stand_in_for_words(rt: HostRuntime) -> Result<(), Fail> {
+    let alloc = rt.alloc();
+    let mut vars = Vars::new(alloc);
+    for (name, value) in [
+        ("OUT_DIR", "/b"),
+        ("TARGET", "aarch64-unknown-linux-gnu"),
+        ("HOST", "x86_64-unknown-linux-gnu"),
+        ("OPT_LEVEL", "3"),
+        ("CFLAGS", "-a 'b c'"),
+        ("CC_SHELL_ESCAPED_FLAGS", "1"),
+    ] {
+        vars.push(name, value)?;
+    }
+    let mut host = BenchHost::new(alloc)?;
+    host.set_vars(vars);
+    let ended = drive_line(
+        alloc,
+        "compile foo file=/b/x/a.c define=K define=L=1 include=inc std=c11 flag=-x flag=-y remove_flag=-x env=LC_ALL=de",
+        &mut host,
+    )?;
+    assert_eq!(rt; ended.status, 0);
+    let log = log_text(alloc, &host)?;
+    assert!(rt;
+        log.as_str().contains(
+            " LC_ALL=de \"cc\" \"-O3\" \"-ffunction-sections\" \"-fdata-sections\" \"-fPIC\" \"-std=c11\" \"-I\" \"inc\" \"-y\" \"-DK\" \"-DL=1\" \"-a\" \"b c\" \"-o\" \"/b/",
+        )
+    );
+    Ok(())
+}
+
+#[test]
+fn the_visual_studio_compiler_takes_its_own_words(rt: HostRuntime) -> Result<(), Fail> {
+    let alloc = rt.alloc();
+    for (words, told) in [
+        ("cargo_warnings=false", "made /o\nVSLANG=1033 \"cl\""),
+        (
+            "cpp_set_stdlib=c++",
+            "made /o\ncargo:warning=cpp_set_stdlib is ignored by this compiler\nVSLANG=1033 \"cl\"",
+        ),
+    ] {
+        let line = format!(in alloc; "compile foo file=a.cc cpp=true {SETTINGS} compiler=cl {words}")?;
+        let mut host = BenchHost::new(alloc)?;
+        let ended = drive_line(alloc, line.as_str(), &mut host)?;
+        assert_eq!(rt; ended.status, 0);
+        let log = log_text(alloc, &host)?;
+        assert!(rt; log.as_str().contains(told), "{words}");
+        assert!(rt;
+            log.as_str()
+                .contains("\"-nologo\" \"-MD\" \"-Brepro\" \"-W4\" \"-Fo/o/")
+        );
+        assert!(rt; log.as_str().contains("-a.o\" \"-c\" \"-Tpa.cc\"\n"));
+    }
     Ok(())
 }
