@@ -1,6 +1,6 @@
 use crate::{Build, Error, ErrorKind};
 use cc_host::{Bench, BenchHost, Event, Host, HostCall, Role, Script, Status};
-use cc_text::{Mem, Text};
+use cc_text::{Mem, Text, Vars};
 use std::alloc::Global;
 use std::test::Fail;
 
@@ -89,6 +89,7 @@ fn word_of(event: &Event) -> &str {
         Event::Removed { .. } => "removed",
         Event::Printed { .. } => "printed",
         Event::Fault { .. } => "fault",
+        Event::Listed { .. } => "listed",
     }
 }
 
@@ -167,5 +168,82 @@ fn a_run_ends_at_its_first_trouble_and_names_it(rt: HostRuntime) -> Result<(), F
         let text = told(rt.alloc(), trouble)?;
         assert_eq!(rt; text.as_str(), want);
     }
+    Ok(())
+}
+
+// A build that captured one variable of its host.
+fn captured(alloc: Global, name: &str, value: &str) -> Result<Build<Bench>, Error> {
+    let mut vars = Vars::new(alloc);
+    vars.push(name, value)?;
+    let mut host = BenchHost::new(alloc)?;
+    host.set_vars(vars);
+    let mut build = Build::new(alloc)?;
+    build.capture(&mut host)?;
+    Ok(build)
+}
+
+#[test]
+fn a_capture_replaces_the_variables(rt: HostRuntime) -> Result<(), Fail> {
+    let alloc = rt.alloc();
+    let mut build = captured(alloc, "A", "é")?;
+    build.env("A", "b")?;
+    assert_eq!(rt; build.environment().inherited().get("A"), Some("é"));
+    assert_eq!(rt; build.environment().overridable("A"), Some("b"));
+    let mut host = BenchHost::new(alloc)?;
+    host.fail(HostCall::Vars, 1)?;
+    assert!(rt; build.capture(&mut host).is_err());
+    assert_eq!(rt; build.environment().inherited().get("A"), Some("é"));
+    build.capture(&mut host)?;
+    assert_eq!(rt; build.environment().inherited().get("A"), None);
+    Ok(())
+}
+
+#[test]
+fn flags_of_the_environment_want_target_host_and_variable(rt: HostRuntime) -> Result<(), Fail> {
+    let alloc = rt.alloc();
+    let mut host = BenchHost::new(alloc)?;
+    let mut build = captured(alloc, "XF_t", "-a -b")?;
+    for subject in ["TARGET", "HOST"] {
+        let error = build
+            .try_flags_from_environment(&mut host, "XF")
+            .expect_err(&rt, "refused");
+        assert_eq!(rt; error.subject(), subject);
+        if subject == "TARGET" {
+            build.target("t")?;
+        }
+    }
+    build.host("h")?;
+    build.try_flags_from_environment(&mut host, "XF")?;
+    assert_eq!(rt; build.settings().flags.len(), 2);
+    let error = build
+        .try_flags_from_environment(&mut host, "YF")
+        .expect_err(&rt, "refused");
+    assert_eq!(rt; error.message(), "could not find environment variable YF");
+    assert_eq!(rt; build.settings().flags.len(), 2);
+    Ok(())
+}
+
+#[test]
+fn removed_flags_are_those_that_are_always_given(rt: HostRuntime) -> Result<(), Fail> {
+    let alloc = rt.alloc();
+    let mut build: Build<Bench> = Build::new(alloc)?;
+    for flag in ["-a", "-b", "-a"] {
+        build.flag(flag)?;
+    }
+    build.remove_flag("-a");
+    let copy = build.try_clone()?;
+    assert_eq!(rt; copy.settings().flags.len(), 1);
+    build.file("a.c")?;
+    assert_eq!(rt; build.get_files().len(), 1);
+    assert_eq!(rt; copy.get_files().len(), 0);
+    Ok(())
+}
+
+#[test]
+fn an_error_keeps_what_it_is_given(rt: HostRuntime) -> Result<(), Fail> {
+    let error = Error::of(rt.alloc(), ErrorKind::Disabled, "s", "m")?;
+    assert_eq!(rt; error.kind(), ErrorKind::Disabled);
+    assert_eq!(rt; error.subject(), "s");
+    assert_eq!(rt; error.message(), "m");
     Ok(())
 }

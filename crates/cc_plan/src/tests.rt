@@ -2,8 +2,10 @@ use crate::{
     ArgumentCause, BuildConfig, Object, Plan, PlanError, compile_command, lib_and_archive_names,
     object_path, objects_from_files, plan_commands, plan_sources, tool_of,
 };
+use cc_env::{BuildEnv, EnvSnapshot};
 use cc_host::{Command, command_line};
-use cc_text::{Mem, Text, Words};
+use cc_target::TargetInfo;
+use cc_text::{Mem, Text, Vars, Words};
 use std::alloc::Global;
 use std::test::Fail;
 
@@ -24,16 +26,13 @@ fn two_words(alloc: Global, first: &str, second: &str) -> Mem<Words> {
 
 fn linux_settings(alloc: Global) -> Mem<BuildConfig> {
     let target = Text::of(alloc, "x86_64-unknown-linux-gnu")?;
-    Ok(BuildConfig {
-        files: Words::new(alloc),
-        host: Some(target.try_clone()?),
-        target: Some(target),
-        opt_level: Some(Text::of(alloc, "0")?),
-        out_dir: Some(Text::of(alloc, "/o")?),
-        compiler: Some(Text::of(alloc, "cc")?),
-        archiver: None,
-        emit_rerun_if_env_changed: false,
-    })
+    let mut set = BuildConfig::new(alloc);
+    set.host = Some(target.try_clone()?);
+    set.target = Some(target);
+    set.opt_level = Some(Text::of(alloc, "0")?);
+    set.out_dir = Some(Text::of(alloc, "/o")?);
+    set.compiler = Some(Text::of(alloc, "cc")?);
+    Ok(set)
 }
 
 // The variables of a command, each with a space behind it, and its program and words.
@@ -48,12 +47,17 @@ fn push_command(text: &mut Text, alloc: Global, cmd: &Command) -> Mem<()> {
 }
 
 fn compiled(alloc: Global, set: &BuildConfig) -> Result<Command, PlanError> {
-    let tool = tool_of(alloc, set)?;
+    let env = BuildEnv::empty(alloc);
+    let tool = tool_of(alloc, set, &env)?;
+    let target = TargetInfo::from_rustc_target("x86_64-unknown-linux-gnu");
     let object = Object {
         src: Text::of(alloc, "src/a.c")?,
         dst: Text::of(alloc, "OBJECT")?,
     };
-    compile_command(set, &tool, &object)
+    match target {
+        Ok(target) => compile_command(alloc, set, &target, &tool, &object),
+        Err(_) => Err(PlanError::UnknownTarget(Text::new(alloc))),
+    }
 }
 
 // The command that makes OBJECT from `src/a.c`.
@@ -66,8 +70,9 @@ fn compile_text(alloc: Global) -> Result<Text, PlanError> {
 }
 
 fn planned(alloc: Global, set: &BuildConfig, output: &str) -> Result<Plan, PlanError> {
-    let sources = plan_sources(alloc, set, output)?;
-    plan_commands(alloc, set, output, &sources)
+    let env = BuildEnv::empty(alloc);
+    let sources = plan_sources(alloc, set, &env, output)?;
+    plan_commands(alloc, set, &env, output, &sources)
 }
 
 // The archive and index commands and the link lines, each with a line feed behind it.
@@ -123,7 +128,9 @@ fn an_object_is_named_by_folder_and_extension(rt: HostRuntime) -> Result<(), Fai
         ("d/foo.c", "/o/c5c81f8acea901ea-foo.o"),
         ("d/foo.cpp", "/o/a01b29cf2d44b1b2-foo.o"),
     ] {
-        assert_eq!(rt; object_path(rt.alloc(), "/o", source)?.as_str(), object);
+        let env = EnvSnapshot::empty(rt.alloc());
+        let path = object_path(rt.alloc(), &env, None, "/o", source)?;
+        assert_eq!(rt; path.as_str(), object);
     }
     Ok(())
 }
@@ -136,7 +143,8 @@ fn sources_have_a_name_and_objects_of_their_own(rt: HostRuntime) -> Result<(), F
         ("..", "d/foo.c", Some(ArgumentCause::NoFileName(0))),
     ] {
         let sources = two_words(rt.alloc(), first, second)?;
-        let objects = objects_from_files(rt.alloc(), &sources, "/o");
+        let env = EnvSnapshot::empty(rt.alloc());
+        let objects = objects_from_files(rt.alloc(), &sources, "/o", &env, None);
         assert_eq!(rt; objects.is_ok(), want.is_none());
         assert_eq!(rt; cause_of(objects), want);
     }
@@ -161,5 +169,33 @@ fn plans_one_archive_its_index_and_two_lines(rt: HostRuntime) -> Result<(), Fail
          cargo:rustc-link-lib=static=foo\n\
          cargo:rustc-link-search=native=/o\n"
     );
+    Ok(())
+}
+
+// The object of a source in `/o`, in an environment with one variable.
+fn object_with(
+    alloc: Global,
+    name: &str,
+    value: &str,
+    root: Option<&str>,
+    source: &str,
+) -> Mem<Text> {
+    let mut vars = Vars::new(alloc);
+    vars.push(name, value)?;
+    let env = EnvSnapshot::from_vars(alloc, &vars)?;
+    object_path(alloc, &env, root, "/o", source)
+}
+
+#[test]
+fn a_folder_counts_from_the_first_origin_that_has_it(rt: HostRuntime) -> Result<(), Fail> {
+    for (name, value, root, source, object) in [
+        ("OUT_DIR", "/out", None, "/outer/x/a.c", "/o/38b99bcd0b640267-a.o"),
+        ("CARGO_MANIFEST_DIR", "/p", Some("/p"), "/p/é/a.c", "/o/d1e9f2facdefa959-a.o"),
+        ("A", "", Some("/ext"), "/ext-other/a.c", "/o/7b25b24ffaac0f5d-a.o"),
+        ("A", "", Some("/ext"), "/ext/x/a.c", "/o/4ba98ce805973709-a.o"),
+    ] {
+        let path = object_with(rt.alloc(), name, value, root, source)?;
+        assert_eq!(rt; path.as_str(), object, "{source}");
+    }
     Ok(())
 }
