@@ -1,0 +1,5 @@
+int a(void);
+
+int b(void) {
+    return a() + 1;
+}
