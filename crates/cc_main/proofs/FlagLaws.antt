@@ -51,13 +51,11 @@ left_more (Some pair) removed last =
 without_both : (word : List ℕ) (xs ys : List BuildFlag) → without word (xs ++ ys) ≡ without word xs ++ without word ys
 unfolding without
 without_both word [] ys = refl
-without_both word (x ∷ xs) ys = by_test (is_always word x)
+without_both word (x ∷ xs) ys = by_test (without_both word xs ys) (is_always word x)
   where
-    rest : filter (λ flag. not (is_always word flag)) (xs ++ ys) ≡ filter (λ flag. not (is_always word flag)) xs ++ filter (λ flag. not (is_always word flag)) ys
-    rest = without_both word xs ys
-    by_test : (b : Bool) → (if not b then x ∷ filter (λ flag. not (is_always word flag)) (xs ++ ys) else filter (λ flag. not (is_always word flag)) (xs ++ ys)) ≡ (if not b then x ∷ filter (λ flag. not (is_always word flag)) xs else filter (λ flag. not (is_always word flag)) xs) ++ filter (λ flag. not (is_always word flag)) ys
-    by_test true = rest
-    by_test false = ap (λ l. x ∷ l) rest
+    by_test : (rest : filter (λ flag. not (is_always word flag)) (xs ++ ys) ≡ filter (λ flag. not (is_always word flag)) xs ++ filter (λ flag. not (is_always word flag)) ys) (b : Bool) → (if not b then x ∷ filter (λ flag. not (is_always word flag)) (xs ++ ys) else filter (λ flag. not (is_always word flag)) (xs ++ ys)) ≡ (if not b then x ∷ filter (λ flag. not (is_always word flag)) xs else filter (λ flag. not (is_always word flag)) xs) ++ filter (λ flag. not (is_always word flag)) ys
+    by_test rest true = rest
+    by_test rest false = ap (λ l. x ∷ l) rest
 
 no_remove : (key : List ℕ) → is key "flag" ≡ true → is key "remove_flag" ≡ false
 no_remove key flag = let e : key ≡ codes "flag" = (bytes_eq-Decides key (codes "flag")).0 flag in rw e refl

@@ -1,5 +1,6 @@
 -- What the setter of a key does to the settings.
-use Rattle.std.proofs.Common.{◌≡◌, ◌⊎◌, inl, inr, ℕ, List, [], ◌∷◌, ◌++◌, Option, Some, None, Result, Ok, Err, MatchResult, IsErr, IfOk, OnOk, codes, bytes_eq, Bool, true, false, ◌||◌, refl, sym, ◌∙◌, ap, subst}
+use Rattle.std.proofs.Common.{◌≡◌, ◌⊎◌, inl, inr, ℕ, List, [], ◌∷◌, ◌++◌, Option, Some, None, Result, Ok, Err, MatchResult, IsErr, IfOk, OnOk, codes, bytes_eq, Bool, true, false, ◌||◌, unwrap_or, refl, sym, ◌∙◌, ap, subst}
+use Rattle.cc_text.specs.Cuts.{key_and_value}
 use Rattle.cc_build.specs.Build.{BuildSeen}
 use Prim.Native.String.{String}
 use Rattle.std.proofs.lemmas.Slice.Eq.{bytes_eq-Decides}
@@ -7,7 +8,7 @@ use Rattle.cc_main.specs.Read.{is, cause_unless, is_number, is_truth, key_cause,
 use Rattle.cc_main.specs.Sets.{Sets}
 use Rattle.cc_main.specs.Step.{with_key}
 use Rattle.cc_main.specs.declared.words.WordCause.{WordCause}
-use Rattle.cc_main.specs.declared.words.WordCause.TheVariants.{UnknownKey}
+use Rattle.cc_main.specs.declared.words.WordCause.TheVariants.{UnknownKey, BadValue}
 
 -- what was done for a key that is this one
 pub sets_key : (old new : BuildSeen) (key is value : List ℕ) (cause : Option WordCause) → key ≡ is → Sets old new is value cause → Sets old new key value cause
@@ -72,3 +73,15 @@ unfolding key_cause
 truth_key key value text item truth =
     let on : (is_choice_key key || is_switch_key key) ≡ true = either_true (is_choice_key key) (is_switch_key key) truth in
     rw (text, item, on) refl
+
+-- the setter of a variable, of a value that has one
+pub set_pair : {T E F : Type 0} (old new : BuildSeen) (value : List ℕ) (pair : List ℕ × List ℕ) (answer : Result T E) (result : Result (Option WordCause) F) → key_and_value value ≡ Some pair → MatchResult answer (λ _. result ≡ Ok None) (λ _. IsErr result) → OnOk answer (new ≡ record old { env = record old.env { explicit = old.env.explicit ++ pair ∷ [] } }) → IfOk result (Sets old new (codes "env") value)
+unfolding key_cause is_text_key is_item_key is_choice_key is_switch_key
+set_pair old new value pair answer result e m done =
+    set_done old new (codes "env") (codes "env") value answer result refl (rw e refl) m
+    (subst (λ (p : List ℕ × List ℕ). OnOk answer (new ≡ record old { env = record old.env { explicit = old.env.explicit ++ p ∷ [] } })) (sym (ap (λ k. unwrap_or k (value, [])) e)) done)
+
+-- and of one that has none
+pub no_pair : (old : BuildSeen) (value : List ℕ) → key_and_value value ≡ None → Sets old old (codes "env") value (Some BadValue)
+unfolding key_cause is_text_key is_item_key is_choice_key is_switch_key
+no_pair old value e = (rw e refl, λ h. absurd (cc))

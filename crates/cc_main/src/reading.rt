@@ -147,37 +147,81 @@ fn is_switch_key(key: &str) -> bool
     )
 }
 
-// Sets what is on or off, or unset.
-fn set_choice<W: World>(build: &mut Build<W>, key: &str, on: bool)
-    requires { is_choice_key key.now ≡ true }
-    ensures { (value : List ℕ) → is value "true" ≡ on → build.new ≡ with_key build.old key.now value }
+// Sets what is on or off, or unset, where this is such a key.
+fn set_choice<W: World>(build: &mut Build<W>, key: &str, on: bool) -> bool
+    ensures known { result ≡ is_choice_key key.now }
+    ensures set { result ≡ true → (value : List ℕ) → is value "true" ≡ on → build.new ≡ with_key build.old key.now value }
+    ensures other { result ≡ false → build.new ≡ build.old }
 {
     match key {
-        "shared_flag" => build.shared_flag(on),
-        "static_flag" => build.static_flag(on),
-        "warnings" => build.warnings(on),
-        "extra_warnings" => build.extra_warnings(on),
-        "pic" => build.pic(on),
-        "use_plt" => build.use_plt(on),
-        "static_crt" => build.static_crt(on),
-        "shell_escaped_flags" => build.shell_escaped_flags(on),
-        _ => {}
+        "shared_flag" => {
+            build.shared_flag(on);
+            true
+        }
+        "static_flag" => {
+            build.static_flag(on);
+            true
+        }
+        "warnings" => {
+            build.warnings(on);
+            true
+        }
+        "extra_warnings" => {
+            build.extra_warnings(on);
+            true
+        }
+        "pic" => {
+            build.pic(on);
+            true
+        }
+        "use_plt" => {
+            build.use_plt(on);
+            true
+        }
+        "static_crt" => {
+            build.static_crt(on);
+            true
+        }
+        "shell_escaped_flags" => {
+            build.shell_escaped_flags(on);
+            true
+        }
+        _ => false,
     }
 }
 
-// Sets what is on or off.
-fn set_switch<W: World>(build: &mut Build<W>, key: &str, on: bool)
-    requires { is_switch_key key.now ≡ true }
-    ensures { (value : List ℕ) → is value "true" ≡ on → build.new ≡ with_key build.old key.now value }
+// Sets what is on or off, where this is such a key.
+fn set_switch<W: World>(build: &mut Build<W>, key: &str, on: bool) -> bool
+    ensures known { result ≡ is_switch_key key.now }
+    ensures set { result ≡ true → (value : List ℕ) → is value "true" ≡ on → build.new ≡ with_key build.old key.now value }
+    ensures other { result ≡ false → build.new ≡ build.old }
 {
     match key {
-        "no_default_flags" => build.no_default_flags(on),
-        "reproducible_codeview" => build.reproducible_codeview(on),
-        "cpp" => build.cpp(on),
-        "warnings_into_errors" => build.warnings_into_errors(on),
-        "cargo_warnings" => build.cargo_warnings(on),
-        "emit_rerun_if_env_changed" => build.emit_rerun_if_env_changed(on),
-        _ => {}
+        "no_default_flags" => {
+            build.no_default_flags(on);
+            true
+        }
+        "reproducible_codeview" => {
+            build.reproducible_codeview(on);
+            true
+        }
+        "cpp" => {
+            build.cpp(on);
+            true
+        }
+        "warnings_into_errors" => {
+            build.warnings_into_errors(on);
+            true
+        }
+        "cargo_warnings" => {
+            build.cargo_warnings(on);
+            true
+        }
+        "emit_rerun_if_env_changed" => {
+            build.emit_rerun_if_env_changed(on);
+            true
+        }
+        _ => false,
     }
 }
 
@@ -229,9 +273,7 @@ fn set_truth<W: World>(build: &mut Build<W>, key: &str, value: &str) -> Option<W
 {
     match truth_of(value) {
         Some(on) => {
-            if is_choice_key(key) {
-                set_choice(build, key, on);
-            } else {
+            if !set_choice(build, key, on) {
                 set_switch(build, key, on);
             }
             None
@@ -286,8 +328,8 @@ pub fn read_words<W: World>(alloc: Global, words: &[String]) -> Result<Request<W
         [command, ..] if command.as_str() != "compile" => Err(bad(0, WordCause::UnknownCommand)),
         [_] => Err(bad(1, WordCause::NoName)),
         [_, name, rest @ ..] => {
-            let build = read_settings(alloc, rest)?;
             let job = Job::Compile(Text::of(alloc, name.as_str())?);
+            let build = read_settings(alloc, rest)?;
             Ok(Request { job, build })
         }
     }

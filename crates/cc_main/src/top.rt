@@ -168,13 +168,14 @@ fn capture_and_compile<W: World, H: Host<W>>(
 }
 
 // Does what was asked for.
-fn serve<W: World, H: Host<W>>(alloc: Global, request: Request<W>, host: &mut H) -> Ended
+fn serve<W: World, H: Host<W>>(alloc: Global, request: &mut Request<W>, host: &mut H) -> Ended
     ensures extends { H.log host.new ≡ H.log host.old ++ since (H.log host.old) (H.log host.new) }
-    ensures answer { Answers (name_of request.job, request.build) (since (H.log host.old) (H.log host.new)) result }
+    ensures answer { Answers (name_of request.old.job, request.old.build) (since (H.log host.old) (H.log host.new)) result }
 {
-    let Request { job, mut build } = request;
-    match job {
-        Job::Compile(name) => capture_and_compile(alloc, &mut build, name.as_str(), host),
+    match &request.job {
+        Job::Compile(name) => {
+            capture_and_compile(alloc, &mut request.build, name.as_str(), host)
+        }
     }
 }
 
@@ -185,7 +186,7 @@ fn run<W: World, H: Host<W>>(alloc: Global, words: &[String], host: &mut H) -> E
     ensures answer { AnswersWords (read (map string_bytes words.now)) (since (H.log host.old) (H.log host.new)) result }
 {
     match read_words::<W>(alloc, words) {
-        Ok(request) => serve(alloc, request, host),
+        Ok(mut request) => serve(alloc, &mut request, host),
         Err(ReadError::Bad(bad)) => refuse_word(alloc, host, bad),
         Err(ReadError::NoMemory) => ended_wanting(),
     }

@@ -1,6 +1,6 @@
-use Rattle.std.proofs.Common.{codes, refl}
+use Rattle.std.proofs.Common.{codes, None, refl}
 use Rattle.cc_main.specs.Read.{key_cause, is_text_key, is_item_key}
-use Rattle.cc_main.proofs.KeyLaws.{set_done, no_item_key}
+use Rattle.cc_main.proofs.KeyLaws.{set_done, sets_key, no_item_key}
 use Rattle.cc_main.proofs.reading.set_item.Goals as goal
 
 pub returns-in-file : goal.returns-in-file
@@ -19,3 +19,13 @@ pub returns-in-flag : goal.returns-in-flag
 unfolding key_cause is_text_key is_item_key
 returns-in-flag g c = set_done c.args.build.now c.flag.new.self c.args.key.now (codes "flag") c.args.value.now c.flag.result c.set-in-flag.result c.in-flag.is refl c.set-in-flag.ensures c.flag.ensures.ok
 
+pub returns-in-define : goal.returns-in-define
+unfolding key_cause is_text_key is_item_key
+returns-in-define g c = set_done c.args.build.now c.define.new.build c.args.key.now (codes "define") c.args.value.now c.define.result c.set-in-define.result c.in-define.is refl c.set-in-define.ensures c.define.ensures
+
+pub returns-in-remove_flag : goal.returns-in-remove_flag
+unfolding key_cause is_text_key is_item_key
+returns-in-remove_flag g c = sets_key c.args.build.now c.remove_flag.new.self c.args.key.now (codes "remove_flag") c.args.value.now None c.in-remove_flag.is (refl, λ _. c.remove_flag.ensures)
+
+pub set_other-requires-clause-item : goal.set_other-requires-clause-item
+set_other-requires-clause-item g c = no_item_key c.args.key.now c.in_default.not-file c.in_default.not-include c.in_default.not-asm_flag c.in_default.not-flag c.in_default.not-define c.in_default.not-remove_flag
