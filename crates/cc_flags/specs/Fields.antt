@@ -12,12 +12,17 @@ use Rattle.cc_flags.specs.declared.error.FlagError.TheVariants.{InvalidFlag}
 use Rattle.cc_flags.specs.declared.flags.RustcCodegenFlags.{RustcCodegenFlags}
 use Rattle.cc_flags.specs.declared.pairs.Pair.{Pair}
 
+-- a word that says yes
+unfoldable pub is_yes : List ℕ → Bool
+is_yes word = is_among (map codes ("y" ∷ "yes" ∷ "on" ∷ "true" ∷ [])) word
+
+-- a word that says no
+unfoldable pub is_no : List ℕ → Bool
+is_no word = is_among (map codes ("n" ∷ "no" ∷ "off" ∷ "false" ∷ [])) word
+
 -- what a word says: yes, no, or neither
 unfoldable pub truth_of : List ℕ → Option Bool
-truth_of word =
-    if is_among (map codes ("y" ∷ "yes" ∷ "on" ∷ "true" ∷ [])) word then Some true
-    else (if is_among (map codes ("n" ∷ "no" ∷ "off" ∷ "false" ∷ [])) word then Some false
-    else None)
+truth_of word = if is_yes word then Some true else (if is_no word then Some false else None)
 
 -- one decimal digit or more, and nothing else
 abbrev pub is_numeral : List ℕ → Bool

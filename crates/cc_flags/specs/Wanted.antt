@@ -1,5 +1,5 @@
 -- The words of a C compiler that say what the rustflags say, one definition a group.
-use Rattle.std.specs.Prelude.{ℕ, Bool, List, [], ◌∷◌, ◌++◌, ◌==◌, ◌||◌, Option, Some, None, map, codes, flat_map, encode_utf8, unwrap_or, nat_eq, not, false, if◌then◌else◌}
+use Rattle.std.specs.Prelude.{ℕ, Bool, List, [], ◌∷◌, ◌++◌, ◌==◌, ◌||◌, Option, Some, None, codes, flat_map, encode_utf8, unwrap_or, nat_eq, not, false, if◌then◌else◌}
 use Rattle.std.specs.Option.{option_to_list}
 use Rattle.std.specs.List.{starts_with}
 use Rattle.std.specs.Fmt.{decimal}
@@ -9,7 +9,8 @@ use Rattle.cc_text.specs.Words.{when, choose, entry}
 use Rattle.cc_text.specs.declared.family.ToolFamily.{ToolFamily}
 use Rattle.cc_text.specs.declared.family.ToolFamily.TheVariants.{Gnu, Clang, Msvc}
 use Rattle.cc_target.specs.Targets.{Info}
-use Rattle.cc_flags.specs.Pairs.{is, is_among}
+use Rattle.cc_flags.specs.Pairs.{is}
+use Rattle.cc_flags.specs.Fields.{is_yes, is_no}
 use Rattle.cc_flags.specs.Features.{feature_word}
 use Rattle.cc_flags.specs.declared.flags.RustcCodegenFlags.{RustcCodegenFlags}
 
@@ -111,21 +112,18 @@ embed_bitcode_words embed = switch_words "-fembed-bitcode=all" "-fembed-bitcode=
 unfoldable pub plugin_words : Option Bool → List (List ℕ)
 plugin_words plugin = choose (entry (unwrap_or plugin false) ("-flto=thin" ∷ []) ∷ [])
 
--- what a value asks of the control flow guard
+-- a value that asks the control flow guard for its checks
 unfoldable pub is_checks : List ℕ → Bool
-is_checks value = is_among (map codes ("y" ∷ "yes" ∷ "on" ∷ "true" ∷ "checks" ∷ [])) value
+is_checks value = is_yes value || is value "checks"
 
 unfoldable pub is_nochecks : List ℕ → Bool
 is_nochecks value = is value "nochecks"
-
-unfoldable pub is_off : List ℕ → Bool
-is_off value = is_among (map codes ("n" ∷ "no" ∷ "off" ∷ "false" ∷ [])) value
 
 unfoldable pub clang_guard_word : List ℕ → List (List ℕ)
 clang_guard_word value =
     if is_checks value then word "-mguard=cf"
     else (if is_nochecks value then word "-mguard=cf-nochecks"
-    else (if is_off value then word "-mguard=none"
+    else (if is_no value then word "-mguard=none"
     else []))
 
 unfoldable pub clang_guard_words : Option (List ℕ) → List (List ℕ)
@@ -141,7 +139,7 @@ clang_words flags =
 unfoldable pub msvc_guard_word : List ℕ → List (List ℕ)
 msvc_guard_word value =
     if is_checks value then word "/guard:cf"
-    else (if is_off value then word "/guard:cf-"
+    else (if is_no value then word "/guard:cf-"
     else [])
 
 unfoldable pub msvc_guard_words : Option (List ℕ) → List (List ℕ)

@@ -3,21 +3,37 @@ ghost use Rattle.std.specs.Prelude.{◌≡◌, ◌++◌, IfOk, OnOk, find, flat_
 ghost use Rattle.std.specs.Option.{option_copied};
 ghost use Rattle.cc_text.specs.Words.{texts};
 ghost use Rattle.cc_flags.specs.Pairs.{is_among};
-ghost use Rattle.cc_flags.specs.Fields.{truth_of, u32_of, last_of, is_given, text_of, text_or_true_of, switch, switch_of, is_on, plugin_of, number_in, number_of, feature_names, features_in, features_of, needs_text, is_invalid, invalid_pair};
+ghost use Rattle.cc_flags.specs.Fields.{is_yes, is_no, truth_of, u32_of, last_of, is_given, text_of, text_or_true_of, switch, switch_of, is_on, plugin_of, number_in, number_of, feature_names, features_in, features_of, needs_text, is_invalid, invalid_pair};
 
 use crate::among::is_among;
 use crate::pairs::{Pair, parts_at};
 use cc_text::{Mem, Text, Words};
 use std::alloc::Global;
 
+/// Whether a word says yes.
+#[tactic(auto, unfolding(crate::specs::Fields::is_yes))]
+pub fn is_yes(word: &str) -> bool
+    ensures { result ≡ is_yes word.now }
+{
+    is_among(word, &["y", "yes", "on", "true"])
+}
+
+/// Whether a word says no.
+#[tactic(auto, unfolding(crate::specs::Fields::is_no))]
+pub fn is_no(word: &str) -> bool
+    ensures { result ≡ is_no word.now }
+{
+    is_among(word, &["n", "no", "off", "false"])
+}
+
 /// What a word says: yes, no, or neither.
 #[tactic(auto, unfolding(crate::specs::Fields::truth_of))]
 fn truth_of(word: &str) -> Option<bool>
     ensures { result ≡ truth_of word.now }
 {
-    if is_among(word, &["y", "yes", "on", "true"]) {
+    if is_yes(word) {
         Some(true)
-    } else if is_among(word, &["n", "no", "off", "false"]) {
+    } else if is_no(word) {
         Some(false)
     } else {
         None

@@ -5,10 +5,10 @@ ghost use Rattle.std.specs.Str.{chars};
 ghost use Rattle.cc_text.specs.Words.{texts};
 ghost use Rattle.cc_target.specs.Targets.{info_seen};
 ghost use Rattle.cc_flags.specs.Wanted.{plus_for_comma, branch_protection_word, branch_protection_words, code_model_words, vector_words, relocation_word, relocation_words, frame_pointer_words, switched, red_zone_words, float_words, dwarf_words, stack_protector_word, stack_protector_words, feature_words, code_words, machine_words};
-ghost use Rattle.cc_flags.specs.Wanted.{embed_bitcode_words, plugin_words, is_checks, is_nochecks, is_off, clang_guard_word, clang_guard_words, clang_words, msvc_guard_word, msvc_guard_words, has, msvc_frame_pointer_words, msvc_words, wanted};
+ghost use Rattle.cc_flags.specs.Wanted.{embed_bitcode_words, plugin_words, is_checks, is_nochecks, clang_guard_word, clang_guard_words, clang_words, msvc_guard_word, msvc_guard_words, has, msvc_frame_pointer_words, msvc_words, wanted};
 
 use crate::RustcCodegenFlags;
-use crate::among::is_among;
+use crate::fields::{is_no, is_yes};
 use cc_target::TargetInfo;
 use cc_text::{Mem, Text, ToolFamily, Words};
 use std::alloc::Global;
@@ -230,7 +230,7 @@ fn push_plugin_words(words: &mut Words, plugin: Option<bool>) -> Mem<()>
 fn is_checks(value: &str) -> bool
     ensures { result ≡ is_checks value.now }
 {
-    is_among(value, &["y", "yes", "on", "true", "checks"])
+    is_yes(value) || value == "checks"
 }
 
 #[tactic(auto, unfolding(crate::specs::Wanted::is_nochecks))]
@@ -238,13 +238,6 @@ fn is_nochecks(value: &str) -> bool
     ensures { result ≡ is_nochecks value.now }
 {
     value == "nochecks"
-}
-
-#[tactic(auto, unfolding(crate::specs::Wanted::is_off))]
-fn is_off(value: &str) -> bool
-    ensures { result ≡ is_off value.now }
-{
-    is_among(value, &["n", "no", "off", "false"])
 }
 
 #[tactic(auto, unfolding(crate::specs::Wanted::clang_guard_word))]
@@ -255,7 +248,7 @@ fn clang_guard_word(value: &str) -> &'static [&'static str]
         &["-mguard=cf"]
     } else if is_nochecks(value) {
         &["-mguard=cf-nochecks"]
-    } else if is_off(value) {
+    } else if is_no(value) {
         &["-mguard=none"]
     } else {
         &[]
@@ -289,7 +282,7 @@ fn msvc_guard_word(value: &str) -> &'static [&'static str]
 {
     if is_checks(value) {
         &["/guard:cf"]
-    } else if is_off(value) {
+    } else if is_no(value) {
         &["/guard:cf-"]
     } else {
         &[]
