@@ -37,11 +37,7 @@ fn write_library<W: World, H: Host<W>>(
 
 // Prints the warnings and compiles the sources in order, up to the first command that fails.
 #[tactic(auto, using(cc_host::proofs::Parts::since_append))]
-fn compile_plan<W: World, H: Host<W>>(
-    alloc: Global,
-    host: &mut H,
-    plan: &Plan,
-) -> Result<(), Error>
+fn compile_plan<W: World, H: Host<W>>(alloc: Global, host: &mut H, plan: &Plan) -> Result<(), Error>
     ensures extends { H.log host.new ≡ H.log host.old ++ since (H.log host.old) (H.log host.new) }
     ensures outcome { Outcome None (prints Warning plan.now.warnings ++ runs Compile plan.now.compiles.items) (since (H.log host.old) (H.log host.new)) result }
 {

@@ -118,12 +118,7 @@ fn bad_words_are_told_by_place_and_cause(rt: HostRuntime) -> Result<(), Fail> {
             WordCause::BadValue,
             "word 2: bad value\n",
         ),
-        (
-            "compile f cpp",
-            2,
-            WordCause::NoValue,
-            "word 2: no value\n",
-        ),
+        ("compile f cpp", 2, WordCause::NoValue, "word 2: no value\n"),
         (
             "compile f cpp=1",
             2,
@@ -265,11 +260,7 @@ fn a_disabled_build_runs_no_command(rt: HostRuntime) -> Result<(), Fail> {
 fn what_is_set_nowhere_is_told_by_its_name(rt: HostRuntime) -> Result<(), Fail> {
     let alloc = rt.alloc();
     for (line, kind, subject) in [
-        (
-            "compile foo file=a.c",
-            ErrorKind::EnvVarNotFound,
-            "OUT_DIR",
-        ),
+        ("compile foo file=a.c", ErrorKind::EnvVarNotFound, "OUT_DIR"),
         (
             "compile foo file=a.c out_dir=",
             ErrorKind::InvalidArgument,
@@ -355,7 +346,9 @@ fn the_visual_studio_compiler_takes_its_own_words(rt: HostRuntime) -> Result<(),
             "made /o\ncargo:warning=cpp_set_stdlib is ignored by this compiler\nVSLANG=1033 \"cl\"",
         ),
     ] {
-        let line = format!(in alloc; "compile foo file=a.cc cpp=true {SETTINGS} compiler=cl {words}")?;
+        let line = format!(in alloc;
+            "compile foo file=a.cc cpp=true {SETTINGS} compiler=cl {words}"
+        )?;
         let mut host = BenchHost::new(alloc)?;
         let ended = drive_line(alloc, line.as_str(), &mut host)?;
         assert_eq!(rt; ended.status, 0);

@@ -9,7 +9,8 @@ ghost use Rattle.cc_plan.specs.declared.error.PlanError.TheVariants.{NoMemory as
 use crate::{ArgumentCause, PlanError};
 use cc_env::EnvSnapshot;
 use cc_text::{
-    Mem, Text, Words, after_prefix, extension, file_name, fnv1a, fnv1a_from, hex16, join, parent, strip_prefix, with_extension,
+    Mem, Text, Words, after_prefix, extension, file_name, fnv1a, fnv1a_from, hex16, join, parent,
+    strip_prefix, with_extension,
 };
 use std::alloc::Global;
 use std::collections::BTreeMap;
@@ -50,11 +51,7 @@ fn after_root<'a>(root: Option<&str>, folder: &'a str) -> Option<&'a str>
 
 // Where a folder counts from, and the folder from there on.
 #[tactic(auto, unfolding(crate::specs::Object::placed))]
-fn placed<'a>(
-    env: &EnvSnapshot,
-    root: Option<&str>,
-    folder: &'a str,
-) -> (&'static str, &'a str)
+fn placed<'a>(env: &EnvSnapshot, root: Option<&str>, folder: &'a str) -> (&'static str, &'a str)
     ensures { (result.0.now, result.1.now) ≡ placed env.now (option_copied root.entry) folder.now }
 {
     if let Some(rest) = after_variable(env, "OUT_DIR", folder) {
@@ -83,12 +80,7 @@ fn source_hash(env: &EnvSnapshot, root: Option<&str>, source: &str) -> u64
 
 // The name of an object: the digits of the hash, and the file name of the source.
 #[tactic(auto, unfolding(crate::specs::Object::object_name))]
-fn object_name(
-    alloc: Global,
-    env: &EnvSnapshot,
-    root: Option<&str>,
-    source: &str,
-) -> Mem<Text>
+fn object_name(alloc: Global, env: &EnvSnapshot, root: Option<&str>, source: &str) -> Mem<Text>
     ensures { IfOk result (λ name. name ≡ name_of env.now (option_copied root.entry) source.now) }
 {
     let mut name = hex16(alloc, source_hash(env, root, source))?;

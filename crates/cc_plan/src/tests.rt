@@ -189,10 +189,34 @@ fn object_with(
 #[test]
 fn a_folder_counts_from_the_first_origin_that_has_it(rt: HostRuntime) -> Result<(), Fail> {
     for (name, value, root, source, object) in [
-        ("OUT_DIR", "/out", None, "/outer/x/a.c", "/o/38b99bcd0b640267-a.o"),
-        ("CARGO_MANIFEST_DIR", "/p", Some("/p"), "/p/é/a.c", "/o/d1e9f2facdefa959-a.o"),
-        ("A", "", Some("/ext"), "/ext-other/a.c", "/o/7b25b24ffaac0f5d-a.o"),
-        ("A", "", Some("/ext"), "/ext/x/a.c", "/o/4ba98ce805973709-a.o"),
+        (
+            "OUT_DIR",
+            "/out",
+            None,
+            "/outer/x/a.c",
+            "/o/38b99bcd0b640267-a.o",
+        ),
+        (
+            "CARGO_MANIFEST_DIR",
+            "/p",
+            Some("/p"),
+            "/p/é/a.c",
+            "/o/d1e9f2facdefa959-a.o",
+        ),
+        (
+            "A",
+            "",
+            Some("/ext"),
+            "/ext-other/a.c",
+            "/o/7b25b24ffaac0f5d-a.o",
+        ),
+        (
+            "A",
+            "",
+            Some("/ext"),
+            "/ext/x/a.c",
+            "/o/4ba98ce805973709-a.o",
+        ),
     ] {
         let path = object_with(rt.alloc(), name, value, root, source)?;
         assert_eq!(rt; path.as_str(), object, "{source}");

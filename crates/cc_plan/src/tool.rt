@@ -82,13 +82,7 @@ fn compiler_of(set: &BuildConfig) -> &str
 {
     match &set.compiler {
         Some(compiler) => compiler.as_str(),
-        None => {
-            if set.cpp {
-                "c++"
-            } else {
-                "cc"
-            }
-        }
+        None => { if set.cpp { "c++" } else { "cc" } }
     }
 }
 
@@ -121,12 +115,7 @@ fn tool_env(alloc: Global, set: &BuildConfig, env: &BuildEnv) -> Mem<Vars>
 }
 
 // A command of the compiler with these words.
-fn tool_command(
-    alloc: Global,
-    set: &BuildConfig,
-    env: &BuildEnv,
-    words: &Words,
-) -> Mem<Command>
+fn tool_command(alloc: Global, set: &BuildConfig, env: &BuildEnv, words: &Words) -> Mem<Command>
     ensures { IfOk result (λ cmd. cmd ≡ record { program = compiler_of set.now; args = words.now; env = tool_env set.now env.now; dir = None }) }
 {
     let vars = tool_env(alloc, set, env)?;

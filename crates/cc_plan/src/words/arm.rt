@@ -29,10 +29,18 @@ static ARM_ROWS: [ArmRow; 14] = [
     row!("thumbv7m", ["-march=armv7-m"], []),
     row!("thumbv7em", ["-march=armv7e-m"], ["-mfpu=fpv4-sp-d16"]),
     row!("thumbv8m.base", ["-march=armv8-m.base"], []),
-    row!("thumbv8m.main", ["-march=armv8-m.main"], ["-mfpu=fpv5-sp-d16"]),
+    row!(
+        "thumbv8m.main",
+        ["-march=armv8-m.main"],
+        ["-mfpu=fpv5-sp-d16"]
+    ),
     row!("armv6", ["-march=armv6"], ["-mfpu=vfpv2"]),
     row!("thumbv6", ["-march=armv6"], ["-mfpu=vfpv2"]),
-    row!("armebv7r", ["-mbig-endian", "-march=armv7-r"], ["-mfpu=vfpv3-d16"]),
+    row!(
+        "armebv7r",
+        ["-mbig-endian", "-march=armv7-r"],
+        ["-mfpu=vfpv3-d16"]
+    ),
     row!("armv7r", ["-march=armv7-r"], ["-mfpu=vfpv3-d16"]),
     row!("thumbv7r", ["-march=armv7-r"], ["-mfpu=vfpv3-d16"]),
     row!("armv7a", ["-march=armv7-a"], ["-mfpu=vfpv3-d16"]),

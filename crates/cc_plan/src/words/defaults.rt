@@ -5,7 +5,7 @@ ghost use Rattle.cc_target.specs.Targets.{info_seen};
 ghost use Rattle.cc_plan.specs.DefaultWords as spec;
 
 use crate::words::family::{
-    has_android_target, has_windows_target, is_clang, is_cl, is_gnu, is_gnu_like,
+    has_android_target, has_windows_target, is_cl, is_clang, is_gnu, is_gnu_like,
 };
 use crate::words::texts::{has, value_or_empty};
 use cc_env::EnvSnapshot;
@@ -16,7 +16,11 @@ use cc_text::{Mem, ToolFamily, Words};
 fn level_text(family: ToolFamily, level: &str) -> &str
     ensures { result.now ≡ spec.level_text family level.now }
 {
-    if is_gnu(family) && level == "z" { "s" } else { level }
+    if is_gnu(family) && level == "z" {
+        "s"
+    } else {
+        level
+    }
 }
 
 // The level, and each function and datum in a section of its own.
@@ -338,12 +342,7 @@ fn is_sanitized(family: ToolFamily, target: &TargetInfo) -> bool
 
 // Cargo's target has the address sanitizer, and the compiler is given it.
 #[tactic(auto, unfolding(crate::specs::DefaultWords::wants_sanitizer))]
-fn wants_sanitizer(
-    family: ToolFamily,
-    target: &TargetInfo,
-    cargos: bool,
-    env: &EnvSnapshot,
-) -> bool
+fn wants_sanitizer(family: ToolFamily, target: &TargetInfo, cargos: bool, env: &EnvSnapshot) -> bool
     ensures { result ≡ spec.wants_sanitizer family (info_seen target.now) cargos env.now }
 {
     cargos

@@ -70,11 +70,7 @@ pub(super) fn push_gnu_words(
 
 // The oldest processor of a full architecture on Linux.
 #[tactic(auto, unfolding(crate::specs::GnuWords::linux_processor))]
-fn linux_processor(
-    full_arch: &str,
-    abi: &str,
-    cpu: Option<&str>,
-) -> &'static [&'static str]
+fn linux_processor(full_arch: &str, abi: &str, cpu: Option<&str>) -> &'static [&'static str]
     ensures { texts result.now ≡ spec.linux_processor full_arch.now abi.now (option_copied cpu.entry) }
 {
     match full_arch {

@@ -47,11 +47,7 @@ pub(super) fn push_include_words(words: &mut Words, folders: &[Text]) -> Mem<()>
 
 // Warnings are errors.
 #[tactic(auto, unfolding(crate::specs::SettingWords::error_words))]
-pub(super) fn push_error_words(
-    words: &mut Words,
-    family: ToolFamily,
-    into_errors: bool,
-) -> Mem<()>
+pub(super) fn push_error_words(words: &mut Words, family: ToolFamily, into_errors: bool) -> Mem<()>
     ensures { OnOk result (words.new ≡ words.old ++ spec.error_words family into_errors) }
 {
     if into_errors {

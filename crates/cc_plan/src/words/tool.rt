@@ -42,7 +42,11 @@ fn level_of<'a>(level: &'a Option<Text>, env: &'a EnvSnapshot) -> &'a str
 fn has_static_crt(env: &EnvSnapshot, cargos: bool) -> bool
     ensures { result ≡ spec.has_static_crt env.now cargos }
 {
-    cargos && has(value_or_empty(env, "CARGO_CFG_TARGET_FEATURE"), "crt-static")
+    cargos
+        && has(
+            value_or_empty(env, "CARGO_CFG_TARGET_FEATURE"),
+            "crt-static",
+        )
 }
 
 // The name that LLVM has for a target, else its own.
@@ -284,7 +288,17 @@ pub(crate) fn tool_words(
     ensures allowed { OnOk result (spec.words_refusal no_defaults set.now env.now cargos name.now (info_seen target.now) family program.now ≡ None) }
     ensures refused { IfErr result (λ e. (e ≡ WantsMemory) ⊎ (spec.words_refusal no_defaults set.now env.now cargos name.now (info_seen target.now) family program.now ≡ Some e)) }
 {
-    check_words(alloc, no_defaults, set, env, cargos, name, target, family, program)?;
+    check_words(
+        alloc,
+        no_defaults,
+        set,
+        env,
+        cargos,
+        name,
+        target,
+        family,
+        program,
+    )?;
     let mut words = Words::new(alloc);
     push_wanted_defaults(
         &mut words,
