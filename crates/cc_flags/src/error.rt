@@ -3,7 +3,6 @@ ghost use Rattle.std.specs.Prelude.{◌≡◌};
 ghost use Rattle.cc_flags.specs.declared.error.FlagError.TheVariants.{NoMemory as WantsMemory};
 
 use cc_text::{NoMemory, Text};
-use std::alloc::{AllocError, AllocFailed};
 
 /// Why rustflags are refused.
 #[derive(Drop, Debug, PartialEq, Eq)]
@@ -22,18 +21,12 @@ impl From<NoMemory> for FlagError {
     }
 }
 
-impl From<AllocError> for FlagError {
-    ghost from_gives = { λ _ e. e ≡ WantsMemory };
+#[cfg(test)]
+mod tests {
+    use super::*;
 
-    fn from(_: AllocError) -> Self {
-        FlagError::NoMemory
-    }
-}
-
-impl<T: Drop> From<AllocFailed<T>> for FlagError {
-    ghost from_gives = { λ _ e. e ≡ WantsMemory };
-
-    fn from(_: AllocFailed<T>) -> Self {
-        FlagError::NoMemory
+    #[test]
+    fn a_refusal_of_memory_is_want_of_memory(rt: HostRuntime) {
+        assert!(rt; FlagError::from(NoMemory) == FlagError::NoMemory);
     }
 }
