@@ -1,8 +1,7 @@
 // The host over the machine, on programs that each machine has and in folders of its own.
 use crate::ProcessHost;
 use cc_host::{
-    Command, Event, Host, HostCall, HostError, OutputKind, Pipes, Ran, Removal, Role, Scope,
-    Status, Why,
+    Command, Host, HostCall, HostError, OutputKind, Pipes, Ran, Removal, Role, Scope, Why,
 };
 use std::test::Fail;
 use std::{env, fs, process};
@@ -12,26 +11,12 @@ const KEPT: Pipes = Pipes {
     hear: true,
 };
 
-const UNKEPT: Pipes = Pipes {
-    out: OutputKind::Discard,
-    hear: false,
-};
-
-// The status and the kept outputs of a command, as one text.
-fn told(
-    rt: &HostRuntime,
-    host: &mut ProcessHost<HostRuntime>,
-    cmd: &Command,
-    pipes: Pipes,
-) -> Result<String, Fail> {
-    let alloc = rt.alloc();
-    match host.output(Role::Compile, cmd, pipes)? {
-        Ran::Missing => Ok(String::from_str(alloc, "missing")?),
-        Ran::Done { status, out, err } => {
-            let out = String::from_utf8_lossy(alloc, out.as_slice())?;
-            let err = String::from_utf8_lossy(alloc, err.as_slice())?;
-            Ok(format!(in alloc; "{status:?} {out}|{err}")?)
-        }
+// How a command ended, and what was kept of its outputs.
+fn told(rt: &HostRuntime, cmd: &Command) -> Result<String, Fail> {
+    let mut host = ProcessHost::new(*rt)?;
+    match host.output(Role::Compile, cmd, KEPT)? {
+        Ran::Missing => Ok(String::from_str(rt.alloc(), "missing")?),
+        Ran::Done { status, out, err } => Ok(format!(in rt.alloc(); "{status:?} {out:?} {err:?}")?),
     }
 }
 
@@ -42,75 +27,89 @@ fn shell(rt: &HostRuntime, line: &str) -> Result<Command, Fail> {
     Ok(cmd)
 }
 
-// A folder of this test's own, not there yet.
-fn own_folder(rt: &HostRuntime, name: &str) -> Result<String, Fail> {
+// A path of this test's own, where nothing is yet.
+fn own_path(rt: &HostRuntime, name: &str) -> Result<String, Fail> {
     let above = env::temp_dir(rt)?;
     let (above, id) = (above.as_str(), process::id(rt.process()));
-    Ok(format!(in rt.alloc(); "{above}/cc_hosts {name} é {id}")?)
+    Ok(format!(in rt.alloc(); "{above}/cc_hosts é {name} {id}")?)
 }
 
 #[test]
-fn programs_run_to_their_end(rt: HostRuntime) -> Result<(), Fail> {
-    let mut host = ProcessHost::new(rt)?;
+fn commands_end_as_their_programs_do(rt: HostRuntime) -> Result<(), Fail> {
     let rows = [
-        ("exit 3", UNKEPT, "Code(3) |"),
-        ("echo é; echo bad >&2", KEPT, "Code(0) é\n|bad\n"),
-        ("echo unkept", UNKEPT, "Code(0) |"),
-        ("kill -9 $$", KEPT, "NoCode |"),
+        ("exit 3", "Code(3) Bytes { bytes: [] } Bytes { bytes: [] }"),
+        (
+            "echo A; echo B >&2",
+            "Code(0) Bytes { bytes: [65, 10] } Bytes { bytes: [66, 10] }",
+        ),
+        (
+            "kill -9 $$",
+            "NoCode Bytes { bytes: [] } Bytes { bytes: [] }",
+        ),
     ];
-    for (line, pipes, want) in rows {
-        let cmd = shell(&rt, line)?;
-        assert_eq!(rt; told(&rt, &mut host, &cmd, pipes)?.as_str(), want);
+    for (line, want) in rows {
+        assert_eq!(rt; told(&rt, &shell(&rt, line)?)?.as_str(), want);
     }
-    let gone = Command::new(rt.alloc(), "no-such-program")?;
-    assert_eq!(rt; told(&rt, &mut host, &gone, KEPT)?.as_str(), "missing");
-    assert_eq!(rt; host.log().len(), 5);
     Ok(())
 }
 
 #[test]
 fn a_child_has_exactly_its_variables(rt: HostRuntime) -> Result<(), Fail> {
-    let mut host = ProcessHost::new(rt)?;
     let mut cmd = Command::new(rt.alloc(), "env")?;
-    for (name, value) in [("A", "1"), ("B", "é ü"), ("A", "2")] {
+    for (name, value) in [("A", "1"), ("A", "é")] {
         cmd.env(name, value)?;
     }
-    assert_eq!(rt;
-        told(&rt, &mut host, &cmd, KEPT)?.as_str(),
-        "Code(0) A=2\nB=é ü\n|"
-    );
+    let want = "Code(0) Bytes { bytes: [65, 61, 195, 169, 10] } Bytes { bytes: [] }";
+    assert_eq!(rt; told(&rt, &cmd)?.as_str(), want);
     cmd.env("PATH", "/no such folder")?;
-    assert_eq!(rt; told(&rt, &mut host, &cmd, KEPT)?.as_str(), "missing");
+    assert_eq!(rt; told(&rt, &cmd)?.as_str(), "missing");
     Ok(())
 }
 
 #[test]
-fn folders_and_files_are_made_and_removed(rt: HostRuntime) -> Result<(), Fail> {
-    let alloc = rt.alloc();
+fn a_command_runs_in_its_folder(rt: HostRuntime) -> Result<(), Fail> {
+    let mut cmd = shell(&rt, "pwd")?;
+    cmd.current_dir("/")?;
+    let want = "Code(0) Bytes { bytes: [47, 10] } Bytes { bytes: [] }";
+    assert_eq!(rt; told(&rt, &cmd)?.as_str(), want);
+    Ok(())
+}
+
+#[test]
+fn a_missing_folder_is_no_missing_program(rt: HostRuntime) -> Result<(), Fail> {
     let mut host = ProcessHost::new(rt)?;
-    let folder = own_folder(&rt, "files")?;
-    let folder = folder.as_str();
-    let below = format!(in alloc; "{folder}/a/b")?;
-    let file = format!(in alloc; "{folder}/x y.c")?;
-    let inside = format!(in alloc; "{folder}/x y.c/z")?;
-    host.make_dir(Scope::Build, below.as_str())?;
-    host.make_dir(Scope::Build, below.as_str())?;
-    fs::write(&rt, file.as_str(), "int x;\n")?;
-    let refused = HostError::Fault(HostCall::MakeDir(Scope::Probe), Why::Other);
-    assert_eq!(rt; host.make_dir(Scope::Probe, inside.as_str()), Err(refused));
-    let mut cmd = shell(&rt, "cat 'x y.c'")?;
-    cmd.current_dir(folder)?;
-    assert_eq!(rt;
-        told(&rt, &mut host, &cmd, KEPT)?.as_str(),
-        "Code(0) int x;\n|"
-    );
-    assert_eq!(rt; host.remove_file(inside.as_str()), Ok(Removal::Absent));
-    assert_eq!(rt; host.remove_file(file.as_str()), Ok(Removal::Gone));
-    assert_eq!(rt; host.remove_file(file.as_str()), Ok(Removal::Absent));
-    fs::remove_dir_all(&rt, folder)?;
+    let mut cmd = Command::new(rt.alloc(), "no such program é")?;
+    assert_eq!(rt; told(&rt, &cmd)?.as_str(), "missing");
+    cmd.current_dir("/no such folder")?;
     let refused = HostError::Fault(HostCall::Output, Why::NotFound);
     assert_eq!(rt; host.output(Role::Compile, &cmd, KEPT).err(), Some(refused));
-    assert_eq!(rt; host.log().len(), 8);
+    assert_eq!(rt; host.log().len(), 1);
+    Ok(())
+}
+
+#[test]
+fn folders_are_made_with_those_above(rt: HostRuntime) -> Result<(), Fail> {
+    let mut host = ProcessHost::new(rt)?;
+    let above = own_path(&rt, "folders")?;
+    let folder = format!(in rt.alloc(); "{above}/a b/ü")?;
+    host.make_dir(Scope::Build, folder.as_str())?;
+    host.make_dir(Scope::Build, folder.as_str())?;
+    assert!(rt; fs::metadata(&rt, folder.as_str())?.is_dir());
+    fs::remove_dir_all(&rt, above.as_str())?;
+    let refused = HostError::Fault(HostCall::MakeDir(Scope::Probe), Why::Other);
+    assert_eq!(rt; host.make_dir(Scope::Probe, "/dev/null/a"), Err(refused));
+    Ok(())
+}
+
+#[test]
+fn a_removed_file_is_gone_and_then_absent(rt: HostRuntime) -> Result<(), Fail> {
+    let mut host = ProcessHost::new(rt)?;
+    let file = own_path(&rt, "file")?;
+    fs::write(&rt, file.as_str(), "x")?;
+    for how in [Removal::Gone, Removal::Absent] {
+        assert_eq!(rt; host.remove_file(file.as_str()), Ok(how));
+    }
+    assert_eq!(rt; host.remove_file("/dev/null/a"), Ok(Removal::Absent));
     Ok(())
 }
 
@@ -118,14 +117,10 @@ fn folders_and_files_are_made_and_removed(rt: HostRuntime) -> Result<(), Fail> {
 fn variables_of_the_process_are_listed(rt: HostRuntime) -> Result<(), Fail> {
     let mut host = ProcessHost::new(rt)?;
     let vars = host.vars()?;
-    let mut found = 0;
     for pair in vars.as_slice() {
-        let value = env::var(&rt, pair.0.as_str()).ok();
-        if value.is_some_and(|value| value.as_str() == pair.1.as_str()) {
-            found += 1;
-        }
+        let value = env::var(&rt, pair.0.as_str())?;
+        assert_eq!(rt; value.as_str(), pair.1.as_str());
     }
-    assert_eq!(rt; found, vars.len());
-    assert!(rt; matches!(host.log(), [Event::Listed { .. }]));
+    assert_eq!(rt; host.log().len(), 1);
     Ok(())
 }
