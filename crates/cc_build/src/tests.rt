@@ -202,14 +202,14 @@ fn a_capture_replaces_the_variables(rt: HostRuntime) -> Result<(), Fail> {
 fn flags_of_the_environment_want_target_host_and_variable(rt: HostRuntime) -> Result<(), Fail> {
     let alloc = rt.alloc();
     let mut host = BenchHost::new(alloc)?;
-    let mut build = captured(alloc, "XF_t", "-a -b")?;
+    let mut build = captured(alloc, "XF_t_u", "-a -b")?;
     for subject in ["TARGET", "HOST"] {
         let error = build
             .try_flags_from_environment(&mut host, "XF")
             .expect_err(&rt, "refused");
         assert_eq!(rt; error.subject(), subject);
         if subject == "TARGET" {
-            build.target("t")?;
+            build.target("t-u")?;
         }
     }
     build.host("h")?;

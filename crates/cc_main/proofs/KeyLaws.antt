@@ -36,6 +36,10 @@ is_not : (key : List ℕ) (name : String) → (key ≡ codes name → ⊥) → i
 is_not key name differs =
     elim (is key name) as (λ b. (b ≡ true → key ≡ codes name) → b ≡ false) [ true ↦ λ f. absurd (differs (f refl)) | false ↦ λ f. refl ] ((bytes_eq-Decides key (codes name)).0)
 
+-- a key that is this one is such a key
+pub known_key : (such : List ℕ → Bool) (key is : List ℕ) → key ≡ is → such is ≡ true → true ≡ such key
+known_key such key is e h = sym (subst (λ k. such k ≡ true) (sym e) h)
+
 -- a key that is none of these is no such key
 pub no_text_key : (key : List ℕ) → (key ≡ codes "source_root" → ⊥) → (key ≡ codes "std" → ⊥) → (key ≡ codes "target" → ⊥) → (key ≡ codes "host" → ⊥) → (key ≡ codes "opt_level_str" → ⊥) → (key ≡ codes "out_dir" → ⊥) → (key ≡ codes "compiler" → ⊥) → (key ≡ codes "archiver" → ⊥) → (key ≡ codes "cpp_set_stdlib" → ⊥) → is_text_key key ≡ false
 unfolding is_text_key

@@ -98,8 +98,7 @@ fn set_item<W: World>(
     key: &str,
     value: &str,
 ) -> Mem<Option<WordCause>>
-    requires { is_text_key key.now ≡ false }
-    ensures { IfOk result (Sets build.old build.new key.now value.now) }
+    ensures { is_text_key key.now ≡ false → IfOk result (Sets build.old build.new key.now value.now) }
 {
     match key {
         "file" => set(build.file(value)),
@@ -251,9 +250,7 @@ fn set_other<W: World>(
     key: &str,
     value: &str,
 ) -> Mem<Option<WordCause>>
-    requires text { is_text_key key.now ≡ false }
-    requires item { is_item_key key.now ≡ false }
-    ensures { IfOk result (Sets build.old build.new key.now value.now) }
+    ensures { is_text_key key.now ≡ false → is_item_key key.now ≡ false → IfOk result (Sets build.old build.new key.now value.now) }
 {
     if is_choice_key(key) || is_switch_key(key) {
         return Ok(set_truth(build, key, value));

@@ -41,5 +41,5 @@ returns-in-cpp_set_stdlib g c =
     let done = rw c.unless_empty.ensures at c.cpp_set_stdlib.ensures.ok in
     set_done c.args.build.now c.cpp_set_stdlib.new.self c.args.key.now (codes "cpp_set_stdlib") c.args.value.now c.cpp_set_stdlib.result c.set-in-cpp_set_stdlib.result c.in-cpp_set_stdlib.is refl c.set-in-cpp_set_stdlib.ensures done
 
-pub set_item-requires-after_bounds : goal.set_item-requires-after_bounds
-set_item-requires-after_bounds g c = no_text_key c.args.key.now c.in_default.not-source_root c.in_default.not-std c.in_default.not-target c.in_default.not-host c.in_default.not-opt_level_str c.in_default.not-out_dir c.in_default.not-compiler c.in_default.not-archiver c.in_default.not-cpp_set_stdlib
+pub returns-in_default : goal.returns-in_default
+returns-in_default g c = c.set_item.ensures (no_text_key c.args.key.now c.in_default.not-source_root c.in_default.not-std c.in_default.not-target c.in_default.not-host c.in_default.not-opt_level_str c.in_default.not-out_dir c.in_default.not-compiler c.in_default.not-archiver c.in_default.not-cpp_set_stdlib)

@@ -1,20 +1,23 @@
-use Rattle.std.proofs.Common.{◌≡◌, ◌⊎◌, inl, inr, true, sym, ◌∙◌}
+use Rattle.std.proofs.Common.{codes, ◌≡◌, ◌⊎◌, inl, inr, true, sym, ◌∙◌}
 use Rattle.cc_main.specs.Read.{is_choice_key, is_switch_key}
-use Rattle.cc_main.proofs.KeyLaws.{set_level, truth_key, unknown_key}
+use Rattle.cc_main.proofs.KeyLaws.{set_level, sets_on, truth_key, unknown_key}
 use Rattle.cc_main.proofs.reading.set_other.Goals as goal
 use Rattle.cc_main.proofs.reading.set_other.Goals.{then-is_choice_key-via-then-is_choice_key, then-is_choice_key-via-else-is_choice_key+then-is_switch_key}
 
 pub returns-then-is_choice_key : goal.returns-then-is_choice_key
-returns-then-is_choice_key g c =
+returns-then-is_choice_key g c = λ text item.
     let truth : (is_choice_key c.args.key.now ≡ true) ⊎ (is_switch_key c.args.key.now ≡ true) =
     elim c.then-is_choice_key.branch [
       | then-is_choice_key-via-then-is_choice_key w ↦ inl (sym c.is_choice_key.ensures ∙ w.if-is_choice_key.true)
       | then-is_choice_key-via-else-is_choice_key+then-is_switch_key w ↦ inr (sym w.is_switch_key.ensures ∙ w.if-is_switch_key.true)
     ] in
-    (c.set_truth.ensures.cause ∙ sym (truth_key c.args.key.now c.args.value.now c.requires.text c.requires.item truth), c.set_truth.ensures.set)
+    (c.set_truth.ensures.cause ∙ sym (truth_key c.args.key.now c.args.value.now text item truth), c.set_truth.ensures.set)
 
 pub returns-in-opt_level : goal.returns-in-opt_level
-returns-in-opt_level g c = set_level c.args.build.now c.set_level.new.build c.args.key.now c.args.value.now c.set_level.result c.in-opt_level.is c.set_level.ensures
+returns-in-opt_level g c = λ _ _. set_level c.args.build.now c.set_level.new.build c.args.key.now c.args.value.now c.set_level.result c.in-opt_level.is c.set_level.ensures
 
 pub returns-in_default : goal.returns-in_default
-returns-in_default g c = unknown_key c.args.build.now c.args.key.now c.args.value.now c.requires.text c.requires.item (sym c.is_choice_key.ensures ∙ c.if-is_choice_key.false) (sym c.is_switch_key.ensures ∙ c.if-is_switch_key.false) c.in_default.not-opt_level c.in_default.not-env
+returns-in_default g c = λ text item. unknown_key c.args.build.now c.args.key.now c.args.value.now text item (sym c.is_choice_key.ensures ∙ c.if-is_choice_key.false) (sym c.is_switch_key.ensures ∙ c.if-is_switch_key.false) c.in_default.not-opt_level c.in_default.not-env
+
+pub returns-in-env : goal.returns-in-env
+returns-in-env g c = λ _ _. sets_on c.args.build.now c.set_variable.new.build c.args.key.now (codes "env") c.args.value.now c.set_variable.result c.in-env.is c.set_variable.ensures
