@@ -362,3 +362,21 @@ fn the_visual_studio_compiler_takes_its_own_words(rt: HostRuntime) -> Result<(),
     }
     Ok(())
 }
+
+#[test]
+fn an_arm_compiler_is_told_its_processor(rt: HostRuntime) -> Result<(), Fail> {
+    let alloc = rt.alloc();
+    let mut host = BenchHost::new(alloc)?;
+    let line =
+        "compile foo file=a.c target=armv7-unknown-linux-gnueabihf host=x86_64-unknown-linux-gnu opt_level=0 out_dir=/o compiler=cc archiver=ar";
+    let ended = drive_line(alloc, line, &mut host)?;
+    assert_eq!(rt; ended.status, 0);
+    let log = log_text(alloc, &host)?;
+    assert!(rt;
+        log.as_str().contains(
+            "\"cc\" \"-O0\" \"-ffunction-sections\" \"-fdata-sections\" \"-fPIC\" \"-march=armv7-a\" \"-mfpu=vfpv3-d16\" \"-mfloat-abi=hard\" \"-Wall\" \"-Wextra\" \"-o\" \"/o/",
+        )
+    );
+    assert!(rt; log.as_str().contains("-a.o\" \"-c\" \"a.c\"\n"));
+    Ok(())
+}
