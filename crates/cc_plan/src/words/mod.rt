@@ -5,8 +5,6 @@ mod defaults;
 mod family;
 mod gnu;
 mod settings;
-#[cfg(test)]
-mod tests;
 mod texts;
 mod tool;
 mod visual_studio;
