@@ -2,6 +2,7 @@ use crate::{Build, Error, ErrorKind};
 use cc_host::{Bench, BenchHost, Event, Host, HostCall, Role, Script, Status};
 use cc_text::{Mem, Text, Vars};
 use std::alloc::Global;
+use std::process::Abort;
 use std::test::Fail;
 
 // What goes wrong in a run.
@@ -182,61 +183,129 @@ fn captured(alloc: Global, name: &str, value: &str) -> Result<Build<Bench>, Erro
     Ok(build)
 }
 
-#[test]
-fn a_capture_replaces_the_variables(rt: HostRuntime) -> Result<(), Fail> {
-    let alloc = rt.alloc();
-    let mut build = captured(alloc, "A", "é")?;
+// A variable of its own counts before the one that was captured.
+fn check_own_variable(rt: &impl Abort, build: &mut Build<Bench>) -> Result<(), Fail> {
     build.env("A", "b")?;
     assert_eq!(rt; build.environment().inherited().get("A"), Some("é"));
     assert_eq!(rt; build.environment().overridable("A"), Some("b"));
-    let mut host = BenchHost::new(alloc)?;
+    Ok(())
+}
+
+// A listing that faults replaces nothing.
+fn check_refused_capture(
+    rt: &impl Abort,
+    build: &mut Build<Bench>,
+    host: &mut BenchHost,
+) -> Result<(), Fail> {
     host.fail(HostCall::Vars, 1)?;
-    assert!(rt; build.capture(&mut host).is_err());
+    assert!(rt; build.capture(host).is_err());
     assert_eq!(rt; build.environment().inherited().get("A"), Some("é"));
-    build.capture(&mut host)?;
+    Ok(())
+}
+
+// A capture replaces all variables.
+fn check_capture(
+    rt: &impl Abort,
+    build: &mut Build<Bench>,
+    host: &mut BenchHost,
+) -> Result<(), Fail> {
+    build.capture(host)?;
     assert_eq!(rt; build.environment().inherited().get("A"), None);
     Ok(())
 }
 
 #[test]
-fn flags_of_the_environment_want_target_host_and_variable(rt: HostRuntime) -> Result<(), Fail> {
-    let alloc = rt.alloc();
-    let mut host = BenchHost::new(alloc)?;
-    let mut build = captured(alloc, "XF_t_u", "-a -b")?;
-    for subject in ["TARGET", "HOST"] {
-        let error = build
-            .try_flags_from_environment(&mut host, "XF")
-            .expect_err(&rt, "refused");
-        assert_eq!(rt; error.subject(), subject);
-        if subject == "TARGET" {
-            build.target("t-u")?;
-        }
-    }
-    build.host("h")?;
-    build.try_flags_from_environment(&mut host, "XF")?;
-    assert_eq!(rt; build.settings().flags.len(), 2);
+fn a_capture_replaces_the_variables(rt: HostRuntime) -> Result<(), Fail> {
+    let mut host = BenchHost::new(rt.alloc())?;
+    let mut build = captured(rt.alloc(), "A", "é")?;
+    check_own_variable(&rt, &mut build)?;
+    check_refused_capture(&rt, &mut build, &mut host)?;
+    check_capture(&rt, &mut build, &mut host)
+}
+
+// The flags of a variable are refused for want of what the subject names.
+fn check_wanted(
+    rt: &impl Abort,
+    build: &mut Build<Bench>,
+    host: &mut BenchHost,
+    subject: &str,
+) -> Result<(), Fail> {
     let error = build
-        .try_flags_from_environment(&mut host, "YF")
-        .expect_err(&rt, "refused");
+        .try_flags_from_environment(host, "XF")
+        .expect_err(rt, "refused");
+    assert_eq!(rt; error.subject(), subject);
+    Ok(())
+}
+
+// The flags of a variable are added.
+fn check_added(
+    rt: &impl Abort,
+    build: &mut Build<Bench>,
+    host: &mut BenchHost,
+) -> Result<(), Fail> {
+    build.try_flags_from_environment(host, "XF")?;
+    assert_eq!(rt; build.settings().flags.len(), 2);
+    Ok(())
+}
+
+// A variable that is set nowhere adds none.
+fn check_unset(
+    rt: &impl Abort,
+    build: &mut Build<Bench>,
+    host: &mut BenchHost,
+) -> Result<(), Fail> {
+    let error = build
+        .try_flags_from_environment(host, "YF")
+        .expect_err(rt, "refused");
     assert_eq!(rt; error.message(), "could not find environment variable YF");
     assert_eq!(rt; build.settings().flags.len(), 2);
     Ok(())
 }
 
+// Target and host are wanted, in this order, and then the variable.
+fn check_flags(
+    rt: &impl Abort,
+    build: &mut Build<Bench>,
+    host: &mut BenchHost,
+) -> Result<(), Fail> {
+    check_wanted(rt, build, host, "TARGET")?;
+    build.target("t-u")?;
+    check_wanted(rt, build, host, "HOST")?;
+    build.host("h")?;
+    check_added(rt, build, host)?;
+    check_unset(rt, build, host)
+}
+
 #[test]
-fn removed_flags_are_those_that_are_always_given(rt: HostRuntime) -> Result<(), Fail> {
-    let alloc = rt.alloc();
-    let mut build: Build<Bench> = Build::new(alloc)?;
-    for flag in ["-a", "-b", "-a"] {
-        build.flag(flag)?;
-    }
-    build.remove_flag("-a");
+fn flags_of_the_environment_want_target_host_and_variable(rt: HostRuntime) -> Result<(), Fail> {
+    let mut host = BenchHost::new(rt.alloc())?;
+    let mut build = captured(rt.alloc(), "XF_t_u", "-a -b")?;
+    check_flags(&rt, &mut build, &mut host)
+}
+
+fn add_flags(build: &mut Build<Bench>) -> Result<(), Error> {
+    build.flag("-a")?;
+    build.flag("-b")?;
+    build.flag("-a")?;
+    Ok(())
+}
+
+// A clone has the flags that are left, and none of the sources that come later.
+fn check_clone(rt: &impl Abort, build: &mut Build<Bench>) -> Result<(), Fail> {
     let copy = build.try_clone()?;
     assert_eq!(rt; copy.settings().flags.len(), 1);
     build.file("a.c")?;
     assert_eq!(rt; build.get_files().len(), 1);
     assert_eq!(rt; copy.get_files().len(), 0);
     Ok(())
+}
+
+#[test]
+fn removed_flags_are_those_that_are_always_given(rt: HostRuntime) -> Result<(), Fail> {
+    let mut build: Build<Bench> = Build::new(rt.alloc())?;
+    add_flags(&mut build)?;
+    build.remove_flag("-a");
+    check_clone(&rt, &mut build)
 }
 
 #[test]
