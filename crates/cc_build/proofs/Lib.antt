@@ -1,6 +1,9 @@
+pub mod Asking
 pub mod BuiltLaws
 pub mod Lines
+pub mod Looks
 pub mod OrderLaws
 pub mod Outcomes
 pub mod Splits
 pub mod Stages
+pub mod Telling

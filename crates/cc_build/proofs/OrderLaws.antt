@@ -5,12 +5,13 @@ use Rattle.std.specs.List.{list_any}
 use Rattle.cc_host.specs.Part.{Step, runs, done, left, IsPartly}
 use Rattle.cc_host.specs.Part.Step.{Makes}
 use Rattle.cc_host.specs.declared.event.Event.{Event}
-use Rattle.cc_host.specs.declared.event.Event.TheVariants.{Ran, Missing, Fault, Made, Removed, Printed, Listed}
+use Rattle.cc_host.specs.declared.event.Event.TheVariants.{Ran, Missing}
 use Rattle.cc_host.specs.declared.event.Role.TheVariants.{Compile, Archive, Index, Expand}
 use Rattle.cc_host.specs.declared.event.Scope.TheVariants.{Build}
 use Rattle.cc_host.proofs.Order.{IsOf, is_archive, archives_after, compiles_alone}
 use Rattle.cc_host.proofs.Parts.{done_then, partly_more, partly_whole}
 use Rattle.cc_env.specs.Env.{EnvSeen}
+use Rattle.cc_host.specs.Question.{Look}
 use Rattle.cc_plan.specs.declared.settings.BuildConfig.{BuildConfig}
 use Rattle.cc_host.specs.declared.event.LineKind.{LineKind}
 use Rattle.cc_host.specs.declared.event.LineKind.TheVariants.{Warning}
@@ -31,11 +32,7 @@ of_archive (Missing Archive cmd) is = refl
 of_archive (Missing Compile cmd) is = absurd (cc)
 of_archive (Missing Index cmd) is = absurd (cc)
 of_archive (Missing Expand cmd) is = absurd (cc)
-of_archive (Made scope path) is = absurd (cc)
-of_archive (Removed path how) is = absurd (cc)
-of_archive (Printed kind bytes) is = absurd (cc)
-of_archive (Fault call why) is = absurd (cc)
-of_archive (Listed vars) is = absurd (cc)
+of_archive event is = absurd (cc)
 
 or_rest : (t more whole : Bool) → (t || more) ≡ false → (more ≡ false → whole ≡ false) → (t || whole) ≡ false
 or_rest true more whole e rest = absurd (cc)
@@ -74,9 +71,9 @@ unfolding prints
 no_line_archives kind [] = refl
 no_line_archives kind (line ∷ lines) = no_line_archives kind lines
 
-no_compile_archives : (set : BuildConfig) (env : EnvSeen) → list_any is_archive (compile_steps set env) ≡ false
+no_compile_archives : (set : BuildConfig) (env : EnvSeen) (look : Look) → list_any is_archive (compile_steps set env look) ≡ false
 unfolding compile_steps
-no_compile_archives set env = none_both (prints Warning (warning_lines set env)) (runs Compile (compiles_of set env)) (no_line_archives Warning (warning_lines set env)) (compiles_alone (compiles_of set env))
+no_compile_archives set env look = none_both (prints Warning (warning_lines set env look)) (runs Compile (compiles_of set env look)) (no_line_archives Warning (warning_lines set env look)) (compiles_alone (compiles_of set env look))
 
 -- these steps begin with those of the folder and the sources, or none of them archives
 abbrev pub IsOrdered : (folder compile steps : List Step) → Type 0
@@ -88,10 +85,10 @@ by_checks false true late folder compile more none = inr (none_both folder [] no
 by_checks false false true folder compile more none = inr (none_both folder [] none refl)
 by_checks false false false folder compile more none = inl (more, sym (append_assoc folder compile more))
 
-pub planned : (set : BuildConfig) (env : EnvSeen) (output : List ℕ) → IsOrdered (folder_steps set env) (compile_steps set env) (planned_steps set env output)
+pub planned : (set : BuildConfig) (env : EnvSeen) (look : Look) (output : List ℕ) → IsOrdered (folder_steps set env) (compile_steps set env look) (planned_steps set env look output)
 unfolding planned_steps late_steps
-planned set env output =
-    by_checks (is_some (early_refusal set env output)) (is_disabled env) (is_some (late_refusal set env)) (folder_steps set env) (compile_steps set env)
+planned set env look output =
+    by_checks (is_some (early_refusal set env output)) (is_disabled env) (is_some (late_refusal set env look)) (folder_steps set env) (compile_steps set env look)
     (removal_steps set env output ++ (archive_steps set env output ++ (index_steps set env output ++ link_steps set env output)))
     (no_folder_archives set env)
 
@@ -107,14 +104,14 @@ archives_behind first steps part none p (inr alone) before after event is archiv
     absurd (no_archive steps part before after event p alone is (of_archive event archives))
 
 -- neither the folder nor the sources archive
-pub no_source_archives : (set : BuildConfig) (env : EnvSeen) → list_any is_archive (folder_steps set env ++ compile_steps set env) ≡ false
-no_source_archives set env = none_both (folder_steps set env) (compile_steps set env) (no_folder_archives set env) (no_compile_archives set env)
+pub no_source_archives : (set : BuildConfig) (env : EnvSeen) (look : Look) → list_any is_archive (folder_steps set env ++ compile_steps set env look) ≡ false
+no_source_archives set env look = none_both (folder_steps set env) (compile_steps set env look) (no_folder_archives set env) (no_compile_archives set env look)
 
-archives_last : (set : BuildConfig) (env : EnvSeen) (steps : List Step) (part : List Event) → IsPartly steps part → IsOrdered (folder_steps set env) (compile_steps set env) steps → ArchivesLast set env part
-archives_last set env steps part p k = λ before after event is archives.
-    archives_behind (folder_steps set env ++ compile_steps set env) steps part (no_source_archives set env) p k before after event is archives
+archives_last : (set : BuildConfig) (env : EnvSeen) (look : Look) (steps : List Step) (part : List Event) → IsPartly steps part → IsOrdered (folder_steps set env) (compile_steps set env look) steps → ArchivesLast set env look part
+archives_last set env look steps part p k = λ before after event is archives.
+    archives_behind (folder_steps set env ++ compile_steps set env look) steps part (no_source_archives set env look) p k before after event is archives
 
 -- a compile run archives behind the folder and all sources
-pub ordered : {T : Type 0} (set : BuildConfig) (env : EnvSeen) (output : List ℕ) (part : List Event) (r : Result T ErrorSeen) → Outcome (refusal_error set env output) (planned_steps set env output) part r → ArchivesLast set env part
-ordered set env output part r o =
-    archives_last set env (planned_steps set env output) part (begun (refusal_error set env output) (planned_steps set env output) part r o) (planned set env output)
+pub ordered : {T : Type 0} (set : BuildConfig) (env : EnvSeen) (look : Look) (output : List ℕ) (part : List Event) (r : Result T ErrorSeen) → Outcome (refusal_error set env look output) (planned_steps set env look output) part r → ArchivesLast set env look part
+ordered set env look output part r o =
+    archives_last set env look (planned_steps set env look output) part (begun (refusal_error set env look output) (planned_steps set env look output) part r o) (planned set env look output)

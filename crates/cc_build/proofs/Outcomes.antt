@@ -1,11 +1,15 @@
 -- How the outcomes of one stage of a run after another make up that of the run.
-use Rattle.std.proofs.Common.{MatchResult, IfOk, ℕ, ◌+◌, ◌<◌, length, take, drop, get_or, ◌≡◌, ◌⊎◌, inl, inr, List, [], ◌∷◌, ◌++◌, Option, Some, None, Result, Ok, Err, sym, ◌∙◌, ap, subst}
+use Rattle.std.proofs.Common.{MatchResult, IfOk, ℕ, ◌+◌, ◌<◌, length, take, drop, get_or, ◌≡◌, ◌⊎◌, inl, inr, List, [], ◌∷◌, ◌++◌, Option, Some, None, Result, Ok, Err, refl, sym, ◌∙◌, ap, subst}
 use Rattle.cc_host.specs.Command.{CommandSeen}
 use Rattle.cc_host.specs.declared.event.Role.{Role}
 use Rattle.cc_host.specs.Part.Step.{Runs}
 use Rattle.cc_host.specs.Part.{Step, runs, since, stops, left, IsPartly, IsWhole, Refuses, stop_of}
 use Rattle.cc_host.proofs.Parts.{since_since, partly_then, partly_more, partly_none, partly_stop, left_then, left_more, left_stop, stops_then, stops_stop, whole_then, loop_partly, loop_left, loop_stops, loop_none}
 use Rattle.cc_host.specs.declared.event.Event.{Event}
+use Rattle.cc_host.specs.declared.event.Event.TheVariants.{Fault}
+use Rattle.cc_host.specs.declared.event.HostCall.{HostCall}
+use Rattle.cc_host.specs.declared.event.HostCall.TheVariants.{Output}
+use Rattle.cc_host.specs.declared.event.Why.{Why}
 use Rattle.cc_build.specs.Error.{ErrorSeen, no_memory}
 use Rattle.cc_build.specs.Stop.{stop_error, stopped_by}
 use Rattle.cc_build.specs.Outcome.{IsCausedBy, IsRefused, Outcome}
@@ -95,3 +99,7 @@ pub refused_from : (refusal : Option ErrorSeen) (old mid new : List Event) (firs
 refused_from refusal old mid new first second e f h w o =
     subst (λ (part : List Event). IsRefused refusal (first ++ second) part e) (sym (since_since old mid new f h))
     (partly_then first second (since old mid) (since mid new) w o.0, caused_then refusal first second (since old mid) (since mid new) e w o.1)
+
+-- a fault of a command that was to be run ends the run
+pub output_stops : (call : HostCall) (why : Why) → call ≡ Output → stop_of (Fault call why) ≡ Fault call why ∷ []
+output_stops call why is = subst (λ (c : HostCall). stop_of (Fault c why) ≡ Fault c why ∷ []) (sym is) refl

@@ -1,14 +1,15 @@
 -- How the checks of settings and the stages of a plan make up a compile run.
-use Rattle.std.proofs.Common.{◌≡◌, ◌⊎◌, inl, inr, ℕ, List, [], ◌∷◌, ◌++◌, Option, Some, None, Bool, true, false, Result, refl, sym, ◌∙◌, ap, subst}
+use Rattle.std.proofs.Common.{◌≡◌, ◌⊎◌, inl, inr, ℕ, List, [], ◌∷◌, ◌++◌, Option, Some, None, true, false, Result, refl, sym, ◌∙◌, ap, subst}
 use Rattle.std.specs.Option.{option_map}
 use Rattle.cc_host.specs.Command.{CommandSeen}
-use Rattle.cc_host.specs.Part.{Step, runs, IsPartly}
+use Rattle.cc_host.specs.Part.{Step, runs, IsPartly, IsWhole}
 use Rattle.cc_host.specs.Part.Step.{Removes}
 use Rattle.cc_host.specs.declared.event.Event.{Event}
 use Rattle.cc_host.specs.declared.event.LineKind.TheVariants.{Link, Warning}
 use Rattle.cc_host.specs.declared.event.Role.TheVariants.{Archive, Compile, Index}
-use Rattle.cc_host.proofs.Parts.{partly_none}
+use Rattle.cc_host.proofs.Parts.{partly_none, partly_more, partly_whole}
 use Rattle.cc_env.specs.Env.{EnvSeen}
+use Rattle.cc_host.specs.Question.{Look}
 use Rattle.cc_plan.specs.declared.settings.BuildConfig.{BuildConfig}
 use Rattle.cc_plan.specs.declared.error.PlanError.{PlanError}
 use Rattle.cc_plan.specs.declared.error.PlanError.TheVariants.{NoMemory as WantsMemory}
@@ -32,41 +33,41 @@ refused_none refusal steps part e none (inl memory) = (subst (λ (p : List Event
 refused_none refusal steps part e none (inr refused) = (subst (λ (p : List Event). IsPartly steps p) (sym none) (partly_none steps), inr (inl refused))
 
 -- an error of the first checks is that of all
-pub early_first : (set : BuildConfig) (env : EnvSeen) (output : List ℕ) (e : ErrorSeen) → (e ≡ no_memory) ⊎ (early_error set env output ≡ Some e) → (e ≡ no_memory) ⊎ (refusal_error set env output ≡ Some e)
-early_first set env output e (inl memory) = inl memory
-early_first set env output e (inr refused) = inr (ap (λ r. first_of r (late_error set env output)) refused)
+pub early_first : (set : BuildConfig) (env : EnvSeen) (look : Look) (output : List ℕ) (e : ErrorSeen) → (e ≡ no_memory) ⊎ (early_error set env output ≡ Some e) → (e ≡ no_memory) ⊎ (refusal_error set env look output ≡ Some e)
+early_first set env look output e (inl memory) = inl memory
+early_first set env look output e (inr refused) = inr (ap (λ r. first_of r (late_error set env look output)) refused)
 
 -- where the first checks pass, the later ones decide
-pub late_decides : (set : BuildConfig) (env : EnvSeen) (output : List ℕ) → early_refusal set env output ≡ None → late_error set env output ≡ refusal_error set env output
-late_decides set env output passed = ap (λ r. first_of (option_map (plan_error set env output) r) (late_error set env output)) (sym passed)
+pub late_decides : (set : BuildConfig) (env : EnvSeen) (look : Look) (output : List ℕ) → early_refusal set env output ≡ None → late_error set env look output ≡ refusal_error set env look output
+late_decides set env look output passed = ap (λ r. first_of (option_map (plan_error set env output) r) (late_error set env look output)) (sym passed)
 
 -- where the first checks pass, the folder and the rest are planned
-pub early_passed : (set : BuildConfig) (env : EnvSeen) (output : List ℕ) → early_refusal set env output ≡ None → folder_steps set env ++ late_steps set env output ≡ planned_steps set env output
+pub early_passed : (set : BuildConfig) (env : EnvSeen) (look : Look) (output : List ℕ) → early_refusal set env output ≡ None → folder_steps set env ++ late_steps set env look output ≡ planned_steps set env look output
 unfolding planned_steps
-early_passed set env output passed = rw passed refl
+early_passed set env look output passed = rw passed refl
 
 -- where the later checks pass too, the whole run is planned
-pub late_passed : (set : BuildConfig) (env : EnvSeen) (output : List ℕ) → is_disabled env ≡ false → late_refusal set env ≡ None → run_steps set env output ≡ late_steps set env output
+pub late_passed : (set : BuildConfig) (env : EnvSeen) (look : Look) (output : List ℕ) → is_disabled env ≡ false → late_refusal set env look ≡ None → run_steps set env look output ≡ late_steps set env look output
 unfolding late_steps
-late_passed set env output enabled passed = rw (enabled, passed) refl
+late_passed set env look output enabled passed = rw (enabled, passed) refl
 
-pub no_late_error : (set : BuildConfig) (env : EnvSeen) (output : List ℕ) → is_disabled env ≡ false → late_refusal set env ≡ None → late_error set env output ≡ None
-no_late_error set env output enabled passed = rw (enabled, passed) refl
+pub no_late_error : (set : BuildConfig) (env : EnvSeen) (look : Look) (output : List ℕ) → is_disabled env ≡ false → late_refusal set env look ≡ None → late_error set env look output ≡ None
+no_late_error set env look output enabled passed = rw (enabled, passed) refl
 
 -- where commands may run, an error of the later checks is that of the refused plan
-pub late_refused : (set : BuildConfig) (env : EnvSeen) (output : List ℕ) (e : ErrorSeen) → is_disabled env ≡ false → (e ≡ no_memory) ⊎ (option_map (plan_error set env output) (late_refusal set env) ≡ Some e) → (e ≡ no_memory) ⊎ (late_error set env output ≡ Some e)
-late_refused set env output e enabled (inl memory) = inl memory
-late_refused set env output e enabled (inr refused) = inr (rw enabled refused)
+pub late_refused : (set : BuildConfig) (env : EnvSeen) (look : Look) (output : List ℕ) (e : ErrorSeen) → is_disabled env ≡ false → (e ≡ no_memory) ⊎ (option_map (plan_error set env output) (late_refusal set env look) ≡ Some e) → (e ≡ no_memory) ⊎ (late_error set env look output ≡ Some e)
+late_refused set env look output e enabled (inl memory) = inl memory
+late_refused set env look output e enabled (inr refused) = inr (rw enabled refused)
 
 -- where no command may run, that is the error
-pub late_disabled : (set : BuildConfig) (env : EnvSeen) (output : List ℕ) (e : ErrorSeen) → is_disabled env ≡ true → (e ≡ no_memory) ⊎ (e ≡ disabled_error) → (e ≡ no_memory) ⊎ (late_error set env output ≡ Some e)
-late_disabled set env output e disabled (inl memory) = inl memory
-late_disabled set env output e disabled (inr is) = inr (rw disabled (ap Some (sym is)))
+pub late_disabled : (set : BuildConfig) (env : EnvSeen) (look : Look) (output : List ℕ) (e : ErrorSeen) → is_disabled env ≡ true → (e ≡ no_memory) ⊎ (e ≡ disabled_error) → (e ≡ no_memory) ⊎ (late_error set env look output ≡ Some e)
+late_disabled set env look output e disabled (inl memory) = inl memory
+late_disabled set env look output e disabled (inr is) = inr (rw disabled (ap Some (sym is)))
 
 -- the stages of a plan are the planned steps
-pub stages : (set : BuildConfig) (env : EnvSeen) (output : List ℕ) (warnings : List (List ℕ)) (compiles archives indexes : List CommandSeen) (lines : List (List ℕ)) (library : List ℕ) → warnings ≡ warning_lines set env → compiles ≡ compiles_of set env → archives ≡ archives_of set env output → indexes ≡ indexes_of set env output → lines ≡ link_lines set env output → library ≡ library_of set env output → (prints Warning warnings ++ runs Compile compiles) ++ ((Removes library ∷ []) ++ (runs Archive archives ++ (runs Index indexes ++ prints Link lines))) ≡ run_steps set env output
+pub stages : (set : BuildConfig) (env : EnvSeen) (look : Look) (output : List ℕ) (warnings : List (List ℕ)) (compiles archives indexes : List CommandSeen) (lines : List (List ℕ)) (library : List ℕ) → warnings ≡ warning_lines set env look → compiles ≡ compiles_of set env look → archives ≡ archives_of set env output → indexes ≡ indexes_of set env output → lines ≡ link_lines set env output → library ≡ library_of set env output → (prints Warning warnings ++ runs Compile compiles) ++ ((Removes library ∷ []) ++ (runs Archive archives ++ (runs Index indexes ++ prints Link lines))) ≡ run_steps set env look output
 unfolding compile_steps removal_steps archive_steps index_steps link_steps
-stages set env output warnings compiles archives indexes lines library e0 e1 e2 e3 e4 e5 = rw (e0, e1, e2, e3, e4, e5) refl
+stages set env look output warnings compiles archives indexes lines library e0 e1 e2 e3 e4 e5 = rw (e0, e1, e2, e3, e4, e5) refl
 
 -- an outcome by other names
 pub renamed : {T : Type 0} (refusal refusal' : Option ErrorSeen) (steps steps' : List Step) (part : List Event) (r : Result T ErrorSeen) → refusal ≡ refusal' → steps ≡ steps' → Outcome refusal steps part r → Outcome refusal' steps' part r
@@ -75,3 +76,8 @@ renamed refusal refusal' steps steps' part r e f o =
 
 pub refused_renamed : (refusal : Option ErrorSeen) (steps steps' : List Step) (part : List Event) (e : ErrorSeen) → steps ≡ steps' → IsRefused refusal steps part e → IsRefused refusal steps' part e
 refused_renamed refusal steps steps' part e f o = subst (λ (s : List Step). IsRefused refusal s part e) f o
+
+-- only questions were asked, and the error has its cause
+pub refused_quiet : (refusal : Option ErrorSeen) (steps : List Step) (part : List Event) (e : ErrorSeen) → IsWhole [] part → (e ≡ no_memory) ⊎ (refusal ≡ Some e) → IsRefused refusal steps part e
+refused_quiet refusal steps part e quiet (inl memory) = (partly_more [] steps part (partly_whole [] part quiet), inl memory)
+refused_quiet refusal steps part e quiet (inr refused) = (partly_more [] steps part (partly_whole [] part quiet), inr (inl refused))

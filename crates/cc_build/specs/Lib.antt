@@ -1,6 +1,7 @@
 pub mod Build
 pub mod Built
 pub mod Captured
+pub mod Compiler
 pub mod Error
 pub mod ErrorFields
 pub mod ErrorText
@@ -8,5 +9,6 @@ pub mod Failed
 pub mod Flags
 pub mod Order
 pub mod Outcome
+pub mod Questions
 pub mod Refusal
 pub mod Stop

@@ -2,15 +2,17 @@
 use Rattle.std.specs.Prelude.{ℕ, List, [], ◌++◌, Option, Some, unwrap_or, slice_get, codes, if◌then◌else◌}
 use Rattle.std.specs.Option.{option_map}
 use Rattle.cc_env.specs.Env.{EnvSeen}
+use Rattle.cc_host.specs.Question.{Look}
 use Rattle.cc_plan.specs.declared.error.ArgumentCause.{ArgumentCause}
 use Rattle.cc_plan.specs.declared.error.ArgumentCause.TheVariants.{Output, OutDir, NoFileName, SameObject}
 use Rattle.cc_plan.specs.declared.error.PlanError.{PlanError}
-use Rattle.cc_plan.specs.declared.error.PlanError.TheVariants.{Argument, NotSet, UnknownTarget, QnxArch, NoMemory as WantsMemory}
+use Rattle.cc_plan.specs.declared.error.PlanError.TheVariants.{Argument, NotSet, UnknownTarget, QnxArch, Host, NoMemory as WantsMemory}
 use Rattle.cc_plan.specs.declared.settings.BuildConfig.{BuildConfig}
 use Rattle.cc_plan.specs.Given.{is_disabled}
 use Rattle.cc_plan.specs.Refusal.{first_of, object_in, early_refusal, late_refusal}
 use Rattle.cc_build.specs.declared.error.ErrorKind.TheVariants.{InvalidArgument, InvalidTarget, EnvVarNotFound, Disabled, UnknownTarget as IsUnknown}
 use Rattle.cc_build.specs.Error.{ErrorSeen, no_memory}
+use Rattle.cc_build.specs.Stop.{fault_error}
 
 abbrev pub source_at : BuildConfig → ℕ → List ℕ
 source_at set place = unwrap_or (slice_get set.files place) []
@@ -47,6 +49,7 @@ plan_error set env output (Argument cause) = argument_error set env output cause
 plan_error set env output (NotSet name) = unset_error name
 plan_error set env output (UnknownTarget target) = unknown_error target
 plan_error set env output (QnxArch arch) = qnx_error arch
+plan_error set env output (Host call why) = fault_error call why []
 plan_error set env output WantsMemory = no_memory
 
 -- the error of settings that are refused before the folder of the objects is made
@@ -54,9 +57,9 @@ abbrev pub early_error : BuildConfig → EnvSeen → List ℕ → Option ErrorSe
 early_error set env output = option_map (plan_error set env output) (early_refusal set env output)
 
 -- the same, behind it
-abbrev pub late_error : BuildConfig → EnvSeen → List ℕ → Option ErrorSeen
-late_error set env output = if is_disabled env then Some disabled_error else option_map (plan_error set env output) (late_refusal set env)
+abbrev pub late_error : BuildConfig → EnvSeen → Look → List ℕ → Option ErrorSeen
+late_error set env look output = if is_disabled env then Some disabled_error else option_map (plan_error set env output) (late_refusal set env look)
 
 -- the error of settings that are refused: that of the first part which doesn't hold
-abbrev pub refusal_error : BuildConfig → EnvSeen → List ℕ → Option ErrorSeen
-refusal_error set env output = first_of (early_error set env output) (late_error set env output)
+abbrev pub refusal_error : BuildConfig → EnvSeen → Look → List ℕ → Option ErrorSeen
+refusal_error set env look output = first_of (early_error set env output) (late_error set env look output)

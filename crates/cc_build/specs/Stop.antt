@@ -9,7 +9,7 @@ use Rattle.cc_host.specs.Part.Step.{Runs, Makes, Removes, Prints, Lists}
 use Rattle.cc_host.specs.declared.event.Event.{Event}
 use Rattle.cc_host.specs.declared.event.Event.TheVariants.{Ran, Missing, Fault}
 use Rattle.cc_host.specs.declared.event.HostCall.{HostCall}
-use Rattle.cc_host.specs.declared.event.HostCall.TheVariants.{Output, MakeDir, Remove, Print, Vars}
+use Rattle.cc_host.specs.declared.event.HostCall.TheVariants.{Start, Turn, Output, Probe, MakeDir, CreateProbe, Remove, Print, Vars}
 use Rattle.cc_host.specs.declared.event.HostError.{HostError}
 use Rattle.cc_host.specs.declared.event.HostError.TheVariants.{Fault as Faulted, NoMemory as WantsMemory}
 use Rattle.cc_host.specs.declared.event.Status.{Status}
@@ -20,8 +20,12 @@ use Rattle.cc_build.specs.declared.error.ErrorKind.TheVariants.{IOError, ToolExe
 use Rattle.cc_build.specs.Error.{ErrorSeen, no_memory}
 
 abbrev pub call_name : HostCall → List ℕ
+call_name Start = codes "start"
+call_name Turn = codes "turn"
 call_name Output = codes "output"
+call_name Probe = codes "probe"
 call_name (MakeDir scope) = codes "make dir"
+call_name CreateProbe = codes "create probe"
 call_name Remove = codes "remove"
 call_name Print = codes "print"
 call_name Vars = codes "vars"

@@ -2,19 +2,25 @@
 ghost use Rattle.std.specs.Prelude.{◌≡◌, ◌++◌, [], ◌∷◌, None, IfOk, IfErr, OnOk, OnErr, ◌⊎◌, Some, unwrap_or};
 ghost use Rattle.cc_env.specs.Snapshot.{snapshot_of};
 ghost use Rattle.cc_host.specs.Part.{since};
+ghost use Rattle.cc_host.specs.Question.{answers, Holds};
 ghost use Rattle.cc_host.specs.Part.Step.{Lists};
 ghost use Rattle.cc_plan.specs.Given.{variable_flags};
 ghost use Rattle.cc_plan.specs.Plan.{planned_steps};
 ghost use Rattle.cc_plan.specs.Settings.{unset_settings};
+ghost use Rattle.cc_plan.specs.Given.{probe_folder};
+ghost use Rattle.cc_plan.specs.Tool.{tool_of};
 ghost use Rattle.cc_build.specs.Built.{Built};
 ghost use Rattle.cc_build.specs.Captured.{Captures};
 ghost use Rattle.cc_build.specs.Error.{no_memory};
 ghost use Rattle.cc_build.specs.Flags.{always, flags_error};
 ghost use Rattle.cc_build.specs.Order.{ArchivesLast};
 ghost use Rattle.cc_build.specs.Outcome.{Outcome};
+ghost use Rattle.cc_tool.specs.Asked.{question_events, Asked};
 ghost use Rattle.cc_build.specs.Refusal.{refusal_error};
+ghost use Rattle.cc_build.specs.Compiler.{tool_error, tool_steps};
 
 use crate::Error;
+use crate::compiler::compiler;
 use crate::compiling::compile;
 use crate::environment::flags_of_variable;
 use crate::lists::always;
@@ -23,16 +29,18 @@ use cc_env::{BuildEnv, EnvSnapshot};
 use cc_host::{Host, World};
 use cc_plan::BuildConfig;
 use cc_text::{Vars, Words};
+use cc_tool::{Caches, Tool};
 use std::alloc::Global;
-use std::marker::{Model, PhantomData};
+use std::marker::Model;
+use std::sync::Wait;
 
-/// The settings of a compile run with its environment, in the world `W`. Contracts see both.
+/// The settings of a compile run with its environment, and the caches of answers in the world `W`. Contracts see settings and environment.
 #[derive(Drop)]
 pub struct Build<W: World> {
     pub(crate) alloc: Global,
     pub(crate) config: BuildConfig,
     pub(crate) env: BuildEnv,
-    world: PhantomData<W>,
+    caches: Caches<W>,
 }
 
 impl<W: World> Model for Build<W> {
@@ -53,11 +61,11 @@ impl<W: World> Build<W> {
             alloc,
             config: BuildConfig::new(alloc),
             env: BuildEnv::empty(alloc),
-            world: PhantomData,
+            caches: Caches::new(alloc)?,
         })
     }
 
-    /// A second build, equal to this one.
+    /// A second build, equal to this one. The two share their caches.
     pub fn try_clone(&self) -> Result<Build<W>, Error>
         ensures equal { IfOk result (λ b. b ≡ self.now) }
         ensures refused { IfErr result (λ e. e ≡ no_memory) }
@@ -66,7 +74,7 @@ impl<W: World> Build<W> {
             alloc: self.alloc,
             config: self.config.try_clone()?,
             env: self.env.try_clone()?,
-            world: PhantomData,
+            caches: self.caches.share()?,
         })
     }
 
@@ -106,6 +114,7 @@ impl<W: World> Build<W> {
     /// Takes the variables of the host as the environment that the build inherits. Refused, the build stays as it was.
     pub fn capture<H: Host<W>>(&mut self, host: &mut H) -> Result<(), Error>
         ensures extends { H.log host.new ≡ H.log host.old ++ since (H.log host.old) (H.log host.new) }
+        ensures asks_none { question_events (since (H.log host.old) (H.log host.new)) ≡ [] }
         ensures captured { OnOk result (Captures self.old self.new (since (H.log host.old) (H.log host.new))) }
         ensures err { OnErr result (self.new ≡ self.old) }
         ensures outcome { Outcome None (Lists ∷ []) (since (H.log host.old) (H.log host.new)) result }
@@ -136,18 +145,46 @@ impl<W: World> Build<W> {
         Ok(())
     }
 
+    /// The compiler of this build: the program with its wrapper, the words that each source is compiled with, and its variables. Prints the
+    /// warnings of its plan.
+    ///
+    /// Refused where the optimisation level, the target or the host is set nowhere, the target isn't known, a word of the target is refused,
+    /// or a warning couldn't be printed.
+    pub fn try_get_compiler<H: Host<W>>(&self, rt: &impl Wait, host: &mut H) -> Result<Tool, Error>
+        ensures extends { H.log host.new ≡ H.log host.old ++ since (H.log host.old) (H.log host.new) }
+        ensures asked { Asked W.steady W.answer (probe_folder self.now.config self.now.env) (since (H.log host.old) (H.log host.new)) }
+        ensures tool { IfOk result (λ tool. Holds (answers (since (H.log host.old) (H.log host.new))) (λ look. tool ≡ tool_of self.now.config self.now.env look)) }
+        ensures outcome { Holds (answers (since (H.log host.old) (H.log host.new))) (λ look. Outcome (tool_error self.now.config self.now.env look) (tool_steps self.now.config self.now.env look) (since (H.log host.old) (H.log host.new)) result) }
+    {
+        compiler(rt, self.alloc, host, &self.caches, &self.config, &self.env)
+    }
+
     /// Compiles the sources and archives them into the library of `output`, a name such as `foo` or `libfoo.a`.
     ///
-    /// Makes the out dir where there is a source, prints the warnings, runs one compile command per source, removes the old library,
-    /// archives all objects, writes the index, and prints the link lines. Ok means that all of this was done, and nothing else. Else
-    /// the first steps of it were, and the error is that of the refused settings, or of the event that ended the run. No archive
-    /// command is run before each source was compiled.
-    pub fn try_compile<H: Host<W>>(&self, host: &mut H, output: &str) -> Result<(), Error>
+    /// Makes the out dir where there is a source, asks what the plan wants to know, prints the warnings, runs one compile command per source,
+    /// removes the old library, archives all objects, writes the index, and prints the link lines. Ok means that all of this was done, and
+    /// nothing else. Else the first steps of it were, and the error is that of the refused settings, or of the event that ended the run. No
+    /// archive command is run before each source was compiled.
+    pub fn try_compile<H: Host<W>>(
+        &self,
+        rt: &impl Wait,
+        host: &mut H,
+        output: &str,
+    ) -> Result<(), Error>
         ensures extends { H.log host.new ≡ H.log host.old ++ since (H.log host.old) (H.log host.new) }
-        ensures built { OnOk result (Built self.now.config self.now.env output.now (since (H.log host.old) (H.log host.new))) }
-        ensures order { ArchivesLast self.now.config self.now.env (since (H.log host.old) (H.log host.new)) }
-        ensures outcome { Outcome (refusal_error self.now.config self.now.env output.now) (planned_steps self.now.config self.now.env output.now) (since (H.log host.old) (H.log host.new)) result }
+        ensures asked { Asked W.steady W.answer (probe_folder self.now.config self.now.env) (since (H.log host.old) (H.log host.new)) }
+        ensures built { OnOk result (Holds (answers (since (H.log host.old) (H.log host.new))) (λ look. Built self.now.config self.now.env look output.now (since (H.log host.old) (H.log host.new)))) }
+        ensures order { Holds (answers (since (H.log host.old) (H.log host.new))) (λ look. ArchivesLast self.now.config self.now.env look (since (H.log host.old) (H.log host.new))) }
+        ensures outcome { Holds (answers (since (H.log host.old) (H.log host.new))) (λ look. Outcome (refusal_error self.now.config self.now.env look output.now) (planned_steps self.now.config self.now.env look output.now) (since (H.log host.old) (H.log host.new)) result) }
     {
-        compile(self.alloc, host, &self.config, &self.env, output)
+        compile(
+            rt,
+            self.alloc,
+            host,
+            &self.caches,
+            &self.config,
+            &self.env,
+            output,
+        )
     }
 }

@@ -1,11 +1,12 @@
 //! `Build`: settings, and the compile run that they ask for.
 //!
-//! Stands on `cc_text`, `cc_env`, `cc_host` and `cc_plan`. A run makes the plan, asks the host for its steps one after another,
+//! Stands on `cc_text`, `cc_env`, `cc_host`, `cc_tool` and `cc_plan`. A run makes the plan, asks the host for its steps one after another,
 //! and stops at the first that is refused. The crate above uses one thing: `try_compile` answers Ok only where `Built`
 //! holds, and each error has its cause in the settings or in the log (`specs/Outcome.antt`).
 #![tactic(auto)]
 
 mod build;
+mod compiler;
 mod compiling;
 mod environment;
 mod error;

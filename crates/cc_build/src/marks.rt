@@ -103,4 +103,11 @@ impl<W: World> Build<W> {
     {
         self.config.emit_rerun_if_env_changed = emit_rerun_if_env_changed;
     }
+
+    /// Sets whether `clang-cl` is chosen where the Visual Studio compiler would be. No target of today asks for that choice. It takes no memory.
+    pub fn prefer_clang_cl_over_msvc(&mut self, prefer_clang_cl_over_msvc: bool)
+        ensures { self.new ≡ record self.old { config = record self.old.config { prefer_clang_cl_over_msvc = prefer_clang_cl_over_msvc } } }
+    {
+        self.config.prefer_clang_cl_over_msvc = prefer_clang_cl_over_msvc;
+    }
 }

@@ -23,8 +23,12 @@ fn call_name(call: HostCall) -> &'static str
     ensures { result.now ≡ name_of_call call }
 {
     match call {
+        HostCall::Start => "start",
+        HostCall::Turn => "turn",
         HostCall::Output => "output",
+        HostCall::Probe => "probe",
         HostCall::MakeDir(_) => "make dir",
+        HostCall::CreateProbe => "create probe",
         HostCall::Remove => "remove",
         HostCall::Print => "print",
         HostCall::Vars => "vars",

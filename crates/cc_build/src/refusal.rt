@@ -4,8 +4,10 @@ ghost use Rattle.cc_plan.specs.Plan.{dir_of};
 ghost use Rattle.cc_plan.specs.Refusal.{object_in};
 ghost use Rattle.cc_build.specs.Refusal.{source_at, invalid as invalid_error, same_object_error, unset_error, unknown_error, qnx_error, disabled_error, argument_error, plan_error};
 
+use crate::message::host_error;
 use crate::{Error, ErrorKind};
 use cc_env::BuildEnv;
+use cc_host::HostError;
 use cc_plan::{ArgumentCause, BuildConfig, PlanError, object_path, out_dir_of};
 use cc_text::{Mem, Text};
 use std::alloc::Global;
@@ -131,6 +133,7 @@ pub(crate) fn plan_error(
         PlanError::NotSet(name) => not_set(alloc, name),
         PlanError::UnknownTarget(target) => unknown_target(alloc, target),
         PlanError::QnxArch(arch) => qnx_arch(alloc, arch),
+        PlanError::Host(call, why) => host_error(alloc, HostError::Fault(call, why), ""),
         PlanError::NoMemory => Ok(Error::no_memory()),
     }
 }

@@ -8,6 +8,7 @@ ghost use Rattle.cc_host.specs.declared.event.Scope.TheVariants.{Build};
 ghost use Rattle.cc_plan.specs.Link.{printed_line as line_of};
 ghost use Rattle.cc_plan.specs.Plan.{prints};
 ghost use Rattle.cc_build.specs.Outcome.{Outcome};
+ghost use Rattle.cc_tool.specs.Asked.{question_events};
 
 use crate::Error;
 use crate::message::{failed, host_error, missing, or_no_memory, unstarted};
@@ -24,6 +25,7 @@ pub(crate) fn run_commands<W: World, H: Host<W>>(
     cmds: &[Command],
 ) -> Result<(), Error>
     ensures extends { H.log host.new ≡ H.log host.old ++ since (H.log host.old) (H.log host.new) }
+    ensures asks_none { question_events (since (H.log host.old) (H.log host.new)) ≡ [] }
     ensures outcome { Outcome None (runs role cmds.now) (since (H.log host.old) (H.log host.new)) result }
 {
     let pipes = Pipes {
@@ -59,6 +61,7 @@ pub(crate) fn make_folder<W: World, H: Host<W>>(
     path: &str,
 ) -> Result<(), Error>
     ensures extends { H.log host.new ≡ H.log host.old ++ since (H.log host.old) (H.log host.new) }
+    ensures asks_none { question_events (since (H.log host.old) (H.log host.new)) ≡ [] }
     ensures outcome { Outcome None (Makes Build path.now ∷ []) (since (H.log host.old) (H.log host.new)) result }
 {
     match host.make_dir(Scope::Build, path) {
@@ -75,6 +78,7 @@ pub(crate) fn remove_library<W: World, H: Host<W>>(
     path: &str,
 ) -> Result<(), Error>
     ensures extends { H.log host.new ≡ H.log host.old ++ since (H.log host.old) (H.log host.new) }
+    ensures asks_none { question_events (since (H.log host.old) (H.log host.new)) ≡ [] }
     ensures outcome { Outcome None (Removes path.now ∷ []) (since (H.log host.old) (H.log host.new)) result }
 {
     match host.remove_file(path) {
@@ -87,6 +91,7 @@ pub(crate) fn remove_library<W: World, H: Host<W>>(
 #[tactic(auto, using(cc_host::proofs::Parts::since_append))]
 pub(crate) fn list_vars<W: World, H: Host<W>>(alloc: Global, host: &mut H) -> Result<Vars, Error>
     ensures extends { H.log host.new ≡ H.log host.old ++ since (H.log host.old) (H.log host.new) }
+    ensures asks_none { question_events (since (H.log host.old) (H.log host.new)) ≡ [] }
     ensures listed { IfOk result (λ vars. since (H.log host.old) (H.log host.new) ≡ Listed vars ∷ []) }
     ensures outcome { Outcome None (Lists ∷ []) (since (H.log host.old) (H.log host.new)) result }
 {
@@ -112,6 +117,7 @@ fn print_line<W: World, H: Host<W>>(
     line: &str,
 ) -> Result<(), Error>
     ensures extends { H.log host.new ≡ H.log host.old ++ since (H.log host.old) (H.log host.new) }
+    ensures asks_none { question_events (since (H.log host.old) (H.log host.new)) ≡ [] }
     ensures outcome { Outcome None (Prints kind (line_of line.now) ∷ []) (since (H.log host.old) (H.log host.new)) result }
 {
     let text = printed_line(alloc, line)?;
@@ -130,6 +136,7 @@ pub(crate) fn print_lines<W: World, H: Host<W>>(
     lines: &Words,
 ) -> Result<(), Error>
     ensures extends { H.log host.new ≡ H.log host.old ++ since (H.log host.old) (H.log host.new) }
+    ensures asks_none { question_events (since (H.log host.old) (H.log host.new)) ≡ [] }
     ensures outcome { Outcome None (prints kind lines.now) (since (H.log host.old) (H.log host.new)) result }
 {
     for line in lines.as_slice() {

@@ -1,8 +1,9 @@
 use crate::{Build, Error, ErrorKind};
-use cc_host::{Bench, BenchHost, Event, Host, HostCall, Role, Script, Status};
-use cc_text::{Mem, Text, Vars};
+use cc_host::{Ask, Bench, BenchHost, Event, Host, HostCall, Outcome, Role, Scope, Script, Status};
+use cc_text::{Bytes, Mem, Text, Vars};
 use std::alloc::Global;
 use std::process::Abort;
+use std::sync::Wait;
 use std::test::Fail;
 
 // What goes wrong in a run.
@@ -57,33 +58,47 @@ fn build_in(alloc: Global, trouble: Trouble) -> Result<Build<Bench>, Error> {
     Ok(build)
 }
 
-fn trouble_host(host: &mut BenchHost, trouble: Trouble) -> Mem<()> {
+fn trouble_host(alloc: Global, host: &mut BenchHost, trouble: Trouble) -> Mem<()> {
     let status = Status::Code(2);
     match trouble {
         Trouble::Nothing => Ok(()),
         Trouble::NoLevel => Ok(()),
         Trouble::NoCompiler => host.missing("cc"),
-        Trouble::FirstSourceFails => host.script(Role::Compile, "src/a.c", Script { status }),
+        Trouble::FirstSourceFails => host.script(
+            Role::Compile,
+            "src/a.c",
+            Script {
+                status,
+                pieces: Vec::new(alloc),
+                unread: false,
+                turns: 1,
+                after: None,
+            },
+        ),
         Trouble::LibraryStays => host.fail(HostCall::Remove, 1),
     }
 }
 
 fn host_in(alloc: Global, trouble: Trouble) -> Mem<BenchHost> {
     let mut host = BenchHost::new(alloc)?;
-    trouble_host(&mut host, trouble)?;
+    trouble_host(alloc, &mut host, trouble)?;
     Ok(host)
 }
 
-fn run_in(alloc: Global, trouble: Trouble) -> Result<Run, Error> {
+fn run_in(rt: &impl Wait, alloc: Global, trouble: Trouble) -> Result<Run, Error> {
     let build = build_in(alloc, trouble)?;
     let mut host = host_in(alloc, trouble)?;
-    let error = build.try_compile(&mut host, "foo").err();
+    let error = build.try_compile(rt, &mut host, "foo").err();
     Ok(Run { host, error })
 }
 
-// An event in one word, a command by its program.
+// An event in one word, a command by its program. What a question leaves has none.
 fn word_of(event: &Event) -> &str {
     match event {
+        Event::Made {
+            scope: Scope::Probe,
+            ..
+        } => "",
         Event::Ran { cmd, .. } => cmd.get_program(),
         Event::Missing { .. } => "missing",
         Event::Made { .. } => "made",
@@ -91,6 +106,7 @@ fn word_of(event: &Event) -> &str {
         Event::Printed { .. } => "printed",
         Event::Fault { .. } => "fault",
         Event::Listed { .. } => "listed",
+        _ => "",
     }
 }
 
@@ -111,8 +127,11 @@ fn push_line(text: &mut Text, line: &str) -> Mem<()> {
 
 fn push_events(text: &mut Text, log: &[Event]) -> Mem<()> {
     for event in log {
-        text.push_str(word_of(event))?;
-        text.push(' ')?;
+        let word = word_of(event);
+        if !word.is_empty() {
+            text.push_str(word)?;
+            text.push(' ')?;
+        }
     }
     text.push('\n')
 }
@@ -135,8 +154,8 @@ fn push_run(text: &mut Text, run: &Run) -> Mem<()> {
     }
 }
 
-fn told(alloc: Global, trouble: Trouble) -> Result<Text, Error> {
-    let run = run_in(alloc, trouble)?;
+fn told(rt: &impl Wait, alloc: Global, trouble: Trouble) -> Result<Text, Error> {
+    let run = run_in(rt, alloc, trouble)?;
     let mut text = Text::new(alloc);
     push_run(&mut text, &run)?;
     Ok(text)
@@ -166,7 +185,7 @@ fn a_run_ends_at_its_first_trouble_and_names_it(rt: HostRuntime) -> Result<(), F
             "made cc cc fault \nIOError\n/o/libfoo.a\nremove failed: other\n",
         ),
     ] {
-        let text = told(rt.alloc(), trouble)?;
+        let text = told(&rt, rt.alloc(), trouble)?;
         assert_eq!(rt; text.as_str(), want);
     }
     Ok(())
@@ -314,5 +333,39 @@ fn an_error_keeps_what_it_is_given(rt: HostRuntime) -> Result<(), Fail> {
     assert_eq!(rt; error.kind(), ErrorKind::Disabled);
     assert_eq!(rt; error.subject(), "s");
     assert_eq!(rt; error.message(), "m");
+    Ok(())
+}
+
+// How many questions were answered, and how many probe files still stand.
+fn questions_in(log: &[Event]) -> (usize, usize) {
+    let mut asked = 0;
+    let mut standing = 0;
+    for event in log {
+        match event {
+            Event::Answered { .. } => asked += 1,
+            Event::Opened { .. } => standing += 1,
+            Event::Dropped { .. } => standing -= 1,
+            _ => {}
+        }
+    }
+    (asked, standing)
+}
+
+// The compiler is what it says of itself, and a second run asks nothing again.
+#[test]
+fn a_compiler_is_asked_once_what_it_is(rt: HostRuntime) -> Result<(), Fail> {
+    let build = build_in(rt.alloc(), Trouble::Nothing)?;
+    let mut host = BenchHost::new(rt.alloc())?;
+    let out = Bytes::of(rt.alloc(), b"\"clang\"")?;
+    let err = Bytes::of(rt.alloc(), &[])?;
+    let status = Status::Code(0);
+    host.answer(Ask::Preprocess, "cc", Outcome::Done { status, out, err })?;
+    let tool = build.try_get_compiler(&rt, &mut host)?;
+    assert!(rt; tool.is_like_clang());
+    assert_eq!(rt; tool.path(), "cc");
+    assert_eq!(rt; questions_in(host.log()), (3, 0));
+    let again = build.try_clone()?.try_get_compiler(&rt, &mut host)?;
+    assert_eq!(rt; again.args().as_slice().len(), tool.args().as_slice().len());
+    assert_eq!(rt; questions_in(host.log()), (3, 0));
     Ok(())
 }

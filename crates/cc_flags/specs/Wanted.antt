@@ -1,10 +1,10 @@
 -- The words of a C compiler that say what the rustflags say, one definition a group.
-use Rattle.std.specs.Prelude.{ℕ, Bool, List, [], ◌∷◌, ◌++◌, ◌==◌, ◌||◌, Option, Some, None, codes, flat_map, encode_utf8, unwrap_or, nat_eq, not, false, if◌then◌else◌}
+use Rattle.std.specs.Prelude.{ℕ, Bool, List, [], ◌∷◌, ◌++◌, ◌==◌, ◌||◌, Option, Some, None, codes, flat_map, encode_utf8, unwrap_or, not, false, if◌then◌else◌}
 use Rattle.std.specs.Option.{option_to_list}
-use Rattle.std.specs.List.{starts_with}
 use Rattle.std.specs.Fmt.{decimal}
 use Rattle.std.specs.Str.{chars}
 use Prim.Native.String.{String}
+use Rattle.cc_text.specs.Within.{is_within}
 use Rattle.cc_text.specs.Words.{when, choose, entry}
 use Rattle.cc_text.specs.declared.family.ToolFamily.{ToolFamily}
 use Rattle.cc_text.specs.declared.family.ToolFamily.TheVariants.{Gnu, Clang, Msvc}
@@ -146,14 +146,9 @@ unfoldable pub msvc_guard_words : Option (List ℕ) → List (List ℕ)
 msvc_guard_words None = []
 msvc_guard_words (Some value) = msvc_guard_word value
 
--- the needle stands somewhere in the text
-unfoldable pub has : List ℕ → List ℕ → Bool
-has [] needle = starts_with nat_eq [] needle
-has (b ∷ text) needle = starts_with nat_eq (b ∷ text) needle || has text needle
-
 -- an architecture of 64 bits keeps no frame pointers by a word of the Visual Studio compiler
 unfoldable pub msvc_frame_pointer_words : List ℕ → Option Bool → List (List ℕ)
-msvc_frame_pointer_words arch force = when (not (has arch (codes "64"))) (switch_words "/Oy-" "/Oy" force)
+msvc_frame_pointer_words arch force = when (not (is_within (codes "64") arch)) (switch_words "/Oy-" "/Oy" force)
 
 -- what the Visual Studio compiler takes
 unfoldable pub msvc_words : RustcCodegenFlags → Info → List (List ℕ)

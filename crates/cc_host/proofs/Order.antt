@@ -3,16 +3,18 @@ use Rattle.std.proofs.Common.{◌≡◌, ◌⊎◌, ⊎_elim, arith, if◌then�
 use Rattle.std.specs.List.{list_any}
 use Rattle.std.proofs.Math.Seq.{drop-append_seam}
 use Rattle.std.proofs.lemmas.List.Elements.{Contains-append_cases, Contains-append_left, Contains-append_right}
-use Rattle.cc_host.proofs.Parts.{IsCalm, IsStop, either, done_then, stops_both, calm_then, calm_whole}
-use Rattle.cc_host.specs.Part.{is_success, Step, Runs, Makes, Removes, Prints, Lists, step_of, done, stop_of, stops, calm, left, Refuses, StopsAt, IsPartly, runs}
+use Rattle.cc_host.proofs.Parts.{IsCalm, IsQuiet, IsStop, IsKind, kind_is, done_then, stops_both, calm_then, calm_whole}
+use Rattle.cc_host.specs.Status.{is_success}
+use Rattle.cc_host.specs.Part.{Step, Runs, Makes, Removes, Prints, Lists, step_of, done, stop_of, stops, calm, left, Refuses, StopsAt, IsPartly, runs}
 use Rattle.cc_host.specs.Command.{CommandSeen}
 use Rattle.cc_host.specs.declared.event.Role.{Role}
 use Rattle.cc_host.specs.declared.event.Role.TheVariants.{Compile, Archive}
 use Rattle.cc_host.specs.declared.event.Pipes.{Pipes}
 use Rattle.cc_host.specs.declared.event.Status.{Status}
 use Rattle.cc_host.specs.declared.event.Status.TheVariants.{Code, NoCode}
+use Rattle.cc_host.specs.declared.event.Scope.TheVariants.{Build, Probe as ForProbes}
 use Rattle.cc_host.specs.declared.event.Event.{Event}
-use Rattle.cc_host.specs.declared.event.Event.TheVariants.{Ran, Missing, Fault, Made, Removed, Printed, Listed}
+use Rattle.cc_host.specs.declared.event.Event.TheVariants.{Ran, Missing, Made, Removed, Printed, Listed}
 
 -- whatever step this event did or refused passes the test
 abbrev pub IsOnly : (Step → Bool) → Event → Type 0
@@ -93,10 +95,16 @@ module _ (test : Step → Bool) (first rest : List Step) (before after : List Ev
   by_kind p none only (inl k) = did k.2.0 p none k.2.1 (only.0 k.2.0 k.2.1)
   by_kind p none only (inr k) = stopped p none k only.1
 
+-- an event that did a step or ended a run
+loud : (event : Event) → (IsQuiet event → ⊥) → IsKind event → IsCalm event ⊎ IsStop event
+loud event not_quiet (inl k) = inl k
+loud event not_quiet (inr (inl k)) = absurd (not_quiet k)
+loud event not_quiet (inr (inr k)) = inr k
+
 -- An event on steps that pass a test stands behind all of the first steps, of which none passes it, each of them done.
-pub after_first : (test : Step → Bool) (first rest : List Step) (part before after : List Event) (event : Event) → IsPartly (first ++ rest) part → list_any test first ≡ false → part ≡ before ++ event ∷ after → IsOnly test event → (t : List Step) × (done before ≡ first ++ t)
-after_first test first rest part before after event p none is only =
-    by_kind test first rest before after event (subst (λ (l : List Event). IsPartly (first ++ rest) l) is p) none only (either event)
+pub after_first : (test : Step → Bool) (first rest : List Step) (part before after : List Event) (event : Event) → IsPartly (first ++ rest) part → list_any test first ≡ false → part ≡ before ++ event ∷ after → IsOnly test event → (IsQuiet event → ⊥) → (t : List Step) × (done before ≡ first ++ t)
+after_first test first rest part before after event p none is only not_quiet =
+    by_kind test first rest before after event (subst (λ (l : List Event). IsPartly (first ++ rest) l) is p) none only (loud event not_quiet (kind_is event))
 
 -- this event is of a command of this role
 abbrev pub IsOf : Role → Event → Type 0
@@ -132,11 +140,17 @@ only_of test role (Missing r c) all is = (
   (λ step e. absurd (cc)),
   (λ step refusal. missing_refused test role r step c all is refusal),
 )
-only_of test role (Made scope path) all is = absurd is
-only_of test role (Removed path how) all is = absurd is
-only_of test role (Printed kind bytes) all is = absurd is
-only_of test role (Listed vars) all is = absurd is
-only_of test role (Fault call why) all is = absurd is
+only_of test role event all is = absurd is
+
+-- no event of a command is quiet
+never_quiet : (b : Bool) (event : Event) (step : Step) → ((if b then [] else event ∷ []) ≡ []) → ((if b then step ∷ [] else []) ≡ []) → ⊥
+never_quiet true event step n s = absurd (cc)
+never_quiet false event step n s = absurd (cc)
+
+pub of_not_quiet : (role : Role) (event : Event) → IsOf role event → IsQuiet event → ⊥
+of_not_quiet role (Ran r cmd pipes status out err) is k = never_quiet (is_success status) (Ran r cmd pipes status out err) (Runs r cmd) k.0 k.2
+of_not_quiet role (Missing r cmd) is k = let e : Missing r cmd ∷ [] ≡ [] = k.0 in absurd (cc)
+of_not_quiet role event is k = absurd is
 
 -- a step that runs a command of the role Archive
 abbrev pub is_archive : Step → Bool
@@ -146,7 +160,7 @@ is_archive _ = false
 -- An archive command stands in the part only behind all of the first steps, each of them done, where none of them archives.
 pub archives_after : (first rest : List Step) (part before after : List Event) (event : Event) → IsPartly (first ++ rest) part → list_any is_archive first ≡ false → part ≡ before ++ event ∷ after → IsOf Archive event → (t : List Step) × (done before ≡ first ++ t)
 archives_after first rest part before after event p none is of =
-    after_first is_archive first rest part before after event p none is (only_of is_archive Archive event (λ cmd. refl) of)
+    after_first is_archive first rest part before after event p none is (only_of is_archive Archive event (λ cmd. refl) of) (of_not_quiet Archive event of)
 
 -- no compile command archives
 pub compiles_alone : (cmds : List CommandSeen) → list_any is_archive (runs Compile cmds) ≡ false
@@ -178,12 +192,12 @@ succeeds part role cmd (Ran r c pipes status out err) has e =
     let zero_is : status ≡ Code (pos zero) = success_is status (when_success (is_success status) (Runs r c) (Runs role cmd) e) in
     let is : Ran r c pipes status out err ≡ Ran role cmd pipes (Code (pos zero)) out err = cc in
     record { pipes = pipes; out = out; err = err; stands = subst (λ (x : Event). Contains part x) is has }
-succeeds part role cmd (Missing r c) has e = absurd (cc)
-succeeds part role cmd (Made scope path) has e = absurd (cc)
+succeeds part role cmd (Made Build path) has e = absurd (cc)
+succeeds part role cmd (Made ForProbes path) has e = absurd (cc)
 succeeds part role cmd (Removed path how) has e = absurd (cc)
 succeeds part role cmd (Printed kind bytes) has e = absurd (cc)
 succeeds part role cmd (Listed vars) has e = absurd (cc)
-succeeds part role cmd (Fault call why) has e = absurd (cc)
+succeeds part role cmd event has e = absurd (cc)
 
 -- an event of the part did this step
 abbrev Did : List Event → Step → Type 0
@@ -193,16 +207,17 @@ one_is : (s step : Step) → Contains (s ∷ []) step → s ≡ step
 one_is s step (zero, lt, is) = is
 one_is s step (suc k, lt, is) = absurd (omega arith)
 
-did_by_first : (event : Event) (part : List Event) (step : Step) → IsCalm event ⊎ IsStop event → Contains (step_of event) step → Did (event ∷ part) step
+did_by_first : (event : Event) (part : List Event) (step : Step) → IsKind event → Contains (step_of event) step → Did (event ∷ part) step
 did_by_first event part step (inl k) has =
     let same : k.2.0 ≡ step = one_is k.2.0 step (subst (λ (l : List Step). Contains l step) k.2.1 has) in
     (event, (0, omega arith, refl), k.2.1 ∙ ap (λ s. s ∷ []) same)
-did_by_first event part step (inr k) has = let none : Contains [] step = subst (λ (l : List Step). Contains l step) k.2 has in absurd (omega (arith, none.1))
+did_by_first event part step (inr (inl k)) has = let none : Contains [] step = subst (λ (l : List Step). Contains l step) k.2 has in absurd (omega (arith, none.1))
+did_by_first event part step (inr (inr k)) has = let none : Contains [] step = subst (λ (l : List Step). Contains l step) k.2 has in absurd (omega (arith, none.1))
 
 did_in : (part : List Event) (step : Step) → Contains (done part) step → Did part step
 did_in [] step has = absurd (omega (arith, has.1))
 did_in (event ∷ part) step has =
-    ⊎_elim (λ h. did_by_first event part step (either event) h)
+    ⊎_elim (λ h. did_by_first event part step (kind_is event) h)
     (λ h. let d = did_in part step h in (d.0, Contains-append_right (event ∷ []) part d.0 d.1, d.2))
     (Contains-append_cases (step_of event) (done part) step has)
 

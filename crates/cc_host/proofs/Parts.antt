@@ -4,9 +4,11 @@ use Rattle.std.proofs.Math.Seq.{drop-append_seam, drop-append-add}
 use Rattle.std.proofs.Math.ListN.{get_or-map}
 use Rattle.std.proofs.lemmas.List.{length-append, length-map, map-append, take-append-drop, take_more, drop_more, take-map, drop-map}
 use Rattle.std.proofs.lemmas.Grind.{flat_map-append}
-use Rattle.cc_host.specs.Part.{since, is_success, Step, Runs, Makes, Removes, Prints, Lists, step_of, done, stop_of, stops, calm_of, calm, listing_of, listings, left, Refuses, StopsAt, IsPartly, IsWhole, runs}
+use Rattle.cc_host.specs.Status.{is_success}
+use Rattle.cc_host.specs.Part.{since, is_probing, Step, Runs, Makes, Removes, Prints, Lists, step_of, done, stop_of, stops, calm_of, calm, listing_of, listings, left, Refuses, StopsAt, IsPartly, IsWhole, runs}
 use Rattle.cc_host.specs.Command.{CommandSeen}
 use Rattle.cc_host.specs.declared.event.Role.{Role}
+use Rattle.cc_host.specs.declared.event.Scope.TheVariants.{Build, Probe as ForProbes}
 use Rattle.cc_host.specs.declared.event.Event.{Event}
 use Rattle.cc_host.specs.declared.event.Event.TheVariants.{Ran, Missing, Fault, Made, Removed, Printed, Listed}
 
@@ -29,23 +31,40 @@ since_extends old mid new e f = since_two old mid new e f ∙ ap (λ l. old ++ l
 abbrev pub IsCalm : Event → Type 0
 IsCalm event = (stop_of event ≡ []) × (calm_of event ≡ event ∷ []) × ((step : Step) × (step_of event ≡ step ∷ []))
 
+-- an event that did no step and ends no run, as a question leaves it
+abbrev pub IsQuiet : Event → Type 0
+IsQuiet event = (stop_of event ≡ []) × (calm_of event ≡ event ∷ []) × (step_of event ≡ [])
+
 -- an event that ends a run did no step
 abbrev pub IsStop : Event → Type 0
 IsStop event = (stop_of event ≡ event ∷ []) × (calm_of event ≡ []) × (step_of event ≡ [])
 
-ended : (b : Bool) (event : Event) (step : Step) → (((if b then [] else event ∷ []) ≡ []) × ((if b then event ∷ [] else []) ≡ event ∷ []) × ((s : Step) × ((if b then step ∷ [] else []) ≡ s ∷ []))) ⊎ (((if b then [] else event ∷ []) ≡ event ∷ []) × ((if b then event ∷ [] else []) ≡ []) × ((if b then step ∷ [] else []) ≡ []))
-ended true event step = inl (refl, refl, (step, refl))
-ended false event step = inr (refl, refl, refl)
+-- an event did one step, or none without an end of the run, or it ended the run
+abbrev pub IsKind : Event → Type 0
+IsKind event = IsCalm event ⊎ (IsQuiet event ⊎ IsStop event)
 
--- each event is one or the other
-pub either : (event : Event) → IsCalm event ⊎ IsStop event
-either (Ran role cmd pipes status out err) = ended (is_success status) (Ran role cmd pipes status out err) (Runs role cmd)
-either (Missing role cmd) = inr (refl, refl, refl)
-either (Fault call why) = inr (refl, refl, refl)
-either (Made scope path) = inl (refl, refl, (Makes scope path, refl))
-either (Removed path how) = inl (refl, refl, (Removes path, refl))
-either (Printed kind bytes) = inl (refl, refl, (Prints kind bytes, refl))
-either (Listed vars) = inl (refl, refl, (Lists, refl))
+ended : (b : Bool) (event : Event) (step : Step) → (((if b then [] else event ∷ []) ≡ []) × ((if b then event ∷ [] else []) ≡ event ∷ []) × ((s : Step) × ((if b then step ∷ [] else []) ≡ s ∷ []))) ⊎ ((((if b then [] else event ∷ []) ≡ []) × ((if b then event ∷ [] else []) ≡ event ∷ []) × ((if b then step ∷ [] else []) ≡ [])) ⊎ (((if b then [] else event ∷ []) ≡ event ∷ []) × ((if b then event ∷ [] else []) ≡ []) × ((if b then step ∷ [] else []) ≡ [])))
+ended true event step = inl (refl, refl, (step, refl))
+ended false event step = inr (inr (refl, refl, refl))
+
+abbrev no_step : List Step
+no_step = []
+
+faulted : (b : Bool) (event : Event) → (((if b then [] else event ∷ []) ≡ []) × ((if b then event ∷ [] else []) ≡ event ∷ []) × (no_step ≡ [])) ⊎ (((if b then [] else event ∷ []) ≡ event ∷ []) × ((if b then event ∷ [] else []) ≡ []) × (no_step ≡ []))
+faulted true event = inl (refl, refl, refl)
+faulted false event = inr (refl, refl, refl)
+
+-- each event is of one of these kinds
+pub kind_is : (event : Event) → IsKind event
+kind_is (Ran role cmd pipes status out err) = ended (is_success status) (Ran role cmd pipes status out err) (Runs role cmd)
+kind_is (Missing role cmd) = inr (inr (refl, refl, refl))
+kind_is (Fault call why) = inr (faulted (is_probing call) (Fault call why))
+kind_is (Made Build path) = inl (refl, refl, (Makes Build path, refl))
+kind_is (Made ForProbes path) = inr (inl (refl, refl, refl))
+kind_is (Removed path how) = inl (refl, refl, (Removes path, refl))
+kind_is (Printed kind bytes) = inl (refl, refl, (Prints kind bytes, refl))
+kind_is (Listed vars) = inl (refl, refl, (Lists, refl))
+kind_is event = inr (inl (refl, refl, refl))
 
 pub done_then : (a b : List Event) → done (a ++ b) ≡ done a ++ done b
 done_then a b = flat_map-append step_of a b
@@ -60,14 +79,15 @@ calm_then a b = flat_map-append calm_of a b
 pub listings_then : (a b : List Event) → listings (a ++ b) ≡ listings a ++ listings b
 listings_then a b = flat_map-append listing_of a b
 
-calm_more : (event : Event) (part : List Event) → (stops part ≡ [] → part ≡ calm part) → stops (event ∷ part) ≡ [] → IsCalm event ⊎ IsStop event → event ∷ part ≡ calm (event ∷ part)
+calm_more : (event : Event) (part : List Event) → (stops part ≡ [] → part ≡ calm part) → stops (event ∷ part) ≡ [] → IsKind event → event ∷ part ≡ calm (event ∷ part)
 calm_more event part rest none (inl k) = ap (λ l. event ∷ l) (rest (sym (ap (λ l. l ++ stops part) k.0) ∙ none)) ∙ sym (ap (λ l. l ++ calm part) k.1)
-calm_more event part rest none (inr k) = let e : event ∷ stops part ≡ [] = sym (ap (λ l. l ++ stops part) k.0) ∙ none in absurd (cc)
+calm_more event part rest none (inr (inl k)) = ap (λ l. event ∷ l) (rest (sym (ap (λ l. l ++ stops part) k.0) ∙ none)) ∙ sym (ap (λ l. l ++ calm part) k.1)
+calm_more event part rest none (inr (inr k)) = let e : event ∷ stops part ≡ [] = sym (ap (λ l. l ++ stops part) k.0) ∙ none in absurd (cc)
 
 -- a part in which nothing ended the run has calm events alone
 pub calm_whole : (part : List Event) → stops part ≡ [] → part ≡ calm part
 calm_whole [] none = refl
-calm_whole (event ∷ part) none = calm_more event part (calm_whole part) none (either event)
+calm_whole (event ∷ part) none = calm_more event part (calm_whole part) none (kind_is event)
 
 left_is : (steps rest : List Step) (part : List Event) → steps ≡ done part ++ rest → left steps part ≡ rest
 left_is steps rest part e = ap (λ l. drop (length (done part)) l) e ∙ drop-append_seam (done part) rest
@@ -142,14 +162,15 @@ partly_more steps more part p =
 pub left_more : (steps more : List Step) (part : List Event) → IsPartly steps part → left (steps ++ more) part ≡ left steps part ++ more
 left_more steps more part p = left_is (steps ++ more) (left steps part ++ more) part (more_begun steps more part p)
 
-is_stop : (event : Event) → stop_of event ≡ event ∷ [] → IsCalm event ⊎ IsStop event → IsStop event
+is_stop : (event : Event) → stop_of event ≡ event ∷ [] → IsKind event → IsStop event
 is_stop event e (inl k) = absurd (cc)
-is_stop event e (inr k) = k
+is_stop event e (inr (inl k)) = absurd (cc)
+is_stop event e (inr (inr k)) = k
 
 -- an event that ends a run alone
 stop_alone : (event : Event) → stop_of event ≡ event ∷ [] → (stops (event ∷ []) ≡ event ∷ []) × (calm (event ∷ []) ≡ []) × (done (event ∷ []) ≡ [])
 stop_alone event e =
-    let k = is_stop event e (either event) in
+    let k = is_stop event e (kind_is event) in
     (append-nil (stop_of event) ∙ k.0, append-nil (calm_of event) ∙ k.1, append-nil (step_of event) ∙ k.2)
 
 -- an event that ends a run is the one that ends it

@@ -1,59 +1,90 @@
 -- The host in memory: what it is seen as, and what it answers.
-use Rattle.std.specs.Prelude.{◌≡◌, ℕ, ◌+◌, ◌-◌, ◌^◌, min, pos, List, [], reverse, find, Bool, true, false, ◌&&◌, ◌||◌, if◌then◌else◌, bytes_eq, Result, Ok, Err}
-use Rattle.std.specs.List.{list_any}
-use Rattle.std.specs.Option.{option_map_or}
+use Rattle.std.specs.Prelude.{◌≡◌, ℕ, pos, List, [], ◌∷◌, ◌++◌, map, filter, Bool, true, false, not, if◌then◌else◌, bytes_eq, Option, Some, Result, Ok, Err}
+use Rattle.std.specs.List.{All}
+use Rattle.cc_text.specs.declared.memory.NoMemory.{NoMemory as WantsMemory}
 use Rattle.cc_host.specs.Command.{CommandSeen}
 use Rattle.cc_host.specs.declared.event.Role.{Role}
-use Rattle.cc_host.specs.declared.event.Role.TheVariants.{Compile, Archive, Index, Expand}
-use Rattle.cc_host.specs.declared.event.Status.{Status}
+use Rattle.cc_host.specs.declared.event.Pipes.{Pipes}
 use Rattle.cc_host.specs.declared.event.Status.TheVariants.{Code}
 use Rattle.cc_host.specs.declared.event.HostCall.{HostCall}
+use Rattle.cc_host.specs.declared.event.HostCall.TheVariants.{Probe, Start as Starts, Turn as Turns}
 use Rattle.cc_host.specs.declared.event.Why.TheVariants.{Other}
 use Rattle.cc_host.specs.declared.event.HostError.{HostError}
 use Rattle.cc_host.specs.declared.event.HostError.TheVariants.{Fault as Failed, NoMemory}
 use Rattle.cc_host.specs.declared.event.Ran.{Ran}
 use Rattle.cc_host.specs.declared.event.Ran.TheVariants.{Missing, Done}
+use Rattle.cc_host.specs.declared.event.Created.{Created}
+use Rattle.cc_host.specs.declared.event.Created.TheVariants.{New, Exists as Stands}
+use Rattle.cc_host.specs.declared.event.Removal.{Removal}
+use Rattle.cc_host.specs.declared.event.Removal.TheVariants.{Gone, Absent}
+use Rattle.cc_host.specs.declared.event.Start.{Start}
+use Rattle.cc_host.specs.declared.event.Start.TheVariants.{Child, Missing as NoProgram}
+use Rattle.cc_host.specs.declared.event.News.{News}
 use Rattle.cc_host.specs.declared.event.Event.{Event}
+use Rattle.cc_host.specs.declared.question.Question.{Question}
+use Rattle.cc_host.specs.declared.question.Outcome.{Outcome}
+use Rattle.cc_host.specs.declared.question.Outcome.TheVariants.{Unanswered}
 use Rattle.cc_host.specs.declared.script.Scripted.{Scripted}
 use Rattle.cc_host.specs.declared.calls.Failure.{Failure}
-use Rattle.cc_host.specs.Calls.{calls_of, is_due}
+use Rattle.cc_host.specs.declared.calls.Counts.{Counts}
+use Rattle.cc_host.specs.declared.given.Given.{Given}
+use Rattle.cc_host.specs.declared.kid.Kid.{Kid}
+use Rattle.cc_host.specs.Event.{is_captured}
+use Rattle.cc_host.specs.Calls.{is_due, no_calls, count_of, counted, plus_one}
+use Rattle.cc_host.specs.Script.{has_word, script_for, script_at, status_of, pieces_of, out_of, err_of, met_after}
+use Rattle.cc_host.specs.Given.{outcome_of}
+use Rattle.cc_host.specs.Crew.{news_in, left_in}
 
--- what a host in memory is seen as: its log, how often it failed, and what it was told of commands, of calls and of
--- variables
+-- what a host in memory is seen as: its log, how often it failed, the children that run, how often each call was made, and what it
+-- was told of commands, of calls, of variables, of questions, of files and of words to draw
 pub record BenchSeen : Type 0 where
   pub log : List Event
   pub faults : ℕ
+  pub kids : List Kid
+  pub made : Counts
   pub scripts : List Scripted
   pub missing : List (List ℕ)
   pub failures : List Failure
   pub vars : List (List ℕ × List ℕ)
+  pub given : List Given
+  pub files : List (List ℕ)
+  pub words : List ℕ
 
 -- a host that was told nothing, before its first call
 abbrev pub fresh : BenchSeen
-fresh = record { log = []; faults = 0; scripts = []; missing = []; failures = []; vars = [] }
+fresh = record { log = []; faults = 0; kids = []; made = no_calls; scripts = []; missing = []; failures = []; vars = []; given = []; files = []; words = [] }
 
-abbrev pub same_role : Role → Role → Bool
-same_role Compile Compile = true
-same_role Archive Archive = true
-same_role Index Index = true
-same_role Expand Expand = true
-same_role _ _ = false
+-- the path has a file
+abbrev pub has_file : List ℕ → BenchSeen → Bool
+has_file path host = has_word path host.files
 
--- whether a word is among these
-abbrev pub has_word : List ℕ → List (List ℕ) → Bool
-has_word word = list_any (λ w. bytes_eq w word)
+abbrev pub without_file : List ℕ → List (List ℕ) → List (List ℕ)
+without_file path = filter (λ f. not (bytes_eq f path))
 
--- a script is of each command of its role that has its word, as its program or among its words
-abbrev pub fits : Role → CommandSeen → Scripted → Bool
-fits role cmd script = same_role script.role role && (bytes_eq cmd.program script.word || has_word script.word cmd.args)
-
--- what the last script that fits says, and 0 where none does
-abbrev pub status_of : List Scripted → Role → CommandSeen → Status
-status_of scripts role cmd = option_map_or (λ s. s.script.status) (find (fits role cmd) (reverse scripts)) (Code (pos 0))
+-- how a command ends whose program is there
+abbrev pub ends_as : BenchSeen → Role → CommandSeen → Pipes → Ran
+ends_as host role cmd pipes = let script = script_for host.scripts role cmd in
+    Done (status_of script) (out_of (is_captured pipes.out) (pieces_of script)) (err_of (is_captured pipes.out) pipes.hear (pieces_of script))
 
 -- the answer to a command that is not to fail
-abbrev pub answer_to : BenchSeen → Role → CommandSeen → Ran
-answer_to host role cmd = if has_word cmd.program host.missing then Missing else Done (status_of host.scripts role cmd) [] []
+abbrev pub answer_to : BenchSeen → Role → CommandSeen → Pipes → Ran
+answer_to host role cmd pipes = if has_word cmd.program host.missing then Missing else ends_as host role cmd pipes
+
+-- the answers to a probe file that is to be made and to a file that is to be removed
+abbrev pub created_at : Bool → Created
+created_at there = if there then Stands else New
+
+abbrev pub removed_at : Bool → Removal
+removed_at there = if there then Gone else Absent
+
+-- the files after a probe file was to be made
+abbrev pub files_with : List ℕ → BenchSeen → List (List ℕ)
+files_with path host = if has_file path host then host.files else host.files ++ path ∷ []
+
+-- the word that is drawn next
+abbrev pub next_word : List ℕ → ℕ
+next_word [] = 0
+next_word (word ∷ words) = word
 
 abbrev pub is_fault : HostError → Bool
 is_fault (Failed _ _) = true
@@ -61,21 +92,47 @@ is_fault NoMemory = false
 
 -- the next call of the kind is one that is to fail
 abbrev pub fails_next : HostCall → BenchSeen → Bool
-fails_next call host = is_due call (calls_of call host.log) host.failures
-
--- what the host was told stands as before, and it failed so often
-abbrev pub Keeps : ℕ → BenchSeen → BenchSeen → Type 0
-Keeps faults old new = new ≡ record old { log = new.log; faults = faults }
+fails_next call host = is_due call (count_of call host.made) host.failures
 
 -- A call failed. Where memory was refused the host is as before.
-abbrev pub IsFailure : BenchSeen → BenchSeen → HostError → Type 0
-IsFailure old new (Failed _ why) = (why ≡ Other) × Keeps (min (old.faults + 1) (2 ^ 64 - 1)) old new
-IsFailure old new NoMemory = new ≡ old
+abbrev pub IsFailure : HostCall → BenchSeen → BenchSeen → HostError → Type 0
+IsFailure call old new (Failed _ why) = (why ≡ Other) × (new ≡ record old { log = new.log; faults = plus_one old.faults; made = counted call old.made })
+IsFailure call old new NoMemory = new ≡ old
 
--- A call has this answer, or fails where it is to fail.
-abbrev pub Answers : {T : Type 0} → HostCall → T → BenchSeen → BenchSeen → Result T HostError → Type 0
-Answers call answer old new (Ok x) = (fails_next call old ≡ false) × (x ≡ answer) × Keeps old.faults old new
-Answers call answer old new (Err e) = (is_fault e ≡ true → fails_next call old ≡ true) × IsFailure old new e
+-- A call has this answer, and leaves the host so but for its log and the count of the call; or it fails where it is to fail.
+abbrev pub Answers : {T : Type 0} → HostCall → T → BenchSeen → BenchSeen → BenchSeen → Result T HostError → Type 0
+Answers call answer after old new (Ok x) = (fails_next call old ≡ false) × (x ≡ answer) × (new ≡ record after { log = new.log; made = counted call old.made })
+Answers call answer after old new (Err e) = (is_fault e ≡ true → fails_next call old ≡ true) × IsFailure call old new e
+
+-- A question that is not counted has this answer. Where memory was refused the host is as before.
+abbrev pub Tells : {T : Type 0} → T → BenchSeen → BenchSeen → BenchSeen → Result T WantsMemory → Type 0
+Tells answer after old new (Ok x) = (x ≡ answer) × (new ≡ record after { log = new.log })
+Tells answer after old new (Err e) = new ≡ old
+
+-- what a probe comes to
+abbrev pub probe_outcome : BenchSeen → Question → Outcome
+probe_outcome host q = if fails_next Probe host then Unanswered else outcome_of host.given q
+
+-- the host after a probe, but for its log
+abbrev pub probe_after : BenchSeen → BenchSeen
+probe_after host = record host { made = counted Probe host.made; faults = if fails_next Probe host then plus_one host.faults else host.faults }
+
+-- the host after a child was started that has the script at this place, but for its log
+abbrev pub start_after : BenchSeen → CommandSeen → ℕ → Option ℕ → BenchSeen
+start_after host cmd id place = record host { scripts = map (met_after cmd) host.scripts; kids = host.kids ++ record { id = id; polls = 0; mute = false; place = place } ∷ [] }
+
+-- A start finds no program, or begins a child with the script that counts for its command; or it fails where it is to fail.
+abbrev pub IsStart : Role → CommandSeen → BenchSeen → BenchSeen → Result Start HostError → Type 0
+IsStart role cmd old new (Ok NoProgram) = (fails_next Starts old ≡ false) × (has_word cmd.program old.missing ≡ true) × (new ≡ record old { log = new.log; made = counted Starts old.made })
+IsStart role cmd old new (Ok (Child id)) =
+    (fails_next Starts old ≡ false) × (has_word cmd.program old.missing ≡ false)
+    × ((place : Option ℕ) × (script_at old.scripts place ≡ script_for old.scripts role cmd) × (new ≡ record (start_after old cmd id place) { log = new.log; made = counted Starts old.made }))
+IsStart role cmd old new (Err e) = (is_fault e ≡ true → fails_next Starts old ≡ true) × IsFailure Starts old new e
+
+-- A turn tells what each child does by its script; or it fails where it is to fail.
+abbrev pub IsTurn : BenchSeen → BenchSeen → Result (List News) HostError → Type 0
+IsTurn old new (Ok news) = (fails_next Turns old ≡ false) × (news ≡ news_in old.scripts old.kids) × (new ≡ record old { log = new.log; made = counted Turns old.made; kids = left_in old.scripts old.kids })
+IsTurn old new (Err e) = (is_fault e ≡ true → fails_next Turns old ≡ true) × IsFailure Turns old new e
 
 -- a host that was told nothing of commands and of calls
 abbrev pub IsPlain : BenchSeen → Type 0
@@ -90,3 +147,14 @@ Gives answer (Err NoMemory) = Unit {0}
 -- what a command ends with on such a host
 abbrev pub plain_end : Ran
 plain_end = Done (Code (pos 0)) [] []
+
+-- a child runs on such a host
+abbrev pub IsPlainStart : Result Start HostError → Type 0
+IsPlainStart (Ok NoProgram) = ⊥
+IsPlainStart (Ok (Child id)) = Unit {0}
+IsPlainStart (Err e) = is_fault e ≡ false
+
+-- each child that does something on such a host ends with 0
+abbrev pub IsPlainTurn : Result (List News) HostError → Type 0
+IsPlainTurn (Ok news) = All (λ n. n.ended ≡ Some (Code (pos 0))) news
+IsPlainTurn (Err e) = is_fault e ≡ false

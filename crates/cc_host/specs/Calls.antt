@@ -1,69 +1,64 @@
 -- The calls of a host, counted by kind, and those that are to fail.
-use Rattle.std.specs.Prelude.{◌≡◌, ℕ, ◌+◌, List, Bool, true, false, ◌&&◌, ◌==◌, if◌then◌else◌, count_by}
+use Rattle.std.specs.Prelude.{ℕ, ◌+◌, ◌-◌, ◌^◌, min, List, Bool, true, false, ◌&&◌, ◌==◌}
 use Rattle.std.specs.List.{list_any}
 use Rattle.cc_host.specs.declared.event.Scope.{Scope}
-use Rattle.cc_host.specs.declared.event.Scope.TheVariants.{Build, Probe}
+use Rattle.cc_host.specs.declared.event.Scope.TheVariants.{Build, Probe as ForProbes}
 use Rattle.cc_host.specs.declared.event.HostCall.{HostCall}
-use Rattle.cc_host.specs.declared.event.HostCall.TheVariants.{Output, MakeDir, Remove, Print, Vars}
-use Rattle.cc_host.specs.declared.event.Event.{Event}
-use Rattle.cc_host.specs.declared.event.Event.TheVariants.{Ran, Missing, Made, Removed, Printed, Listed, Fault}
+use Rattle.cc_host.specs.declared.event.HostCall.TheVariants.{Start, Turn, Output, Probe, MakeDir, CreateProbe, Remove, Print, Vars}
 use Rattle.cc_host.specs.declared.calls.Failure.{Failure}
 use Rattle.cc_host.specs.declared.calls.Counts.{Counts}
 
 abbrev pub same_scope : Scope → Scope → Bool
 same_scope Build Build = true
-same_scope Probe Probe = true
+same_scope ForProbes ForProbes = true
 same_scope _ _ = false
 
 abbrev pub same_call : HostCall → HostCall → Bool
+same_call Start Start = true
+same_call Turn Turn = true
 same_call Output Output = true
+same_call Probe Probe = true
 same_call (MakeDir a) (MakeDir b) = same_scope a b
+same_call CreateProbe CreateProbe = true
 same_call Remove Remove = true
 same_call Print Print = true
 same_call Vars Vars = true
 same_call _ _ = false
 
--- the kind of the call that an event is of
-abbrev pub kind_of : Event → HostCall
-kind_of (Ran role cmd pipes status out err) = Output
-kind_of (Missing role cmd) = Output
-kind_of (Made scope path) = MakeDir scope
-kind_of (Removed path how) = Remove
-kind_of (Printed kind bytes) = Print
-kind_of (Listed vars) = Vars
-kind_of (Fault call why) = call
-
--- how many calls of the kind a log has
-abbrev pub calls_of : HostCall → List Event → ℕ
-calls_of call = count_by (λ e. same_call call (kind_of e))
-
 -- whether a call of the kind is to fail, before which there were so many of its kind
 abbrev pub is_due : HostCall → ℕ → List Failure → Bool
 is_due call before = list_any (λ f. same_call f.call call && (f.nth == before + 1))
 
+-- no call of any kind
+abbrev pub no_calls : Counts
+no_calls = record { starts = 0; turns = 0; outputs = 0; probes = 0; build_dirs = 0; probe_dirs = 0; probe_files = 0; removals = 0; prints = 0; listings = 0 }
+
 -- the count of a kind
 abbrev pub count_of : HostCall → Counts → ℕ
+count_of Start c = c.starts
+count_of Turn c = c.turns
 count_of Output c = c.outputs
+count_of Probe c = c.probes
 count_of (MakeDir Build) c = c.build_dirs
-count_of (MakeDir Probe) c = c.probe_dirs
+count_of (MakeDir ForProbes) c = c.probe_dirs
+count_of CreateProbe c = c.probe_files
 count_of Remove c = c.removals
 count_of Print c = c.prints
 count_of Vars c = c.listings
 
-abbrev pub plus_one_if : Bool → ℕ → ℕ
-plus_one_if more count = if more then count + 1 else count
+-- one more, up to the last value of a count
+abbrev pub plus_one : ℕ → ℕ
+plus_one count = min (count + 1) (2 ^ 64 - 1)
 
 -- one call of the kind more
 abbrev pub counted : HostCall → Counts → Counts
-counted call c = record {
-  outputs = plus_one_if (same_call Output call) c.outputs;
-  build_dirs = plus_one_if (same_call (MakeDir Build) call) c.build_dirs;
-  probe_dirs = plus_one_if (same_call (MakeDir Probe) call) c.probe_dirs;
-  removals = plus_one_if (same_call Remove call) c.removals;
-  prints = plus_one_if (same_call Print call) c.prints;
-  listings = plus_one_if (same_call Vars call) c.listings;
-}
-
--- these are the counts of this log
-abbrev pub CountsOf : List Event → Counts → Type 0
-CountsOf log c = (call : HostCall) → count_of call c ≡ calls_of call log
+counted Start c = record c { starts = plus_one c.starts }
+counted Turn c = record c { turns = plus_one c.turns }
+counted Output c = record c { outputs = plus_one c.outputs }
+counted Probe c = record c { probes = plus_one c.probes }
+counted (MakeDir Build) c = record c { build_dirs = plus_one c.build_dirs }
+counted (MakeDir ForProbes) c = record c { probe_dirs = plus_one c.probe_dirs }
+counted CreateProbe c = record c { probe_files = plus_one c.probe_files }
+counted Remove c = record c { removals = plus_one c.removals }
+counted Print c = record c { prints = plus_one c.prints }
+counted Vars c = record c { listings = plus_one c.listings }

@@ -1,6 +1,17 @@
 pub mod Bench
 pub mod Calls
+pub mod Children
 pub mod Command
 pub mod CommandLine
+pub mod CompileCommand
+pub mod Crew
 pub mod Event
+pub mod Given
+pub mod Journal
 pub mod Part
+pub mod Probe
+pub mod ProbeCommand
+pub mod Question
+pub mod Script
+pub mod Status
+pub mod Verdict

@@ -1,13 +1,14 @@
 -- How the part of a call is read. A part is what the call appended to the log of its host.
-use Rattle.std.specs.Prelude.{◌≡◌, ℕ, zero, List, [], ◌∷◌, ◌++◌, drop, length, map, pos, Bool, true, false, if◌then◌else◌}
+use Rattle.std.specs.Prelude.{◌≡◌, ℕ, List, [], ◌∷◌, ◌++◌, drop, length, map, Bool, true, false, if◌then◌else◌}
 use Rattle.std.specs.List.{flat_map}
 use Rattle.cc_host.specs.Command.{CommandSeen}
+use Rattle.cc_host.specs.Status.{is_success}
 use Rattle.cc_host.specs.declared.event.Role.{Role}
 use Rattle.cc_host.specs.declared.event.Scope.{Scope}
+use Rattle.cc_host.specs.declared.event.Scope.TheVariants.{Build, Probe as ForProbes}
+use Rattle.cc_host.specs.declared.event.HostCall.{HostCall}
 use Rattle.cc_host.specs.declared.event.LineKind.{LineKind}
-use Rattle.cc_host.specs.declared.event.Status.{Status}
-use Rattle.cc_host.specs.declared.event.Status.TheVariants.{Code}
-use Rattle.cc_host.specs.declared.event.HostCall.TheVariants.{Output, MakeDir, Remove, Print, Vars}
+use Rattle.cc_host.specs.declared.event.HostCall.TheVariants.{Output, Probe, MakeDir, CreateProbe, Remove, Print, Vars}
 use Rattle.cc_host.specs.declared.event.Event.{Event}
 use Rattle.cc_host.specs.declared.event.Event.TheVariants.{Ran, Missing, Fault, Made, Removed, Printed, Listed}
 
@@ -15,10 +16,12 @@ use Rattle.cc_host.specs.declared.event.Event.TheVariants.{Ran, Missing, Fault, 
 abbrev pub since : List Event → List Event → List Event
 since old new = drop (length old) new
 
--- the end of a command that succeeded
-abbrev pub is_success : Status → Bool
-is_success (Code (pos zero)) = true
-is_success _ = false
+-- a fault of what a question wants: its command, its folder or its files. It ends no run.
+abbrev pub is_probing : HostCall → Bool
+is_probing Probe = true
+is_probing (MakeDir ForProbes) = true
+is_probing CreateProbe = true
+is_probing _ = false
 
 -- what a run asks of its host
 pub data Step : Type 0 where
@@ -28,30 +31,26 @@ pub data Step : Type 0 where
   Prints : LineKind → List ℕ → Step
   Lists : Step
 
--- the step that an event did: a command that ended with 0, a folder made, a file removed, a line printed,
--- the variables listed
+-- the step that an event did: a command that ended with 0, a folder for objects made, a file removed, a line printed,
+-- the variables listed. What a question leaves in the log is no step.
 abbrev pub step_of : Event → List Step
 step_of (Ran role cmd pipes status out err) = if is_success status then Runs role cmd ∷ [] else []
-step_of (Missing role cmd) = []
-step_of (Fault call why) = []
-step_of (Made scope path) = Makes scope path ∷ []
+step_of (Made Build path) = Makes Build path ∷ []
 step_of (Removed path how) = Removes path ∷ []
 step_of (Printed kind bytes) = Prints kind bytes ∷ []
 step_of (Listed vars) = Lists ∷ []
+step_of _ = []
 
 -- the steps that were done, in order
 abbrev pub done : List Event → List Step
 done = flat_map step_of
 
--- an event that ends a run: a missing program, another end than 0, a fault
+-- an event that ends a run: a missing program, another end than 0, a fault but one of a question
 abbrev pub stop_of : Event → List Event
 stop_of (Ran role cmd pipes status out err) = if is_success status then [] else Ran role cmd pipes status out err ∷ []
 stop_of (Missing role cmd) = Missing role cmd ∷ []
-stop_of (Fault call why) = Fault call why ∷ []
-stop_of (Made scope path) = []
-stop_of (Removed path how) = []
-stop_of (Printed kind bytes) = []
-stop_of (Listed vars) = []
+stop_of (Fault call why) = if is_probing call then [] else Fault call why ∷ []
+stop_of _ = []
 
 -- the events that end a run
 abbrev pub stops : List Event → List Event
@@ -61,11 +60,8 @@ stops = flat_map stop_of
 abbrev pub calm_of : Event → List Event
 calm_of (Ran role cmd pipes status out err) = if is_success status then Ran role cmd pipes status out err ∷ [] else []
 calm_of (Missing role cmd) = []
-calm_of (Fault call why) = []
-calm_of (Made scope path) = Made scope path ∷ []
-calm_of (Removed path how) = Removed path how ∷ []
-calm_of (Printed kind bytes) = Printed kind bytes ∷ []
-calm_of (Listed vars) = Listed vars ∷ []
+calm_of (Fault call why) = if is_probing call then Fault call why ∷ [] else []
+calm_of event = event ∷ []
 
 -- the events that end no run
 abbrev pub calm : List Event → List Event

@@ -1,9 +1,9 @@
 // The calls of a host, counted by kind, and those that are to fail.
-ghost use Rattle.std.specs.Prelude.{◌≡◌, ◌-◌, ◌^◌, ◌<◌};
+ghost use Rattle.std.specs.Prelude.{◌≡◌};
 ghost use Rattle.cc_host.specs.declared.event.HostCall.{HostCall};
-ghost use Rattle.cc_host.specs.Calls.{same_call, kind_of, counted, count_of, is_due, plus_one_if};
+ghost use Rattle.cc_host.specs.Calls.{same_call, no_calls, plus_one, counted, count_of, is_due};
 
-use crate::{Event, HostCall, Scope};
+use crate::{HostCall, Scope};
 
 /// A call that is to fail: its kind, and its number among the calls of that kind, from 1.
 #[derive(Clone, Copy, Debug)]
@@ -12,26 +12,40 @@ pub struct Failure {
     pub nth: u64,
 }
 
-/// How many calls of each kind there were.
+/// How many calls of each kind there were. A count that stands at its last value stays there.
 #[derive(Clone, Copy, Debug)]
 pub struct Counts {
-    outputs: u64,
-    build_dirs: u64,
-    probe_dirs: u64,
-    removals: u64,
-    prints: u64,
-    listings: u64,
+    pub starts: u64,
+    pub turns: u64,
+    pub outputs: u64,
+    pub probes: u64,
+    pub build_dirs: u64,
+    pub probe_dirs: u64,
+    pub probe_files: u64,
+    pub removals: u64,
+    pub prints: u64,
+    pub listings: u64,
+}
+
+fn plus_one(count: u64) -> u64
+    ensures { result ≡ plus_one count }
+{
+    count.saturating_add(1)
 }
 
 impl Counts {
     /// No call of any kind.
     pub fn new() -> Counts
-        ensures { (call : HostCall) → count_of call result ≡ 0 }
+        ensures { result ≡ no_calls }
     {
         Counts {
+            starts: 0,
+            turns: 0,
             outputs: 0,
+            probes: 0,
             build_dirs: 0,
             probe_dirs: 0,
+            probe_files: 0,
             removals: 0,
             prints: 0,
             listings: 0,
@@ -43,40 +57,36 @@ impl Counts {
         ensures { result ≡ count_of call self.now }
     {
         match call {
+            HostCall::Start => self.starts,
+            HostCall::Turn => self.turns,
             HostCall::Output => self.outputs,
+            HostCall::Probe => self.probes,
             HostCall::MakeDir(Scope::Build) => self.build_dirs,
             HostCall::MakeDir(Scope::Probe) => self.probe_dirs,
+            HostCall::CreateProbe => self.probe_files,
             HostCall::Remove => self.removals,
             HostCall::Print => self.prints,
             HostCall::Vars => self.listings,
         }
     }
 
-    /// Counts a call of the kind, the last of `total` calls.
-    pub fn count(&mut self, call: HostCall, total: usize)
-        requires { (kind : HostCall) → count_of kind self.old < total }
+    /// Counts a call of the kind.
+    pub fn count(&mut self, call: HostCall)
         ensures { self.new ≡ counted call self.old }
     {
-        self.outputs = plus_one_if(self.outputs, is_same_call(HostCall::Output, call));
-        self.build_dirs = plus_one_if(
-            self.build_dirs,
-            is_same_call(HostCall::MakeDir(Scope::Build), call),
-        );
-        self.probe_dirs = plus_one_if(
-            self.probe_dirs,
-            is_same_call(HostCall::MakeDir(Scope::Probe), call),
-        );
-        self.removals = plus_one_if(self.removals, is_same_call(HostCall::Remove, call));
-        self.prints = plus_one_if(self.prints, is_same_call(HostCall::Print, call));
-        self.listings = plus_one_if(self.listings, is_same_call(HostCall::Vars, call));
+        match call {
+            HostCall::Start => self.starts = plus_one(self.starts),
+            HostCall::Turn => self.turns = plus_one(self.turns),
+            HostCall::Output => self.outputs = plus_one(self.outputs),
+            HostCall::Probe => self.probes = plus_one(self.probes),
+            HostCall::MakeDir(Scope::Build) => self.build_dirs = plus_one(self.build_dirs),
+            HostCall::MakeDir(Scope::Probe) => self.probe_dirs = plus_one(self.probe_dirs),
+            HostCall::CreateProbe => self.probe_files = plus_one(self.probe_files),
+            HostCall::Remove => self.removals = plus_one(self.removals),
+            HostCall::Print => self.prints = plus_one(self.prints),
+            HostCall::Vars => self.listings = plus_one(self.listings),
+        }
     }
-}
-
-fn plus_one_if(count: u64, more: bool) -> u64
-    requires { count < 2 ^ 64 - 1 }
-    ensures { result ≡ plus_one_if more count }
-{
-    if more { count + 1 } else { count }
 }
 
 fn is_same_call(a: HostCall, b: HostCall) -> bool
@@ -90,19 +100,4 @@ pub fn is_due(failures: &[Failure], call: HostCall, before: u64) -> bool
     ensures { result ≡ is_due call before failures.now }
 {
     failures.iter().any(|f| is_same_call(f.call, call) && f.nth.checked_sub(1) == Some(before))
-}
-
-/// The kind of the call that an event is of.
-pub fn kind_of(event: &Event) -> HostCall
-    ensures { result ≡ kind_of event.now }
-{
-    match event {
-        Event::Ran { .. } => HostCall::Output,
-        Event::Missing { .. } => HostCall::Output,
-        Event::Made { scope, .. } => HostCall::MakeDir(*scope),
-        Event::Removed { .. } => HostCall::Remove,
-        Event::Printed { .. } => HostCall::Print,
-        Event::Listed { .. } => HostCall::Vars,
-        Event::Fault { call, .. } => *call,
-    }
 }

@@ -1,11 +1,11 @@
 // What a host is asked, what it answers, and the events of its log.
 ghost use Rattle.std.specs.Prelude.{◌≡◌};
-ghost use Rattle.cc_host.specs.Part.{is_success};
+ghost use Rattle.cc_host.specs.Status.{is_success};
 ghost use Rattle.cc_host.specs.declared.event.HostError.TheVariants.{NoMemory as WantsMemory};
 
-use crate::Command;
+use crate::{Command, Outcome, ProbeFiles, Question, Verdict};
 use cc_text::{Bytes, NoMemory, Text, Vars};
-use std::alloc::AllocFailed;
+use std::alloc::{AllocError, AllocFailed};
 
 /// What a command is for.
 #[derive(Clone, Copy, Debug, PartialEq, Eq)]
@@ -65,6 +65,15 @@ pub enum Scope {
     Probe,
 }
 
+/// How the making of a probe file was answered.
+#[derive(Clone, Copy, Debug, PartialEq, Eq)]
+pub enum Created {
+    /// The file was made.
+    New,
+    /// A file of that name stood there, and was left alone.
+    Exists,
+}
+
 /// How a removal was answered.
 #[derive(Clone, Copy, Debug, PartialEq, Eq)]
 pub enum Removal {
@@ -98,8 +107,12 @@ pub enum LineKind {
 /// A call of a host that may fault.
 #[derive(Clone, Copy, Debug, PartialEq, Eq)]
 pub enum HostCall {
+    Start,
+    Turn,
     Output,
+    Probe,
     MakeDir(Scope),
+    CreateProbe,
     Remove,
     Print,
     Vars,
@@ -129,6 +142,14 @@ impl From<NoMemory> for HostError {
     }
 }
 
+impl From<AllocError> for HostError {
+    ghost from_gives = { λ _ e. e ≡ WantsMemory };
+
+    fn from(_: AllocError) -> Self {
+        HostError::NoMemory
+    }
+}
+
 impl<T: Drop> From<AllocFailed<T>> for HostError {
     ghost from_gives = { λ _ e. e ≡ WantsMemory };
 
@@ -150,9 +171,90 @@ pub enum Ran {
     },
 }
 
+/// The answer to a command that was to be started.
+#[derive(Clone, Copy, Debug, PartialEq, Eq)]
+pub enum Start {
+    /// It runs as the child of this number.
+    Child(u64),
+    /// The program can't be found.
+    Missing,
+}
+
+/// What a child did in a turn: the piece of its standard error that came, which isn't empty, whether that failed to be read, and how the
+/// child ended.
+#[derive(Drop, Debug)]
+pub struct News {
+    pub id: u64,
+    pub piece: Option<Bytes>,
+    pub unread: bool,
+    pub ended: Option<Status>,
+}
+
 /// What a host did, as its log has it.
 #[derive(Drop, Debug)]
 pub enum Event {
+    /// A command runs as the child of this number. `held` is the number of tokens that its caller held.
+    Started {
+        id: u64,
+        role: Role,
+        cmd: Command,
+        pipes: Pipes,
+        held: u64,
+    },
+    /// A child ended.
+    Ended {
+        id: u64,
+        status: Status,
+    },
+    /// A child that ran is left alone.
+    Abandoned {
+        id: u64,
+    },
+    /// A child gave bytes on its standard error.
+    Heard {
+        id: u64,
+        bytes: Bytes,
+    },
+    /// The standard error of a child failed to be read.
+    Unread {
+        id: u64,
+    },
+    /// So many turns were made, one after another.
+    Turn {
+        count: u64,
+    },
+    /// A question was asked, with these probe files where it was a command.
+    Answered {
+        question: Question,
+        files: Option<ProbeFiles>,
+        outcome: Outcome,
+    },
+    /// A question has this verdict from earlier.
+    Reused {
+        question: Question,
+        verdict: Verdict,
+    },
+    /// A question couldn't be asked.
+    Unasked {
+        question: Question,
+    },
+    /// A word was drawn at random.
+    Drawn {
+        word: u64,
+    },
+    /// A probe file was made with these bytes.
+    Opened {
+        path: Text,
+        bytes: Bytes,
+    },
+    /// A probe file wasn't made, as a file of that name stood there.
+    Taken {
+        path: Text,
+    },
+    /// A probe file was dropped.
+    Dropped {
+        path: Text,
+    },
     /// A command ran to its end.
     Ran {
         role: Role,

@@ -1,14 +1,34 @@
 // A host: what runs commands, keeps files and prints. Each call appends to the host's log what it did.
-ghost use Rattle.std.specs.Prelude.{◌≡◌, ◌≤◌, ◌++◌, List, ℕ, IfOk, IfErr};
+ghost use Rattle.std.specs.Prelude.{◌≡◌, ◌≢◌, ◌≤◌, ◌∷◌, [], ◌++◌, List, ℕ, Option, true, IfOk, OnOk, IfErr, MatchResult};
+ghost use Rattle.std.specs.List.{flat_map, Contains};
+ghost use Rattle.cc_host.specs.Children.{running, IsFresh, IsNews, Waits};
 ghost use Rattle.cc_host.specs.declared.event.Event.{Event};
-ghost use Rattle.cc_host.specs.declared.event.HostCall.TheVariants.{Output, MakeDir, Remove, Print, Vars as ListsVars};
-ghost use Rattle.cc_host.specs.Event.{ran, made, removed, printed, listed, IsCaused, IsSilent};
+ghost use Rattle.cc_host.specs.declared.event.Event.TheVariants.{Abandoned, Dropped, Turn as OneTurn};
+ghost use Rattle.cc_host.specs.declared.event.HostCall.TheVariants.{Start as Starts, Turn as Turns, Output, MakeDir, CreateProbe, Remove, Print, Vars as ListsVars};
+ghost use Rattle.cc_host.specs.declared.event.Why.{Why};
+ghost use Rattle.cc_host.specs.declared.question.Ask.TheVariants.{Exists as AsksExists};
+ghost use Rattle.cc_host.specs.declared.question.Outcome.TheVariants.{Unanswered};
+ghost use Rattle.cc_host.specs.Event.{started, told, refused, ran, probed, found, reused, unasked, drawn, created, made, removed, printed, listed, apart, Rose, IsCaused, IsSilent};
+ghost use Rattle.cc_host.specs.Probe.{IsOpen, IsTidy};
 
-use crate::{Command, Event, HostError, LineKind, Pipes, Ran, Removal, Role, Scope};
-use cc_text::Vars;
+use crate::{
+    Command, Created, Event, HostError, LineKind, News, Outcome, Pipes, ProbeFiles, Question, Ran,
+    Removal, Role, Scope, Start, Verdict,
+};
+use cc_text::{Mem, Vars};
 
 /// Names the answers of a world.
-pub trait World: Send + Sync {}
+pub trait World: Send + Sync {
+    ghost use Rattle.std.specs.Prelude.{Bool};
+    ghost use Rattle.cc_host.specs.declared.question.Question.{Question};
+    ghost use Rattle.cc_host.specs.declared.question.Outcome.{Outcome};
+
+    /// Whether each question has one outcome for ever.
+    ghost steady: { Bool };
+
+    /// The outcome of each question.
+    ghost answer: { Question → Outcome };
+}
 
 /// What runs commands, keeps files and prints.
 ///
@@ -20,38 +40,125 @@ pub trait Host<W: World> {
     /// How often the host has failed. It never falls.
     ghost faults: { Self → ℕ };
 
+    /// How many turns a child runs through at most, where the host tells it.
+    ghost patience: { Self → Option ℕ };
+
+    /// Starts a command, for a caller that holds so many tokens.
+    fn start(
+        &mut self,
+        role: Role,
+        cmd: &Command,
+        pipes: Pipes,
+        held: u64,
+    ) -> Result<Start, HostError>
+        ensures adds { log self.new ≡ log self.old ++ started role cmd.now pipes held result }
+        ensures fresh { IfOk result (IsFresh (log self.old)) }
+        ensures later { faults self.old ≤ faults self.new }
+        ensures patient { patience self.new ≡ patience self.old }
+        ensures cause { IfErr result (IsCaused Starts (faults self.old) (faults self.new)) };
+
+    /// Polls every child that runs once, in start order, after a rest of at most so many milliseconds.
+    fn turn(&mut self, rest_ms: u64) -> Result<Vec<News>, HostError>
+        ensures adds { MatchResult result (λ news. log self.new ≡ log self.old ++ OneTurn 1 ∷ flat_map told news.items) (λ e. log self.new ≡ log self.old ++ refused e) }
+        ensures news { IfOk result (λ news. IsNews (log self.old) news.items) }
+        ensures later { faults self.old ≤ faults self.new }
+        ensures patient { patience self.new ≡ patience self.old }
+        ensures waits { OnOk result (Waits (patience self.new) (log self.new)) }
+        ensures cause { IfErr result (IsCaused Turns (faults self.old) (faults self.new)) };
+
+    /// Leaves a child alone that runs. It takes no memory and can't be refused.
+    fn abandon(&mut self, id: u64)
+        requires { Contains (running (log self.old)) id }
+        ensures adds { log self.new ≡ log self.old ++ Abandoned id ∷ [] }
+        ensures later { faults self.new ≡ faults self.old }
+        ensures patient { patience self.new ≡ patience self.old };
+
+    /// Asks a question by its command. One that couldn't be run for another cause than absence is unanswered.
+    fn probe(&mut self, q: &Question, files: &ProbeFiles) -> Mem<Outcome>
+        requires { q.now.ask ≢ AsksExists }
+        ensures adds { (why : Why) × (log self.new ≡ log self.old ++ probed q.now files.now why result) }
+        ensures steady { W.steady ≡ true → IfOk result (λ outcome. outcome ≢ Unanswered → outcome ≡ W.answer q.now) }
+        ensures later { faults self.old ≤ faults self.new }
+        ensures patient { patience self.new ≡ patience self.old }
+        ensures cause { IfOk result (λ outcome. outcome ≡ Unanswered → Rose (faults self.old) (faults self.new)) };
+
+    /// Notes that a question has a verdict from earlier.
+    fn reused(&mut self, q: &Question, verdict: &Verdict) -> Mem<()>
+        ensures adds { log self.new ≡ log self.old ++ reused q.now verdict.now result }
+        ensures later { faults self.old ≤ faults self.new }
+        ensures patient { patience self.new ≡ patience self.old };
+
+    /// Notes that a question couldn't be asked.
+    fn unasked(&mut self, q: &Question) -> Mem<()>
+        ensures adds { log self.new ≡ log self.old ++ unasked q.now result }
+        ensures later { faults self.old ≤ faults self.new }
+        ensures patient { patience self.new ≡ patience self.old };
+
+    /// Whether a file of this path is there. What can't be told is not.
+    fn exists(&mut self, path: &str) -> Mem<bool>
+        ensures adds { log self.new ≡ log self.old ++ found path.now result }
+        ensures later { faults self.old ≤ faults self.new }
+        ensures patient { patience self.new ≡ patience self.old };
+
+    /// Makes a probe file where none of that name stands, in one step.
+    fn create_probe(&mut self, path: &str, contents: &[u8]) -> Result<Created, HostError>
+        ensures adds { log self.new ≡ log self.old ++ created path.now contents.now result }
+        ensures later { faults self.old ≤ faults self.new }
+        ensures patient { patience self.new ≡ patience self.old }
+        ensures cause { IfErr result (IsCaused CreateProbe (faults self.old) (faults self.new)) };
+
+    /// Drops a probe file that was made and not yet dropped. It takes no memory and ignores its own failure.
+    fn drop_probe(&mut self, path: &str)
+        requires { IsOpen path.now (log self.old) }
+        ensures adds { log self.new ≡ log self.old ++ Dropped path.now ∷ [] }
+        ensures later { faults self.old ≤ faults self.new }
+        ensures patient { patience self.new ≡ patience self.old };
+
+    /// Draws a word at random.
+    fn random(&mut self) -> Mem<u64>
+        ensures adds { log self.new ≡ log self.old ++ drawn result }
+        ensures later { faults self.old ≤ faults self.new }
+        ensures patient { patience self.new ≡ patience self.old };
+
     /// Runs a command to its end.
     fn output(&mut self, role: Role, cmd: &Command, pipes: Pipes) -> Result<Ran, HostError>
         ensures adds { log self.new ≡ log self.old ++ ran role cmd.now pipes result }
         ensures silent { IfOk result (IsSilent pipes) }
         ensures later { faults self.old ≤ faults self.new }
+        ensures patient { patience self.new ≡ patience self.old }
         ensures cause { IfErr result (IsCaused Output (faults self.old) (faults self.new)) };
 
     /// Makes a folder and those above it. One that is there already is made too.
     fn make_dir(&mut self, scope: Scope, path: &str) -> Result<(), HostError>
         ensures adds { log self.new ≡ log self.old ++ made scope path.now result }
         ensures later { faults self.old ≤ faults self.new }
+        ensures patient { patience self.new ≡ patience self.old }
         ensures cause { IfErr result (IsCaused (MakeDir scope) (faults self.old) (faults self.new)) };
 
     /// Removes a file. One that isn't there is absent, which is no fault.
     fn remove_file(&mut self, path: &str) -> Result<Removal, HostError>
         ensures adds { log self.new ≡ log self.old ++ removed path.now result }
         ensures later { faults self.old ≤ faults self.new }
+        ensures patient { patience self.new ≡ patience self.old }
         ensures cause { IfErr result (IsCaused Remove (faults self.old) (faults self.new)) };
 
     /// Prints bytes: a line with its line feed.
     fn print(&mut self, kind: LineKind, bytes: &[u8]) -> Result<(), HostError>
         ensures adds { log self.new ≡ log self.old ++ printed kind bytes.now result }
         ensures later { faults self.old ≤ faults self.new }
+        ensures patient { patience self.new ≡ patience self.old }
         ensures cause { IfErr result (IsCaused Print (faults self.old) (faults self.new)) };
 
     /// Lists the variables of the host's own environment.
     fn vars(&mut self) -> Result<Vars, HostError>
         ensures adds { log self.new ≡ log self.old ++ listed result }
         ensures later { faults self.old ≤ faults self.new }
+        ensures patient { patience self.new ≡ patience self.old }
         ensures cause { IfErr result (IsCaused ListsVars (faults self.old) (faults self.new)) };
 
-    /// The events so far, oldest first, lent.
+    /// The events so far, oldest first, lent. Turns one after another stand as one event with their sum. No probe file was dropped more
+    /// often than it was made.
     fn log(&self) -> &[Event]
-        ensures { result.now ≡ log self.now };
+        ensures events { flat_map apart result.now ≡ log self.now }
+        ensures tidy { IsTidy (log self.now) };
 }

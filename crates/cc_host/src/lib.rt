@@ -6,18 +6,38 @@
 #![tactic(auto)]
 
 mod bench;
+mod bench_commands;
+mod bench_host;
+mod bench_questions;
 mod calls;
 mod command;
+mod compile_command;
+mod crew;
 mod event;
+mod given;
 mod host;
+mod journal;
+mod kid;
 mod line;
+mod probe;
+mod question;
 mod script;
+#[cfg(test)]
+mod tests;
+mod verdicts;
 
-pub use bench::{Bench, BenchHost};
+pub use bench::BenchHost;
+pub use bench_host::Bench;
 pub use command::Command;
+pub use compile_command::CompileCommand;
 pub use event::{
-    Event, HostCall, HostError, LineKind, OutputKind, Pipes, Ran, Removal, Role, Scope, Status, Why,
+    Created, Event, HostCall, HostError, LineKind, News, OutputKind, Pipes, Ran, Removal, Role,
+    Scope, Start, Status, Why,
 };
 pub use host::{Host, World};
+pub use journal::Journal;
 pub use line::command_line;
+pub use probe::probe_command;
+pub use question::{Ask, Marks, Outcome, ProbeFiles, Question, Verdict};
 pub use script::Script;
+pub use verdicts::verdict;

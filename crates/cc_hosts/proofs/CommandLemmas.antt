@@ -1,9 +1,8 @@
 -- The variables of a child, set one after the other.
-use Rattle.std.proofs.Common.{◌≡◌, ◌≢◌, ℕ, ◌+◌, ◌<◌, Bool, true, false, List, [], ◌∷◌, ◌++◌, length, take, get_or, Option, Some, None, option_map, bytes_eq, if◌then◌else◌, reverse, refl, sym, ◌∙◌, ap}
+use Rattle.std.proofs.Common.{◌≡◌, ◌≢◌, ℕ, ◌+◌, ◌<◌, Bool, true, false, List, [], ◌∷◌, ◌++◌, length, take, get_or, Option, Some, option_map, bytes_eq, if◌then◌else◌, reverse, refl, sym, ◌∙◌, ap}
 use Rattle.std.proofs.lemmas.List.{reverse-append, take_more}
 use Rattle.std.proofs.lemmas.Bool.Decides.{not_from_Decides}
 use Rattle.std.proofs.lemmas.Slice.Eq.{bytes_eq-Decides}
-use Rattle.std.specs.List.{find}
 use Rattle.cc_text.specs.Vars.{is_named, lookup}
 use Rattle.cc_hosts.specs.Child.{child_value}
 

@@ -1,2 +1,4 @@
+pub mod BroodLemmas
 pub mod CommandLemmas
 pub mod EntryLemmas
+pub mod FixedLemmas

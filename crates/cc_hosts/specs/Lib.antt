@@ -1,5 +1,6 @@
+pub mod Brood
 pub mod Child
 pub mod Entry
-pub mod Journal
+pub mod HostSeen
 pub mod LookUp
 pub mod Reason

@@ -1,8 +1,7 @@
 -- Where the program of a command is looked for.
-use Rattle.std.specs.Prelude.{ℕ, Bool, true, false, ◌&&◌, ◌||◌, not, List, [], ◌∷◌, codes, ◌==◌}
+use Rattle.std.specs.Prelude.{ℕ, Bool, List, codes, ◌==◌}
 use Rattle.std.specs.List.{list_any}
 use Rattle.cc_text.specs.Vars.{is_named}
-use Rattle.cc_host.specs.Command.{CommandSeen}
 
 -- a name with a slash says where the program is
 abbrev pub has_slash : List ℕ → Bool

@@ -80,6 +80,17 @@ fn kept(alloc: Global, wanted: bool, bytes: &[u8]) -> Mem<Bytes>
     }
 }
 
+/// What became of a command that was to be started.
+#[derive(Drop)]
+pub enum Begun<P: OpenProcess + Drop> {
+    /// Its program can't be found.
+    Missing,
+    /// It couldn't be started.
+    Failed(Why),
+    /// It runs.
+    Child(Child<P>),
+}
+
 // Why the folder of a command can't be entered, or none where it can, and where none is given.
 fn folder_fault(files: &impl Files, dir: Option<&str>) -> Option<Why> {
     match fs::metadata(files, dir?) {
@@ -90,12 +101,10 @@ fn folder_fault(files: &impl Files, dir: Option<&str>) -> Option<Why> {
 }
 
 // What became of a command of which something wasn't found: its folder, or else its program.
-fn not_found(files: &impl Files, cmd: &Command) -> Outcome
-    ensures { (pipes : Pipes) → IsSilentEnd pipes result }
-{
+fn not_found<P: OpenProcess + Drop>(files: &impl Files, cmd: &Command) -> Begun<P> {
     match folder_fault(files, cmd.get_current_dir()) {
-        Some(why) => Outcome::Failed(why),
-        None => Outcome::Missing,
+        Some(why) => Begun::Failed(why),
+        None => Begun::Missing,
     }
 }
 
@@ -112,8 +121,8 @@ fn kept_end(alloc: Global, output: &Output, pipes: Pipes) -> Mem<Ended>
     })
 }
 
-// Waits for the end of a child that was started. Memory that is wanted now is a failure: the child did run.
-fn finish<P: OpenProcess + Drop>(alloc: Global, child: Child<P>, pipes: Pipes) -> Outcome
+/// Waits for the end of a child that was started. Memory that is wanted now is a failure: the child did run.
+pub fn finish<P: OpenProcess + Drop>(alloc: Global, child: Child<P>, pipes: Pipes) -> Outcome
     ensures { IsSilentEnd pipes result }
 {
     match child.wait_with_output(alloc) {
@@ -133,16 +142,14 @@ fn stdio_of(kind: OutputKind) -> Stdio {
     }
 }
 
-// Starts a child and waits for its end.
-fn start<R: Processes + Files>(
+// Starts a child whose program is at this path.
+fn begin_at<R: Processes + Files>(
     alloc: Global,
     rt: &R,
     program: &str,
     cmd: &Command,
     pipes: Pipes,
-) -> Mem<Outcome>
-    ensures { IfOk result (IsSilentEnd pipes) }
-{
+) -> Mem<Begun<R::Started>> {
     let mut child = child_of(alloc, program, cmd)?;
     child.arg0(cmd.get_program())?;
     child.stdout(stdio_of(pipes.out));
@@ -152,12 +159,25 @@ fn start<R: Processes + Files>(
         Stdio::inherit()
     });
     match child.spawn(rt) {
-        Ok(started) => Ok(finish(alloc, started, pipes)),
+        Ok(started) => Ok(Begun::Child(started)),
         Err(error) => match error.kind() {
             ErrorKind::NotFound => Ok(not_found(rt, cmd)),
             ErrorKind::OutOfMemory => Err(NoMemory),
-            kind => Ok(Outcome::Failed(why_of(kind))),
+            kind => Ok(Begun::Failed(why_of(kind))),
         },
+    }
+}
+
+/// Starts a command. Want of memory means that nothing was started.
+pub fn begin<R: Processes + Files + Env + AllocGlobal>(
+    rt: &R,
+    cmd: &Command,
+    pipes: Pipes,
+) -> Mem<Begun<R::Started>> {
+    match look_up(rt, cmd)? {
+        Place::Named => begin_at(rt.alloc(), rt, cmd.get_program(), cmd, pipes),
+        Place::At(path) => begin_at(rt.alloc(), rt, path.as_str(), cmd, pipes),
+        Place::Nowhere => Ok(not_found(rt, cmd)),
     }
 }
 
@@ -169,9 +189,9 @@ pub fn run<R: Processes + Files + Env + AllocGlobal>(
 ) -> Mem<Outcome>
     ensures { IfOk result (IsSilentEnd pipes) }
 {
-    match look_up(rt, cmd)? {
-        Place::Named => start(rt.alloc(), rt, cmd.get_program(), cmd, pipes),
-        Place::At(path) => start(rt.alloc(), rt, path.as_str(), cmd, pipes),
-        Place::Nowhere => Ok(not_found(rt, cmd)),
+    match begin(rt, cmd, pipes)? {
+        Begun::Missing => Ok(Outcome::Missing),
+        Begun::Failed(why) => Ok(Outcome::Failed(why)),
+        Begun::Child(child) => Ok(finish(rt.alloc(), child, pipes)),
     }
 }

@@ -1,45 +1,58 @@
 // A host over the machine.
-ghost use Rattle.std.specs.Prelude.{◌≡◌, IfOk};
-ghost use Rattle.cc_hosts.specs.Journal.{HostSeen, fresh};
+ghost use Rattle.std.specs.Prelude.{◌≡◌, ◌≢◌, None, true, IfOk};
+ghost use Rattle.cc_host.specs.declared.question.Ask.TheVariants.{Exists as AsksExists};
+ghost use Rattle.cc_host.specs.Given.{is_answered};
+ghost use Rattle.cc_host.specs.declared.question.Outcome.TheVariants.{Done};
+ghost use Rattle.cc_hosts.specs.HostSeen.{HostSeen, fresh};
 
-use crate::child::{self, Ended, Outcome};
+use crate::brood::Brood;
+use crate::child::{self, Begun, Ended};
 use crate::entry::list_vars;
-use crate::journal::Journal;
 use crate::reason::why_of;
 use cc_host::{
-    Command, Event, Host, HostCall, HostError, LineKind, Pipes, Ran, Removal, Role, Scope, Why,
-    World,
+    Ask, Command, Created, Event, Host, HostCall, HostError, LineKind, News, Outcome, OutputKind,
+    Pipes, ProbeFiles, Question, Ran, Removal, Role, Scope, Start, Verdict, Why, World,
+    probe_command,
 };
-use cc_text::{Bytes, Mem, NoMemory, Text, Vars};
+use cc_text::{Bytes, Mem, NoMemory, Text, Vars, Words};
 use std::alloc::Global;
 use std::env::Env;
-use std::io::{Eprint, ErrorKind, Print};
+use std::io::{Eprint, ErrorKind, Print, Write};
 use std::marker::Model;
 use std::process::Processes;
+use std::random::RandomSource;
 use std::rt::Files;
 use std::{fs, io};
 
-/// The world of `ProcessHost`.
+/// The world of `ProcessHost`. It isn't steady: the machine may change.
 pub struct Real;
 
-impl World for Real {}
+impl World for Real {
+    ghost use Rattle.std.specs.Prelude.{false};
+    ghost use Rattle.cc_host.specs.declared.question.Outcome.TheVariants.{Unanswered};
+
+    ghost steady = { false };
+
+    ghost answer = { λ _. Unanswered };
+}
 
 /// A host over the processes, the files and the streams of the machine, by its runtime. It keeps the trait `Host`, and no
 /// more is proved of it: no proof can tell what a process did.
 #[derive(Drop)]
-pub struct ProcessHost<R> {
+pub struct ProcessHost<R: Processes> {
     rt: R,
     alloc: Global,
-    journal: Journal,
+    brood: Brood<R::Started>,
+    drawn: u64,
 }
 
-impl<R> Model for ProcessHost<R> {
+impl<R: Processes> Model for ProcessHost<R> {
     ghost Value = { HostSeen };
 
-    ghost view = { λ h. record { log = h.journal.events; faults = h.journal.faults } };
+    ghost view = { λ h. record { log = h.brood.log; faults = h.brood.faults } };
 }
 
-impl<R: AllocGlobal> ProcessHost<R> {
+impl<R: Processes + AllocGlobal> ProcessHost<R> {
     /// A host before its first call. It takes no memory.
     pub fn new(rt: R) -> Mem<ProcessHost<R>>
         ensures { IfOk result (λ h. h ≡ fresh) }
@@ -48,7 +61,8 @@ impl<R: AllocGlobal> ProcessHost<R> {
         Ok(ProcessHost {
             rt,
             alloc,
-            journal: Journal::new(alloc),
+            brood: Brood::new(alloc),
+            drawn: 0,
         })
     }
 }
@@ -76,23 +90,146 @@ fn write_line<R: Print + Eprint>(
     }
 }
 
-impl<R: Processes + Files + Env + Print + Eprint + AllocGlobal> Host<Real> for ProcessHost<R> {
+impl<R: Processes + Files + Env + Print + Eprint + RandomSource + AllocGlobal> Host<Real>
+    for ProcessHost<R> {
     ghost log = { λ h. h.log };
 
     ghost faults = { λ h. h.faults };
 
+    ghost patience = { λ _. None };
+
+    fn start(
+        &mut self,
+        role: Role,
+        cmd: &Command,
+        pipes: Pipes,
+        held: u64,
+    ) -> Result<Start, HostError> {
+        self.brood.reserve_child()?;
+        let command = cmd.try_clone()?;
+        match child::begin(&self.rt, cmd, pipes)? {
+            Begun::Missing => {
+                self.brood.note(Event::Missing { role, cmd: command });
+                Ok(Start::Missing)
+            }
+            Begun::Failed(why) => Err(self.brood.fault(HostCall::Start, why)),
+            Begun::Child(child) => {
+                let id = self.brood.note_child(child, role, command, pipes, held);
+                Ok(Start::Child(id))
+            }
+        }
+    }
+
+    fn turn(&mut self, _rest_ms: u64) -> Result<Vec<News>, HostError> {
+        let news = self.brood.turn()?;
+        Ok(news)
+    }
+
+    fn abandon(&mut self, id: u64) {
+        self.brood.abandon(id);
+    }
+
+    #[tactic(auto, using(cc_host::proofs::GivenLemmas::answered_event, cc_host::proofs::GivenLemmas::answered_is))]
+    fn probe(&mut self, q: &Question, files: &ProbeFiles) -> Mem<Outcome> {
+        self.brood.reserve(2)?;
+        let question = q.try_clone()?;
+        let with = files.try_clone()?;
+        match outcome_of(ask(self.alloc, &self.rt, q, files)?) {
+            Ok((outcome, copy)) => {
+                self.brood.note(Event::Answered {
+                    question,
+                    files: Some(with),
+                    outcome: copy,
+                });
+                Ok(outcome)
+            }
+            Err(why) => {
+                self.brood.fault(HostCall::Probe, why);
+                self.brood.note(Event::Answered {
+                    question,
+                    files: Some(with),
+                    outcome: Outcome::Unanswered,
+                });
+                Ok(Outcome::Unanswered)
+            }
+        }
+    }
+
+    fn reused(&mut self, q: &Question, verdict: &Verdict) -> Mem<()> {
+        self.brood.reserve(1)?;
+        let question = q.try_clone()?;
+        let verdict = verdict.try_clone()?;
+        self.brood.note(Event::Reused { question, verdict });
+        Ok(())
+    }
+
+    fn unasked(&mut self, q: &Question) -> Mem<()> {
+        self.brood.reserve(1)?;
+        let question = q.try_clone()?;
+        self.brood.note(Event::Unasked { question });
+        Ok(())
+    }
+
+    fn exists(&mut self, path: &str) -> Mem<bool> {
+        self.brood.reserve(1)?;
+        let question = Question {
+            ask: Ask::Exists,
+            program: Text::of(self.alloc, path)?,
+            words: Words::new(self.alloc),
+            vars: Vars::new(self.alloc),
+        };
+        let there = fs::exists(&self.rt, path).unwrap_or(false);
+        self.brood.note(Event::Answered {
+            question,
+            files: None,
+            outcome: Outcome::Exists(there),
+        });
+        Ok(there)
+    }
+
+    fn create_probe(&mut self, path: &str, contents: &[u8]) -> Result<Created, HostError> {
+        self.brood.reserve_probe()?;
+        let name = Text::of(self.alloc, path)?;
+        let kept = Text::of(self.alloc, path)?;
+        let bytes = Bytes::of(self.alloc, contents)?;
+        match create_new(&self.rt, path, contents) {
+            Ok(Created::New) => {
+                self.brood.note_opened(name, kept, bytes);
+                Ok(Created::New)
+            }
+            Ok(Created::Exists) => {
+                self.brood.note(Event::Taken { path: name });
+                Ok(Created::Exists)
+            }
+            Err(why) => Err(self.brood.fault(HostCall::CreateProbe, why)),
+        }
+    }
+
+    fn drop_probe(&mut self, path: &str) {
+        let _ = fs::remove_file(&self.rt, path);
+        self.brood.note_dropped(path);
+    }
+
+    fn random(&mut self) -> Mem<u64> {
+        self.brood.reserve(1)?;
+        self.drawn = self.drawn.wrapping_add(1);
+        let word = random_word(&self.rt, self.drawn);
+        self.brood.note(Event::Drawn { word });
+        Ok(word)
+    }
+
     fn output(&mut self, role: Role, cmd: &Command, pipes: Pipes) -> Result<Ran, HostError> {
-        self.journal.reserve()?;
+        self.brood.reserve(1)?;
         let command = cmd.try_clone()?;
         match child::run(&self.rt, cmd, pipes)? {
-            Outcome::Missing => {
-                self.journal.note(Event::Missing { role, cmd: command });
+            child::Outcome::Missing => {
+                self.brood.note(Event::Missing { role, cmd: command });
                 Ok(Ran::Missing)
             }
-            Outcome::Failed(why) => Err(self.journal.fault(HostCall::Output, why)),
-            Outcome::Ended(end) => match end.try_clone() {
+            child::Outcome::Failed(why) => Err(self.brood.fault(HostCall::Output, why)),
+            child::Outcome::Ended(end) => match end.try_clone() {
                 Ok(Ended { status, out, err }) => {
-                    self.journal.note(Event::Ran {
+                    self.brood.note(Event::Ran {
                         role,
                         cmd: command,
                         pipes,
@@ -106,66 +243,66 @@ impl<R: Processes + Files + Env + Print + Eprint + AllocGlobal> Host<Real> for P
                         err: end.err,
                     })
                 }
-                Err(_) => Err(self.journal.fault(HostCall::Output, Why::Other)),
+                Err(_) => Err(self.brood.fault(HostCall::Output, Why::Other)),
             },
         }
     }
 
     fn make_dir(&mut self, scope: Scope, path: &str) -> Result<(), HostError> {
-        self.journal.reserve()?;
+        self.brood.reserve(1)?;
         let made = Text::of(self.alloc, path)?;
         match fs::create_dir_all(&self.rt, path) {
             Ok(()) => {
-                self.journal.note(Event::Made { scope, path: made });
+                self.brood.note(Event::Made { scope, path: made });
                 Ok(())
             }
             Err(error) => {
                 let why = why_of(error.kind());
-                Err(self.journal.fault(HostCall::MakeDir(scope), why))
+                Err(self.brood.fault(HostCall::MakeDir(scope), why))
             }
         }
     }
 
     fn remove_file(&mut self, path: &str) -> Result<Removal, HostError> {
-        self.journal.reserve()?;
+        self.brood.reserve(1)?;
         let removed = Text::of(self.alloc, path)?;
         match remove(&self.rt, path) {
             Ok(how) => {
-                self.journal.note(Event::Removed { path: removed, how });
+                self.brood.note(Event::Removed { path: removed, how });
                 Ok(how)
             }
-            Err(why) => Err(self.journal.fault(HostCall::Remove, why)),
+            Err(why) => Err(self.brood.fault(HostCall::Remove, why)),
         }
     }
 
     fn print(&mut self, kind: LineKind, bytes: &[u8]) -> Result<(), HostError> {
-        self.journal.reserve()?;
+        self.brood.reserve(1)?;
         let line = Bytes::of(self.alloc, bytes)?;
         let text = String::from_utf8_lossy(self.alloc, bytes).map_err(NoMemory::from)?;
         match write_line(&self.rt, kind, bytes, text) {
             Ok(()) => {
-                self.journal.note(Event::Printed { kind, bytes: line });
+                self.brood.note(Event::Printed { kind, bytes: line });
                 Ok(())
             }
-            Err(error) => Err(self.journal.fault(HostCall::Print, why_of(error.kind()))),
+            Err(error) => Err(self.brood.fault(HostCall::Print, why_of(error.kind()))),
         }
     }
 
     fn vars(&mut self) -> Result<Vars, HostError> {
-        self.journal.reserve()?;
+        self.brood.reserve(1)?;
         let listing = list_vars(self.alloc, &self.rt)?;
         let vars = listing.vars.try_clone()?;
         match warn(&self.rt, listing.left_out) {
             Ok(()) => {
-                self.journal.note(Event::Listed { vars });
+                self.brood.note(Event::Listed { vars });
                 Ok(listing.vars)
             }
-            Err(error) => Err(self.journal.fault(HostCall::Vars, why_of(error.kind()))),
+            Err(error) => Err(self.brood.fault(HostCall::Vars, why_of(error.kind()))),
         }
     }
 
     fn log(&self) -> &[Event] {
-        self.journal.events()
+        self.brood.events()
     }
 }
 
@@ -178,5 +315,83 @@ fn remove(files: &impl Files, path: &str) -> Result<Removal, Why> {
             ErrorKind::NotADirectory => Ok(Removal::Absent),
             kind => Err(why_of(kind)),
         },
+    }
+}
+
+const KEPT: Pipes = Pipes {
+    out: OutputKind::Capture,
+    hear: true,
+};
+
+// Runs the command of a question to its end.
+fn ask<R: Processes + Files + Env + AllocGlobal>(
+    alloc: Global,
+    rt: &R,
+    q: &Question,
+    files: &ProbeFiles,
+) -> Mem<child::Outcome>
+    requires { q.now.ask ≢ AsksExists }
+{
+    let cmd = probe_command(alloc, q, files)?;
+    child::run(rt, &cmd, KEPT)
+}
+
+// What a question comes to by the end of its command, and a second outcome that equals it; or why it isn't answered.
+fn outcome_of(end: child::Outcome) -> Result<(Outcome, Outcome), Why>
+    ensures { IfOk result (λ p. (p.0 ≡ p.1) × (is_answered p.0 ≡ true)) }
+{
+    match end {
+        child::Outcome::Missing => Ok((Outcome::Missing, Outcome::Missing)),
+        child::Outcome::Failed(why) => Err(why),
+        child::Outcome::Ended(end) => ended(end),
+    }
+}
+
+// What a question comes to whose command ended. Memory that is wanted now is a failure: the command did run.
+fn ended(end: Ended) -> Result<(Outcome, Outcome), Why>
+    ensures { IfOk result (λ p. (p.0 ≡ p.1) × (is_answered p.0 ≡ true)) }
+{
+    match end.try_clone() {
+        Ok(copy) => Ok((done(end), done(copy))),
+        Err(_) => Err(Why::Other),
+    }
+}
+
+fn done(end: Ended) -> Outcome
+    ensures { result ≡ Done end.status end.out end.err }
+{
+    Outcome::Done {
+        status: end.status,
+        out: end.out,
+        err: end.err,
+    }
+}
+
+// Makes a file where none of that name stands. One whose bytes couldn't be written is removed again.
+fn create_new<R: Files>(rt: &R, path: &str, contents: &[u8]) -> Result<Created, Why> {
+    let mut file = match fs::File::create_new(rt, path) {
+        Ok(file) => file,
+        Err(error) => {
+            return match error.kind() {
+                ErrorKind::AlreadyExists => Ok(Created::Exists),
+                kind => Err(why_of(kind)),
+            };
+        }
+    };
+    match file.write_all(contents) {
+        Ok(()) => Ok(Created::New),
+        Err(error) => {
+            let _ = fs::remove_file(rt, path);
+            Err(why_of(error.kind()))
+        }
+    }
+}
+
+// A word at random, or this one where the system gives none.
+fn random_word(rt: &impl RandomSource, other: u64) -> u64 {
+    let mut bytes = [0; 8];
+    match rt.fill_bytes(&mut bytes) {
+        Ok(()) => u64::from_le_bytes(bytes),
+        Err(_) => other,
     }
 }

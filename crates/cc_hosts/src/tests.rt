@@ -1,8 +1,10 @@
 // The host over the machine, on programs that each machine has and in folders of its own.
 use crate::ProcessHost;
 use cc_host::{
-    Command, Host, HostCall, HostError, OutputKind, Pipes, Ran, Removal, Role, Scope, Why,
+    Ask, Command, Created, Host, HostCall, HostError, Outcome, OutputKind, Pipes, ProbeFiles,
+    Question, Ran, Removal, Role, Scope, Start, Status, Verdict, Why, verdict,
 };
+use cc_text::{Text, Vars, Words};
 use std::test::Fail;
 use std::{env, fs, process};
 
@@ -122,5 +124,81 @@ fn variables_of_the_process_are_listed(rt: HostRuntime) -> Result<(), Fail> {
         assert_eq!(rt; value.as_str(), pair.1.as_str());
     }
     assert_eq!(rt; host.log().len(), 1);
+    Ok(())
+}
+
+fn gcc_question(rt: &HostRuntime) -> Result<Question, Fail> {
+    let alloc = rt.alloc();
+    let mut vars = Vars::new(alloc);
+    vars.push("PATH", "/usr/bin:/bin")?;
+    Ok(Question {
+        ask: Ask::ToolVersion,
+        program: Text::of(alloc, "gcc")?,
+        words: Words::new(alloc),
+        vars,
+    })
+}
+
+#[test]
+fn a_probe_is_answered_and_noted(rt: HostRuntime) -> Result<(), Fail> {
+    let alloc = rt.alloc();
+    let mut host = ProcessHost::new(rt)?;
+    let mut q = gcc_question(&rt)?;
+    let files = ProbeFiles {
+        dir: Text::new(alloc),
+        source: Text::new(alloc),
+        object: Text::new(alloc),
+    };
+    let outcome = host.probe(&q, &files)?;
+    assert!(rt; matches!(verdict(alloc, &q, &outcome)?, Verdict::Yes));
+    q.program = Text::of(alloc, "no such compiler é")?;
+    assert!(rt; matches!(host.probe(&q, &files)?, Outcome::Missing));
+    assert_eq!(rt; host.log().len(), 2);
+    Ok(())
+}
+
+#[test]
+fn a_probe_file_is_made_where_none_stands(rt: HostRuntime) -> Result<(), Fail> {
+    let mut host = ProcessHost::new(rt)?;
+    let path = own_path(&rt, "probe.c")?;
+    assert!(rt; !host.exists(path.as_str())?);
+    assert_eq!(rt;
+        host.create_probe(path.as_str(), b"int x;\n"),
+        Ok(Created::New)
+    );
+    assert_eq!(rt;
+        host.create_probe(path.as_str(), b"int y;\n"),
+        Ok(Created::Exists)
+    );
+    assert_eq!(rt;
+        fs::read_to_string(&rt, path.as_str())?.as_str(),
+        "int x;\n"
+    );
+    host.drop_probe(path.as_str());
+    assert!(rt; !host.exists(path.as_str())?);
+    let refused = HostError::Fault(HostCall::CreateProbe, Why::NotFound);
+    assert_eq!(rt; host.create_probe("/no such folder/a", b""), Err(refused));
+    Ok(())
+}
+
+#[test]
+fn the_oldest_child_is_waited_for(rt: HostRuntime) -> Result<(), Fail> {
+    let mut host = ProcessHost::new(rt)?;
+    for (line, id) in [("echo A >&2; exit 3", 0), ("exit 0", 1), ("sleep 60", 2)] {
+        assert_eq!(rt;
+            host.start(Role::Compile, &shell(&rt, line)?, KEPT, 1),
+            Ok(Start::Child(id))
+        );
+    }
+    for (id, piece, code) in [(0, Some("A\n"), 3), (1, None, 0)] {
+        let news = host.turn(0)?;
+        assert_eq!(rt; news.len(), 1);
+        assert_eq!(rt; news[0].id, id);
+        assert_eq!(rt; news[0].ended, Some(Status::Code(code)));
+        let told = news[0].piece.as_ref().map(|p| p.as_slice());
+        assert_eq!(rt; told, piece.map(|p| p.as_bytes()));
+    }
+    host.abandon(2);
+    assert!(rt; host.turn(0)?.is_empty());
     Ok(())
 }

@@ -1,12 +1,12 @@
 -- The flags of words, with one word more.
 use Rattle.std.proofs.Common.{◌≡◌, ℕ, List, [], ◌∷◌, ◌++◌, Option, Some, None, Bool, true, false, not, ◌&&◌, ◌||◌, if◌then◌else◌, codes, bytes_eq, filter, refl, sym, ◌∙◌, ap, append-nil, append_assoc}
-use Rattle.std.specs.List.{flat_map, list_any}
+use Rattle.std.specs.List.{flat_map}
 use Rattle.std.proofs.lemmas.Grind.{flat_map-append}
 use Rattle.std.proofs.lemmas.Slice.Eq.{bytes_eq-Decides}
 use Rattle.cc_text.specs.Cuts.{key_and_value}
 use Rattle.cc_plan.specs.Flags.{is_always, without}
 use Rattle.cc_plan.specs.declared.flags.BuildFlag.{BuildFlag}
-use Rattle.cc_plan.specs.declared.flags.BuildFlag.TheVariants.{Always, IfSupported}
+use Rattle.cc_plan.specs.declared.flags.BuildFlag.TheVariants.{Always}
 use Rattle.cc_main.specs.Read.{is, by, values, pair_value, is_among, flag_of, flags_of}
 use Rattle.cc_main.specs.Step.{flags_behind}
 

@@ -1,5 +1,5 @@
 -- What the setter of a key does to the settings.
-use Rattle.std.proofs.Common.{◌≡◌, ◌⊎◌, inl, inr, ℕ, List, [], ◌∷◌, ◌++◌, Option, Some, None, Result, Ok, Err, MatchResult, IsErr, IfOk, OnOk, codes, bytes_eq, Bool, true, false, ◌||◌, unwrap_or, refl, sym, ◌∙◌, ap, subst}
+use Rattle.std.proofs.Common.{◌≡◌, ◌⊎◌, inl, inr, ℕ, List, [], ◌∷◌, ◌++◌, Option, Some, None, Result, Ok, Err, MatchResult, IsErr, IfOk, OnOk, codes, Bool, true, false, ◌||◌, unwrap_or, refl, sym, ap, subst}
 use Rattle.cc_text.specs.Cuts.{key_and_value}
 use Rattle.cc_build.specs.Build.{BuildSeen}
 use Prim.Native.String.{String}
@@ -56,9 +56,9 @@ unfolding is_choice_key
 no_choice_key key n1 n2 n3 n4 n5 n6 n7 n8 = rw (is_not key "shared_flag" n1, is_not key "static_flag" n2, is_not key "warnings" n3, is_not key "extra_warnings" n4, is_not key "pic" n5, is_not key "use_plt" n6, is_not key "static_crt" n7, is_not key "shell_escaped_flags" n8) refl
 
 -- a key that is none of these is no such key
-pub no_switch_key : (key : List ℕ) → (key ≡ codes "no_default_flags" → ⊥) → (key ≡ codes "reproducible_codeview" → ⊥) → (key ≡ codes "cpp" → ⊥) → (key ≡ codes "warnings_into_errors" → ⊥) → (key ≡ codes "cargo_warnings" → ⊥) → (key ≡ codes "emit_rerun_if_env_changed" → ⊥) → is_switch_key key ≡ false
+pub no_switch_key : (key : List ℕ) → (key ≡ codes "no_default_flags" → ⊥) → (key ≡ codes "reproducible_codeview" → ⊥) → (key ≡ codes "cpp" → ⊥) → (key ≡ codes "warnings_into_errors" → ⊥) → (key ≡ codes "cargo_warnings" → ⊥) → (key ≡ codes "emit_rerun_if_env_changed" → ⊥) → (key ≡ codes "prefer_clang_cl_over_msvc" → ⊥) → is_switch_key key ≡ false
 unfolding is_switch_key
-no_switch_key key n1 n2 n3 n4 n5 n6 = rw (is_not key "no_default_flags" n1, is_not key "reproducible_codeview" n2, is_not key "cpp" n3, is_not key "warnings_into_errors" n4, is_not key "cargo_warnings" n5, is_not key "emit_rerun_if_env_changed" n6) refl
+no_switch_key key n1 n2 n3 n4 n5 n6 n7 = rw (is_not key "no_default_flags" n1, is_not key "reproducible_codeview" n2, is_not key "cpp" n3, is_not key "warnings_into_errors" n4, is_not key "cargo_warnings" n5, is_not key "emit_rerun_if_env_changed" n6, is_not key "prefer_clang_cl_over_msvc" n7) refl
 
 -- a key of no kind is unknown
 pub unknown_key : (old : BuildSeen) (key value : List ℕ) → is_text_key key ≡ false → is_item_key key ≡ false → is_choice_key key ≡ false → is_switch_key key ≡ false → (key ≡ codes "opt_level" → ⊥) → (key ≡ codes "env" → ⊥) → Sets old old key value (Some UnknownKey)

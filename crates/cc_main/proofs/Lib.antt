@@ -1,4 +1,5 @@
 pub mod AnswerLaws
+pub mod AskLaws
 pub mod FlagLaws
 pub mod KeyLaws
 pub mod NumberLaws

@@ -1,68 +1,67 @@
 -- What follows from an answer.
-use Rattle.std.proofs.Common.{◌≡◌, ◌⊎◌, inl, inr, ℕ, List, [], ◌∷◌, ◌++◌, Bool, true, false, not, ◌||◌, if◌then◌else◌, Option, None, Some, Result, Ok, Err, refl, sym, ◌∙◌, ap, subst, append-nil, append_assoc}
+use Rattle.std.proofs.Common.{◌≡◌, ◌⊎◌, inl, inr, ℕ, List, [], ◌∷◌, ◌++◌, Bool, true, false, not, ◌||◌, if◌then◌else◌, None, Some, Result, Ok, Err, refl, sym, ◌∙◌, ap, subst, append-nil}
 use Rattle.std.specs.List.{list_any}
-use Rattle.std.specs.Option.{option_map}
 use Rattle.cc_env.specs.Env.{EnvSeen}
-use Rattle.cc_host.specs.Part.{Step, IsPartly, done, left, stops, calm, stop_of, StopsAt, is_success, listings}
+use Rattle.cc_host.specs.Question.{Look}
+use Rattle.cc_host.specs.Status.{is_success}
+use Rattle.cc_host.specs.Part.{Step, IsPartly, done, left, stops, calm, stop_of, StopsAt, is_probing, listings}
 use Rattle.cc_host.specs.Part.Step.{Lists}
 use Rattle.cc_host.proofs.Order.{is_archive}
-use Rattle.cc_host.proofs.Parts.{partly_whole, stops_both, calm_whole, listings_then}
+use Rattle.cc_host.proofs.Parts.{stops_both, listings_then}
 use Rattle.cc_host.specs.declared.event.Event.{Event}
-use Rattle.cc_host.specs.declared.event.Event.TheVariants.{Ran, Missing, Made, Removed, Printed, Listed, Fault}
+use Rattle.cc_host.specs.declared.event.Event.TheVariants.{Ran, Missing, Printed, Fault}
 use Rattle.cc_host.specs.declared.event.HostCall.{HostCall}
 use Rattle.cc_host.specs.declared.event.HostCall.TheVariants.{Print}
 use Rattle.cc_host.specs.declared.event.LineKind.TheVariants.{Fault as FaultLine}
 use Rattle.cc_host.specs.declared.event.Why.{Why}
 use Rattle.cc_plan.specs.declared.settings.BuildConfig.{BuildConfig}
-use Rattle.cc_plan.specs.Given.{is_disabled}
 use Rattle.cc_plan.specs.Plan.{planned_steps, folder_steps, compile_steps}
-use Rattle.cc_plan.specs.Refusal.{early_refusal, late_refusal}
 use Rattle.cc_plan.specs.Valid.{Valid}
 use Rattle.cc_plan.proofs.ValidLaws.{early_accepted, late_accepted}
 use Rattle.cc_build.specs.Captured.{with_vars}
-use Rattle.cc_build.specs.Error.{ErrorSeen, no_memory}
+use Rattle.cc_build.specs.Error.{ErrorSeen}
 use Rattle.cc_build.specs.Failed.{Failed, HasFault, is_failed_command, is_fault}
 use Rattle.cc_build.specs.Order.{is_archive_event}
 use Rattle.cc_build.specs.Outcome.{IsCausedBy}
-use Rattle.cc_build.specs.Refusal.{plan_error, refusal_error}
+use Rattle.cc_build.specs.Refusal.{refusal_error}
 use Rattle.cc_build.specs.Stop.{stopped_by}
 use Rattle.cc_build.proofs.OrderLaws.{IsOrdered, planned, archives_behind, no_source_archives}
-use Rattle.cc_main.specs.Answer.{Answers, AnswersBad, AnswersWords, BuiltBy, Refused, Tells, first_listing, heard, env_in, steps_of, error_of, error_line, word_line, is_wanting, ended_well, ended_refused, ended_bad, ended_wanting}
-use Rattle.cc_main.specs.Promises.{Headline, EndsWith, TellsLast, IsLine, Begun, IsBegun, ArchivesBehind, CompilesFirst, FaultsLast, IsComplete}
+use Rattle.cc_main.specs.Answer.{Answers, AnswersWords, BuiltBy, Refused, Tells, first_listing, heard, env_in, steps_of, error_of, error_line, word_line, is_wanting, ended_well, ended_wanting}
+use Rattle.cc_main.specs.Promises.{Headline, TellsLast, IsLine, Begun, IsBegun, ArchivesBehind, CompilesFirst, FaultsLast, IsComplete}
 use Rattle.cc_main.specs.Read.{Request}
 use Rattle.cc_main.specs.declared.top.Ended.{Ended}
 use Rattle.cc_main.specs.declared.words.BadWord.{BadWord}
 
 -- the headline
-built_of : (q : Request) (part : List Event) (ended : Ended) → Answers q part ended → ended.status ≡ 0 → BuiltBy q part
-built_of q part ended (inl well) zero_is = well.1.0
-built_of q part ended (inr (inl r)) zero_is = let s : ended.status ≡ 1 = ap (λ (x : Ended). x.status) r.is in absurd (cc)
-built_of q part ended (inr (inr wanting)) zero_is = let s : ended.status ≡ 3 = ap (λ (x : Ended). x.status) wanting.0 in absurd (cc)
+built_of : (look : Look) (q : Request) (part : List Event) (ended : Ended) → Answers look q part ended → ended.status ≡ 0 → BuiltBy look q part
+built_of look q part ended (inl well) zero_is = well.1.0
+built_of look q part ended (inr (inl r)) zero_is = let s : ended.status ≡ 1 = ap (λ (x : Ended). x.status) r.is in absurd (cc)
+built_of look q part ended (inr (inr wanting)) zero_is = let s : ended.status ≡ 3 = ap (λ (x : Ended). x.status) wanting.0 in absurd (cc)
 
-pub headline : (words : Result Request BadWord) (part : List Event) (ended : Ended) → AnswersWords words part ended → Headline words part ended
-headline (Ok q) part ended a = built_of q part ended a
-headline (Err bad) part ended a = tt
+pub headline : (look : Look) (words : Result Request BadWord) (part : List Event) (ended : Ended) → AnswersWords look words part ended → Headline look words part ended
+headline look (Ok q) part ended a = built_of look q part ended a
+headline look (Err bad) part ended a = tt
 
 -- the line that tells it is last
-pub tells_last : (words : Result Request BadWord) (part : List Event) (ended : Ended) → AnswersWords words part ended → TellsLast part ended
-tells_last (Ok q) part ended (inl well) = inl well.0
-tells_last (Ok q) part ended (inr (inl r)) = inr (inl (r.error, (r.is, record { before = r.run; end = r.line; cut = r.cut; told = r.told })))
-tells_last (Ok q) part ended (inr (inr wanting)) = inr (inr (inr wanting.0))
-tells_last (Err bad) part ended (inl told) = inr (inr (inl (bad, (told.0, record { before = []; end = part; cut = refl; told = told.1 }))))
-tells_last (Err bad) part ended (inr wanting) = inr (inr (inr wanting.0))
+pub tells_last : (look : Look) (words : Result Request BadWord) (part : List Event) (ended : Ended) → AnswersWords look words part ended → TellsLast part ended
+tells_last look (Ok q) part ended (inl well) = inl well.0
+tells_last look (Ok q) part ended (inr (inl r)) = inr (inl (r.error, (r.is, record { before = r.run; end = r.line; cut = r.cut; told = r.told })))
+tells_last look (Ok q) part ended (inr (inr wanting)) = inr (inr (inr wanting.0))
+tells_last look (Err bad) part ended (inl told) = inr (inr (inl (bad, (told.0, record { before = []; end = part; cut = refl; told = told.1 }))))
+tells_last look (Err bad) part ended (inr wanting) = inr (inr (inr wanting.0))
 
 line_of : (line : List ℕ) (part : List Event) → Tells line part → IsLine part
 line_of line part (inl printed) = inr (inl (line, printed))
 line_of line part (inr faulted) = inr (inr faulted)
 
-begun_of : (q : Request) (part : List Event) (ended : Ended) → Answers q part ended → Begun q part
-begun_of q part ended (inl well) = record { run = part; line = []; cut = sym (append-nil part); partly = well.1.1; told = inl refl }
-begun_of q part ended (inr (inl r)) = record { run = r.run; line = r.line; cut = r.cut; partly = r.refused.0; told = line_of (error_line r.error) r.line r.told }
-begun_of q part ended (inr (inr wanting)) = record { run = part; line = []; cut = sym (append-nil part); partly = wanting.1; told = inl refl }
+begun_of : (look : Look) (q : Request) (part : List Event) (ended : Ended) → Answers look q part ended → Begun look q part
+begun_of look q part ended (inl well) = record { run = part; line = []; cut = sym (append-nil part); partly = well.1.1; told = inl refl }
+begun_of look q part ended (inr (inl r)) = record { run = r.run; line = r.line; cut = r.cut; partly = r.refused.0; told = line_of (error_line r.error) r.line r.told }
+begun_of look q part ended (inr (inr wanting)) = record { run = part; line = []; cut = sym (append-nil part); partly = wanting.1; told = inl refl }
 
-pub is_begun : (words : Result Request BadWord) (part : List Event) (ended : Ended) → AnswersWords words part ended → IsBegun words part
-is_begun (Ok q) part ended a = begun_of q part ended a
-is_begun (Err bad) part ended a = tt
+pub is_begun : (look : Look) (words : Result Request BadWord) (part : List Event) (ended : Ended) → AnswersWords look words part ended → IsBegun look words part
+is_begun look (Ok q) part ended a = begun_of look q part ended a
+is_begun look (Err bad) part ended a = tt
 
 -- an event of a list with one more behind it is the last one, or stands before it
 module _ (event x : Event) (after : List Event) where
@@ -125,24 +124,24 @@ listed_first : (folder compile steps : List Step) → IsOrdered folder compile s
 listed_first folder compile steps (inl k) = inl (k.0, ap (λ l. Lists ∷ l) k.1)
 listed_first folder compile steps (inr none) = inr none
 
-order_in : (q : Request) (run : List Event) → IsPartly (steps_of q run) run → Behind (Lists ∷ (folder_steps q.1.config (env_in q run) ++ compile_steps q.1.config (env_in q run))) run
-order_in q run p =
-    archives_behind (Lists ∷ (folder_steps q.1.config (env_in q run) ++ compile_steps q.1.config (env_in q run))) (steps_of q run) run (no_source_archives q.1.config (env_in q run)) p
-    (listed_first (folder_steps q.1.config (env_in q run)) (compile_steps q.1.config (env_in q run)) (planned_steps q.1.config (env_in q run) q.0) (planned q.1.config (env_in q run) q.0))
+order_in : (look : Look) (q : Request) (run : List Event) → IsPartly (steps_of look q run) run → Behind (Lists ∷ (folder_steps q.1.config (env_in q run) ++ compile_steps q.1.config (env_in q run) look)) run
+order_in look q run p =
+    archives_behind (Lists ∷ (folder_steps q.1.config (env_in q run) ++ compile_steps q.1.config (env_in q run) look)) (steps_of look q run) run (no_source_archives q.1.config (env_in q run) look) p
+    (listed_first (folder_steps q.1.config (env_in q run)) (compile_steps q.1.config (env_in q run) look) (planned_steps q.1.config (env_in q run) look q.0) (planned q.1.config (env_in q run) look q.0))
 
-order_of : (q : Request) (part : List Event) → Begun q part → ArchivesBehind q part
-order_of q part b =
-    let first : List (List ℕ × List ℕ) → List Step = λ vars. Lists ∷ (folder_steps q.1.config (with_vars q.1.env vars) ++ compile_steps q.1.config (with_vars q.1.env vars)) in
+order_of : (look : Look) (q : Request) (part : List Event) → Begun look q part → ArchivesBehind look q part
+order_of look q part b =
+    let first : List (List ℕ × List ℕ) → List Step = λ vars. Lists ∷ (folder_steps q.1.config (with_vars q.1.env vars) ++ compile_steps q.1.config (with_vars q.1.env vars) look) in
     subst (λ (vars : List (List ℕ × List ℕ)). Behind (first vars) part) (sym (heard_same part b.run b.line b.cut b.told))
-    (still_behind (first (heard b.run)) part b.run b.line b.cut b.told (order_in q b.run b.partly))
+    (still_behind (first (heard b.run)) part b.run b.line b.cut b.told (order_in look q b.run b.partly))
 
-pub compiles_first : (words : Result Request BadWord) (part : List Event) (ended : Ended) → AnswersWords words part ended → CompilesFirst words part
-compiles_first (Ok q) part ended a = order_of q part (begun_of q part ended a)
-compiles_first (Err bad) part ended a = tt
+pub compiles_first : (look : Look) (words : Result Request BadWord) (part : List Event) (ended : Ended) → AnswersWords look words part ended → CompilesFirst look words part
+compiles_first look (Ok q) part ended a = order_of look q part (begun_of look q part ended a)
+compiles_first look (Err bad) part ended a = tt
 
-no_refusal : (set : BuildConfig) (env : EnvSeen) (name : List ℕ) (e : ErrorSeen) → Valid set env name → refusal_error set env name ≡ Some e → ⊥
-no_refusal set env name e valid refused =
-    let none : refusal_error set env name ≡ None = rw (early_accepted set env name valid, valid.enabled, late_accepted set env name valid) refl in cc
+no_refusal : (look : Look) (set : BuildConfig) (env : EnvSeen) (name : List ℕ) (e : ErrorSeen) → Valid set env look name → refusal_error set env look name ≡ Some e → ⊥
+no_refusal look set env name e valid refused =
+    let none : refusal_error set env look name ≡ None = rw (early_accepted set env look name valid, valid.enabled, late_accepted set env look name valid) refl in cc
 
 front_empty : (a b : List Event) → a ++ b ≡ [] → a ≡ []
 front_empty [] b h = refl
@@ -152,21 +151,21 @@ no_stop : (steps : List Step) (e : ErrorSeen) → stopped_by steps [] ≡ Some e
 no_stop [] e h = cc
 no_stop (s ∷ steps) e h = cc
 
-no_cause : (q : Request) (part : List Event) (ended : Ended) (r : Refused q part ended) → Valid q.1.config (env_in q r.run) q.0 → stops part ≡ [] → IsCausedBy (error_of q r.run) (steps_of q r.run) r.run r.error → ⊥
-no_cause q part ended r valid calm_part (inl memory) = let t : true ≡ false = sym (ap (λ (x : ErrorSeen). is_wanting x.kind) memory) ∙ r.known in cc
-no_cause q part ended r valid calm_part (inr (inl refused)) = no_refusal q.1.config (env_in q r.run) q.0 r.error valid refused
-no_cause q part ended r valid calm_part (inr (inr stopped)) =
+no_cause : (look : Look) (q : Request) (part : List Event) (ended : Ended) (r : Refused look q part ended) → Valid q.1.config (env_in q r.run) look q.0 → stops part ≡ [] → IsCausedBy (error_of look q r.run) (steps_of look q r.run) r.run r.error → ⊥
+no_cause look q part ended r valid calm_part (inl memory) = let t : true ≡ false = sym (ap (λ (x : ErrorSeen). is_wanting x.kind) memory) ∙ r.known in cc
+no_cause look q part ended r valid calm_part (inr (inl refused)) = no_refusal look q.1.config (env_in q r.run) q.0 r.error valid refused
+no_cause look q part ended r valid calm_part (inr (inr stopped)) =
     let none : stops r.run ≡ [] = front_empty (stops r.run) (stops r.line) (sym (stops_both r.run r.line) ∙ ap stops (sym r.cut) ∙ calm_part) in
-    no_stop (left (steps_of q r.run) r.run) r.error (ap (λ s. stopped_by (left (steps_of q r.run) r.run) s) (sym none) ∙ stopped)
+    no_stop (left (steps_of look q r.run) r.run) r.error (ap (λ s. stopped_by (left (steps_of look q r.run) r.run) s) (sym none) ∙ stopped)
 
-valid_in : (q : Request) (part : List Event) (ended : Ended) (r : Refused q part ended) → Valid q.1.config (env_in q part) q.0 → Valid q.1.config (env_in q r.run) q.0
-valid_in q part ended r valid =
-    subst (λ (vars : List (List ℕ × List ℕ)). Valid q.1.config (with_vars q.1.env vars) q.0) (heard_same part r.run r.line r.cut (line_of (error_line r.error) r.line r.told)) valid
+valid_in : (look : Look) (q : Request) (part : List Event) (ended : Ended) (r : Refused look q part ended) → Valid q.1.config (env_in q part) look q.0 → Valid q.1.config (env_in q r.run) look q.0
+valid_in look q part ended r valid =
+    subst (λ (vars : List (List ℕ × List ℕ)). Valid q.1.config (with_vars q.1.env vars) look q.0) (heard_same part r.run r.line r.cut (line_of (error_line r.error) r.line r.told)) valid
 
-complete_of : (q : Request) (part : List Event) (ended : Ended) → Answers q part ended → Valid q.1.config (env_in q part) q.0 → stops part ≡ [] → (ended ≡ ended_well) ⊎ (ended ≡ ended_wanting)
-complete_of q part ended (inl well) valid calm_part = inl well.0
-complete_of q part ended (inr (inl r)) valid calm_part = absurd (no_cause q part ended r (valid_in q part ended r valid) calm_part r.refused.1)
-complete_of q part ended (inr (inr wanting)) valid calm_part = inr wanting.0
+complete_of : (look : Look) (q : Request) (part : List Event) (ended : Ended) → Answers look q part ended → Valid q.1.config (env_in q part) look q.0 → stops part ≡ [] → (ended ≡ ended_well) ⊎ (ended ≡ ended_wanting)
+complete_of look q part ended (inl well) valid calm_part = inl well.0
+complete_of look q part ended (inr (inl r)) valid calm_part = absurd (no_cause look q part ended r (valid_in look q part ended r valid) calm_part r.refused.1)
+complete_of look q part ended (inr (inr wanting)) valid calm_part = inr wanting.0
 
 -- a part without a failed command and without a fault has nothing that ends a run
 any_more : (test : Event → Bool) (event : Event) (part : List Event) → (list_any test (event ∷ part) ≡ true → ⊥) → (test event ≡ false) × (list_any test part ≡ true → ⊥)
@@ -180,14 +179,15 @@ ran_well : (b : Bool) (event : Event) → not b ≡ false → (if b then [] else
 ran_well true event h = refl
 ran_well false event h = absurd (cc)
 
+probe_stop : (b : Bool) (event : Event) → not b ≡ false → (if b then [] else event ∷ []) ≡ []
+probe_stop true event h = refl
+probe_stop false event h = absurd (cc)
+
 no_stop_of : (event : Event) → is_failed_command event ≡ false → is_fault event ≡ false → stop_of event ≡ []
 no_stop_of (Ran role cmd pipes status out err) f g = ran_well (is_success status) (Ran role cmd pipes status out err) f
 no_stop_of (Missing role cmd) f g = absurd (cc)
-no_stop_of (Fault call why) f g = absurd (cc)
-no_stop_of (Made scope path) f g = refl
-no_stop_of (Removed path how) f g = refl
-no_stop_of (Printed kind bytes) f g = refl
-no_stop_of (Listed vars) f g = refl
+no_stop_of (Fault call why) f g = probe_stop (is_probing call) (Fault call why) g
+no_stop_of event f g = refl
 
 pub unstopped : (part : List Event) → (Failed part → ⊥) → (HasFault part → ⊥) → stops part ≡ []
 unstopped [] f g = refl
@@ -196,9 +196,9 @@ unstopped (event ∷ part) f g =
     let b = any_more is_fault event part g in
     ap (λ l. l ++ stops part) (no_stop_of event a.0 b.0) ∙ unstopped part a.1 b.1
 
-pub complete : (words : Result Request BadWord) (part : List Event) (ended : Ended) → AnswersWords words part ended → IsComplete words part ended
-complete (Ok q) part ended a = λ valid f g. complete_of q part ended a valid (unstopped part f g)
-complete (Err bad) part ended a = tt
+pub complete : (look : Look) (words : Result Request BadWord) (part : List Event) (ended : Ended) → AnswersWords look words part ended → IsComplete look words part ended
+complete look (Ok q) part ended a = λ valid f g. complete_of look q part ended a valid (unstopped part f g)
+complete look (Err bad) part ended a = tt
 
 -- the stop of a run is its last event
 two_stops : (steps : List Step) (a b : List Event) (x : Event) → StopsAt steps (a ++ x ∷ b) → (a ≡ []) × (b ≡ [])
@@ -209,18 +209,19 @@ two_stops (s ∷ steps) [] (y ∷ b) x h = absurd h
 two_stops (s ∷ steps) (y ∷ []) b x h = absurd h
 two_stops (s ∷ steps) (y ∷ z ∷ a) b x h = absurd h
 
-module _ (steps : List Step) (run before after : List Event) (call : HostCall) (why : Why) where
+module _ (steps : List Step) (run before after : List Event) (call : HostCall) (why : Why) (real : is_probing call ≡ false) where
   fault_ends : IsPartly steps run → run ≡ before ++ Fault call why ∷ after → after ≡ []
   fault_ends p is =
       let event : Event = Fault call why in
-      let s : stops run ≡ stops before ++ Fault call why ∷ stops after = ap stops is ∙ stops_both before (Fault call why ∷ after) in
+      let s : stops run ≡ stops before ++ Fault call why ∷ stops after =
+      ap stops is ∙ stops_both before (Fault call why ∷ after) ∙ ap (λ b. stops before ++ ((if b then [] else Fault call why ∷ []) ++ stops after)) real in
       let alone = two_stops (left steps run) (stops before) (stops after) (Fault call why) (subst (λ (l : List Event). StopsAt (left steps run) l) s p.stop) in
       let one : stops run ≡ Fault call why ∷ [] = s ∙ ap (λ l. l ++ Fault call why ∷ stops after) alone.0 ∙ ap (λ l. Fault call why ∷ l) alone.1 in
       ends after (last_or_before (Fault call why) (Fault call why) after before (calm run) (sym (ap (λ l. calm run ++ l) one) ∙ sym p.last ∙ is)) alone.1
     where
       ends : (after : List Event) → ((after ≡ []) × (Fault call why ≡ Fault call why)) ⊎ ((rest : List Event) × ((calm run ≡ before ++ Fault call why ∷ rest) × (after ≡ rest ++ Fault call why ∷ []))) → stops after ≡ [] → after ≡ []
       ends after (inl last) none = last.0
-      ends after (inr found) none = absurd (inside found.0 (sym (stops_both found.0 (Fault call why ∷ [])) ∙ ap stops (sym found.1.1) ∙ none))
+      ends after (inr found) none = absurd (inside found.0 (ap (λ b. stops found.0 ++ ((if b then [] else Fault call why ∷ []) ++ [])) (sym real) ∙ sym (stops_both found.0 (Fault call why ∷ [])) ∙ ap stops (sym found.1.1) ∙ none))
         where
           inside : (rest : List Event) → stops rest ++ Fault call why ∷ [] ≡ [] → ⊥
           inside rest h = empty (stops rest) h
@@ -229,15 +230,15 @@ module _ (steps : List Step) (run before after : List Event) (call : HostCall) (
               empty [] e = cc
               empty (y ∷ l) e = cc
 
-faults_behind : (q : Request) (part : List Event) → Begun q part → FaultsLast part
-faults_behind q part b before after call why is = by_line b.told
+faults_behind : (look : Look) (q : Request) (part : List Event) → Begun look q part → FaultsLast part
+faults_behind look q part b before after call why real is = by_line b.told
   where
     by_line : IsLine b.line → IsLine after
     by_line (inl none) =
-        inl (fault_ends (steps_of q b.run) b.run before after call why b.partly (sym (b.cut ∙ ap (λ l. b.run ++ l) none ∙ append-nil b.run) ∙ is))
+        inl (fault_ends (steps_of look q b.run) b.run before after call why real b.partly (sym (b.cut ∙ ap (λ l. b.run ++ l) none ∙ append-nil b.run) ∙ is))
     by_line (inr (inl printed)) =
         let found = in_run before after b.run (Fault call why) (Printed FaultLine printed.0) (sym (b.cut ∙ ap (λ l. b.run ++ l) printed.1) ∙ is) (λ same. cc) in
-        let none = fault_ends (steps_of q b.run) b.run before found.0 call why b.partly found.1.0 in
+        let none = fault_ends (steps_of look q b.run) b.run before found.0 call why real b.partly found.1.0 in
         inr (inl (printed.0, found.1.1 ∙ ap (λ l. l ++ Printed FaultLine printed.0 ∷ []) none))
     by_line (inr (inr faulted)) =
         either_way (last_or_before (Fault call why) (Fault Print faulted.0) after before b.run (sym (b.cut ∙ ap (λ l. b.run ++ l) faulted.1) ∙ is))
@@ -245,7 +246,7 @@ faults_behind q part b before after call why is = by_line b.told
         either_way : ((after ≡ []) × (Fault call why ≡ Fault Print faulted.0)) ⊎ ((rest : List Event) × ((b.run ≡ before ++ Fault call why ∷ rest) × (after ≡ rest ++ Fault Print faulted.0 ∷ []))) → IsLine after
         either_way (inl last) = inl last.0
         either_way (inr found) =
-            let none = fault_ends (steps_of q b.run) b.run before found.0 call why b.partly found.1.0 in
+            let none = fault_ends (steps_of look q b.run) b.run before found.0 call why real b.partly found.1.0 in
             inr (inr (faulted.0, found.1.1 ∙ ap (λ l. l ++ Fault Print faulted.0 ∷ []) none))
 
 alone_last : (x : Event) (before after : List Event) (event : Event) → x ∷ [] ≡ before ++ event ∷ after → after ≡ []
@@ -260,8 +261,8 @@ none_inside : (before after : List Event) (event : Event) → [] ≡ before ++ e
 none_inside [] after event h = cc
 none_inside (c ∷ cs) after event h = cc
 
-pub faults_last : (words : Result Request BadWord) (part : List Event) (ended : Ended) → AnswersWords words part ended → FaultsLast part
-faults_last (Ok q) part ended a = faults_behind q part (begun_of q part ended a)
-faults_last (Err bad) part ended (inl (is, inl printed)) = λ before after call why e. inl (alone_last (Printed FaultLine (word_line bad)) before after (Fault call why) (sym printed ∙ e))
-faults_last (Err bad) part ended (inl (is, inr faulted)) = λ before after call why e. inl (alone_last (Fault Print faulted.0) before after (Fault call why) (sym faulted.1 ∙ e))
-faults_last (Err bad) part ended (inr (is, none)) = λ before after call why e. absurd (none_inside before after (Fault call why) (sym none ∙ e))
+pub faults_last : (look : Look) (words : Result Request BadWord) (part : List Event) (ended : Ended) → AnswersWords look words part ended → FaultsLast part
+faults_last look (Ok q) part ended a = faults_behind look q part (begun_of look q part ended a)
+faults_last look (Err bad) part ended (inl (is, inl printed)) = λ before after call why _real e. inl (alone_last (Printed FaultLine (word_line bad)) before after (Fault call why) (sym printed ∙ e))
+faults_last look (Err bad) part ended (inl (is, inr faulted)) = λ before after call why _real e. inl (alone_last (Fault Print faulted.0) before after (Fault call why) (sym faulted.1 ∙ e))
+faults_last look (Err bad) part ended (inr (is, none)) = λ before after call why _real e. absurd (none_inside before after (Fault call why) (sym none ∙ e))

@@ -2,6 +2,7 @@
 use Rattle.std.specs.Prelude.{◌≡◌, ◌⊎◌, ℕ, List, [], ◌∷◌, ◌++◌, Bool, true, false, Option, Some, None, Result, Ok, Err, codes}
 use Rattle.std.specs.Fmt.{decimal}
 use Rattle.cc_env.specs.Env.{EnvSeen}
+use Rattle.cc_host.specs.Question.{Look}
 use Rattle.cc_host.specs.Part.{Step, IsPartly, listings}
 use Rattle.cc_host.specs.Part.Step.{Lists}
 use Rattle.cc_host.specs.declared.event.Event.{Event}
@@ -71,22 +72,22 @@ AnswersError e part ended =
     ((ended ≡ ended_refused e) × (is_wanting e.kind ≡ false) × Tells (error_line e) part) ⊎ ((ended ≡ ended_wanting) × (part ≡ []))
 
 -- a compile run that was refused: its first steps were done, and the line of its error was printed last
-pub record RunRefused (set : BuildConfig) (env : EnvSeen) (name : List ℕ) (part : List Event) (ended : Ended) : Type 0 where
+pub record RunRefused (set : BuildConfig) (env : EnvSeen) (look : Look) (name : List ℕ) (part : List Event) (ended : Ended) : Type 0 where
   pub error : ErrorSeen
   pub run : List Event
   pub line : List Event
   pub cut : part ≡ run ++ line
   pub told : Tells (error_line error) line
-  pub refused : IsRefused (refusal_error set env name) (planned_steps set env name) run error
+  pub refused : IsRefused (refusal_error set env look name) (planned_steps set env look name) run error
   pub known : is_wanting error.kind ≡ false
   pub is : ended ≡ ended_refused error
 
 -- a compile run: it is built by its steps, or refused, or memory was wanted behind its first steps
-abbrev pub RunAnswers : BuildConfig → EnvSeen → List ℕ → List Event → Ended → Type 0
-RunAnswers set env name part ended =
-    ((ended ≡ ended_well) × (Built set env name part × IsPartly (planned_steps set env name) part))
-    ⊎ (RunRefused set env name part ended
-    ⊎ ((ended ≡ ended_wanting) × IsPartly (planned_steps set env name) part))
+abbrev pub RunAnswers : BuildConfig → EnvSeen → Look → List ℕ → List Event → Ended → Type 0
+RunAnswers set env look name part ended =
+    ((ended ≡ ended_well) × (Built set env look name part × IsPartly (planned_steps set env look name) part))
+    ⊎ (RunRefused set env look name part ended
+    ⊎ ((ended ≡ ended_wanting) × IsPartly (planned_steps set env look name) part))
 
 abbrev pub first_listing : List (List (List ℕ × List ℕ)) → List (List ℕ × List ℕ)
 first_listing [] = []
@@ -101,43 +102,43 @@ abbrev pub env_in : Request → List Event → EnvSeen
 env_in request part = with_vars request.1.env (heard part)
 
 -- the steps of a request: the host lists its variables, then come those of the compile run
-abbrev pub steps_of : Request → List Event → List Step
-steps_of request part = Lists ∷ planned_steps request.1.config (env_in request part) request.0
+abbrev pub steps_of : Look → Request → List Event → List Step
+steps_of look request part = Lists ∷ planned_steps request.1.config (env_in request part) look request.0
 
 -- the error of a request's settings
-abbrev pub error_of : Request → List Event → Option ErrorSeen
-error_of request part = refusal_error request.1.config (env_in request part) request.0
+abbrev pub error_of : Look → Request → List Event → Option ErrorSeen
+error_of look request part = refusal_error request.1.config (env_in request part) look request.0
 
 -- The host listed its variables, and then the library was built with their snapshot.
-pub record BuiltBy (request : Request) (part : List Event) : Type 0 where
+pub record BuiltBy (look : Look) (request : Request) (part : List Event) : Type 0 where
   pub vars : List (List ℕ × List ℕ)
   pub run : List Event
   pub cut : part ≡ Listed vars ∷ run
-  pub built : Built request.1.config (with_vars request.1.env vars) request.0 run
+  pub built : Built request.1.config (with_vars request.1.env vars) look request.0 run
 
 -- a request that was refused: its first steps were done, and the line of its error was printed last
-pub record Refused (request : Request) (part : List Event) (ended : Ended) : Type 0 where
+pub record Refused (look : Look) (request : Request) (part : List Event) (ended : Ended) : Type 0 where
   pub error : ErrorSeen
   pub run : List Event
   pub line : List Event
   pub cut : part ≡ run ++ line
   pub told : Tells (error_line error) line
-  pub refused : IsRefused (error_of request run) (steps_of request run) run error
+  pub refused : IsRefused (error_of look request run) (steps_of look request run) run error
   pub known : is_wanting error.kind ≡ false
   pub is : ended ≡ ended_refused error
 
 -- a request: it is built by its steps, or refused, or memory was wanted behind its first steps
-abbrev pub Answers : Request → List Event → Ended → Type 0
-Answers request part ended =
-    ((ended ≡ ended_well) × (BuiltBy request part × IsPartly (steps_of request part) part))
-    ⊎ (Refused request part ended
-    ⊎ ((ended ≡ ended_wanting) × IsPartly (steps_of request part) part))
+abbrev pub Answers : Look → Request → List Event → Ended → Type 0
+Answers look request part ended =
+    ((ended ≡ ended_well) × (BuiltBy look request part × IsPartly (steps_of look request part) part))
+    ⊎ (Refused look request part ended
+    ⊎ ((ended ≡ ended_wanting) × IsPartly (steps_of look request part) part))
 
 -- bad words: their line alone was printed, or memory for it was wanted
 abbrev pub AnswersBad : BadWord → List Event → Ended → Type 0
 AnswersBad bad part ended = ((ended ≡ ended_bad bad) × Tells (word_line bad) part) ⊎ ((ended ≡ ended_wanting) × (part ≡ []))
 
 -- What the words ask for was answered. Words that can't be read for want of memory ask for nothing.
-abbrev pub AnswersWords : Result Request BadWord → List Event → Ended → Type 0
-AnswersWords (Ok request) part ended = Answers request part ended
-AnswersWords (Err bad) part ended = AnswersBad bad part ended
+abbrev pub AnswersWords : Look → Result Request BadWord → List Event → Ended → Type 0
+AnswersWords look (Ok request) part ended = Answers look request part ended
+AnswersWords look (Err bad) part ended = AnswersBad bad part ended

@@ -1,4 +1,5 @@
 pub mod Answer
+pub mod Asks
 pub mod Promises
 pub mod Read
 pub mod Sets

@@ -1,6 +1,7 @@
 -- What follows from an answer, each in one sentence.
-use Rattle.std.specs.Prelude.{◌≡◌, ◌⊎◌, ℕ, List, [], ◌∷◌, ◌++◌, true, Result, IfOk}
-use Rattle.cc_host.specs.Part.{Step, done, IsPartly}
+use Rattle.std.specs.Prelude.{◌≡◌, ◌⊎◌, ℕ, List, [], ◌∷◌, ◌++◌, true, false, Result, IfOk}
+use Rattle.cc_host.specs.Question.{Look}
+use Rattle.cc_host.specs.Part.{Step, done, is_probing, IsPartly}
 use Rattle.cc_host.specs.Part.Step.{Lists}
 use Rattle.cc_host.specs.declared.event.Event.{Event}
 use Rattle.cc_host.specs.declared.event.Event.TheVariants.{Printed, Fault}
@@ -19,8 +20,8 @@ use Rattle.cc_main.specs.declared.top.Ended.{Ended}
 use Rattle.cc_main.specs.declared.words.BadWord.{BadWord}
 
 -- Status 0 means that the host listed its variables, and that the library of the words is built with their snapshot.
-abbrev pub Headline : Result Request BadWord → List Event → Ended → Type 0
-Headline words part ended = IfOk words (λ request. ended.status ≡ 0 → BuiltBy request part)
+abbrev pub Headline : Look → Result Request BadWord → List Event → Ended → Type 0
+Headline look words part ended = IfOk words (λ request. ended.status ≡ 0 → BuiltBy look request part)
 
 -- the part ends with this line of kind Fault, or with the fault of its print
 pub record EndsWith (line : List ℕ) (part : List Event) : Type 0 where
@@ -45,27 +46,27 @@ IsLine line =
     ⊎ ((why : Why) × (line ≡ Fault Print why ∷ [])))
 
 -- On every exit the first steps of the request were done, each once and in order, and behind them stands at most a line of kind Fault.
-pub record Begun (request : Request) (part : List Event) : Type 0 where
+pub record Begun (look : Look) (request : Request) (part : List Event) : Type 0 where
   pub run : List Event
   pub line : List Event
   pub cut : part ≡ run ++ line
-  pub partly : IsPartly (steps_of request run) run
+  pub partly : IsPartly (steps_of look request run) run
   pub told : IsLine line
 
-abbrev pub IsBegun : Result Request BadWord → List Event → Type 0
-IsBegun words part = IfOk words (λ request. Begun request part)
+abbrev pub IsBegun : Look → Result Request BadWord → List Event → Type 0
+IsBegun look words part = IfOk words (λ request. Begun look request part)
 
 -- No archive command stands in the part unless, before it, the folder was made and every source's compile command ended with 0.
-abbrev pub ArchivesBehind : Request → List Event → Type 0
-ArchivesBehind request part = (before after : List Event) (event : Event) → part ≡ before ++ event ∷ after → is_archive_event event ≡ true → (rest : List Step) × (done before ≡ (Lists ∷ (folder_steps request.1.config (env_in request part) ++ compile_steps request.1.config (env_in request part))) ++ rest)
+abbrev pub ArchivesBehind : Look → Request → List Event → Type 0
+ArchivesBehind look request part = (before after : List Event) (event : Event) → part ≡ before ++ event ∷ after → is_archive_event event ≡ true → (rest : List Step) × (done before ≡ (Lists ∷ (folder_steps request.1.config (env_in request part) ++ compile_steps request.1.config (env_in request part) look)) ++ rest)
 
-abbrev pub CompilesFirst : Result Request BadWord → List Event → Type 0
-CompilesFirst words part = IfOk words (λ request. ArchivesBehind request part)
+abbrev pub CompilesFirst : Look → Result Request BadWord → List Event → Type 0
+CompilesFirst look words part = IfOk words (λ request. ArchivesBehind look request part)
 
--- Behind a fault stands nothing but a line of kind Fault, or the fault of its print.
+-- Behind a fault, but one of what a question wants, stands nothing but a line of kind Fault, or the fault of its print.
 abbrev pub FaultsLast : List Event → Type 0
-FaultsLast part = (before after : List Event) (call : HostCall) (why : Why) → part ≡ before ++ Fault call why ∷ after → IsLine after
+FaultsLast part = (before after : List Event) (call : HostCall) (why : Why) → is_probing call ≡ false → part ≡ before ++ Fault call why ∷ after → IsLine after
 
 -- Valid settings, no failed command and no fault: it is done, or memory was wanted.
-abbrev pub IsComplete : Result Request BadWord → List Event → Ended → Type 0
-IsComplete words part ended = IfOk words (λ request. Valid request.1.config (env_in request part) request.0 → (Failed part → ⊥) → (HasFault part → ⊥) → (ended ≡ ended_well) ⊎ (ended ≡ ended_wanting))
+abbrev pub IsComplete : Look → Result Request BadWord → List Event → Ended → Type 0
+IsComplete look words part ended = IfOk words (λ request. Valid request.1.config (env_in request part) look request.0 → (Failed part → ⊥) → (HasFault part → ⊥) → (ended ≡ ended_well) ⊎ (ended ≡ ended_wanting))

@@ -3,10 +3,8 @@ use Rattle.std.specs.Prelude.{◌≡◌, ℕ, ◌+◌, ◌^◌, List, [], ◌∷
 use Prim.Native.String.{String}
 use Rattle.std.specs.Fmt.{decimal}
 use Rattle.std.specs.List.{flat_map, list_any}
-use Rattle.std.specs.Option.{option_map}
 use Rattle.std.specs.Str.Parse.{digits_value}
 use Rattle.cc_text.specs.Cuts.{key_and_value}
-use Rattle.cc_plan.specs.Flags.{without}
 use Rattle.cc_plan.specs.declared.flags.BuildFlag.{BuildFlag}
 use Rattle.cc_plan.specs.declared.flags.BuildFlag.TheVariants.{Always}
 use Rattle.cc_plan.specs.declared.flags.Definition.{Definition}
@@ -59,7 +57,7 @@ is_choice_key key =
 unfoldable pub is_switch_key : List ℕ → Bool
 is_switch_key key =
     is key "no_default_flags" || is key "reproducible_codeview" || is key "cpp" || is key "warnings_into_errors" || is key "cargo_warnings"
-    || is key "emit_rerun_if_env_changed"
+    || is key "emit_rerun_if_env_changed" || is key "prefer_clang_cl_over_msvc"
 
 abbrev pub cause_unless : Bool → Option WordCause
 cause_unless fine = if fine then None else Some BadValue
@@ -191,6 +189,7 @@ settings_of words = record {
     warnings_into_errors = latest_truth false (values (by "warnings_into_errors") words);
     cargo_warnings = latest_truth true (values (by "cargo_warnings") words);
     emit_rerun_if_env_changed = latest_truth true (values (by "emit_rerun_if_env_changed") words);
+    prefer_clang_cl_over_msvc = latest_truth false (values (by "prefer_clang_cl_over_msvc") words);
   };
   env = record { inherited = []; explicit = map variable_of (values (by "env") words) };
 }

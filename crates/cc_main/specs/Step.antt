@@ -1,5 +1,5 @@
 -- What one word more does to the settings.
-use Rattle.std.specs.Prelude.{ℕ, List, [], ◌∷◌, ◌++◌, Option, Some, None, map, Bool, if◌then◌else◌}
+use Rattle.std.specs.Prelude.{ℕ, List, [], ◌∷◌, ◌++◌, Option, Some, None, map, if◌then◌else◌}
 use Rattle.cc_text.specs.Cuts.{key_and_value}
 use Rattle.cc_plan.specs.Flags.{without}
 use Rattle.cc_plan.specs.declared.flags.BuildFlag.{BuildFlag}
@@ -47,6 +47,7 @@ with_key set key value = record {
     warnings_into_errors = latest_truth set.config.warnings_into_errors (value_of (by "warnings_into_errors") key value);
     cargo_warnings = latest_truth set.config.cargo_warnings (value_of (by "cargo_warnings") key value);
     emit_rerun_if_env_changed = latest_truth set.config.emit_rerun_if_env_changed (value_of (by "emit_rerun_if_env_changed") key value);
+    prefer_clang_cl_over_msvc = latest_truth set.config.prefer_clang_cl_over_msvc (value_of (by "prefer_clang_cl_over_msvc") key value);
   };
   env = record { inherited = set.env.inherited; explicit = added set.env.explicit (map variable_of (value_of (by "env") key value)) };
 }

@@ -45,6 +45,7 @@ keys of which the last counts:
 keys of true or false:
   cpp  pic  use_plt  static_crt  static_flag  shared_flag  warnings  extra_warnings  warnings_into_errors
   no_default_flags  reproducible_codeview  shell_escaped_flags  cargo_warnings  emit_rerun_if_env_changed
+  prefer_clang_cl_over_msvc
 
 options:
   --help      print this text
@@ -91,6 +92,6 @@ fn main(rt: HostRuntime) -> io::Result<ExitCode> {
     let Ok(mut host) = ProcessHost::new(rt) else {
         return Ok(ExitCode::from(3));
     };
-    let ended = drive(alloc, &words, &mut host);
+    let ended = drive(&rt, alloc, &words, &mut host);
     Ok(ExitCode::from(ended.status))
 }

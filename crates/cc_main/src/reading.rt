@@ -143,6 +143,7 @@ fn is_switch_key(key: &str) -> bool
             | "warnings_into_errors"
             | "cargo_warnings"
             | "emit_rerun_if_env_changed"
+            | "prefer_clang_cl_over_msvc"
     )
 }
 
@@ -218,6 +219,10 @@ fn set_switch<W: World>(build: &mut Build<W>, key: &str, on: bool) -> bool
         }
         "emit_rerun_if_env_changed" => {
             build.emit_rerun_if_env_changed(on);
+            true
+        }
+        "prefer_clang_cl_over_msvc" => {
+            build.prefer_clang_cl_over_msvc(on);
             true
         }
         _ => false,

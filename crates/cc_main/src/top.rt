@@ -1,7 +1,11 @@
 // The top call of the program.
 ghost use Rattle.std.specs.Prelude.{◌≡◌, ◌++◌, [], map, string_bytes, IfOk, OnOk, OnErr};
 ghost use Rattle.std.specs.Fmt.{decimal};
+ghost use Rattle.cc_tool.specs.Asked.{question_events, Asked};
 ghost use Rattle.cc_host.specs.Part.{since};
+ghost use Rattle.cc_host.specs.Question.{answers, Holds};
+ghost use Rattle.cc_plan.specs.Given.{probe_folder};
+ghost use Rattle.cc_main.specs.Asks.{AsksFor, AsksWords};
 ghost use Rattle.cc_main.specs.Answer.{Tells, RunAnswers, Answers, AnswersError, AnswersBad, AnswersWords, is_wanting, ended_wanting as wanting, cause_text as text_of, word_line as line_of_word, error_line as line_of_error};
 ghost use Rattle.cc_main.specs.Promises.{Headline, TellsLast, IsBegun, CompilesFirst, FaultsLast, IsComplete};
 ghost use Rattle.cc_main.specs.Read.{name_of, read};
@@ -12,6 +16,7 @@ use cc_build::{Build, Error, ErrorKind};
 use cc_host::{Host, HostError, LineKind, World};
 use cc_text::{Mem, NoMemory, Text};
 use std::alloc::{AllocError, Global};
+use std::sync::Wait;
 
 /// What a run answers: its status, and with 1 the error, with 2 the bad word.
 ///
@@ -77,6 +82,7 @@ fn error_line(alloc: Global, error: &Error) -> Mem<Text>
 #[tactic(auto, using(cc_host::proofs::Parts::since_append))]
 fn tell<W: World, H: Host<W>>(host: &mut H, line: &Text) -> Mem<()>
     ensures extends { H.log host.new ≡ H.log host.old ++ since (H.log host.old) (H.log host.new) }
+    ensures asks_none { question_events (since (H.log host.old) (H.log host.new)) ≡ [] }
     ensures told { OnOk result (Tells line.now (since (H.log host.old) (H.log host.new))) }
     ensures wanting { OnErr result (since (H.log host.old) (H.log host.new) ≡ []) }
 {
@@ -91,6 +97,7 @@ fn tell<W: World, H: Host<W>>(host: &mut H, line: &Text) -> Mem<()>
 #[tactic(auto, using(cc_host::proofs::Parts::since_append))]
 fn refuse_word<W: World, H: Host<W>>(alloc: Global, host: &mut H, bad: BadWord) -> Ended
     ensures extends { H.log host.new ≡ H.log host.old ++ since (H.log host.old) (H.log host.new) }
+    ensures asks_none { question_events (since (H.log host.old) (H.log host.new)) ≡ [] }
     ensures answer { AnswersBad bad (since (H.log host.old) (H.log host.new)) result }
 {
     let Ok(line) = word_line(alloc, bad) else {
@@ -116,6 +123,7 @@ fn is_wanting(kind: ErrorKind) -> bool
 #[tactic(auto, using(cc_host::proofs::Parts::since_append))]
 fn refuse<W: World, H: Host<W>>(alloc: Global, host: &mut H, error: Error) -> Ended
     ensures extends { H.log host.new ≡ H.log host.old ++ since (H.log host.old) (H.log host.new) }
+    ensures asks_none { question_events (since (H.log host.old) (H.log host.new)) ≡ [] }
     ensures answer { AnswersError error (since (H.log host.old) (H.log host.new)) result }
 {
     if is_wanting(error.kind()) {
@@ -136,11 +144,18 @@ fn refuse<W: World, H: Host<W>>(alloc: Global, host: &mut H, error: Error) -> En
 
 // Compiles the sources of the build, whose environment was captured, into the library of this name.
 #[tactic(auto, using(cc_host::proofs::Parts::since_append))]
-fn compile<W: World, H: Host<W>>(alloc: Global, build: &Build<W>, name: &str, host: &mut H) -> Ended
+fn compile<W: World, H: Host<W>>(
+    rt: &impl Wait,
+    alloc: Global,
+    build: &Build<W>,
+    name: &str,
+    host: &mut H,
+) -> Ended
     ensures extends { H.log host.new ≡ H.log host.old ++ since (H.log host.old) (H.log host.new) }
-    ensures answer { RunAnswers build.now.config build.now.env name.now (since (H.log host.old) (H.log host.new)) result }
+    ensures asked { Asked W.steady W.answer (probe_folder build.now.config build.now.env) (since (H.log host.old) (H.log host.new)) }
+    ensures answer { Holds (answers (since (H.log host.old) (H.log host.new))) (λ look. RunAnswers build.now.config build.now.env look name.now (since (H.log host.old) (H.log host.new)) result) }
 {
-    match build.try_compile(host, name) {
+    match build.try_compile(rt, host, name) {
         Ok(()) => Ended {
             status: 0,
             error: None,
@@ -153,40 +168,49 @@ fn compile<W: World, H: Host<W>>(alloc: Global, build: &Build<W>, name: &str, ho
 // Takes the host's variables, and compiles.
 #[tactic(auto, using(cc_host::proofs::Parts::since_append))]
 fn capture_and_compile<W: World, H: Host<W>>(
+    rt: &impl Wait,
     alloc: Global,
     build: &mut Build<W>,
     name: &str,
     host: &mut H,
 ) -> Ended
     ensures extends { H.log host.new ≡ H.log host.old ++ since (H.log host.old) (H.log host.new) }
-    ensures answer { Answers (name.now, build.old) (since (H.log host.old) (H.log host.new)) result }
+    ensures asked { AsksFor W.steady W.answer (name.now, build.old) (since (H.log host.old) (H.log host.new)) }
+    ensures answer { Holds (answers (since (H.log host.old) (H.log host.new))) (λ look. Answers look (name.now, build.old) (since (H.log host.old) (H.log host.new)) result) }
 {
     match build.capture(host) {
-        Ok(()) => compile(alloc, build, name, host),
+        Ok(()) => compile(rt, alloc, build, name, host),
         Err(error) => refuse(alloc, host, error),
     }
 }
 
 // Does what was asked for.
-fn serve<W: World, H: Host<W>>(alloc: Global, request: &mut Request<W>, host: &mut H) -> Ended
+fn serve<W: World, H: Host<W>>(
+    rt: &impl Wait,
+    alloc: Global,
+    request: &mut Request<W>,
+    host: &mut H,
+) -> Ended
     ensures extends { H.log host.new ≡ H.log host.old ++ since (H.log host.old) (H.log host.new) }
-    ensures answer { Answers (name_of request.old.job, request.old.build) (since (H.log host.old) (H.log host.new)) result }
+    ensures asked { AsksFor W.steady W.answer (name_of request.old.job, request.old.build) (since (H.log host.old) (H.log host.new)) }
+    ensures answer { Holds (answers (since (H.log host.old) (H.log host.new))) (λ look. Answers look (name_of request.old.job, request.old.build) (since (H.log host.old) (H.log host.new)) result) }
 {
     match &request.job {
         Job::Compile(name) => {
-            capture_and_compile(alloc, &mut request.build, name.as_str(), host)
+            capture_and_compile(rt, alloc, &mut request.build, name.as_str(), host)
         }
     }
 }
 
 // Reads the words, and does what they ask for.
 #[tactic(auto, using(cc_host::proofs::Parts::since_append))]
-fn run<W: World, H: Host<W>>(alloc: Global, words: &[String], host: &mut H) -> Ended
+fn run<W: World, H: Host<W>>(rt: &impl Wait, alloc: Global, words: &[String], host: &mut H) -> Ended
     ensures extends { H.log host.new ≡ H.log host.old ++ since (H.log host.old) (H.log host.new) }
-    ensures answer { AnswersWords (read (map string_bytes words.now)) (since (H.log host.old) (H.log host.new)) result }
+    ensures asked { AsksWords W.steady W.answer (read (map string_bytes words.now)) (since (H.log host.old) (H.log host.new)) }
+    ensures answer { Holds (answers (since (H.log host.old) (H.log host.new))) (λ look. AnswersWords look (read (map string_bytes words.now)) (since (H.log host.old) (H.log host.new)) result) }
 {
     match read_words::<W>(alloc, words) {
-        Ok(mut request) => serve(alloc, &mut request, host),
+        Ok(mut request) => serve(rt, alloc, &mut request, host),
         Err(ReadError::Bad(bad)) => refuse_word(alloc, host, bad),
         Err(ReadError::NoMemory) => ended_wanting(),
     }
@@ -198,21 +222,29 @@ fn run<W: World, H: Host<W>>(alloc: Global, words: &[String], host: &mut H) -> E
 /// planned compile command per source, in the order added, each ended with 0; then the old library is removed; then the planned archive and index
 /// commands ended with 0; then exactly the link lines were printed.
 #[tactic(auto, using(cc_host::proofs::Parts::since_append))]
-pub fn drive<W: World, H: Host<W>>(alloc: Global, words: &[String], host: &mut H) -> Ended
+pub fn drive<W: World, H: Host<W>>(
+    rt: &impl Wait,
+    alloc: Global,
+    words: &[String],
+    host: &mut H,
+) -> Ended
     ensures extends { H.log host.new ≡ H.log host.old ++ since (H.log host.old) (H.log host.new) }
 
     // The headline.
-    ensures built { Headline (read (map string_bytes words.now)) (since (H.log host.old) (H.log host.new)) result }
+    ensures built { Holds (answers (since (H.log host.old) (H.log host.new))) (λ look. Headline look (read (map string_bytes words.now)) (since (H.log host.old) (H.log host.new)) result) }
 
     // The whole answer: each status with its cause.
-    ensures answer { AnswersWords (read (map string_bytes words.now)) (since (H.log host.old) (H.log host.new)) result }
+    ensures answer { Holds (answers (since (H.log host.old) (H.log host.new))) (λ look. AnswersWords look (read (map string_bytes words.now)) (since (H.log host.old) (H.log host.new)) result) }
 
-    // What follows from it, sentence by sentence.
+    // What questions leave in the log: each is told once, and no probe file stays.
+    ensures asked { AsksWords W.steady W.answer (read (map string_bytes words.now)) (since (H.log host.old) (H.log host.new)) }
+
+    // What follows from the answer, sentence by sentence.
     ensures told { TellsLast (since (H.log host.old) (H.log host.new)) result }
-    ensures begun { IsBegun (read (map string_bytes words.now)) (since (H.log host.old) (H.log host.new)) }
-    ensures order { CompilesFirst (read (map string_bytes words.now)) (since (H.log host.old) (H.log host.new)) }
+    ensures begun { Holds (answers (since (H.log host.old) (H.log host.new))) (λ look. IsBegun look (read (map string_bytes words.now)) (since (H.log host.old) (H.log host.new))) }
+    ensures order { Holds (answers (since (H.log host.old) (H.log host.new))) (λ look. CompilesFirst look (read (map string_bytes words.now)) (since (H.log host.old) (H.log host.new))) }
     ensures faults_last { FaultsLast (since (H.log host.old) (H.log host.new)) }
-    ensures complete { IsComplete (read (map string_bytes words.now)) (since (H.log host.old) (H.log host.new)) result }
+    ensures complete { Holds (answers (since (H.log host.old) (H.log host.new))) (λ look. IsComplete look (read (map string_bytes words.now)) (since (H.log host.old) (H.log host.new)) result) }
 {
-    run(alloc, words, host)
+    run(rt, alloc, words, host)
 }

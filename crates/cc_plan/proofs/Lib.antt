@@ -1,4 +1,9 @@
+pub mod CutTextLemmas
 pub mod DashLemmas
+pub mod FindLemmas
+pub mod LineLemmas
+pub mod OwnLemmas
+pub mod ResultLemmas
 pub mod SourceLaws
 pub mod ValidLaws
-pub mod WithinLemmas
+pub mod WarnLemmas

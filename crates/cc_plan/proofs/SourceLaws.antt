@@ -12,7 +12,7 @@ use Rattle.cc_plan.specs.Given.{out_dir_of}
 use Rattle.cc_plan.specs.Object.{object_path}
 use Rattle.cc_plan.specs.declared.error.PlanError.{PlanError}
 use Rattle.cc_plan.specs.declared.settings.BuildConfig.{BuildConfig}
-use Rattle.cc_plan.specs.Refusal.{name_refusal, out_dir_refusal, early_refusal, late_refusal, tool_refusal, is_empty, place_from, earlier_place, source_refusal, first_of, sources_after, sources_refusal}
+use Rattle.cc_plan.specs.Refusal.{name_refusal, out_dir_refusal, early_refusal, is_empty, place_from, earlier_place, source_refusal, first_of, sources_after, sources_refusal}
 use Rattle.cc_plan.specs.declared.error.ArgumentCause.{ArgumentCause}
 use Rattle.cc_plan.specs.declared.error.ArgumentCause.TheVariants.{NoFileName, SameObject}
 use Rattle.cc_plan.specs.declared.error.PlanError.TheVariants.{Argument, NoMemory as WantsMemory}
@@ -99,13 +99,7 @@ early_by_sources set env output dir e name is passed (inr refused) =
     let path : unwrap_or (out_dir_of set env) [] ≡ dir = ap (λ d. unwrap_or d []) is in
     inr (rw (name, passed) (subst (λ (d : List ℕ). sources_refusal (λ source. object_path env.inherited set.source_root d source) set.files ≡ Some e) (sym path) refused))
 
-some_files : (files : List (List ℕ)) → (files ≡ [] → ⊥) → is_empty files ≡ false
-some_files [] h = absurd (h refl)
-some_files (file ∷ files) h = refl
-
--- where there is a source, what the tool passes is passed behind the folder
-pub late_by_tool : (set : BuildConfig) (env : EnvSeen) (empty : Bool) → (IsTrue empty ↔ (set.files ≡ [])) → empty ≡ false → tool_refusal set env ≡ None → late_refusal set env ≡ None
-unfolding late_refusal
-late_by_tool set env empty same is passed =
-    let some : is_empty set.files ≡ false = some_files set.files (λ none. let t : IsTrue empty = same.1 none in cc) in
-    rw some passed
+-- there is a source, where a test for none says no
+pub some_files : (files : List (List ℕ)) (empty : Bool) → (IsTrue empty ↔ (files ≡ [])) → empty ≡ false → is_empty files ≡ false
+some_files [] empty same is = absurd (let t : IsTrue empty = same.1 refl in cc)
+some_files (file ∷ files) empty same is = refl

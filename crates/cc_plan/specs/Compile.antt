@@ -1,15 +1,21 @@
 -- The planned compile commands: the tool, then the words of the object and the source.
-use Rattle.std.specs.Prelude.{List, ◌++◌, map}
+use Rattle.std.specs.Prelude.{List, ◌++◌, Option, None, unwrap_or, map, if◌then◌else◌}
 use Rattle.cc_host.specs.Command.{CommandSeen}
 use Rattle.cc_target.specs.Targets.{Info}
-use Rattle.cc_plan.specs.CompileWords.{compile_words}
+use Rattle.cc_tool.specs.Tool.{ToolSeen, tool_command}
+use Rattle.cc_plan.specs.CompileWords.{compile_words, is_masm}
 use Rattle.cc_plan.specs.declared.object.Object.{Object}
 use Rattle.cc_plan.specs.declared.settings.BuildConfig.{BuildConfig}
-use Rattle.cc_plan.specs.declared.tool.PlainTool.{PlainTool}
 
-abbrev pub compile_of : BuildConfig → Info → PlainTool → Object → CommandSeen
-compile_of set info tool object = record tool.cmd { args = tool.cmd.args ++ compile_words set.cpp set.reproducible_codeview set.asm_flags tool.family info object }
+-- the tool of a source: the assembler, where one is given, for a source in the language of the Visual Studio tools
+abbrev pub tool_for : Info → ToolSeen → Option ToolSeen → Object → ToolSeen
+tool_for info tool assembler object = if is_masm info object.src then unwrap_or assembler tool else tool
+
+abbrev pub compile_of : BuildConfig → Info → ToolSeen → Option ToolSeen → Object → CommandSeen
+compile_of set info tool assembler object =
+    let cmd = tool_command (tool_for info tool assembler object) in
+    record cmd { args = cmd.args ++ compile_words set.cpp set.reproducible_codeview set.asm_flags tool.family info object }
 
 -- one command an object, in order
-abbrev pub compiles_of : BuildConfig → Info → PlainTool → List Object → List CommandSeen
-compiles_of set info tool objects = map (compile_of set info tool) objects
+abbrev pub compiles_of : BuildConfig → Info → ToolSeen → List Object → List CommandSeen
+compiles_of set info tool objects = map (compile_of set info tool None) objects

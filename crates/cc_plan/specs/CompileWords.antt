@@ -1,5 +1,5 @@
 -- The words of a compile command that are an object's own.
-use Rattle.std.specs.Prelude.{ℕ, Bool, false, not, ◌&&◌, ◌||◌, List, [], ◌∷◌, ◌++◌, Option, Some, None, unwrap_or, codes, if◌then◌else◌}
+use Rattle.std.specs.Prelude.{ℕ, Bool, false, not, ◌&&◌, ◌||◌, List, [], ◌∷◌, ◌++◌, codes, if◌then◌else◌}
 use Rattle.std.specs.Option.{option_map_or}
 use Rattle.std.specs.Path.{path_extension}
 use Rattle.cc_text.specs.Case.{lowered}
@@ -16,6 +16,14 @@ is_asm_extension extension = is (lowered extension) "asm" || is (lowered extensi
 -- the source is assembly
 unfoldable pub is_asm : List ℕ → Bool
 is_asm source = option_map_or is_asm_extension (path_extension source) false
+
+-- the extension of assembly in the language of the Visual Studio tools
+abbrev pub is_masm_extension : List ℕ → Bool
+is_masm_extension extension = is (lowered extension) "asm"
+
+-- the source is such assembly, for a target of those tools
+unfoldable pub is_masm : Info → List ℕ → Bool
+is_masm target source = is target.env "msvc" && option_map_or is_masm_extension (path_extension source) false
 
 -- the object, which the Visual Studio compilers take in one word, but for assembly for Arm
 unfoldable pub object_words : ToolFamily → Info → Object → List (List ℕ)

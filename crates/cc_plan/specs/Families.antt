@@ -1,5 +1,5 @@
 -- The families of compilers, and what the name of a compiler's file says.
-use Rattle.std.specs.Prelude.{ℕ, Bool, true, false, not, ◌&&◌, ◌||◌, ◌==◌, List, [], ◌∷◌, Option, Some, None, unwrap_or, is_none, codes, if◌then◌else◌}
+use Rattle.std.specs.Prelude.{ℕ, Bool, true, false, not, ◌&&◌, ◌||◌, ◌==◌, List, [], ◌∷◌, Option, unwrap_or, is_none, codes, if◌then◌else◌}
 use Rattle.std.specs.List.{list_any}
 use Rattle.std.specs.Path.{path_file_name}
 use Rattle.cc_text.specs.Case.{lowered, ends_ignoring_case}
@@ -52,23 +52,6 @@ has_ignoring_case name literal = has (lowered name) literal
 -- the name ends with the literal, in either case of ASCII letters
 abbrev pub ends_with_either : List ℕ → String → Bool
 ends_with_either name literal = ends_ignoring_case name (codes literal)
-
--- the name is that of the Visual Studio compiler
-unfoldable pub is_cl_name : List ℕ → Bool
-is_cl_name name = ends_with_either name "cl" || is (lowered name) "cl.exe"
-
--- the family of a compiler by its name: the first that applies
-unfoldable pub family_of_file : List ℕ → ToolFamily
-family_of_file name =
-    if has_ignoring_case name "clang-cl" then Msvc true
-    else (if is_cl_name name then Msvc false
-    else (if has_ignoring_case name "clang" then Clang (has_ignoring_case name "zig")
-    else (if has_ignoring_case name "zig" then Clang true
-    else Gnu)))
-
--- the family of the compiler at a path
-abbrev pub family_of_name : List ℕ → ToolFamily
-family_of_name path = family_of_file (name_of path)
 
 -- a `-` stands in the text
 abbrev pub has_dash : List ℕ → Bool

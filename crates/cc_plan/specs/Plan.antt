@@ -4,6 +4,7 @@ use Rattle.std.specs.Path.{path_parent, path_join}
 use Rattle.cc_env.specs.Env.{EnvSeen}
 use Rattle.cc_host.specs.Command.{CommandSeen}
 use Rattle.cc_host.specs.Part.{Step, runs}
+use Rattle.cc_host.specs.Question.{Look}
 use Rattle.cc_host.specs.Part.Step.{Makes, Removes, Prints}
 use Rattle.cc_host.specs.declared.event.Role.TheVariants.{Compile, Archive, Index}
 use Rattle.cc_host.specs.declared.event.Scope.TheVariants.{Build}
@@ -18,7 +19,8 @@ use Rattle.cc_plan.specs.Link.{printed_line, link_lines as lines_of}
 use Rattle.cc_plan.specs.Names.{library_name, library_file}
 use Rattle.cc_plan.specs.Object as object
 use Rattle.cc_plan.specs.Refusal.{early_refusal, late_refusal, is_empty}
-use Rattle.cc_plan.specs.Tool.{target_info, tool_of, warnings_of}
+use Rattle.cc_plan.specs.Target.{target_info}
+use Rattle.cc_plan.specs.Tool.{tool_of, warnings_of}
 
 -- the folder of the objects and of the library
 abbrev pub dir_of : BuildConfig → EnvSeen → List ℕ
@@ -30,8 +32,8 @@ objects_of set env = object.objects_of env.inherited set.source_root (dir_of set
 abbrev pub library_of : BuildConfig → EnvSeen → List ℕ → List ℕ
 library_of set env output = path_join (dir_of set env) (library_file output)
 
-abbrev pub compiles_of : BuildConfig → EnvSeen → List CommandSeen
-compiles_of set env = compile.compiles_of set (target_info set env) (tool_of set env) (objects_of set env)
+abbrev pub compiles_of : BuildConfig → EnvSeen → Look → List CommandSeen
+compiles_of set env look = compile.compiles_of set (target_info set env) (tool_of set env look) (objects_of set env)
 
 abbrev pub archives_of : BuildConfig → EnvSeen → List ℕ → List CommandSeen
 archives_of set env output = archive.archives_of set env (library_of set env output) (objects_of set env)
@@ -47,9 +49,17 @@ link_lines set env output = lines_of (library_name output) (unwrap_or (path_pare
 abbrev pub warning_line : List ℕ → List ℕ
 warning_line text = codes "cargo:warning=" ++ text
 
--- the warnings of the plan, where there is a source and they are wanted
-abbrev pub warning_lines : BuildConfig → EnvSeen → List (List ℕ)
-warning_lines set env = if is_empty set.files then [] else (if set.cargo_warnings then map warning_line (warnings_of set env) else [])
+-- the warnings as lines, where they are wanted
+abbrev pub wanted_lines : BuildConfig → List (List ℕ) → List (List ℕ)
+wanted_lines set warnings = if set.cargo_warnings then map warning_line warnings else []
+
+-- the warnings of the tool, where they are wanted
+abbrev pub tool_lines : BuildConfig → EnvSeen → Look → List (List ℕ)
+tool_lines set env look = wanted_lines set (warnings_of set env look)
+
+-- the warnings of the plan, where there is a source
+abbrev pub warning_lines : BuildConfig → EnvSeen → Look → List (List ℕ)
+warning_lines set env look = if is_empty set.files then [] else tool_lines set env look
 
 -- the folder is made where there is a source
 unfoldable pub folder_steps : BuildConfig → EnvSeen → List Step
@@ -59,8 +69,8 @@ unfoldable pub prints : LineKind → List (List ℕ) → List Step
 prints kind lines = map (λ line. Prints kind (printed_line line)) lines
 
 -- the warnings of the plan are printed, then each source is compiled
-unfoldable pub compile_steps : BuildConfig → EnvSeen → List Step
-compile_steps set env = prints Warning (warning_lines set env) ++ runs Compile (compiles_of set env)
+unfoldable pub compile_steps : BuildConfig → EnvSeen → Look → List Step
+compile_steps set env look = prints Warning (warning_lines set env look) ++ runs Compile (compiles_of set env look)
 
 -- the old library is removed
 unfoldable pub removal_steps : BuildConfig → EnvSeen → List ℕ → List Step
@@ -76,14 +86,14 @@ unfoldable pub link_steps : BuildConfig → EnvSeen → List ℕ → List Step
 link_steps set env output = prints Link (link_lines set env output)
 
 -- the steps behind the folder
-abbrev pub run_steps : BuildConfig → EnvSeen → List ℕ → List Step
-run_steps set env output =
-    compile_steps set env ++ (removal_steps set env output ++ (archive_steps set env output ++ (index_steps set env output ++ link_steps set env output)))
+abbrev pub run_steps : BuildConfig → EnvSeen → Look → List ℕ → List Step
+run_steps set env look output =
+    compile_steps set env look ++ (removal_steps set env output ++ (archive_steps set env output ++ (index_steps set env output ++ link_steps set env output)))
 
 -- the same, where commands may run and the settings are not refused behind the folder
-unfoldable pub late_steps : BuildConfig → EnvSeen → List ℕ → List Step
-late_steps set env output = if is_disabled env then [] else (if is_some (late_refusal set env) then [] else run_steps set env output)
+unfoldable pub late_steps : BuildConfig → EnvSeen → Look → List ℕ → List Step
+late_steps set env look output = if is_disabled env then [] else (if is_some (late_refusal set env look) then [] else run_steps set env look output)
 
 -- The steps of a compile run. Settings that are refused before the folder is made plan none, and those that are refused behind it the folder alone.
-unfoldable pub planned_steps : BuildConfig → EnvSeen → List ℕ → List Step
-planned_steps set env output = if is_some (early_refusal set env output) then [] else folder_steps set env ++ late_steps set env output
+unfoldable pub planned_steps : BuildConfig → EnvSeen → Look → List ℕ → List Step
+planned_steps set env look output = if is_some (early_refusal set env output) then [] else folder_steps set env ++ late_steps set env look output

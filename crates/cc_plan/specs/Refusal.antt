@@ -4,10 +4,13 @@ use Rattle.std.specs.Option.{option_map}
 use Rattle.std.specs.Path.{path_file_name}
 use Rattle.cc_plan.specs.Names.{is_output_name}
 use Rattle.cc_env.specs.Env.{EnvSeen}
+use Rattle.cc_host.specs.Question.{Look}
 use Rattle.cc_target.specs.Targets.{is_known}
 use Rattle.cc_plan.specs.Given.{out_dir_of, target_of, host_of, level_of}
 use Rattle.cc_plan.specs.Object.{object_path}
-use Rattle.cc_plan.specs.Tool.{words_refusal_of}
+use Rattle.cc_plan.specs.Compiler.{compiler_of}
+use Rattle.cc_plan.specs.Tool.{words_refusal_by}
+use Rattle.cc_plan.specs.declared.compiler.Compiler.{Compiler}
 use Rattle.cc_plan.specs.declared.error.ArgumentCause.{ArgumentCause}
 use Rattle.cc_plan.specs.declared.error.ArgumentCause.TheVariants.{Output, OutDir, NoFileName, SameObject}
 use Rattle.cc_plan.specs.declared.error.PlanError.{PlanError}
@@ -62,13 +65,17 @@ target_refusal (Some target) = if is_known target then None else Some (UnknownTa
 unfoldable pub platform_refusal : BuildConfig → EnvSeen → Option PlanError
 platform_refusal set env = first_of (target_refusal (target_of set env)) (unset (codes "HOST") (host_of set env))
 
--- what the compiler wants: the level, the target, what single words want, and the host, which flags of the environment are looked up by
-unfoldable pub tool_refusal : BuildConfig → EnvSeen → Option PlanError
-tool_refusal set env =
-    first_of (unset (codes "OPT_LEVEL") (level_of set env))
-    (first_of (target_refusal (target_of set env))
-    (first_of (words_refusal_of set env)
-    (unset (codes "HOST") (host_of set env))))
+-- what the compiler wants before it is chosen: the level and the target
+unfoldable pub given_refusal : BuildConfig → EnvSeen → Option PlanError
+given_refusal set env = first_of (unset (codes "OPT_LEVEL") (level_of set env)) (target_refusal (target_of set env))
+
+-- what it wants then: what single words want, and the host, which flags of the environment are looked up by
+unfoldable pub refusal_by : BuildConfig → EnvSeen → Compiler → Option PlanError
+refusal_by set env compiler = first_of (words_refusal_by set env compiler) (unset (codes "HOST") (host_of set env))
+
+-- what the compiler wants
+abbrev pub tool_refusal : BuildConfig → EnvSeen → Look → Option PlanError
+tool_refusal set env look = first_of (given_refusal set env) (refusal_by set env (compiler_of set env look))
 
 -- the object of a source in the out dir
 abbrev pub object_in : BuildConfig → EnvSeen → List ℕ → List ℕ
@@ -83,5 +90,5 @@ is_empty [] = true
 is_empty (s ∷ ss) = false
 
 -- after it is made, where commands may run
-unfoldable pub late_refusal : BuildConfig → EnvSeen → Option PlanError
-late_refusal set env = if is_empty set.files then platform_refusal set env else tool_refusal set env
+unfoldable pub late_refusal : BuildConfig → EnvSeen → Look → Option PlanError
+late_refusal set env look = if is_empty set.files then platform_refusal set env else tool_refusal set env look

@@ -1,5 +1,5 @@
 -- The words that settings bring, whatever the target: a definition a group.
-use Rattle.std.specs.Prelude.{ℕ, Bool, true, not, ◌&&◌, List, [], ◌∷◌, ◌++◌, Option, Some, None, unwrap_or, is_none, map, codes, if◌then◌else◌}
+use Rattle.std.specs.Prelude.{ℕ, Bool, true, ◌&&◌, List, [], ◌∷◌, ◌++◌, Option, Some, None, unwrap_or, is_none, map, codes, if◌then◌else◌}
 use Rattle.std.specs.List.{flat_map}
 use Rattle.cc_text.specs.Words.{when}
 use Rattle.cc_text.specs.declared.family.ToolFamily.{ToolFamily}

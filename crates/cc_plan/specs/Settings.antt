@@ -33,4 +33,5 @@ unset_settings = record {
   warnings_into_errors = false;
   cargo_warnings = true;
   emit_rerun_if_env_changed = true;
+  prefer_clang_cl_over_msvc = false;
 }

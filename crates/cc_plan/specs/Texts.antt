@@ -1,6 +1,7 @@
 -- Tests of a text against a literal. Case counts.
-use Rattle.std.specs.Prelude.{ℕ, Bool, ◌||◌, nat_eq, List, [], ◌∷◌, codes, bytes_eq}
+use Rattle.std.specs.Prelude.{ℕ, Bool, nat_eq, List, [], ◌∷◌, codes, bytes_eq}
 use Rattle.std.specs.List.{starts_with}
+use Rattle.cc_text.specs.Within.{is_within}
 use Prim.Native.String.{String}
 
 -- the text is the literal
@@ -14,11 +15,6 @@ begins_with text prefix = starts_with nat_eq text prefix
 -- the text begins with the literal
 abbrev pub begins : List ℕ → String → Bool
 begins text literal = begins_with text (codes literal)
-
--- the needle stands in the text
-unfoldable pub is_within : List ℕ → List ℕ → Bool
-is_within needle [] = starts_with nat_eq [] needle
-is_within needle (b ∷ text) = starts_with nat_eq (b ∷ text) needle || is_within needle text
 
 -- the literal stands in the text
 abbrev pub has : List ℕ → String → Bool

@@ -1,9 +1,10 @@
--- Settings, an environment and an output that a compile run doesn't refuse.
+-- Settings, an environment and an output that a compile run doesn't refuse, with these verdicts.
 use Rattle.std.specs.Prelude.{◌≡◌, ◌≢◌, ℕ, List, [], ◌∷◌, map, true, false, Option, Some, None, IsSome}
 use Rattle.std.specs.List.{AllByRecursion}
 use Rattle.std.specs.Path.{path_file_name}
 use Rattle.cc_plan.specs.Names.{is_output_name}
 use Rattle.cc_env.specs.Env.{EnvSeen}
+use Rattle.cc_host.specs.Question.{Look}
 use Rattle.cc_target.specs.Targets.{is_known}
 use Rattle.cc_plan.specs.Given.{out_dir_of, target_of, host_of, level_of, is_disabled}
 use Rattle.cc_plan.specs.Refusal.{is_empty, object_in}
@@ -29,7 +30,7 @@ IsSetNonempty None = ⊥
 IsSetNonempty (Some []) = ⊥
 IsSetNonempty (Some (b ∷ bs)) = Unit {0}
 
-pub record Valid (set : BuildConfig) (env : EnvSeen) (output : List ℕ) : Type 0 where
+pub record Valid (set : BuildConfig) (env : EnvSeen) (look : Look) (output : List ℕ) : Type 0 where
   pub name : is_output_name output ≡ true
   pub out_dir : IsSetNonempty (out_dir_of set env)
   pub named : AllByRecursion (λ source. IsSome (path_file_name source)) set.files
@@ -40,4 +41,4 @@ pub record Valid (set : BuildConfig) (env : EnvSeen) (output : List ℕ) : Type 
   pub host : IsSome (host_of set env)
   pub level : is_empty set.files ≡ false → IsSome (level_of set env)
   -- no word is refused: the QNX compilers have a name for the architecture, and the demanded sysroot is set
-  pub words : is_empty set.files ≡ false → words_refusal_of set env ≡ None
+  pub words : is_empty set.files ≡ false → words_refusal_of set env look ≡ None

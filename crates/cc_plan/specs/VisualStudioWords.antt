@@ -1,5 +1,5 @@
 -- The words that the Visual Studio compilers take for a target and an optimisation level.
-use Rattle.std.specs.Prelude.{ℕ, Bool, true, not, ◌&&◌, ◌||◌, List, [], ◌∷◌, ◌++◌, Option, unwrap_or, codes, if◌then◌else◌}
+use Rattle.std.specs.Prelude.{ℕ, Bool, true, not, ◌||◌, List, [], ◌∷◌, ◌++◌, Option, unwrap_or, if◌then◌else◌}
 use Rattle.cc_text.specs.Words.{when, choose, entry}
 use Rattle.cc_text.specs.declared.family.ToolFamily.{ToolFamily}
 use Rattle.cc_target.specs.Targets.{Info}

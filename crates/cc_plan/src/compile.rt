@@ -1,25 +1,45 @@
 // The compile command of an object.
-ghost use Rattle.std.specs.Prelude.{◌≡◌, IfOk, IfErr};
+ghost use Rattle.std.specs.Prelude.{◌≡◌, IfOk, IfErr, None, unwrap_or, if◌then◌else◌};
+ghost use Rattle.std.specs.Option.{option_copied};
 ghost use Rattle.cc_target.specs.Targets.{info_seen};
-ghost use Rattle.cc_plan.specs.Compile.{compile_of, compiles_of};
+ghost use Rattle.cc_plan.specs.Compile.{tool_for, compile_of, compiles_of};
 ghost use Rattle.cc_plan.specs.declared.error.PlanError.TheVariants.{NoMemory as WantsMemory};
 
-use crate::words::compile_words;
-use crate::{BuildConfig, Object, PlainTool, PlanError};
+use crate::words::{compile_words, is_masm};
+use crate::{BuildConfig, Object, PlanError};
 use cc_host::Command;
 use cc_target::TargetInfo;
+use cc_tool::Tool;
 use std::alloc::Global;
 
+// The tool of a source: the assembler, where one is given, for a source in the language of the Visual Studio tools.
+fn tool_for<'a>(
+    target: &TargetInfo,
+    tool: &'a Tool,
+    assembler: Option<&'a Tool>,
+    object: &Object,
+) -> &'a Tool
+    ensures { result.now ≡ tool_for (info_seen target.now) tool.now (option_copied assembler.entry) object.now }
+{
+    if is_masm(target, object.src.as_str()) {
+        assembler.unwrap_or(tool)
+    } else {
+        tool
+    }
+}
+
 /// The command that makes an object from its source: the tool, then the words of the object and the source in the form of the tool's
-/// family. Only want of memory refuses.
+/// family. An assembler serves sources in the language of the Visual Studio tools, on a target of those; no such target is known yet, so
+/// no source asks for one. Only want of memory refuses.
 pub fn compile_command(
     alloc: Global,
     set: &BuildConfig,
     target: &TargetInfo,
-    tool: &PlainTool,
+    tool: &Tool,
+    assembler: Option<&Tool>,
     object: &Object,
 ) -> Result<Command, PlanError>
-    ensures command { IfOk result (λ cmd. cmd ≡ compile_of set.now (info_seen target.now) tool.now object.now) }
+    ensures command { IfOk result (λ cmd. cmd ≡ compile_of set.now (info_seen target.now) tool.now (option_copied assembler.entry) object.now) }
     ensures refused { IfErr result (λ e. e ≡ WantsMemory) }
 {
     let words = compile_words(
@@ -27,11 +47,11 @@ pub fn compile_command(
         set.cpp,
         set.reproducible_codeview,
         &set.asm_flags,
-        tool.family,
+        tool.family(),
         target,
         object,
     )?;
-    let mut cmd = tool.cmd.try_clone()?;
+    let mut cmd = tool_for(target, tool, assembler, object).to_command()?;
     cmd.args(&words)?;
     Ok(cmd)
 }
@@ -41,7 +61,7 @@ pub(crate) fn compile_commands(
     alloc: Global,
     set: &BuildConfig,
     target: &TargetInfo,
-    tool: &PlainTool,
+    tool: &Tool,
     objects: &[Object],
 ) -> Result<Vec<Command>, PlanError>
     ensures commands { IfOk result (λ cmds. cmds.items ≡ compiles_of set.now (info_seen target.now) tool.now objects.now) }
@@ -49,7 +69,7 @@ pub(crate) fn compile_commands(
 {
     let mut cmds = Vec::new(alloc);
     for object in objects {
-        cmds.push(compile_command(alloc, set, target, tool, object)?)?;
+        cmds.push(compile_command(alloc, set, target, tool, None, object)?)?;
     }
     Ok(cmds)
 }

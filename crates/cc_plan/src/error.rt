@@ -2,6 +2,7 @@
 ghost use Rattle.std.specs.Prelude.{◌≡◌};
 ghost use Rattle.cc_plan.specs.declared.error.PlanError.TheVariants.{NoMemory as WantsMemory};
 
+use cc_host::{HostCall, Why};
 use cc_text::{NoMemory, Text};
 use std::alloc::{AllocError, AllocFailed};
 
@@ -29,6 +30,8 @@ pub enum PlanError {
     UnknownTarget(Text),
     /// The QNX compilers have no name for this architecture.
     QnxArch(Text),
+    /// A call of the host failed.
+    Host(HostCall, Why),
     /// Memory was refused.
     NoMemory,
 }

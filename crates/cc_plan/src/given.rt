@@ -1,10 +1,10 @@
 // What the settings say and, where they are silent, the variables that Cargo sets for a build script.
 ghost use Rattle.std.specs.Prelude.{◌≡◌, IfOk, option_map};
 ghost use Rattle.std.specs.Option.{option_copied};
-ghost use Rattle.cc_plan.specs.Given.{or_variable, out_dir_of, target_of, host_of, level_of, is_value_of, is_cargos_target, is_true_variable, is_disabled, has_no_defaults, has_shell_flags, flags_variable, variable_flags, environment_flags};
+ghost use Rattle.cc_plan.specs.Given.{prefixed_value, set_text, temp_folder, probe_folder, or_variable, out_dir_of, target_of, host_of, level_of, is_value_of, is_cargos_target, is_true_variable, is_disabled, has_no_defaults, has_shell_flags, flags_variable, variable_flags, environment_flags};
 
 use crate::BuildConfig;
-use cc_env::{BuildEnv, env_value_is_true, flags_of};
+use cc_env::{BuildEnv, env_value_is_true, flags_of, single};
 use cc_text::{Mem, Text, Words};
 use std::alloc::Global;
 
@@ -134,4 +134,44 @@ pub(crate) fn environment_flags(
     ensures { IfOk result (λ flags. flags ≡ environment_flags set.now env.now) }
 {
     variable_flags(alloc, set, env, flags_variable(set))
+}
+
+// The value of a variable of the prefixes. Without a target and a host there is none.
+pub(crate) fn prefixed_value(
+    alloc: Global,
+    set: &BuildConfig,
+    env: &BuildEnv,
+    variable: &str,
+) -> Mem<Option<Text>>
+    ensures { IfOk result (λ value. value ≡ prefixed_value set.now env.now variable.now) }
+{
+    match (target_of(set, env), host_of(set, env)) {
+        (Some(target), Some(host)) => single(alloc, env.inherited(), variable, target, host),
+        _ => Ok(None),
+    }
+}
+
+// The text, where it is set and has a byte.
+fn set_text(text: Option<&str>) -> Option<&str>
+    ensures { option_copied result ≡ set_text (option_copied text.entry) }
+{
+    match text {
+        Some("") => None,
+        Some(text) => Some(text),
+        None => None,
+    }
+}
+
+fn temp_folder(env: &BuildEnv) -> &str
+    ensures { result.now ≡ temp_folder env.now }
+{
+    set_text(env.inherited().get("TMPDIR")).unwrap_or("/tmp")
+}
+
+// The folder of probe files: the out dir, else that for files that don't last.
+#[tactic(auto, unfolding(crate::specs::Given::probe_folder))]
+pub(crate) fn probe_folder<'a>(set: &'a BuildConfig, env: &'a BuildEnv) -> &'a str
+    ensures { result.now ≡ probe_folder set.now env.now }
+{
+    set_text(out_dir_of(set, env)).unwrap_or(temp_folder(env))
 }

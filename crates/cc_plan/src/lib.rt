@@ -1,26 +1,38 @@
 //! The plan of a compile run: settings become commands, archives and link lines, as values.
 //!
-//! Stands on `cc_text`, `cc_env` and `cc_target`, and on `cc_host`, of which it uses commands alone: nothing here asks
-//! a host. The crate above uses one thing: each planned value equals its definition in `specs/`, and each refusal comes
-//! exactly where `specs/Refusal.antt` says.
+//! Stands on `cc_text`, `cc_env`, `cc_target`, `cc_host` and `cc_tool`. A plan is a function of settings, environment and
+//! the verdicts of questions; a call that plans asks those that it needs through a `Sight`, and its answer is settled by them.
+//! The crate above uses one thing: each planned value equals its definition in `specs/`, and each refusal comes exactly where
+//! `specs/Refusal.antt` says.
 #![tactic(auto)]
 
+mod android;
 mod archive;
+mod blanks;
+mod choice;
 mod compile;
+mod compiler;
+mod env_tool;
 mod error;
 mod flags;
 mod given;
+mod languages;
 mod link;
 mod names;
 mod object;
 mod plan;
+mod prefix;
+mod printing;
+mod search;
 mod settings;
+mod sight;
 #[cfg(test)]
 mod tests;
 mod tool;
 mod words;
 
 pub use archive::{archive_commands, index_commands};
+pub use choice::Choice;
 pub use compile::compile_command;
 pub use error::{ArgumentCause, PlanError};
 pub use flags::{BuildFlag, Definition, Definitions, Flags};
@@ -30,4 +42,5 @@ pub use names::lib_and_archive_names;
 pub use object::{Object, object_path, objects_from_files};
 pub use plan::{Plan, Sources, plan_commands, plan_sources};
 pub use settings::BuildConfig;
-pub use tool::{PlainTool, tool_of};
+pub use sight::Sight;
+pub use tool::tool_of;

@@ -1,25 +1,27 @@
-// The plan of a compile run, in two parts: what is known before the folder of the objects is made, and the rest.
-ghost use Rattle.std.specs.Prelude.{◌≡◌, IfOk, IfErr, OnOk, ◌⊎◌, Some, None, map};
+// The plan of a compile run, in two parts: what is known before the folder of the objects is made, and the rest, which asks.
+ghost use Rattle.std.specs.Prelude.{◌≡◌, ◌++◌, [], IfOk, IfErr, OnOk, ◌⊎◌, Some, None};
+ghost use Rattle.cc_host.specs.Question.{Settles};
+ghost use Rattle.cc_tool.specs.Asks.{Asks};
 ghost use Rattle.std.specs.Option.{option_copied};
 ghost use Rattle.cc_plan.specs.Names.{library_name};
-ghost use Rattle.cc_plan.specs.Given.{out_dir_of};
-ghost use Rattle.cc_plan.specs.Plan.{objects_of, library_of, compiles_of, archives_of, indexes_of, warning_line as line_of_warning, warning_lines as lines_of_warnings, link_lines as lines_of};
-ghost use Rattle.cc_plan.specs.Refusal.{early_refusal, late_refusal, out_dir_refusal};
-ghost use Rattle.cc_plan.specs.Tool.{warnings_of, target_info};
+ghost use Rattle.cc_plan.specs.Given.{out_dir_of, probe_folder};
+ghost use Rattle.cc_plan.specs.Plan.{objects_of, library_of, compiles_of, archives_of, indexes_of, tool_lines, warning_lines as lines_of_warnings, link_lines as lines_of};
+ghost use Rattle.cc_plan.specs.Refusal.{early_refusal, late_refusal, tool_refusal, platform_refusal, out_dir_refusal};
 ghost use Rattle.cc_plan.specs.declared.error.PlanError.TheVariants.{NoMemory as WantsMemory};
 
 use crate::compile::compile_commands;
-use crate::given::{has_no_defaults, out_dir_of};
-use crate::tool::{check_platform, family_of, target_and_tool};
-use crate::words::tool_warnings;
+use crate::given::out_dir_of;
+use crate::printing::wanted_lines;
+use crate::tool::{check_platform, plan_tool};
 use crate::{
-    ArgumentCause, BuildConfig, Object, PlanError, archive_commands, index_commands,
+    ArgumentCause, BuildConfig, Object, PlanError, Sight, archive_commands, index_commands,
     lib_and_archive_names, link_lines, objects_from_files,
 };
 use cc_env::BuildEnv;
-use cc_host::Command;
-use cc_text::{Mem, Text, Words, join, parent};
+use cc_host::{Command, Host, World};
+use cc_text::{Text, Words, join, parent};
 use std::alloc::Global;
+use std::sync::Wait;
 
 /// What is known before the folder of the objects is made: the name and the path of the library, and the objects.
 #[derive(Drop, Debug)]
@@ -90,89 +92,112 @@ pub fn plan_sources(
     })
 }
 
-fn warning_line(alloc: Global, text: &str) -> Mem<Text>
-    ensures { IfOk result (λ line. line ≡ line_of_warning text.now) }
-{
-    let mut line = Text::of(alloc, "cargo:warning=")?;
-    line.push_str(text)?;
-    Ok(line)
+// The warnings and the commands that compile.
+#[derive(Drop, Debug)]
+struct Compiles {
+    warnings: Words,
+    cmds: Vec<Command>,
 }
 
-fn lines_of_texts(alloc: Global, texts: &Words) -> Mem<Words>
-    ensures { IfOk result (λ lines. lines ≡ map line_of_warning texts.now) }
+// Without a source there is nothing to compile, and no tool is wanted.
+fn no_compiles(alloc: Global, set: &BuildConfig, env: &BuildEnv) -> Result<Compiles, PlanError>
+    ensures warnings { IfOk result (λ plan. plan.warnings ≡ []) }
+    ensures compiles { IfOk result (λ plan. plan.cmds.items ≡ []) }
+    ensures allowed { OnOk result (platform_refusal set.now env.now ≡ None) }
+    ensures refused { IfErr result (λ e. (e ≡ WantsMemory) ⊎ (platform_refusal set.now env.now ≡ Some e)) }
 {
-    let mut lines = Words::new(alloc);
-    for text in texts.as_slice() {
-        lines.push_text(warning_line(alloc, text.as_str())?)?;
-    }
-    Ok(lines)
+    check_platform(alloc, set, env)?;
+    Ok(Compiles {
+        warnings: Words::new(alloc),
+        cmds: Vec::new(alloc),
+    })
 }
 
-// The lines of the plan's warnings, where there is a source and they are wanted.
-fn warning_lines(alloc: Global, set: &BuildConfig, env: &BuildEnv) -> Mem<Words>
-    ensures { IfOk result (λ lines. lines ≡ lines_of_warnings set.now env.now) }
-{
-    if set.files.is_empty() || !set.cargo_warnings {
-        return Ok(Words::new(alloc));
-    }
-    let texts = tool_warnings(alloc, has_no_defaults(set, env), set, family_of(set))?;
-    lines_of_texts(alloc, &texts)
-}
-
-// The compile commands. Without a source there is none, and no tool is wanted.
-#[tactic(auto, unfolding(crate::specs::Refusal::late_refusal))]
-fn plan_compiles(
+// With sources, those of the tool.
+fn tool_compiles<W: World, H: Host<W>>(
+    rt: &impl Wait,
     alloc: Global,
     set: &BuildConfig,
     env: &BuildEnv,
     objects: &[Object],
-) -> Result<Vec<Command>, PlanError>
+    sight: &mut Sight<'_, W, H>,
+) -> Result<Compiles, PlanError>
     requires { objects.now ≡ objects_of set.now env.now }
-    ensures compiles { IfOk result (λ cmds. cmds.items ≡ compiles_of set.now env.now) }
-    ensures allowed { OnOk result (late_refusal set.now env.now ≡ None) }
-    ensures refused { IfErr result (λ e. (e ≡ WantsMemory) ⊎ (late_refusal set.now env.now ≡ Some e)) }
+    ensures same_host { sight.new.host.ghost_name ≡ sight.old.host.ghost_name }
+    ensures same_answers { sight.new.answers.ghost_name ≡ sight.old.answers.ghost_name }
+    ensures asks { Asks W.steady W.answer (probe_folder set.now env.now) (H.log sight.old.host.now) (H.log sight.new.host.now) sight.old.answers.now sight.new.answers.now }
+    ensures warnings { IfOk result (λ plan. Settles sight.new.answers.now (tool_lines set.now env.now) plan.warnings) }
+    ensures compiles { IfOk result (λ plan. Settles sight.new.answers.now (compiles_of set.now env.now) plan.cmds.items) }
+    ensures allowed { OnOk result (Settles sight.new.answers.now (tool_refusal set.now env.now) None) }
+    ensures refused { IfErr result (λ e. (e ≡ WantsMemory) ⊎ Settles sight.new.answers.now (tool_refusal set.now env.now) (Some e)) }
 {
-    if set.files.is_empty() {
-        check_platform(alloc, set, env)?;
-        return Ok(Vec::new(alloc));
-    }
-    let (target, tool) = target_and_tool(alloc, set, env)?;
-    let cmds = compile_commands(alloc, set, &target, &tool, objects)?;
-    Ok(cmds)
+    let plan = plan_tool(rt, alloc, set, env, sight)?;
+    let warnings = wanted_lines(alloc, set, &plan.warnings)?;
+    let cmds = compile_commands(alloc, set, &plan.target, &plan.tool, objects)?;
+    Ok(Compiles { warnings, cmds })
 }
 
-/// The warnings, commands and lines of a compile run with these sources.
+#[tactic(auto, unfolding(crate::specs::Refusal::late_refusal))]
+fn plan_compiles<W: World, H: Host<W>>(
+    rt: &impl Wait,
+    alloc: Global,
+    set: &BuildConfig,
+    env: &BuildEnv,
+    objects: &[Object],
+    sight: &mut Sight<'_, W, H>,
+) -> Result<Compiles, PlanError>
+    requires { objects.now ≡ objects_of set.now env.now }
+    ensures same_host { sight.new.host.ghost_name ≡ sight.old.host.ghost_name }
+    ensures same_answers { sight.new.answers.ghost_name ≡ sight.old.answers.ghost_name }
+    ensures asks { Asks W.steady W.answer (probe_folder set.now env.now) (H.log sight.old.host.now) (H.log sight.new.host.now) sight.old.answers.now sight.new.answers.now }
+    ensures warnings { IfOk result (λ plan. Settles sight.new.answers.now (lines_of_warnings set.now env.now) plan.warnings) }
+    ensures compiles { IfOk result (λ plan. Settles sight.new.answers.now (compiles_of set.now env.now) plan.cmds.items) }
+    ensures allowed { OnOk result (Settles sight.new.answers.now (late_refusal set.now env.now) None) }
+    ensures refused { IfErr result (λ e. (e ≡ WantsMemory) ⊎ Settles sight.new.answers.now (late_refusal set.now env.now) (Some e)) }
+{
+    if set.files.is_empty() {
+        no_compiles(alloc, set, env)
+    } else {
+        tool_compiles(rt, alloc, set, env, objects, sight)
+    }
+}
+
+/// The warnings, commands and lines of a compile run with these sources. It asks, and prints nothing.
 ///
 /// Refused where the target or the host is set nowhere, the target isn't known or, with sources, the optimisation level is set nowhere or
 /// a word of the target is refused.
-pub fn plan_commands(
+pub fn plan_commands<W: World, H: Host<W>>(
+    rt: &impl Wait,
     alloc: Global,
     set: &BuildConfig,
     env: &BuildEnv,
     output: &str,
     sources: &Sources,
+    sight: &mut Sight<'_, W, H>,
 ) -> Result<Plan, PlanError>
     requires name { sources.now.name ≡ library_name output.now }
     requires library { sources.now.library ≡ library_of set.now env.now output.now }
     requires objects { sources.now.objects.items ≡ objects_of set.now env.now }
-    ensures warnings { IfOk result (λ plan. plan.warnings ≡ lines_of_warnings set.now env.now) }
-    ensures compiles { IfOk result (λ plan. plan.compiles.items ≡ compiles_of set.now env.now) }
+    ensures same_host { sight.new.host.ghost_name ≡ sight.old.host.ghost_name }
+    ensures same_answers { sight.new.answers.ghost_name ≡ sight.old.answers.ghost_name }
+    ensures asks { Asks W.steady W.answer (probe_folder set.now env.now) (H.log sight.old.host.now) (H.log sight.new.host.now) sight.old.answers.now sight.new.answers.now }
+    ensures warnings { IfOk result (λ plan. Settles sight.new.answers.now (lines_of_warnings set.now env.now) plan.warnings) }
+    ensures compiles { IfOk result (λ plan. Settles sight.new.answers.now (compiles_of set.now env.now) plan.compiles.items) }
     ensures archives { IfOk result (λ plan. plan.archives.items ≡ archives_of set.now env.now output.now) }
     ensures indexes { IfOk result (λ plan. plan.indexes.items ≡ indexes_of set.now env.now output.now) }
     ensures lines { IfOk result (λ plan. plan.lines ≡ lines_of set.now env.now output.now) }
-    ensures allowed { OnOk result (late_refusal set.now env.now ≡ None) }
-    ensures refused { IfErr result (λ e. (e ≡ WantsMemory) ⊎ (late_refusal set.now env.now ≡ Some e)) }
+    ensures allowed { OnOk result (Settles sight.new.answers.now (late_refusal set.now env.now) None) }
+    ensures refused { IfErr result (λ e. (e ≡ WantsMemory) ⊎ Settles sight.new.answers.now (late_refusal set.now env.now) (Some e)) }
 {
     let library = sources.library.as_str();
-    let compiles = plan_compiles(alloc, set, env, &sources.objects)?;
-    let warnings = warning_lines(alloc, set, env)?;
+    let compiles = plan_compiles(rt, alloc, set, env, &sources.objects, sight)?;
     let archives = archive_commands(alloc, set, env, library, &sources.objects)?;
     let indexes = index_commands(alloc, set, env, library)?;
     let folder = parent(library).unwrap_or("");
     let lines = link_lines(alloc, sources.name.as_str(), folder)?;
     Ok(Plan {
-        warnings,
-        compiles,
+        warnings: compiles.warnings,
+        compiles: compiles.cmds,
         archives,
         indexes,
         lines,

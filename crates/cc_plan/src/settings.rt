@@ -46,6 +46,8 @@ pub struct BuildConfig {
     pub warnings_into_errors: bool,
     pub cargo_warnings: bool,
     pub emit_rerun_if_env_changed: bool,
+    /// Whether Clang in the form of the Visual Studio compiler comes before that. No search for either is made, so it changes nothing.
+    pub prefer_clang_cl_over_msvc: bool,
 }
 
 impl BuildConfig {
@@ -82,6 +84,7 @@ impl BuildConfig {
             warnings_into_errors: false,
             cargo_warnings: true,
             emit_rerun_if_env_changed: true,
+            prefer_clang_cl_over_msvc: false,
         }
     }
 
@@ -118,6 +121,7 @@ impl BuildConfig {
             warnings_into_errors: self.warnings_into_errors,
             cargo_warnings: self.cargo_warnings,
             emit_rerun_if_env_changed: self.emit_rerun_if_env_changed,
+            prefer_clang_cl_over_msvc: self.prefer_clang_cl_over_msvc,
         })
     }
 }

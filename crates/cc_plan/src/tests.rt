@@ -1,12 +1,14 @@
 use crate::{
-    ArgumentCause, BuildConfig, Object, Plan, PlanError, compile_command, lib_and_archive_names,
-    object_path, objects_from_files, plan_commands, plan_sources, tool_of,
+    ArgumentCause, BuildConfig, Object, Plan, PlanError, Sight, compile_command,
+    lib_and_archive_names, object_path, objects_from_files, plan_commands, plan_sources, tool_of,
 };
 use cc_env::{BuildEnv, EnvSnapshot};
-use cc_host::{Command, command_line};
+use cc_host::{BenchHost, Command, command_line};
 use cc_target::TargetInfo;
 use cc_text::{Mem, Text, Vars, Words};
+use cc_tool::{Answers, Caches};
 use std::alloc::Global;
+use std::sync::Wait;
 use std::test::Fail;
 
 // What is wrong with an argument, where that is why a plan is refused.
@@ -46,33 +48,54 @@ fn push_command(text: &mut Text, alloc: Global, cmd: &Command) -> Mem<()> {
     text.push_str(command_line(alloc, cmd)?.as_str())
 }
 
-fn compiled(alloc: Global, set: &BuildConfig) -> Result<Command, PlanError> {
+fn compiled(rt: &impl Wait, alloc: Global, set: &BuildConfig) -> Result<Command, PlanError> {
     let env = BuildEnv::empty(alloc);
-    let tool = tool_of(alloc, set, &env)?;
+    let mut host = BenchHost::new(alloc)?;
+    let caches = Caches::new(alloc)?;
+    let mut answers = Answers::new(alloc);
+    let mut sight = Sight {
+        host: &mut host,
+        caches: &caches,
+        answers: &mut answers,
+    };
+    let tool = tool_of(rt, alloc, set, &env, &mut sight)?;
     let target = TargetInfo::from_rustc_target("x86_64-unknown-linux-gnu");
     let object = Object {
         src: Text::of(alloc, "src/a.c")?,
         dst: Text::of(alloc, "OBJECT")?,
     };
     match target {
-        Ok(target) => compile_command(alloc, set, &target, &tool, &object),
+        Ok(target) => compile_command(alloc, set, &target, &tool, None, &object),
         Err(_) => Err(PlanError::UnknownTarget(Text::new(alloc))),
     }
 }
 
 // The command that makes OBJECT from `src/a.c`.
-fn compile_text(alloc: Global) -> Result<Text, PlanError> {
+fn compile_text(rt: &impl Wait, alloc: Global) -> Result<Text, PlanError> {
     let set = linux_settings(alloc)?;
-    let cmd = compiled(alloc, &set)?;
+    let cmd = compiled(rt, alloc, &set)?;
     let mut text = Text::new(alloc);
     push_command(&mut text, alloc, &cmd)?;
     Ok(text)
 }
 
-fn planned(alloc: Global, set: &BuildConfig, output: &str) -> Result<Plan, PlanError> {
+fn planned(
+    rt: &impl Wait,
+    alloc: Global,
+    set: &BuildConfig,
+    output: &str,
+) -> Result<Plan, PlanError> {
     let env = BuildEnv::empty(alloc);
+    let mut host = BenchHost::new(alloc)?;
+    let caches = Caches::new(alloc)?;
+    let mut answers = Answers::new(alloc);
+    let mut sight = Sight {
+        host: &mut host,
+        caches: &caches,
+        answers: &mut answers,
+    };
     let sources = plan_sources(alloc, set, &env, output)?;
-    plan_commands(alloc, set, &env, output, &sources)
+    plan_commands(rt, alloc, set, &env, output, &sources, &mut sight)
 }
 
 // The archive and index commands and the link lines, each with a line feed behind it.
@@ -91,10 +114,10 @@ fn push_archive_and_lines(text: &mut Text, alloc: Global, plan: &Plan) -> Mem<()
 }
 
 // What a plan of `src/a.c` for `foo` has behind its compile commands.
-fn plan_text(alloc: Global) -> Result<Text, PlanError> {
+fn plan_text(rt: &impl Wait, alloc: Global) -> Result<Text, PlanError> {
     let mut set = linux_settings(alloc)?;
     set.files.push("src/a.c")?;
-    let plan = planned(alloc, &set, "foo")?;
+    let plan = planned(rt, alloc, &set, "foo")?;
     let mut text = Text::new(alloc);
     push_archive_and_lines(&mut text, alloc, &plan)?;
     Ok(text)
@@ -154,7 +177,7 @@ fn sources_have_a_name_and_objects_of_their_own(rt: HostRuntime) -> Result<(), F
 #[test]
 fn compiles_with_the_words_of_the_target(rt: HostRuntime) -> Result<(), Fail> {
     assert_eq!(rt;
-        compile_text(rt.alloc())?.as_str(),
+        compile_text(&rt, rt.alloc())?.as_str(),
         "LC_ALL=C \"cc\" \"-O0\" \"-ffunction-sections\" \"-fdata-sections\" \"-fPIC\" \"-m64\" \"-march=x86-64\" \"-Wall\" \"-Wextra\" \"-o\" \"OBJECT\" \"-c\" \"src/a.c\""
     );
     Ok(())
@@ -163,7 +186,7 @@ fn compiles_with_the_words_of_the_target(rt: HostRuntime) -> Result<(), Fail> {
 #[test]
 fn plans_one_archive_its_index_and_two_lines(rt: HostRuntime) -> Result<(), Fail> {
     assert_eq!(rt;
-        plan_text(rt.alloc())?.as_str(),
+        plan_text(&rt, rt.alloc())?.as_str(),
         "ZERO_AR_DATE=1 \"ar\" \"cqD\" \"/o/libfoo.a\" \"/o/f268e9834a4b7b98-a.o\"\n\
          \"ar\" \"sD\" \"/o/libfoo.a\"\n\
          cargo:rustc-link-lib=static=foo\n\

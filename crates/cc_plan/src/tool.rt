@@ -1,28 +1,42 @@
 // The tool of a compile command: the compiler with the words and variables that all sources share.
-ghost use Rattle.std.specs.Prelude.{◌≡◌, IfOk, IfErr, OnOk, ◌⊎◌, Some, None};
+ghost use Rattle.std.specs.Prelude.{◌≡◌, ◌++◌, ◌∷◌, [], IfOk, IfErr, OnOk, ◌⊎◌, Some, None, ℕ};
 ghost use Rattle.std.specs.Option.{option_copied};
+ghost use Rattle.cc_host.specs.Question.{Settles};
+ghost use Rattle.cc_host.specs.declared.event.HostCall.TheVariants.{Print};
+ghost use Rattle.cc_host.specs.declared.event.Why.{Why};
 ghost use Rattle.cc_target.specs.Targets.{info_seen, info_of};
-ghost use Rattle.cc_plan.specs.Given.{target_of};
-ghost use Rattle.cc_plan.specs.Refusal.{unset, target_refusal, platform_refusal, tool_refusal};
-ghost use Rattle.cc_plan.specs.Tool.{compiler_of, family_of, language_variable, tool_env, tool_of, target_name, target_info, words_of, words_refusal_of};
-ghost use Rattle.cc_plan.specs.declared.error.PlanError.TheVariants.{NoMemory as WantsMemory, NotSet};
+ghost use Rattle.cc_tool.specs.Asks.{Asks};
+ghost use Rattle.cc_plan.specs.Asking.{AsksThen, Warns, IsOwn};
+ghost use Rattle.cc_plan.specs.Given.{target_of, probe_folder};
+ghost use Rattle.cc_plan.specs.Plan.{tool_lines, wanted_lines as lines_of};
+ghost use Rattle.cc_plan.specs.Refusal.{unset, target_refusal, platform_refusal, given_refusal, refusal_by, tool_refusal};
+ghost use Rattle.cc_plan.specs.Target.{target_name, target_info};
+ghost use Rattle.cc_plan.specs.Tool.{language_variable, gnu_warnings, words_by, words_refusal_by, warnings_by, warnings_of, wrapped_tool, tool_by, tool_of};
+ghost use Rattle.cc_text.specs.Quoted.{quoted as quoted_path};
+ghost use Rattle.cc_tool.specs.Family.{detection_warnings};
+ghost use Rattle.cc_plan.specs.declared.error.PlanError.TheVariants.{NoMemory as WantsMemory, NotSet, Host as HostFault};
 
+use crate::compiler::{Compiler, compiler_of};
 use crate::given::{
     environment_flags, has_no_defaults, host_of, is_cargos_target, level_of, target_of,
 };
-use crate::words::{family_of_name, is_cl, tool_words};
-use crate::{BuildConfig, PlanError};
+use crate::printing::{print_warnings, wanted_lines};
+use crate::words::{is_cl, is_gnu, tool_warnings, tool_words};
+use crate::{BuildConfig, PlanError, Sight};
 use cc_env::BuildEnv;
-use cc_host::Command;
+use cc_host::{Host, World};
 use cc_target::TargetInfo;
-use cc_text::{Mem, Text, ToolFamily, Vars, Words};
+use cc_text::{Mem, Text, ToolFamily, Words, quoted};
+use cc_tool::{Detected, Tool};
 use std::alloc::Global;
+use std::sync::Wait;
 
-/// A compiler with its words and variables, and its family.
-#[derive(Drop, Debug)]
-pub struct PlainTool {
-    pub family: ToolFamily,
-    pub cmd: Command,
+// A tool with what it is for and what a user is warned of.
+#[derive(Drop)]
+pub(crate) struct ToolPlan {
+    pub target: TargetInfo,
+    pub tool: Tool,
+    pub warnings: Words,
 }
 
 fn not_set(alloc: Global, name: &str) -> PlanError
@@ -77,20 +91,16 @@ pub(crate) fn check_platform(
     Ok(())
 }
 
-fn compiler_of(set: &BuildConfig) -> &str
-    ensures { result.now ≡ compiler_of set.now }
+// The level, and the target with what is known of it.
+#[tactic(auto, unfolding(crate::specs::Refusal::given_refusal))]
+fn given_target(alloc: Global, set: &BuildConfig, env: &BuildEnv) -> Result<TargetInfo, PlanError>
+    ensures info { IfOk result (λ target. info_seen target ≡ target_info set.now env.now) }
+    ensures allowed { OnOk result (given_refusal set.now env.now ≡ None) }
+    ensures refused { IfErr result (λ e. (e ≡ WantsMemory) ⊎ (given_refusal set.now env.now ≡ Some e)) }
 {
-    match &set.compiler {
-        Some(compiler) => compiler.as_str(),
-        None => { if set.cpp { "c++" } else { "cc" } }
-    }
-}
-
-// The family of the compiler, by its file name.
-pub(crate) fn family_of(set: &BuildConfig) -> ToolFamily
-    ensures { result ≡ family_of set.now }
-{
-    family_of_name(compiler_of(set))
+    demand(alloc, "OPT_LEVEL", level_of(set, env))?;
+    let target = known_target(alloc, set, env)?;
+    Ok(target)
 }
 
 fn language_variable(family: ToolFamily) -> (&'static str, &'static str)
@@ -103,73 +113,19 @@ fn language_variable(family: ToolFamily) -> (&'static str, &'static str)
     }
 }
 
-// The whole environment of the compiler.
-fn tool_env(alloc: Global, set: &BuildConfig, env: &BuildEnv) -> Mem<Vars>
-    ensures { IfOk result (λ vars. vars ≡ tool_env set.now env.now) }
-{
-    let (name, value) = language_variable(family_of(set));
-    let mut entries = Vars::new(alloc);
-    entries.push(name, value)?;
-    entries.extend(env.explicit())?;
-    env.inherited().child_vars(alloc, &entries)
-}
-
-// A command of the compiler with these words.
-fn tool_command(alloc: Global, set: &BuildConfig, env: &BuildEnv, words: &Words) -> Mem<Command>
-    ensures { IfOk result (λ cmd. cmd ≡ record { program = compiler_of set.now; args = words.now; env = tool_env set.now env.now; dir = None }) }
-{
-    let vars = tool_env(alloc, set, env)?;
-    let mut cmd = Command::new(alloc, compiler_of(set))?;
-    cmd.args(words)?;
-    cmd.envs(&vars)?;
-    Ok(cmd)
-}
-
-// What is known of the target, and the tool for it.
-#[tactic(auto, unfolding(crate::specs::Refusal::tool_refusal))]
-pub(crate) fn target_and_tool(
-    alloc: Global,
-    set: &BuildConfig,
-    env: &BuildEnv,
-) -> Result<(TargetInfo, PlainTool), PlanError>
-    ensures info { IfOk result (λ both. info_seen both.0 ≡ target_info set.now env.now) }
-    ensures tool { IfOk result (λ both. both.1 ≡ tool_of set.now env.now) }
-    ensures allowed { OnOk result (tool_refusal set.now env.now ≡ None) }
-    ensures refused { IfErr result (λ e. (e ≡ WantsMemory) ⊎ (tool_refusal set.now env.now ≡ Some e)) }
-{
-    demand(alloc, "OPT_LEVEL", level_of(set, env))?;
-    let target = known_target(alloc, set, env)?;
-    let words = words_of(alloc, set, env, &target)?;
-    demand(alloc, "HOST", host_of(set, env))?;
-    let cmd = tool_command(alloc, set, env, &words)?;
-    let family = family_of(set);
-    Ok((target, PlainTool { family, cmd }))
-}
-
-/// The tool of these settings in this environment.
-///
-/// Refused where the optimisation level, the target or the host is set nowhere, the target isn't known, or a word of the target is
-/// refused.
-pub fn tool_of(alloc: Global, set: &BuildConfig, env: &BuildEnv) -> Result<PlainTool, PlanError>
-    ensures tool { IfOk result (λ tool. tool ≡ tool_of set.now env.now) }
-    ensures allowed { OnOk result (tool_refusal set.now env.now ≡ None) }
-    ensures refused { IfErr result (λ e. (e ≡ WantsMemory) ⊎ (tool_refusal set.now env.now ≡ Some e)) }
-{
-    let (_, tool) = target_and_tool(alloc, set, env)?;
-    Ok(tool)
-}
-
-// The words of the compiler for a target.
-fn words_of(
+// The words of a compiler for a target.
+#[tactic(auto, unfolding(crate::specs::Tool::words_by, crate::specs::Tool::words_refusal_by))]
+fn words_by(
     alloc: Global,
     set: &BuildConfig,
     env: &BuildEnv,
     target: &TargetInfo,
+    compiler: &Compiler,
 ) -> Result<Words, PlanError>
     requires { info_seen target.now ≡ target_info set.now env.now }
-    ensures words { IfOk result (λ words. words ≡ words_of set.now env.now) }
-    ensures allowed { OnOk result (words_refusal_of set.now env.now ≡ None) }
-    ensures refused { IfErr result (λ e. (e ≡ WantsMemory) ⊎ (words_refusal_of set.now env.now ≡ Some e)) }
+    ensures words { IfOk result (λ words. words ≡ words_by set.now env.now compiler.now) }
+    ensures allowed { OnOk result (words_refusal_by set.now env.now compiler.now ≡ None) }
+    ensures refused { IfErr result (λ e. (e ≡ WantsMemory) ⊎ (words_refusal_by set.now env.now compiler.now ≡ Some e)) }
 {
     let environment = environment_flags(alloc, set, env)?;
     tool_words(
@@ -180,8 +136,209 @@ fn words_of(
         is_cargos_target(set, env),
         target_of(set, env).unwrap_or(""),
         target,
-        family_of(set),
-        compiler_of(set),
+        compiler.family,
+        compiler.choice.path.as_str(),
         environment.as_ref(),
     )
+}
+
+// The words of a compiler, where the host is set too.
+#[tactic(auto, unfolding(crate::specs::Refusal::refusal_by))]
+fn checked_words(
+    alloc: Global,
+    set: &BuildConfig,
+    env: &BuildEnv,
+    target: &TargetInfo,
+    compiler: &Compiler,
+) -> Result<Words, PlanError>
+    requires { info_seen target.now ≡ target_info set.now env.now }
+    ensures words { IfOk result (λ words. words ≡ words_by set.now env.now compiler.now) }
+    ensures allowed { OnOk result (refusal_by set.now env.now compiler.now ≡ None) }
+    ensures refused { IfErr result (λ e. (e ≡ WantsMemory) ⊎ (refusal_by set.now env.now compiler.now ≡ Some e)) }
+{
+    let words = words_by(alloc, set, env, target, compiler)?;
+    demand(alloc, "HOST", host_of(set, env))?;
+    Ok(words)
+}
+
+// A tool of the compiler, with its wrapper.
+fn wrapped_tool(alloc: Global, env: &BuildEnv, compiler: &Compiler) -> Mem<Tool>
+    ensures { IfOk result (λ tool. tool ≡ wrapped_tool env.now compiler.now) }
+{
+    let inherited = env.inherited().try_clone()?;
+    let path = compiler.choice.path.as_str();
+    let mut tool = Tool::with_family(alloc, path, compiler.family, inherited)?;
+    if let Some(wrapper) = &compiler.choice.wrapper {
+        tool.set_wrapper(wrapper.as_str())?;
+    }
+    Ok(tool)
+}
+
+fn push_wrapper_words(tool: &mut Tool, words: &Words) -> Mem<()>
+    ensures { OnOk result (tool.new ≡ record tool.old { wrapper_words = tool.old.wrapper_words ++ words.now }) }
+{
+    for word in words.as_slice() {
+        tool.push_wrapper_arg(word.as_str())?;
+    }
+    Ok(())
+}
+
+fn push_args(tool: &mut Tool, words: &Words) -> Mem<()>
+    ensures { OnOk result (tool.new ≡ record tool.old { args = tool.old.args ++ words.now }) }
+{
+    for word in words.as_slice() {
+        tool.push_arg(word.as_str())?;
+    }
+    Ok(())
+}
+
+fn push_entries(tool: &mut Tool, env: &BuildEnv) -> Mem<()>
+    ensures { OnOk result (tool.new ≡ record tool.old { entries = tool.old.entries ++ env.now.explicit }) }
+{
+    for entry in env.explicit().as_slice() {
+        tool.push_env(entry.0.as_str(), entry.1.as_str())?;
+    }
+    Ok(())
+}
+
+// The tool of a compiler with these words.
+fn tool_by(
+    alloc: Global,
+    set: &BuildConfig,
+    env: &BuildEnv,
+    compiler: &Compiler,
+    words: &Words,
+) -> Mem<Tool>
+    requires { words.now ≡ words_by set.now env.now compiler.now }
+    ensures { IfOk result (λ tool. tool ≡ tool_by set.now env.now compiler.now) }
+{
+    let (name, value) = language_variable(compiler.family);
+    let mut tool = wrapped_tool(alloc, env, compiler)?;
+    push_wrapper_words(&mut tool, &compiler.choice.words)?;
+    push_args(&mut tool, words)?;
+    tool.push_env(name, value)?;
+    push_entries(&mut tool, env)?;
+    Ok(tool)
+}
+
+// GCC was found for a target of the Visual Studio tools.
+#[tactic(auto, unfolding(crate::specs::Tool::gnu_warnings))]
+fn push_gnu_warning(
+    warnings: &mut Words,
+    set: &BuildConfig,
+    target: &TargetInfo,
+    family: ToolFamily,
+) -> Mem<()>
+    ensures { OnOk result (warnings.new ≡ warnings.old ++ gnu_warnings set.now (info_seen target.now) family) }
+{
+    if set.compiler.is_none() && target.env == "msvc" && is_gnu(family) {
+        warnings.push("GNU compiler is not supported for this target")?;
+    }
+    Ok(())
+}
+
+// How the family of the compiler was found, where a user is warned of it.
+fn detection_warnings(alloc: Global, compiler: &Compiler) -> Mem<Words>
+    ensures { IfOk result (λ warnings. warnings ≡ detection_warnings compiler.now.detected (quoted_path compiler.now.choice.path)) }
+{
+    let mut warnings = Words::new(alloc);
+    match compiler.detected {
+        Detected::Marks => return Ok(warnings),
+        Detected::NoMarks => {}
+        Detected::Failed => {
+            warnings.push("Compiler family detection failed, no known macro is defined")?;
+        }
+    }
+    let path = quoted(alloc, compiler.choice.path.as_str())?;
+    warnings.push_joined("Compiler family detection failed for ", path.as_str())?;
+    Ok(warnings)
+}
+
+// What a user is warned of.
+fn warnings_by(
+    alloc: Global,
+    set: &BuildConfig,
+    env: &BuildEnv,
+    target: &TargetInfo,
+    compiler: &Compiler,
+) -> Mem<Words>
+    requires { info_seen target.now ≡ target_info set.now env.now }
+    ensures { IfOk result (λ warnings. warnings ≡ warnings_by set.now env.now compiler.now) }
+{
+    let mut warnings = detection_warnings(alloc, compiler)?;
+    push_gnu_warning(&mut warnings, set, target, compiler.family)?;
+    warnings.append(tool_warnings(alloc, has_no_defaults(set, env), set, compiler.family)?)?;
+    Ok(warnings)
+}
+
+// The tool of a compiler, and what a user is warned of.
+fn built_tool(
+    alloc: Global,
+    set: &BuildConfig,
+    env: &BuildEnv,
+    target: &TargetInfo,
+    compiler: &Compiler,
+) -> Result<(Tool, Words), PlanError>
+    requires { info_seen target.now ≡ target_info set.now env.now }
+    ensures tool { IfOk result (λ both. both.0 ≡ tool_by set.now env.now compiler.now) }
+    ensures warnings { IfOk result (λ both. both.1 ≡ warnings_by set.now env.now compiler.now) }
+    ensures allowed { OnOk result (refusal_by set.now env.now compiler.now ≡ None) }
+    ensures refused { IfErr result (λ e. (e ≡ WantsMemory) ⊎ (refusal_by set.now env.now compiler.now ≡ Some e)) }
+{
+    let words = checked_words(alloc, set, env, target, compiler)?;
+    let tool = tool_by(alloc, set, env, compiler, &words)?;
+    let warnings = warnings_by(alloc, set, env, target, compiler)?;
+    Ok((tool, warnings))
+}
+
+/// The tool of these settings in this environment, with its target and its warnings. It asks, and prints nothing.
+pub(crate) fn plan_tool<W: World, H: Host<W>>(
+    rt: &impl Wait,
+    alloc: Global,
+    set: &BuildConfig,
+    env: &BuildEnv,
+    sight: &mut Sight<'_, W, H>,
+) -> Result<ToolPlan, PlanError>
+    ensures same_host { sight.new.host.ghost_name ≡ sight.old.host.ghost_name }
+    ensures same_answers { sight.new.answers.ghost_name ≡ sight.old.answers.ghost_name }
+    ensures asks { Asks W.steady W.answer (probe_folder set.now env.now) (H.log sight.old.host.now) (H.log sight.new.host.now) sight.old.answers.now sight.new.answers.now }
+    ensures info { IfOk result (λ plan. info_seen plan.target ≡ target_info set.now env.now) }
+    ensures tool { IfOk result (λ plan. Settles sight.new.answers.now (tool_of set.now env.now) plan.tool) }
+    ensures warnings { IfOk result (λ plan. Settles sight.new.answers.now (warnings_of set.now env.now) plan.warnings) }
+    ensures allowed { OnOk result (Settles sight.new.answers.now (tool_refusal set.now env.now) None) }
+    ensures refused { IfErr result (λ e. (e ≡ WantsMemory) ⊎ Settles sight.new.answers.now (tool_refusal set.now env.now) (Some e)) }
+    ensures own { IfErr result IsOwn }
+{
+    let target = given_target(alloc, set, env)?;
+    let compiler = compiler_of(rt, alloc, set, env, &target, sight)?;
+    let (tool, warnings) = built_tool(alloc, set, env, &target, &compiler)?;
+    Ok(ToolPlan {
+        target,
+        tool,
+        warnings,
+    })
+}
+
+/// The tool of these settings in this environment. Its warnings are printed last, where they are wanted.
+///
+/// Refused where the optimisation level, the target or the host is set nowhere, the target isn't known, or a word of the target is
+/// refused; and by a fault of the host that prints.
+pub fn tool_of<W: World, H: Host<W>>(
+    rt: &impl Wait,
+    alloc: Global,
+    set: &BuildConfig,
+    env: &BuildEnv,
+    sight: &mut Sight<'_, W, H>,
+) -> Result<Tool, PlanError>
+    ensures same_host { sight.new.host.ghost_name ≡ sight.old.host.ghost_name }
+    ensures same_answers { sight.new.answers.ghost_name ≡ sight.old.answers.ghost_name }
+    ensures asks { AsksThen W.steady W.answer (probe_folder set.now env.now) (H.log sight.old.host.now) (H.log sight.new.host.now) sight.old.answers.now sight.new.answers.now (Warns sight.new.answers.now (tool_lines set.now env.now) result) }
+    ensures tool { IfOk result (Settles sight.new.answers.now (tool_of set.now env.now)) }
+    ensures allowed { OnOk result (Settles sight.new.answers.now (tool_refusal set.now env.now) None) }
+    ensures refused { IfErr result (λ e. (e ≡ WantsMemory) ⊎ (((why : Why) × (e ≡ HostFault Print why)) ⊎ Settles sight.new.answers.now (tool_refusal set.now env.now) (Some e))) }
+{
+    let plan = plan_tool(rt, alloc, set, env, sight)?;
+    let lines = wanted_lines(alloc, set, &plan.warnings)?;
+    print_warnings(alloc, sight.host, &lines)?;
+    Ok(plan.tool)
 }

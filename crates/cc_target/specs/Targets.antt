@@ -1,6 +1,7 @@
 -- The table of targets, and what its rows say of a name.
 use Rattle.std.specs.Prelude.{true, not, is_some, ◌&&◌, ◌||◌, nat_eq, length, ℕ, Bool, List, [], ◌∷◌, Option, Some, None, codes, bytes_eq, map, find, option_map, option_and_then, slice_get}
 use Rattle.std.specs.List.{list_any}
+use Rattle.std.specs.Option.{option_map_or}
 use Prim.Native.String.{String}
 use Rattle.cc_target.specs.declared.info.TargetInfo.{TargetInfo}
 use Rattle.cc_target.specs.declared.rows.Row.{Row}
@@ -94,6 +95,10 @@ prefix_of name = option_and_then (λ l. l.prefix) (line_of name)
 -- the candidate at a place for that prefix
 abbrev pub candidate_of : List ℕ → ℕ → Option (List ℕ)
 candidate_of name place = option_and_then (λ l. slice_get l.candidates place) (line_of name)
+
+-- the candidates for that prefix, in order
+abbrev pub candidates_of : List ℕ → List (List ℕ)
+candidates_of name = option_map_or (λ l. l.candidates) (line_of name) []
 
 -- the architecture is one of Arm
 abbrev pub is_arm : Info → Bool

@@ -12,4 +12,4 @@ mod tools;
 
 pub use info::{TargetInfo, UnknownTarget};
 pub use rows::table_is_sound;
-pub use tools::{gnu_candidate, gnu_prefix, llvm_target};
+pub use tools::{gnu_candidate, gnu_candidates, gnu_prefix, llvm_target};

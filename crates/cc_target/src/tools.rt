@@ -1,7 +1,8 @@
 // The names that tools have for a target.
 ghost use Rattle.std.specs.Prelude.{◌≡◌};
 ghost use Rattle.std.specs.Option.{option_copied};
-ghost use Rattle.cc_target.specs.Targets.{llvm_of, prefix_of, candidate_of};
+ghost use Rattle.cc_target.specs.Targets.{llvm_of, prefix_of, candidate_of, candidates_of};
+ghost use Rattle.cc_text.specs.Words.{texts};
 
 use crate::rows::row_named;
 
@@ -26,4 +27,14 @@ pub fn gnu_candidate(name: &str, place: usize) -> Option<&'static str>
     ensures { option_copied result ≡ candidate_of name.now place }
 {
     row_named(name)?.candidates.get(place).copied()
+}
+
+/// All those candidates, in order.
+pub fn gnu_candidates(name: &str) -> &'static [&'static str]
+    ensures { texts result.now ≡ candidates_of name.now }
+{
+    match row_named(name) {
+        Some(row) => row.candidates,
+        None => &[],
+    }
 }

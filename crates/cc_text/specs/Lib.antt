@@ -10,4 +10,5 @@ pub mod Pieces
 pub mod Quoted
 pub mod Shell
 pub mod Vars
+pub mod Within
 pub mod Words

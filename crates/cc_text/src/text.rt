@@ -136,6 +136,13 @@ impl Bytes {
         })
     }
 
+    /// The bytes of a vector, taken over. It takes no memory.
+    pub fn owning(bytes: Vec<u8>) -> Bytes
+        ensures { result ≡ bytes.items }
+    {
+        Bytes { bytes }
+    }
+
     /// The bytes, lent.
     pub fn as_slice(&self) -> &[u8]
         ensures { result.now ≡ self.now }

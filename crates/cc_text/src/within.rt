@@ -1,12 +1,12 @@
 // Whether a text stands in another. Case counts.
-ghost use Rattle.std.specs.Prelude.{◌≡◌, ◌↔◌, IsTrue, nat_eq};
+ghost use Rattle.std.specs.Prelude.{◌≡◌, nat_eq};
 ghost use Rattle.std.specs.List.{starts_with, ends_with};
-ghost use Rattle.std.specs.Str.Iter.{HasSubslice};
+ghost use Rattle.cc_text.specs.Within.{is_within};
 
 /// Whether the needle stands in the text. It takes no memory.
 #[tactic(auto, using(std::proofs::lemmas::Str::Pattern::contains_text))]
 pub fn contains(text: &str, needle: &str) -> bool
-    ensures { IsTrue result ↔ HasSubslice text.now needle.now }
+    ensures { result ≡ is_within needle.now text.now }
 {
     text.contains(needle)
 }

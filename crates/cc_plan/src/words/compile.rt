@@ -27,6 +27,26 @@ fn is_asm(source: &str) -> bool
     }
 }
 
+fn is_masm_extension(extension: &str) -> bool
+    ensures { result ≡ spec.is_masm_extension extension.now }
+{
+    extension.eq_ignore_ascii_case("asm")
+}
+
+// The source is in the language of the Visual Studio assemblers, for a target of theirs.
+#[tactic(auto, unfolding(crate::specs::CompileWords::is_masm))]
+pub(crate) fn is_masm(target: &TargetInfo, source: &str) -> bool
+    ensures { result ≡ spec.is_masm (info_seen target.now) source.now }
+{
+    if target.env != "msvc" {
+        return false;
+    }
+    match extension(source) {
+        Some(extension) => is_masm_extension(extension),
+        None => false,
+    }
+}
+
 // The object, which the Visual Studio compilers take in one word, but for assembly for Arm.
 #[tactic(auto, unfolding(crate::specs::CompileWords::object_words))]
 fn push_object_words(

@@ -126,7 +126,7 @@ fn qnx_variant(full_arch: &str) -> Option<&'static str>
 }
 
 #[tactic(auto, unfolding(crate::specs::DefaultWords::is_qnx))]
-fn is_qnx(target: &TargetInfo) -> bool
+pub(crate) fn is_qnx(target: &TargetInfo) -> bool
     ensures { result ≡ spec.is_qnx (info_seen target.now) }
 {
     target.os == "nto" || target.os == "qnx"

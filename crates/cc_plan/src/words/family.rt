@@ -4,12 +4,12 @@ ghost use Rattle.std.specs.Option.{option_copied};
 ghost use Rattle.cc_text.specs.Case.{lowered};
 ghost use Rattle.cc_target.specs.Targets.{info_seen};
 ghost use Rattle.cc_plan.specs.Families as families;
-ghost use Rattle.cc_plan.specs.Texts.{is_within};
+ghost use Rattle.cc_text.specs.Within.{is_within};
 
 use cc_target::TargetInfo;
 use cc_text::{ToolFamily, contains_ignore_ascii_case, ends_with_ignore_ascii_case, file_name};
 
-pub(super) fn is_gnu(family: ToolFamily) -> bool
+pub(crate) fn is_gnu(family: ToolFamily) -> bool
     ensures { result ≡ families.is_gnu family }
 {
     matches!(family, ToolFamily::Gnu)
@@ -68,40 +68,6 @@ fn has_ignoring_case(name: &str, needle: &str) -> bool
     ensures { result ≡ is_within (lowered needle.now) (lowered name.now) }
 {
     contains_ignore_ascii_case(name, needle)
-}
-
-// The name is that of the Visual Studio compiler.
-#[tactic(auto, unfolding(crate::specs::Families::is_cl_name))]
-fn is_cl_name(name: &str) -> bool
-    ensures { result ≡ families.is_cl_name name.now }
-{
-    ends_with_ignore_ascii_case(name, "cl") || name.eq_ignore_ascii_case("cl.exe")
-}
-
-// The family of a compiler by the name of its file.
-#[tactic(auto, unfolding(crate::specs::Families::family_of_file))]
-fn family_of_file(name: &str) -> ToolFamily
-    ensures { result ≡ families.family_of_file name.now }
-{
-    if has_ignoring_case(name, "clang-cl") {
-        ToolFamily::Msvc { clang_cl: true }
-    } else if is_cl_name(name) {
-        ToolFamily::Msvc { clang_cl: false }
-    } else if has_ignoring_case(name, "clang") {
-        let zig_cc = has_ignoring_case(name, "zig");
-        ToolFamily::Clang { zig_cc }
-    } else if has_ignoring_case(name, "zig") {
-        ToolFamily::Clang { zig_cc: true }
-    } else {
-        ToolFamily::Gnu
-    }
-}
-
-/// The family of the compiler at a path, by the name of its file. It takes no memory.
-pub(crate) fn family_of_name(path: &str) -> ToolFamily
-    ensures { result ≡ families.family_of_name path.now }
-{
-    family_of_file(name_of(path))
 }
 
 // What stands before the last `-`, or nothing.

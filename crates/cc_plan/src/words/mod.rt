@@ -9,6 +9,7 @@ mod texts;
 mod tool;
 mod visual_studio;
 
-pub(crate) use compile::compile_words;
-pub(crate) use family::{family_of_name, is_cl};
+pub(crate) use compile::{compile_words, is_masm};
+pub(crate) use defaults::is_qnx;
+pub(crate) use family::{is_cl, is_gnu};
 pub(crate) use tool::{tool_warnings, tool_words};

@@ -2,7 +2,8 @@
 ghost use Rattle.std.specs.Prelude.{◌≡◌};
 ghost use Rattle.std.specs.Option.{option_copied};
 ghost use Rattle.cc_plan.specs.DefaultWords.{value_or_empty};
-ghost use Rattle.cc_plan.specs.Texts.{begins_with, is_within};
+ghost use Rattle.cc_plan.specs.Texts.{begins_with};
+ghost use Rattle.cc_text.specs.Within.{is_within};
 
 use cc_env::EnvSnapshot;
 use cc_text::Text;

@@ -10,12 +10,13 @@ use Rattle.cc_plan.specs.Plan.{prints}
 use Rattle.cc_build.specs.Outcome.{IsCausedBy}
 use Rattle.cc_build.proofs.Lines.{no_lines, next_line, around_line, since_none}
 use Rattle.cc_build.proofs.Outcomes.{stage_refused}
+use Rattle.cc_tool.proofs.Asides.{none_since}
 use Rattle.cc_build.proofs.run.print_lines.Goals as goal
 
 pub loop-line-init : goal.loop-line-init
 loop-line-init g c =
     let none = since_none (g.H.Host.log c.args.host.now) in
-    rw (none, no_lines) (record { extends = grind (arith, common_steps); whole = record { done_all = refl; unstopped = refl } })
+    rw (none, no_lines) (record { extends = grind (arith, common_steps); asks_none = refl; whole = record { done_all = refl; unstopped = refl } })
 
 pub returns-in_err-print_line-clause-outcome : goal.returns-in_err-print_line-clause-outcome
 returns-in_err-print_line-clause-outcome g c =
@@ -43,6 +44,7 @@ loop-line-preserved g c =
     let both = whole_then (prints c.args.kind (take c.loop-line.line-index c.as_slice-line-items.result.now)) (Prints c.args.kind (printed_line c.line-item.result) ∷ []) (since (g.H.Host.log c.args.host.now) (g.H.Host.log c.loop-line.host)) (since (g.H.Host.log c.loop-line.host) (g.H.Host.log c.print_line.new.host)) c.loop-line.invariant.whole printed in
     record {
       extends = since_extends (g.H.Host.log c.args.host.now) (g.H.Host.log c.loop-line.host) (g.H.Host.log c.print_line.new.host) c.loop-line.invariant.extends c.print_line.ensures.extends;
+      asks_none = none_since (g.H.Host.log c.args.host.now) (g.H.Host.log c.loop-line.host) (g.H.Host.log c.print_line.new.host) c.loop-line.invariant.extends c.print_line.ensures.extends c.loop-line.invariant.asks_none c.print_line.ensures.asks_none;
       whole = subst (λ (s : List Step). IsWhole s (since (g.H.Host.log c.args.host.now) (g.H.Host.log c.print_line.new.host))) (sym next)
           (subst (λ (p : List Event). IsWhole (prints c.args.kind (take c.loop-line.line-index c.as_slice-line-items.result.now) ++ Prints c.args.kind (printed_line c.line-item.result) ∷ []) p) (sym (since_since (g.H.Host.log c.args.host.now) (g.H.Host.log c.loop-line.host) (g.H.Host.log c.print_line.new.host) c.loop-line.invariant.extends c.print_line.ensures.extends)) both);
     }

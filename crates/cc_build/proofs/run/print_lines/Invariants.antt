@@ -1,6 +1,7 @@
-use Rattle.std.proofs.Common.{◌≡◌, ◌++◌, take}
+use Rattle.std.proofs.Common.{◌≡◌, ◌++◌, [], take}
 use Rattle.cc_host.specs.Part.{IsWhole, since}
 use Rattle.cc_plan.specs.Plan.{prints}
+use Rattle.cc_tool.specs.Asked.{question_events}
 use Rattle.cc_build.proofs.run.print_lines.Given as goal
 
 -- the lines so far were printed, and nothing else was done
@@ -9,5 +10,6 @@ invariant-loop-line g l =
     let part = since (g.H.Host.log l.fn.host) (g.H.Host.log l.host) in
     record {
       extends : g.H.Host.log l.host ≡ g.H.Host.log l.fn.host ++ part;
+      asks_none : question_events part ≡ [];
       whole : IsWhole (prints l.fn.kind (take l.line-index l.line-items)) part;
     }

@@ -1,13 +1,14 @@
 use Rattle.std.proofs.Common.{◌≡◌, ◌++◌, ◌∷◌, [], List, take, false, refl, sym, subst, ap, ◌∙◌, append-nil, arith}
 use Rattle.cc_host.specs.Event.{IsCaused}
-use Rattle.cc_host.specs.Part.{since, IsWhole, runs, is_success}
+use Rattle.cc_host.specs.Status.{is_success}
+use Rattle.cc_host.specs.Part.{since, IsWhole, runs}
 use Rattle.cc_host.specs.declared.event.Event.{Event}
 use Rattle.cc_host.specs.declared.event.Event.TheVariants.{Ran, Missing, Fault}
 use Rattle.cc_host.specs.declared.event.HostCall.TheVariants.{Output}
 use Rattle.cc_host.specs.declared.event.HostError.TheVariants.{Fault as Failed}
 use Rattle.cc_host.specs.declared.event.OutputKind.TheVariants.{Forward}
 use Rattle.cc_build.proofs.Lines.{part_more}
-use Rattle.cc_build.proofs.Outcomes.{loop_refused, loop_wanting, told}
+use Rattle.cc_build.proofs.Outcomes.{loop_refused, loop_wanting, output_stops, told}
 use Rattle.cc_build.proofs.run.run_commands.Goals as goal
 
 pub returns-in-Ok-Missing-clause-outcome : goal.returns-in-Ok-Missing-clause-outcome
@@ -30,7 +31,7 @@ returns-in-Err-Fault-clause-outcome g c =
     let caused : IsCaused Output (g.H.Host.faults c.loop-cmd.host) (g.H.Host.faults c.output.new.self) (Failed c.in-Err-Fault.field-0-0 c.in-Err-Fault.field-0-1) = rw c.in-Err-Fault.field-0-is at c.in-Err-Fault.ensures.cause in
     loop_refused c.args.role c.args.cmds.now c.loop-cmd.cmd-index c.cmd-item.result (since (g.H.Host.log c.args.host.now) (g.H.Host.log c.loop-cmd.host)) (Fault c.in-Err-Fault.field-0-0 c.in-Err-Fault.field-0-1) (since (g.H.Host.log c.args.host.now) (g.H.Host.log c.output.new.self)) c.or_no_memory-in-Err-Fault.result
     (part_more (g.H.Host.log c.args.host.now) (g.H.Host.log c.loop-cmd.host) (g.H.Host.log c.output.new.self) (Fault c.in-Err-Fault.field-0-0 c.in-Err-Fault.field-0-1) c.loop-cmd.invariant.extends adds)
-    c.loop-cmd-test.true c.cmd-item.is c.loop-cmd.invariant.whole refl caused.0 (told c.unstarted.result c.or_no_memory-in-Err-Fault.result _ c.or_no_memory-in-Err-Fault.ensures c.unstarted.ensures)
+    c.loop-cmd-test.true c.cmd-item.is c.loop-cmd.invariant.whole (output_stops c.in-Err-Fault.field-0-0 c.in-Err-Fault.field-0-1 caused.0) caused.0 (told c.unstarted.result c.or_no_memory-in-Err-Fault.result _ c.or_no_memory-in-Err-Fault.ensures c.unstarted.ensures)
 
 pub returns-then-not-is_success-clause-outcome : goal.returns-then-not-is_success-clause-outcome
 returns-then-not-is_success-clause-outcome g c =

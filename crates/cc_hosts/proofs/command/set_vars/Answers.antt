@@ -1,4 +1,4 @@
-use Rattle.std.proofs.Common.{◌≡◌, ◌∙◌, ℕ, List}
+use Rattle.std.proofs.Common.{◌∙◌}
 use Rattle.std.specs.Process.{command_var}
 use Rattle.cc_hosts.proofs.CommandLemmas.{value_step}
 use Rattle.cc_hosts.proofs.command.set_vars.Goals as goal

@@ -1,4 +1,4 @@
-use Rattle.std.proofs.Common.{◌≡◌, ◌<◌, ◌^◌, ◌∙◌, List, ℕ, sym, arith}
+use Rattle.std.proofs.Common.{◌≡◌, ◌<◌, ◌^◌, ◌∙◌, sym}
 use Rattle.std.specs.Fmt.{decimal}
 use Rattle.cc_main.proofs.NumberLaws.{decimal_is_number, refused_number, other_form, read_fits, tested_true, tested_false}
 use Rattle.cc_main.proofs.reading.number_of.Goals as goal

@@ -1,5 +1,5 @@
-use Rattle.std.proofs.Common.{◌≡◌, Option, Some, None, List, ℕ, string_bytes, refl, sym, ◌∙◌, ap, arith}
-use Rattle.cc_main.specs.Read.{values, settings_of, word_cause}
+use Rattle.std.proofs.Common.{◌≡◌, None, string_bytes, refl, sym, ◌∙◌, ap, arith}
+use Rattle.cc_main.specs.Read.{values, word_cause}
 use Rattle.cc_main.specs.Step.{with_word}
 use Rattle.cc_main.proofs.WordLaws.{good_here, set_here}
 use Rattle.cc_main.proofs.reading.read_settings.Goals as goal

@@ -1,18 +1,37 @@
 use Rattle.std.proofs.Common.{OnOk, subst}
 use Rattle.cc_host.specs.Part.{since}
+use Rattle.cc_host.specs.Question.{answers, Holds}
+use Rattle.cc_tool.specs.Asked.{Asked}
+use Rattle.cc_plan.specs.Given.{probe_folder}
+use Rattle.cc_plan.specs.Plan.{planned_steps}
 use Rattle.cc_build.specs.Build.{BuildSeen}
 use Rattle.cc_build.specs.Built.{Built}
 use Rattle.cc_build.specs.Order.{ArchivesLast}
+use Rattle.cc_build.specs.Outcome.{Outcome}
+use Rattle.cc_build.specs.Refusal.{refusal_error}
 use Rattle.cc_build.proofs.BuiltLaws.{built_on_ok}
+use Rattle.cc_build.proofs.Looks.{ok_holds}
 use Rattle.cc_build.proofs.OrderLaws.{ordered}
 use Rattle.cc_build.proofs.build.Build.try_compile.Goals as goal
 
 pub returns-clause-built : goal.returns-clause-built
 returns-clause-built g c =
-    subst (λ (b : BuildSeen). OnOk c.compile.result (Built b.config b.env c.args.output.now (since (g.H.Host.log c.args.host.now) (g.H.Host.log c.compile.new.host)))) c.self.view_is
-    (built_on_ok c.self.inside.config c.self.inside.env c.args.output.now (since (g.H.Host.log c.args.host.now) (g.H.Host.log c.compile.new.host)) c.compile.result c.compile.ensures.outcome)
+    let part = since (g.H.Host.log c.args.host.now) (g.H.Host.log c.compile.new.host) in
+    subst (λ (b : BuildSeen). OnOk c.compile.result (Holds (answers part) (λ look. Built b.config b.env look c.args.output.now part))) c.self.view_is
+    (ok_holds _ (answers part) c.compile.result (record { under = λ look agree. built_on_ok c.self.inside.config c.self.inside.env look c.args.output.now part c.compile.result (c.compile.ensures.outcome.under look agree) }))
 
 pub returns-clause-order : goal.returns-clause-order
 returns-clause-order g c =
-    subst (λ (b : BuildSeen). ArchivesLast b.config b.env (since (g.H.Host.log c.args.host.now) (g.H.Host.log c.compile.new.host))) c.self.view_is
-    (ordered c.self.inside.config c.self.inside.env c.args.output.now (since (g.H.Host.log c.args.host.now) (g.H.Host.log c.compile.new.host)) c.compile.result c.compile.ensures.outcome)
+    let part = since (g.H.Host.log c.args.host.now) (g.H.Host.log c.compile.new.host) in
+    subst (λ (b : BuildSeen). Holds (answers part) (λ look. ArchivesLast b.config b.env look part)) c.self.view_is
+    (record { under = λ look agree. ordered c.self.inside.config c.self.inside.env look c.args.output.now part c.compile.result (c.compile.ensures.outcome.under look agree) })
+
+pub returns-clause-asked : goal.returns-clause-asked
+returns-clause-asked g c =
+    let part = since (g.H.Host.log c.args.host.now) (g.H.Host.log c.compile.new.host) in
+    subst (λ (b : BuildSeen). Asked g.W.World.steady g.W.World.answer (probe_folder b.config b.env) part) c.self.view_is c.compile.ensures.asked
+
+pub returns-clause-outcome : goal.returns-clause-outcome
+returns-clause-outcome g c =
+    let part = since (g.H.Host.log c.args.host.now) (g.H.Host.log c.compile.new.host) in
+    subst (λ (b : BuildSeen). Holds (answers part) (λ look. Outcome (refusal_error b.config b.env look c.args.output.now) (planned_steps b.config b.env look c.args.output.now) part c.compile.result)) c.self.view_is c.compile.ensures.outcome

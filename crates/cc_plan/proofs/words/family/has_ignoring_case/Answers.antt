@@ -1,4 +1,4 @@
-use Rattle.cc_plan.proofs.WithinLemmas.{within_from_subslice}
+use Rattle.cc_text.proofs.WithinLemmas.{within_from_subslice}
 use Rattle.cc_plan.proofs.words.family.has_ignoring_case.Goals as goal
 
 pub returns : goal.returns

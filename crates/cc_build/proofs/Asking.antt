@@ -1,0 +1,39 @@
+-- A call that asks with answers of its own.
+use Rattle.std.proofs.Common.{◌≡◌, ◌⊎◌, inl, inr, ℕ, List, [], Bool, Option, Some, sym, ◌∙◌, ap, subst}
+use Rattle.std.specs.Option.{option_map}
+use Rattle.cc_env.specs.Env.{EnvSeen}
+use Rattle.cc_host.specs.declared.event.Event.{Event}
+use Rattle.cc_host.specs.declared.question.Outcome.{Outcome}
+use Rattle.cc_host.specs.declared.question.Question.{Question}
+use Rattle.cc_host.specs.Part.{since, IsWhole}
+use Rattle.cc_host.specs.Question.{Look, Answer, answers, Agrees, Settles, Holds}
+use Rattle.cc_tool.specs.Asked.{Asked}
+use Rattle.cc_tool.specs.Asks.{Asks}
+use Rattle.cc_tool.proofs.Asides.{asked_by, asks_quiet}
+use Rattle.cc_plan.specs.declared.error.PlanError.{PlanError}
+use Rattle.cc_plan.specs.declared.error.PlanError.TheVariants.{NoMemory as WantsMemory}
+use Rattle.cc_plan.specs.declared.settings.BuildConfig.{BuildConfig}
+use Rattle.cc_build.specs.Error.{ErrorSeen, no_memory}
+use Rattle.cc_build.specs.Refusal.{plan_error}
+use Rattle.cc_build.proofs.Stages.{plan_cause}
+
+module _ (steady : Bool) (world : Question → Outcome) (dir : List ℕ) (old mid new : List Event) (none known : List Answer) (asks : Asks steady world dir old mid none known) (is : new ≡ mid) (empty : none ≡ []) where
+  from_nothing : Asks steady world dir old mid [] known
+  from_nothing = subst (λ (l : List Answer). Asks steady world dir old mid l known) empty asks
+
+  pub quiet_at : IsWhole [] (since old new)
+  quiet_at = subst (λ (l : List Event). IsWhole [] (since old l)) (sym is) (asks_quiet steady world dir old mid none known asks)
+
+  pub asked_at : Asked steady world dir (since old new)
+  asked_at = subst (λ (l : List Event). Asked steady world dir (since old l)) (sym is) (asked_by steady world dir old mid known from_nothing).0
+
+  -- what the answers of the call settle holds under those of its part
+  pub under_answers : {P : Look → Type 0} → ((look : Look) → Agrees look known → P look) → Holds (answers (since old new)) P
+  under_answers so =
+      let same : answers (since old new) ≡ known = ap (λ l. answers (since old l)) is ∙ sym (asked_by steady world dir old mid known from_nothing).1 in
+      record { under = λ look agree. so look (subst (Agrees look) same agree) }
+
+-- the error of a refused plan, by its cause under the answers
+pub plan_cause_under : (set : BuildConfig) (env : EnvSeen) (output : List ℕ) (error : PlanError) (e : ErrorSeen) (known : List Answer) (r : Look → Option PlanError) (look : Look) → Agrees look known → (e ≡ no_memory) ⊎ (e ≡ plan_error set env output error) → (error ≡ WantsMemory) ⊎ Settles known r (Some error) → (e ≡ no_memory) ⊎ (option_map (plan_error set env output) (r look) ≡ Some e)
+plan_cause_under set env output error e known r look agree made (inl wants) = plan_cause set env output error e (r look) made (inl wants)
+plan_cause_under set env output error e known r look agree made (inr settled) = plan_cause set env output error e (r look) made (inr (settled.is look agree))

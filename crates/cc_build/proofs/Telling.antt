@@ -1,0 +1,122 @@
+-- A call that asks with answers of its own, and then prints.
+use Rattle.std.proofs.Common.{◌≡◌, ◌⊎◌, inl, inr, ℕ, List, [], ◌∷◌, ◌++◌, Bool, Option, Some, None, Result, Ok, Err, refl, sym, ◌∙◌, ap, subst, append-nil}
+use Rattle.std.specs.Option.{option_map}
+use Rattle.std.proofs.lemmas.Grind.{flat_map-append}
+use Rattle.cc_env.specs.Env.{EnvSeen}
+use Rattle.cc_host.specs.declared.event.Event.{Event}
+use Rattle.cc_host.specs.declared.event.Event.TheVariants.{Fault}
+use Rattle.cc_host.specs.declared.event.HostCall.TheVariants.{Print}
+use Rattle.cc_host.specs.declared.event.LineKind.TheVariants.{Warning}
+use Rattle.cc_host.specs.declared.event.Why.{Why}
+use Rattle.cc_host.specs.declared.question.Outcome.{Outcome as WorldOutcome}
+use Rattle.cc_host.specs.declared.question.Question.{Question}
+use Rattle.cc_host.specs.Part.{Step, since, stops, left, StopsAt, IsPartly, IsWhole}
+use Rattle.cc_host.specs.Part.Step.{Runs, Makes, Removes, Prints, Lists}
+use Rattle.cc_host.specs.Question.{Look, Answer, answer_of, answers, Agrees, Settles, Holds}
+use Rattle.cc_host.proofs.Parts.{since_since, since_append, since_extends, partly_none}
+use Rattle.cc_tool.specs.Asked.{question_events, Asked}
+use Rattle.cc_tool.specs.Asks.{Asks}
+use Rattle.cc_tool.proofs.Asides.{aside_answers, asked_by, asked_before, asks_quiet, asks_extends}
+use Rattle.cc_plan.specs.Asking.{AsksThen, Warns, AreLines, Printed, EndsPrinting}
+use Rattle.cc_plan.specs.Plan.{prints}
+use Rattle.cc_plan.specs.declared.error.PlanError.{PlanError}
+use Rattle.cc_plan.specs.declared.error.PlanError.TheVariants.{Host, NoMemory as WantsMemory}
+use Rattle.cc_plan.specs.declared.settings.BuildConfig.{BuildConfig}
+use Rattle.cc_build.specs.Error.{ErrorSeen, no_memory}
+use Rattle.cc_build.specs.Outcome.{IsCausedBy, Outcome}
+use Rattle.cc_build.specs.Refusal.{plan_error}
+use Rattle.cc_build.specs.Stop.{fault_error, stopped_by}
+use Rattle.cc_build.proofs.Outcomes.{outcome_from}
+use Rattle.cc_build.proofs.Stages.{plan_cause}
+
+-- what refuses a line is the printing of it
+printing_stop : (steps : List Step) (why : Why) → StopsAt steps (Fault Print why ∷ []) → stopped_by steps (Fault Print why ∷ []) ≡ Some (fault_error Print why [])
+printing_stop [] why h = absurd h
+printing_stop (Prints kind bytes ∷ steps) why h = refl
+printing_stop (Runs role cmd ∷ steps) why h = absurd (cc)
+printing_stop (Makes scope path ∷ steps) why h = absurd (cc)
+printing_stop (Removes path ∷ steps) why h = absurd (cc)
+printing_stop (Lists ∷ steps) why h = absurd (cc)
+
+print_error : (set : BuildConfig) (env : EnvSeen) (why : Why) → plan_error set env [] (Host Print why) ≡ fault_error Print why []
+unfolding plan_error
+print_error set env why = refl
+
+-- the line that a host refused is the cause
+line_cause : (refusal : Option ErrorSeen) (steps : List Step) (part : List Event) (e : ErrorSeen) (why : Why) → IsPartly steps part → stops part ≡ Fault Print why ∷ [] → e ≡ fault_error Print why [] → IsCausedBy refusal steps part e
+line_cause refusal steps part e why p ends is =
+    let at : StopsAt (left steps part) (Fault Print why ∷ []) = subst (λ (l : List Event). StopsAt (left steps part) l) ends p.stop in
+    inr (inr (ap (λ l. stopped_by (left steps part) l) ends ∙ printing_stop (left steps part) why at ∙ ap Some (sym is)))
+
+printed_cause : (set : BuildConfig) (env : EnvSeen) (steps : List Step) (part : List Event) (error : PlanError) (e : ErrorSeen) (r : Option PlanError) → IsPartly steps part → EndsPrinting part error → (e ≡ no_memory) ⊎ (e ≡ plan_error set env [] error) → (error ≡ WantsMemory) ⊎ (((why : Why) × (error ≡ Host Print why)) ⊎ (r ≡ Some error)) → IsCausedBy (option_map (plan_error set env []) r) steps part e
+printed_cause set env steps part error e r p ends (inl memory) cause = inl memory
+printed_cause set env steps part error e r p ends (inr is) (inl wants) = own (plan_cause set env [] error e r (inr is) (inl wants))
+  where
+    own : (e ≡ no_memory) ⊎ (option_map (plan_error set env []) r ≡ Some e) → IsCausedBy (option_map (plan_error set env []) r) steps part e
+    own (inl memory) = inl memory
+    own (inr refused) = inr (inl refused)
+printed_cause set env steps part error e r p ends (inr is) (inr (inl fault)) =
+    let stop : stops part ≡ Fault Print fault.0 ∷ [] = (subst (λ (x : PlanError). EndsPrinting part x) fault.1 ends).1 in
+    line_cause (option_map (plan_error set env []) r) steps part e fault.0 p stop (is ∙ ap (plan_error set env []) fault.1 ∙ print_error set env fault.0)
+printed_cause set env steps part error e r p ends (inr is) (inr (inr refused)) = inr (inl (ap (option_map (plan_error set env [])) refused ∙ ap Some (sym is)))
+
+-- the lines that are left to print where the answers settle them
+settled_lines : (known : List Answer) (warnings : Look → List (List ℕ)) (lines : List (List ℕ)) (part : List Event) (look : Look) → Agrees look known → (part ≡ []) ⊎ Settles known warnings lines → IsPartly (prints Warning lines) part → IsPartly (prints Warning (warnings look)) part
+settled_lines known warnings lines part look agree (inl none) p = subst (λ (l : List Event). IsPartly (prints Warning (warnings look)) l) (sym none) (partly_none (prints Warning (warnings look)))
+settled_lines known warnings lines part look agree (inr s) p = subst (λ (l : List (List ℕ)). IsPartly (prints Warning l) part) (sym (s.is look agree)) p
+
+module _ (steady : Bool) (world : Question → WorldOutcome) (dir : List ℕ) (old end new : List Event) (none known : List Answer) (P : List Event → Type 0) (asked : AsksThen steady world dir old end none known P) (is : new ≡ end) (empty : none ≡ []) (quiet : question_events asked.rest ≡ []) where
+  asks : Asks steady world dir old asked.mid [] known
+  asks = subst (λ (l : List Answer). Asks steady world dir old asked.mid l known) empty asked.asks
+
+  grown : asked.mid ≡ old ++ since old asked.mid
+  grown = asks_extends steady world dir old asked.mid [] known asks
+
+  pub rest_is : since asked.mid new ≡ asked.rest
+  rest_is = ap (λ l. since asked.mid l) (is ∙ asked.extends) ∙ since_append asked.mid asked.rest
+
+  behind : new ≡ asked.mid ++ since asked.mid new
+  behind = is ∙ asked.extends ∙ ap (λ l. asked.mid ++ l) (sym rest_is)
+
+  silent : question_events (since asked.mid new) ≡ []
+  silent = ap question_events rest_is ∙ quiet
+
+  pub then_extends : new ≡ old ++ since old new
+  then_extends = since_extends old asked.mid new grown behind
+
+  pub then_asked : Asked steady world dir (since old new)
+  then_asked = asked_before steady world dir old asked.mid new grown behind (asked_by steady world dir old asked.mid known asks).0 silent
+
+  answers_are : answers (since old new) ≡ known
+  answers_are =
+      ap answers (since_since old asked.mid new grown behind) ∙ flat_map-append answer_of (since old asked.mid) (since asked.mid new)
+      ∙ ap (λ l. answers (since old asked.mid) ++ l) (aside_answers (since asked.mid new) silent) ∙ append-nil (answers (since old asked.mid)) ∙ sym (asked_by steady world dir old asked.mid known asks).1
+
+  pub under_then : {Q : Look → Type 0} → ((look : Look) → Agrees look known → Q look) → Holds (answers (since old new)) Q
+  under_then so = record { under = λ look agree. so look (subst (Agrees look) answers_are agree) }
+
+  -- what the part behind the questions comes to, the whole part does
+  pub then_outcome : {T : Type 0} (refusal : Option ErrorSeen) (steps : List Step) (r : Result T ErrorSeen) → Outcome refusal steps asked.rest r → Outcome refusal steps (since old new) r
+  then_outcome refusal steps r o =
+      outcome_from refusal old asked.mid new [] steps r grown behind (asks_quiet steady world dir old asked.mid [] known asks)
+      (subst (λ (p : List Event). Outcome refusal steps p r) (sym rest_is) o)
+
+-- the outcome of a compiler that was planned
+pub planned_outcome : {X T : Type 0} (known : List Answer) (warnings : Look → List (List ℕ)) (refusal : Look → Option PlanError) (set : BuildConfig) (env : EnvSeen) (part : List Event) (result : Result X PlanError) (x : X) (t : T) (look : Look) → Agrees look known → result ≡ Ok x → Warns known warnings result part → Settles known refusal None → Outcome {T = T} (option_map (plan_error set env []) (refusal look)) (prints Warning (warnings look)) part (Ok t)
+planned_outcome {X} known warnings refusal set env part result x t look agree is w allowed =
+    let settled : Settles known warnings w.lines = subst (λ (r : Result X PlanError). AreLines known warnings w.lines part r) is w.settled in
+    let printed : IsWhole (prints Warning w.lines) part = subst (λ (r : Result X PlanError). Printed w.lines part r) is w.printed in
+    (ap (option_map (plan_error set env [])) (allowed.is look agree), subst (λ (l : List (List ℕ)). IsWhole (prints Warning l) part) (sym (settled.is look agree)) printed)
+
+-- the outcome of a compiler that was refused
+pub unplanned_outcome : {X : Type 0} (T : Type 0) (known : List Answer) (warnings : Look → List (List ℕ)) (refusal : Look → Option PlanError) (set : BuildConfig) (env : EnvSeen) (part : List Event) (result : Result X PlanError) (error : PlanError) (e : ErrorSeen) (look : Look) → Agrees look known → result ≡ Err error → Warns known warnings result part → (error ≡ WantsMemory) ⊎ (((why : Why) × (error ≡ Host Print why)) ⊎ Settles known refusal (Some error)) → (e ≡ no_memory) ⊎ (e ≡ plan_error set env [] error) → Outcome {T = T} (option_map (plan_error set env []) (refusal look)) (prints Warning (warnings look)) part (Err e)
+unplanned_outcome {X} T known warnings refusal set env part result error e look agree is w cause made =
+    let settled : (part ≡ []) ⊎ Settles known warnings w.lines = subst (λ (r : Result X PlanError). AreLines known warnings w.lines part r) is w.settled in
+    let printed : IsPartly (prints Warning w.lines) part × EndsPrinting part error = subst (λ (r : Result X PlanError). Printed w.lines part r) is w.printed in
+    let partly : IsPartly (prints Warning (warnings look)) part = settled_lines known warnings w.lines part look agree settled printed.0 in
+    (partly, printed_cause set env (prints Warning (warnings look)) part error e (refusal look) partly printed.1 made (at cause))
+  where
+    at : (error ≡ WantsMemory) ⊎ (((why : Why) × (error ≡ Host Print why)) ⊎ Settles known refusal (Some error)) → (error ≡ WantsMemory) ⊎ (((why : Why) × (error ≡ Host Print why)) ⊎ (refusal look ≡ Some error))
+    at (inl wants) = inl wants
+    at (inr (inl fault)) = inr (inl fault)
+    at (inr (inr s)) = inr (inr (s.is look agree))

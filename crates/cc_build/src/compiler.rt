@@ -1,0 +1,46 @@
+// The compiler of a build.
+ghost use Rattle.std.specs.Prelude.{◌≡◌, ◌++◌, IfOk};
+ghost use Rattle.cc_host.specs.Part.{since};
+ghost use Rattle.cc_host.specs.Question.{answers, Holds};
+ghost use Rattle.cc_plan.specs.Given.{probe_folder};
+ghost use Rattle.cc_plan.specs.Tool.{tool_of};
+ghost use Rattle.cc_build.specs.Compiler.{tool_error, tool_steps};
+ghost use Rattle.cc_build.specs.Outcome.{Outcome};
+ghost use Rattle.cc_tool.specs.Asked.{Asked};
+
+use crate::Error;
+use crate::message::or_no_memory;
+use crate::refusal::plan_error;
+use cc_env::BuildEnv;
+use cc_host::{Host, World};
+use cc_plan::{BuildConfig, Sight, tool_of};
+use cc_tool::{Answers, Caches, Tool};
+use std::alloc::Global;
+use std::sync::Wait;
+
+/// The planned tool, by questions to the host. Prints its warnings.
+#[tactic(auto, using(cc_host::proofs::Parts::since_append))]
+pub(crate) fn compiler<W: World, H: Host<W>>(
+    rt: &impl Wait,
+    alloc: Global,
+    host: &mut H,
+    caches: &Caches<W>,
+    set: &BuildConfig,
+    env: &BuildEnv,
+) -> Result<Tool, Error>
+    ensures extends { H.log host.new ≡ H.log host.old ++ since (H.log host.old) (H.log host.new) }
+    ensures asked { Asked W.steady W.answer (probe_folder set.now env.now) (since (H.log host.old) (H.log host.new)) }
+    ensures tool { IfOk result (λ tool. Holds (answers (since (H.log host.old) (H.log host.new))) (λ look. tool ≡ tool_of set.now env.now look)) }
+    ensures outcome { Holds (answers (since (H.log host.old) (H.log host.new))) (λ look. Outcome (tool_error set.now env.now look) (tool_steps set.now env.now look) (since (H.log host.old) (H.log host.new)) result) }
+{
+    let mut answers = Answers::new(alloc);
+    let mut sight = Sight {
+        host,
+        caches,
+        answers: &mut answers,
+    };
+    match tool_of(rt, alloc, set, env, &mut sight) {
+        Ok(tool) => Ok(tool),
+        Err(error) => Err(or_no_memory(plan_error(alloc, set, env, "", error))),
+    }
+}

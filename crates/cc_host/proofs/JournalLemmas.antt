@@ -1,0 +1,106 @@
+-- Probe files as a log grows.
+use Rattle.std.proofs.Common.{◌≡◌, ◌≢◌, subst, ℕ, zero, suc, ◌+◌, ◌<◌, Bool, true, false, List, [], ◌∷◌, ◌++◌, length, get_or, take, flat_map, bytes_eq, refl, sym, ◌∙◌, ap, arith, append-nil, replicate}
+use Rattle.std.specs.List.{remove}
+use Rattle.std.proofs.lemmas.List.Sums.{count_by_more_no}
+use Rattle.std.proofs.lemmas.Slice.Eq.{bytes_eq-Decides}
+use Rattle.std.proofs.lemmas.Grind.{common_steps, flat_map-append}
+use Rattle.cc_host.specs.Probe.{open_of, drop_of, opens, drops, times, IsOpen, IsTidy}
+use Rattle.cc_host.specs.Journal.{IsKept, IsQuiet}
+use Rattle.cc_host.specs.Event.{apart}
+use Rattle.cc_host.specs.declared.event.Event.{Event}
+use Rattle.cc_host.specs.declared.event.Event.TheVariants.{Opened, Dropped, Turn}
+
+pub times_then : (path : List ℕ) (a b : List (List ℕ)) → times path (a ++ b) ≡ times path a + times path b
+times_then path [] b = grind (arith, common_steps)
+times_then path (p ∷ a) b = grind (arith, common_steps, times_then path a b)
+
+same_events : (log es : List Event) → IsQuiet es → (opens (log ++ es) ≡ opens log) × (drops (log ++ es) ≡ drops log)
+same_events log es quiet = (
+  flat_map-append open_of log es ∙ ap (λ l. opens log ++ l) quiet.0 ∙ append-nil (opens log),
+  flat_map-append drop_of log es ∙ ap (λ l. drops log ++ l) quiet.1 ∙ append-nil (drops log),
+)
+
+-- events of no probe file leave the files as they were
+pub kept_quiet : (log es : List Event) (files : List (List ℕ)) → IsQuiet es → IsKept log files → IsKept (log ++ es) files
+kept_quiet log es files quiet kept path =
+    let s = same_events log es quiet in
+    rw (s.0, s.1) (kept path)
+
+pub kept_open : (log : List Event) (files : List (List ℕ)) (path bytes : List ℕ) → IsKept log files → IsKept (log ++ Opened path bytes ∷ []) (files ++ path ∷ [])
+kept_open log files path bytes kept other =
+    let o : opens (log ++ Opened path bytes ∷ []) ≡ opens log ++ path ∷ [] = flat_map-append open_of log (Opened path bytes ∷ []) in
+    let d : drops (log ++ Opened path bytes ∷ []) ≡ drops log ++ [] = flat_map-append drop_of log (Opened path bytes ∷ []) in
+    rw (o, d, append-nil (drops log), times_then other files (path ∷ []), times_then other (opens log) (path ∷ [])) (omega (arith, kept other))
+
+times_remove : (other path : List ℕ) (files : List (List ℕ)) (at : ℕ) → at < length files → get_or files at path ≡ path → times other files ≡ times other (remove files at) + times other (path ∷ [])
+times_remove other path [] at lt is = absurd (omega arith)
+times_remove other path (f ∷ files) zero lt is = grind (arith, common_steps)
+times_remove other path (f ∷ files) (suc at) lt is = grind (arith, common_steps, times_remove other path files at (omega arith) is)
+
+pub kept_drop : (log : List Event) (files : List (List ℕ)) (path : List ℕ) (at : ℕ) → at < length files → get_or files at path ≡ path → IsKept log files → IsKept (log ++ Dropped path ∷ []) (remove files at)
+kept_drop log files path at lt is kept other =
+    let o : opens (log ++ Dropped path ∷ []) ≡ opens log ++ [] = flat_map-append open_of log (Dropped path ∷ []) in
+    let d : drops (log ++ Dropped path ∷ []) ≡ drops log ++ path ∷ [] = flat_map-append drop_of log (Dropped path ∷ []) in
+    rw (o, d, append-nil (opens log), times_then other (drops log) (path ∷ [])) (omega (arith, kept other, times_remove other path files at lt is))
+
+pub kept_tidy : (log : List Event) (files : List (List ℕ)) → IsKept log files → IsTidy log
+kept_tidy log files kept path = omega (arith, kept path)
+
+pub kept_has : (log : List Event) (files : List (List ℕ)) (path : List ℕ) → IsKept log files → IsOpen path log → times path files ≡ 0 → ⊥
+kept_has log files path kept o none = omega (arith, kept path)
+
+turns_open : (count : ℕ) → opens (replicate count (Turn 1)) ≡ []
+turns_open zero = refl
+turns_open (suc count) = turns_open count
+
+turns_drop : (count : ℕ) → drops (replicate count (Turn 1)) ≡ []
+turns_drop zero = refl
+turns_drop (suc count) = turns_drop count
+
+open_apart : (event : Event) → opens (apart event) ≡ open_of event
+open_apart (Turn count) = turns_open count
+open_apart (Opened path bytes) = refl
+open_apart event = refl
+
+drop_apart : (event : Event) → drops (apart event) ≡ drop_of event
+drop_apart (Turn count) = turns_drop count
+drop_apart (Dropped path) = refl
+drop_apart event = refl
+
+opens_apart : (es : List Event) → opens (flat_map apart es) ≡ opens es
+opens_apart [] = refl
+opens_apart (e ∷ es) = flat_map-append open_of (apart e) (flat_map apart es) ∙ ap (λ l. l ++ opens (flat_map apart es)) (open_apart e) ∙ ap (λ l. open_of e ++ l) (opens_apart es)
+
+drops_apart : (es : List Event) → drops (flat_map apart es) ≡ drops es
+drops_apart [] = refl
+drops_apart (e ∷ es) = flat_map-append drop_of (apart e) (flat_map apart es) ∙ ap (λ l. l ++ drops (flat_map apart es)) (drop_apart e) ∙ ap (λ l. drop_of e ++ l) (drops_apart es)
+
+-- the files stay as events of none are added to the list that stands for the log
+pub kept_note : (events more es : List Event) (files : List (List ℕ)) → more ≡ events ++ es → IsQuiet es → IsKept (flat_map apart events) files → IsKept (flat_map apart more) files
+kept_note events more es files e quiet kept =
+    let all : flat_map apart more ≡ flat_map apart events ++ flat_map apart es = ap (flat_map apart) e ∙ flat_map-append apart events es in
+    let none : IsQuiet (flat_map apart es) = (opens_apart es ∙ quiet.0, drops_apart es ∙ quiet.1) in
+    subst (λ log. IsKept log files) (sym all) (kept_quiet (flat_map apart events) (flat_map apart es) files none kept)
+
+pub kept_turn : (log new : List Event) (files : List (List ℕ)) → new ≡ log ++ Turn 1 ∷ [] → IsKept log files → IsKept new files
+kept_turn log new files e kept = subst (λ l. IsKept l files) (sym e) (kept_quiet log (Turn 1 ∷ []) files (refl, refl) kept)
+
+-- the files stay as the list is only moved
+pub kept_same : (events more : List Event) (files others : List (List ℕ)) → more ≡ events → others ≡ files → IsKept (flat_map apart events) files → IsKept (flat_map apart more) others
+kept_same events more files others e f kept path = rw (e, f) (kept path)
+
+pub kept_opened : (events more : List Event) (files others : List (List ℕ)) (path kept_path bytes : List ℕ) → more ≡ events ++ Opened path bytes ∷ [] → others ≡ files ++ kept_path ∷ [] → kept_path ≡ path → IsKept (flat_map apart events) files → IsKept (flat_map apart more) others
+kept_opened events more files others path kept_path bytes e f same kept other =
+    rw (e, f, same, flat_map-append apart events (Opened path bytes ∷ [])) (kept_open (flat_map apart events) files path bytes kept other)
+
+pub kept_dropped : (events more : List Event) (files others : List (List ℕ)) (path gone : List ℕ) (at : ℕ) → more ≡ events ++ Dropped gone ∷ [] → others ≡ remove files at → gone ≡ path → at < length files → get_or files at path ≡ path → IsKept (flat_map apart events) files → IsKept (flat_map apart more) others
+kept_dropped events more files others path gone at e f same lt is kept other =
+    rw (e, f, same, flat_map-append apart events (Dropped path ∷ [])) (kept_drop (flat_map apart events) files path at lt is kept other)
+
+-- the first places have none of the path
+pub times_more : (path : List ℕ) (files : List (List ℕ)) (at : ℕ) (d : List ℕ) → at < length files → path ≢ get_or files at d → times path (take (at + 1) files) ≡ times path (take at files)
+times_more path files at d lt differ = count_by_more_no (bytes_eq path) files at d lt (no_bytes path (get_or files at d) (bytes_eq path (get_or files at d)) refl differ)
+  where
+    no_bytes : (a b : List ℕ) (r : Bool) → bytes_eq a b ≡ r → a ≢ b → bytes_eq a b ≡ false
+    no_bytes a b false e h = e
+    no_bytes a b true e h = absurd (h ((bytes_eq-Decides a b).0 e))

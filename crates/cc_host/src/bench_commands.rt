@@ -1,0 +1,85 @@
+// What a host in memory does with commands and files.
+ghost use Rattle.std.specs.Prelude.{◌≡◌, ◌++◌, ◌∷◌, [], ℕ, Option, Ok, IfOk, OnOk, OnErr};
+ghost use Rattle.cc_host.specs.declared.event.Event.TheVariants.{Started, Opened};
+ghost use Rattle.cc_host.specs.declared.event.HostCall.TheVariants.{Start as Starts, Output, CreateProbe};
+ghost use Rattle.cc_host.specs.declared.event.Start.TheVariants.{Child};
+ghost use Rattle.cc_host.specs.Children.{IsFresh};
+ghost use Rattle.cc_host.specs.Calls.{counted};
+ghost use Rattle.cc_host.specs.Event.{is_captured, ran};
+ghost use Rattle.cc_host.specs.Script.{script_for, script_at};
+ghost use Rattle.cc_host.specs.Bench.{start_after, ends_as};
+
+use crate::{BenchHost, Command, Event, HostCall, OutputKind, Pipes, Ran, Role, script};
+use cc_text::{Bytes, Mem, Text};
+
+// Whether the standard output of a command is kept.
+fn is_captured(out: OutputKind) -> bool
+    ensures { result ≡ is_captured out }
+{
+    match out {
+        OutputKind::Capture => true,
+        OutputKind::Forward => false,
+        OutputKind::Discard => false,
+    }
+}
+
+impl BenchHost {
+    // Runs a command to its end whose program is there.
+    pub(crate) fn run_script(&mut self, role: Role, cmd: Command, pipes: Pipes) -> Mem<Ran>
+        ensures is { IfOk result (λ r. r ≡ ends_as self.old role cmd pipes) }
+        ensures ok { OnOk result (self.new ≡ record self.old { log = self.old.log ++ ran role cmd pipes (Ok (ends_as self.old role cmd pipes)); made = counted Output self.old.made }) }
+        ensures err { OnErr result (self.new ≡ self.old) }
+    {
+        let captured = is_captured(pipes.out);
+        let found = script::script_for(&self.scripts, role, &cmd);
+        let status = script::status_of(found);
+        let out = script::out_of(self.alloc, captured, found)?;
+        let err = script::err_of(self.alloc, captured, pipes.hear, found)?;
+        let event = Event::Ran {
+            role,
+            cmd,
+            pipes,
+            status,
+            out: out.try_clone()?,
+            err: err.try_clone()?,
+        };
+        self.add_call(HostCall::Output, event)?;
+        Ok(Ran::Done { status, out, err })
+    }
+
+    // Starts a child of a program that is there.
+    pub(crate) fn start_child(
+        &mut self,
+        role: Role,
+        cmd: &Command,
+        pipes: Pipes,
+        held: u64,
+    ) -> Mem<u64>
+        ensures log { IfOk result (λ id. self.new.log ≡ self.old.log ++ Started id role cmd.now pipes held ∷ []) }
+        ensures fresh { IfOk result (λ id. IsFresh self.old.log (Child id)) }
+        ensures ok { IfOk result (λ id. (place : Option ℕ) × (script_at self.old.scripts place ≡ script_for self.old.scripts role cmd.now) × (self.new ≡ record (start_after self.old cmd.now id place) { log = self.new.log; made = counted Starts self.old.made })) }
+        ensures err { OnErr result (self.new ≡ self.old) }
+    {
+        let place = script::place_for(&self.scripts, role, cmd);
+        let id = self.crew.start(role, cmd.try_clone()?, pipes, held, place)?;
+        script::note_start(&mut self.scripts, cmd);
+        self.made.count(HostCall::Start);
+        Ok(id)
+    }
+
+    // Makes a probe file where none stands.
+    pub(crate) fn open_probe(&mut self, path: &str, contents: &[u8]) -> Mem<()>
+        ensures ok { OnOk result (self.new ≡ record self.old { log = self.old.log ++ Opened path.now contents.now ∷ []; files = self.old.files ++ path.now ∷ []; made = counted CreateProbe self.old.made }) }
+        ensures err { OnErr result (self.new ≡ self.old) }
+    {
+        let name = Text::of(self.alloc, path)?;
+        let kept = Text::of(self.alloc, path)?;
+        let file = Text::of(self.alloc, path)?;
+        let bytes = Bytes::of(self.alloc, contents)?;
+        self.crew.reserve_probe()?;
+        self.files.push(file)?;
+        self.crew.note_opened(name, kept, bytes);
+        self.made.count(HostCall::CreateProbe);
+        Ok(())
+    }
+}

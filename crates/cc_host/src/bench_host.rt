@@ -1,0 +1,296 @@
+// A host in memory, as a host.
+ghost use Rattle.std.specs.Prelude.{◌≡◌, ◌≢◌, ◌≤◌, [], ◌∷◌, ◌++◌, true, false, drop, IfOk, OnOk, OnErr, IfErr, MatchResult};
+ghost use Rattle.std.specs.List.{flat_map, Contains};
+ghost use Rattle.std.specs.Result.{result_map_both};
+ghost use Rattle.cc_host.specs.Children.{running, IsFresh, IsNews, Waits};
+ghost use Rattle.cc_host.specs.declared.event.Event.TheVariants.{Abandoned, Dropped, Turn as OneTurn};
+ghost use Rattle.cc_host.specs.declared.event.HostCall.TheVariants.{Start as Starts, Turn as Turns, Output, MakeDir, CreateProbe, Remove as Removes, Print, Vars as ListsVars};
+ghost use Rattle.cc_host.specs.declared.event.Why.{Why};
+ghost use Rattle.cc_host.specs.declared.question.Ask.TheVariants.{Exists as AsksExists};
+ghost use Rattle.cc_host.specs.declared.question.Outcome.TheVariants.{Unanswered};
+ghost use Rattle.cc_host.specs.Event.{started, told, refused, ran, probed, found, reused, unasked, drawn, created, made, removed, printed, listed, Rose, IsCaused, IsSilent};
+ghost use Rattle.cc_host.specs.Probe.{IsOpen};
+ghost use Rattle.cc_host.specs.Script.{patience_of};
+ghost use Rattle.cc_host.specs.Crew.{without_kid};
+ghost use Rattle.cc_host.specs.Given.{default_outcome};
+ghost use Rattle.cc_host.specs.Bench.{has_file, without_file, files_with, answer_to, created_at, removed_at, next_word, probe_outcome, probe_after, Answers, Tells, IsStart, IsTurn, Gives, IsPlain, plain_end, IsPlainStart, IsPlainTurn};
+
+use crate::bench::take_word;
+use crate::script::has_word;
+use crate::{
+    BenchHost, Command, Created, Event, Host, HostCall, HostError, LineKind, News, Outcome, Pipes,
+    ProbeFiles, Question, Ran, Removal, Role, Scope, Start, Verdict, World,
+};
+use cc_text::{Bytes, Mem, Text, Vars};
+
+/// The world of `BenchHost`. It isn't steady: what a question comes to differs from host to host.
+pub struct Bench;
+
+impl World for Bench {
+    ghost use Rattle.std.specs.Prelude.{false};
+    ghost use Rattle.cc_host.specs.Given.{default_outcome};
+
+    ghost steady = { false };
+
+    ghost answer = { λ q. default_outcome q.ask };
+}
+
+impl Host<Bench> for BenchHost {
+    ghost log = { λ h. h.log };
+
+    ghost faults = { λ h. h.faults };
+
+    ghost patience = { λ h. patience_of h.scripts };
+
+    fn start(
+        &mut self,
+        role: Role,
+        cmd: &Command,
+        pipes: Pipes,
+        held: u64,
+    ) -> Result<Start, HostError>
+        ensures adds { self.new.log ≡ self.old.log ++ started role cmd.now pipes held result }
+        ensures fresh { IfOk result (IsFresh self.old.log) }
+        ensures later { self.old.faults ≤ self.new.faults }
+        ensures patient { patience_of self.new.scripts ≡ patience_of self.old.scripts }
+        ensures cause { IfErr result (IsCaused Starts self.old.faults self.new.faults) }
+        ensures answers { IsStart role cmd.now self.old self.new result }
+        ensures plain { IsPlain self.old → IsPlain self.new × IsPlainStart result }
+    {
+        if self.fails_next(HostCall::Start) {
+            return Err(self.fault(HostCall::Start));
+        }
+        if has_word(&self.missing, cmd.get_program()) {
+            let cmd = cmd.try_clone()?;
+            self.add_call(HostCall::Start, Event::Missing { role, cmd })?;
+            return Ok(Start::Missing);
+        }
+        let id = self.start_child(role, cmd, pipes, held)?;
+        Ok(Start::Child(id))
+    }
+
+    fn turn(&mut self, _rest_ms: u64) -> Result<Vec<News>, HostError>
+        ensures adds { MatchResult result (λ news. self.new.log ≡ self.old.log ++ OneTurn 1 ∷ flat_map told news.items) (λ e. self.new.log ≡ self.old.log ++ refused e) }
+        ensures news { IfOk result (λ news. IsNews self.old.log news.items) }
+        ensures later { self.old.faults ≤ self.new.faults }
+        ensures patient { patience_of self.new.scripts ≡ patience_of self.old.scripts }
+        ensures waits { OnOk result (Waits (patience_of self.new.scripts) self.new.log) }
+        ensures cause { IfErr result (IsCaused Turns self.old.faults self.new.faults) }
+        ensures answers { IsTurn self.old self.new (result_map_both (λ news. news.items) (λ e. e) result) }
+        ensures plain { IsPlain self.old → IsPlain self.new × IsPlainTurn (result_map_both (λ news. news.items) (λ e. e) result) }
+    {
+        if self.fails_next(HostCall::Turn) {
+            return Err(self.fault(HostCall::Turn));
+        }
+        let news = self.crew.turn(&self.scripts)?;
+        self.made.count(HostCall::Turn);
+        Ok(news)
+    }
+
+    fn abandon(&mut self, id: u64)
+        requires { Contains (running self.old.log) id }
+        ensures adds { self.new.log ≡ self.old.log ++ Abandoned id ∷ [] }
+        ensures later { self.new.faults ≡ self.old.faults }
+        ensures patient { patience_of self.new.scripts ≡ patience_of self.old.scripts }
+        ensures after { self.new ≡ record self.old { log = self.new.log; kids = without_kid id self.old.kids } }
+    {
+        self.crew.abandon(id);
+    }
+
+    fn probe(&mut self, q: &Question, files: &ProbeFiles) -> Mem<Outcome>
+        requires { q.now.ask ≢ AsksExists }
+        ensures adds { (why : Why) × (self.new.log ≡ self.old.log ++ probed q.now files.now why result) }
+        ensures steady { false ≡ true → IfOk result (λ outcome. outcome ≢ Unanswered → outcome ≡ default_outcome q.now.ask) }
+        ensures later { self.old.faults ≤ self.new.faults }
+        ensures patient { patience_of self.new.scripts ≡ patience_of self.old.scripts }
+        ensures cause { IfOk result (λ outcome. outcome ≡ Unanswered → Rose self.old.faults self.new.faults) }
+        ensures answers { Tells (probe_outcome self.old q.now) (probe_after self.old) self.old self.new result }
+        ensures plain { IsPlain self.old → IsPlain self.new × IfOk result (λ outcome. outcome ≢ Unanswered) }
+        ensures default { self.old.given ≡ [] → IfOk result (λ outcome. outcome ≢ Unanswered → outcome ≡ default_outcome q.now.ask) }
+    {
+        if self.fails_next(HostCall::Probe) {
+            self.fail_probe(q, files)?;
+            return Ok(Outcome::Unanswered);
+        }
+        let outcome = self.answer_probe(q, files)?;
+        Ok(outcome)
+    }
+
+    fn reused(&mut self, q: &Question, verdict: &Verdict) -> Mem<()>
+        ensures adds { self.new.log ≡ self.old.log ++ reused q.now verdict.now result }
+        ensures later { self.old.faults ≤ self.new.faults }
+        ensures patient { patience_of self.new.scripts ≡ patience_of self.old.scripts }
+        ensures answers { Tells tt self.old self.old self.new result }
+    {
+        let question = q.try_clone()?;
+        let verdict = verdict.try_clone()?;
+        self.add(Event::Reused { question, verdict })?;
+        Ok(())
+    }
+
+    fn unasked(&mut self, q: &Question) -> Mem<()>
+        ensures adds { self.new.log ≡ self.old.log ++ unasked q.now result }
+        ensures later { self.old.faults ≤ self.new.faults }
+        ensures patient { patience_of self.new.scripts ≡ patience_of self.old.scripts }
+        ensures answers { Tells tt self.old self.old self.new result }
+    {
+        let question = q.try_clone()?;
+        self.add(Event::Unasked { question })?;
+        Ok(())
+    }
+
+    fn exists(&mut self, path: &str) -> Mem<bool>
+        ensures adds { self.new.log ≡ self.old.log ++ found path.now result }
+        ensures later { self.old.faults ≤ self.new.faults }
+        ensures patient { patience_of self.new.scripts ≡ patience_of self.old.scripts }
+        ensures answers { Tells (has_file path.now self.old) self.old self.old self.new result }
+    {
+        let there = self.tell_file(path)?;
+        Ok(there)
+    }
+
+    fn create_probe(&mut self, path: &str, contents: &[u8]) -> Result<Created, HostError>
+        ensures adds { self.new.log ≡ self.old.log ++ created path.now contents.now result }
+        ensures later { self.old.faults ≤ self.new.faults }
+        ensures patient { patience_of self.new.scripts ≡ patience_of self.old.scripts }
+        ensures cause { IfErr result (IsCaused CreateProbe self.old.faults self.new.faults) }
+        ensures answers { Answers CreateProbe (created_at (has_file path.now self.old)) (record self.old { files = files_with path.now self.old }) self.old self.new result }
+        ensures plain { IsPlain self.old → IsPlain self.new × Gives (created_at (has_file path.now self.old)) result }
+    {
+        if self.fails_next(HostCall::CreateProbe) {
+            return Err(self.fault(HostCall::CreateProbe));
+        }
+        if self.has_file(path) {
+            let path = Text::of(self.alloc, path)?;
+            self.add_call(HostCall::CreateProbe, Event::Taken { path })?;
+            return Ok(Created::Exists);
+        }
+        self.open_probe(path, contents)?;
+        Ok(Created::New)
+    }
+
+    fn drop_probe(&mut self, path: &str)
+        requires { IsOpen path.now self.old.log }
+        ensures adds { self.new.log ≡ self.old.log ++ Dropped path.now ∷ [] }
+        ensures later { self.old.faults ≤ self.new.faults }
+        ensures patient { patience_of self.new.scripts ≡ patience_of self.old.scripts }
+        ensures after { self.new ≡ record self.old { log = self.new.log; files = without_file path.now self.old.files } }
+    {
+        self.crew.note_dropped(path);
+        self.forget(path);
+    }
+
+    fn random(&mut self) -> Mem<u64>
+        ensures adds { self.new.log ≡ self.old.log ++ drawn result }
+        ensures later { self.old.faults ≤ self.new.faults }
+        ensures patient { patience_of self.new.scripts ≡ patience_of self.old.scripts }
+        ensures answers { Tells (next_word self.old.words) (record self.old { words = drop 1 self.old.words }) self.old self.new result }
+    {
+        self.crew.reserve(1)?;
+        let word = take_word(&mut self.words);
+        self.crew.note(Event::Drawn { word });
+        Ok(word)
+    }
+
+    fn output(&mut self, role: Role, cmd: &Command, pipes: Pipes) -> Result<Ran, HostError>
+        ensures adds { self.new.log ≡ self.old.log ++ ran role cmd.now pipes result }
+        ensures silent { IfOk result (IsSilent pipes) }
+        ensures later { self.old.faults ≤ self.new.faults }
+        ensures patient { patience_of self.new.scripts ≡ patience_of self.old.scripts }
+        ensures cause { IfErr result (IsCaused Output self.old.faults self.new.faults) }
+        ensures answers { Answers Output (answer_to self.old role cmd.now pipes) self.old self.old self.new result }
+        ensures plain { IsPlain self.old → IsPlain self.new × Gives plain_end result }
+    {
+        if self.fails_next(HostCall::Output) {
+            return Err(self.fault(HostCall::Output));
+        }
+        let cmd = cmd.try_clone()?;
+        if has_word(&self.missing, cmd.get_program()) {
+            self.add_call(HostCall::Output, Event::Missing { role, cmd })?;
+            return Ok(Ran::Missing);
+        }
+        let end = self.run_script(role, cmd, pipes)?;
+        Ok(end)
+    }
+
+    fn make_dir(&mut self, scope: Scope, path: &str) -> Result<(), HostError>
+        ensures adds { self.new.log ≡ self.old.log ++ made scope path.now result }
+        ensures later { self.old.faults ≤ self.new.faults }
+        ensures patient { patience_of self.new.scripts ≡ patience_of self.old.scripts }
+        ensures cause { IfErr result (IsCaused (MakeDir scope) self.old.faults self.new.faults) }
+        ensures answers { Answers (MakeDir scope) tt self.old self.old self.new result }
+        ensures plain { IsPlain self.old → IsPlain self.new × Gives tt result }
+    {
+        if self.fails_next(HostCall::MakeDir(scope)) {
+            return Err(self.fault(HostCall::MakeDir(scope)));
+        }
+        let path = Text::of(self.alloc, path)?;
+        self.add_call(HostCall::MakeDir(scope), Event::Made { scope, path })?;
+        Ok(())
+    }
+
+    fn remove_file(&mut self, path: &str) -> Result<Removal, HostError>
+        ensures adds { self.new.log ≡ self.old.log ++ removed path.now result }
+        ensures later { self.old.faults ≤ self.new.faults }
+        ensures patient { patience_of self.new.scripts ≡ patience_of self.old.scripts }
+        ensures cause { IfErr result (IsCaused Removes self.old.faults self.new.faults) }
+        ensures answers { Answers Removes (removed_at (has_file path.now self.old)) (record self.old { files = without_file path.now self.old.files }) self.old self.new result }
+        ensures plain { IsPlain self.old → IsPlain self.new × Gives (removed_at (has_file path.now self.old)) result }
+    {
+        if self.fails_next(HostCall::Remove) {
+            return Err(self.fault(HostCall::Remove));
+        }
+        let name = Text::of(self.alloc, path)?;
+        let how = removed_at(self.has_file(path));
+        self.add_call(HostCall::Remove, Event::Removed { path: name, how })?;
+        self.forget(path);
+        Ok(how)
+    }
+
+    fn print(&mut self, kind: LineKind, bytes: &[u8]) -> Result<(), HostError>
+        ensures adds { self.new.log ≡ self.old.log ++ printed kind bytes.now result }
+        ensures later { self.old.faults ≤ self.new.faults }
+        ensures patient { patience_of self.new.scripts ≡ patience_of self.old.scripts }
+        ensures cause { IfErr result (IsCaused Print self.old.faults self.new.faults) }
+        ensures answers { Answers Print tt self.old self.old self.new result }
+        ensures plain { IsPlain self.old → IsPlain self.new × Gives tt result }
+    {
+        if self.fails_next(HostCall::Print) {
+            return Err(self.fault(HostCall::Print));
+        }
+        let bytes = Bytes::of(self.alloc, bytes)?;
+        self.add_call(HostCall::Print, Event::Printed { kind, bytes })?;
+        Ok(())
+    }
+
+    fn vars(&mut self) -> Result<Vars, HostError>
+        ensures adds { self.new.log ≡ self.old.log ++ listed result }
+        ensures later { self.old.faults ≤ self.new.faults }
+        ensures patient { patience_of self.new.scripts ≡ patience_of self.old.scripts }
+        ensures cause { IfErr result (IsCaused ListsVars self.old.faults self.new.faults) }
+        ensures answers { Answers ListsVars self.old.vars self.old self.old self.new result }
+        ensures plain { IsPlain self.old → IsPlain self.new × Gives self.old.vars result }
+    {
+        if self.fails_next(HostCall::Vars) {
+            return Err(self.fault(HostCall::Vars));
+        }
+        let answer = self.vars.try_clone()?;
+        let vars = self.vars.try_clone()?;
+        self.add_call(HostCall::Vars, Event::Listed { vars })?;
+        Ok(answer)
+    }
+
+    fn log(&self) -> &[Event] {
+        self.crew.events()
+    }
+}
+
+fn removed_at(there: bool) -> Removal
+    ensures { result ≡ removed_at there }
+{
+    if there {
+        Removal::Gone
+    } else {
+        Removal::Absent
+    }
+}

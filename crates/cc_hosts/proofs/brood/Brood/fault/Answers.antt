@@ -1,0 +1,12 @@
+use Rattle.std.proofs.Common.{ap, refl, arith, map}
+use Rattle.std.proofs.lemmas.Grind.{common_steps}
+use Rattle.cc_host.specs.Journal.{JournalSeen}
+use Rattle.cc_host.specs.declared.event.Event.TheVariants.{Fault}
+use Rattle.cc_hosts.proofs.BroodLemmas.{brood_after}
+use Rattle.cc_hosts.proofs.brood.Brood.fault.Goals as goal
+
+pub invariant_of-self : goal.invariant_of-self
+invariant_of-self g c = record {
+  brood = brood_after c.self.inside.journal.log _ c.self.inside.next (map (λ y. y.id) c.self.inside.young.items) (Fault c.args.call c.args.why) (ap (λ (j : JournalSeen). j.log) c.fault.ensures.same) (refl, refl, refl, λ l. refl) c.self.invariant.brood;
+  kept = grind (arith, common_steps);
+}

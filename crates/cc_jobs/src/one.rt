@@ -1,0 +1,69 @@
+// A pool that one caller owns.
+ghost use Rattle.std.specs.Prelude.{◌≡◌, ◌≤◌, Some};
+
+use crate::{JobFault, Jobs, Take};
+
+/// A pool that one caller owns. Its seat counts.
+#[derive(Clone, Copy, Debug)]
+pub struct OneCaller;
+
+/// The seat of such a pool, with the pool's total.
+#[derive(Drop, Debug)]
+pub struct OneSeat {
+    total: u32,
+    held: u32,
+    taken: u64,
+    load: u64,
+    ghost within: { (1 ≤ total) × (held ≤ total) },
+}
+
+impl OneCaller {
+    /// A pool of so many tokens, and its seat, which holds none. It takes no memory.
+    pub fn new(total: u32) -> (OneCaller, OneSeat)
+        requires { 1 ≤ total }
+        ensures total { result.1.total ≡ total }
+        ensures none { (result.1.held ≡ 0) × (result.1.taken ≡ 0) × (result.1.load ≡ 0) }
+    {
+        let seat = OneSeat {
+            total,
+            held: 0,
+            taken: 0,
+            load: 0,
+        };
+        (OneCaller, seat)
+    }
+}
+
+impl Jobs for OneCaller {
+    type Seat = OneSeat;
+
+    ghost fits = { λ _ _. Unit {0} };
+
+    ghost held = { λ s. s.held };
+
+    ghost faults = { λ _. 0 };
+
+    ghost total = { λ s. Some s.total };
+
+    ghost taken = { λ s. s.taken };
+
+    ghost load = { λ s. s.load };
+
+    fn take(&self, seat: &mut OneSeat) -> Result<Take, JobFault> {
+        if seat.held == seat.total {
+            return Ok(Take::Pending);
+        }
+        seat.held += 1;
+        seat.taken = seat.taken.saturating_add(1);
+        seat.load = seat.load.saturating_add(u64::from(seat.held));
+        Ok(Take::Token)
+    }
+
+    fn give(&self, seat: &mut OneSeat) {
+        seat.held -= 1;
+    }
+
+    fn held(&self, seat: &OneSeat) -> u64 {
+        u64::from(seat.held)
+    }
+}

@@ -1,0 +1,80 @@
+-- No refusal of settings is a fault of a host.
+use Rattle.std.proofs.Common.{◌≡◌, ◌⊎◌, inl, inr, ℕ, List, Bool, true, false, Option, Some, None, is_none, ◌&&◌, sym, subst, if◌then◌else◌, codes}
+use Rattle.cc_env.specs.Env.{EnvSeen}
+use Rattle.cc_target.specs.Targets.{Info, is_known}
+use Rattle.cc_text.specs.declared.family.ToolFamily.{ToolFamily}
+use Rattle.cc_plan.specs.Asking.{IsOwn}
+use Rattle.cc_env.specs.Snapshot.{last_value}
+use Rattle.cc_plan.specs.DefaultWords.{qnx_refusal, lacks_qnx_variant, sysroot_refusal, is_wasm_linux, is_told_target}
+use Rattle.cc_plan.specs.Given.{target_of, host_of, level_of, is_cargos_target, has_no_defaults}
+use Rattle.cc_plan.specs.Target.{target_name, target_info}
+use Rattle.cc_plan.specs.Refusal.{first_of, unset, target_refusal, given_refusal, refusal_by}
+use Rattle.cc_plan.specs.Tool.{words_refusal_by}
+use Rattle.cc_plan.specs.ToolWords.{first_refusal, clang_refusal, default_refusal, words_refusal}
+use Rattle.cc_plan.specs.declared.compiler.Compiler.{Compiler}
+use Rattle.cc_plan.specs.declared.error.PlanError.{PlanError}
+use Rattle.cc_plan.specs.declared.error.PlanError.TheVariants.{NotSet, UnknownTarget, QnxArch, NoMemory as WantsMemory}
+use Rattle.cc_plan.specs.declared.settings.BuildConfig.{BuildConfig}
+
+abbrev AreOwn : Option PlanError → Type 0
+AreOwn None = Unit {0}
+AreOwn (Some e) = IsOwn e
+
+first_own : (a b : Option PlanError) → AreOwn a → AreOwn b → AreOwn (first_of a b)
+first_own None b h k = k
+first_own (Some e) b h k = h
+
+first_words_own : (a b : Option PlanError) → AreOwn a → AreOwn b → AreOwn (first_refusal a b)
+first_words_own None b h k = k
+first_words_own (Some e) b h k = h
+
+choice_own : (b : Bool) (x y : Option PlanError) → AreOwn x → AreOwn y → AreOwn (if b then x else y)
+choice_own true x y h k = h
+choice_own false x y h k = k
+
+unset_own : (name : List ℕ) (value : Option (List ℕ)) → AreOwn (unset name value)
+unset_own name None = tt
+unset_own name (Some value) = tt
+
+target_own : (target : Option (List ℕ)) → AreOwn (target_refusal target)
+target_own None = tt
+target_own (Some target) = choice_own (is_known target) None (Some (UnknownTarget target)) tt tt
+
+given_own : (set : BuildConfig) (env : EnvSeen) → AreOwn (given_refusal set env)
+unfolding given_refusal
+given_own set env = first_own (unset (codes "OPT_LEVEL") (level_of set env)) (target_refusal (target_of set env)) (unset_own (codes "OPT_LEVEL") (level_of set env)) (target_own (target_of set env))
+
+qnx_own : (family : ToolFamily) (target : Info) → AreOwn (qnx_refusal family target)
+unfolding qnx_refusal
+qnx_own family target = choice_own (lacks_qnx_variant family target) (Some (QnxArch target.full_arch)) None tt tt
+
+sysroot_own : (target : Info) (sysroot : Option (List ℕ)) → AreOwn (sysroot_refusal target sysroot)
+unfolding sysroot_refusal
+sysroot_own target sysroot = choice_own (is_wasm_linux target && is_none sysroot) (Some (NotSet (codes "WASM_MUSL_SYSROOT"))) None tt tt
+
+words_own : (no_defaults : Bool) (set : BuildConfig) (env : List (List ℕ × List ℕ)) (cargos : Bool) (name : List ℕ) (target : Info) (family : ToolFamily) (program : List ℕ) → AreOwn (words_refusal no_defaults set env cargos name target family program)
+unfolding words_refusal default_refusal clang_refusal
+words_own no_defaults set env cargos name target family program =
+    let sysroot = sysroot_refusal target (last_value env (codes "WASM_MUSL_SYSROOT")) in
+    let told = is_told_target family set.compiler target program in
+    choice_own no_defaults None (first_refusal (qnx_refusal family target) (if told then sysroot else None)) tt
+    (first_words_own (qnx_refusal family target) (if told then sysroot else None) (qnx_own family target) (choice_own told sysroot None (sysroot_own target (last_value env (codes "WASM_MUSL_SYSROOT"))) tt))
+
+by_own : (set : BuildConfig) (env : EnvSeen) (compiler : Compiler) → AreOwn (refusal_by set env compiler)
+unfolding refusal_by words_refusal_by
+by_own set env compiler =
+    first_own
+    (words_refusal (has_no_defaults set env) set env.inherited (is_cargos_target set env) (target_name set env) (target_info set env) compiler.family compiler.choice.path)
+    (unset (codes "HOST") (host_of set env))
+    (words_own (has_no_defaults set env) set env.inherited (is_cargos_target set env) (target_name set env) (target_info set env) compiler.family compiler.choice.path)
+    (unset_own (codes "HOST") (host_of set env))
+
+own : (refusal : Option PlanError) (e : PlanError) → AreOwn refusal → (e ≡ WantsMemory) ⊎ (refusal ≡ Some e) → IsOwn e
+own refusal e all (inl memory) = subst IsOwn (sym memory) tt
+own refusal e all (inr refused) = subst AreOwn refused all
+
+pub given_is_own : (set : BuildConfig) (env : EnvSeen) (e : PlanError) → (e ≡ WantsMemory) ⊎ (given_refusal set env ≡ Some e) → IsOwn e
+given_is_own set env e h = own (given_refusal set env) e (given_own set env) h
+
+pub built_is_own : (set : BuildConfig) (env : EnvSeen) (compiler : Compiler) (e : PlanError) → (e ≡ WantsMemory) ⊎ (refusal_by set env compiler ≡ Some e) → IsOwn e
+built_is_own set env compiler e h = own (refusal_by set env compiler) e (by_own set env compiler) h

@@ -1,0 +1,14 @@
+use Rattle.std.proofs.Common.{◌≡◌, ◌++◌, take, []}
+use Rattle.cc_host.specs.Part.{IsWhole, since}
+use Rattle.cc_host.specs.declared.event.LineKind.TheVariants.{Warning}
+use Rattle.cc_tool.specs.Asked.{question_events}
+use Rattle.cc_plan.specs.Plan.{prints}
+use Rattle.cc_plan.proofs.printing.print_warnings.Given as goal
+
+-- the lines so far were printed, and nothing else was done
+abbrev pub invariant-loop-line : goal.invariant-loop-line
+invariant-loop-line g l = record {
+  extends : g.H.Host.log l.host ≡ g.H.Host.log l.fn.host ++ since (g.H.Host.log l.fn.host) (g.H.Host.log l.host);
+  whole : IsWhole (prints Warning (take l.line-index l.line-items)) (since (g.H.Host.log l.fn.host) (g.H.Host.log l.host));
+  silent : question_events (since (g.H.Host.log l.fn.host) (g.H.Host.log l.host)) ≡ [];
+}

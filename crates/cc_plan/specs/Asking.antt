@@ -1,0 +1,59 @@
+-- Calls that ask, and then print.
+use Rattle.std.specs.Prelude.{◌≡◌, ◌⊎◌, ◌++◌, ℕ, Bool, List, [], ◌∷◌, Result, Ok, Err}
+use Rattle.cc_host.specs.Part.{IsPartly, IsWhole, stops}
+use Rattle.cc_host.specs.Question.{Look, Answer, Settles}
+use Rattle.cc_host.specs.declared.event.Event.{Event}
+use Rattle.cc_host.specs.declared.event.Event.TheVariants.{Fault, Printed as Line}
+use Rattle.cc_host.specs.declared.event.HostCall.TheVariants.{Print}
+use Rattle.cc_host.specs.declared.event.LineKind.TheVariants.{Warning}
+use Rattle.cc_host.specs.declared.question.Outcome.{Outcome}
+use Rattle.cc_host.specs.declared.question.Question.{Question}
+use Rattle.cc_tool.specs.Asked.{question_events}
+use Rattle.cc_tool.specs.Asks.{Asks}
+use Rattle.cc_plan.specs.Link.{printed_line}
+use Rattle.cc_plan.specs.Plan.{prints}
+use Rattle.cc_plan.specs.declared.error.PlanError.{PlanError}
+use Rattle.cc_plan.specs.declared.error.PlanError.TheVariants.{Host, NoMemory}
+
+-- questions, and then a part of which something holds
+pub record AsksThen (steady : Bool) (world : Question → Outcome) (dir : List ℕ) (before after : List Event) (old new : List Answer) (P : List Event → Type 0) : Type 0 where
+  pub mid : List Event
+  pub rest : List Event
+  pub asks : Asks steady world dir before mid old new
+  pub extends : after ≡ mid ++ rest
+  pub holds : P rest
+
+-- why the printing of lines ended early: a fault of the host, which is the last event, or want of memory. A refusal comes before it.
+abbrev pub EndsPrinting : List Event → PlanError → Type 0
+EndsPrinting part (Host call why) = (call ≡ Print) × (stops part ≡ Fault Print why ∷ [])
+EndsPrinting part NoMemory = stops part ≡ []
+EndsPrinting part e = part ≡ []
+
+-- a line was printed, or what ended the call refused it
+abbrev pub PrintsLine : {X : Type 0} → List ℕ → List Event → Result X PlanError → Type 0
+PrintsLine line part (Ok x) = part ≡ Line Warning (printed_line line) ∷ []
+PrintsLine line part (Err (Host call why)) = (call ≡ Print) × (part ≡ Fault Print why ∷ [])
+PrintsLine line part (Err NoMemory) = part ≡ []
+PrintsLine line part (Err e) = ⊥
+
+-- the refusal is no fault of a host
+abbrev pub IsOwn : PlanError → Type 0
+IsOwn (Host call why) = ⊥
+IsOwn e = Unit {0}
+
+-- the warnings were printed: all of them, or the first up to what ended the call
+abbrev pub Printed : {X : Type 0} → List (List ℕ) → List Event → Result X PlanError → Type 0
+Printed lines part (Ok x) = IsWhole (prints Warning lines) part
+Printed lines part (Err e) = IsPartly (prints Warning lines) part × EndsPrinting part e
+
+-- the lines of a call are settled; one that was refused and printed nothing may have none
+abbrev pub AreLines : {X : Type 0} → List Answer → (Look → List (List ℕ)) → List (List ℕ) → List Event → Result X PlanError → Type 0
+AreLines known warnings lines part (Ok x) = Settles known warnings lines
+AreLines known warnings lines part (Err e) = (part ≡ []) ⊎ Settles known warnings lines
+
+-- the lines are what the answers settle, and nothing is asked meanwhile; a call that is refused for another cause prints none
+pub record Warns {X : Type 0} (known : List Answer) (warnings : Look → List (List ℕ)) (result : Result X PlanError) (part : List Event) : Type 0 where
+  pub lines : List (List ℕ)
+  pub settled : AreLines known warnings lines part result
+  pub printed : Printed lines part result
+  pub silent : question_events part ≡ []

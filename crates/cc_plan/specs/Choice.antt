@@ -1,0 +1,87 @@
+-- The choice of the compiler: the set one, else that of the environment, else the one that the target wants.
+use Rattle.std.specs.Prelude.{ℕ, Bool, ◌||◌, List, [], ◌++◌, Option, Some, None, unwrap_or, option_and_then, codes, if◌then◌else◌}
+use Rattle.std.specs.Path.{path_join}
+use Rattle.cc_env.specs.Env.{EnvSeen, overridable}
+use Rattle.cc_host.specs.Question.{Look}
+use Rattle.cc_target.specs.Targets.{Info}
+use Rattle.cc_plan.specs.Android.{android_compiler}
+use Rattle.cc_plan.specs.DefaultWords.{is_qnx}
+use Rattle.cc_plan.specs.EnvTool.{env_tool, in_rustc_wrapper}
+use Rattle.cc_plan.specs.Languages.{compiler_variable, gnu_name, traditional_name, clang_name, emscripten_name, vxworks_name, qnx_name}
+use Rattle.cc_plan.specs.Prefix.{is_cross, gnu_prefix}
+use Rattle.cc_plan.specs.Search.{which, path_folders}
+use Rattle.cc_plan.specs.Target.{target_name, target_info}
+use Rattle.cc_plan.specs.Texts.{is}
+use Rattle.cc_plan.specs.declared.choice.Choice.{Choice}
+use Rattle.cc_plan.specs.declared.settings.BuildConfig.{BuildConfig}
+
+unfoldable pub is_wasm : Info → Bool
+is_wasm target = is target.arch "wasm32" || is target.arch "wasm64"
+
+-- Clang in the kit of WASI
+unfoldable pub wasi_path : List ℕ → List ℕ → List ℕ
+wasi_path kit name = path_join (path_join kit (codes "bin")) (name ++ codes "-clang")
+
+-- where that kit has it
+abbrev pub wasi_kit_compiler : EnvSeen → List ℕ → Look → Option (List ℕ)
+wasi_kit_compiler env name look = option_and_then (λ kit. which look (path_folders env) (wasi_path kit name)) (overridable env (codes "WASI_SDK_PATH"))
+
+abbrev pub wasi_compiler : Bool → EnvSeen → List ℕ → Look → List ℕ
+wasi_compiler cpp env name look = unwrap_or (wasi_kit_compiler env name look) (clang_name cpp)
+
+-- GCC, or Clang on targets of LLVM's own
+abbrev pub compiler_behind : Bool → Info → List ℕ
+compiler_behind cpp target = if is target.abi "llvm" then clang_name cpp else gnu_name cpp
+
+-- the same behind a prefix
+unfoldable pub prefixed_compiler : Bool → Info → List ℕ → List ℕ
+prefixed_compiler cpp target prefix = prefix ++ codes "-" ++ compiler_behind cpp target
+
+-- the compiler for another target than the host, where it has a prefix
+abbrev pub prefixed_or_default : Bool → Info → Option (List ℕ) → List ℕ
+prefixed_or_default cpp target None = traditional_name cpp
+prefixed_or_default cpp target (Some prefix) = prefixed_compiler cpp target prefix
+
+abbrev pub cross_compiler : BuildConfig → EnvSeen → Look → List ℕ
+cross_compiler set env look =
+    if is_cross set env then prefixed_or_default set.cpp (target_info set env) (gnu_prefix set env (target_name set env) look) else traditional_name set.cpp
+
+-- the compiler of targets that have one name for it
+unfoldable pub fixed_compiler : Bool → Info → Option (List ℕ)
+fixed_compiler cpp target =
+    if is_wasm target then Some (clang_name cpp)
+    else (if is target.os "vxworks" then Some (vxworks_name cpp)
+    else (if is_qnx target then Some (qnx_name cpp)
+    else None))
+
+abbrev pub fixed_or_cross : BuildConfig → EnvSeen → Look → Option (List ℕ) → List ℕ
+fixed_or_cross set env look None = cross_compiler set env look
+fixed_or_cross set env look (Some name) = name
+
+-- the compiler that the target wants
+abbrev pub target_compiler : BuildConfig → EnvSeen → Look → List ℕ
+target_compiler set env look =
+    if is (target_info set env).os "android" then android_compiler set.cpp env (target_name set env) look
+    else (if is (target_info set env).os "wasi" then wasi_compiler set.cpp env (target_name set env) look
+    else fixed_or_cross set env look (fixed_compiler set.cpp (target_info set env)))
+
+-- a tool alone
+abbrev pub bare : List ℕ → Choice
+bare path = record { path = path; wrapper = None; words = [] }
+
+-- the compiler where neither settings nor environment name one
+abbrev pub own_choice : BuildConfig → EnvSeen → Look → Choice
+own_choice set env look =
+    if is (target_info set env).os "emscripten" then bare (emscripten_name set.cpp) else in_rustc_wrapper env (target_compiler set env look) []
+
+-- the compiler where the settings name none
+abbrev pub found_choice : BuildConfig → EnvSeen → Look → Choice
+found_choice set env look = unwrap_or (env_tool set env (compiler_variable set.cpp) look) (own_choice set env look)
+
+abbrev pub chosen : BuildConfig → EnvSeen → Look → Option (List ℕ) → Choice
+chosen set env look None = found_choice set env look
+chosen set env look (Some path) = bare path
+
+-- the choice
+abbrev pub choice_of : BuildConfig → EnvSeen → Look → Choice
+choice_of set env look = chosen set env look set.compiler

@@ -1,0 +1,21 @@
+-- The chosen compiler with its family.
+use Rattle.cc_env.specs.Env.{EnvSeen}
+use Rattle.cc_env.specs.Snapshot.{child_of}
+use Rattle.cc_host.specs.Question.{Look}
+use Rattle.cc_text.specs.declared.family.ToolFamily.{ToolFamily}
+use Rattle.cc_tool.specs.Family.{family_of}
+use Rattle.cc_tool.specs.declared.family.Detected.{Detected}
+use Rattle.cc_plan.specs.Choice.{choice_of}
+use Rattle.cc_plan.specs.declared.choice.Choice.{Choice}
+use Rattle.cc_plan.specs.declared.compiler.Compiler.{Compiler}
+use Rattle.cc_plan.specs.declared.settings.BuildConfig.{BuildConfig}
+
+abbrev pub with_family : Choice → ToolFamily × Detected → Compiler
+with_family choice found = record { choice = choice; family = found.0; detected = found.1 }
+
+-- the compiler that is chosen, asked for its family with the words that it is given first
+abbrev pub asked_compiler : EnvSeen → Look → Choice → Compiler
+asked_compiler env look choice = with_family choice (family_of look choice.path choice.words (child_of env.inherited env.explicit))
+
+abbrev pub compiler_of : BuildConfig → EnvSeen → Look → Compiler
+compiler_of set env look = asked_compiler env look (choice_of set env look)

@@ -1,0 +1,132 @@
+// The compiler for Android.
+ghost use Rattle.std.specs.Prelude.{◌≡◌, ◌≢◌, ◌++◌, [], IfOk, Some};
+ghost use Rattle.std.specs.Option.{option_copied};
+ghost use Rattle.cc_host.specs.Question.{Settles};
+ghost use Rattle.cc_tool.specs.Asks.{Asks};
+ghost use Rattle.cc_plan.specs.Android as spec;
+ghost use Rattle.cc_plan.specs.Given.{probe_folder};
+
+use crate::languages::{clang_name, gnu_name};
+use crate::sight::can_start;
+use crate::{BuildConfig, Sight};
+use cc_env::BuildEnv;
+use cc_host::{Host, World};
+use cc_text::{Mem, Text};
+use std::alloc::Global;
+use std::sync::Wait;
+
+// The compiler that the development kit has for a target.
+#[tactic(auto, unfolding(crate::specs::Android::kit_compiler))]
+fn kit_compiler(name: &str) -> Option<&'static str>
+    ensures { option_copied result ≡ spec.kit_compiler name.now }
+{
+    match name {
+        "aarch64-linux-android" => Some("aarch64-linux-android21-clang"),
+        "armv7-linux-androideabi" => Some("armv7a-linux-androideabi16-clang"),
+        "i686-linux-android" => Some("i686-linux-android16-clang"),
+        "x86_64-linux-android" => Some("x86_64-linux-android21-clang"),
+        _ => None,
+    }
+}
+
+// The text with another in place of each needle, which has a byte.
+fn replaced(alloc: Global, text: &str, needle: &str, to: &str) -> Mem<Text>
+    requires { needle.now ≢ [] }
+    ensures { IfOk result (λ out. out ≡ spec.replaced needle.now to.now text.now) }
+{
+    let mut out = Text::new(alloc);
+    let mut rest = text;
+    while let Some((before, after)) = rest.split_once(needle) {
+        out.push_str(before)?;
+        out.push_str(to)?;
+        rest = after;
+    }
+    out.push_str(rest)?;
+    Ok(out)
+}
+
+// The target as older tools spell it.
+#[tactic(auto, unfolding(crate::specs::Android::plain_arm))]
+fn plain_arm(alloc: Global, name: &str) -> Mem<Text>
+    ensures { IfOk result (λ plain. plain ≡ spec.plain_arm name.now) }
+{
+    let plain = replaced(alloc, name, "armv7neon", "arm")?;
+    let plain = replaced(alloc, plain.as_str(), "armv7", "arm")?;
+    let plain = replaced(alloc, plain.as_str(), "thumbv7neon", "arm")?;
+    replaced(alloc, plain.as_str(), "thumbv7", "arm")
+}
+
+// A name behind the target's.
+fn older_name(alloc: Global, name: &str, compiler: &str) -> Mem<Text>
+    ensures { IfOk result (λ path. path ≡ spec.older_name name.now compiler.now) }
+{
+    let mut path = plain_arm(alloc, name)?;
+    path.push_str("-")?;
+    path.push_str(compiler)?;
+    Ok(path)
+}
+
+// GCC by the target's name where it can be run, else Clang.
+fn older_compiler<W: World, H: Host<W>>(
+    rt: &impl Wait,
+    alloc: Global,
+    set: &BuildConfig,
+    env: &BuildEnv,
+    name: &str,
+    sight: &mut Sight<'_, W, H>,
+) -> Mem<Text>
+    ensures same_host { sight.new.host.ghost_name ≡ sight.old.host.ghost_name }
+    ensures same_answers { sight.new.answers.ghost_name ≡ sight.old.answers.ghost_name }
+    ensures asks { Asks W.steady W.answer (probe_folder set.now env.now) (H.log sight.old.host.now) (H.log sight.new.host.now) sight.old.answers.now sight.new.answers.now }
+    ensures settles { IfOk result (Settles sight.new.answers.now (spec.older_compiler set.now.cpp env.now name.now)) }
+{
+    let gnu = older_name(alloc, name, gnu_name(set.cpp))?;
+    if can_start(rt, alloc, set, env, gnu.as_str(), sight)? {
+        return Ok(gnu);
+    }
+    older_name(alloc, name, clang_name(set.cpp))
+}
+
+// The compiler of the development kit where it can be run, else an older one.
+#[tactic(auto, using(cc_tool::proofs::AskLemmas::asks_then))]
+fn kit_or_older<W: World, H: Host<W>>(
+    rt: &impl Wait,
+    alloc: Global,
+    set: &BuildConfig,
+    env: &BuildEnv,
+    name: &str,
+    kit: &str,
+    sight: &mut Sight<'_, W, H>,
+) -> Mem<Text>
+    ensures same_host { sight.new.host.ghost_name ≡ sight.old.host.ghost_name }
+    ensures same_answers { sight.new.answers.ghost_name ≡ sight.old.answers.ghost_name }
+    ensures asks { Asks W.steady W.answer (probe_folder set.now env.now) (H.log sight.old.host.now) (H.log sight.new.host.now) sight.old.answers.now sight.new.answers.now }
+    ensures settles { IfOk result (Settles sight.new.answers.now (λ look. spec.kit_or_older set.now.cpp env.now name.now look (Some kit.now))) }
+{
+    if can_start(rt, alloc, set, env, kit, sight)? {
+        let path = Text::of(alloc, kit)?;
+        return Ok(path);
+    }
+    let path = older_compiler(rt, alloc, set, env, name, sight)?;
+    Ok(path)
+}
+
+// The compiler for a target.
+pub(crate) fn android_compiler<W: World, H: Host<W>>(
+    rt: &impl Wait,
+    alloc: Global,
+    set: &BuildConfig,
+    env: &BuildEnv,
+    name: &str,
+    sight: &mut Sight<'_, W, H>,
+) -> Mem<Text>
+    ensures same_host { sight.new.host.ghost_name ≡ sight.old.host.ghost_name }
+    ensures same_answers { sight.new.answers.ghost_name ≡ sight.old.answers.ghost_name }
+    ensures asks { Asks W.steady W.answer (probe_folder set.now env.now) (H.log sight.old.host.now) (H.log sight.new.host.now) sight.old.answers.now sight.new.answers.now }
+    ensures settles { IfOk result (Settles sight.new.answers.now (spec.android_compiler set.now.cpp env.now name.now)) }
+{
+    match kit_compiler(name) {
+        Some(kit) => kit_or_older(rt, alloc, set, env, name, kit, sight),
+        None => older_compiler(rt, alloc, set, env, name, sight),
+    }
+}

@@ -1,0 +1,37 @@
+// Words between white space.
+ghost use Rattle.std.specs.Prelude.{◌≡◌, ◌++◌, ◌∷◌, [], IfOk, OnOk};
+ghost use Rattle.std.specs.List.{filter};
+ghost use Rattle.cc_plan.specs.Blanks.{white_words};
+ghost use Rattle.cc_text.specs.Pieces.{has_bytes};
+
+use cc_text::{Mem, Text, Words};
+use std::alloc::Global;
+
+// Adds a word that has a byte.
+fn push_nonempty(words: &mut Words, word: Text) -> Mem<()>
+    ensures { OnOk result (words.new ≡ words.old ++ filter has_bytes (word ∷ [])) }
+{
+    if !word.as_str().is_empty() {
+        words.push_text(word)?;
+    }
+    Ok(())
+}
+
+/// The words of a text between the characters that Unicode counts as white space. As `str::split_whitespace` has it.
+#[tactic(auto, unfolding(crate::specs::Blanks::white_words))]
+pub(crate) fn white_words(alloc: Global, text: &str) -> Mem<Words>
+    ensures { IfOk result (λ words. words ≡ white_words text.now) }
+{
+    let mut words = Words::new(alloc);
+    let mut word = Text::new(alloc);
+    for c in text.chars() {
+        if c.is_whitespace() {
+            push_nonempty(&mut words, word)?;
+            word = Text::new(alloc);
+        } else {
+            word.push(c)?;
+        }
+    }
+    push_nonempty(&mut words, word)?;
+    Ok(words)
+}

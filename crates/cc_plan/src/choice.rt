@@ -1,0 +1,297 @@
+// The choice of the compiler.
+ghost use Rattle.std.specs.Prelude.{◌≡◌, ◌++◌, IfOk};
+ghost use Rattle.std.specs.Option.{option_copied};
+ghost use Rattle.cc_host.specs.Question.{Settles};
+ghost use Rattle.cc_target.specs.Targets.{info_seen};
+ghost use Rattle.cc_tool.specs.Asks.{Asks};
+ghost use Rattle.cc_plan.specs.Choice as spec;
+ghost use Rattle.cc_plan.specs.Given.{probe_folder};
+ghost use Rattle.cc_plan.specs.Target.{target_name, target_info};
+
+use crate::android::android_compiler;
+use crate::env_tool::{env_tool, in_rustc_wrapper};
+use crate::given::target_of;
+use crate::languages::{
+    clang_name, compiler_variable, emscripten_name, gnu_name, qnx_name, traditional_name,
+    vxworks_name,
+};
+use crate::prefix::{is_cross, prefix_for};
+use crate::search::{path_folders, which};
+use crate::words::is_qnx;
+use crate::{BuildConfig, Sight};
+use cc_env::BuildEnv;
+use cc_host::{Host, World};
+use cc_target::TargetInfo;
+use cc_text::{Mem, Text, Words, join};
+use std::alloc::Global;
+use std::sync::Wait;
+
+/// A compiler, the wrapper that it is run through, and the words that it is given first.
+#[derive(Drop, Debug)]
+pub struct Choice {
+    pub path: Text,
+    pub wrapper: Option<Text>,
+    pub words: Words,
+}
+
+// A tool alone.
+fn bare(alloc: Global, path: &str) -> Mem<Choice>
+    ensures { IfOk result (λ choice. choice ≡ spec.bare path.now) }
+{
+    Ok(Choice {
+        path: Text::of(alloc, path)?,
+        wrapper: None,
+        words: Words::new(alloc),
+    })
+}
+
+fn target_name<'a>(set: &'a BuildConfig, env: &'a BuildEnv) -> &'a str
+    ensures { result.now ≡ target_name set.now env.now }
+{
+    target_of(set, env).unwrap_or("")
+}
+
+#[tactic(auto, unfolding(crate::specs::Choice::is_wasm))]
+fn is_wasm(target: &TargetInfo) -> bool
+    ensures { result ≡ spec.is_wasm (info_seen target.now) }
+{
+    target.arch == "wasm32" || target.arch == "wasm64"
+}
+
+// Clang in the kit of WASI.
+#[tactic(auto, unfolding(crate::specs::Choice::wasi_path))]
+fn wasi_path(alloc: Global, kit: &str, name: &str) -> Mem<Text>
+    ensures { IfOk result (λ path. path ≡ spec.wasi_path kit.now name.now) }
+{
+    let folder = join(alloc, kit, "bin")?;
+    let mut file = Text::of(alloc, name)?;
+    file.push_str("-clang")?;
+    join(alloc, folder.as_str(), file.as_str())
+}
+
+// Clang in the kit of WASI, where that has it.
+fn wasi_kit_compiler<W: World, H: Host<W>>(
+    rt: &impl Wait,
+    alloc: Global,
+    set: &BuildConfig,
+    env: &BuildEnv,
+    name: &str,
+    sight: &mut Sight<'_, W, H>,
+) -> Mem<Option<Text>>
+    ensures same_host { sight.new.host.ghost_name ≡ sight.old.host.ghost_name }
+    ensures same_answers { sight.new.answers.ghost_name ≡ sight.old.answers.ghost_name }
+    ensures asks { Asks W.steady W.answer (probe_folder set.now env.now) (H.log sight.old.host.now) (H.log sight.new.host.now) sight.old.answers.now sight.new.answers.now }
+    ensures settles { IfOk result (Settles sight.new.answers.now (spec.wasi_kit_compiler env.now name.now)) }
+{
+    match env.overridable("WASI_SDK_PATH") {
+        Some(kit) => {
+            let path = wasi_path(alloc, kit, name)?;
+            let folders = path_folders(alloc, env)?;
+            which(
+                rt,
+                alloc,
+                set,
+                env,
+                folders.as_slice(),
+                path.as_str(),
+                sight,
+            )
+        }
+        None => Ok(None),
+    }
+}
+
+// Clang for WASI.
+fn wasi_compiler<W: World, H: Host<W>>(
+    rt: &impl Wait,
+    alloc: Global,
+    set: &BuildConfig,
+    env: &BuildEnv,
+    name: &str,
+    sight: &mut Sight<'_, W, H>,
+) -> Mem<Text>
+    ensures same_host { sight.new.host.ghost_name ≡ sight.old.host.ghost_name }
+    ensures same_answers { sight.new.answers.ghost_name ≡ sight.old.answers.ghost_name }
+    ensures asks { Asks W.steady W.answer (probe_folder set.now env.now) (H.log sight.old.host.now) (H.log sight.new.host.now) sight.old.answers.now sight.new.answers.now }
+    ensures settles { IfOk result (Settles sight.new.answers.now (spec.wasi_compiler set.now.cpp env.now name.now)) }
+{
+    match wasi_kit_compiler(rt, alloc, set, env, name, sight)? {
+        Some(path) => Ok(path),
+        None => {
+            let path = Text::of(alloc, clang_name(set.cpp))?;
+            Ok(path)
+        }
+    }
+}
+
+fn compiler_behind(cpp: bool, target: &TargetInfo) -> &'static str
+    ensures { result.now ≡ spec.compiler_behind cpp (info_seen target.now) }
+{
+    if target.abi == "llvm" {
+        clang_name(cpp)
+    } else {
+        gnu_name(cpp)
+    }
+}
+
+// GCC behind a prefix, or Clang on targets of LLVM's own.
+#[tactic(auto, unfolding(crate::specs::Choice::prefixed_compiler))]
+fn prefixed_compiler(alloc: Global, cpp: bool, target: &TargetInfo, prefix: &str) -> Mem<Text>
+    ensures { IfOk result (λ name. name ≡ spec.prefixed_compiler cpp (info_seen target.now) prefix.now) }
+{
+    let mut name = Text::of(alloc, prefix)?;
+    name.push_str("-")?;
+    name.push_str(compiler_behind(cpp, target))?;
+    Ok(name)
+}
+
+// The compiler for another target than the host, where it has a prefix; else that of the system.
+fn cross_compiler<W: World, H: Host<W>>(
+    rt: &impl Wait,
+    alloc: Global,
+    set: &BuildConfig,
+    env: &BuildEnv,
+    target: &TargetInfo,
+    sight: &mut Sight<'_, W, H>,
+) -> Mem<Text>
+    requires { info_seen target.now ≡ target_info set.now env.now }
+    ensures same_host { sight.new.host.ghost_name ≡ sight.old.host.ghost_name }
+    ensures same_answers { sight.new.answers.ghost_name ≡ sight.old.answers.ghost_name }
+    ensures asks { Asks W.steady W.answer (probe_folder set.now env.now) (H.log sight.old.host.now) (H.log sight.new.host.now) sight.old.answers.now sight.new.answers.now }
+    ensures settles { IfOk result (Settles sight.new.answers.now (spec.cross_compiler set.now env.now)) }
+{
+    if is_cross(set, env) {
+        if let Some(prefix) = prefix_for(rt, alloc, set, env, target_name(set, env), sight)? {
+            return prefixed_compiler(alloc, set.cpp, target, prefix.as_str());
+        }
+    }
+    Text::of(alloc, traditional_name(set.cpp))
+}
+
+// The compiler of targets that have one name for it.
+#[tactic(auto, unfolding(crate::specs::Choice::fixed_compiler))]
+fn fixed_compiler(cpp: bool, target: &TargetInfo) -> Option<&'static str>
+    ensures { option_copied result ≡ spec.fixed_compiler cpp (info_seen target.now) }
+{
+    if is_wasm(target) {
+        Some(clang_name(cpp))
+    } else if target.os == "vxworks" {
+        Some(vxworks_name(cpp))
+    } else if is_qnx(target) {
+        Some(qnx_name(cpp))
+    } else {
+        None
+    }
+}
+
+fn fixed_or_cross<W: World, H: Host<W>>(
+    rt: &impl Wait,
+    alloc: Global,
+    set: &BuildConfig,
+    env: &BuildEnv,
+    target: &TargetInfo,
+    sight: &mut Sight<'_, W, H>,
+) -> Mem<Text>
+    requires { info_seen target.now ≡ target_info set.now env.now }
+    ensures same_host { sight.new.host.ghost_name ≡ sight.old.host.ghost_name }
+    ensures same_answers { sight.new.answers.ghost_name ≡ sight.old.answers.ghost_name }
+    ensures asks { Asks W.steady W.answer (probe_folder set.now env.now) (H.log sight.old.host.now) (H.log sight.new.host.now) sight.old.answers.now sight.new.answers.now }
+    ensures settles { IfOk result (Settles sight.new.answers.now (λ look. spec.fixed_or_cross set.now env.now look (spec.fixed_compiler set.now.cpp (target_info set.now env.now)))) }
+{
+    match fixed_compiler(set.cpp, target) {
+        Some(name) => Text::of(alloc, name),
+        None => cross_compiler(rt, alloc, set, env, target, sight),
+    }
+}
+
+// The compiler that the target wants.
+fn target_compiler<W: World, H: Host<W>>(
+    rt: &impl Wait,
+    alloc: Global,
+    set: &BuildConfig,
+    env: &BuildEnv,
+    target: &TargetInfo,
+    sight: &mut Sight<'_, W, H>,
+) -> Mem<Text>
+    requires { info_seen target.now ≡ target_info set.now env.now }
+    ensures same_host { sight.new.host.ghost_name ≡ sight.old.host.ghost_name }
+    ensures same_answers { sight.new.answers.ghost_name ≡ sight.old.answers.ghost_name }
+    ensures asks { Asks W.steady W.answer (probe_folder set.now env.now) (H.log sight.old.host.now) (H.log sight.new.host.now) sight.old.answers.now sight.new.answers.now }
+    ensures settles { IfOk result (Settles sight.new.answers.now (spec.target_compiler set.now env.now)) }
+{
+    if target.os == "android" {
+        android_compiler(rt, alloc, set, env, target_name(set, env), sight)
+    } else if target.os == "wasi" {
+        wasi_compiler(rt, alloc, set, env, target_name(set, env), sight)
+    } else {
+        fixed_or_cross(rt, alloc, set, env, target, sight)
+    }
+}
+
+// The compiler where neither settings nor environment name one.
+fn own_choice<W: World, H: Host<W>>(
+    rt: &impl Wait,
+    alloc: Global,
+    set: &BuildConfig,
+    env: &BuildEnv,
+    target: &TargetInfo,
+    sight: &mut Sight<'_, W, H>,
+) -> Mem<Choice>
+    requires { info_seen target.now ≡ target_info set.now env.now }
+    ensures same_host { sight.new.host.ghost_name ≡ sight.old.host.ghost_name }
+    ensures same_answers { sight.new.answers.ghost_name ≡ sight.old.answers.ghost_name }
+    ensures asks { Asks W.steady W.answer (probe_folder set.now env.now) (H.log sight.old.host.now) (H.log sight.new.host.now) sight.old.answers.now sight.new.answers.now }
+    ensures settles { IfOk result (Settles sight.new.answers.now (spec.own_choice set.now env.now)) }
+{
+    if target.os == "emscripten" {
+        return bare(alloc, emscripten_name(set.cpp));
+    }
+    let path = target_compiler(rt, alloc, set, env, target, sight)?;
+    in_rustc_wrapper(alloc, env, path.as_str(), Words::new(alloc))
+}
+
+// The compiler where the settings name none.
+#[tactic(auto, using(cc_tool::proofs::AskLemmas::asks_then))]
+fn found_choice<W: World, H: Host<W>>(
+    rt: &impl Wait,
+    alloc: Global,
+    set: &BuildConfig,
+    env: &BuildEnv,
+    target: &TargetInfo,
+    sight: &mut Sight<'_, W, H>,
+) -> Mem<Choice>
+    requires { info_seen target.now ≡ target_info set.now env.now }
+    ensures same_host { sight.new.host.ghost_name ≡ sight.old.host.ghost_name }
+    ensures same_answers { sight.new.answers.ghost_name ≡ sight.old.answers.ghost_name }
+    ensures asks { Asks W.steady W.answer (probe_folder set.now env.now) (H.log sight.old.host.now) (H.log sight.new.host.now) sight.old.answers.now sight.new.answers.now }
+    ensures settles { IfOk result (Settles sight.new.answers.now (spec.found_choice set.now env.now)) }
+{
+    match env_tool(rt, alloc, set, env, compiler_variable(set.cpp), sight)? {
+        Some(choice) => Ok(choice),
+        None => {
+            let choice = own_choice(rt, alloc, set, env, target, sight)?;
+            Ok(choice)
+        }
+    }
+}
+
+/// The compiler: the set one, else that of the environment, else the one that the target wants.
+pub(crate) fn choose<W: World, H: Host<W>>(
+    rt: &impl Wait,
+    alloc: Global,
+    set: &BuildConfig,
+    env: &BuildEnv,
+    target: &TargetInfo,
+    sight: &mut Sight<'_, W, H>,
+) -> Mem<Choice>
+    requires { info_seen target.now ≡ target_info set.now env.now }
+    ensures same_host { sight.new.host.ghost_name ≡ sight.old.host.ghost_name }
+    ensures same_answers { sight.new.answers.ghost_name ≡ sight.old.answers.ghost_name }
+    ensures asks { Asks W.steady W.answer (probe_folder set.now env.now) (H.log sight.old.host.now) (H.log sight.new.host.now) sight.old.answers.now sight.new.answers.now }
+    ensures settles { IfOk result (Settles sight.new.answers.now (spec.choice_of set.now env.now)) }
+{
+    match &set.compiler {
+        Some(path) => bare(alloc, path.as_str()),
+        None => found_choice(rt, alloc, set, env, target, sight),
+    }
+}

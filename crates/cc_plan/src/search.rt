@@ -1,0 +1,109 @@
+// Where programs are.
+ghost use Rattle.std.specs.Prelude.{◌≡◌, IfOk};
+ghost use Rattle.cc_text.specs.Words.{texts};
+ghost use Rattle.cc_host.specs.Question.{Settles};
+ghost use Rattle.cc_tool.specs.Asks.{Asks};
+ghost use Rattle.cc_plan.specs.Given.{probe_folder};
+ghost use Rattle.cc_plan.specs.Search as spec;
+
+use crate::sight::is_there;
+use crate::{BuildConfig, Sight};
+use cc_env::BuildEnv;
+use cc_host::{Host, World};
+use cc_text::{Mem, Text, Words, components, join};
+use std::alloc::Global;
+use std::sync::Wait;
+
+#[tactic(auto, unfolding(crate::specs::Search::folders_of))]
+fn folders_of(alloc: Global, list: &str) -> Mem<Vec<&str>>
+    ensures { IfOk result (λ folders. texts folders.items ≡ spec.folders_of list.now) }
+{
+    let folders = list.split(':').collect(alloc)?;
+    Ok(folders)
+}
+
+// The folders in which a shell looks for programs.
+#[tactic(auto, unfolding(crate::specs::Search::path_folders))]
+pub(crate) fn path_folders(alloc: Global, env: &BuildEnv) -> Mem<Words>
+    ensures { IfOk result (λ folders. folders ≡ spec.path_folders env.now) }
+{
+    let mut folders = Words::new(alloc);
+    if let Some(list) = env.inherited().get("PATH") {
+        folders.push_all(&folders_of(alloc, list)?)?;
+    }
+    Ok(folders)
+}
+
+// The tool is a path of two or more components.
+#[tactic(auto, unfolding(crate::specs::Search::is_path))]
+fn is_path(alloc: Global, tool: &str) -> Mem<bool>
+    ensures { IfOk result (λ b. b ≡ spec.is_path tool.now) }
+{
+    Ok(1 < components(alloc, tool)?.len())
+}
+
+// A name in each of some folders.
+#[tactic(auto, unfolding(crate::specs::Search::in_folders))]
+fn in_folders(alloc: Global, folders: &[Text], name: &str) -> Mem<Words>
+    ensures { IfOk result (λ paths. paths ≡ spec.in_folders folders.now name.now) }
+{
+    let mut paths = Words::new(alloc);
+    for folder in folders {
+        paths.push_text(join(alloc, folder.as_str(), name)?)?;
+    }
+    Ok(paths)
+}
+
+// Where a tool may be.
+#[tactic(auto, unfolding(crate::specs::Search::places_of))]
+fn places_of(alloc: Global, folders: &[Text], tool: &str) -> Mem<Words>
+    ensures { IfOk result (λ paths. paths ≡ spec.places_of folders.now tool.now) }
+{
+    if is_path(alloc, tool)? {
+        let mut paths = Words::new(alloc);
+        paths.push(tool)?;
+        return Ok(paths);
+    }
+    in_folders(alloc, folders, tool)
+}
+
+// The first of some paths that is there.
+fn first_there<W: World, H: Host<W>>(
+    rt: &impl Wait,
+    alloc: Global,
+    set: &BuildConfig,
+    env: &BuildEnv,
+    paths: &[Text],
+    sight: &mut Sight<'_, W, H>,
+) -> Mem<Option<Text>>
+    ensures same_host { sight.new.host.ghost_name ≡ sight.old.host.ghost_name }
+    ensures same_answers { sight.new.answers.ghost_name ≡ sight.old.answers.ghost_name }
+    ensures asks { Asks W.steady W.answer (probe_folder set.now env.now) (H.log sight.old.host.now) (H.log sight.new.host.now) sight.old.answers.now sight.new.answers.now }
+    ensures settles { IfOk result (Settles sight.new.answers.now (λ look. spec.first_there look paths.now)) }
+{
+    for path in paths {
+        if is_there(rt, alloc, set, env, path.as_str(), sight)? {
+            return Ok(Some(path.try_clone()?));
+        }
+    }
+    Ok(None)
+}
+
+// Where a tool is.
+pub(crate) fn which<W: World, H: Host<W>>(
+    rt: &impl Wait,
+    alloc: Global,
+    set: &BuildConfig,
+    env: &BuildEnv,
+    folders: &[Text],
+    tool: &str,
+    sight: &mut Sight<'_, W, H>,
+) -> Mem<Option<Text>>
+    ensures same_host { sight.new.host.ghost_name ≡ sight.old.host.ghost_name }
+    ensures same_answers { sight.new.answers.ghost_name ≡ sight.old.answers.ghost_name }
+    ensures asks { Asks W.steady W.answer (probe_folder set.now env.now) (H.log sight.old.host.now) (H.log sight.new.host.now) sight.old.answers.now sight.new.answers.now }
+    ensures settles { IfOk result (Settles sight.new.answers.now (λ look. spec.which look folders.now tool.now)) }
+{
+    let paths = places_of(alloc, folders, tool)?;
+    first_there(rt, alloc, set, env, paths.as_slice(), sight)
+}

@@ -1,0 +1,108 @@
+// What a plan may ask, and single questions.
+ghost use Rattle.std.specs.Prelude.{◌≡◌, IfOk};
+ghost use Rattle.cc_host.specs.Question.{Settles, exists_question, is_yes as yes};
+ghost use Rattle.cc_tool.specs.Asks.{Asks};
+ghost use Rattle.cc_plan.specs.Android.{starts_question, can_start};
+ghost use Rattle.cc_plan.specs.Given.{probe_folder};
+ghost use Rattle.cc_plan.specs.Search.{is_there};
+
+use crate::BuildConfig;
+use crate::given::probe_folder;
+use cc_env::BuildEnv;
+use cc_host::{Ask, Host, Question, Verdict, World};
+use cc_text::{Mem, Text, Vars, Words};
+use cc_tool::{Answers, Caches, ask};
+use std::alloc::Global;
+use std::sync::Wait;
+
+/// What a plan may ask: the host, behind what is kept of its world, with the answers of one public call.
+#[derive(Drop)]
+pub struct Sight<'a, W: World, H: Host<W>> {
+    pub host: &'a mut H,
+    pub caches: &'a Caches<W>,
+    pub answers: &'a mut Answers,
+}
+
+fn is_yes(verdict: &Verdict) -> bool
+    ensures { result ≡ yes verdict.now }
+{
+    matches!(verdict, Verdict::Yes)
+}
+
+fn exists_of(alloc: Global, path: &str) -> Mem<Question>
+    ensures { IfOk result (λ q. q ≡ exists_question path.now) }
+{
+    Ok(Question {
+        ask: Ask::Exists,
+        program: Text::of(alloc, path)?,
+        words: Words::new(alloc),
+        vars: Vars::new(alloc),
+    })
+}
+
+fn starts_of(alloc: Global, env: &BuildEnv, program: &str) -> Mem<Question>
+    ensures { IfOk result (λ q. q ≡ starts_question env.now program.now) }
+{
+    Ok(Question {
+        ask: Ask::Starts,
+        program: Text::of(alloc, program)?,
+        words: Words::new(alloc),
+        vars: env.inherited().vars().try_clone()?,
+    })
+}
+
+// A file of this path is there.
+pub(crate) fn is_there<W: World, H: Host<W>>(
+    rt: &impl Wait,
+    alloc: Global,
+    set: &BuildConfig,
+    env: &BuildEnv,
+    path: &str,
+    sight: &mut Sight<'_, W, H>,
+) -> Mem<bool>
+    ensures same_host { sight.new.host.ghost_name ≡ sight.old.host.ghost_name }
+    ensures same_answers { sight.new.answers.ghost_name ≡ sight.old.answers.ghost_name }
+    ensures asks { Asks W.steady W.answer (probe_folder set.now env.now) (H.log sight.old.host.now) (H.log sight.new.host.now) sight.old.answers.now sight.new.answers.now }
+    ensures settles { IfOk result (Settles sight.new.answers.now (λ look. is_there look path.now)) }
+{
+    let dir = probe_folder(set, env);
+    let question = exists_of(alloc, path)?;
+    let verdict = ask(
+        rt,
+        alloc,
+        sight.host,
+        sight.caches,
+        sight.answers,
+        &question,
+        dir,
+    )?;
+    Ok(is_yes(&verdict))
+}
+
+// The program can be run.
+pub(crate) fn can_start<W: World, H: Host<W>>(
+    rt: &impl Wait,
+    alloc: Global,
+    set: &BuildConfig,
+    env: &BuildEnv,
+    program: &str,
+    sight: &mut Sight<'_, W, H>,
+) -> Mem<bool>
+    ensures same_host { sight.new.host.ghost_name ≡ sight.old.host.ghost_name }
+    ensures same_answers { sight.new.answers.ghost_name ≡ sight.old.answers.ghost_name }
+    ensures asks { Asks W.steady W.answer (probe_folder set.now env.now) (H.log sight.old.host.now) (H.log sight.new.host.now) sight.old.answers.now sight.new.answers.now }
+    ensures settles { IfOk result (Settles sight.new.answers.now (λ look. can_start env.now look program.now)) }
+{
+    let dir = probe_folder(set, env);
+    let question = starts_of(alloc, env, program)?;
+    let verdict = ask(
+        rt,
+        alloc,
+        sight.host,
+        sight.caches,
+        sight.answers,
+        &question,
+        dir,
+    )?;
+    Ok(is_yes(&verdict))
+}

@@ -1,0 +1,11 @@
+pub mod ChildLemmas
+pub mod Drops
+pub mod LineLemmas
+pub mod OutputLemmas
+pub mod PassLemmas
+pub mod Payments
+pub mod Quiet
+pub mod Runs
+pub mod SoloLemmas
+pub mod StartLemmas
+pub mod TurnLemmas

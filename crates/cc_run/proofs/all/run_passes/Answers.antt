@@ -1,0 +1,42 @@
+use Rattle.std.proofs.Common.{◌≡◌, ◌+◌, Ok, Err, Bool, true, false, length, arith, ◌∙◌}
+use Rattle.std.proofs.lemmas.Grind.{common_steps}
+use Rattle.cc_host.specs.Part.{since}
+use Rattle.cc_run.specs.Part.{turns}
+use Rattle.cc_run.proofs.Runs.{goes_on, turns_both, told_then}
+use Rattle.cc_run.specs.Paid.{PaidAnd}
+use Rattle.cc_run.specs.declared.error.RunError.{RunError}
+use Rattle.cc_run.proofs.Payments.{paid_then, paid_any}
+use Rattle.cc_run.proofs.all.run_passes.Goals as goal
+
+pub passes-preserved : goal.passes-preserved
+passes-preserved g c =
+    let both : turns (since (g.H.Host.log c.args.host.now) (g.H.Host.log c.pass.new.host)) ≡ turns (since (g.H.Host.log c.args.host.now) (g.H.Host.log c.passes.host)) + turns (since (g.H.Host.log c.passes.host) (g.H.Host.log c.pass.new.host)) = turns_both c.passes.invariant.goes c.pass.ensures.goes in
+    record {
+      fits = c.pass.ensures.fits;
+      held = c.pass.ensures.one_run.0;
+      within = c.pass.ensures.one_run.1;
+      placed = c.pass.ensures.placed;
+      total = c.pass.ensures.total ∙ c.passes.invariant.total;
+      later = omega (arith, c.pass.ensures.later, c.passes.invariant.later);
+      patient = c.pass.ensures.patient ∙ c.passes.invariant.patient;
+      goes = goes_on c.passes.invariant.total c.passes.invariant.goes c.pass.ensures.goes;
+      unfinished = grind (arith, common_steps);
+      told = told_then (tt {0}) (Ok false) c.passes.invariant.goes c.pass.ensures.goes c.passes.invariant.told (grind (arith, common_steps));
+      paid = paid_then {T = Bool} {E = RunError} (g.H.Host.log c.args.host.now) (g.H.Host.log c.passes.host) (g.H.Host.log c.pass.new.host) (Ok false) (length c.pass.new.running.children) (g.J.Jobs.taken c.args.seat.now) (g.J.Jobs.load c.args.seat.now) (g.J.Jobs.taken c.passes.seat) (g.J.Jobs.load c.passes.seat) (g.J.Jobs.taken c.pass.new.seat) (g.J.Jobs.load c.pass.new.seat) c.passes.invariant.goes.extends c.pass.ensures.goes.extends c.passes.invariant.paid (grind (arith, common_steps, c.pass.ensures.paid));
+      left = omega (arith, both, c.pass.ensures.turns, c.passes.invariant.left);
+      used = omega (arith, both, c.pass.ensures.used, c.passes.invariant.used);
+    }
+
+pub returns-in-Err-clause-goes : goal.returns-in-Err-clause-goes
+returns-in-Err-clause-goes g c = goes_on c.passes.invariant.total c.passes.invariant.goes c.pass.ensures.goes
+
+pub returns-clause-goes : goal.returns-clause-goes
+returns-clause-goes g c = goes_on c.passes.invariant.total c.passes.invariant.goes c.pass.ensures.goes
+
+pub returns-in-Err-clause-paid : goal.returns-in-Err-clause-paid
+returns-in-Err-clause-paid g c = paid_then {T = Unit {0}} {E = RunError} (g.H.Host.log c.args.host.now) (g.H.Host.log c.passes.host) (g.H.Host.log c.pass.new.host) (Err c.in-Err.e) (length c.pass.new.running.children) (g.J.Jobs.taken c.args.seat.now) (g.J.Jobs.load c.args.seat.now) (g.J.Jobs.taken c.passes.seat) (g.J.Jobs.load c.passes.seat) (g.J.Jobs.taken c.pass.new.seat) (g.J.Jobs.load c.pass.new.seat) c.passes.invariant.goes.extends c.pass.ensures.goes.extends c.passes.invariant.paid (grind (arith, common_steps, c.in-Err.ensures.paid))
+
+pub returns-clause-paid : goal.returns-clause-paid
+returns-clause-paid g c =
+    let p : PaidAnd 0 0 (since (g.H.Host.log c.args.host.now) (g.H.Host.log c.pass.new.host)) (g.J.Jobs.taken c.args.seat.now) (g.J.Jobs.load c.args.seat.now) (g.J.Jobs.taken c.pass.new.seat) (g.J.Jobs.load c.pass.new.seat) = paid_then {T = Bool} {E = RunError} (g.H.Host.log c.args.host.now) (g.H.Host.log c.passes.host) (g.H.Host.log c.pass.new.host) (Ok true) (length c.pass.new.running.children) (g.J.Jobs.taken c.args.seat.now) (g.J.Jobs.load c.args.seat.now) (g.J.Jobs.taken c.passes.seat) (g.J.Jobs.load c.passes.seat) (g.J.Jobs.taken c.pass.new.seat) (g.J.Jobs.load c.pass.new.seat) c.passes.invariant.goes.extends c.pass.ensures.goes.extends c.passes.invariant.paid (grind (arith, common_steps, c.pass.ensures.paid)) in
+    paid_any (since (g.H.Host.log c.args.host.now) (g.H.Host.log c.pass.new.host)) (g.J.Jobs.taken c.args.seat.now) (g.J.Jobs.load c.args.seat.now) (g.J.Jobs.taken c.pass.new.seat) (g.J.Jobs.load c.pass.new.seat) c.outcome_of.result (length c.pass.new.running.children) p

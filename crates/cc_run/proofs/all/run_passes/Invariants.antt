@@ -1,0 +1,31 @@
+use Rattle.std.proofs.Common.{◌≡◌, ◌+◌, ◌≤◌, length, Ok}
+use Rattle.cc_host.specs.Part.{since}
+use Rattle.cc_run.specs.Children.{ArePlaced, run_of}
+use Rattle.cc_run.specs.Outcome.{IsTold, IsOpen}
+use Rattle.cc_run.specs.Part.{Goes, turns}
+use Rattle.cc_run.specs.Paid.{PaidAnd}
+use Rattle.cc_run.specs.Planned.{asked}
+use Rattle.cc_run.proofs.all.run_passes.Given as goal
+
+abbrev pub invariant-passes : goal.invariant-passes
+invariant-passes g l =
+    let part = since (g.H.Host.log l.fn.host) (g.H.Host.log l.host) in
+    let all = asked l.shows l.cmds in
+    record {
+      fits : g.J.Jobs.fits l.jobs l.seat;
+      held : g.J.Jobs.held l.seat ≡ length l.running.children;
+      within : l.running.begun ≤ length l.cmds;
+      placed : ArePlaced (length l.cmds) l.running;
+      total : g.J.Jobs.total l.seat ≡ g.J.Jobs.total l.fn.seat;
+      later : g.J.Jobs.faults l.fn.seat ≤ g.J.Jobs.faults l.seat;
+      patient : g.H.Host.patience l.host ≡ g.H.Host.patience l.fn.host;
+      goes : Goes (g.J.Jobs.total l.fn.seat) all (g.H.Host.log l.fn.host) (run_of l.fn.running) (g.H.Host.log l.host) (run_of l.running);
+      unfinished : IsOpen (length all) (run_of l.running);
+      told : IsTold {T = Unit {0}} all (Ok tt) part;
+      paid : PaidAnd 0 0 part (g.J.Jobs.taken l.fn.seat) (g.J.Jobs.load l.fn.seat) (g.J.Jobs.taken l.seat) (g.J.Jobs.load l.seat);
+      left : l.turns.left + turns part ≡ l.fn.turns.left;
+      used : l.turns.used ≡ l.fn.turns.used + turns part;
+    }
+
+abbrev pub decreases-passes : goal.decreases-passes
+decreases-passes g l = l.turns.left

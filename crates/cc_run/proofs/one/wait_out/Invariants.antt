@@ -1,0 +1,30 @@
+use Rattle.std.proofs.Common.{◌≡◌, ◌+◌, ◌<◌, length, Ok}
+use Rattle.cc_host.specs.Part.{since}
+use Rattle.cc_run.specs.Children.{ArePlaced, run_of}
+use Rattle.cc_run.specs.Outcome.{IsTold}
+use Rattle.cc_run.specs.Paid.{loads}
+use Rattle.cc_run.specs.Part.{Goes, turns}
+use Rattle.cc_run.specs.Planned.{asked}
+use Rattle.cc_run.proofs.one.wait_out.Given as goal
+
+abbrev pub invariant-turns : goal.invariant-turns
+invariant-turns g l =
+    let part = since (g.H.Host.log l.fn.host) (g.H.Host.log l.host) in
+    let all = asked l.shows l.cmds in
+    record {
+      fits : g.J.Jobs.fits l.jobs l.seat;
+      held : g.J.Jobs.held l.seat ≡ length l.running.children;
+      begun : l.running.begun ≡ length l.cmds;
+      placed : ArePlaced (length l.cmds) l.running;
+      some : 0 < length l.running.children;
+      total : g.J.Jobs.total l.seat ≡ g.J.Jobs.total l.fn.seat;
+      patient : g.H.Host.patience l.host ≡ g.H.Host.patience l.fn.host;
+      goes : Goes (g.J.Jobs.total l.fn.seat) all (g.H.Host.log l.fn.host) (run_of l.fn.running) (g.H.Host.log l.host) (run_of l.running);
+      told : IsTold {T = Unit {0}} all (Ok tt) part;
+      free : loads part ≡ 0;
+      left : l.turns.left + turns part ≡ l.fn.turns.left;
+      used : l.turns.used ≡ l.fn.turns.used + turns part;
+    }
+
+abbrev pub decreases-turns : goal.decreases-turns
+decreases-turns g l = l.turns.left

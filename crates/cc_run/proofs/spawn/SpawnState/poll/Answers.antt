@@ -1,0 +1,42 @@
+use Rattle.std.proofs.Common.{◌≡◌, ◌+◌, arith, Ok, Err, length, ◌∙◌}
+use Rattle.std.proofs.lemmas.Grind.{common_steps}
+use Rattle.cc_host.specs.Part.{since}
+use Rattle.cc_run.specs.Part.{turns}
+use Rattle.cc_run.specs.declared.error.RunError.{RunError}
+use Rattle.cc_run.specs.declared.error.Step.{Step}
+use Rattle.cc_run.specs.declared.error.Step.TheVariants.{Ready, Pending}
+use Rattle.cc_run.proofs.Payments.{paid_then}
+use Rattle.cc_run.proofs.Runs.{goes_on, told_then, turns_both}
+use Rattle.cc_run.proofs.spawn.SpawnState.poll.Goals as goal
+
+pub loop-running-preserved : goal.loop-running-preserved
+loop-running-preserved g c =
+    let both : turns (since (g.H.Host.log c.args.host.now) (g.H.Host.log c.start_next.new.host)) ≡ turns (since (g.H.Host.log c.args.host.now) (g.H.Host.log c.loop-running.host)) + turns (since (g.H.Host.log c.loop-running.host) (g.H.Host.log c.start_next.new.host)) = turns_both c.loop-running.invariant.goes c.start_next.ensures.goes in
+    record {
+      fits = c.start_next.ensures.fits;
+      held = c.start_next.ensures.one_run;
+      within = grind (arith, common_steps);
+      placed = c.start_next.ensures.placed;
+      total = c.start_next.ensures.total ∙ c.loop-running.invariant.total;
+      later = omega (arith, c.start_next.ensures.later, c.loop-running.invariant.later);
+      patient = c.start_next.ensures.patient ∙ c.loop-running.invariant.patient;
+      goes = goes_on c.loop-running.invariant.total c.loop-running.invariant.goes c.start_next.ensures.goes;
+      told = told_then (tt {0}) (Ok Ready) c.loop-running.invariant.goes c.start_next.ensures.goes c.loop-running.invariant.told (grind (arith, common_steps));
+      turns = omega (arith, both, c.start_next.ensures.turns, c.loop-running.invariant.turns);
+      grew = grind (arith, common_steps);
+      more = grind (arith, common_steps);
+      failed = c.start_next.ensures.failed ∙ c.loop-running.invariant.failed;
+      paid = paid_then {T = Step} {E = RunError} (g.H.Host.log c.args.host.now) (g.H.Host.log c.loop-running.host) (g.H.Host.log c.start_next.new.host) (Ok Ready) (length c.start_next.new.running.children) (g.J.Jobs.taken c.args.seat.now) (g.J.Jobs.load c.args.seat.now) (g.J.Jobs.taken c.loop-running.seat) (g.J.Jobs.load c.loop-running.seat) (g.J.Jobs.taken c.start_next.new.seat) (g.J.Jobs.load c.start_next.new.seat) c.loop-running.invariant.goes.extends c.start_next.ensures.goes.extends c.loop-running.invariant.paid (grind (arith, common_steps, c.start_next.ensures.paid));
+    }
+
+pub returns-in-Ok-Pending-clause-goes : goal.returns-in-Ok-Pending-clause-goes
+returns-in-Ok-Pending-clause-goes g c = goes_on c.loop-running.invariant.total c.loop-running.invariant.goes c.start_next.ensures.goes
+
+pub returns-in-Err-clause-goes : goal.returns-in-Err-clause-goes
+returns-in-Err-clause-goes g c = goes_on c.loop-running.invariant.total c.loop-running.invariant.goes c.start_next.ensures.goes
+
+pub returns-in-Ok-Pending-clause-paid : goal.returns-in-Ok-Pending-clause-paid
+returns-in-Ok-Pending-clause-paid g c = paid_then {T = Step} {E = RunError} (g.H.Host.log c.args.host.now) (g.H.Host.log c.loop-running.host) (g.H.Host.log c.start_next.new.host) (Ok Pending) (length c.start_next.new.running.children) (g.J.Jobs.taken c.args.seat.now) (g.J.Jobs.load c.args.seat.now) (g.J.Jobs.taken c.loop-running.seat) (g.J.Jobs.load c.loop-running.seat) (g.J.Jobs.taken c.start_next.new.seat) (g.J.Jobs.load c.start_next.new.seat) c.loop-running.invariant.goes.extends c.start_next.ensures.goes.extends c.loop-running.invariant.paid (grind (arith, common_steps, c.start_next.ensures.paid))
+
+pub returns-in-Err-clause-paid : goal.returns-in-Err-clause-paid
+returns-in-Err-clause-paid g c = paid_then {T = Step} {E = RunError} (g.H.Host.log c.args.host.now) (g.H.Host.log c.loop-running.host) (g.H.Host.log c.start_next.new.host) (Err c.in-Err.e) (length c.start_next.new.running.children) (g.J.Jobs.taken c.args.seat.now) (g.J.Jobs.load c.args.seat.now) (g.J.Jobs.taken c.loop-running.seat) (g.J.Jobs.load c.loop-running.seat) (g.J.Jobs.taken c.start_next.new.seat) (g.J.Jobs.load c.start_next.new.seat) c.loop-running.invariant.goes.extends c.start_next.ensures.goes.extends c.loop-running.invariant.paid c.in-Err.ensures.paid

@@ -1,0 +1,31 @@
+use Rattle.std.proofs.Common.{◌≡◌, ◌+◌, ◌-◌, ◌≤◌, length, Ok}
+use Rattle.cc_host.specs.Part.{since}
+use Rattle.cc_run.specs.Children.{ArePlaced, run_of}
+use Rattle.cc_run.specs.Outcome.{IsTold}
+use Rattle.cc_run.specs.Paid.{PaidAnd}
+use Rattle.cc_run.specs.Part.{Goes, turns}
+use Rattle.cc_run.specs.Planned.{asked}
+use Rattle.cc_run.proofs.spawn.SpawnState.poll.Given as goal
+
+abbrev pub invariant-loop-running : goal.invariant-loop-running
+invariant-loop-running g l =
+    let part = since (g.H.Host.log l.fn.host) (g.H.Host.log l.host) in
+    record {
+      fits : g.J.Jobs.fits l.jobs l.seat;
+      held : g.J.Jobs.held l.seat ≡ length l.running.children;
+      within : l.running.begun ≤ length l.cmds;
+      placed : ArePlaced (length l.cmds) l.running;
+      total : g.J.Jobs.total l.seat ≡ g.J.Jobs.total l.fn.seat;
+      later : g.J.Jobs.faults l.fn.seat ≤ g.J.Jobs.faults l.seat;
+      patient : g.H.Host.patience l.host ≡ g.H.Host.patience l.fn.host;
+      goes : Goes (g.J.Jobs.total l.fn.seat) (asked l.shows l.cmds) (g.H.Host.log l.fn.host) (run_of l.fn.running) (g.H.Host.log l.host) (run_of l.running);
+      told : IsTold {T = Unit {0}} (asked l.shows l.cmds) (Ok tt) part;
+      turns : turns part ≡ 0;
+      grew : length l.running.children + l.fn.running.begun ≡ length l.fn.running.children + l.running.begun;
+      more : l.fn.running.begun ≤ l.running.begun;
+      failed : l.running.failed ≡ l.fn.running.failed;
+      paid : PaidAnd 0 0 part (g.J.Jobs.taken l.fn.seat) (g.J.Jobs.load l.fn.seat) (g.J.Jobs.taken l.seat) (g.J.Jobs.load l.seat);
+    }
+
+abbrev pub decreases-loop-running : goal.decreases-loop-running
+decreases-loop-running g l = length l.cmds - l.running.begun

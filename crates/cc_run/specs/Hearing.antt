@@ -1,0 +1,48 @@
+-- The lines that the news of a turn give, one after another.
+use Rattle.std.specs.Prelude.{ℕ, Bool, List, [], ◌∷◌, ◌++◌, ◌==◌, drop, take, flat_map, if◌then◌else◌}
+use Rattle.cc_host.specs.declared.event.Event.{Event}
+use Rattle.cc_host.specs.declared.event.Event.TheVariants.{Heard, Unread, Ended}
+use Rattle.cc_host.specs.declared.event.Status.{Status}
+use Rattle.cc_run.specs.Children.{without_child}
+use Rattle.cc_run.specs.Forwarded.{fed, emptied, heard_lines, unread_lines, ended_lines}
+use Rattle.cc_run.specs.declared.planned.Planned.{Planned}
+use Rattle.cc_run.specs.declared.planned.Shows.{Shows}
+use Rattle.cc_run.specs.declared.print.Line.{Line}
+use Rattle.cc_run.specs.declared.running.Child.{Child}
+
+-- the first child of that id is changed
+abbrev pub at_child : ℕ → (Child → Child) → List Child → List Child
+at_child id f [] = []
+at_child id f (c ∷ cs) = if c.id == id then f c ∷ cs else c ∷ at_child id f cs
+
+-- the lines of the first child of that id
+abbrev pub of_child : ℕ → (Child → List Line) → List Child → List Line
+of_child id f [] = []
+of_child id f (c ∷ cs) = if c.id == id then f c else of_child id f cs
+
+-- the children after an event
+abbrev pub children_after : List Child → Event → List Child
+children_after cs (Heard id piece) = at_child id (fed piece) cs
+children_after cs (Unread id) = at_child id emptied cs
+children_after cs (Ended id status) = without_child id cs
+children_after cs _ = cs
+
+abbrev pub children_from : List Child → List Event → List Child
+children_from cs [] = cs
+children_from cs (e ∷ es) = children_from (children_after cs e) es
+
+-- the lines of the end of a child, by its command
+abbrev pub end_lines : Shows → Bool → List Planned → Status → Child → List Line
+end_lines shows tells cmds status c = flat_map (λ p. ended_lines shows tells p.cmd status c) (take 1 (drop c.place cmds))
+
+-- the lines that an event gives
+abbrev pub owed : Shows → Bool → List Planned → List Child → Event → List Line
+owed shows tells cmds cs (Heard id piece) = of_child id (λ c. heard_lines shows c piece) cs
+owed shows tells cmds cs (Unread id) = of_child id (unread_lines shows) cs
+owed shows tells cmds cs (Ended id status) = of_child id (end_lines shows tells cmds status) cs
+owed shows tells cmds cs _ = []
+
+-- the lines that these events give, in order
+abbrev pub owed_from : Shows → Bool → List Planned → List Child → List Event → List Line
+owed_from shows tells cmds cs [] = []
+owed_from shows tells cmds cs (e ∷ es) = owed shows tells cmds cs e ++ owed_from shows tells cmds (children_after cs e) es

@@ -1,0 +1,15 @@
+pub mod Children
+pub mod Forwarded
+pub mod Hearing
+pub mod Lines
+pub mod Outcome
+pub mod Output
+pub mod Paid
+pub mod Part
+pub mod Planned
+pub mod Run
+pub mod Shown
+pub mod Solo
+pub mod Started
+pub mod Texts
+pub mod Whole

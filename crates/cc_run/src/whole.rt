@@ -1,0 +1,116 @@
+// Runs one command to its end in one call of the host.
+ghost use Rattle.std.specs.Prelude.{◌≡◌, ◌++◌, IfOk, true};
+ghost use Rattle.std.specs.Option.{option_copied};
+ghost use Rattle.cc_host.specs.Part.{since};
+ghost use Rattle.cc_host.specs.declared.event.OutputKind.TheVariants.{Capture};
+ghost use Rattle.cc_run.specs.Output.{IsOutput, IsSilentRun, behind};
+
+use crate::error::start_error;
+use crate::print::{Line, print_all};
+use crate::texts::{announced, ended_line, push_lines};
+use crate::{Planned, RunError, Shows, stderr_warnings};
+use cc_host::{Host, LineKind, OutputKind, Pipes, Ran, Status, World};
+use cc_text::{Bytes, Mem};
+use std::alloc::Global;
+
+// The lines behind a command: how it ended, and the warnings of its standard error.
+#[tactic(auto, unfolding(crate::specs::Output::behind))]
+fn lines_behind(
+    alloc: Global,
+    shows: &Shows,
+    always: bool,
+    ignored: Option<&[u8]>,
+    status: Status,
+    stderr: &[u8],
+) -> Mem<Vec<Line>>
+    ensures { IfOk result (λ lines. lines.items ≡ behind shows.now always (option_copied ignored.entry) status stderr.now) }
+{
+    let mut lines = Vec::new(alloc);
+    if shows.debug {
+        lines.push(ended_line(alloc, status)?)?;
+    }
+    if shows.warnings && (always || status.is_success()) {
+        let texts = stderr_warnings(alloc, stderr, ignored)?;
+        push_lines(alloc, LineKind::Warning, &texts, &mut lines)?;
+    }
+    Ok(lines)
+}
+
+// Runs the command, and prints the lines before and behind it.
+#[tactic(auto, using(cc_host::proofs::Parts::since_append))]
+fn run_whole<W: World, H: Host<W>>(
+    alloc: Global,
+    host: &mut H,
+    planned: &Planned,
+    out: OutputKind,
+    shows: &Shows,
+    always: bool,
+    ignored: Option<&[u8]>,
+) -> Result<Bytes, RunError>
+    ensures extends { H.log host.new ≡ H.log host.old ++ since (H.log host.old) (H.log host.new) }
+    ensures patient { H.patience host.new ≡ H.patience host.old }
+    ensures part { IsOutput shows.now planned.now out always (option_copied ignored.entry) result (since (H.log host.old) (H.log host.new)) }
+{
+    let pipes = Pipes {
+        out,
+        hear: shows.warnings,
+    };
+    let before = announced(alloc, shows, &planned.cmd)?;
+    match print_all(host, &before) {
+        Ok(()) => {}
+        Err(e) => return Err(e),
+    }
+    match host.output(planned.role, &planned.cmd, pipes) {
+        Ok(Ran::Missing) => Err(RunError::ToolNotFound(0)),
+        Ok(Ran::Done { status, out, err }) => {
+            let behind = lines_behind(alloc, shows, always, ignored, status, err.as_slice());
+            let Ok(lines) = behind else {
+                return Err(RunError::NoMemory);
+            };
+            match print_all(host, &lines) {
+                Ok(()) => {}
+                Err(e) => return Err(e),
+            }
+            if status.is_success() {
+                Ok(out)
+            } else {
+                Err(RunError::Failed(0, status))
+            }
+        }
+        Err(e) => Err(start_error(e, 0)),
+    }
+}
+
+/// Runs a command whose standard output nobody reads. The warnings of its standard error are shown only where it ended
+/// with 0.
+pub fn run_silent<W: World, H: Host<W>>(
+    alloc: Global,
+    host: &mut H,
+    cmd: &Planned,
+    shows: &Shows,
+) -> Result<(), RunError>
+    ensures extends { H.log host.new ≡ H.log host.old ++ since (H.log host.old) (H.log host.new) }
+    ensures patient { H.patience host.new ≡ H.patience host.old }
+    ensures part { IsSilentRun shows.now cmd.now result (since (H.log host.old) (H.log host.new)) }
+{
+    match run_whole(alloc, host, cmd, OutputKind::Discard, shows, false, None) {
+        Ok(_) => Ok(()),
+        Err(e) => Err(e),
+    }
+}
+
+/// Runs a command and gives what it wrote on its standard output. The warnings of its standard error are shown, without
+/// an ignored line.
+pub fn run_output<W: World, H: Host<W>>(
+    alloc: Global,
+    host: &mut H,
+    cmd: &Planned,
+    shows: &Shows,
+    ignored: Option<&[u8]>,
+) -> Result<Bytes, RunError>
+    ensures extends { H.log host.new ≡ H.log host.old ++ since (H.log host.old) (H.log host.new) }
+    ensures patient { H.patience host.new ≡ H.patience host.old }
+    ensures part { IsOutput shows.now cmd.now Capture true (option_copied ignored.entry) result (since (H.log host.old) (H.log host.new)) }
+{
+    run_whole(alloc, host, cmd, OutputKind::Capture, shows, true, ignored)
+}

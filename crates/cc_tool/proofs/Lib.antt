@@ -1,0 +1,13 @@
+pub mod Asides
+pub mod AskLemmas
+pub mod EmittedLemmas
+pub mod FamilyLemmas
+pub mod KnownLemmas
+pub mod LevelLemmas
+pub mod OpenLemmas
+pub mod ProbeLemmas
+pub mod ProbingLemmas
+pub mod SettleLemmas
+pub mod SomeLemmas
+pub mod TempfileLemmas
+pub mod TriedLemmas

@@ -1,0 +1,11 @@
+pub mod Asked
+pub mod Asks
+pub mod Emitted
+pub mod Excused
+pub mod Family
+pub mod Files
+pub mod Heard
+pub mod Known
+pub mod Probing
+pub mod Tempfile
+pub mod Tool

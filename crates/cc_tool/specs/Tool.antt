@@ -1,0 +1,96 @@
+-- A tool: a compiler or archiver with its words and its environment.
+use Rattle.std.specs.Prelude.{ℕ, length, drop, encode_utf8, Bool, true, false, not, ◌&&◌, ◌==◌, nat_eq, if◌then◌else◌, List, [], ◌∷◌, ◌++◌, Option, Some, None, codes, bytes_eq}
+use Rattle.std.specs.List.{filter, list_any, join_by, slice_get, starts_with}
+use Rattle.std.specs.Str.{chars}
+use Rattle.cc_text.specs.declared.family.ToolFamily.{ToolFamily}
+use Rattle.cc_text.specs.declared.family.ToolFamily.TheVariants.{Gnu, Clang, Msvc}
+use Rattle.cc_env.specs.Snapshot.{child_of}
+use Rattle.cc_host.specs.Command.{CommandSeen}
+
+-- what a tool is seen as
+pub record ToolSeen : Type 0 where
+  pub path : List ℕ
+  pub family : ToolFamily
+  pub inherited : List (List ℕ × List ℕ)
+  pub wrapper : Option (List ℕ)
+  pub wrapper_words : List (List ℕ)
+  pub args : List (List ℕ)
+  pub removed : List (List ℕ)
+  pub entries : List (List ℕ × List ℕ)
+
+-- a tool of a path, without words
+abbrev pub new_tool : List ℕ → ToolFamily → List (List ℕ × List ℕ) → ToolSeen
+new_tool path family inherited = record { path = path; family = family; inherited = inherited; wrapper = None; wrapper_words = []; args = []; removed = []; entries = [] }
+
+-- the word is one of these
+abbrev pub is_among : List (List ℕ) → List ℕ → Bool
+is_among words word = list_any (λ w. bytes_eq w word) words
+
+-- the args that weren't removed
+unfoldable pub kept_args : ToolSeen → List (List ℕ)
+kept_args tool = filter (λ word. not (is_among tool.removed word)) tool.args
+
+-- the program: the wrapper, where there is one
+abbrev pub program_of : Option (List ℕ) → List ℕ → List ℕ
+program_of (Some wrapper) path = wrapper
+program_of None path = path
+
+-- the path, behind a wrapper
+abbrev pub path_words : Option (List ℕ) → List ℕ → List (List ℕ)
+path_words (Some wrapper) path = path ∷ []
+path_words None path = []
+
+-- the command of a tool
+unfoldable pub tool_command : ToolSeen → CommandSeen
+tool_command tool = record {
+  program = program_of tool.wrapper tool.path;
+  args = path_words tool.wrapper tool.path ++ (tool.wrapper_words ++ kept_args tool);
+  env = child_of tool.inherited tool.entries;
+  dir = None;
+}
+
+-- the words with a space between two of them
+abbrev pub spaced : List (List ℕ) → List ℕ
+spaced words = join_by (λ word. word) (codes " ") words
+
+-- the wrapper, the path and the words before the args; nothing without a wrapper
+abbrev pub wrapped_text : Option (List ℕ) → List ℕ → List (List ℕ) → List ℕ
+wrapped_text (Some wrapper) path words = spaced (wrapper ∷ path ∷ words)
+wrapped_text None path words = []
+
+abbrev pub is_gnu : ToolFamily → Bool
+is_gnu Gnu = true
+is_gnu _ = false
+
+abbrev pub is_clang : ToolFamily → Bool
+is_clang (Clang zig_cc) = true
+is_clang _ = false
+
+abbrev pub is_msvc : ToolFamily → Bool
+is_msvc (Msvc clang_cl) = true
+is_msvc _ = false
+
+abbrev pub is_clang_cl : ToolFamily → Bool
+is_clang_cl (Msvc clang_cl) = clang_cl
+is_clang_cl _ = false
+
+abbrev pub is_letter_o : Option ℕ → Bool
+is_letter_o (Some c) = c == 79
+is_letter_o None = false
+
+-- the character behind the first
+abbrev pub behind : List ℕ → Option ℕ → Option ℕ
+behind arg (Some c) = slice_get (chars (drop (length (encode_utf8 c)) arg)) 0
+behind arg None = None
+
+-- the second character is an `O`
+unfoldable pub is_level : List ℕ → Bool
+is_level arg = is_letter_o (behind arg (slice_get (chars arg) 0))
+
+-- what a flag of a level begins with
+abbrev pub level_mark : ToolFamily → List ℕ
+level_mark family = if is_msvc family then codes "/O" else codes "-O"
+
+-- a flag that sets the level, where an arg does already
+unfoldable pub is_duplicate_level : ToolSeen → List ℕ → Bool
+is_duplicate_level tool flag = starts_with nat_eq flag (level_mark tool.family) && list_any is_level tool.args

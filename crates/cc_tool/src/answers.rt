@@ -1,0 +1,82 @@
+// The questions of one public call, with their verdicts.
+ghost use Rattle.std.specs.Prelude.{◌≡◌, ◌++◌, ◌∷◌, [], List, OnOk, OnErr, MatchOption};
+ghost use Rattle.cc_host.specs.Question.{Answer, Lacks};
+ghost use Rattle.cc_host.specs.declared.question.Question.{Question};
+ghost use Rattle.cc_host.specs.declared.question.Verdict.TheVariants.{Unanswered};
+ghost use Rattle.cc_tool.specs.Known.{Has};
+
+use cc_host::{Question, Verdict};
+use cc_text::Mem;
+use std::alloc::Global;
+use std::marker::Model;
+
+/// The questions of one public call with their verdicts, in the order in which they were asked.
+#[derive(Drop, Debug)]
+pub struct Answers {
+    entries: Vec<(Question, Verdict)>,
+}
+
+impl Model for Answers {
+    ghost use Rattle.std.specs.Prelude.{List};
+    ghost use Rattle.cc_host.specs.Question.{Answer};
+
+    ghost Value = { List Answer };
+
+    ghost view = { λ a. a.entries.items };
+}
+
+// Puts another verdict in the place of that of an answer.
+fn set_verdict(answer: &mut (Question, Verdict), verdict: Verdict)
+    ensures { answer.new ≡ (answer.old.0, verdict) }
+{
+    answer.1 = verdict;
+}
+
+impl Answers {
+    /// No answers.
+    pub fn new(alloc: Global) -> Answers
+        ensures { result ≡ [] }
+    {
+        Answers {
+            entries: Vec::new(alloc),
+        }
+    }
+
+    /// The verdict of a question, or none where it wasn't asked. It takes no memory.
+    pub fn get(&self, q: &Question) -> Option<&Verdict>
+        ensures { MatchOption result (Lacks self.now q.now) (λ v. Has self.now q.now v.now) }
+    {
+        for entry in &self.entries {
+            if entry.0.same_as(q) {
+                return Some(&entry.1);
+            }
+        }
+        None
+    }
+
+    // Makes room for the verdict of a question, which has none until it comes.
+    pub(crate) fn begin(&mut self, question: Question) -> Mem<()>
+        ensures ok { OnOk result (self.new ≡ self.old ++ (question, Unanswered) ∷ []) }
+        ensures err { OnErr result (self.new ≡ self.old) }
+    {
+        self.entries.push((question, Verdict::Unanswered))?;
+        Ok(())
+    }
+
+    // Takes back the question that was begun last.
+    pub(crate) fn give_up(&mut self)
+        ensures { (known : List Answer) (a : Answer) → self.old ≡ known ++ a ∷ [] → self.new ≡ known }
+    {
+        let _ = self.entries.pop();
+    }
+
+    // Sets the verdict of the question that was begun last.
+    pub(crate) fn end(&mut self, verdict: Verdict)
+        ensures { (known : List Answer) (a : Answer) → self.old ≡ known ++ a ∷ [] → self.new ≡ known ++ (a.0, verdict) ∷ [] }
+    {
+        let count = self.entries.len();
+        if 0 < count {
+            set_verdict(&mut self.entries[count - 1], verdict);
+        }
+    }
+}

@@ -1,0 +1,61 @@
+// What threads share of a world's verdicts.
+ghost use Rattle.std.specs.Prelude.{◌≡◌, IfOk, IfSome};
+ghost use Rattle.cc_tool.specs.Known.{IsSteady};
+
+use crate::Known;
+use cc_host::{Question, Verdict, World};
+use cc_text::Mem;
+use std::alloc::Global;
+use std::sync::{Arc, Mutex, Wait};
+
+/// The verdicts that are kept of a world, and whether a warning was given. Shared ones are the same, on all threads.
+#[derive(Drop)]
+pub struct Caches<W: World> {
+    known: Arc<Mutex<Known<W>>, Global>,
+    warned: Arc<Mutex<bool>, Global>,
+}
+
+impl<W: World> Caches<W> {
+    /// Caches in which nothing is kept.
+    pub fn new(alloc: Global) -> Mem<Caches<W>> {
+        Ok(Caches {
+            known: Arc::new(alloc, Mutex::new(Known::new(alloc)))?,
+            warned: Arc::new(alloc, Mutex::new(false))?,
+        })
+    }
+
+    /// The same caches for another owner.
+    pub fn share(&self) -> Mem<Caches<W>> {
+        Ok(Caches {
+            known: Arc::try_clone(&self.known)?,
+            warned: Arc::try_clone(&self.warned)?,
+        })
+    }
+
+    /// The verdict that is kept of a question, or none.
+    pub fn find(&self, rt: &impl Wait, q: &Question) -> Mem<Option<Verdict>>
+        ensures { IfOk result (λ found. IfSome found (IsSteady W.steady W.answer q.now)) }
+    {
+        let known = self.known.lock(rt);
+        match known.find_on(q) {
+            Some(verdict) => Ok(Some(verdict.try_clone()?)),
+            None => Ok(None),
+        }
+    }
+
+    /// Keeps the verdict of a question.
+    pub fn keep(&self, rt: &impl Wait, q: &Question, v: &Verdict) -> Mem<()>
+        requires { IsSteady W.steady W.answer q.now v.now }
+    {
+        let mut known = self.known.lock(rt);
+        known.keep_on(q, v)
+    }
+
+    /// Whether this is the first call, over all that share these caches. It takes no memory.
+    pub fn warn_once(&self, rt: &impl Wait) -> bool {
+        let mut warned = self.warned.lock(rt);
+        let first = !*warned;
+        *warned = true;
+        first
+    }
+}

@@ -1,0 +1,56 @@
+// Distinct texts.
+ghost use Rattle.std.specs.Prelude.{◌≡◌, [], true};
+ghost use Rattle.cc_tool.specs.Emitted.{is_distinct};
+ghost use Rattle.cc_tool.specs.Tool.{is_among};
+
+use cc_text::{Mem, Text};
+use std::alloc::Global;
+
+/// Distinct texts, in the order in which they came.
+#[derive(Drop)]
+pub struct Emitted {
+    pub(crate) list: Vec<Text>,
+    ghost distinct: { is_distinct list.items ≡ true },
+}
+
+fn is_among(texts: &[Text], value: &str) -> bool
+    ensures { result ≡ is_among texts.now value.now }
+{
+    texts.iter().any(|text| text.as_str() == value)
+}
+
+impl Emitted {
+    ghost use Rattle.std.specs.Prelude.{◌++◌, ◌∷◌, not, IfOk, OnErr};
+    ghost use Rattle.cc_text.specs.Words.{when};
+
+    /// No texts.
+    pub fn new(alloc: Global) -> Emitted
+        ensures { result.list.items ≡ [] }
+    {
+        Emitted {
+            list: Vec::new(alloc),
+        }
+    }
+
+    /// The texts, lent. None is there twice.
+    pub fn texts(&self) -> &[Text]
+        ensures lent { result.now ≡ self.now.list.items }
+        ensures distinct { is_distinct result.now ≡ true }
+    {
+        self.list.as_slice()
+    }
+
+    /// Adds a text last where it isn't there, and answers whether it was added. Refused for memory, the texts stay as they were.
+    pub fn push_if_new(&mut self, value: &str) -> Mem<bool>
+        ensures new { IfOk result (λ b. b ≡ not (is_among self.old.list.items value.now)) }
+        ensures texts { IfOk result (λ b. self.new.list.items ≡ self.old.list.items ++ when b (value.now ∷ [])) }
+        ensures err { OnErr result (self.new.list.items ≡ self.old.list.items) }
+    {
+        if is_among(self.list.as_slice(), value) {
+            return Ok(false);
+        }
+        let text = Text::of(*self.list.allocator(), value)?;
+        self.list.push(text)?;
+        Ok(true)
+    }
+}

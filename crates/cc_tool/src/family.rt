@@ -1,0 +1,361 @@
+// The family of a compiler, by what its preprocessor shows, else by the name of its file.
+ghost use Rattle.std.specs.Prelude.{◌≡◌, ◌≢◌, [], IfOk, codes, bytes_eq, true, false, if◌then◌else◌, ◌||◌};
+ghost use Rattle.cc_env.specs.Snapshot.{child_of};
+ghost use Rattle.cc_host.specs.Question.{Settles, is_yes as yes};
+ghost use Rattle.cc_host.specs.declared.question.Ask.TheVariants.{Exists as AsksExists};
+ghost use Rattle.cc_host.specs.declared.question.Verdict.TheVariants.{Marks as Shows};
+ghost use Rattle.cc_text.specs.Case.{lowered};
+ghost use Rattle.cc_text.specs.Within.{is_within};
+ghost use Rattle.cc_text.specs.declared.family.ToolFamily.TheVariants.{Clang, Msvc};
+ghost use Rattle.cc_tool.specs.Asks.{Asks};
+ghost use Rattle.cc_tool.specs.Family as families;
+
+use crate::{Answers, Caches, ask};
+use cc_env::BuildEnv;
+use cc_host::{Ask, Host, Marks, Question, Verdict, World};
+use cc_text::{
+    Mem, Text, ToolFamily, Vars, Words, contains_ignore_ascii_case, ends_with_ignore_ascii_case,
+    file_name,
+};
+use std::alloc::Global;
+use std::sync::Wait;
+
+/// How a family was detected.
+#[derive(Clone, Copy, Debug, PartialEq, Eq)]
+pub enum Detected {
+    /// The preprocessor showed a known macro. No warning follows.
+    Marks,
+    /// The preprocessor showed nothing, so the name of the file tells. A warning names the path.
+    NoMarks,
+    /// The preprocessor showed no known macro, so the name of the file tells. A warning tells so, and one names the path.
+    Failed,
+}
+
+// The needle stands in the name, whatever the case of ASCII letters.
+fn has_either(name: &str, needle: &str) -> bool
+    ensures { result ≡ is_within (lowered needle.now) (lowered name.now) }
+{
+    contains_ignore_ascii_case(name, needle)
+}
+
+// The file name of a path, or the empty name.
+#[tactic(auto, unfolding(crate::specs::Family::name_of))]
+fn name_of(path: &str) -> &str
+    ensures { result.now ≡ families.name_of path.now }
+{
+    file_name(path).unwrap_or("")
+}
+
+// The name is that of the Visual Studio compiler.
+#[tactic(auto, unfolding(crate::specs::Family::is_cl_name))]
+fn is_cl_name(name: &str) -> bool
+    ensures { result ≡ families.is_cl_name name.now }
+{
+    ends_with_ignore_ascii_case(name, "cl") || name.eq_ignore_ascii_case("cl.exe")
+}
+
+fn is_cl_mode(arg: &Text) -> bool
+    ensures { result ≡ bytes_eq (codes "--driver-mode=cl") arg.now }
+{
+    "--driver-mode=cl" == arg.as_str()
+}
+
+// Clang is asked to take the words of the Visual Studio compiler.
+#[tactic(auto, unfolding(crate::specs::Family::drives_cl))]
+fn drives_cl(args: &Words) -> bool
+    ensures { result ≡ families.drives_cl args.now }
+{
+    args.as_slice().iter().any(is_cl_mode)
+}
+
+// A Clang by its name.
+fn clang_of(args: &Words) -> ToolFamily
+    ensures { result ≡ (if families.drives_cl args.now then Msvc true else Clang false) }
+{
+    if drives_cl(args) {
+        ToolFamily::Msvc { clang_cl: true }
+    } else {
+        ToolFamily::Clang { zig_cc: false }
+    }
+}
+
+// The family by the name of the file.
+#[tactic(auto, unfolding(crate::specs::Family::family_of_file))]
+fn family_of_file(name: &str, args: &Words) -> ToolFamily
+    ensures { result ≡ families.family_of_file name.now args.now }
+{
+    if has_either(name, "clang-cl") {
+        ToolFamily::Msvc { clang_cl: true }
+    } else if is_cl_name(name) {
+        ToolFamily::Msvc { clang_cl: false }
+    } else if has_either(name, "clang") {
+        clang_of(args)
+    } else if has_either(name, "zig") {
+        ToolFamily::Clang { zig_cc: true }
+    } else {
+        ToolFamily::Gnu
+    }
+}
+
+// The family by the marks.
+#[tactic(auto, unfolding(crate::specs::Family::family_of_marks))]
+fn family_of_marks(helps: bool, marks: Marks) -> Option<ToolFamily>
+    ensures { result ≡ families.family_of_marks helps marks }
+{
+    if helps && !marks.emscripten && !marks.vxworks {
+        Some(ToolFamily::Msvc {
+            clang_cl: marks.clang,
+        })
+    } else if (marks.clang || marks.emscripten) && !marks.vxworks {
+        Some(ToolFamily::Clang { zig_cc: false })
+    } else if marks.gcc || marks.vxworks {
+        Some(ToolFamily::Gnu)
+    } else {
+        None
+    }
+}
+
+fn is_yes(verdict: &Verdict) -> bool
+    ensures { result ≡ yes verdict.now }
+{
+    match verdict {
+        Verdict::Unanswered => false,
+        Verdict::Missing => false,
+        Verdict::No => false,
+        Verdict::Yes => true,
+        Verdict::Marks(_) => false,
+        Verdict::Dirs(_) => false,
+    }
+}
+
+fn question(ask: Ask, path: &str, words: &Words, vars: &Vars, alloc: Global) -> Mem<Question>
+    ensures { IfOk result (λ q. q ≡ families.question ask path.now words.now vars.now) }
+{
+    Ok(Question {
+        ask,
+        program: Text::of(alloc, path)?,
+        words: words.try_clone()?,
+        vars: vars.try_clone()?,
+    })
+}
+
+// Asks the compiler at a path.
+fn ask_path<W: World, H: Host<W>>(
+    rt: &impl Wait,
+    alloc: Global,
+    host: &mut H,
+    caches: &Caches<W>,
+    answers: &mut Answers,
+    asked: Ask,
+    path: &str,
+    words: &Words,
+    vars: &Vars,
+    dir: &str,
+) -> Mem<Verdict>
+    requires { asked ≢ AsksExists }
+    ensures asks { Asks W.steady W.answer dir.now (H.log host.old) (H.log host.new) answers.old answers.new }
+    ensures settles { IfOk result (λ v. Settles answers.new (λ look. look (families.question asked path.now words.now vars.now)) v) }
+{
+    let q = question(asked, path, words, vars, alloc)?;
+    ask(rt, alloc, host, caches, answers, &q, dir)
+}
+
+fn reads_option(verdict: &Verdict) -> bool
+    ensures { result ≡ families.reads_option verdict.now }
+{
+    match verdict {
+        Verdict::Unanswered => false,
+        Verdict::Missing => false,
+        Verdict::No => false,
+        Verdict::Yes => false,
+        Verdict::Marks(marks) => marks.slash_u,
+        Verdict::Dirs(_) => false,
+    }
+}
+
+// What the preprocessor shows.
+#[tactic(auto, unfolding(crate::specs::Family::shown))]
+fn ask_shown<W: World, H: Host<W>>(
+    rt: &impl Wait,
+    alloc: Global,
+    host: &mut H,
+    caches: &Caches<W>,
+    answers: &mut Answers,
+    path: &str,
+    vars: &Vars,
+    dir: &str,
+) -> Mem<Verdict>
+    ensures asks { Asks W.steady W.answer dir.now (H.log host.old) (H.log host.new) answers.old answers.new }
+    ensures settles { IfOk result (λ v. Settles answers.new (λ look. families.shown look path.now vars.now) v) }
+{
+    let none = Words::new(alloc);
+    let first = ask_path(
+        rt,
+        alloc,
+        host,
+        caches,
+        answers,
+        Ask::Preprocess,
+        path,
+        &none,
+        vars,
+        dir,
+    )?;
+    if reads_option(&first) {
+        return ask_path(
+            rt,
+            alloc,
+            host,
+            caches,
+            answers,
+            Ask::PreprocessDashes,
+            path,
+            &none,
+            vars,
+            dir,
+        );
+    }
+    Ok(first)
+}
+
+fn found(family: Option<ToolFamily>) -> (Option<ToolFamily>, Detected)
+    ensures { result ≡ families.found family }
+{
+    match family {
+        Some(family) => (Some(family), Detected::Marks),
+        None => (None, Detected::Failed),
+    }
+}
+
+fn marks_in(verdict: &Verdict) -> Option<Marks>
+    ensures { result ≡ families.marks_in verdict.now }
+{
+    match verdict {
+        Verdict::Unanswered => None,
+        Verdict::Missing => None,
+        Verdict::No => None,
+        Verdict::Yes => None,
+        Verdict::Marks(marks) => Some(*marks),
+        Verdict::Dirs(_) => None,
+    }
+}
+
+// What the preprocessor tells of the family.
+fn ask_detection<W: World, H: Host<W>>(
+    rt: &impl Wait,
+    alloc: Global,
+    host: &mut H,
+    caches: &Caches<W>,
+    answers: &mut Answers,
+    path: &str,
+    args: &Words,
+    vars: &Vars,
+    dir: &str,
+) -> Mem<(Option<ToolFamily>, Detected)>
+    ensures asks { Asks W.steady W.answer dir.now (H.log host.old) (H.log host.new) answers.old answers.new }
+    ensures settles { IfOk result (λ d. Settles answers.new (λ look. families.detection look path.now args.now vars.now) d) }
+{
+    let shown = ask_shown(rt, alloc, host, caches, answers, path, vars, dir)?;
+    match marks_in(&shown) {
+        Some(marks) => {
+            let help = ask_path(
+                rt,
+                alloc,
+                host,
+                caches,
+                answers,
+                Ask::HelpFlag,
+                path,
+                args,
+                vars,
+                dir,
+            )?;
+            Ok(found(family_of_marks(is_yes(&help), marks)))
+        }
+        None => Ok((None, Detected::NoMarks)),
+    }
+}
+
+fn is_plain_clang(family: ToolFamily) -> bool
+    ensures { result ≡ families.is_plain_clang family }
+{
+    match family {
+        ToolFamily::Gnu => false,
+        ToolFamily::Clang { zig_cc } => !zig_cc,
+        ToolFamily::Msvc { .. } => false,
+    }
+}
+
+// A Clang of this version.
+fn clang_of_version(version: &Verdict, path: &str) -> ToolFamily
+    ensures { result ≡ Clang (yes version.now || families.has_either (families.name_of path.now) "zig") }
+{
+    let zig_cc = is_yes(version) || has_either(name_of(path), "zig");
+    ToolFamily::Clang { zig_cc }
+}
+
+// The same family, as that of Zig where its version or its file's name tells so.
+fn ask_zig<W: World, H: Host<W>>(
+    rt: &impl Wait,
+    alloc: Global,
+    host: &mut H,
+    caches: &Caches<W>,
+    answers: &mut Answers,
+    family: ToolFamily,
+    path: &str,
+    vars: &Vars,
+    dir: &str,
+) -> Mem<ToolFamily>
+    ensures asks { Asks W.steady W.answer dir.now (H.log host.old) (H.log host.new) answers.old answers.new }
+    ensures settles { IfOk result (λ f. Settles answers.new (λ look. families.with_zig family (families.is_zig look path.now vars.now)) f) }
+{
+    if is_plain_clang(family) {
+        let none = Words::new(alloc);
+        let version = ask_path(
+            rt,
+            alloc,
+            host,
+            caches,
+            answers,
+            Ask::Version,
+            path,
+            &none,
+            vars,
+            dir,
+        )?;
+        return Ok(clang_of_version(&version, path));
+    }
+    Ok(family)
+}
+
+/// The family of the compiler at a path, and how it was detected. The preprocessor is asked for the macros that it
+/// defines; where it shows no known one, the name of the file tells. A Clang is asked for its version too.
+pub fn ask_family<W: World, H: Host<W>>(
+    rt: &impl Wait,
+    alloc: Global,
+    host: &mut H,
+    caches: &Caches<W>,
+    answers: &mut Answers,
+    path: &str,
+    args: &Words,
+    env: &BuildEnv,
+    dir: &str,
+) -> Mem<(ToolFamily, Detected)>
+    ensures asks { Asks W.steady W.answer dir.now (H.log host.old) (H.log host.new) answers.old answers.new }
+    ensures settles { IfOk result (λ f. Settles answers.new (λ look. families.family_of look path.now args.now (child_of env.now.inherited env.now.explicit)) f) }
+{
+    let vars = env.child_vars(alloc)?;
+    let (seen, how) = ask_detection(rt, alloc, host, caches, answers, path, args, &vars, dir)?;
+    let family = family_or(seen, family_of_file(name_of(path), args));
+    let family = ask_zig(rt, alloc, host, caches, answers, family, path, &vars, dir)?;
+    Ok((family, how))
+}
+
+fn family_or(seen: Option<ToolFamily>, named: ToolFamily) -> ToolFamily
+    ensures { result ≡ families.family_or seen named }
+{
+    match seen {
+        Some(family) => family,
+        None => named,
+    }
+}

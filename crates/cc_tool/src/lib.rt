@@ -1,0 +1,31 @@
+//! Tools, the questions to them, and what is kept of the answers.
+//!
+//! Stands on `cc_text`, `cc_env` and `cc_host`. The crates above use one thing: a call that asks appends `Asks` to the
+//! log of its host and to the `Answers` of its public call, and what it answers is settled by them.
+#![tactic(auto)]
+
+mod answers;
+mod asking;
+mod caches;
+mod emitted;
+mod envs;
+mod family;
+mod files;
+mod kinds;
+mod known;
+mod outcomes;
+mod probes;
+#[cfg(test)]
+mod tests;
+mod tool;
+
+pub use answers::Answers;
+pub use asking::{ask, ask_flag};
+pub use caches::Caches;
+pub use emitted::Emitted;
+pub use envs::Envs;
+pub use family::{Detected, ask_family};
+pub use files::NamedTempfile;
+pub use kinds::FileKind;
+pub use known::Known;
+pub use tool::Tool;

@@ -1,0 +1,205 @@
+// Questions to a host, and the probe files that they need.
+ghost use Rattle.std.specs.Prelude.{◌≡◌, ◌≢◌, ◌++◌, ◌∷◌, [], List, Some, None, true, IfOk};
+ghost use Rattle.cc_host.specs.Event.{probed, unasked as noted};
+ghost use Rattle.cc_host.specs.declared.question.Ask.TheVariants.{Exists as AsksExists};
+ghost use Rattle.cc_host.specs.declared.question.Outcome.TheVariants.{Unanswered};
+ghost use Rattle.cc_tool.specs.Files as kinds;
+ghost use Rattle.cc_tool.specs.Probing.{File, Probes, AreOpen, IsMade, made_of, lack, heard};
+
+use crate::kinds::{object_of, source_of};
+use crate::{FileKind, NamedTempfile};
+use cc_host::{Host, HostError, Outcome, ProbeFiles, Question, Scope, World};
+use cc_text::{Mem, NoMemory, Text};
+use std::alloc::Global;
+
+// Makes a file of a kind, or none where it can't be made.
+fn make_file<W: World, H: Host<W>>(
+    alloc: Global,
+    host: &mut H,
+    dir: &str,
+    kind: FileKind,
+) -> Mem<Option<NamedTempfile>>
+    ensures probes { (from : List File) → Probes dir.now (H.log host.old) (H.log host.new) from (from ++ made_of kind result) [] (lack result) }
+    ensures made { IsMade dir.now kind result }
+{
+    let contents = kind.contents().as_bytes();
+    match NamedTempfile::create(alloc, host, dir, kind.suffix(), contents) {
+        Ok(file) => Ok(file),
+        Err(HostError::Fault(_, _)) => Ok(None),
+        Err(HostError::NoMemory) => Err(NoMemory),
+    }
+}
+
+// Makes the folder, and a source in it.
+fn make_source<W: World, H: Host<W>>(
+    alloc: Global,
+    host: &mut H,
+    dir: &str,
+    kind: FileKind,
+) -> Mem<Option<NamedTempfile>>
+    ensures probes { Probes dir.now (H.log host.old) (H.log host.new) [] (made_of kind result) [] (lack result) }
+    ensures made { IsMade dir.now kind result }
+{
+    match host.make_dir(Scope::Probe, dir) {
+        Ok(()) => make_file(alloc, host, dir, kind),
+        Err(HostError::Fault(_, _)) => Ok(None),
+        Err(HostError::NoMemory) => Err(NoMemory),
+    }
+}
+
+// Notes that a question couldn't be asked.
+fn leave<W: World, H: Host<W>>(host: &mut H, q: &Question) -> Mem<Outcome>
+    ensures adds { H.log host.new ≡ H.log host.old ++ noted q.now result }
+    ensures unanswered { IfOk result (λ outcome. outcome ≡ Unanswered) }
+{
+    host.unasked(q)?;
+    Ok(Outcome::Unanswered)
+}
+
+// Asks with a source that is there, and drops it.
+fn ask_source<W: World, H: Host<W>>(
+    host: &mut H,
+    dir: &str,
+    kind: FileKind,
+    q: &Question,
+    files: ProbeFiles,
+) -> Mem<Outcome>
+    requires needs { (q.now.ask ≢ AsksExists) × (kinds.source_of q.now.ask ≡ Some kind) × (kinds.object_of q.now.ask ≡ None) × (files.dir ≡ dir.now) × (files.object ≡ []) }
+    requires open { AreOpen ((files.source, kinds.contents_of kind) ∷ []) (H.log host.old) }
+    requires named { kinds.IsPath dir.now kind files.source }
+    ensures probes { Probes dir.now (H.log host.old) (H.log host.new) ((files.source, kinds.contents_of kind) ∷ []) [] (heard q.now result) 0 }
+    ensures steady { W.steady ≡ true → IfOk result (λ outcome. outcome ≢ Unanswered → outcome ≡ W.answer q.now) }
+{
+    let outcome = host.probe(q, &files);
+    host.drop_probe(files.source.as_str());
+    outcome
+}
+
+// Asks with a source and an object that are there, and drops them.
+fn ask_both<W: World, H: Host<W>>(
+    host: &mut H,
+    dir: &str,
+    kind: FileKind,
+    object: FileKind,
+    q: &Question,
+    files: ProbeFiles,
+) -> Mem<Outcome>
+    requires needs { (q.now.ask ≢ AsksExists) × (kinds.source_of q.now.ask ≡ Some kind) × (kinds.object_of q.now.ask ≡ Some object) × (files.dir ≡ dir.now) }
+    requires open { AreOpen ((files.source, kinds.contents_of kind) ∷ (files.object, kinds.contents_of object) ∷ []) (H.log host.old) }
+    requires named { kinds.IsPath dir.now kind files.source × kinds.IsPath dir.now object files.object }
+    ensures probes { Probes dir.now (H.log host.old) (H.log host.new) ((files.source, kinds.contents_of kind) ∷ (files.object, kinds.contents_of object) ∷ []) [] (heard q.now result) 0 }
+    ensures steady { W.steady ≡ true → IfOk result (λ outcome. outcome ≢ Unanswered → outcome ≡ W.answer q.now) }
+{
+    let outcome = host.probe(q, &files);
+    host.drop_probe(files.source.as_str());
+    host.drop_probe(files.object.as_str());
+    outcome
+}
+
+// Asks with a source that is there, and an object that is made. Both are dropped.
+fn ask_object<W: World, H: Host<W>>(
+    alloc: Global,
+    host: &mut H,
+    dir: &str,
+    kind: FileKind,
+    object: FileKind,
+    q: &Question,
+    folder: Text,
+    source: Text,
+) -> Mem<Outcome>
+    requires needs { (q.now.ask ≢ AsksExists) × (kinds.source_of q.now.ask ≡ Some kind) × (kinds.object_of q.now.ask ≡ Some object) × (folder ≡ dir.now) }
+    requires open { AreOpen ((source, kinds.contents_of kind) ∷ []) (H.log host.old) }
+    requires named { kinds.IsPath dir.now kind source }
+    ensures probes { Probes dir.now (H.log host.old) (H.log host.new) ((source, kinds.contents_of kind) ∷ []) [] (heard q.now result) 0 }
+    ensures steady { W.steady ≡ true → IfOk result (λ outcome. outcome ≢ Unanswered → outcome ≡ W.answer q.now) }
+{
+    match make_file(alloc, host, dir, object) {
+        Ok(Some(file)) => {
+            let files = ProbeFiles {
+                dir: folder,
+                source,
+                object: file.into_path(),
+            };
+            ask_both(host, dir, kind, object, q, files)
+        }
+        Ok(None) => {
+            let outcome = leave(host, q);
+            host.drop_probe(source.as_str());
+            outcome
+        }
+        Err(NoMemory) => {
+            host.drop_probe(source.as_str());
+            Err(NoMemory)
+        }
+    }
+}
+
+// Asks a question that needs files. They are made in the folder, which is made first, and dropped.
+fn ask_with_files<W: World, H: Host<W>>(
+    alloc: Global,
+    host: &mut H,
+    dir: &str,
+    kind: FileKind,
+    q: &Question,
+) -> Mem<Outcome>
+    requires { (q.now.ask ≢ AsksExists) × (kinds.source_of q.now.ask ≡ Some kind) }
+    ensures probes { Probes dir.now (H.log host.old) (H.log host.new) [] [] (heard q.now result) 0 }
+    ensures steady { W.steady ≡ true → IfOk result (λ outcome. outcome ≢ Unanswered → outcome ≡ W.answer q.now) }
+{
+    let folder = Text::of(alloc, dir)?;
+    let _tidy = host.log();
+    match make_source(alloc, host, dir, kind)? {
+        None => leave(host, q),
+        Some(file) => {
+            let source = file.into_path();
+            match object_of(q.ask) {
+                Some(object) => ask_object(alloc, host, dir, kind, object, q, folder, source),
+                None => {
+                    let files = ProbeFiles {
+                        dir: folder,
+                        source,
+                        object: Text::new(alloc),
+                    };
+                    ask_source(host, dir, kind, q, files)
+                }
+            }
+        }
+    }
+}
+
+// Asks a question that needs no file.
+fn ask_bare<W: World, H: Host<W>>(
+    alloc: Global,
+    host: &mut H,
+    dir: &str,
+    q: &Question,
+) -> Mem<Outcome>
+    requires { (q.now.ask ≢ AsksExists) × (kinds.source_of q.now.ask ≡ None) }
+    ensures probes { Probes dir.now (H.log host.old) (H.log host.new) [] [] (heard q.now result) 0 }
+    ensures steady { W.steady ≡ true → IfOk result (λ outcome. outcome ≢ Unanswered → outcome ≡ W.answer q.now) }
+{
+    let _ = dir;
+    let files = ProbeFiles {
+        dir: Text::new(alloc),
+        source: Text::new(alloc),
+        object: Text::new(alloc),
+    };
+    host.probe(q, &files)
+}
+
+/// Asks a question by its command, with the files that it needs.
+pub(crate) fn ask_host<W: World, H: Host<W>>(
+    alloc: Global,
+    host: &mut H,
+    dir: &str,
+    q: &Question,
+) -> Mem<Outcome>
+    requires { q.now.ask ≢ AsksExists }
+    ensures probes { Probes dir.now (H.log host.old) (H.log host.new) [] [] (heard q.now result) 0 }
+    ensures steady { W.steady ≡ true → IfOk result (λ outcome. outcome ≢ Unanswered → outcome ≡ W.answer q.now) }
+{
+    match source_of(q.ask) {
+        Some(kind) => ask_with_files(alloc, host, dir, kind, q),
+        None => ask_bare(alloc, host, dir, q),
+    }
+}
