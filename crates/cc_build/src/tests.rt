@@ -336,19 +336,20 @@ fn an_error_keeps_what_it_is_given(rt: HostRuntime) -> Result<(), Fail> {
     Ok(())
 }
 
-// How many questions were answered, and how many probe files still stand.
-fn questions_in(log: &[Event]) -> (usize, usize) {
-    let mut asked = 0;
-    let mut standing = 0;
+// How many questions were answered, and how many probe files were made and dropped.
+fn questions_in(log: &[Event]) -> (u64, u64, u64) {
+    let mut asked: u64 = 0;
+    let mut made: u64 = 0;
+    let mut dropped: u64 = 0;
     for event in log {
         match event {
-            Event::Answered { .. } => asked += 1,
-            Event::Opened { .. } => standing += 1,
-            Event::Dropped { .. } => standing -= 1,
+            Event::Answered { .. } => asked = asked.saturating_add(1),
+            Event::Opened { .. } => made = made.saturating_add(1),
+            Event::Dropped { .. } => dropped = dropped.saturating_add(1),
             _ => {}
         }
     }
-    (asked, standing)
+    (asked, made, dropped)
 }
 
 // The compiler is what it says of itself, and a second run asks nothing again.
@@ -363,9 +364,9 @@ fn a_compiler_is_asked_once_what_it_is(rt: HostRuntime) -> Result<(), Fail> {
     let tool = build.try_get_compiler(&rt, &mut host)?;
     assert!(rt; tool.is_like_clang());
     assert_eq!(rt; tool.path(), "cc");
-    assert_eq!(rt; questions_in(host.log()), (3, 0));
+    assert_eq!(rt; questions_in(host.log()), (3, 2, 2));
     let again = build.try_clone()?.try_get_compiler(&rt, &mut host)?;
     assert_eq!(rt; again.args().as_slice().len(), tool.args().as_slice().len());
-    assert_eq!(rt; questions_in(host.log()), (3, 0));
+    assert_eq!(rt; questions_in(host.log()), (3, 2, 2));
     Ok(())
 }

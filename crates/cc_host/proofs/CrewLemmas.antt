@@ -1,12 +1,16 @@
 -- Children of a host in memory, as its log grows.
-use Rattle.std.proofs.Common.{◌≡◌, ◌≢◌, ℕ, zero, suc, ◌+◌, ◌<◌, ◌≤◌, Bool, true, false, ◌==◌, List, [], ◌∷◌, ◌++◌, length, get_or, take, drop, map, Option, refl, sym, ◌∙◌, ap, subst, arith, append-nil, add-one}
+use Rattle.std.proofs.Common.{◌≡◌, ◌≢◌, ℕ, zero, suc, ◌+◌, ◌<◌, ◌≤◌, Bool, true, false, ◌==◌, List, [], ◌∷◌, ◌++◌, length, get_or, take, drop, map, Option, Result, Ok, refl, sym, ◌∙◌, ap, subst, arith, append-nil, add-one}
 use Rattle.std.specs.List.{Contains, All, remove}
 use Rattle.std.proofs.lemmas.List.{map-append, length-append}
+use Rattle.std.proofs.lemmas.List.Elements.{Contains-append_right}
 use Rattle.std.proofs.lemmas.Grind.{common_steps, flat_map-append}
 use Rattle.cc_host.specs.Children.{Live, live, live_from, live_after, without, running, id_of, started_ids, unread_of, unreads, IsFresh}
 use Rattle.cc_host.specs.Command.{CommandSeen}
 use Rattle.cc_host.specs.Crew.{IsCrew, IsIdle, live_of, ids, without_kid, Below, Above, Rising, Heeds}
+use Rattle.cc_host.specs.Event.{started}
 use Rattle.cc_host.specs.declared.event.Event.{Event}
+use Rattle.cc_host.specs.declared.event.HostError.{HostError}
+use Rattle.cc_host.specs.declared.event.Start.{Start}
 use Rattle.cc_host.specs.declared.event.Event.TheVariants.{Started, Abandoned}
 use Rattle.cc_host.specs.declared.event.Pipes.{Pipes}
 use Rattle.cc_host.specs.declared.event.Role.{Role}
@@ -101,6 +105,14 @@ crew_start log new next kids role cmd pipes held place is crew =
       heard = subst (λ l. Below l (next + 1)) (sym u) (below_later (unreads log) next (next + 1) more crew.heard);
       heeds = subst (λ l. Heeds l (kids ++ kid ∷ [])) (sym u) (heeds_one (unreads log) kids kid crew.heeds (λ _ c. below_lacks (unreads log) next crew.heard c));
     }
+
+-- a child that was started runs
+pub started_runs : (a b : List Event) (id : ℕ) (role : Role) (cmd : CommandSeen) (pipes : Pipes) (held : ℕ) (r : Result Start HostError) → r ≡ Ok (Child id) → b ≡ a ++ started role cmd pipes held r → Contains (running b) id
+started_runs a b id role cmd pipes held r child is =
+    let c : Live = record { id = id; polls = 0 } in
+    let e : b ≡ a ++ Started id role cmd pipes held ∷ [] = is ∙ ap (λ r. a ++ started role cmd pipes held r) child in
+    let l : running b ≡ running a ++ id ∷ [] = ap running e ∙ ap (map (λ (c : Live). c.id)) (live_then [] a (Started id role cmd pipes held ∷ [])) ∙ map-append (λ (c : Live). c.id) (live a) (c ∷ []) in
+    subst (λ ids. Contains ids id) (sym l) (Contains-append_right (running a) (id ∷ []) id (zero, omega arith, refl))
 
 pub crew_fresh : (log : List Event) (next : ℕ) (kids : List Kid) → IsCrew log next kids → IsFresh log (Child next)
 crew_fresh log next kids crew = (crew.count, below_all (started_ids log) next crew.drawn)

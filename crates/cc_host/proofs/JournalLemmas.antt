@@ -1,12 +1,16 @@
 -- Probe files as a log grows.
-use Rattle.std.proofs.Common.{◌≡◌, ◌≢◌, subst, ℕ, zero, suc, ◌+◌, ◌<◌, Bool, true, false, List, [], ◌∷◌, ◌++◌, length, get_or, take, flat_map, bytes_eq, refl, sym, ◌∙◌, ap, arith, append-nil, replicate}
+use Rattle.std.proofs.Common.{◌≡◌, ◌≢◌, subst, append_assoc, ℕ, zero, suc, ◌+◌, ◌<◌, Bool, true, false, List, [], ◌∷◌, ◌++◌, length, get_or, take, flat_map, bytes_eq, refl, sym, ◌∙◌, ap, arith, append-nil, replicate, Result, Ok, Err, if◌then◌else◌}
 use Rattle.std.specs.List.{remove}
 use Rattle.std.proofs.lemmas.List.Sums.{count_by_more_no}
 use Rattle.std.proofs.lemmas.Slice.Eq.{bytes_eq-Decides}
 use Rattle.std.proofs.lemmas.Grind.{common_steps, flat_map-append}
 use Rattle.cc_host.specs.Probe.{open_of, drop_of, opens, drops, times, IsOpen, IsTidy}
 use Rattle.cc_host.specs.Journal.{IsKept, IsQuiet}
-use Rattle.cc_host.specs.Event.{apart}
+use Rattle.cc_host.specs.Event.{apart, created}
+use Rattle.cc_host.specs.declared.event.Created.{Created}
+use Rattle.cc_host.specs.declared.event.Created.TheVariants.{New, Exists}
+use Rattle.cc_host.specs.declared.event.HostError.{HostError}
+use Rattle.cc_host.specs.declared.event.HostError.TheVariants.{Fault as Failed, NoMemory}
 use Rattle.cc_host.specs.declared.event.Event.{Event}
 use Rattle.cc_host.specs.declared.event.Event.TheVariants.{Opened, Dropped, Turn}
 
@@ -104,3 +108,31 @@ times_more path files at d lt differ = count_by_more_no (bytes_eq path) files at
     no_bytes : (a b : List ℕ) (r : Bool) → bytes_eq a b ≡ r → a ≢ b → bytes_eq a b ≡ false
     no_bytes a b false e h = e
     no_bytes a b true e h = absurd (h ((bytes_eq-Decides a b).0 e))
+
+no_drop : (path bytes : List ℕ) (r : Result Created HostError) → drops (created path bytes r) ≡ []
+no_drop path bytes (Ok New) = refl
+no_drop path bytes (Ok Exists) = refl
+no_drop path bytes (Err NoMemory) = refl
+no_drop path bytes (Err (Failed call why)) = refl
+
+one_if : (b : Bool) → b ≡ true → 0 + (if b then 1 else 0) ≡ 1
+one_if true e = refl
+one_if false e = absurd (cc)
+
+times_one : (path : List ℕ) → times path (path ∷ []) ≡ 1
+times_one path = one_if (bytes_eq path path) ((bytes_eq-Decides path path).1 refl)
+
+stands : (log part : List Event) (path bytes : List ℕ) → IsTidy log → drops part ≡ [] → IsOpen path ((log ++ Opened path bytes ∷ []) ++ part)
+stands log part path bytes tidy none =
+    let made : List Event = log ++ Opened path bytes ∷ [] in
+    let o : opens (made ++ part) ≡ opens log ++ path ∷ opens part = flat_map-append open_of made part ∙ ap (λ l. l ++ opens part) (flat_map-append open_of log (Opened path bytes ∷ [])) ∙ append_assoc (opens log) (path ∷ []) (opens part) in
+    let d : drops (made ++ part) ≡ drops log = flat_map-append drop_of made part ∙ ap (λ l. l ++ drops part) (flat_map-append drop_of log (Opened path bytes ∷ [])) ∙ ap (λ l. (drops log ++ []) ++ l) none ∙ append-nil (drops log ++ []) ∙ append-nil (drops log) in
+    let t = tidy path in
+    let one = times_one path in
+    rw (o, d, times_then path (opens log) (path ∷ opens part), times_then path (path ∷ []) (opens part)) (omega (arith, t, one))
+
+-- a probe file that was made stands behind the making of another
+pub still_open : (a b c : List Event) (path bytes other more : List ℕ) (first second : Result Created HostError) → first ≡ Ok New → IsTidy a → b ≡ a ++ created path bytes first → c ≡ b ++ created other more second → IsOpen path c
+still_open a b c path bytes other more first second new tidy is after =
+    let e : b ≡ a ++ Opened path bytes ∷ [] = is ∙ ap (λ r. a ++ created path bytes r) new in
+    subst (IsOpen path) (sym (after ∙ ap (λ l. l ++ created other more second) e)) (stands a (created other more second) path bytes tidy (no_drop other more second))

@@ -1,4 +1,6 @@
 // What the host in memory does, as its callers see it.
+ghost use Rattle.std.specs.Prelude.{◌≡◌, IfOk};
+
 use crate::{
     Ask, BenchHost, Command, Created, Event, Host, HostCall, HostError, LineKind, Outcome,
     OutputKind, Pipes, ProbeFiles, Question, Ran, Removal, Role, Scope, Script, Start, Status,
@@ -151,6 +153,17 @@ fn children_give_their_pieces_one_a_turn_and_wait_for_another(rt: HostRuntime) -
     Ok(())
 }
 
+// Starts a child, and leaves it alone.
+fn left_alone(alloc: Global, host: &mut BenchHost, name: &str) -> Result<Option<u64>, Fail> {
+    match host.start(Role::Compile, &Command::new(alloc, name)?, KEPT, 1)? {
+        Start::Child(id) => {
+            host.abandon(id);
+            Ok(Some(id))
+        }
+        Start::Missing => Ok(None),
+    }
+}
+
 #[test]
 fn a_child_that_is_left_alone_tells_nothing_more(rt: HostRuntime) -> Result<(), Fail> {
     let alloc = rt.alloc();
@@ -160,11 +173,8 @@ fn a_child_that_is_left_alone_tells_nothing_more(rt: HostRuntime) -> Result<(), 
         host.start(Role::Compile, &Command::new(alloc, "none")?, KEPT, 1),
         Ok(Start::Missing)
     );
-    assert_eq!(rt;
-        host.start(Role::Compile, &Command::new(alloc, "a")?, KEPT, 1),
-        Ok(Start::Child(0))
-    );
-    host.abandon(0);
+    let id = left_alone(alloc, &mut host, "a")?;
+    assert_eq!(rt; id, Some(0));
     assert_eq!(rt; told(alloc, &mut host, 1)?.as_str(), "|");
     assert_eq!(rt; host.log().len(), 4);
     Ok(())
@@ -197,7 +207,9 @@ fn captured_output_is_the_first_piece(rt: HostRuntime) -> Result<(), Fail> {
     Ok(())
 }
 
-fn question(alloc: Global, ask: Ask, program: &str) -> Result<Question, Fail> {
+fn question(alloc: Global, ask: Ask, program: &str) -> Result<Question, Fail>
+    ensures { IfOk result (λ q. q.ask ≡ ask) }
+{
     Ok(Question {
         ask,
         program: Text::of(alloc, program)?,
@@ -236,6 +248,19 @@ fn questions_come_to_the_last_outcome_that_was_given(rt: HostRuntime) -> Result<
     Ok(())
 }
 
+// What comes of it where a probe file that was made is made again, before it is dropped.
+fn made_again(host: &mut BenchHost, path: &str) -> Result<Option<Created>, HostError> {
+    let _tidy = host.log();
+    match host.create_probe(path, b"int")? {
+        Created::New => {
+            let again = host.create_probe(path, b"int");
+            host.drop_probe(path);
+            Ok(Some(again?))
+        }
+        Created::Exists => Ok(None),
+    }
+}
+
 #[test]
 fn files_stand_until_they_are_removed_or_dropped(rt: HostRuntime) -> Result<(), Fail> {
     let alloc = rt.alloc();
@@ -245,9 +270,7 @@ fn files_stand_until_they_are_removed_or_dropped(rt: HostRuntime) -> Result<(), 
     assert_eq!(rt; host.create_probe("/w/libfoo.a", b""), Ok(Created::Exists));
     assert_eq!(rt; host.remove_file("/w/libfoo.a"), Ok(Removal::Gone));
     assert_eq!(rt; host.remove_file("/w/libfoo.a"), Ok(Removal::Absent));
-    assert_eq!(rt; host.create_probe("/w/a.c", b"int"), Ok(Created::New));
-    assert_eq!(rt; host.create_probe("/w/a.c", b"int"), Ok(Created::Exists));
-    host.drop_probe("/w/a.c");
+    assert_eq!(rt; made_again(&mut host, "/w/a.c"), Ok(Some(Created::Exists)));
     assert!(rt; !host.exists("/w/a.c")?);
     Ok(())
 }

@@ -1,4 +1,7 @@
 // The host over the machine, on programs that each machine has and in folders of its own.
+ghost use Rattle.std.specs.Prelude.{◌≡◌, IfOk};
+ghost use Rattle.cc_host.specs.declared.question.Ask.TheVariants.{ToolVersion};
+
 use crate::ProcessHost;
 use cc_host::{
     Ask, Command, Created, Host, HostCall, HostError, Outcome, OutputKind, Pipes, ProbeFiles,
@@ -127,13 +130,15 @@ fn variables_of_the_process_are_listed(rt: HostRuntime) -> Result<(), Fail> {
     Ok(())
 }
 
-fn gcc_question(rt: &HostRuntime) -> Result<Question, Fail> {
+fn version_question(rt: &HostRuntime, program: &str) -> Result<Question, Fail>
+    ensures { IfOk result (λ q. q.ask ≡ ToolVersion) }
+{
     let alloc = rt.alloc();
     let mut vars = Vars::new(alloc);
     vars.push("PATH", "/usr/bin:/bin")?;
     Ok(Question {
         ask: Ask::ToolVersion,
-        program: Text::of(alloc, "gcc")?,
+        program: Text::of(alloc, program)?,
         words: Words::new(alloc),
         vars,
     })
@@ -143,18 +148,37 @@ fn gcc_question(rt: &HostRuntime) -> Result<Question, Fail> {
 fn a_probe_is_answered_and_noted(rt: HostRuntime) -> Result<(), Fail> {
     let alloc = rt.alloc();
     let mut host = ProcessHost::new(rt)?;
-    let mut q = gcc_question(&rt)?;
+    let gcc = version_question(&rt, "gcc")?;
+    let none = version_question(&rt, "no such compiler é")?;
     let files = ProbeFiles {
         dir: Text::new(alloc),
         source: Text::new(alloc),
         object: Text::new(alloc),
     };
-    let outcome = host.probe(&q, &files)?;
-    assert!(rt; matches!(verdict(alloc, &q, &outcome)?, Verdict::Yes));
-    q.program = Text::of(alloc, "no such compiler é")?;
-    assert!(rt; matches!(host.probe(&q, &files)?, Outcome::Missing));
+    let outcome = host.probe(&gcc, &files)?;
+    assert!(rt; matches!(verdict(alloc, &gcc, &outcome)?, Verdict::Yes));
+    assert!(rt; matches!(host.probe(&none, &files)?, Outcome::Missing));
     assert_eq!(rt; host.log().len(), 2);
     Ok(())
+}
+
+// The contents of a probe file that was made, and then made again with others, before it is dropped.
+fn kept_contents(
+    rt: &HostRuntime,
+    host: &mut ProcessHost<HostRuntime>,
+    path: &str,
+) -> Result<Option<String>, Fail> {
+    let _tidy = host.log();
+    match host.create_probe(path, b"int x;\n")? {
+        Created::New => {
+            let again = host.create_probe(path, b"int y;\n");
+            let text = fs::read_to_string(rt, path);
+            host.drop_probe(path);
+            assert_eq!(rt; again, Ok(Created::Exists));
+            Ok(Some(text?))
+        }
+        Created::Exists => Ok(None),
+    }
 }
 
 #[test]
@@ -162,43 +186,57 @@ fn a_probe_file_is_made_where_none_stands(rt: HostRuntime) -> Result<(), Fail> {
     let mut host = ProcessHost::new(rt)?;
     let path = own_path(&rt, "probe.c")?;
     assert!(rt; !host.exists(path.as_str())?);
-    assert_eq!(rt;
-        host.create_probe(path.as_str(), b"int x;\n"),
-        Ok(Created::New)
-    );
-    assert_eq!(rt;
-        host.create_probe(path.as_str(), b"int y;\n"),
-        Ok(Created::Exists)
-    );
-    assert_eq!(rt;
-        fs::read_to_string(&rt, path.as_str())?.as_str(),
-        "int x;\n"
-    );
-    host.drop_probe(path.as_str());
+    let text = kept_contents(&rt, &mut host, path.as_str())?;
+    assert_eq!(rt; text.as_ref().map(|t| t.as_str()), Some("int x;\n"));
     assert!(rt; !host.exists(path.as_str())?);
     let refused = HostError::Fault(HostCall::CreateProbe, Why::NotFound);
     assert_eq!(rt; host.create_probe("/no such folder/a", b""), Err(refused));
     Ok(())
 }
 
+// Starts a child, and leaves it alone.
+fn left_alone(
+    rt: &HostRuntime,
+    host: &mut ProcessHost<HostRuntime>,
+    line: &str,
+) -> Result<Option<u64>, Fail> {
+    match host.start(Role::Compile, &shell(rt, line)?, KEPT, 1)? {
+        Start::Child(id) => {
+            host.abandon(id);
+            Ok(Some(id))
+        }
+        Start::Missing => Ok(None),
+    }
+}
+
+// What each child told in a turn, as `id:piece` and `id=code`.
+fn told_in_turn(rt: &HostRuntime, host: &mut ProcessHost<HostRuntime>) -> Result<String, Fail> {
+    let mut text = String::new(rt.alloc());
+    for news in host.turn(0)? {
+        let id = news.id;
+        if let Some(piece) = &news.piece {
+            let piece = str::from_utf8(piece.as_slice()).unwrap_or("?");
+            write!(text, "{id}:{piece}")?;
+        }
+        if let Some(Status::Code(code)) = news.ended {
+            write!(text, "{id}={code}")?;
+        }
+    }
+    Ok(text)
+}
+
 #[test]
 fn the_oldest_child_is_waited_for(rt: HostRuntime) -> Result<(), Fail> {
     let mut host = ProcessHost::new(rt)?;
-    for (line, id) in [("echo A >&2; exit 3", 0), ("exit 0", 1), ("sleep 60", 2)] {
+    for (line, id) in [("echo A >&2; exit 3", 0), ("exit 0", 1)] {
         assert_eq!(rt;
             host.start(Role::Compile, &shell(&rt, line)?, KEPT, 1),
             Ok(Start::Child(id))
         );
     }
-    for (id, piece, code) in [(0, Some("A\n"), 3), (1, None, 0)] {
-        let news = host.turn(0)?;
-        assert_eq!(rt; news.len(), 1);
-        assert_eq!(rt; news[0].id, id);
-        assert_eq!(rt; news[0].ended, Some(Status::Code(code)));
-        let told = news[0].piece.as_ref().map(|p| p.as_slice());
-        assert_eq!(rt; told, piece.map(|p| p.as_bytes()));
+    assert_eq!(rt; left_alone(&rt, &mut host, "sleep 60")?, Some(2));
+    for want in ["0:A\n0=3", "1=0", ""] {
+        assert_eq!(rt; told_in_turn(&rt, &mut host)?.as_str(), want);
     }
-    host.abandon(2);
-    assert!(rt; host.turn(0)?.is_empty());
     Ok(())
 }

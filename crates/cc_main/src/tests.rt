@@ -1,4 +1,7 @@
 // Runs of the top call on a host in memory.
+ghost use Rattle.std.specs.Prelude.{◌≢◌, IfOk};
+ghost use Rattle.cc_host.specs.declared.question.Outcome.TheVariants.{Unanswered};
+
 mod questions;
 
 use crate::top::{Ended, drive};
@@ -75,7 +78,9 @@ fn log_text(alloc: Global, host: &BenchHost) -> Mem<Text> {
 }
 
 // What a question ended with.
-fn done(alloc: Global, code: i32, out: &str) -> Mem<Outcome> {
+fn done(alloc: Global, code: i32, out: &str) -> Mem<Outcome>
+    ensures { IfOk result (λ o. o ≢ Unanswered) }
+{
     Ok(Outcome::Done {
         status: Status::Code(code),
         out: Bytes::of(alloc, out.as_bytes())?,

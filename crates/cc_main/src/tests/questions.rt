@@ -106,11 +106,11 @@ fn each_folder_of_the_path_is_asked_once(rt: HostRuntime) -> Result<(), Fail> {
         "compile foo file=a.c file=b.c target=riscv64gc-unknown-none-elf host=x86_64-unknown-linux-gnu opt_level=0 out_dir=/o archiver=ar";
     let ended = drive_line(&rt, line, &mut host)?;
     assert_eq!(rt; ended.status, 0);
-    let mut asked = 0;
+    let mut asked: u64 = 0;
     for event in host.log() {
         if let Event::Answered { question, .. } = event {
             if question.program.as_str() == "/p7/riscv64-unknown-elf-gcc" {
-                asked += 1;
+                asked = asked.saturating_add(1);
             }
         }
     }
