@@ -1,5 +1,6 @@
 // What the host in memory does, as its callers see it.
-ghost use Rattle.std.specs.Prelude.{◌≡◌, IfOk};
+ghost use Rattle.std.specs.Prelude.{◌≡◌, ◌≢◌, IfOk};
+ghost use Rattle.cc_host.specs.declared.question.Ask.TheVariants.{Exists as AsksExists};
 
 use crate::{
     Ask, BenchHost, Command, Created, Event, Host, HostCall, HostError, LineKind, Outcome,
@@ -226,6 +227,20 @@ fn no_files(alloc: Global) -> ProbeFiles {
     }
 }
 
+// The verdict of a question that a command answers.
+fn verdict_on(
+    alloc: Global,
+    host: &mut BenchHost,
+    ask: Ask,
+    program: &str,
+) -> Result<Verdict, Fail>
+    requires { ask ≢ AsksExists }
+{
+    let q = question(alloc, ask, program)?;
+    let outcome = host.probe(&q, &no_files(alloc))?;
+    Ok(verdict(alloc, &q, &outcome)?)
+}
+
 #[test]
 fn questions_come_to_the_last_outcome_that_was_given(rt: HostRuntime) -> Result<(), Fail> {
     let alloc = rt.alloc();
@@ -233,17 +248,14 @@ fn questions_come_to_the_last_outcome_that_was_given(rt: HostRuntime) -> Result<
     host.answer(Ask::Starts, "nvcc", Outcome::Exists(true))?;
     host.answer(Ask::Starts, "nvcc", Outcome::Missing)?;
     host.fail(HostCall::Probe, 3)?;
-    let files = no_files(alloc);
-    let nvcc = question(alloc, Ask::Starts, "nvcc")?;
-    let gcc = question(alloc, Ask::Preprocess, "nvcc")?;
-    let first = host.probe(&nvcc, &files)?;
-    assert!(rt; matches!(verdict(alloc, &nvcc, &first)?, Verdict::Missing));
-    let second = host.probe(&gcc, &files)?;
-    match verdict(alloc, &gcc, &second)? {
+    let first = verdict_on(alloc, &mut host, Ask::Starts, "nvcc")?;
+    assert!(rt; matches!(first, Verdict::Missing));
+    match verdict_on(alloc, &mut host, Ask::Preprocess, "nvcc")? {
         Verdict::Marks(marks) => assert!(rt; marks.gcc && !marks.clang && !marks.slash_u),
         _ => assert!(rt; false),
     }
-    assert!(rt; matches!(host.probe(&gcc, &files)?, Outcome::Unanswered));
+    let third = verdict_on(alloc, &mut host, Ask::Preprocess, "nvcc")?;
+    assert!(rt; matches!(third, Verdict::Unanswered));
     assert_eq!(rt; host.log().len(), 4);
     Ok(())
 }
