@@ -1,15 +1,20 @@
--- A needle in bytes, bytes that are text, and lines that are parted at two bytes.
-use Rattle.std.proofs.Common.{◌≡◌, ℕ, ◌+◌, ◌<◌, ◌≤◌, Bool, true, false, ◌||◌, nat_eq, List, [], ◌∷◌, ◌++◌, length, get_or, take, drop, flat_map, Option, Some, None, is_some, if◌then◌else◌, refl, sym, ◌∙◌, ap, arith}
-use Rattle.std.specs.List.{slice_split, find, starts_with}
-use Rattle.std.specs.Option.{option_map}
-use Rattle.std.specs.Str.{IsUtf8, is_utf8}
+-- A needle in bytes, bytes that are text, and the lines of an output.
+use Rattle.std.proofs.Common.{◌≡◌, ◌⊎◌, inl, inr, ℕ, ◌+◌, ◌-◌, ◌<◌, ◌≤◌, Bool, true, false, ◌==◌, ◌||◌, nat_eq, List, [], ◌∷◌, ◌++◌, length, codes, get_or, take, drop, slice_range, Option, Some, None, is_some, lit<, if◌then◌else◌, refl, sym, ◌∙◌, ap, subst, arith}
+use Rattle.std.specs.List.{slice_split, find, position_or_len}
+use Rattle.std.specs.Str.{IsUtf8, is_utf8, IsCharBoundary}
 use Rattle.std.specs.Str.Iter.{HasSubslice}
 use Rattle.std.proofs.Math.Seq.{take-append_seam, drop-append_seam}
-use Rattle.std.proofs.lemmas.List.{take-append-drop, length-append, at_drop_more, at_drop_all}
-use Rattle.std.proofs.lemmas.Str.{is_utf8-from_IsUtf8, IsUtf8-from_is_utf8}
-use Rattle.cc_text.specs.Cuts.{after_prefix}
+use Rattle.std.proofs.lemmas.List.{take-append-drop, length-append, length-take, at_drop_more, at_drop_all, drop-drop, drop-take, take_all, length-drop, get_or-take, get_or-drop}
+use Rattle.std.proofs.lemmas.Bool.{cases_lt, eqb-true}
+use Rattle.std.proofs.lemmas.Bool.Decides.{Decides-eqb}
+use Rattle.std.proofs.lemmas.List.Sums.{passes_at_first}
+use Rattle.std.proofs.lemmas.Slice.Eq.{starts_is}
+use Rattle.std.specs.Option.{option_map}
+use Rattle.std.proofs.lemmas.List.Splits.{slice_split_first}
+use Rattle.std.proofs.lemmas.Str.{is_utf8-from_IsUtf8, IsUtf8-between, IsCharBoundary-end, IsCharBoundary-before_ascii, IsCharBoundary-after_ascii}
 use Rattle.cc_text.specs.Within.{is_within}
 use Rattle.cc_text.proofs.WithinLemmas.{within_from_subslice}
+use Rattle.cc_host.specs.Verdict.{parted, begins_with_programs}
 use Rattle.memchr.specs.Find.{OccursAt, FindsNeedle}
 use Rattle.memchr.proofs.lemmas.MatchLemmas.{OccursAt-split, OccursAt-from_part}
 
@@ -35,96 +40,120 @@ found_within hay needle None h =
           absurd (h (length p.0) (omega arith) (omega arith) occurs),
     )
 
-text_by : (b : Bool) (bs : List ℕ) → is_utf8 bs ≡ b → ¬ (IsUtf8 bs) → b ≡ false
-text_by true bs e h = absurd (h (IsUtf8-from_is_utf8 bs e))
-text_by false bs e h = refl
+-- a text isn't refused
+pub never_none : {X : Type 0} (bs ds : List ℕ) (x y : X) → ds ≡ bs → IsUtf8 bs → None ≡ (if is_utf8 ds then Some ds else None) → x ≡ y
+never_none bs ds x y e u h = absurd (cc (rw (e, is_utf8-from_IsUtf8 bs u) at h))
 
-pub text_is : (bs t : List ℕ) → IsUtf8 bs → t ≡ bs → Some t ≡ (if is_utf8 bs then Some bs else None)
-text_is bs t h e = rw (is_utf8-from_IsUtf8 bs h) (ap Some e)
+-- the bytes that end a line
+abbrev pub ends : ℕ → Bool
+ends b = b == 10 || b == 13
 
-pub no_text : (bs : List ℕ) → ¬ (IsUtf8 bs) → None ≡ (if is_utf8 bs then Some bs else None)
-no_text bs h = rw (text_by (is_utf8 bs) bs refl h) refl
+-- how many bytes from a place on end no line
+abbrev pub more : List ℕ → ℕ → ℕ
+more out i = position_or_len ends (drop i out)
 
--- the first part, and the others
-abbrev Parts : (ℕ → Bool) → List ℕ → Type 0
-Parts p bs = (f : List ℕ) × (r : List (List ℕ)) × (slice_split p bs ≡ f ∷ r)
+pub line_on : (out : List ℕ) (i : ℕ) → i < length out → ends (get_or out i 0) ≡ false → more out i ≡ 1 + more out (i + 1)
+line_on out i l e = at_drop_more (position_or_len ends) out i 0 l ∙ rw e refl
 
-parts_by : (p : ℕ → Bool) (b : ℕ) (bs : List ℕ) (v : Bool) → p b ≡ v → Parts p bs → Parts p (b ∷ bs)
-parts_by p b bs true e t = ([], slice_split p bs, rw e refl)
-parts_by p b bs false e t = (b ∷ t.0, t.1, rw (e, t.2) refl)
+pub line_off : (out : List ℕ) (i : ℕ) → i < length out → ends (get_or out i 0) ≡ true → more out i ≡ 0
+line_off out i l e = at_drop_more (position_or_len ends) out i 0 l ∙ rw e refl
 
-parts_are : (p : ℕ → Bool) (bs : List ℕ) → Parts p bs
-parts_are p [] = ([], [], refl)
-parts_are p (b ∷ bs) = parts_by p b bs (p b) refl (parts_are p bs)
+pub line_over : (out : List ℕ) (i : ℕ) → length out ≤ i → more out i ≡ 0
+line_over out i l = at_drop_all (position_or_len ends) out i l
 
-nested_by : (p q : ℕ → Bool) (b : ℕ) (bs : List ℕ) (v w : Bool) → p b ≡ v → q b ≡ w → slice_split (λ c. p c || q c) bs ≡ flat_map (slice_split q) (slice_split p bs) → slice_split (λ c. p c || q c) (b ∷ bs) ≡ flat_map (slice_split q) (slice_split p (b ∷ bs))
-nested_by p q b bs true w e f rest = rw e (ap (λ l. [] ∷ l) rest)
-nested_by p q b bs false true e f rest =
-    let t = parts_are p bs in
-    rw (e, f, rest, t.2, f) refl
-nested_by p q b bs false false e f rest =
-    let t = parts_are p bs in
-    let u = parts_are q t.0 in
-    rw (e, f, rest, t.2, f, u.2) refl
+lone_by : (p : ℕ → Bool) (x : ℕ) (xs : List ℕ) (b : Bool) → p x ≡ b → (length xs ≤ position_or_len p xs → slice_split p xs ≡ xs ∷ []) → length (x ∷ xs) ≤ position_or_len p (x ∷ xs) → slice_split p (x ∷ xs) ≡ (x ∷ xs) ∷ []
+lone_by p x xs true e h l = absurd (omega (arith, (rw e at l)))
+lone_by p x xs false e h l = rw (e, h (omega (arith, (rw e at l)))) refl
 
--- parts at either byte are the parts at the one, within the parts at the other
-pub parted_nested : (p q : ℕ → Bool) (bs : List ℕ) → slice_split (λ b. p b || q b) bs ≡ flat_map (slice_split q) (slice_split p bs)
-parted_nested p q [] = refl
-parted_nested p q (b ∷ bs) = nested_by p q b bs (p b) (q b) refl refl (parted_nested p q bs)
+lone : (p : ℕ → Bool) (xs : List ℕ) → length xs ≤ position_or_len p xs → slice_split p xs ≡ xs ∷ []
+lone p [] l = refl
+lone p (x ∷ xs) l = lone_by p x xs (p x) refl (lone p xs) l
 
-later_by : {X : Type 0} (p : X → Bool) (x : X) (xs ys : List X) (b : Bool) → p x ≡ b → (find p xs ≡ None → find p (xs ++ ys) ≡ find p ys) → find p (x ∷ xs) ≡ None → find p ((x ∷ xs) ++ ys) ≡ find p ys
-later_by p x xs ys true f rest e = absurd (cc (rw f at e))
-later_by p x xs ys false f rest e = rw f (rest (rw f at e))
+-- the first line that tells of programs
+abbrev pub found : List ℕ → Option (List ℕ)
+found out = find begins_with_programs (parted out)
 
--- the first hit of two lists
-pub find_later : {X : Type 0} (p : X → Bool) (xs ys : List X) → find p xs ≡ None → find p (xs ++ ys) ≡ find p ys
-find_later p [] ys e = refl
-find_later p (x ∷ xs) ys e = later_by p x xs ys (p x) refl (find_later p xs ys) e
+line_cut : (out : List ℕ) (start k : ℕ) → k ≡ start + more out start → slice_range out start k ≡ take (more out start) (drop start out)
+line_cut out start k e = ap (λ n. take n (drop start out)) (omega arith)
 
-early_by : {X : Type 0} (p : X → Bool) (y : X) (xs ys : List X) (x : X) (b : Bool) → p y ≡ b → (find p xs ≡ Some x → find p (xs ++ ys) ≡ Some x) → find p (y ∷ xs) ≡ Some x → find p ((y ∷ xs) ++ ys) ≡ Some x
-early_by p y xs ys x true f rest e = rw f (rw f at e)
-early_by p y xs ys x false f rest e = rw f (rest (rw f at e))
+-- the line that begins at a place, and the lines after it
+parted_on : (out : List ℕ) (start k : ℕ) → k ≡ start + more out start → k < length out → parted (drop start out) ≡ slice_range out start k ∷ parted (drop (k + 1) out)
+parted_on out start k e l =
+    let h : more out start < length (drop start out) = rw length-drop (omega arith) in
+    let rest : drop (more out start + 1) (drop start out) ≡ drop (k + 1) out = drop-drop (more out start + 1) start out ∙ ap (λ n. drop n out) (omega arith) in
+    slice_split_first ends (drop start out) 0 h ∙ ap (λ l. take (more out start) (drop start out) ∷ parted l) rest ∙ ap (λ l. l ∷ parted (drop (k + 1) out)) (sym (line_cut out start k e))
 
-pub find_early : {X : Type 0} (p : X → Bool) (xs ys : List X) (x : X) → find p xs ≡ Some x → find p (xs ++ ys) ≡ Some x
-find_early p [] ys x e = absurd (cc)
-find_early p (y ∷ xs) ys x e = early_by p y xs ys x (p y) refl (find_early p xs ys x) e
+parted_last : (out : List ℕ) (start k : ℕ) → start ≤ length out → k ≡ start + more out start → length out ≤ k → parted (drop start out) ≡ slice_range out start k ∷ []
+parted_last out start k s e l =
+    let h : length (drop start out) ≤ more out start = rw length-drop (omega arith) in
+    lone ends (drop start out) h ∙ ap (λ l. l ∷ []) (sym (line_cut out start k e ∙ take_all (more out start) (drop start out) h))
 
--- one list after the other is searched: what the search of the lists from a place on finds
-abbrev pub found_from : {X Y : Type 0} → (Y → Bool) → (X → List Y) → List X → ℕ → Option Y
-found_from p f xs n = find p (flat_map f (drop n xs))
+miss : (x : List ℕ) (xs : List (List ℕ)) → begins_with_programs x ≡ false → find begins_with_programs (x ∷ xs) ≡ find begins_with_programs xs
+miss x xs e = rw e refl
 
-pub found_next : {X Y : Type 0} (p : Y → Bool) (f : X → List Y) (xs : List X) (n : ℕ) (x : X) → (n < length xs) × (x ≡ get_or xs n x) → find p (f x) ≡ None → found_from p f xs (n + 1) ≡ found_from p f xs n
-found_next p f xs n x at e =
-    sym (at_drop_more (λ l. find p (flat_map f l)) xs n x at.0 ∙ ap (λ y. find p (f y ++ flat_map f (drop (n + 1) xs))) (sym at.1) ∙ find_later p (f x) (flat_map f (drop (n + 1) xs)) e)
+hit : (x : List ℕ) (xs : List (List ℕ)) → begins_with_programs x ≡ true → find begins_with_programs (x ∷ xs) ≡ Some x
+hit x xs e = rw e refl
 
-pub found_now : {X Y : Type 0} (p : Y → Bool) (f : X → List Y) (xs : List X) (n : ℕ) (x : X) (y : Y) → (n < length xs) × (x ≡ get_or xs n x) → find p (f x) ≡ Some y → found_from p f xs n ≡ Some y
-found_now p f xs n x y at e =
-    at_drop_more (λ l. find p (flat_map f l)) xs n x at.0 ∙ ap (λ z. find p (f z ++ flat_map f (drop (n + 1) xs))) (sym at.1) ∙ find_early p (f x) (flat_map f (drop (n + 1) xs)) y e
+pub found_on : (out : List ℕ) (start k : ℕ) → k ≡ start + more out start → k < length out → begins_with_programs (slice_range out start k) ≡ false → found (drop start out) ≡ found (drop (k + 1) out)
+found_on out start k e l not_so = ap (find begins_with_programs) (parted_on out start k e l) ∙ miss (slice_range out start k) (parted (drop (k + 1) out)) not_so
 
-pub found_never : {X Y : Type 0} (p : Y → Bool) (f : X → List Y) (xs : List X) (n : ℕ) → length xs ≤ n → found_from p f xs n ≡ None
-found_never p f xs n le = at_drop_all (λ l. find p (flat_map f l)) xs n le
+pub found_never : (out : List ℕ) (start k : ℕ) → start ≤ length out → k ≡ start + more out start → length out ≤ k → begins_with_programs (slice_range out start k) ≡ false → found (drop start out) ≡ None
+found_never out start k s e l not_so = ap (find begins_with_programs) (parted_last out start k s e l) ∙ miss (slice_range out start k) [] not_so
 
-pub flat_one : {X : Type 0} (xs : List X) → flat_map (λ x. x ∷ []) xs ≡ xs
-flat_one [] = refl
-flat_one (x ∷ xs) = ap (λ l. x ∷ l) (flat_one xs)
+found_by : (out : List ℕ) (start k : ℕ) → start ≤ length out → k ≡ start + more out start → (k < length out) ⊎ (length out ≤ k) → begins_with_programs (slice_range out start k) ≡ true → found (drop start out) ≡ Some (slice_range out start k)
+found_by out start k s e (inl l) is = ap (find begins_with_programs) (parted_on out start k e l) ∙ hit (slice_range out start k) (parted (drop (k + 1) out)) is
+found_by out start k s e (inr l) is = ap (find begins_with_programs) (parted_last out start k s e l) ∙ hit (slice_range out start k) [] is
 
-prefix_by : (piece pre : List ℕ) (o : Option (List ℕ)) (b : Bool) → starts_with nat_eq piece pre ≡ b → o ≡ (if b then Some (drop (length pre) piece) else None) → o ≡ option_map (drop (length pre)) (find (λ line. starts_with nat_eq line pre) (piece ∷ []))
-prefix_by piece pre o true e h = rw e h
-prefix_by piece pre o false e h = rw e h
+marked : (line : List ℕ) → begins_with_programs line ≡ true → line ≡ codes "programs: =" ++ drop (length (codes "programs: =")) line
+marked line e = (starts_is {E = nat_eq} Decides-eqb line (codes "programs: =") (begins_with_programs line) refl).0 e
 
--- what follows a prefix is what follows it in the list of this piece
-pub prefix_found : (piece pre : List ℕ) (o : Option (List ℕ)) → o ≡ after_prefix piece pre → o ≡ option_map (drop (length pre)) (find (λ line. starts_with nat_eq line pre) (piece ∷ []))
-unfolding after_prefix
-prefix_found piece pre o h = prefix_by piece pre o (starts_with nat_eq piece pre) refl h
+marked_long : (line : List ℕ) → begins_with_programs line ≡ true → 11 ≤ length line
+marked_long line e = let h = ap length (marked line e) ∙ length-append (codes "programs: =") (drop 11 line) in omega (arith, h)
 
-mapped_by : {X Y Z : Type 0} (g : Y → Z) (p : Y → Bool) (f : X → List Y) (xs : List X) (n : ℕ) (x : X) (z : Z) (o : Option Y) → (n < length xs) × (x ≡ get_or xs n x) → find p (f x) ≡ o → Some z ≡ option_map g o → option_map g (found_from p f xs n) ≡ Some z
-mapped_by g p f xs n x z None at e h = absurd (cc)
-mapped_by g p f xs n x z (Some y) at e h = ap (option_map g) (found_now p f xs n x y at e) ∙ sym h
+marked_at : (line : List ℕ) → begins_with_programs line ≡ true → get_or line 10 0 ≡ 61
+marked_at line e = ap (λ l. get_or l 10 0) (marked line e)
 
--- what a hit or a miss here says of the search
-pub mapped_now : {X Y Z : Type 0} (g : Y → Z) (p : Y → Bool) (f : X → List Y) (xs : List X) (n : ℕ) (x : X) (z : Z) → (n < length xs) × (x ≡ get_or xs n x) → Some z ≡ option_map g (find p (f x)) → option_map g (found_from p f xs n) ≡ Some z
-mapped_now g p f xs n x z at h = mapped_by g p f xs n x z (find p (f x)) at refl h
+long_enough : (out : List ℕ) (start k : ℕ) → k ≡ start + more out start → begins_with_programs (slice_range out start k) ≡ true → start + 11 ≤ k
+long_enough out start k e is =
+    let h = marked_long (slice_range out start k) is in
+    let n : length (slice_range out start k) ≤ k - start = rw length-take (omega arith) in
+    omega (arith, h, n)
 
-pub mapped_none : {Y Z : Type 0} (g : Y → Z) (o : Option Y) → None ≡ option_map g o → o ≡ None
-mapped_none g None h = refl
-mapped_none g (Some y) h = absurd (cc)
+mark_at : (out : List ℕ) (start k : ℕ) → k ≡ start + more out start → begins_with_programs (slice_range out start k) ≡ true → get_or out (start + 10) 0 ≡ 61
+mark_at out start k e is =
+    let h = long_enough out start k e is in
+    sym (get_or-take (k - start) (drop start out) 10 0 (omega (arith, h)) ∙ get_or-drop start out 10 0) ∙ marked_at (slice_range out start k) is
+
+low_by : (b : ℕ) (v w : Bool) → (b == 10) ≡ v → (b == 13) ≡ w → (v || w) ≡ true → b < 128
+low_by b true w e f h = let x = eqb-true b 10 e in omega (arith, x)
+low_by b false true e f h = let x = eqb-true b 13 f in omega (arith, x)
+low_by b false false e f h = absurd (cc)
+
+low : (b : ℕ) → ends b ≡ true → b < 128
+low b h = low_by b (b == 10) (b == 13) refl refl h
+
+end_at : (out : List ℕ) (start k : ℕ) → start ≤ length out → k ≡ start + more out start → k ≤ length out → (k < length out) ⊎ (length out ≤ k) → IsCharBoundary out k
+end_at out start k s e l (inl lt) =
+    let h : more out start < length (drop start out) = rw length-drop (omega arith) in
+    let b : ends (get_or out k 0) ≡ true = ap (λ n. ends (get_or out n 0)) e ∙ ap ends (sym (get_or-drop start out (more out start) 0)) ∙ passes_at_first ends (drop start out) 0 h in
+    IsCharBoundary-before_ascii out k lt (low (get_or out k 0) b)
+end_at out start k s e l (inr ge) = subst (IsCharBoundary out) {x = length out} {y = k} (omega arith) (IsCharBoundary-end out)
+
+-- where a line begins with the mark, what follows the mark is text
+pub found_text : (out : List ℕ) (start k : ℕ) → start ≤ length out → k ≡ start + more out start → k ≤ length out → begins_with_programs (slice_range out start k) ≡ true → IsUtf8 out → IsUtf8 (slice_range out (start + 11) k)
+found_text out start k s e l is u =
+    let h = long_enough out start k e is in
+    let m : get_or out (start + 10) 0 < 128 = rw (mark_at out start k e is) (lit< tt) in
+    IsUtf8-between out (start + 11) k u h (subst (IsCharBoundary out) {x = (start + 10) + 1} {y = start + 11} (omega arith) (IsCharBoundary-after_ascii out (start + 10) u (omega (arith, h)) m)) (end_at out start k s e l (cases_lt k (length out)))
+
+pub found_fits : (out : List ℕ) (start k : ℕ) → k ≡ start + more out start → begins_with_programs (slice_range out start k) ≡ true → start + 11 ≤ k
+found_fits = long_enough
+
+after_mark : (out : List ℕ) (start k : ℕ) → start + 11 ≤ k → drop 11 (slice_range out start k) ≡ slice_range out (start + 11) k
+after_mark out start k l =
+    ap (λ n. drop 11 (take n (drop start out))) {x = k - start} {y = 11 + (k - (start + 11))} (omega arith) ∙ drop-take 11 (k - (start + 11)) (drop start out) ∙ ap (take (k - (start + 11))) (drop-drop 11 start out)
+
+-- and is what the first such line tells
+pub found_cut : (out : List ℕ) (start k : ℕ) → start ≤ length out → k ≡ start + more out start → begins_with_programs (slice_range out start k) ≡ true → Some (slice_range out (start + 11) k) ≡ option_map (drop 11) (found (drop start out))
+found_cut out start k s e is =
+    sym (ap (option_map (drop 11)) (found_by out start k s e (cases_lt k (length out)) is) ∙ ap Some (after_mark out start k (long_enough out start k e is)))

@@ -40,4 +40,4 @@ pub use line::command_line;
 pub use probe::probe_command;
 pub use question::{Ask, Marks, Outcome, ProbeFiles, Question, Verdict};
 pub use script::Script;
-pub use verdicts::verdict;
+pub use verdicts::{into_verdict, verdict};

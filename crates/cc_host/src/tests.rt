@@ -307,6 +307,12 @@ fn search_folders_follow_the_first_line_that_tells_them(rt: HostRuntime) -> Resu
             0,
             Some("/usr/é:/b"),
         ),
+        ("install: /a\nprograms: =/a:/b\n", 0, Some("/a:/b")),
+        (
+            "install: /a\rprograms: =/a:/b\r\nlibraries: =/c",
+            0,
+            Some("/a:/b"),
+        ),
         (" programs: =/a\nlibraries: =/b", 0, None),
         ("programs: =", 0, Some("")),
         ("programs: =/a", 1, None),

@@ -1,15 +1,15 @@
 // What an outcome means for its question.
-ghost use Rattle.std.specs.Prelude.{◌≡◌, ◌==◌, ◌&&◌, [], Some, None, bytes_eq, length, codes, drop, find, false, IfOk, if◌then◌else◌};
-ghost use Rattle.std.specs.List.{slice_split};
-ghost use Rattle.std.specs.Str.{is_utf8};
-ghost use Rattle.std.specs.Option.{option_copied, option_map};
+ghost use Rattle.std.specs.Prelude.{◌≡◌, ◌==◌, ◌&&◌, ◌||◌, ◌+◌, ◌≤◌, [], bytes_eq, length, codes, drop, find, slice_range, false, IfOk, IfSome, if◌then◌else◌};
+ghost use Rattle.std.specs.List.{position_or_len};
+ghost use Rattle.std.specs.Str.{IsUtf8, is_utf8};
+ghost use Rattle.std.specs.Option.{option_map};
 ghost use Rattle.cc_text.specs.Within.{is_within};
 ghost use Rattle.cc_host.specs.Status.{is_success};
-ghost use Rattle.cc_host.specs.Verdict.{yes_if, marks_of, read_as_option, preprocessed, begins_with_programs, dirs_in, parted, search_dirs, ended_verdict, existence, verdict_of};
-ghost use Rattle.cc_host.specs.declared.question.Verdict.TheVariants.{No, Marks as Shows};
+ghost use Rattle.cc_host.specs.Verdict.{yes_if, marks_of, read_as_option, preprocessed, begins_with_programs, parted, search_dirs, ended_verdict, existence, verdict_of};
+ghost use Rattle.cc_host.specs.declared.question.Verdict.TheVariants.{No, Marks as Shows, Dirs};
 
 use crate::{Ask, Marks, Outcome, Question, Status, Verdict};
-use cc_text::{Mem, Text, after_prefix};
+use cc_text::{Bytes, Mem, Text};
 use memchr::memmem;
 use std::alloc::Global;
 
@@ -70,56 +70,89 @@ fn dashed(status: Status, out: &[u8]) -> Verdict
     }
 }
 
-// What follows the mark on the first of the pieces between carriage returns that begins with it.
-fn programs_in(line: &str) -> Option<&str>
-    ensures { option_copied result ≡ option_map (drop (length (codes "programs: ="))) (find begins_with_programs (slice_split (λ b. b == 13) line.now)) }
+// Whether a byte ends a line.
+fn ends_line(byte: u8) -> bool
+    ensures { result ≡ (byte == 10 || byte == 13) }
 {
-    for piece in line.split('\r') {
-        match after_prefix(piece, "programs: =") {
-            Some(dirs) => return Some(dirs),
-            None => {}
+    byte == b'\n' || byte == b'\r'
+}
+
+// Where the line that begins at a place ends.
+#[tactic(auto, using(crate::proofs::VerdictLemmas::line_on, crate::proofs::VerdictLemmas::line_off, crate::proofs::VerdictLemmas::line_over))]
+fn line_end(out: &[u8], start: usize) -> usize
+    requires { start ≤ length out.now }
+    ensures ends { result ≡ start + position_or_len (λ b. b == 10 || b == 13) (drop start out.now) }
+    ensures within { result ≤ length out.now }
+{
+    let mut end = start;
+    while end < out.len() && !ends_line(out[end]) {
+        end += 1;
+    }
+    end
+}
+
+// Whether a line begins with the mark.
+fn begins_with_programs(line: &[u8]) -> bool
+    ensures { result ≡ begins_with_programs line.now }
+{
+    line.starts_with("programs: =".as_bytes())
+}
+
+// From where to where what follows the mark stands, on the first line that begins with it.
+#[tactic(auto, using(crate::proofs::VerdictLemmas::found_on, crate::proofs::VerdictLemmas::found_never, crate::proofs::VerdictLemmas::found_fits, crate::proofs::VerdictLemmas::found_cut, crate::proofs::VerdictLemmas::found_text))]
+fn programs_in(out: &[u8]) -> Option<(usize, usize)>
+    ensures cut { option_map (λ r. slice_range out.now r.0 r.1) result ≡ option_map (drop (length (codes "programs: ="))) (find begins_with_programs (parted out.now)) }
+    ensures within { IfSome result (λ r. (r.0 ≤ r.1) × (r.1 ≤ length out.now)) }
+    ensures text { IsUtf8 out.now → IfSome result (λ r. IsUtf8 (slice_range out.now r.0 r.1)) }
+{
+    let mut start = 0;
+    while start <= out.len() {
+        let end = line_end(out, start);
+        if begins_with_programs(&out[start..end]) {
+            return Some((start + "programs: =".len(), end));
         }
+        start = end + 1;
     }
     None
 }
 
-// What follows the mark on the first line that begins with it.
-fn programs(text: &str) -> Option<&str>
-    ensures { option_copied result ≡ option_map (drop (length (codes "programs: ="))) (find begins_with_programs (parted text.now)) }
-{
-    for line in text.split('\n') {
-        match programs_in(line) {
-            Some(dirs) => return Some(dirs),
-            None => {}
-        }
-    }
-    None
-}
-
-// What follows the mark in bytes that are text.
-fn text_of(bytes: &[u8]) -> Option<&str>
-    ensures { option_copied result ≡ (if is_utf8 bytes.now then Some bytes.now else None) }
+fn is_text(bytes: &[u8]) -> bool
+    ensures { result ≡ is_utf8 bytes.now }
 {
     match str::from_utf8(bytes) {
-        Ok(text) => Some(text),
-        Err(_) => None,
+        Ok(_text) => true,
+        Err(_) => false,
+    }
+}
+
+// The folders that stand from one place of an output up to another.
+fn dirs_at(out: Bytes, from: usize, to: usize) -> Verdict
+    requires within { (from ≤ to) × (to ≤ length out) }
+    requires text { IsUtf8 (slice_range out from to) }
+    ensures { result ≡ Dirs (slice_range out from to) }
+{
+    let mut dirs = out;
+    dirs.keep(from, to);
+    match Text::from_utf8(dirs) {
+        Some(dirs) => Verdict::Dirs(dirs),
+        None => Verdict::No,
     }
 }
 
 // The folders that a compiler searches for programs.
 #[tactic(auto, unfolding(crate::specs::Verdict::search_dirs))]
-fn search_dirs(alloc: Global, status: Status, out: &[u8]) -> Mem<Verdict>
-    ensures { IfOk result (λ v. v ≡ search_dirs status out.now) }
+fn search_dirs(status: Status, out: Bytes) -> Verdict
+    ensures { result ≡ search_dirs status out }
 {
     if !status.is_success() {
-        return Ok(Verdict::No);
+        return Verdict::No;
     }
-    let Some(text) = text_of(out) else {
-        return Ok(Verdict::No);
-    };
-    match programs(text) {
-        Some(dirs) => Ok(Verdict::Dirs(Text::of(alloc, dirs)?)),
-        None => Ok(Verdict::No),
+    if !is_text(out.as_slice()) {
+        return Verdict::No;
+    }
+    match programs_in(out.as_slice()) {
+        Some((from, to)) => dirs_at(out, from, to),
+        None => Verdict::No,
     }
 }
 
@@ -139,21 +172,21 @@ fn succeeded_silently(status: Status, err: &[u8]) -> bool
 
 // What a command's end means for what was asked.
 #[tactic(auto, unfolding(crate::specs::Verdict::ended_verdict))]
-fn ended_verdict(alloc: Global, ask: Ask, status: Status, out: &[u8], err: &[u8]) -> Mem<Verdict>
-    ensures { IfOk result (λ v. v ≡ ended_verdict ask status out.now err.now) }
+fn ended_verdict(ask: Ask, status: Status, out: Bytes, err: &[u8]) -> Verdict
+    ensures { result ≡ ended_verdict ask status out err.now }
 {
-    Ok(match ask {
-        Ask::Preprocess => preprocessed(status, out, err),
-        Ask::PreprocessDashes => dashed(status, out),
+    match ask {
+        Ask::Preprocess => preprocessed(status, out.as_slice(), err),
+        Ask::PreprocessDashes => dashed(status, out.as_slice()),
         Ask::HelpFlag => yes_if(status.is_success()),
-        Ask::Version => yes_if(succeeded_with(status, out, "ziglang")),
+        Ask::Version => yes_if(succeeded_with(status, out.as_slice(), "ziglang")),
         Ask::Flag { .. } => yes_if(succeeded_silently(status, err)),
-        Ask::Libcxx => yes_if(succeeded_with(status, out, "\"libcxx\"")),
-        Ask::SearchDirs => search_dirs(alloc, status, out)?,
+        Ask::Libcxx => yes_if(succeeded_with(status, out.as_slice(), "\"libcxx\"")),
+        Ask::SearchDirs => search_dirs(status, out),
         Ask::ToolVersion => yes_if(status.is_success()),
         Ask::Starts => Verdict::Yes,
         Ask::Exists => Verdict::No,
-    })
+    }
 }
 
 fn existence(ask: Ask, there: bool) -> Verdict
@@ -165,17 +198,24 @@ fn existence(ask: Ask, there: bool) -> Verdict
     }
 }
 
-/// What the outcome of a question means.
+/// What the outcome of a question means. It takes no memory: the text of a verdict is cut out of the outcome's own
+/// bytes.
 #[tactic(auto, unfolding(crate::specs::Verdict::verdict_of))]
+pub fn into_verdict(q: &Question, outcome: Outcome) -> Verdict
+    ensures { result ≡ verdict_of q.now outcome }
+{
+    match outcome {
+        Outcome::Unanswered => Verdict::Unanswered,
+        Outcome::Missing => Verdict::Missing,
+        Outcome::Exists(there) => existence(q.ask, there),
+        Outcome::Done { status, out, err } => ended_verdict(q.ask, status, out, err.as_slice()),
+    }
+}
+
+/// What the outcome of a question means, where the outcome is used again.
 pub fn verdict(alloc: Global, q: &Question, outcome: &Outcome) -> Mem<Verdict>
     ensures { IfOk result (λ v. v ≡ verdict_of q.now outcome.now) }
 {
-    match outcome {
-        Outcome::Unanswered => Ok(Verdict::Unanswered),
-        Outcome::Missing => Ok(Verdict::Missing),
-        Outcome::Exists(there) => Ok(existence(q.ask, *there)),
-        Outcome::Done { status, out, err } => {
-            ended_verdict(alloc, q.ask, *status, out.as_slice(), err.as_slice())
-        }
-    }
+    let _ = alloc;
+    Ok(into_verdict(q, outcome.try_clone()?))
 }

@@ -1,6 +1,7 @@
 // A text and a list of bytes, each seen as its bytes.
 ghost use Rattle.std.specs.Prelude.{◌≡◌, ◌++◌, [], List, ℕ, IfOk, OnOk, OnErr, encode_utf8, string_bytes};
-ghost use Rattle.std.specs.Prelude.{Some, bytes_eq, refl};
+ghost use Rattle.std.specs.Prelude.{◌≤◌, Some, None, bytes_eq, length, refl, slice_range, if◌then◌else◌};
+ghost use Rattle.std.specs.Str.{is_utf8};
 ghost use Rattle.std.specs.Ordering.{nat_cmp};
 ghost use Rattle.std.specs.Cmp.{partial_equiv_from_equiv};
 ghost use Rattle.std.specs.Cmp.Lexicographic.{slice_cmp, nat_list_eq_equiv, nat_list_cmp_total, texts_ties, texts_po};
@@ -64,6 +65,16 @@ impl Text {
     {
         self.text.push_str(s)?;
         Ok(())
+    }
+
+    /// The text of bytes that are UTF-8, taken over; none of other bytes. It takes no memory.
+    pub fn from_utf8(bytes: Bytes) -> Option<Text>
+        ensures { result ≡ (if is_utf8 bytes then Some bytes else None) }
+    {
+        match String::from_utf8(bytes.bytes) {
+            Ok(text) => Some(Text { text }),
+            Err(_) => None,
+        }
     }
 
     /// A second text with the same bytes.
@@ -148,6 +159,15 @@ impl Bytes {
         ensures { result.now ≡ self.now }
     {
         self.bytes.as_slice()
+    }
+
+    /// Keeps the bytes from one place up to another, and moves them to the front. It takes no memory.
+    pub fn keep(&mut self, from: usize, to: usize)
+        requires { (from ≤ to) × (to ≤ length self.old) }
+        ensures { self.new ≡ slice_range self.old from to }
+    {
+        self.bytes.copy_within(from..to, 0);
+        self.bytes.truncate(to - from);
     }
 
     /// A second list with the same bytes.

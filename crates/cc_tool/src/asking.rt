@@ -9,10 +9,9 @@ ghost use Rattle.cc_tool.specs.Known.{IsSteady, asked, is_kept as keeps};
 ghost use Rattle.cc_tool.specs.Probing.{Probes};
 ghost use Rattle.cc_tool.specs.Heard.{told};
 
-use crate::outcomes::judge;
 use crate::probes::ask_host;
 use crate::{Answers, Caches};
-use cc_host::{Ask, Host, Question, Verdict, World};
+use cc_host::{Ask, Host, Question, Verdict, World, into_verdict};
 use cc_text::{Mem, NoMemory, Text, Vars, Words};
 use std::alloc::Global;
 use std::sync::Wait;
@@ -66,7 +65,7 @@ fn hear<W: World, H: Host<W>>(
     }
     let outcome = ask_host(alloc, host, dir, q)?;
     Ok(Heard {
-        verdict: judge(rt, alloc, q, &outcome),
+        verdict: into_verdict(q, outcome),
         fresh: true,
     })
 }

@@ -13,7 +13,6 @@ mod family;
 mod files;
 mod kinds;
 mod known;
-mod outcomes;
 mod probes;
 #[cfg(test)]
 mod tests;

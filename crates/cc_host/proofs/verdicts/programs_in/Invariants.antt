@@ -1,11 +1,10 @@
-use Rattle.std.proofs.Common.{◌≡◌, ◌==◌, ◌∷◌, [], length}
-use Rattle.std.specs.List.{slice_split}
-use Rattle.cc_host.specs.Verdict.{begins_with_programs}
-use Rattle.cc_host.proofs.VerdictLemmas.{found_from}
+use Rattle.std.proofs.Common.{◌≡◌, ◌+◌, ◌-◌, ◌≤◌, ◌<◌, length, drop, None}
+use Rattle.cc_host.proofs.VerdictLemmas.{found}
 use Rattle.cc_host.proofs.verdicts.programs_in.Given as goal
 
--- no piece so far begins so
-abbrev pub invariant-loop-piece : goal.invariant-loop-piece
-invariant-loop-piece l =
-    (goal.iterator-loop-piece).can_next l.piece-iterator ×
-    (goal.iterator-loop-piece).is_finite l.piece-iterator × (found_from begins_with_programs (λ piece. piece ∷ []) (slice_split (λ b. b == 13) l.line) (length l.yielded) ≡ found_from begins_with_programs (λ piece. piece ∷ []) (slice_split (λ b. b == 13) l.line) 0)
+-- no line that ended so far tells of programs
+abbrev pub invariant-loop-start : goal.invariant-loop-start
+invariant-loop-start l = (l.start ≤ length l.out + 1) × (l.start ≤ length l.out → found l.out ≡ found (drop l.start l.out)) × (length l.out < l.start → found l.out ≡ None)
+
+abbrev pub decreases-loop-start : goal.decreases-loop-start
+decreases-loop-start l = length l.out + 1 - l.start
