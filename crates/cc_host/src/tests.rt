@@ -40,34 +40,54 @@ fn script(
     })
 }
 
-fn end_of(host: &mut BenchHost, role: Role, cmd: &Command) -> Result<Option<Status>, HostError> {
-    match host.output(role, cmd, KEPT)? {
-        Ran::Missing => Ok(None),
-        Ran::Done { status, .. } => Ok(Some(status)),
+fn command(alloc: Global, program: &str, words: &[&str]) -> Result<Command, Fail> {
+    let mut cmd = Command::new(alloc, program)?;
+    for word in words {
+        cmd.arg(word)?;
     }
+    Ok(cmd)
+}
+
+// The code that a command ended with, or -1 where its program is missing.
+fn end_of(host: &mut BenchHost, role: Role, cmd: &Command) -> Result<i32, HostError> {
+    match host.output(role, cmd, KEPT)? {
+        Ran::Missing => Ok(-1),
+        Ran::Done { status, .. } => match status {
+            Status::Code(code) => Ok(code),
+            Status::NoCode => Ok(-2),
+        },
+    }
+}
+
+fn scripted_host(alloc: Global) -> Result<BenchHost, Fail> {
+    let mut host = BenchHost::new(alloc)?;
+    for (word, code) in [("a.c", 1), ("cc", 2), ("b.c", 3)] {
+        host.script(Role::Compile, word, script(alloc, code, &[], 1, None)?)?;
+    }
+    host.missing("ar")?;
+    Ok(host)
+}
+
+// The codes of a compile command, of one that expands and of an archiver.
+fn codes_in(alloc: Global, host: &mut BenchHost) -> Result<String, Fail> {
+    let mut text = String::new(alloc);
+    for (role, program) in [
+        (Role::Compile, "cc"),
+        (Role::Expand, "cc"),
+        (Role::Archive, "ar"),
+    ] {
+        let cmd = command(alloc, program, &["-c", "a.c"])?;
+        let code = end_of(host, role, &cmd)?;
+        write!(text, "{code} ")?;
+    }
+    Ok(text)
 }
 
 #[test]
 fn commands_end_as_the_last_script_that_fits_says(rt: HostRuntime) -> Result<(), Fail> {
     let alloc = rt.alloc();
-    let mut host = BenchHost::new(alloc)?;
-    let mut cmd = Command::new(alloc, "cc")?;
-    cmd.arg("-c")?;
-    cmd.arg("a.c")?;
-    for (word, code) in [("a.c", 1), ("cc", 2), ("b.c", 3)] {
-        host.script(Role::Compile, word, script(alloc, code, &[], 1, None)?)?;
-    }
-    host.missing("ar")?;
-    let ar = Command::new(alloc, "ar")?;
-    assert_eq!(rt;
-        end_of(&mut host, Role::Compile, &cmd),
-        Ok(Some(Status::Code(2)))
-    );
-    assert_eq!(rt;
-        end_of(&mut host, Role::Expand, &cmd),
-        Ok(Some(Status::Code(0)))
-    );
-    assert_eq!(rt; end_of(&mut host, Role::Archive, &ar), Ok(None));
+    let mut host = scripted_host(alloc)?;
+    assert_eq!(rt; codes_in(alloc, &mut host)?.as_str(), "2 0 -1 ");
     assert_eq!(rt; host.log().len(), 3);
     Ok(())
 }
@@ -86,24 +106,37 @@ fn only_the_call_that_is_to_fail_faults(rt: HostRuntime) -> Result<(), Fail> {
     Ok(())
 }
 
+// The variables of a host, as `NAME=value;`.
+fn listed(alloc: Global, host: &mut BenchHost) -> Result<Text, Fail> {
+    let mut text = Text::new(alloc);
+    for pair in host.vars()?.as_slice() {
+        text.push_str(pair.0.as_str())?;
+        text.push('=')?;
+        text.push_str(pair.1.as_str())?;
+        text.push(';')?;
+    }
+    Ok(text)
+}
+
+fn two_vars(alloc: Global) -> Result<Vars, Fail> {
+    let mut vars = Vars::new(alloc);
+    vars.push("CC", "clang")?;
+    vars.push("CFLAGS", "-O2 -é")?;
+    Ok(vars)
+}
+
 #[test]
 fn variables_that_are_set_are_listed(rt: HostRuntime) -> Result<(), Fail> {
     let alloc = rt.alloc();
     let mut host = BenchHost::new(alloc)?;
-    assert!(rt; host.vars()?.is_empty());
-    let mut vars = Vars::new(alloc);
-    vars.push("CC", "clang")?;
-    vars.push("CFLAGS", "-O2 -é")?;
-    host.set_vars(vars);
+    assert_eq!(rt; listed(alloc, &mut host)?.as_str(), "");
+    host.set_vars(two_vars(alloc)?);
     host.fail(HostCall::Vars, 3)?;
-    let listed = host.vars()?;
-    assert_eq!(rt; listed.len(), 2);
-    let last = listed.get(1).expect(&rt, "a variable");
-    assert_eq!(rt; last.1.as_str(), "-O2 -é");
     assert_eq!(rt;
-        host.vars().err(),
-        Some(HostError::Fault(HostCall::Vars, Why::Other))
+        listed(alloc, &mut host)?.as_str(),
+        "CC=clang;CFLAGS=-O2 -é;"
     );
+    assert!(rt; host.vars().is_err());
     assert_eq!(rt; host.log().len(), 3);
     Ok(())
 }
@@ -228,12 +261,7 @@ fn no_files(alloc: Global) -> ProbeFiles {
 }
 
 // The verdict of a question that a command answers.
-fn verdict_on(
-    alloc: Global,
-    host: &mut BenchHost,
-    ask: Ask,
-    program: &str,
-) -> Result<Verdict, Fail>
+fn verdict_on(alloc: Global, host: &mut BenchHost, ask: Ask, program: &str) -> Result<Verdict, Fail>
     requires { ask ≢ AsksExists }
 {
     let q = question(alloc, ask, program)?;
