@@ -4,8 +4,8 @@ ghost use Rattle.cc_host.specs.declared.question.Ask.TheVariants.{ToolVersion};
 
 use crate::ProcessHost;
 use cc_host::{
-    Ask, Command, Created, Host, HostCall, HostError, Outcome, OutputKind, Pipes, ProbeFiles,
-    Question, Ran, Removal, Role, Scope, Start, Status, Verdict, Why, verdict,
+    Ask, Command, Created, Host, HostCall, HostError, OutputKind, Pipes, ProbeFiles, Question, Ran,
+    Removal, Role, Scope, Start, Status, Verdict, Why, into_verdict,
 };
 use cc_text::{Text, Vars, Words};
 use std::test::Fail;
@@ -144,20 +144,33 @@ fn version_question(rt: &HostRuntime, program: &str) -> Result<Question, Fail>
     })
 }
 
-#[test]
-fn a_probe_is_answered_and_noted(rt: HostRuntime) -> Result<(), Fail> {
+fn no_files(rt: &HostRuntime) -> ProbeFiles {
     let alloc = rt.alloc();
-    let mut host = ProcessHost::new(rt)?;
-    let gcc = version_question(&rt, "gcc")?;
-    let none = version_question(&rt, "no such compiler é")?;
-    let files = ProbeFiles {
+    ProbeFiles {
         dir: Text::new(alloc),
         source: Text::new(alloc),
         object: Text::new(alloc),
-    };
-    let outcome = host.probe(&gcc, &files)?;
-    assert!(rt; matches!(verdict(alloc, &gcc, &outcome)?, Verdict::Yes));
-    assert!(rt; matches!(host.probe(&none, &files)?, Outcome::Missing));
+    }
+}
+
+// Whether a program tells its version.
+fn version_of(
+    rt: &HostRuntime,
+    host: &mut ProcessHost<HostRuntime>,
+    program: &str,
+) -> Result<Verdict, Fail> {
+    let q = version_question(rt, program)?;
+    let outcome = host.probe(&q, &no_files(rt))?;
+    Ok(into_verdict(&q, outcome))
+}
+
+#[test]
+fn a_probe_is_answered_and_noted(rt: HostRuntime) -> Result<(), Fail> {
+    let mut host = ProcessHost::new(rt)?;
+    let gcc = version_of(&rt, &mut host, "gcc")?;
+    assert!(rt; matches!(gcc, Verdict::Yes));
+    let none = version_of(&rt, &mut host, "no such compiler é")?;
+    assert!(rt; matches!(none, Verdict::Missing));
     assert_eq!(rt; host.log().len(), 2);
     Ok(())
 }
@@ -167,17 +180,19 @@ fn kept_contents(
     rt: &HostRuntime,
     host: &mut ProcessHost<HostRuntime>,
     path: &str,
-) -> Result<Option<String>, Fail> {
+) -> Result<String, Fail> {
     let _tidy = host.log();
     match host.create_probe(path, b"int x;\n")? {
         Created::New => {
             let again = host.create_probe(path, b"int y;\n");
             let text = fs::read_to_string(rt, path);
             host.drop_probe(path);
-            assert_eq!(rt; again, Ok(Created::Exists));
-            Ok(Some(text?))
+            match again? {
+                Created::New => Ok(String::from_str(rt.alloc(), "made anew")?),
+                Created::Exists => Ok(text?),
+            }
         }
-        Created::Exists => Ok(None),
+        Created::Exists => Ok(String::from_str(rt.alloc(), "there before")?),
     }
 }
 
@@ -187,7 +202,7 @@ fn a_probe_file_is_made_where_none_stands(rt: HostRuntime) -> Result<(), Fail> {
     let path = own_path(&rt, "probe.c")?;
     assert!(rt; !host.exists(path.as_str())?);
     let text = kept_contents(&rt, &mut host, path.as_str())?;
-    assert_eq!(rt; text.as_ref().map(|t| t.as_str()), Some("int x;\n"));
+    assert_eq!(rt; text.as_str(), "int x;\n");
     assert!(rt; !host.exists(path.as_str())?);
     let refused = HostError::Fault(HostCall::CreateProbe, Why::NotFound);
     assert_eq!(rt; host.create_probe("/no such folder/a", b""), Err(refused));

@@ -10,6 +10,7 @@ use cc_build::ErrorKind;
 use cc_host::{BenchHost, Event, Host, HostCall, Outcome, Scope, Status, command_line};
 use cc_text::{Bytes, Mem, Text, Vars};
 use std::alloc::{AllocGlobal, Global};
+use std::process::Abort;
 use std::sync::Wait;
 use std::test::Fail;
 
@@ -75,6 +76,13 @@ fn log_text(alloc: Global, host: &BenchHost) -> Mem<Text> {
         push_event(alloc, &mut text, event)?;
     }
     Ok(text)
+}
+
+// What a run leaves in the log that ends with status 0.
+fn log_of(rt: &(impl Wait + AllocGlobal + Abort), line: &str, host: &mut BenchHost) -> Mem<Text> {
+    let ended = drive_line(rt, line, host)?;
+    assert_eq!(rt; ended.status, 0, "{line}");
+    log_text(rt.alloc(), host)
 }
 
 // What a question ended with.
