@@ -1,7 +1,7 @@
 -- How an error is written for a user.
 use Rattle.std.specs.Prelude.{ℕ, List, ◌++◌, codes}
 use Rattle.cc_build.specs.declared.error.ErrorKind.{ErrorKind}
-use Rattle.cc_build.specs.declared.error.ErrorKind.TheVariants.{IOError, EnvVarNotFound, ToolExecError, ToolNotFound, InvalidArgument, InvalidTarget, UnknownTarget, Disabled, NoMemory}
+use Rattle.cc_build.specs.declared.error.ErrorKind.TheVariants.{IOError, EnvVarNotFound, ToolExecError, ToolNotFound, InvalidArgument, InvalidTarget, UnknownTarget, InvalidFlag, Disabled, NoMemory}
 use Rattle.cc_build.specs.Error.{ErrorSeen}
 
 abbrev pub kind_name : ErrorKind → List ℕ
@@ -11,6 +11,7 @@ kind_name ToolExecError = codes "ToolExecError"
 kind_name ToolNotFound = codes "ToolNotFound"
 kind_name InvalidArgument = codes "InvalidArgument"
 kind_name InvalidTarget = codes "InvalidTarget"
+kind_name InvalidFlag = codes "InvalidFlag"
 kind_name UnknownTarget = codes "UnknownTarget"
 kind_name Disabled = codes "Disabled"
 kind_name NoMemory = codes "NoMemory"

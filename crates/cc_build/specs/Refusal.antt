@@ -6,11 +6,11 @@ use Rattle.cc_host.specs.Question.{Look}
 use Rattle.cc_plan.specs.declared.error.ArgumentCause.{ArgumentCause}
 use Rattle.cc_plan.specs.declared.error.ArgumentCause.TheVariants.{Output, OutDir, NoFileName, SameObject}
 use Rattle.cc_plan.specs.declared.error.PlanError.{PlanError}
-use Rattle.cc_plan.specs.declared.error.PlanError.TheVariants.{Argument, NotSet, UnknownTarget, QnxArch, Host, NoMemory as WantsMemory}
+use Rattle.cc_plan.specs.declared.error.PlanError.TheVariants.{Argument, NotSet, UnknownTarget, QnxArch, Flag, Host, NoMemory as WantsMemory}
 use Rattle.cc_plan.specs.declared.settings.BuildConfig.{BuildConfig}
 use Rattle.cc_plan.specs.Given.{is_disabled}
 use Rattle.cc_plan.specs.Refusal.{first_of, object_in, early_refusal, late_refusal}
-use Rattle.cc_build.specs.declared.error.ErrorKind.TheVariants.{InvalidArgument, InvalidTarget, EnvVarNotFound, Disabled, UnknownTarget as IsUnknown}
+use Rattle.cc_build.specs.declared.error.ErrorKind.TheVariants.{InvalidArgument, InvalidTarget, InvalidFlag, EnvVarNotFound, Disabled, UnknownTarget as IsUnknown}
 use Rattle.cc_build.specs.Error.{ErrorSeen, no_memory}
 use Rattle.cc_build.specs.Stop.{fault_error}
 
@@ -33,6 +33,10 @@ unknown_error target = record { kind = IsUnknown; subject = target; message = co
 abbrev pub qnx_error : List ℕ → ErrorSeen
 qnx_error arch = record { kind = InvalidTarget; subject = arch; message = codes "Unknown architecture for Neutrino QNX: " ++ arch }
 
+-- a flag that Cargo hands down, without the value that it needs
+abbrev pub flag_error : List ℕ → ErrorSeen
+flag_error flag = record { kind = InvalidFlag; subject = flag; message = flag ++ codes " must have a value" }
+
 -- no command may run; it is about the variable that says so
 abbrev pub disabled_error : ErrorSeen
 disabled_error = record { kind = Disabled; subject = codes "CC_FORCE_DISABLE"; message = codes "cc has been disabled by CC_FORCE_DISABLE" }
@@ -49,6 +53,7 @@ plan_error set env output (Argument cause) = argument_error set env output cause
 plan_error set env output (NotSet name) = unset_error name
 plan_error set env output (UnknownTarget target) = unknown_error target
 plan_error set env output (QnxArch arch) = qnx_error arch
+plan_error set env output (Flag flag) = flag_error flag
 plan_error set env output (Host call why) = fault_error call why []
 plan_error set env output WantsMemory = no_memory
 

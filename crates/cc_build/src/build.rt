@@ -8,7 +8,7 @@ ghost use Rattle.cc_plan.specs.Given.{variable_flags};
 ghost use Rattle.cc_plan.specs.Plan.{planned_steps};
 ghost use Rattle.cc_plan.specs.Settings.{unset_settings};
 ghost use Rattle.cc_plan.specs.Given.{probe_folder};
-ghost use Rattle.cc_plan.specs.Tool.{tool_of};
+ghost use Rattle.cc_plan.specs.Planned.{tool_of};
 ghost use Rattle.cc_build.specs.Built.{Built};
 ghost use Rattle.cc_build.specs.Captured.{Captures};
 ghost use Rattle.cc_build.specs.Error.{no_memory};

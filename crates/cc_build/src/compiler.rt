@@ -3,7 +3,7 @@ ghost use Rattle.std.specs.Prelude.{◌≡◌, ◌++◌, IfOk};
 ghost use Rattle.cc_host.specs.Part.{since};
 ghost use Rattle.cc_host.specs.Question.{answers, Holds};
 ghost use Rattle.cc_plan.specs.Given.{probe_folder};
-ghost use Rattle.cc_plan.specs.Tool.{tool_of};
+ghost use Rattle.cc_plan.specs.Planned.{tool_of};
 ghost use Rattle.cc_build.specs.Compiler.{tool_error, tool_steps};
 ghost use Rattle.cc_build.specs.Outcome.{Outcome};
 ghost use Rattle.cc_tool.specs.Asked.{Asked};

@@ -24,6 +24,8 @@ pub enum ErrorKind {
     InvalidArgument,
     /// A tool has no name for the target's architecture.
     InvalidTarget,
+    /// A flag that Cargo hands down lacks the value that it needs.
+    InvalidFlag,
     /// The target isn't known.
     UnknownTarget,
     /// `CC_FORCE_DISABLE` is true, so no command may run.
@@ -150,6 +152,7 @@ fn kind_name(kind: ErrorKind) -> &'static str
         ErrorKind::ToolNotFound => "ToolNotFound",
         ErrorKind::InvalidArgument => "InvalidArgument",
         ErrorKind::InvalidTarget => "InvalidTarget",
+        ErrorKind::InvalidFlag => "InvalidFlag",
         ErrorKind::UnknownTarget => "UnknownTarget",
         ErrorKind::Disabled => "Disabled",
         ErrorKind::NoMemory => "NoMemory",

@@ -75,6 +75,29 @@ impl<W: World> Build<W> {
         Ok(())
     }
 
+    /// Adds a flag of the compiler last, which is given where the compiler takes it. Refused for memory, the build stays as it was.
+    pub fn flag_if_supported(&mut self, flag: &str) -> Result<(), Error>
+        ensures ok { OnOk result (self.new ≡ record self.old { config = record self.old.config { flags = self.old.config.flags ++ IfSupported flag.now ∷ [] } }) }
+        ensures err { OnErr result (self.new ≡ self.old) }
+        ensures refused { IfErr result (λ e. e ≡ no_memory) }
+    {
+        let flag = Text::of(self.alloc, flag)?;
+        self.config.flags.push(BuildFlag::IfSupported(flag))?;
+        Ok(())
+    }
+
+    /// Tells the folder `from`, in whose name no `=` stands, as `to`, in macros and in debug information. Refused for memory, the
+    /// build stays as it was.
+    pub fn remap_source_path(&mut self, from: &str, to: &str) -> Result<(), Error>
+        requires { lacks_equals from.now ≡ true }
+        ensures ok { OnOk result (self.new ≡ record self.old { config = record self.old.config { remap_source_paths = self.old.config.remap_source_paths ++ (from.now, to.now) ∷ [] } }) }
+        ensures err { OnErr result (self.new ≡ self.old) }
+        ensures refused { IfErr result (λ e. e ≡ no_memory) }
+    {
+        self.config.remap_source_paths.push(from, to)?;
+        Ok(())
+    }
+
     /// Adds flags of the compiler last, in order, which are always given. Refused for memory, the build stays as it was.
     pub fn flags(&mut self, flags: &Words) -> Result<(), Error>
         ensures ok { OnOk result (self.new ≡ record self.old { config = record self.old.config { flags = self.old.config.flags ++ always flags.now } }) }

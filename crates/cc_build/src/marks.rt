@@ -110,4 +110,32 @@ impl<W: World> Build<W> {
     {
         self.config.prefer_clang_cl_over_msvc = prefer_clang_cl_over_msvc;
     }
+
+    /// Sets whether frame pointers are kept. It takes no memory.
+    pub fn force_frame_pointer(&mut self, force_frame_pointer: bool)
+        ensures { self.new ≡ record self.old { config = record self.old.config { force_frame_pointer = Some force_frame_pointer } } }
+    {
+        self.config.force_frame_pointer = Some(force_frame_pointer);
+    }
+
+    /// Sets whether the flags of Rust code are taken that Cargo hands down in `CARGO_ENCODED_RUSTFLAGS`. It takes no memory.
+    pub fn inherit_rustflags(&mut self, inherit_rustflags: bool)
+        ensures { self.new ≡ record self.old { config = record self.old.config { inherit_rustflags = inherit_rustflags } } }
+    {
+        self.config.inherit_rustflags = inherit_rustflags;
+    }
+
+    /// Sets whether paths are told as others where Cargo wants it by `CARGO_TRIM_PATHS_SCOPE` and `CARGO_TRIM_PATHS_REMAP`. It takes no memory.
+    pub fn inherit_trim_paths(&mut self, inherit_trim_paths: bool)
+        ensures { self.new ≡ record self.old { config = record self.old.config { inherit_trim_paths = inherit_trim_paths } } }
+    {
+        self.config.inherit_trim_paths = inherit_trim_paths;
+    }
+
+    /// Sets whether a line that is given once for all clones is given at each call. It takes no memory.
+    pub fn repeat_lines(&mut self, repeat_lines: bool)
+        ensures { self.new ≡ record self.old { config = record self.old.config { repeat_lines = repeat_lines } } }
+    {
+        self.config.repeat_lines = repeat_lines;
+    }
 }

@@ -108,6 +108,14 @@ fn qnx_arch(alloc: Global, arch: Text) -> Mem<Error>
     Ok(Error::told(ErrorKind::InvalidTarget, arch, message))
 }
 
+fn invalid_flag(alloc: Global, flag: Text) -> Mem<Error>
+    ensures { IfOk result (λ e. e ≡ flag_error flag) }
+{
+    let mut message = Text::of(alloc, flag.as_str())?;
+    message.push_str(" must have a value")?;
+    Ok(Error::told(ErrorKind::InvalidFlag, flag, message))
+}
+
 // No command may run.
 pub(crate) fn disabled(alloc: Global) -> Mem<Error>
     ensures { IfOk result (λ e. e ≡ disabled_error) }
@@ -133,6 +141,7 @@ pub(crate) fn plan_error(
         PlanError::NotSet(name) => not_set(alloc, name),
         PlanError::UnknownTarget(target) => unknown_target(alloc, target),
         PlanError::QnxArch(arch) => qnx_arch(alloc, arch),
+        PlanError::Flag(flag) => invalid_flag(alloc, flag),
         PlanError::Host(call, why) => host_error(alloc, HostError::Fault(call, why), ""),
         PlanError::NoMemory => Ok(Error::no_memory()),
     }

@@ -60,6 +60,25 @@ impl<W: World> Build<W> {
         Ok(())
     }
 
+    /// Sets how much debug information is wanted, as `2` or `line-tables-only`. Refused for memory, the build stays as it was.
+    pub fn debug_str(&mut self, debug: &str) -> Result<(), Error>
+        ensures ok { OnOk result (self.new ≡ record self.old { config = record self.old.config { debug = Some debug.now } }) }
+        ensures err { OnErr result (self.new ≡ self.old) }
+        ensures refused { IfErr result (λ e. e ≡ no_memory) }
+    {
+        self.config.debug = Some(Text::of(self.alloc, debug)?);
+        Ok(())
+    }
+
+    /// Sets whether debug information is wanted. Refused for memory, the build stays as it was.
+    pub fn debug(&mut self, debug: bool) -> Result<(), Error>
+        ensures ok { OnOk result (self.new ≡ record self.old { config = record self.old.config { debug = Some (truth_text debug) } }) }
+        ensures err { OnErr result (self.new ≡ self.old) }
+        ensures refused { IfErr result (λ e. e ≡ no_memory) }
+    {
+        self.debug_str(if debug { "true" } else { "false" })
+    }
+
     /// Sets the folder of the objects and of the library. Refused for memory, the build stays as it was.
     pub fn out_dir(&mut self, out_dir: &str) -> Result<(), Error>
         ensures ok { OnOk result (self.new ≡ record self.old { config = record self.old.config { out_dir = Some out_dir.now } }) }

@@ -40,24 +40,24 @@ IsTruthOf text (Some on) = (is_truth text ≡ true) × (on ≡ is text "true")
 -- a key whose value is one text
 unfoldable pub is_text_key : List ℕ → Bool
 is_text_key key =
-    is key "source_root" || is key "std" || is key "target" || is key "host" || is key "opt_level_str" || is key "out_dir"
+    is key "source_root" || is key "std" || is key "target" || is key "host" || is key "opt_level_str" || is key "debug_str" || is key "out_dir"
     || is key "compiler" || is key "archiver" || is key "cpp_set_stdlib"
 
 -- a key whose values are kept one after another
 unfoldable pub is_item_key : List ℕ → Bool
-is_item_key key = is key "file" || is key "include" || is key "asm_flag" || is key "flag" || is key "remove_flag" || is key "define"
+is_item_key key = is key "file" || is key "include" || is key "asm_flag" || is key "flag" || is key "flag_if_supported" || is key "remove_flag" || is key "define"
 
 -- a key of a setting that is on or off, or unset
 unfoldable pub is_choice_key : List ℕ → Bool
 is_choice_key key =
     is key "shared_flag" || is key "static_flag" || is key "warnings" || is key "extra_warnings" || is key "pic" || is key "use_plt"
-    || is key "static_crt" || is key "shell_escaped_flags"
+    || is key "static_crt" || is key "shell_escaped_flags" || is key "force_frame_pointer"
 
 -- a key of a setting that is on or off
 unfoldable pub is_switch_key : List ℕ → Bool
 is_switch_key key =
     is key "no_default_flags" || is key "reproducible_codeview" || is key "cpp" || is key "warnings_into_errors" || is key "cargo_warnings"
-    || is key "emit_rerun_if_env_changed" || is key "prefer_clang_cl_over_msvc"
+    || is key "emit_rerun_if_env_changed" || is key "prefer_clang_cl_over_msvc" || is key "inherit_rustflags" || is key "inherit_trim_paths"
 
 abbrev pub cause_unless : Bool → Option WordCause
 cause_unless fine = if fine then None else Some BadValue
@@ -68,8 +68,9 @@ key_cause key value =
     if is_text_key key || is_item_key key then None
     else (if is_choice_key key || is_switch_key key then cause_unless (is_truth value)
     else (if is key "opt_level" then cause_unless (is_number value)
-    else (if is key "env" then cause_unless (is_some (key_and_value value))
-    else Some UnknownKey)))
+    else (if is key "debug" then cause_unless (is_truth value)
+    else (if is key "env" || is key "remap_source_path" then cause_unless (is_some (key_and_value value))
+    else Some UnknownKey))))
 
 abbrev pub pair_cause : Option (List ℕ × List ℕ) → Option WordCause
 pair_cause None = Some NoValue
@@ -150,7 +151,9 @@ is_among texts text = list_any (λ t. bytes_eq text t) texts
 -- the flag of a word, unless one of the words behind it takes it out
 abbrev pub flag_of : Option (List ℕ × List ℕ) → List (List ℕ) → List BuildFlag
 flag_of None removed = []
-flag_of (Some pair) removed = if is pair.0 "flag" && not (is_among removed pair.1) then Always pair.1 ∷ [] else []
+flag_of (Some pair) removed =
+    if is pair.0 "flag" && not (is_among removed pair.1) then Always pair.1 ∷ []
+    else (if is pair.0 "flag_if_supported" then IfSupported pair.1 ∷ [] else [])
 
 -- the flags, in order: each stands where no later word takes it out
 abbrev pub flags_of : List (List ℕ) → List BuildFlag
@@ -166,11 +169,13 @@ settings_of words = record {
     asm_flags = values (by "asm_flag") words;
     flags = flags_of words;
     definitions = map definition_of (values (by "define") words);
+    remap_source_paths = map variable_of (values (by "remap_source_path") words);
     source_root = latest None (values (by "source_root") words);
     std = latest None (values (by "std") words);
     target = latest None (values (by "target") words);
     host = latest None (values (by "host") words);
     opt_level = latest None (values (by_either "opt_level" "opt_level_str") words);
+    debug = latest None (values (by_either "debug" "debug_str") words);
     out_dir = latest None (values (by "out_dir") words);
     compiler = latest None (values (by "compiler") words);
     archiver = latest None (values (by "archiver") words);
@@ -179,6 +184,7 @@ settings_of words = record {
     static_flag = latest_choice None (values (by "static_flag") words);
     warnings = latest_choice None (values (by "warnings") words);
     extra_warnings = latest_choice None (values (by_either "extra_warnings" "warnings") words);
+    force_frame_pointer = latest_choice None (values (by "force_frame_pointer") words);
     pic = latest_choice None (values (by "pic") words);
     use_plt = latest_choice None (values (by "use_plt") words);
     static_crt = latest_choice None (values (by "static_crt") words);
@@ -189,7 +195,10 @@ settings_of words = record {
     warnings_into_errors = latest_truth false (values (by "warnings_into_errors") words);
     cargo_warnings = latest_truth true (values (by "cargo_warnings") words);
     emit_rerun_if_env_changed = latest_truth true (values (by "emit_rerun_if_env_changed") words);
+    inherit_rustflags = latest_truth true (values (by "inherit_rustflags") words);
+    inherit_trim_paths = latest_truth true (values (by "inherit_trim_paths") words);
     prefer_clang_cl_over_msvc = latest_truth false (values (by "prefer_clang_cl_over_msvc") words);
+    repeat_lines = true;
   };
   env = record { inherited = []; explicit = map variable_of (values (by "env") words) };
 }

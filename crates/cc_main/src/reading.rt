@@ -73,6 +73,7 @@ fn set_key<W: World>(
         "target" => set(build.target(value)),
         "host" => set(build.host(value)),
         "opt_level_str" => set(build.opt_level_str(value)),
+        "debug_str" => set(build.debug_str(value)),
         "out_dir" => set(build.out_dir(value)),
         "compiler" => set(build.compiler(value)),
         "archiver" => set(build.archiver(value)),
@@ -105,6 +106,7 @@ fn set_item<W: World>(
         "include" => set(build.include(value)),
         "asm_flag" => set(build.asm_flag(value)),
         "flag" => set(build.flag(value)),
+        "flag_if_supported" => set(build.flag_if_supported(value)),
         "define" => set(define(build, value)),
         "remove_flag" => {
             build.remove_flag(value);
@@ -128,6 +130,7 @@ fn is_choice_key(key: &str) -> bool
             | "use_plt"
             | "static_crt"
             | "shell_escaped_flags"
+            | "force_frame_pointer"
     )
 }
 
@@ -144,6 +147,8 @@ fn is_switch_key(key: &str) -> bool
             | "cargo_warnings"
             | "emit_rerun_if_env_changed"
             | "prefer_clang_cl_over_msvc"
+            | "inherit_rustflags"
+            | "inherit_trim_paths"
     )
 }
 
@@ -186,6 +191,10 @@ fn set_choice<W: World>(build: &mut Build<W>, key: &str, on: bool) -> bool
             build.shell_escaped_flags(on);
             true
         }
+        "force_frame_pointer" => {
+            build.force_frame_pointer(on);
+            true
+        }
         _ => false,
     }
 }
@@ -225,6 +234,14 @@ fn set_switch<W: World>(build: &mut Build<W>, key: &str, on: bool) -> bool
             build.prefer_clang_cl_over_msvc(on);
             true
         }
+        "inherit_rustflags" => {
+            build.inherit_rustflags(on);
+            true
+        }
+        "inherit_trim_paths" => {
+            build.inherit_trim_paths(on);
+            true
+        }
         _ => false,
     }
 }
@@ -248,6 +265,25 @@ fn set_variable<W: World>(build: &mut Build<W>, value: &str) -> Mem<Option<WordC
     }
 }
 
+fn set_debug<W: World>(build: &mut Build<W>, value: &str) -> Mem<Option<WordCause>>
+    ensures { IfOk result (Sets build.old build.new (codes "debug") value.now) }
+{
+    match truth_of(value) {
+        Some(on) => set(build.debug(on)),
+        None => Ok(Some(WordCause::BadValue)),
+    }
+}
+
+// Tells the folder of `FROM=TO` as another.
+fn set_remap<W: World>(build: &mut Build<W>, value: &str) -> Mem<Option<WordCause>>
+    ensures { IfOk result (Sets build.old build.new (codes "remap_source_path") value.now) }
+{
+    match key_and_value(value) {
+        Some((from, to)) => set(build.remap_source_path(from, to)),
+        None => Ok(Some(WordCause::BadValue)),
+    }
+}
+
 // Calls the setter of a key of another kind, if there is one.
 fn set_other<W: World>(
     alloc: Global,
@@ -262,7 +298,9 @@ fn set_other<W: World>(
     }
     match key {
         "opt_level" => set_level(alloc, build, value),
+        "debug" => set_debug(build, value),
         "env" => set_variable(build, value),
+        "remap_source_path" => set_remap(build, value),
         _ => Ok(Some(WordCause::UnknownKey)),
     }
 }
@@ -309,6 +347,7 @@ fn read_settings<W: World>(alloc: Global, words: &[String]) -> Result<Build<W>, 
         Ok(build) => build,
         Err(_) => return Err(ReadError::NoMemory),
     };
+    build.repeat_lines(true);
     for (place, word) in words.iter().enumerate() {
         if let Some(cause) = set_word(alloc, &mut build, word.as_str())? {
             return Err(bad(place as u64 + 2, cause));

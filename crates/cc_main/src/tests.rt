@@ -4,6 +4,7 @@ ghost use Rattle.cc_host.specs.declared.question.Outcome.TheVariants.{Unanswered
 
 mod machine;
 mod questions;
+mod support;
 
 use crate::top::{Ended, drive};
 use crate::words::{BadWord, WordCause};

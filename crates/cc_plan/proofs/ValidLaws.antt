@@ -6,7 +6,7 @@ use Rattle.std.proofs.lemmas.Slice.Eq.{bytes_eq-Decides}
 use Rattle.cc_env.specs.Env.{EnvSeen}
 use Rattle.cc_host.specs.Question.{Look}
 use Rattle.cc_plan.specs.Given.{out_dir_of, target_of, host_of, level_of}
-use Rattle.cc_plan.specs.Tool.{words_refusal_of}
+use Rattle.cc_plan.specs.Planned.{words_refusal_of}
 use Rattle.cc_plan.specs.Refusal.{place_from, earlier_place, source_refusal, sources_after, out_dir_refusal, unset, target_refusal, platform_refusal, given_refusal, refusal_by, tool_refusal, early_refusal, late_refusal, object_in, is_empty}
 use Rattle.cc_plan.specs.Valid.{IsNoneOf, AreApart, IsKnown, IsSetNonempty, Valid}
 use Rattle.cc_plan.specs.declared.settings.BuildConfig.{BuildConfig}

@@ -20,7 +20,7 @@ use Rattle.cc_plan.specs.Names.{library_name, library_file}
 use Rattle.cc_plan.specs.Object as object
 use Rattle.cc_plan.specs.Refusal.{early_refusal, late_refusal, is_empty}
 use Rattle.cc_plan.specs.Target.{target_info}
-use Rattle.cc_plan.specs.Tool.{tool_of, warnings_of}
+use Rattle.cc_plan.specs.Planned.{tool_of, warnings_of}
 
 -- the folder of the objects and of the library
 abbrev pub dir_of : BuildConfig → EnvSeen → List ℕ

@@ -2,7 +2,7 @@
 use Rattle.std.specs.Prelude.{[], None, true, false}
 use Rattle.cc_plan.specs.declared.settings.BuildConfig.{BuildConfig}
 
--- no source and nothing set, warnings and rerun lines on, all else off
+-- no source and nothing set, warnings, rerun lines and what Cargo hands down on, all else off
 abbrev pub unset_settings : BuildConfig
 unset_settings = record {
   files = [];
@@ -10,11 +10,13 @@ unset_settings = record {
   asm_flags = [];
   flags = [];
   definitions = [];
+  remap_source_paths = [];
   source_root = None;
   std = None;
   target = None;
   host = None;
   opt_level = None;
+  debug = None;
   out_dir = None;
   compiler = None;
   archiver = None;
@@ -23,6 +25,7 @@ unset_settings = record {
   static_flag = None;
   warnings = None;
   extra_warnings = None;
+  force_frame_pointer = None;
   pic = None;
   use_plt = None;
   static_crt = None;
@@ -33,5 +36,8 @@ unset_settings = record {
   warnings_into_errors = false;
   cargo_warnings = true;
   emit_rerun_if_env_changed = true;
+  inherit_rustflags = true;
+  inherit_trim_paths = true;
   prefer_clang_cl_over_msvc = false;
+  repeat_lines = false;
 }

@@ -8,7 +8,7 @@ use Rattle.cc_host.specs.Question.{Look}
 use Rattle.cc_target.specs.Targets.{is_known}
 use Rattle.cc_plan.specs.Given.{out_dir_of, target_of, host_of, level_of, is_disabled}
 use Rattle.cc_plan.specs.Refusal.{is_empty, object_in}
-use Rattle.cc_plan.specs.Tool.{words_refusal_of}
+use Rattle.cc_plan.specs.Planned.{words_refusal_of}
 use Rattle.cc_plan.specs.declared.settings.BuildConfig.{BuildConfig}
 
 -- a text is none of these

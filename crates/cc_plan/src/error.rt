@@ -30,6 +30,8 @@ pub enum PlanError {
     UnknownTarget(Text),
     /// The QNX compilers have no name for this architecture.
     QnxArch(Text),
+    /// This flag, which Cargo hands down, has no value or a wrong one.
+    Flag(Text),
     /// A call of the host failed.
     Host(HostCall, Why),
     /// Memory was refused.

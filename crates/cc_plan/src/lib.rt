@@ -16,6 +16,7 @@ mod env_tool;
 mod error;
 mod flags;
 mod given;
+mod inherited;
 mod languages;
 mod link;
 mod names;
@@ -26,6 +27,7 @@ mod printing;
 mod search;
 mod settings;
 mod sight;
+mod support;
 #[cfg(test)]
 mod tests;
 mod tool;

@@ -3,7 +3,7 @@ ghost use Rattle.std.specs.Prelude.{◌≡◌, IfOk};
 ghost use Rattle.cc_plan.specs.Settings.{unset_settings};
 
 use crate::{Definitions, Flags};
-use cc_text::{Mem, Text, Words};
+use cc_text::{Mem, Text, Vars, Words};
 use std::alloc::Global;
 
 /// The plain settings of a build. What is none is not set.
@@ -19,6 +19,8 @@ pub struct BuildConfig {
     pub flags: Flags,
     /// The macros, in the order added.
     pub definitions: Definitions,
+    /// The folders of sources that are told as others, in the order added.
+    pub remap_source_paths: Vars,
     /// The folder that the folders of sources count from.
     pub source_root: Option<Text>,
     /// The standard of the language.
@@ -26,6 +28,8 @@ pub struct BuildConfig {
     pub target: Option<Text>,
     pub host: Option<Text>,
     pub opt_level: Option<Text>,
+    /// How much debug information is wanted.
+    pub debug: Option<Text>,
     pub out_dir: Option<Text>,
     pub compiler: Option<Text>,
     pub archiver: Option<Text>,
@@ -35,6 +39,7 @@ pub struct BuildConfig {
     pub static_flag: Option<bool>,
     pub warnings: Option<bool>,
     pub extra_warnings: Option<bool>,
+    pub force_frame_pointer: Option<bool>,
     pub pic: Option<bool>,
     pub use_plt: Option<bool>,
     pub static_crt: Option<bool>,
@@ -46,12 +51,18 @@ pub struct BuildConfig {
     pub warnings_into_errors: bool,
     pub cargo_warnings: bool,
     pub emit_rerun_if_env_changed: bool,
+    /// Whether the flags of Rust code are taken that Cargo hands down.
+    pub inherit_rustflags: bool,
+    /// Whether paths are told as others where Cargo wants it.
+    pub inherit_trim_paths: bool,
     /// Whether Clang in the form of the Visual Studio compiler comes before that. No search for either is made, so it changes nothing.
     pub prefer_clang_cl_over_msvc: bool,
+    /// Whether a line that is given once for all builds that share what they know is given at each call.
+    pub repeat_lines: bool,
 }
 
 impl BuildConfig {
-    /// No source, nothing set, warnings and rerun lines on, all else off. It takes no memory.
+    /// No source, nothing set, warnings, rerun lines and what Cargo hands down on, all else off. It takes no memory.
     pub fn new(alloc: Global) -> BuildConfig
         ensures { result ≡ unset_settings }
     {
@@ -61,11 +72,13 @@ impl BuildConfig {
             asm_flags: Words::new(alloc),
             flags: Flags::new(alloc),
             definitions: Definitions::new(alloc),
+            remap_source_paths: Vars::new(alloc),
             source_root: None,
             std: None,
             target: None,
             host: None,
             opt_level: None,
+            debug: None,
             out_dir: None,
             compiler: None,
             archiver: None,
@@ -74,6 +87,7 @@ impl BuildConfig {
             static_flag: None,
             warnings: None,
             extra_warnings: None,
+            force_frame_pointer: None,
             pic: None,
             use_plt: None,
             static_crt: None,
@@ -84,7 +98,10 @@ impl BuildConfig {
             warnings_into_errors: false,
             cargo_warnings: true,
             emit_rerun_if_env_changed: true,
+            inherit_rustflags: true,
+            inherit_trim_paths: true,
             prefer_clang_cl_over_msvc: false,
+            repeat_lines: false,
         }
     }
 
@@ -98,11 +115,13 @@ impl BuildConfig {
             asm_flags: self.asm_flags.try_clone()?,
             flags: self.flags.try_clone()?,
             definitions: self.definitions.try_clone()?,
+            remap_source_paths: self.remap_source_paths.try_clone()?,
             source_root: second(&self.source_root)?,
             std: second(&self.std)?,
             target: second(&self.target)?,
             host: second(&self.host)?,
             opt_level: second(&self.opt_level)?,
+            debug: second(&self.debug)?,
             out_dir: second(&self.out_dir)?,
             compiler: second(&self.compiler)?,
             archiver: second(&self.archiver)?,
@@ -111,6 +130,7 @@ impl BuildConfig {
             static_flag: self.static_flag,
             warnings: self.warnings,
             extra_warnings: self.extra_warnings,
+            force_frame_pointer: self.force_frame_pointer,
             pic: self.pic,
             use_plt: self.use_plt,
             static_crt: self.static_crt,
@@ -121,7 +141,10 @@ impl BuildConfig {
             warnings_into_errors: self.warnings_into_errors,
             cargo_warnings: self.cargo_warnings,
             emit_rerun_if_env_changed: self.emit_rerun_if_env_changed,
+            inherit_rustflags: self.inherit_rustflags,
+            inherit_trim_paths: self.inherit_trim_paths,
             prefer_clang_cl_over_msvc: self.prefer_clang_cl_over_msvc,
+            repeat_lines: self.repeat_lines,
         })
     }
 }

@@ -23,7 +23,7 @@ pub struct Sight<'a, W: World, H: Host<W>> {
     pub answers: &'a mut Answers,
 }
 
-fn is_yes(verdict: &Verdict) -> bool
+pub(crate) fn is_yes(verdict: &Verdict) -> bool
     ensures { result ≡ yes verdict.now }
 {
     matches!(verdict, Verdict::Yes)

@@ -11,7 +11,9 @@ ghost use Rattle.cc_plan.specs.Given.{target_of, probe_folder};
 ghost use Rattle.cc_plan.specs.Plan.{tool_lines, wanted_lines as lines_of};
 ghost use Rattle.cc_plan.specs.Refusal.{unset, target_refusal, platform_refusal, given_refusal, refusal_by, tool_refusal};
 ghost use Rattle.cc_plan.specs.Target.{target_name, target_info};
-ghost use Rattle.cc_plan.specs.Tool.{language_variable, gnu_warnings, words_by, words_refusal_by, warnings_by, warnings_of, wrapped_tool, tool_by, tool_of};
+ghost use Rattle.cc_plan.specs.Planned.{warnings_of, tool_of};
+ghost use Rattle.cc_plan.specs.Support.{supported_by};
+ghost use Rattle.cc_plan.specs.Tool.{language_variable, gnu_warnings, lacks_by, words_by, words_refusal_by, warnings_by, wrapped_tool, tool_by};
 ghost use Rattle.cc_text.specs.Quoted.{quoted as quoted_path};
 ghost use Rattle.cc_tool.specs.Family.{detection_warnings};
 ghost use Rattle.cc_plan.specs.declared.error.PlanError.TheVariants.{NoMemory as WantsMemory, NotSet, Host as HostFault};
@@ -21,7 +23,11 @@ use crate::given::{
     environment_flags, has_no_defaults, host_of, is_cargos_target, level_of, target_of,
 };
 use crate::printing::{print_warnings, wanted_lines};
-use crate::words::{is_cl, is_gnu, tool_warnings, tool_words};
+use crate::inherited::{inherited_words, push_lost};
+use crate::support::supported_words;
+use crate::words::{
+    cargo_maps, check_words, is_cl, is_gnu, push_map_lacks, set_maps, tool_warnings, tool_words,
+};
 use crate::{BuildConfig, PlanError, Sight};
 use cc_env::BuildEnv;
 use cc_host::{Host, World};
@@ -103,7 +109,7 @@ fn given_target(alloc: Global, set: &BuildConfig, env: &BuildEnv) -> Result<Targ
     Ok(target)
 }
 
-fn language_variable(family: ToolFamily) -> (&'static str, &'static str)
+pub(crate) fn language_variable(family: ToolFamily) -> (&'static str, &'static str)
     ensures { (result.0.now, result.1.now) ≡ language_variable family }
 {
     if is_cl(family) {
@@ -113,19 +119,18 @@ fn language_variable(family: ToolFamily) -> (&'static str, &'static str)
     }
 }
 
-// The words of a compiler for a target.
-#[tactic(auto, unfolding(crate::specs::Tool::words_by, crate::specs::Tool::words_refusal_by))]
-fn words_by(
+// The words of a compiler for a target, where these are supported of those that it is asked about.
+#[tactic(auto, unfolding(crate::specs::Tool::words_by))]
+pub(crate) fn words_by(
     alloc: Global,
     set: &BuildConfig,
     env: &BuildEnv,
     target: &TargetInfo,
     compiler: &Compiler,
-) -> Result<Words, PlanError>
+    supported: &[Text],
+) -> Mem<Words>
     requires { info_seen target.now ≡ target_info set.now env.now }
-    ensures words { IfOk result (λ words. words ≡ words_by set.now env.now compiler.now) }
-    ensures allowed { OnOk result (words_refusal_by set.now env.now compiler.now ≡ None) }
-    ensures refused { IfErr result (λ e. (e ≡ WantsMemory) ⊎ (words_refusal_by set.now env.now compiler.now ≡ Some e)) }
+    ensures { IfOk result (λ words. words ≡ words_by set.now env.now compiler.now supported.now) }
 {
     let environment = environment_flags(alloc, set, env)?;
     tool_words(
@@ -138,27 +143,53 @@ fn words_by(
         target,
         compiler.family,
         compiler.choice.path.as_str(),
+        supported,
         environment.as_ref(),
     )
 }
 
-// The words of a compiler, where the host is set too.
-#[tactic(auto, unfolding(crate::specs::Refusal::refusal_by))]
-fn checked_words(
+// Whether a compiler has words for a target.
+#[tactic(auto, unfolding(crate::specs::Tool::words_refusal_by))]
+pub(crate) fn check_words_by(
     alloc: Global,
     set: &BuildConfig,
     env: &BuildEnv,
     target: &TargetInfo,
     compiler: &Compiler,
-) -> Result<Words, PlanError>
+) -> Result<(), PlanError>
     requires { info_seen target.now ≡ target_info set.now env.now }
-    ensures words { IfOk result (λ words. words ≡ words_by set.now env.now compiler.now) }
+    ensures allowed { OnOk result (words_refusal_by set.now env.now compiler.now ≡ None) }
+    ensures refused { IfErr result (λ e. (e ≡ WantsMemory) ⊎ (words_refusal_by set.now env.now compiler.now ≡ Some e)) }
+{
+    check_words(
+        alloc,
+        has_no_defaults(set, env),
+        set,
+        env.inherited(),
+        is_cargos_target(set, env),
+        target_of(set, env).unwrap_or(""),
+        target,
+        compiler.family,
+        compiler.choice.path.as_str(),
+    )
+}
+
+// Whether a compiler has words, and the host is set too.
+#[tactic(auto, unfolding(crate::specs::Refusal::refusal_by))]
+fn check_compiler(
+    alloc: Global,
+    set: &BuildConfig,
+    env: &BuildEnv,
+    target: &TargetInfo,
+    compiler: &Compiler,
+) -> Result<(), PlanError>
+    requires { info_seen target.now ≡ target_info set.now env.now }
     ensures allowed { OnOk result (refusal_by set.now env.now compiler.now ≡ None) }
     ensures refused { IfErr result (λ e. (e ≡ WantsMemory) ⊎ (refusal_by set.now env.now compiler.now ≡ Some e)) }
 {
-    let words = words_by(alloc, set, env, target, compiler)?;
+    check_words_by(alloc, set, env, target, compiler)?;
     demand(alloc, "HOST", host_of(set, env))?;
-    Ok(words)
+    Ok(())
 }
 
 // A tool of the compiler, with its wrapper.
@@ -206,16 +237,18 @@ fn tool_by(
     alloc: Global,
     set: &BuildConfig,
     env: &BuildEnv,
+    target: &TargetInfo,
     compiler: &Compiler,
-    words: &Words,
+    supported: &[Text],
 ) -> Mem<Tool>
-    requires { words.now ≡ words_by set.now env.now compiler.now }
-    ensures { IfOk result (λ tool. tool ≡ tool_by set.now env.now compiler.now) }
+    requires { info_seen target.now ≡ target_info set.now env.now }
+    ensures { IfOk result (λ tool. tool ≡ tool_by set.now env.now compiler.now supported.now) }
 {
+    let words = words_by(alloc, set, env, target, compiler, supported)?;
     let (name, value) = language_variable(compiler.family);
     let mut tool = wrapped_tool(alloc, env, compiler)?;
     push_wrapper_words(&mut tool, &compiler.choice.words)?;
-    push_args(&mut tool, words)?;
+    push_args(&mut tool, &words)?;
     tool.push_env(name, value)?;
     push_entries(&mut tool, env)?;
     Ok(tool)
@@ -254,6 +287,31 @@ fn detection_warnings(alloc: Global, compiler: &Compiler) -> Mem<Words>
     Ok(warnings)
 }
 
+// What the compiler lacks of what it is asked about.
+#[tactic(auto, unfolding(crate::specs::Tool::lacks_by))]
+fn push_lacks(
+    warnings: &mut Words,
+    alloc: Global,
+    set: &BuildConfig,
+    env: &BuildEnv,
+    target: &TargetInfo,
+    compiler: &Compiler,
+    supported: &[Text],
+) -> Mem<()>
+    requires { info_seen target.now ≡ target_info set.now env.now }
+    ensures { OnOk result (warnings.new ≡ warnings.old ++ lacks_by set.now env.now compiler.now supported.now) }
+{
+    let family = compiler.family;
+    let inherited = env.inherited();
+    let path = compiler.choice.path.as_str();
+    let wanted = inherited_words(alloc, set.inherit_rustflags, inherited, family, target)?;
+    push_lost(warnings, alloc, supported, wanted.as_slice())?;
+    let cargos = cargo_maps(set.inherit_trim_paths, inherited, family);
+    push_map_lacks(warnings, alloc, path, family, supported, cargos)?;
+    let own = set_maps(family, &set.remap_source_paths);
+    push_map_lacks(warnings, alloc, path, family, supported, own)
+}
+
 // What a user is warned of.
 fn warnings_by(
     alloc: Global,
@@ -261,34 +319,16 @@ fn warnings_by(
     env: &BuildEnv,
     target: &TargetInfo,
     compiler: &Compiler,
+    supported: &[Text],
 ) -> Mem<Words>
     requires { info_seen target.now ≡ target_info set.now env.now }
-    ensures { IfOk result (λ warnings. warnings ≡ warnings_by set.now env.now compiler.now) }
+    ensures { IfOk result (λ warnings. warnings ≡ warnings_by set.now env.now compiler.now supported.now) }
 {
     let mut warnings = detection_warnings(alloc, compiler)?;
     push_gnu_warning(&mut warnings, set, target, compiler.family)?;
     warnings.append(tool_warnings(alloc, has_no_defaults(set, env), set, compiler.family)?)?;
+    push_lacks(&mut warnings, alloc, set, env, target, compiler, supported)?;
     Ok(warnings)
-}
-
-// The tool of a compiler, and what a user is warned of.
-fn built_tool(
-    alloc: Global,
-    set: &BuildConfig,
-    env: &BuildEnv,
-    target: &TargetInfo,
-    compiler: &Compiler,
-) -> Result<(Tool, Words), PlanError>
-    requires { info_seen target.now ≡ target_info set.now env.now }
-    ensures tool { IfOk result (λ both. both.0 ≡ tool_by set.now env.now compiler.now) }
-    ensures warnings { IfOk result (λ both. both.1 ≡ warnings_by set.now env.now compiler.now) }
-    ensures allowed { OnOk result (refusal_by set.now env.now compiler.now ≡ None) }
-    ensures refused { IfErr result (λ e. (e ≡ WantsMemory) ⊎ (refusal_by set.now env.now compiler.now ≡ Some e)) }
-{
-    let words = checked_words(alloc, set, env, target, compiler)?;
-    let tool = tool_by(alloc, set, env, compiler, &words)?;
-    let warnings = warnings_by(alloc, set, env, target, compiler)?;
-    Ok((tool, warnings))
 }
 
 /// The tool of these settings in this environment, with its target and its warnings. It asks, and prints nothing.
@@ -311,7 +351,11 @@ pub(crate) fn plan_tool<W: World, H: Host<W>>(
 {
     let target = given_target(alloc, set, env)?;
     let compiler = compiler_of(rt, alloc, set, env, &target, sight)?;
-    let (tool, warnings) = built_tool(alloc, set, env, &target, &compiler)?;
+    check_compiler(alloc, set, env, &target, &compiler)?;
+    let supported = supported_words(rt, alloc, set, env, &target, &compiler, sight)?;
+    let supported = supported.as_slice();
+    let tool = tool_by(alloc, set, env, &target, &compiler, supported)?;
+    let warnings = warnings_by(alloc, set, env, &target, &compiler, supported)?;
     Ok(ToolPlan {
         target,
         tool,

@@ -15,14 +15,14 @@ pub(crate) fn is_gnu(family: ToolFamily) -> bool
     matches!(family, ToolFamily::Gnu)
 }
 
-pub(super) fn is_clang(family: ToolFamily) -> bool
+pub(crate) fn is_clang(family: ToolFamily) -> bool
     ensures { result ≡ families.is_clang family }
 {
     matches!(family, ToolFamily::Clang { .. })
 }
 
 // The Visual Studio compiler, or Clang in its form.
-pub(super) fn is_visual_studio(family: ToolFamily) -> bool
+pub(crate) fn is_visual_studio(family: ToolFamily) -> bool
     ensures { result ≡ families.is_visual_studio family }
 {
     matches!(family, ToolFamily::Msvc { .. })

@@ -115,23 +115,101 @@ pub(super) fn push_extra_warning_words(
     Ok(())
 }
 
-// A flag that is always given; one that wants support isn't asked about, and isn't given.
-fn push_flag(words: &mut Words, flag: &BuildFlag) -> Mem<()>
-    ensures { OnOk result (words.new ≡ words.old ++ spec.flag_word flag.now) }
+// What follows is for the linker.
+pub(crate) fn is_link(text: &str) -> bool
+    ensures { result ≡ spec.is_link text.now }
+{
+    text == "/link" || text == "-link"
+}
+
+fn is_link_flag(flag: &BuildFlag) -> bool
+    ensures { result ≡ spec.is_link_flag flag.now }
+{
+    match flag {
+        BuildFlag::Always(text) => is_link(text.as_str()),
+        BuildFlag::IfSupported(text) => is_link(text.as_str()),
+    }
+}
+
+// The word stands among these.
+pub(crate) fn is_among(words: &[Text], text: &str) -> bool
+    ensures { result ≡ spec.is_among words.now text.now }
+{
+    words.iter().any(|word| text == word.as_str())
+}
+
+// A flag that is always given, or one that stands among the supported ones.
+fn push_flag(words: &mut Words, supported: &[Text], flag: &BuildFlag) -> Mem<()>
+    ensures { OnOk result (words.new ≡ words.old ++ spec.flag_word supported.now flag.now) }
 {
     match flag {
         BuildFlag::Always(word) => words.push(word.as_str())?,
-        BuildFlag::IfSupported(_) => {}
+        BuildFlag::IfSupported(word) => {
+            if is_among(supported, word.as_str()) {
+                words.push(word.as_str())?;
+            }
+        }
     }
     Ok(())
 }
 
-#[tactic(auto, unfolding(crate::specs::SettingWords::flag_words))]
-pub(super) fn push_flag_words(words: &mut Words, flags: &[BuildFlag]) -> Mem<()>
-    ensures { OnOk result (words.new ≡ words.old ++ spec.flag_words flags.now) }
+// The flags that the compiler is given: for Visual Studio those before what is for the linker.
+#[tactic(auto, unfolding(crate::specs::SettingWords::compiler_flags))]
+fn compiler_flags(family: ToolFamily, flags: &[BuildFlag]) -> &[BuildFlag]
+    ensures { result.now ≡ spec.compiler_flags family flags.now }
 {
-    for flag in flags {
-        push_flag(words, flag)?;
+    if is_visual_studio(family) {
+        flags_before_link(flags)
+    } else {
+        flags
+    }
+}
+
+fn flags_before_link(flags: &[BuildFlag]) -> &[BuildFlag]
+    ensures { result.now ≡ before is_link_flag flags.now }
+{
+    match flags.iter().position(|flag| is_link_flag(flag)) {
+        Some(place) => &flags[..place],
+        None => flags,
+    }
+}
+
+#[tactic(auto, unfolding(crate::specs::SettingWords::flag_words))]
+pub(super) fn push_flag_words(
+    words: &mut Words,
+    family: ToolFamily,
+    supported: &[Text],
+    flags: &[BuildFlag],
+) -> Mem<()>
+    ensures { OnOk result (words.new ≡ words.old ++ spec.flag_words family supported.now flags.now) }
+{
+    for flag in compiler_flags(family, flags) {
+        push_flag(words, supported, flag)?;
+    }
+    Ok(())
+}
+
+fn push_flag_ask(words: &mut Words, flag: &BuildFlag) -> Mem<()>
+    ensures { OnOk result (words.new ≡ words.old ++ spec.flag_ask flag.now) }
+{
+    match flag {
+        BuildFlag::Always(_) => {}
+        BuildFlag::IfSupported(word) => words.push(word.as_str())?,
+    }
+    Ok(())
+}
+
+// Adds the flags that a compiler is asked about.
+#[tactic(auto, unfolding(crate::specs::SettingWords::flag_asks))]
+pub(super) fn push_flag_asks(
+    words: &mut Words,
+    family: ToolFamily,
+    flags: &[BuildFlag],
+) -> Mem<()>
+    ensures { OnOk result (words.new ≡ words.old ++ spec.flag_asks family flags.now) }
+{
+    for flag in compiler_flags(family, flags) {
+        push_flag_ask(words, flag)?;
     }
     Ok(())
 }
@@ -164,12 +242,34 @@ pub(super) fn push_definition_words(
     Ok(())
 }
 
+// Adds the words before those that are for the linker.
+fn push_before_link(words: &mut Words, list: &[Text]) -> Mem<()>
+    ensures { OnOk result (words.new ≡ words.old ++ before spec.is_link list.now) }
+{
+    for word in list {
+        if is_link(word.as_str()) {
+            return Ok(());
+        }
+        words.push(word.as_str())?;
+    }
+    Ok(())
+}
+
 // The flags of the environment.
-pub(super) fn push_environment_words(words: &mut Words, environment: Option<&Words>) -> Mem<()>
-    ensures { OnOk result (words.new ≡ words.old ++ spec.environment_words (option_copied environment.entry)) }
+#[tactic(auto, unfolding(crate::specs::SettingWords::environment_words, crate::specs::SettingWords::compiler_words))]
+pub(super) fn push_environment_words(
+    words: &mut Words,
+    family: ToolFamily,
+    environment: Option<&Words>,
+) -> Mem<()>
+    ensures { OnOk result (words.new ≡ words.old ++ spec.environment_words family (option_copied environment.entry)) }
 {
     if let Some(environment) = environment {
-        words.extend(environment)?;
+        if is_visual_studio(family) {
+            push_before_link(words, environment.as_slice())?;
+        } else {
+            words.extend(environment)?;
+        }
     }
     Ok(())
 }

@@ -11,11 +11,17 @@ use crate::words::defaults::{
     push_optimisation_words, push_position_independence_words, push_qnx_words,
     push_sanitizer_words, push_standard_library_words, push_wasi_words, push_width_words,
 };
+use crate::inherited::{check_inherited, inherited_flags, inherited_words, push_taken};
+use crate::words::debug::{keeps_frame_pointers, push_debug_words, push_frame_pointer_words};
 use crate::words::family::{is_gnu, is_gnu_like, is_visual_studio};
 use crate::words::gnu::{
     push_bare_and_arm_words, push_gnu_words, push_processor_words, push_riscv_words,
 };
+use crate::words::maps::{
+    cargo_maps, push_map_asks, push_pairs_words, remap_pairs, set_maps, taken_maps, trim_pairs,
+};
 use crate::words::settings::{
+    is_among, push_flag_asks,
     push_definition_words, push_environment_words, push_error_words, push_extra_warning_words,
     push_flag_words, push_include_words, push_standard_words, push_warning_words,
 };
@@ -98,10 +104,27 @@ fn push_clang_words(
     Ok(())
 }
 
-// What GCC alone takes. No processor is asked for by the flags of Rust code.
+// The words for the processor, which the flags of Rust code may name.
+fn push_wanted_processor(
+    words: &mut Words,
+    alloc: Global,
+    inherits: bool,
+    env: &EnvSnapshot,
+    target: &TargetInfo,
+) -> Mem<()>
+    ensures { OnOk result (words.new ≡ words.old ++ processor_words (info_seen target.now) (inherited_cpu inherits env.now)) }
+{
+    match inherited_flags(alloc, inherits, env)? {
+        Some(flags) => push_processor_words(words, target, flags.target_cpu()),
+        None => push_processor_words(words, target, None),
+    }
+}
+
+// What GCC alone takes.
 #[tactic(auto, unfolding(crate::specs::ToolWords::gcc_words))]
 fn push_gcc_words(
     words: &mut Words,
+    alloc: Global,
     set: &BuildConfig,
     env: &EnvSnapshot,
     cargos: bool,
@@ -112,10 +135,39 @@ fn push_gcc_words(
 {
     if is_gnu(family) {
         push_gnu_words(words, target, set.static_flag, has_static_crt(env, cargos))?;
-        push_processor_words(words, target, None)?;
+        push_wanted_processor(words, alloc, set.inherit_rustflags, env, target)?;
         push_bare_and_arm_words(words, target)?;
         push_riscv_words(words, target)?;
     }
+    Ok(())
+}
+
+// How much debug information is wanted: as it is set, else as Cargo says.
+pub(crate) fn debug_of<'a>(debug: &'a Option<Text>, env: &'a EnvSnapshot) -> Option<&'a str>
+    ensures { option_copied result ≡ spec.debug_of debug.now env.now }
+{
+    match debug {
+        Some(text) => Some(text.as_str()),
+        None => env.get("DEBUG"),
+    }
+}
+
+// Debug information and frame pointers.
+#[tactic(auto, unfolding(crate::specs::ToolWords::debugging_words))]
+fn push_debugging_words(
+    words: &mut Words,
+    set: &BuildConfig,
+    env: &EnvSnapshot,
+    target: &TargetInfo,
+    family: ToolFamily,
+    supported: &[Text],
+) -> Mem<()>
+    ensures { OnOk result (words.new ≡ words.old ++ spec.debugging_words set.now env.now (info_seen target.now) family supported.now) }
+{
+    let debug = debug_of(&set.debug, env);
+    let takes_leaf = is_among(supported, "-mno-omit-leaf-frame-pointer");
+    push_debug_words(words, family, target, debug)?;
+    push_frame_pointer_words(words, family, set.force_frame_pointer, debug, takes_leaf)?;
     Ok(())
 }
 
@@ -123,6 +175,7 @@ fn push_gcc_words(
 #[tactic(auto, unfolding(crate::specs::ToolWords::default_words))]
 fn push_default_words(
     words: &mut Words,
+    alloc: Global,
     set: &BuildConfig,
     env: &EnvSnapshot,
     cargos: bool,
@@ -130,21 +183,76 @@ fn push_default_words(
     target: &TargetInfo,
     family: ToolFamily,
     program: &str,
+    supported: &[Text],
 ) -> Mem<()>
-    ensures { OnOk result (words.new ≡ words.old ++ spec.default_words set.now env.now cargos name.now (info_seen target.now) family program.now) }
+    ensures { OnOk result (words.new ≡ words.old ++ spec.default_words set.now env.now cargos name.now (info_seen target.now) family program.now supported.now) }
 {
     let level = level_of(&set.opt_level, env);
     let crt = has_static_crt(env, cargos);
     let set_stdlib = lent(&set.cpp_set_stdlib);
     push_visual_studio_words(words, family, set.static_crt, crt, level)?;
     push_gnu_like_words(words, set, env, name, target, family)?;
+    push_debugging_words(words, set, env, target, family, supported)?;
     push_width_words(words, family, target)?;
     push_clang_words(words, set, env, name, target, family, program)?;
     push_visual_studio_target_words(words, family, target, llvm_name(name))?;
-    push_gcc_words(words, set, env, cargos, target, family)?;
+    push_gcc_words(words, alloc, set, env, cargos, target, family)?;
     push_linkage_words(words, target, name, set.static_flag, set.shared_flag)?;
     push_standard_library_words(words, family, set.cpp, set_stdlib)?;
     push_sanitizer_words(words, family, target, cargos, env)?;
+    Ok(())
+}
+
+// What Cargo wants told as others, as far as the compiler takes it.
+#[tactic(auto, unfolding(crate::specs::ToolWords::trim_words))]
+fn push_trim_words(
+    words: &mut Words,
+    alloc: Global,
+    set: &BuildConfig,
+    env: &EnvSnapshot,
+    family: ToolFamily,
+    supported: &[Text],
+) -> Mem<()>
+    ensures { OnOk result (words.new ≡ words.old ++ spec.trim_words set.now env.now family supported.now) }
+{
+    let maps = taken_maps(alloc, family, supported, cargo_maps(set.inherit_trim_paths, env, family))?;
+    let pairs = trim_pairs(alloc, value_or_empty(env, "CARGO_TRIM_PATHS_REMAP"))?;
+    push_pairs_words(words, alloc, family, maps, &pairs)
+}
+
+// What the settings want told as others.
+#[tactic(auto, unfolding(crate::specs::ToolWords::remap_words))]
+fn push_remap_words(
+    words: &mut Words,
+    alloc: Global,
+    set: &BuildConfig,
+    family: ToolFamily,
+    supported: &[Text],
+) -> Mem<()>
+    ensures { OnOk result (words.new ≡ words.old ++ spec.remap_words set.now family supported.now) }
+{
+    let maps = taken_maps(alloc, family, supported, set_maps(family, &set.remap_source_paths))?;
+    let pairs = remap_pairs(alloc, &set.remap_source_paths)?;
+    push_pairs_words(words, alloc, family, maps, &pairs)
+}
+
+// What is handed down.
+#[tactic(auto, unfolding(crate::specs::ToolWords::handed_words))]
+fn push_handed_words(
+    words: &mut Words,
+    alloc: Global,
+    set: &BuildConfig,
+    env: &EnvSnapshot,
+    target: &TargetInfo,
+    family: ToolFamily,
+    supported: &[Text],
+) -> Mem<()>
+    ensures { OnOk result (words.new ≡ words.old ++ spec.handed_words set.now env.now (info_seen target.now) family supported.now) }
+{
+    let inherited = inherited_words(alloc, set.inherit_rustflags, env, family, target)?;
+    push_taken(words, supported, inherited.as_slice())?;
+    push_trim_words(words, alloc, set, env, family, supported)?;
+    push_remap_words(words, alloc, set, family, supported)?;
     Ok(())
 }
 
@@ -154,19 +262,23 @@ fn push_setting_words(
     words: &mut Words,
     alloc: Global,
     set: &BuildConfig,
+    env: &EnvSnapshot,
+    target: &TargetInfo,
     family: ToolFamily,
+    supported: &[Text],
     environment: Option<&Words>,
 ) -> Mem<()>
-    ensures { OnOk result (words.new ≡ words.old ++ spec.setting_words set.now family (option_copied environment.entry)) }
+    ensures { OnOk result (words.new ≡ words.old ++ spec.setting_words set.now env.now (info_seen target.now) family supported.now (option_copied environment.entry)) }
 {
     push_standard_words(words, family, lent(&set.std))?;
     push_include_words(words, set.includes.as_slice())?;
     push_error_words(words, family, set.warnings_into_errors)?;
     push_warning_words(words, family, set.warnings, environment)?;
     push_extra_warning_words(words, family, set.extra_warnings, environment)?;
-    push_flag_words(words, set.flags.as_slice())?;
+    push_handed_words(words, alloc, set, env, target, family, supported)?;
+    push_flag_words(words, family, supported, set.flags.as_slice())?;
     push_definition_words(words, alloc, set.definitions.as_slice())?;
-    push_environment_words(words, environment)?;
+    push_environment_words(words, family, environment)?;
     Ok(())
 }
 
@@ -174,6 +286,7 @@ fn push_setting_words(
 #[tactic(auto, unfolding(crate::specs::ToolWords::wanted_defaults))]
 fn push_wanted_defaults(
     words: &mut Words,
+    alloc: Global,
     no_defaults: bool,
     set: &BuildConfig,
     env: &EnvSnapshot,
@@ -182,13 +295,54 @@ fn push_wanted_defaults(
     target: &TargetInfo,
     family: ToolFamily,
     program: &str,
+    supported: &[Text],
 ) -> Mem<()>
-    ensures { OnOk result (words.new ≡ words.old ++ spec.wanted_defaults no_defaults set.now env.now cargos name.now (info_seen target.now) family program.now) }
+    ensures { OnOk result (words.new ≡ words.old ++ spec.wanted_defaults no_defaults set.now env.now cargos name.now (info_seen target.now) family program.now supported.now) }
 {
     if !no_defaults {
-        push_default_words(words, set, env, cargos, name, target, family, program)?;
+        push_default_words(
+            words, alloc, set, env, cargos, name, target, family, program, supported,
+        )?;
     }
     Ok(())
+}
+
+// The word for leaves, where frame pointers are kept.
+fn push_leaf_ask(
+    words: &mut Words,
+    no_defaults: bool,
+    set: &BuildConfig,
+    env: &EnvSnapshot,
+    family: ToolFamily,
+) -> Mem<()>
+    ensures { OnOk result (words.new ≡ words.old ++ spec.leaf_ask no_defaults set.now env.now family) }
+{
+    let debug = debug_of(&set.debug, env);
+    if !no_defaults && keeps_frame_pointers(family, set.force_frame_pointer, debug) {
+        words.push("-mno-omit-leaf-frame-pointer")?;
+    }
+    Ok(())
+}
+
+/// The words that a compiler is asked about, in order.
+#[tactic(auto, unfolding(crate::specs::ToolWords::asked_words))]
+pub(crate) fn asked_words(
+    alloc: Global,
+    no_defaults: bool,
+    set: &BuildConfig,
+    env: &EnvSnapshot,
+    target: &TargetInfo,
+    family: ToolFamily,
+) -> Mem<Words>
+    ensures { IfOk result (λ words. words ≡ spec.asked_words no_defaults set.now env.now (info_seen target.now) family) }
+{
+    let mut words = Words::new(alloc);
+    push_leaf_ask(&mut words, no_defaults, set, env, family)?;
+    words.append(inherited_words(alloc, set.inherit_rustflags, env, family, target)?)?;
+    push_map_asks(&mut words, alloc, family, cargo_maps(set.inherit_trim_paths, env, family))?;
+    push_map_asks(&mut words, alloc, family, set_maps(family, &set.remap_source_paths))?;
+    push_flag_asks(&mut words, family, set.flags.as_slice())?;
+    Ok(words)
 }
 
 // QNX is refused on an architecture for which its compiler has no variant.
@@ -244,9 +398,9 @@ fn check_defaults(
     Ok(())
 }
 
-// The words of a tool, where there are such.
+/// Whether a tool has words.
 #[tactic(auto, unfolding(crate::specs::ToolWords::words_refusal))]
-fn check_words(
+pub(crate) fn check_words(
     alloc: Global,
     no_defaults: bool,
     set: &BuildConfig,
@@ -263,15 +417,15 @@ fn check_words(
     if !no_defaults {
         check_defaults(alloc, set, env, cargos, name, target, family, program)?;
     }
-    Ok(())
+    check_inherited(alloc, set.inherit_rustflags, env)
 }
 
-/// The words of a tool, for a compiler of a family at the path `program`, where `environment` has the flags of the
-/// environment. Those that a target and a level bring are left out by `no_defaults`; `cargos` tells whether the
-/// target is Cargo's.
+/// The words of a tool, for a compiler of a family at the path `program`, where `supported` are those that it takes of the words
+/// it is asked about, and `environment` has the flags of the environment. Those that a target and a level bring are left out by
+/// `no_defaults`; `cargos` tells whether the target is Cargo's.
 ///
 /// Refused where the defaults aren't left out, and QNX has no compiler for the architecture or the sysroot of
-/// WebAssembly's threads isn't set.
+/// WebAssembly's threads isn't set; and where the flags that Cargo hands down have a wrong one.
 pub(crate) fn tool_words(
     alloc: Global,
     no_defaults: bool,
@@ -282,13 +436,14 @@ pub(crate) fn tool_words(
     target: &TargetInfo,
     family: ToolFamily,
     program: &str,
+    supported: &[Text],
     environment: Option<&Words>,
-) -> Result<Words, PlanError>
-    ensures words { IfOk result (λ words. words ≡ spec.tool_words no_defaults set.now env.now cargos name.now (info_seen target.now) family program.now (option_copied environment.entry)) }
-    ensures allowed { OnOk result (spec.words_refusal no_defaults set.now env.now cargos name.now (info_seen target.now) family program.now ≡ None) }
-    ensures refused { IfErr result (λ e. (e ≡ WantsMemory) ⊎ (spec.words_refusal no_defaults set.now env.now cargos name.now (info_seen target.now) family program.now ≡ Some e)) }
+) -> Mem<Words>
+    ensures { IfOk result (λ words. words ≡ spec.tool_words no_defaults set.now env.now cargos name.now (info_seen target.now) family program.now supported.now (option_copied environment.entry)) }
 {
-    check_words(
+    let mut words = Words::new(alloc);
+    push_wanted_defaults(
+        &mut words,
         alloc,
         no_defaults,
         set,
@@ -298,20 +453,18 @@ pub(crate) fn tool_words(
         target,
         family,
         program,
+        supported,
     )?;
-    let mut words = Words::new(alloc);
-    push_wanted_defaults(
+    push_setting_words(
         &mut words,
-        no_defaults,
+        alloc,
         set,
         env,
-        cargos,
-        name,
         target,
         family,
-        program,
+        supported,
+        environment,
     )?;
-    push_setting_words(&mut words, alloc, set, family, environment)?;
     Ok(words)
 }
 

@@ -1,0 +1,26 @@
+-- The planned tool, as a function of all verdicts.
+use Rattle.std.specs.Prelude.{ℕ, List, Option}
+use Rattle.cc_env.specs.Env.{EnvSeen}
+use Rattle.cc_host.specs.Question.{Look}
+use Rattle.cc_tool.specs.Tool.{ToolSeen}
+use Rattle.cc_plan.specs.Compiler.{compiler_of}
+use Rattle.cc_plan.specs.Support.{supported_by}
+use Rattle.cc_plan.specs.Tool.{tool_by, warnings_by, words_refusal_by}
+use Rattle.cc_plan.specs.declared.error.PlanError.{PlanError}
+use Rattle.cc_plan.specs.declared.settings.BuildConfig.{BuildConfig}
+
+-- what single words are refused for, with the compiler of these verdicts
+abbrev pub words_refusal_of : BuildConfig → EnvSeen → Look → Option PlanError
+words_refusal_of set env look = words_refusal_by set env (compiler_of set env look)
+
+-- the words that its compiler takes of those that it is asked about
+abbrev pub supported_of : BuildConfig → EnvSeen → Look → List (List ℕ)
+supported_of set env look = supported_by set env (compiler_of set env look) look
+
+-- the texts of the warnings
+abbrev pub warnings_of : BuildConfig → EnvSeen → Look → List (List ℕ)
+warnings_of set env look = warnings_by set env (compiler_of set env look) (supported_of set env look)
+
+-- the tool
+abbrev pub tool_of : BuildConfig → EnvSeen → Look → ToolSeen
+tool_of set env look = tool_by set env (compiler_of set env look) (supported_of set env look)

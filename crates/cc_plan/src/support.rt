@@ -1,0 +1,235 @@
+// Words that a compiler is given only where it takes them.
+ghost use Rattle.std.specs.Prelude.{◌≡◌, ◌⊎◌, ◌++◌, [], ◌∷◌, IfOk, OnOk, true};
+ghost use Rattle.cc_host.specs.Question.{Settles};
+ghost use Rattle.cc_target.specs.Targets.{info_seen};
+ghost use Rattle.cc_tool.specs.Asks.{Asks};
+ghost use Rattle.cc_plan.specs.Given.{probe_folder};
+ghost use Rattle.cc_plan.specs.Target.{target_info};
+ghost use Rattle.cc_plan.specs.Support as spec;
+
+use crate::compiler::Compiler;
+use crate::{BuildFlag, Flags};
+use crate::tool::{check_words_by, language_variable, words_by};
+use crate::given::{has_no_defaults, probe_folder};
+use crate::sight::is_yes;
+use crate::words::{asked_words, is_clang, is_link, is_visual_studio};
+use crate::{BuildConfig, Choice, PlanError, Sight};
+use cc_env::BuildEnv;
+use cc_host::{Ask, Host, Question, World};
+use cc_target::TargetInfo;
+use cc_text::{Mem, NoMemory, Text, ToolFamily, Vars, Words};
+use cc_tool::{Detected, ask_family, ask_flag};
+use std::alloc::Global;
+use std::sync::Wait;
+
+fn second(alloc: Global, text: &Option<Text>) -> Mem<Option<Text>>
+    ensures { IfOk result (λ copy. copy ≡ text.now) }
+{
+    match text {
+        Some(text) => Ok(Some(Text::of(alloc, text.as_str())?)),
+        None => Ok(None),
+    }
+}
+
+// The settings of a question on a flag.
+fn flag_settings(alloc: Global, set: &BuildConfig, path: &str, flag: &str) -> Mem<BuildConfig>
+    ensures { IfOk result (λ plain. plain ≡ spec.flag_settings set.now path.now flag.now) }
+{
+    let mut flags = Flags::new(alloc);
+    flags.push(BuildFlag::Always(Text::of(alloc, flag)?))?;
+    let mut plain = BuildConfig::new(alloc);
+    plain.flags = flags;
+    plain.target = second(alloc, &set.target)?;
+    plain.host = second(alloc, &set.host)?;
+    plain.opt_level = Some(Text::of(alloc, "0")?);
+    plain.debug = Some(Text::of(alloc, "false")?);
+    plain.compiler = Some(Text::of(alloc, path)?);
+    plain.cpp = set.cpp;
+    plain.inherit_rustflags = false;
+    plain.inherit_trim_paths = false;
+    Ok(plain)
+}
+
+fn flag_compiler(alloc: Global, path: &str, family: ToolFamily) -> Mem<Compiler>
+    ensures { IfOk result (λ compiler. compiler ≡ spec.flag_compiler path.now family) }
+{
+    Ok(Compiler {
+        choice: Choice {
+            path: Text::of(alloc, path)?,
+            wrapper: None,
+            words: Words::new(alloc),
+        },
+        family,
+        detected: Detected::Marks,
+    })
+}
+
+// Adds the words, less `-v`.
+#[tactic(auto, unfolding(crate::specs::Support::quiet_words))]
+fn quiet_words(alloc: Global, words: &Words) -> Mem<Words>
+    ensures { IfOk result (λ quiet. quiet ≡ spec.quiet_words words.now) }
+{
+    let mut quiet = Words::new(alloc);
+    for word in words.as_slice() {
+        if word.as_str() != "-v" {
+            quiet.push(word.as_str())?;
+        }
+    }
+    Ok(quiet)
+}
+
+// The variables of a question on a flag: those of the tool.
+fn flag_vars(alloc: Global, env: &BuildEnv, family: ToolFamily) -> Mem<Vars>
+    ensures { IfOk result (λ vars. vars ≡ child_of env.now.inherited (language_variable family ∷ env.now.explicit)) }
+{
+    let (name, value) = language_variable(family);
+    let mut entries = Vars::new(alloc);
+    entries.push(name, value)?;
+    entries.extend(env.explicit())?;
+    env.inherited().child_vars(alloc, &entries)
+}
+
+// Whether a flag is asked about.
+#[tactic(auto, unfolding(crate::specs::Support::is_asked_of))]
+fn question_of(
+    alloc: Global,
+    set: &BuildConfig,
+    env: &BuildEnv,
+    target: &TargetInfo,
+    family: ToolFamily,
+    path: &str,
+    flag: &str,
+) -> Mem<Option<Question>>
+    requires { info_seen target.now ≡ target_info set.now env.now }
+    ensures { IfOk result (λ q. q ≡ (if spec.is_asked_of set.now env.now family path.now flag.now then Some (spec.flag_question set.now env.now family path.now flag.now) else None)) }
+{
+    if is_visual_studio(family) && is_link(flag) {
+        return Ok(None);
+    }
+    let plain = flag_settings(alloc, set, path, flag)?;
+    let compiler = flag_compiler(alloc, path, family)?;
+    match check_words_by(alloc, &plain, env, target, &compiler) {
+        Ok(()) => {}
+        Err(PlanError::NoMemory) => return Err(NoMemory),
+        Err(_) => return Ok(None),
+    }
+    let words = words_by(alloc, &plain, env, target, &compiler, &[])?;
+    let mut words = quiet_words(alloc, &words)?;
+    if is_clang(family) {
+        words.push("-Wno-unused-command-line-argument")?;
+    }
+    Ok(Some(Question {
+        ask: Ask::Flag {
+            cpp: set.cpp,
+            family,
+        },
+        program: Text::of(alloc, path)?,
+        words,
+        vars: flag_vars(alloc, env, family)?,
+    }))
+}
+
+// Whether the compiler of a family at a path takes a flag.
+fn takes<W: World, H: Host<W>>(
+    rt: &impl Wait,
+    alloc: Global,
+    set: &BuildConfig,
+    env: &BuildEnv,
+    target: &TargetInfo,
+    family: ToolFamily,
+    path: &str,
+    flag: &str,
+    sight: &mut Sight<'_, W, H>,
+) -> Mem<bool>
+    requires { info_seen target.now ≡ target_info set.now env.now }
+    ensures same_host { sight.new.host.ghost_name ≡ sight.old.host.ghost_name }
+    ensures same_answers { sight.new.answers.ghost_name ≡ sight.old.answers.ghost_name }
+    ensures asks { Asks W.steady W.answer (probe_folder set.now env.now) (H.log sight.old.host.now) (H.log sight.new.host.now) sight.old.answers.now sight.new.answers.now }
+    ensures settles { IfOk result (Settles sight.new.answers.now (λ look. spec.takes set.now env.now family path.now look flag.now)) }
+{
+    let dir = probe_folder(set, env);
+    match question_of(alloc, set, env, target, family, path, flag)? {
+        None => Ok(false),
+        Some(question) => {
+            let verdict = ask_flag(
+                rt,
+                alloc,
+                sight.host,
+                sight.caches,
+                sight.answers,
+                &question,
+                dir,
+            )?;
+            Ok(is_yes(&verdict))
+        }
+    }
+}
+
+// Those of some words that the compiler of a family at a path takes.
+fn taken_among<W: World, H: Host<W>>(
+    rt: &impl Wait,
+    alloc: Global,
+    set: &BuildConfig,
+    env: &BuildEnv,
+    target: &TargetInfo,
+    family: ToolFamily,
+    path: &str,
+    words: &Words,
+    sight: &mut Sight<'_, W, H>,
+) -> Mem<Words>
+    requires { info_seen target.now ≡ target_info set.now env.now }
+    ensures same_host { sight.new.host.ghost_name ≡ sight.old.host.ghost_name }
+    ensures same_answers { sight.new.answers.ghost_name ≡ sight.old.answers.ghost_name }
+    ensures asks { Asks W.steady W.answer (probe_folder set.now env.now) (H.log sight.old.host.now) (H.log sight.new.host.now) sight.old.answers.now sight.new.answers.now }
+    ensures settles { IfOk result (Settles sight.new.answers.now (λ look. filter (spec.takes set.now env.now family path.now look) words.now)) }
+{
+    let mut taken = Words::new(alloc);
+    for word in words.as_slice() {
+        if takes(rt, alloc, set, env, target, family, path, word.as_str(), sight)? {
+            taken.push(word.as_str())?;
+        }
+    }
+    Ok(taken)
+}
+
+/// Those that the compiler takes of the words it is asked about. Its family is asked for by its path alone.
+pub(crate) fn supported_words<W: World, H: Host<W>>(
+    rt: &impl Wait,
+    alloc: Global,
+    set: &BuildConfig,
+    env: &BuildEnv,
+    target: &TargetInfo,
+    compiler: &Compiler,
+    sight: &mut Sight<'_, W, H>,
+) -> Mem<Words>
+    requires { info_seen target.now ≡ target_info set.now env.now }
+    ensures same_host { sight.new.host.ghost_name ≡ sight.old.host.ghost_name }
+    ensures same_answers { sight.new.answers.ghost_name ≡ sight.old.answers.ghost_name }
+    ensures asks { Asks W.steady W.answer (probe_folder set.now env.now) (H.log sight.old.host.now) (H.log sight.new.host.now) sight.old.answers.now sight.new.answers.now }
+    ensures settles { IfOk result (Settles sight.new.answers.now (supported_by set.now env.now compiler.now)) }
+{
+    let words = asked_words(
+        alloc,
+        has_no_defaults(set, env),
+        set,
+        env.inherited(),
+        target,
+        compiler.family,
+    )?;
+    if words.is_empty() {
+        return Ok(words);
+    }
+    let path = compiler.choice.path.as_str();
+    let (family, _) = ask_family(
+        rt,
+        alloc,
+        sight.host,
+        sight.caches,
+        sight.answers,
+        path,
+        &Words::new(alloc),
+        env,
+        probe_folder(set, env),
+    )?;
+    taken_among(rt, alloc, set, env, target, family, path, &words, sight)
+}
