@@ -5,5 +5,6 @@ pub mod LineLemmas
 pub mod OwnLemmas
 pub mod ResultLemmas
 pub mod SourceLaws
+pub mod SupportLemmas
 pub mod ValidLaws
 pub mod WarnLemmas

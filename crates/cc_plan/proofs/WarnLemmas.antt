@@ -10,13 +10,14 @@ use Rattle.cc_tool.specs.Asked.{question_events}
 use Rattle.cc_tool.specs.Asks.{Asks}
 use Rattle.cc_plan.specs.Asking.{AsksThen, AreLines, Warns, Printed, EndsPrinting, IsOwn}
 use Rattle.cc_plan.specs.declared.error.PlanError.{PlanError}
-use Rattle.cc_plan.specs.declared.error.PlanError.TheVariants.{Argument, NotSet, UnknownTarget, QnxArch, Host, NoMemory}
+use Rattle.cc_plan.specs.declared.error.PlanError.TheVariants.{Argument, NotSet, UnknownTarget, QnxArch, Flag, Host, NoMemory}
 
 ends_none : (e : PlanError) → IsOwn e → EndsPrinting [] e
 ends_none (Argument cause) h = refl
 ends_none (NotSet name) h = refl
 ends_none (UnknownTarget name) h = refl
 ends_none (QnxArch name) h = refl
+ends_none (Flag flag) h = refl
 ends_none (Host call why) h = absurd h
 ends_none NoMemory h = refl
 
