@@ -76,13 +76,9 @@ takes set env family path look flag = is_asked_of set env family path flag && is
 abbrev pub bare_family : EnvSeen → List ℕ → Look → ToolFamily
 bare_family env path look = (family_of look path [] (child_of env.inherited env.explicit)).0
 
--- the compiler at a path takes the flag
-abbrev pub supports : BuildConfig → EnvSeen → List ℕ → Look → List ℕ → Bool
-supports set env path look flag = takes set env (bare_family env path look) path look flag
-
 -- those of some words that the compiler takes
 abbrev pub supported_among : BuildConfig → EnvSeen → List ℕ → List (List ℕ) → Look → List (List ℕ)
-supported_among set env path words look = filter (supports set env path look) words
+supported_among set env path words look = filter (takes set env (bare_family env path look) path look) words
 
 -- those that the compiler takes of the words it is asked about
 abbrev pub supported_by : BuildConfig → EnvSeen → Compiler → Look → List (List ℕ)

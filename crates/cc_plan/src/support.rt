@@ -36,7 +36,7 @@ fn second(alloc: Global, text: &Option<Text>) -> Mem<Option<Text>>
 }
 
 // The settings of a question on a flag.
-fn flag_settings(alloc: Global, set: &BuildConfig, path: &str, flag: &str) -> Mem<BuildConfig>
+pub(crate) fn flag_settings(alloc: Global, set: &BuildConfig, path: &str, flag: &str) -> Mem<BuildConfig>
     ensures { IfOk result (λ plain. plain ≡ spec.flag_settings set.now path.now flag.now) }
 {
     let mut flags = Flags::new(alloc);
@@ -54,7 +54,7 @@ fn flag_settings(alloc: Global, set: &BuildConfig, path: &str, flag: &str) -> Me
     Ok(plain)
 }
 
-fn flag_compiler(alloc: Global, path: &str, family: ToolFamily) -> Mem<Compiler>
+pub(crate) fn flag_compiler(alloc: Global, path: &str, family: ToolFamily) -> Mem<Compiler>
     ensures { IfOk result (λ compiler. compiler ≡ spec.flag_compiler path.now family) }
 {
     Ok(Compiler {
@@ -122,7 +122,7 @@ fn question_words(
 }
 
 // The question whether the compiler at a path takes a flag.
-fn flag_question(
+pub(crate) fn flag_question(
     alloc: Global,
     env: &BuildEnv,
     target: &TargetInfo,
@@ -262,6 +262,57 @@ fn taken_among<W: World, H: Host<W>>(
     Ok(taken)
 }
 
+/// The family that a question on a flag is asked with: that of the path alone.
+pub(crate) fn bare_family<W: World, H: Host<W>>(
+    rt: &impl Wait,
+    alloc: Global,
+    set: &BuildConfig,
+    env: &BuildEnv,
+    path: &str,
+    sight: &mut Sight<'_, W, H>,
+) -> Mem<ToolFamily>
+    ensures same_host { sight.new.host.ghost_name ≡ sight.old.host.ghost_name }
+    ensures same_answers { sight.new.answers.ghost_name ≡ sight.old.answers.ghost_name }
+    ensures asks { Asks W.steady W.answer (probe_folder set.now env.now) (H.log sight.old.host.now) (H.log sight.new.host.now) sight.old.answers.now sight.new.answers.now }
+    ensures settles { IfOk result (Settles sight.new.answers.now (spec.bare_family env.now path.now)) }
+{
+    let none = Words::new(alloc);
+    let (family, _) = ask_family(
+        rt,
+        alloc,
+        sight.host,
+        sight.caches,
+        sight.answers,
+        path,
+        &none,
+        env,
+        probe_folder(set, env),
+    )?;
+    Ok(family)
+}
+
+// Those of some words that the compiler at a path takes.
+fn supported_among<W: World, H: Host<W>>(
+    rt: &impl Wait,
+    alloc: Global,
+    set: &BuildConfig,
+    env: &BuildEnv,
+    target: &TargetInfo,
+    path: &str,
+    words: &Words,
+    sight: &mut Sight<'_, W, H>,
+) -> Mem<Words>
+    requires { info_seen target.now ≡ target_info set.now env.now }
+    ensures same_host { sight.new.host.ghost_name ≡ sight.old.host.ghost_name }
+    ensures same_answers { sight.new.answers.ghost_name ≡ sight.old.answers.ghost_name }
+    ensures asks { Asks W.steady W.answer (probe_folder set.now env.now) (H.log sight.old.host.now) (H.log sight.new.host.now) sight.old.answers.now sight.new.answers.now }
+    ensures settles { IfOk result (Settles sight.new.answers.now (spec.supported_among set.now env.now path.now words.now)) }
+{
+    let family = bare_family(rt, alloc, set, env, path, sight)?;
+    let taken = taken_among(rt, alloc, set, env, target, family, path, words, sight)?;
+    Ok(taken)
+}
+
 /// Those that the compiler takes of the words it is asked about. Its family is asked for by its path alone.
 pub(crate) fn supported_words<W: World, H: Host<W>>(
     rt: &impl Wait,
@@ -290,16 +341,5 @@ pub(crate) fn supported_words<W: World, H: Host<W>>(
         return Ok(words);
     }
     let path = compiler.choice.path.as_str();
-    let (family, _) = ask_family(
-        rt,
-        alloc,
-        sight.host,
-        sight.caches,
-        sight.answers,
-        path,
-        &Words::new(alloc),
-        env,
-        probe_folder(set, env),
-    )?;
-    taken_among(rt, alloc, set, env, target, family, path, &words, sight)
+    supported_among(rt, alloc, set, env, target, path, &words, sight)
 }

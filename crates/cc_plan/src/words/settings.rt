@@ -122,7 +122,7 @@ pub(crate) fn is_link(text: &str) -> bool
     text == "/link" || text == "-link"
 }
 
-fn is_link_flag(flag: &BuildFlag) -> bool
+pub(crate) fn is_link_flag(flag: &BuildFlag) -> bool
     ensures { result ≡ spec.is_link_flag flag.now }
 {
     match flag {
