@@ -1,3 +1,4 @@
+pub mod BeforeLemmas
 pub mod CutTextLemmas
 pub mod DashLemmas
 pub mod FindLemmas
