@@ -32,10 +32,7 @@ pub(crate) fn has_debug(debug: Option<&str>) -> bool
 fn is_limited(text: &str) -> bool
     ensures { result ≡ spec.is_limited text.now }
 {
-    text == "1"
-        || text == "limited"
-        || text == "line-tables-only"
-        || text == "line-directives-only"
+    text == "1" || text == "limited" || text == "line-tables-only" || text == "line-directives-only"
 }
 
 // How much debug information is wanted.

@@ -211,11 +211,7 @@ fn push_flag_ask(words: &mut Words, flag: &BuildFlag) -> Mem<()>
 
 // Adds the flags that a compiler is asked about.
 #[tactic(auto, unfolding(crate::specs::SettingWords::flag_asks))]
-pub(super) fn push_flag_asks(
-    words: &mut Words,
-    family: ToolFamily,
-    flags: &[BuildFlag],
-) -> Mem<()>
+pub(super) fn push_flag_asks(words: &mut Words, family: ToolFamily, flags: &[BuildFlag]) -> Mem<()>
     ensures { OnOk result (words.new ≡ words.old ++ spec.flag_asks family flags.now) }
 {
     for flag in compiler_flags(family, flags) {
