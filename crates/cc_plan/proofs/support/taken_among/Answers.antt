@@ -1,4 +1,4 @@
-use Rattle.std.proofs.Common.{◌++◌, [], ◌∷◌, sym, ap, ◌∙◌, refl, arith}
+use Rattle.std.proofs.Common.{◌++◌, [], ◌∷◌, sym, ap, ◌∙◌, refl, length, slice_index_or, arith}
 use Rattle.cc_text.specs.Words.{when}
 use Rattle.cc_tool.proofs.AskLemmas.{asks_none, asks_then, asks_grows}
 use Rattle.cc_tool.proofs.SettleLemmas.{settles_on, settles_two}
@@ -26,7 +26,7 @@ loop-word-preserved g c = record {
   same_answers = c.takes.ensures.same_answers ∙ c.loop-word.invariant.same_answers;
   asks = asks_then c.loop-word.invariant.asks c.takes.ensures.asks;
   taken = settles_two (settles_on (asks_grows c.takes.ensures.asks) c.loop-word.invariant.taken) c.in_ok-is_taken.ensures.settles
-      (λ look a b. keep_more (takes c.args.set.now c.args.env.now c.args.family c.args.path.now look) c.args.words.now c.loop-word.word-index c.word-item.result c.loop-word.taken _ c.in_ok-is_taken.is_taken (omega arith) c.word-item.is a
+      (λ look a b. keep_more (takes c.args.set.now c.args.env.now c.args.family c.args.path.now look) c.args.words.now c.loop-word.word-index c.word-item.result c.loop-word.taken _ c.in_ok-is_taken.is_taken (omega (arith, ap length c.as_slice-word-items.ensures)) (c.word-item.is ∙ ap (λ xs. slice_index_or xs c.loop-word.word-index c.word-item.result) c.as_slice-word-items.ensures) a
       (ap (takes c.args.set.now c.args.env.now c.args.family c.args.path.now look) (sym c.as_str.ensures) ∙ b)
       (c.in_ok-push_if.ensures ∙ ap (λ w. c.loop-word.taken ++ when c.in_ok-is_taken.is_taken (w ∷ [])) c.as_str-in-loop-word.ensures));
 }
