@@ -1,5 +1,5 @@
 -- The outcome of a question on a flag.
-use Rattle.std.proofs.Common.{◌≡◌, ◌⊎◌, inl, inr, ℕ, List, [], Bool, Option, Some, None, Result, Ok, Err, OnOk, IfErr, refl, ap, ◌∙◌}
+use Rattle.std.proofs.Common.{◌≡◌, ◌⊎◌, inl, inr, ℕ, List, [], Bool, Option, Some, None, Result, Ok, Err, OnOk, IfErr, false, refl, ap, ◌∙◌}
 use Rattle.std.specs.Option.{option_map}
 use Rattle.cc_env.specs.Env.{EnvSeen}
 use Rattle.cc_host.specs.Part.{Step}
@@ -12,7 +12,9 @@ use Rattle.cc_plan.specs.Plan.{prints}
 use Rattle.cc_plan.specs.Refusal.{first_of}
 use Rattle.cc_plan.specs.declared.error.PlanError.{PlanError}
 use Rattle.cc_plan.specs.declared.settings.BuildConfig.{BuildConfig}
+use Rattle.cc_host.specs.declared.question.Verdict.{Verdict}
 use Rattle.cc_build.specs.Error.{ErrorSeen, no_memory}
+use Rattle.cc_build.specs.FlagSupport.{is_untried, verdict_error}
 use Rattle.cc_build.specs.Outcome.{Outcome}
 use Rattle.cc_build.specs.Refusal.{plan_error}
 use Rattle.cc_build.proofs.Telling.{planned_outcome}
@@ -33,3 +35,12 @@ pub answered_outcome : {X : Type 0} (known : List Answer) (warnings : Bool → L
 answered_outcome {X} known warnings refusal set env part result x error r look agree is w allowed tried untried =
     answered (option_map (plan_error set env []) (refusal look)) error (prints Warning (warnings w.told look)) part r
     (planned_outcome {T = Unit {0}} known warnings refusal set env part result x tt look agree is w allowed) tried untried
+
+-- the error of a verdict by its other name
+pub tried_so : (path path' : List ℕ) (v v' : Verdict) (r : Result Bool ErrorSeen) → path' ≡ path → v' ≡ v → OnOk r (is_untried v ≡ false) → OnOk r (verdict_error path' v' ≡ None)
+tried_so path path' v v' (Ok b) e f tried = rw (f, tried) refl
+tried_so path path' v v' (Err x) e f tried = tt
+
+pub untried_so : (path path' : List ℕ) (v v' : Verdict) (r : Result Bool ErrorSeen) → path' ≡ path → v' ≡ v → IfErr r (λ e. (e ≡ no_memory) ⊎ (verdict_error path v ≡ Some e)) → IfErr r (λ e. (e ≡ no_memory) ⊎ (verdict_error path' v' ≡ Some e))
+untried_so path path' v v' (Ok b) e f untried = tt
+untried_so path path' v v' (Err x) e f untried = rw (e, f) untried
