@@ -8,4 +8,5 @@ pub mod ResultLemmas
 pub mod SourceLaws
 pub mod SupportLemmas
 pub mod ValidLaws
+pub mod VerdictLemmas
 pub mod WarnLemmas

@@ -14,6 +14,8 @@ use Rattle.cc_plan.specs.DefaultWords.{qnx_refusal, lacks_qnx_variant, sysroot_r
 use Rattle.cc_plan.specs.Given.{target_of, host_of, level_of, is_cargos_target, has_no_defaults}
 use Rattle.cc_plan.specs.Target.{target_name, target_info}
 use Rattle.cc_plan.specs.Refusal.{first_of, unset, target_refusal, given_refusal, refusal_by}
+use Rattle.cc_plan.specs.FlagSupport.{is_for_linker, verdict_refusal}
+use Rattle.cc_plan.specs.Support.{flag_settings, flag_compiler}
 use Rattle.cc_plan.specs.Tool.{words_refusal_by}
 use Rattle.cc_plan.specs.ToolWords.{first_refusal, clang_refusal, default_refusal, words_refusal}
 use Rattle.cc_plan.specs.declared.compiler.Compiler.{Compiler}
@@ -98,3 +100,14 @@ given_is_own set env e h = own (given_refusal set env) e (given_own set env) h
 
 pub built_is_own : (set : BuildConfig) (env : EnvSeen) (compiler : Compiler) (e : PlanError) → (e ≡ WantsMemory) ⊎ (refusal_by set env compiler ≡ Some e) → IsOwn e
 built_is_own set env compiler e h = own (refusal_by set env compiler) e (by_own set env compiler) h
+
+verdict_own : (set : BuildConfig) (env : EnvSeen) (family : ToolFamily) (path flag : List ℕ) → AreOwn (verdict_refusal set env family path flag)
+unfolding verdict_refusal
+verdict_own set env family path flag =
+    choice_own (is_for_linker family flag) None (refusal_by (flag_settings set path flag) env (flag_compiler path family)) tt (by_own (flag_settings set path flag) env (flag_compiler path family))
+
+pub verdict_is_own : (set : BuildConfig) (env : EnvSeen) (family : ToolFamily) (path flag : List ℕ) (e : PlanError) → (e ≡ WantsMemory) ⊎ (verdict_refusal set env family path flag ≡ Some e) → IsOwn e
+verdict_is_own set env family path flag e h = own (verdict_refusal set env family path flag) e (verdict_own set env family path flag) h
+
+pub target_is_own : (set : BuildConfig) (env : EnvSeen) (e : PlanError) → (e ≡ WantsMemory) ⊎ (target_refusal (target_of set env) ≡ Some e) → IsOwn e
+target_is_own set env e h = own (target_refusal (target_of set env)) e (target_own (target_of set env)) h

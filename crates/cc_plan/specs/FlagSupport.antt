@@ -1,5 +1,5 @@
 -- Whether the compiler of these settings takes a flag.
-use Rattle.std.specs.Prelude.{ℕ, List, ◌++◌, ◌&&◌, Option, None, if◌then◌else◌}
+use Rattle.std.specs.Prelude.{ℕ, Bool, List, ◌++◌, ◌&&◌, Option, None, if◌then◌else◌}
 use Rattle.cc_env.specs.Env.{EnvSeen}
 use Rattle.cc_host.specs.Question.{Look}
 use Rattle.cc_host.specs.declared.question.Verdict.{Verdict}
@@ -21,14 +21,18 @@ use Rattle.cc_plan.specs.declared.compiler.Compiler.{Compiler}
 use Rattle.cc_plan.specs.declared.error.PlanError.{PlanError}
 use Rattle.cc_plan.specs.declared.settings.BuildConfig.{BuildConfig}
 
+-- the flag is for the linker of Visual Studio
+abbrev pub is_for_linker : ToolFamily → List ℕ → Bool
+is_for_linker family flag = is_visual_studio family && is_link flag
+
 -- the verdict on a flag for the compiler of a family at a path. What the linker is told isn't asked about.
 unfoldable pub verdict_on : BuildConfig → EnvSeen → ToolFamily → List ℕ → List ℕ → Look → Verdict
-verdict_on set env family path flag look = if is_visual_studio family && is_link flag then No else look (flag_question set env family path flag)
+verdict_on set env family path flag look = if is_for_linker family flag then No else look (flag_question set env family path flag)
 
 -- why it can't be asked
 unfoldable pub verdict_refusal : BuildConfig → EnvSeen → ToolFamily → List ℕ → List ℕ → Option PlanError
 verdict_refusal set env family path flag =
-    if is_visual_studio family && is_link flag then None else refusal_by (flag_settings set path flag) env (flag_compiler path family)
+    if is_for_linker family flag then None else refusal_by (flag_settings set path flag) env (flag_compiler path family)
 
 -- the path of the compiler
 abbrev pub path_of : BuildConfig → EnvSeen → Look → List ℕ

@@ -51,6 +51,13 @@ fn checked_question(
     Ok(question)
 }
 
+// The flag is for the linker of Visual Studio.
+fn is_for_linker(family: ToolFamily, flag: &str) -> bool
+    ensures { result ≡ spec.is_for_linker family flag.now }
+{
+    is_visual_studio(family) && is_link(flag)
+}
+
 // The verdict on a flag for the compiler of a family at a path.
 #[tactic(auto, unfolding(crate::specs::FlagSupport::verdict_on, crate::specs::FlagSupport::verdict_refusal))]
 fn verdict_on<W: World, H: Host<W>>(
@@ -72,7 +79,7 @@ fn verdict_on<W: World, H: Host<W>>(
     ensures allowed { OnOk result (spec.verdict_refusal set.now env.now family path.now flag.now ≡ None) }
     ensures refused { IfErr result (λ e. (e ≡ WantsMemory) ⊎ (spec.verdict_refusal set.now env.now family path.now flag.now ≡ Some e)) }
 {
-    if is_visual_studio(family) && is_link(flag) {
+    if is_for_linker(family, flag) {
         return Ok(Verdict::No);
     }
     let question = checked_question(alloc, set, env, target, family, path, flag)?;
