@@ -12,3 +12,4 @@ pub mod Outcome
 pub mod Questions
 pub mod Refusal
 pub mod Stop
+pub mod Values

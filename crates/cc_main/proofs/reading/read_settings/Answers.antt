@@ -1,12 +1,11 @@
 use Rattle.std.proofs.Common.{◌≡◌, None, string_bytes, refl, sym, ◌∙◌, ap, arith}
-use Rattle.cc_main.specs.Read.{values, word_cause}
+use Rattle.cc_main.specs.Read.{word_cause}
 use Rattle.cc_main.specs.Step.{with_word}
-use Rattle.cc_main.proofs.WordLaws.{good_here, set_here}
+use Rattle.cc_main.proofs.WordLaws.{fresh_settings, good_here, set_here}
 use Rattle.cc_main.proofs.reading.read_settings.Goals as goal
 
 pub loop-place-init : goal.loop-place-init
-unfolding values
-loop-place-init g c = record { rest = refl; build = c.in-Ok.ensures.fresh }
+loop-place-init g c = record { rest = refl; build = fresh_settings c.in-Ok.build c.repeat_lines.new.self c.in-Ok.ensures.fresh c.repeat_lines.ensures }
 
 pub loop-place-preserved : goal.loop-place-preserved
 loop-place-preserved g c =
