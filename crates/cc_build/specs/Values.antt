@@ -3,7 +3,7 @@ use Rattle.std.specs.Prelude.{ℕ, List, Bool, true, false, not, ◌==◌, codes
 use Rattle.std.specs.List.{list_any}
 
 -- no `=` stands in the text
-unfoldable pub lacks_equals : List ℕ → Bool
+abbrev pub lacks_equals : List ℕ → Bool
 lacks_equals text = not (list_any (λ b. b == 61) text)
 
 -- the text of a truth value

@@ -1,6 +1,6 @@
 -- What the setter of a key does to the settings.
-use Rattle.std.proofs.Common.{◌≡◌, ◌⊎◌, inl, inr, ℕ, List, [], ◌∷◌, ◌++◌, length, Option, Some, None, Result, Ok, Err, MatchResult, IsErr, IfOk, OnOk, codes, Bool, true, false, not, ◌||◌, ◌==◌, nat_lt, if◌then◌else◌, unwrap_or, refl, sym, ap, subst}
-use Rattle.std.specs.List.{list_any, before_first, after_first, position_or_len}
+use Rattle.std.proofs.Common.{◌≡◌, ◌⊎◌, inl, inr, ℕ, suc, ◌+◌, List, [], ◌∷◌, ◌++◌, length, Option, Some, None, Result, Ok, Err, MatchResult, IsErr, IfOk, OnOk, codes, Bool, true, false, not, ◌||◌, ◌==◌, nat_lt, if◌then◌else◌, unwrap_or, refl, sym, ap, subst, arith}
+use Rattle.std.specs.List.{list_any, before_first, after_first, position_or_len, prefix_len}
 use Rattle.cc_text.specs.Cuts.{key_and_value}
 use Rattle.cc_build.specs.Build.{BuildSeen}
 use Rattle.cc_build.specs.Values.{lacks_equals, truth_text}
@@ -104,17 +104,20 @@ pub no_map : (old : BuildSeen) (value : List ℕ) → key_and_value value ≡ No
 unfolding key_cause is_text_key is_item_key is_choice_key is_switch_key
 no_map old value e = (rw e refl, λ h. absurd (cc))
 
+suc_is : (n : ℕ) → 1 + n ≡ suc n
+suc_is n = omega arith
+
 -- no `=` stands before the first `=`
 none_before : (text : List ℕ) → list_any (λ b. b == 61) (before_first (λ b. b == 61) text) ≡ false
 none_before [] = refl
-none_before (b ∷ text) = by_test (b == 61) refl
+none_before (b ∷ text) = by_test (none_before text) (b == 61) refl
   where
-    by_test : (t : Bool) → (b == 61) ≡ t → list_any (λ b. b == 61) (before_first (λ b. b == 61) (b ∷ text)) ≡ false
-    by_test true e = rw e refl
-    by_test false e = rw (e, none_before text) refl
+    by_test : list_any (λ b. b == 61) (before_first (λ b. b == 61) text) ≡ false → (t : Bool) → (b == 61) ≡ t → list_any (λ b. b == 61) (before_first (λ b. b == 61) (b ∷ text)) ≡ false
+    by_test rest true e = rw e refl
+    by_test rest false e = rw (e, suc_is (prefix_len (λ x. not (x == 61)) text), e) rest
 
 pub from_lacks : (text : List ℕ) (pair : List ℕ × List ℕ) → key_and_value text ≡ Some pair → lacks_equals pair.0 ≡ true
-unfolding key_and_value lacks_equals
+unfolding key_and_value
 from_lacks text pair e = by_test (nat_lt (position_or_len (λ b. b == 61) text) (length text)) e
   where
     by_test : (t : Bool) → (if t then Some (before_first (λ b. b == 61) text, after_first (λ b. b == 61) text) else None) ≡ Some pair → not (list_any (λ b. b == 61) pair.0) ≡ true
@@ -123,7 +126,7 @@ from_lacks text pair e = by_test (nat_lt (position_or_len (λ b. b == 61) text) 
 
 text_of : (on : Bool) (value : List ℕ) → on ≡ is value "true" → is_truth value ≡ true → truth_text on ≡ value
 text_of true value e h = sym ((bytes_eq-Decides value (codes "true")).0 (sym e))
-text_of false value e h = sym ((bytes_eq-Decides value (codes "false")).0 (rw e at h))
+text_of false value e h = sym ((bytes_eq-Decides value (codes "false")).0 (rw (sym e) at h))
 
 -- the setter of debug information, of a truth value
 pub set_debug : {T E F : Type 0} (old new : BuildSeen) (value : List ℕ) (on : Bool) (answer : Result T E) (result : Result (Option WordCause) F) → is_truth value ≡ true → on ≡ is value "true" → MatchResult answer (λ _. result ≡ Ok None) (λ _. IsErr result) → OnOk answer (new ≡ record old { config = record old.config { debug = Some (truth_text on) } }) → IfOk result (Sets old new (codes "debug") value)

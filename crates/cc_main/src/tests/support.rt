@@ -10,11 +10,7 @@ use std::sync::Wait;
 use std::test::Fail;
 
 // Drives the compile run of one source with more words, and gives what it leaves in the log.
-fn log_on(
-    rt: &(impl Wait + AllocGlobal + Abort),
-    words: &str,
-    host: &mut BenchHost,
-) -> Mem<Text> {
+fn log_on(rt: &(impl Wait + AllocGlobal + Abort), words: &str, host: &mut BenchHost) -> Mem<Text> {
     let line = format!(in rt.alloc(); "compile foo file=src/a.c {SETTINGS} {words}")?;
     log_of(rt, line.as_str(), host)
 }
@@ -33,25 +29,46 @@ fn log_with(
 fn words_follow_from_debug_text_rustflags_and_maps(rt: HostRuntime) -> Result<(), Fail> {
     for (vars, words, told) in [
         (
-            [("", ""), ("", "")],
+            [("", ""), ("", ""), ("", "")],
             "debug=true",
             "\"-fPIC\" \"-g\" \"-gdwarf-4\" \"-fno-omit-frame-pointer\" \"-mno-omit-leaf-frame-pointer\" \"-m64\" \"-march=x86-64\" \"-Wall\" \"-Wextra\" \"-o\"",
         ),
         (
-            [("CARGO_ENCODED_RUSTFLAGS", "-Ctarget-cpu=native"), ("", "")],
+            [
+                ("CARGO_ENCODED_RUSTFLAGS", "-Ctarget-cpu=native"),
+                ("", ""),
+                ("", ""),
+            ],
             "",
             "\"-fPIC\" \"-m64\" \"-Wall\" \"-Wextra\" \"-o\"",
         ),
         (
             [
+                ("CARGO_ENCODED_RUSTFLAGS", "-Ctarget-cpu=native"),
+                ("CARGO_TRIM_PATHS_SCOPE", "object"),
+                ("CARGO_TRIM_PATHS_REMAP", "/a=/b"),
+            ],
+            "inherit_rustflags=false inherit_trim_paths=false force_frame_pointer=true",
+            "\"-fPIC\" \"-fno-omit-frame-pointer\" \"-mno-omit-leaf-frame-pointer\" \"-m64\" \"-march=x86-64\" \"-Wall\" \"-Wextra\" \"-o\"",
+        ),
+        (
+            [
                 ("CARGO_TRIM_PATHS_SCOPE", "object"),
                 ("CARGO_TRIM_PATHS_REMAP", "/a=/b:/c=/d"),
+                ("", ""),
             ],
             "",
             "\"-Wextra\" \"-fmacro-prefix-map=/a=/b\" \"-fdebug-prefix-map=/a=/b\" \"-fmacro-prefix-map=/c=/d\" \"-fdebug-prefix-map=/c=/d\" \"-o\"",
         ),
         (
-            [("CARGO_ENCODED_RUSTFLAGS", "-Ccode-model=tiny\u{1f}-Cno-redzone=no"), ("DEBUG", "1")],
+            [
+                (
+                    "CARGO_ENCODED_RUSTFLAGS",
+                    "-Ccode-model=tiny\u{1f}-Cno-redzone=no",
+                ),
+                ("DEBUG", "1"),
+                ("", ""),
+            ],
             "flag_if_supported=-x remap_source_path==y",
             "\"-fPIC\" \"-g1\" \"-gdwarf-4\" \"-fno-omit-frame-pointer\" \"-mno-omit-leaf-frame-pointer\" \"-m64\" \"-march=x86-64\" \"-Wall\" \"-Wextra\" \"-mcmodel=tiny\" \"-mred-zone\" \"-fmacro-prefix-map==y\" \"-fdebug-prefix-map==y\" \"-x\" \"-o\"",
         ),
@@ -75,8 +92,9 @@ fn a_flag_that_is_not_supported_is_left_out(rt: HostRuntime) -> Result<(), Fail>
     let mut host = lacking_host(rt.alloc())?;
     let log = log_on(&rt, "flag_if_supported=-x flag=-y", &mut host)?;
     assert!(rt;
-        log.as_str()
-            .contains("cargo:warning=Inherited flag \"-msoft-float\" is not supported by the currently used CC\n")
+        log.as_str().contains(
+            "cargo:warning=Inherited flag \"-msoft-float\" is not supported by the currently used CC\n"
+        )
     );
     assert!(rt; log.as_str().contains("\"-Wextra\" \"-y\" \"-o\""));
     Ok(())
