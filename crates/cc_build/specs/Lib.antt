@@ -13,3 +13,4 @@ pub mod Outcome
 pub mod Questions
 pub mod Refusal
 pub mod Stop
+pub mod Values

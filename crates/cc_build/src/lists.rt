@@ -1,10 +1,11 @@
 // The setters of one item more, and of several.
-ghost use Rattle.std.specs.Prelude.{◌≡◌, ◌++◌, [], ◌∷◌, IfOk, IfErr, OnOk, OnErr};
+ghost use Rattle.std.specs.Prelude.{◌≡◌, ◌++◌, [], ◌∷◌, true, IfOk, IfErr, OnOk, OnErr};
 ghost use Rattle.std.specs.Option.{option_copied};
 ghost use Rattle.cc_plan.specs.Flags.{without};
-ghost use Rattle.cc_plan.specs.declared.flags.BuildFlag.TheVariants.{Always};
+ghost use Rattle.cc_plan.specs.declared.flags.BuildFlag.TheVariants.{Always, IfSupported};
 ghost use Rattle.cc_build.specs.Error.{no_memory};
 ghost use Rattle.cc_build.specs.Flags.{always};
+ghost use Rattle.cc_build.specs.Values.{lacks_equals};
 
 use crate::texts::kept;
 use crate::{Build, Error};

@@ -2,7 +2,7 @@
 ghost use Rattle.std.specs.Prelude.{◌≡◌, IfOk};
 ghost use Rattle.cc_plan.specs.Plan.{dir_of};
 ghost use Rattle.cc_plan.specs.Refusal.{object_in};
-ghost use Rattle.cc_build.specs.Refusal.{source_at, invalid as invalid_error, same_object_error, unset_error, unknown_error, qnx_error, disabled_error, argument_error, plan_error};
+ghost use Rattle.cc_build.specs.Refusal.{source_at, invalid as invalid_error, same_object_error, unset_error, unknown_error, qnx_error, flag_error, disabled_error, argument_error, plan_error};
 
 use crate::message::host_error;
 use crate::{Error, ErrorKind};

@@ -304,7 +304,7 @@ fn flags_of_the_environment_want_target_host_and_variable(rt: HostRuntime) -> Re
 
 fn add_flags(build: &mut Build<Bench>) -> Result<(), Error> {
     build.flag("-a")?;
-    build.flag("-b")?;
+    build.flag_if_supported("-a")?;
     build.flag("-a")?;
     Ok(())
 }

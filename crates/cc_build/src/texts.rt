@@ -3,6 +3,7 @@ ghost use Rattle.std.specs.Prelude.{◌≡◌, Some, None, IfOk, IfErr, OnOk, On
 ghost use Rattle.std.specs.Fmt.{decimal};
 ghost use Rattle.std.specs.Option.{option_copied};
 ghost use Rattle.cc_build.specs.Error.{no_memory};
+ghost use Rattle.cc_build.specs.Values.{truth_text};
 
 use crate::{Build, Error};
 use cc_host::World;
@@ -76,7 +77,7 @@ impl<W: World> Build<W> {
         ensures err { OnErr result (self.new ≡ self.old) }
         ensures refused { IfErr result (λ e. e ≡ no_memory) }
     {
-        self.debug_str(if debug { "true" } else { "false" })
+        self.debug_str(truth_text(debug))
     }
 
     /// Sets the folder of the objects and of the library. Refused for memory, the build stays as it was.
@@ -130,6 +131,12 @@ impl<W: World> Build<W> {
         self.config.cpp_set_stdlib = library;
         Ok(())
     }
+}
+
+fn truth_text(on: bool) -> &'static str
+    ensures { result.now ≡ truth_text on }
+{
+    if on { "true" } else { "false" }
 }
 
 // A text of its own, or none.

@@ -1,7 +1,9 @@
 -- What the setter of a key does to the settings.
-use Rattle.std.proofs.Common.{◌≡◌, ◌⊎◌, inl, inr, ℕ, List, [], ◌∷◌, ◌++◌, Option, Some, None, Result, Ok, Err, MatchResult, IsErr, IfOk, OnOk, codes, Bool, true, false, ◌||◌, unwrap_or, refl, sym, ap, subst}
+use Rattle.std.proofs.Common.{◌≡◌, ◌⊎◌, inl, inr, ℕ, suc, ◌+◌, List, [], ◌∷◌, ◌++◌, length, Option, Some, None, Result, Ok, Err, MatchResult, IsErr, IfOk, OnOk, codes, Bool, true, false, not, ◌||◌, ◌==◌, nat_lt, if◌then◌else◌, unwrap_or, refl, sym, ap, subst, arith}
+use Rattle.std.specs.List.{list_any, before_first, after_first, position_or_len, prefix_len}
 use Rattle.cc_text.specs.Cuts.{key_and_value}
 use Rattle.cc_build.specs.Build.{BuildSeen}
+use Rattle.cc_build.specs.Values.{lacks_equals, truth_text}
 use Prim.Native.String.{String}
 use Rattle.std.proofs.lemmas.Slice.Eq.{bytes_eq-Decides}
 use Rattle.cc_main.specs.Read.{is, cause_unless, is_number, is_truth, key_cause, is_text_key, is_item_key, is_choice_key, is_switch_key}
@@ -41,30 +43,30 @@ pub known_key : (such : List ℕ → Bool) (key is : List ℕ) → key ≡ is �
 known_key such key is e h = sym (subst (λ k. such k ≡ true) (sym e) h)
 
 -- a key that is none of these is no such key
-pub no_text_key : (key : List ℕ) → (key ≡ codes "source_root" → ⊥) → (key ≡ codes "std" → ⊥) → (key ≡ codes "target" → ⊥) → (key ≡ codes "host" → ⊥) → (key ≡ codes "opt_level_str" → ⊥) → (key ≡ codes "out_dir" → ⊥) → (key ≡ codes "compiler" → ⊥) → (key ≡ codes "archiver" → ⊥) → (key ≡ codes "cpp_set_stdlib" → ⊥) → is_text_key key ≡ false
+pub no_text_key : (key : List ℕ) → (key ≡ codes "source_root" → ⊥) → (key ≡ codes "std" → ⊥) → (key ≡ codes "target" → ⊥) → (key ≡ codes "host" → ⊥) → (key ≡ codes "opt_level_str" → ⊥) → (key ≡ codes "debug_str" → ⊥) → (key ≡ codes "out_dir" → ⊥) → (key ≡ codes "compiler" → ⊥) → (key ≡ codes "archiver" → ⊥) → (key ≡ codes "cpp_set_stdlib" → ⊥) → is_text_key key ≡ false
 unfolding is_text_key
-no_text_key key n1 n2 n3 n4 n5 n6 n7 n8 n9 = rw (is_not key "source_root" n1, is_not key "std" n2, is_not key "target" n3, is_not key "host" n4, is_not key "opt_level_str" n5, is_not key "out_dir" n6, is_not key "compiler" n7, is_not key "archiver" n8, is_not key "cpp_set_stdlib" n9) refl
+no_text_key key n1 n2 n3 n4 n5 n6 n7 n8 n9 n10 = rw (is_not key "source_root" n1, is_not key "std" n2, is_not key "target" n3, is_not key "host" n4, is_not key "opt_level_str" n5, is_not key "debug_str" n6, is_not key "out_dir" n7, is_not key "compiler" n8, is_not key "archiver" n9, is_not key "cpp_set_stdlib" n10) refl
 
 -- a key that is none of these is no such key
-pub no_item_key : (key : List ℕ) → (key ≡ codes "file" → ⊥) → (key ≡ codes "include" → ⊥) → (key ≡ codes "asm_flag" → ⊥) → (key ≡ codes "flag" → ⊥) → (key ≡ codes "define" → ⊥) → (key ≡ codes "remove_flag" → ⊥) → is_item_key key ≡ false
+pub no_item_key : (key : List ℕ) → (key ≡ codes "file" → ⊥) → (key ≡ codes "include" → ⊥) → (key ≡ codes "asm_flag" → ⊥) → (key ≡ codes "flag" → ⊥) → (key ≡ codes "flag_if_supported" → ⊥) → (key ≡ codes "define" → ⊥) → (key ≡ codes "remove_flag" → ⊥) → is_item_key key ≡ false
 unfolding is_item_key
-no_item_key key n1 n2 n3 n4 n5 n6 = rw (is_not key "file" n1, is_not key "include" n2, is_not key "asm_flag" n3, is_not key "flag" n4, is_not key "define" n5, is_not key "remove_flag" n6) refl
+no_item_key key n1 n2 n3 n4 n5 n6 n7 = rw (is_not key "file" n1, is_not key "include" n2, is_not key "asm_flag" n3, is_not key "flag" n4, is_not key "flag_if_supported" n5, is_not key "define" n6, is_not key "remove_flag" n7) refl
 
 -- a key that is none of these is no such key
-pub no_choice_key : (key : List ℕ) → (key ≡ codes "shared_flag" → ⊥) → (key ≡ codes "static_flag" → ⊥) → (key ≡ codes "warnings" → ⊥) → (key ≡ codes "extra_warnings" → ⊥) → (key ≡ codes "pic" → ⊥) → (key ≡ codes "use_plt" → ⊥) → (key ≡ codes "static_crt" → ⊥) → (key ≡ codes "shell_escaped_flags" → ⊥) → is_choice_key key ≡ false
+pub no_choice_key : (key : List ℕ) → (key ≡ codes "shared_flag" → ⊥) → (key ≡ codes "static_flag" → ⊥) → (key ≡ codes "warnings" → ⊥) → (key ≡ codes "extra_warnings" → ⊥) → (key ≡ codes "pic" → ⊥) → (key ≡ codes "use_plt" → ⊥) → (key ≡ codes "static_crt" → ⊥) → (key ≡ codes "shell_escaped_flags" → ⊥) → (key ≡ codes "force_frame_pointer" → ⊥) → is_choice_key key ≡ false
 unfolding is_choice_key
-no_choice_key key n1 n2 n3 n4 n5 n6 n7 n8 = rw (is_not key "shared_flag" n1, is_not key "static_flag" n2, is_not key "warnings" n3, is_not key "extra_warnings" n4, is_not key "pic" n5, is_not key "use_plt" n6, is_not key "static_crt" n7, is_not key "shell_escaped_flags" n8) refl
+no_choice_key key n1 n2 n3 n4 n5 n6 n7 n8 n9 = rw (is_not key "shared_flag" n1, is_not key "static_flag" n2, is_not key "warnings" n3, is_not key "extra_warnings" n4, is_not key "pic" n5, is_not key "use_plt" n6, is_not key "static_crt" n7, is_not key "shell_escaped_flags" n8, is_not key "force_frame_pointer" n9) refl
 
 -- a key that is none of these is no such key
-pub no_switch_key : (key : List ℕ) → (key ≡ codes "no_default_flags" → ⊥) → (key ≡ codes "reproducible_codeview" → ⊥) → (key ≡ codes "cpp" → ⊥) → (key ≡ codes "warnings_into_errors" → ⊥) → (key ≡ codes "cargo_warnings" → ⊥) → (key ≡ codes "emit_rerun_if_env_changed" → ⊥) → (key ≡ codes "prefer_clang_cl_over_msvc" → ⊥) → is_switch_key key ≡ false
+pub no_switch_key : (key : List ℕ) → (key ≡ codes "no_default_flags" → ⊥) → (key ≡ codes "reproducible_codeview" → ⊥) → (key ≡ codes "cpp" → ⊥) → (key ≡ codes "warnings_into_errors" → ⊥) → (key ≡ codes "cargo_warnings" → ⊥) → (key ≡ codes "emit_rerun_if_env_changed" → ⊥) → (key ≡ codes "prefer_clang_cl_over_msvc" → ⊥) → (key ≡ codes "inherit_rustflags" → ⊥) → (key ≡ codes "inherit_trim_paths" → ⊥) → is_switch_key key ≡ false
 unfolding is_switch_key
-no_switch_key key n1 n2 n3 n4 n5 n6 n7 = rw (is_not key "no_default_flags" n1, is_not key "reproducible_codeview" n2, is_not key "cpp" n3, is_not key "warnings_into_errors" n4, is_not key "cargo_warnings" n5, is_not key "emit_rerun_if_env_changed" n6, is_not key "prefer_clang_cl_over_msvc" n7) refl
+no_switch_key key n1 n2 n3 n4 n5 n6 n7 n8 n9 = rw (is_not key "no_default_flags" n1, is_not key "reproducible_codeview" n2, is_not key "cpp" n3, is_not key "warnings_into_errors" n4, is_not key "cargo_warnings" n5, is_not key "emit_rerun_if_env_changed" n6, is_not key "prefer_clang_cl_over_msvc" n7, is_not key "inherit_rustflags" n8, is_not key "inherit_trim_paths" n9) refl
 
 -- a key of no kind is unknown
-pub unknown_key : (old : BuildSeen) (key value : List ℕ) → is_text_key key ≡ false → is_item_key key ≡ false → is_choice_key key ≡ false → is_switch_key key ≡ false → (key ≡ codes "opt_level" → ⊥) → (key ≡ codes "env" → ⊥) → Sets old old key value (Some UnknownKey)
+pub unknown_key : (old : BuildSeen) (key value : List ℕ) → is_text_key key ≡ false → is_item_key key ≡ false → is_choice_key key ≡ false → is_switch_key key ≡ false → (key ≡ codes "opt_level" → ⊥) → (key ≡ codes "debug" → ⊥) → (key ≡ codes "env" → ⊥) → (key ≡ codes "remap_source_path" → ⊥) → Sets old old key value (Some UnknownKey)
 unfolding key_cause
-unknown_key old key value text item choice switch n1 n2 =
-    (rw (text, item, choice, switch, is_not key "opt_level" n1, is_not key "env" n2) refl, λ e. absurd (cc))
+unknown_key old key value text item choice switch n1 n2 n3 n4 =
+    (rw (text, item, choice, switch, is_not key "opt_level" n1, is_not key "debug" n2, is_not key "env" n3, is_not key "remap_source_path" n4) refl, λ e. absurd (cc))
 
 either_true : (a b : Bool) → (a ≡ true) ⊎ (b ≡ true) → (a || b) ≡ true
 either_true true b h = refl
@@ -89,3 +91,51 @@ set_pair old new value pair answer result e m done =
 pub no_pair : (old : BuildSeen) (value : List ℕ) → key_and_value value ≡ None → Sets old old (codes "env") value (Some BadValue)
 unfolding key_cause is_text_key is_item_key is_choice_key is_switch_key
 no_pair old value e = (rw e refl, λ h. absurd (cc))
+
+-- the setter of a folder that is told as another, of a value that has both
+pub set_map : {T E F : Type 0} (old new : BuildSeen) (value : List ℕ) (pair : List ℕ × List ℕ) (answer : Result T E) (result : Result (Option WordCause) F) → key_and_value value ≡ Some pair → MatchResult answer (λ _. result ≡ Ok None) (λ _. IsErr result) → OnOk answer (new ≡ record old { config = record old.config { remap_source_paths = old.config.remap_source_paths ++ pair ∷ [] } }) → IfOk result (Sets old new (codes "remap_source_path") value)
+unfolding key_cause is_text_key is_item_key is_choice_key is_switch_key
+set_map old new value pair answer result e m done =
+    set_done old new (codes "remap_source_path") (codes "remap_source_path") value answer result refl (rw e refl) m
+    (subst (λ (p : List ℕ × List ℕ). OnOk answer (new ≡ record old { config = record old.config { remap_source_paths = old.config.remap_source_paths ++ p ∷ [] } })) (sym (ap (λ k. unwrap_or k (value, [])) e)) done)
+
+-- and of one that has not
+pub no_map : (old : BuildSeen) (value : List ℕ) → key_and_value value ≡ None → Sets old old (codes "remap_source_path") value (Some BadValue)
+unfolding key_cause is_text_key is_item_key is_choice_key is_switch_key
+no_map old value e = (rw e refl, λ h. absurd (cc))
+
+suc_is : (n : ℕ) → 1 + n ≡ suc n
+suc_is n = omega arith
+
+-- no `=` stands before the first `=`
+none_before : (text : List ℕ) → list_any (λ b. b == 61) (before_first (λ b. b == 61) text) ≡ false
+none_before [] = refl
+none_before (b ∷ text) = by_test (none_before text) (b == 61) refl
+  where
+    by_test : list_any (λ b. b == 61) (before_first (λ b. b == 61) text) ≡ false → (t : Bool) → (b == 61) ≡ t → list_any (λ b. b == 61) (before_first (λ b. b == 61) (b ∷ text)) ≡ false
+    by_test rest true e = rw e refl
+    by_test rest false e = rw (e, suc_is (prefix_len (λ x. not (x == 61)) text), e) rest
+
+pub from_lacks : (text : List ℕ) (pair : List ℕ × List ℕ) → key_and_value text ≡ Some pair → lacks_equals pair.0 ≡ true
+unfolding key_and_value
+from_lacks text pair e = by_test (nat_lt (position_or_len (λ b. b == 61) text) (length text)) e
+  where
+    by_test : (t : Bool) → (if t then Some (before_first (λ b. b == 61) text, after_first (λ b. b == 61) text) else None) ≡ Some pair → not (list_any (λ b. b == 61) pair.0) ≡ true
+    by_test true f = rw (sym (ap (λ p. unwrap_or p pair) f), none_before text) refl
+    by_test false f = absurd (cc)
+
+text_of : (on : Bool) (value : List ℕ) → on ≡ is value "true" → is_truth value ≡ true → truth_text on ≡ value
+text_of true value e h = sym ((bytes_eq-Decides value (codes "true")).0 (sym e))
+text_of false value e h = sym ((bytes_eq-Decides value (codes "false")).0 (rw (sym e) at h))
+
+-- the setter of debug information, of a truth value
+pub set_debug : {T E F : Type 0} (old new : BuildSeen) (value : List ℕ) (on : Bool) (answer : Result T E) (result : Result (Option WordCause) F) → is_truth value ≡ true → on ≡ is value "true" → MatchResult answer (λ _. result ≡ Ok None) (λ _. IsErr result) → OnOk answer (new ≡ record old { config = record old.config { debug = Some (truth_text on) } }) → IfOk result (Sets old new (codes "debug") value)
+unfolding key_cause is_text_key is_item_key is_choice_key is_switch_key
+set_debug old new value on answer result truth is m done =
+    set_done old new (codes "debug") (codes "debug") value answer result refl (rw truth refl) m
+    (subst (λ (t : List ℕ). OnOk answer (new ≡ record old { config = record old.config { debug = Some t } })) (text_of on value is truth) done)
+
+-- and of another value
+pub no_debug : (old : BuildSeen) (value : List ℕ) → is_truth value ≡ false → Sets old old (codes "debug") value (Some BadValue)
+unfolding key_cause is_text_key is_item_key is_choice_key is_switch_key
+no_debug old value e = (rw e refl, λ h. absurd (cc))

@@ -1,16 +1,22 @@
 -- One word more, in the order of the words.
-use Rattle.std.proofs.Common.{◌≡◌, ℕ, suc, ◌+◌, ◌<◌, List, [], ◌∷◌, ◌++◌, length, take, drop, get_or, map, Option, Some, None, sym, ◌∙◌, ap, add-one, arith}
+use Rattle.std.proofs.Common.{◌≡◌, ℕ, suc, ◌+◌, ◌<◌, List, [], ◌∷◌, ◌++◌, length, take, drop, get_or, map, Option, Some, None, true, refl, sym, ◌∙◌, ap, add-one, arith}
 use Rattle.std.proofs.Math.Seq.{drop-cons}
 use Rattle.std.proofs.lemmas.Grind.{take_at_read}
 use Rattle.std.proofs.lemmas.List.{map-append}
+use Rattle.cc_plan.specs.Settings.{unset_settings}
 use Rattle.cc_build.specs.Build.{BuildSeen}
-use Rattle.cc_main.specs.Read.{bad_at, bad_or, bad_word, first_bad, word_cause, settings_of}
+use Rattle.cc_main.specs.Read.{bad_at, bad_or, bad_word, first_bad, word_cause, values, settings_of}
 use Rattle.cc_main.specs.Step.{with_word}
 use Rattle.cc_main.specs.declared.words.BadWord.{BadWord}
 use Rattle.cc_main.specs.declared.words.ReadError.{ReadError}
 use Rattle.cc_main.specs.declared.words.ReadError.TheVariants.{Bad}
 use Rattle.cc_main.specs.declared.words.WordCause.{WordCause}
 use Rattle.cc_main.proofs.SettingLaws.{next_settings}
+
+-- before the first word nothing is set but that lines are repeated
+pub fresh_settings : (old new : BuildSeen) → old ≡ record { config = unset_settings; env = record { inherited = []; explicit = [] } } → new ≡ record old { config = record old.config { repeat_lines = true } } → new ≡ settings_of []
+unfolding values
+fresh_settings old new fresh set = set ∙ rw fresh refl
 
 module _ {A : Type 0} (text : A → List ℕ) (words : List A) (i : ℕ) (word : A) where
   next_bad : (n : ℕ) → i < length words → word ≡ get_or words i word → first_bad n (map text (drop i words)) ≡ bad_or n (word_cause (text word)) (first_bad (n + 1) (map text (drop (i + 1) words)))

@@ -1,12 +1,12 @@
 -- What the words of the program ask for: `compile NAME key=value ...`.
-use Rattle.std.specs.Prelude.{◌≡◌, ℕ, ◌+◌, ◌^◌, List, [], ◌∷◌, ◌++◌, Bool, true, false, not, ◌&&◌, ◌||◌, fold, map, Option, Some, None, Result, Ok, Err, is_some, nat_lt, codes, bytes_eq, unwrap_or, if◌then◌else◌}
+use Rattle.std.specs.Prelude.{◌≡◌, ℕ, ◌+◌, ◌^◌, List, [], ◌∷◌, ◌++◌, Bool, true, false, ◌&&◌, ◌||◌, fold, map, Option, Some, None, Result, Ok, Err, is_some, nat_lt, codes, bytes_eq, unwrap_or, if◌then◌else◌}
 use Prim.Native.String.{String}
 use Rattle.std.specs.Fmt.{decimal}
 use Rattle.std.specs.List.{flat_map, list_any}
 use Rattle.std.specs.Str.Parse.{digits_value}
 use Rattle.cc_text.specs.Cuts.{key_and_value}
 use Rattle.cc_plan.specs.declared.flags.BuildFlag.{BuildFlag}
-use Rattle.cc_plan.specs.declared.flags.BuildFlag.TheVariants.{Always}
+use Rattle.cc_plan.specs.declared.flags.BuildFlag.TheVariants.{Always, IfSupported}
 use Rattle.cc_plan.specs.declared.flags.Definition.{Definition}
 use Rattle.cc_build.specs.Build.{BuildSeen}
 use Rattle.cc_main.specs.declared.words.BadWord.{BadWord}
@@ -152,7 +152,7 @@ is_among texts text = list_any (λ t. bytes_eq text t) texts
 abbrev pub flag_of : Option (List ℕ × List ℕ) → List (List ℕ) → List BuildFlag
 flag_of None removed = []
 flag_of (Some pair) removed =
-    if is pair.0 "flag" && not (is_among removed pair.1) then Always pair.1 ∷ []
+    if is pair.0 "flag" then (if is_among removed pair.1 then [] else Always pair.1 ∷ [])
     else (if is pair.0 "flag_if_supported" then IfSupported pair.1 ∷ [] else [])
 
 -- the flags, in order: each stands where no later word takes it out

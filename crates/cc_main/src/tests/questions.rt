@@ -10,7 +10,7 @@ const NO_COMPILER: &str =
     "target=x86_64-unknown-linux-gnu host=x86_64-unknown-linux-gnu opt_level=0 out_dir=/o archiver=ar emit_rerun_if_env_changed=false";
 
 // A host with these variables. One without a name isn't set.
-fn host_with(alloc: Global, vars: &[(&str, &str)]) -> Mem<BenchHost> {
+pub(super) fn host_with(alloc: Global, vars: &[(&str, &str)]) -> Mem<BenchHost> {
     let mut given = Vars::new(alloc);
     for (name, value) in vars {
         if !name.is_empty() {

@@ -1,83 +1,117 @@
-// Runs with debug information, rustflags, mapped paths and flags that want support.
+// Runs with debug information, flags that Cargo hands down, mapped paths and flags that want support.
+use super::questions::host_with;
 use super::{SETTINGS, done, drive_line, log_of};
-use crate::words::{BadWord, WordCause};
-use cc_host::{Ask, BenchHost, Event, Host};
-use cc_text::{Mem, ToolFamily, Vars};
-use std::alloc::Global;
+use cc_build::{Error, ErrorKind};
+use cc_host::{Ask, BenchHost};
+use cc_text::{Mem, Text, ToolFamily};
+use std::alloc::{AllocGlobal, Global};
+use std::process::Abort;
+use std::sync::Wait;
 use std::test::Fail;
 
-// A host with two variables. One without a name isn't set.
-fn host_with(alloc: Global, vars: [(&str, &str); 2]) -> Mem<BenchHost> {
-    let mut given = Vars::new(alloc);
-    for (name, value) in vars {
-        if !name.is_empty() {
-            given.push(name, value)?;
-        }
-    }
-    let mut host = BenchHost::new(alloc)?;
-    host.set_vars(given);
-    Ok(host)
+// Drives the compile run of one source with more words, and gives what it leaves in the log.
+fn log_on(rt: &(impl Wait + AllocGlobal + Abort), words: &str, host: &mut BenchHost) -> Mem<Text> {
+    let line = format!(in rt.alloc(); "compile foo file=src/a.c {SETTINGS} {words}")?;
+    log_of(rt, line.as_str(), host)
+}
+
+// The same on a host with these variables.
+fn log_with(
+    rt: &(impl Wait + AllocGlobal + Abort),
+    vars: &[(&str, &str)],
+    words: &str,
+) -> Mem<Text> {
+    let mut host = host_with(rt.alloc(), vars)?;
+    log_on(rt, words, &mut host)
 }
 
 #[test]
 fn words_follow_from_debug_text_rustflags_and_maps(rt: HostRuntime) -> Result<(), Fail> {
     for (vars, words, told) in [
         (
-            [("", ""), ("", "")],
+            [("", ""), ("", ""), ("", "")],
             "debug=true",
             "\"-fPIC\" \"-g\" \"-gdwarf-4\" \"-fno-omit-frame-pointer\" \"-mno-omit-leaf-frame-pointer\" \"-m64\" \"-march=x86-64\" \"-Wall\" \"-Wextra\" \"-o\"",
         ),
         (
-            [("CARGO_ENCODED_RUSTFLAGS", "-Ctarget-cpu=native"), ("", "")],
-            "warnings=true",
+            [
+                ("CARGO_ENCODED_RUSTFLAGS", "-Ctarget-cpu=native"),
+                ("", ""),
+                ("", ""),
+            ],
+            "",
             "\"-fPIC\" \"-m64\" \"-Wall\" \"-Wextra\" \"-o\"",
+        ),
+        (
+            [
+                ("CARGO_ENCODED_RUSTFLAGS", "-Ctarget-cpu=native"),
+                ("CARGO_TRIM_PATHS_SCOPE", "object"),
+                ("CARGO_TRIM_PATHS_REMAP", "/a=/b"),
+            ],
+            "inherit_rustflags=false inherit_trim_paths=false force_frame_pointer=true",
+            "\"-fPIC\" \"-fno-omit-frame-pointer\" \"-mno-omit-leaf-frame-pointer\" \"-m64\" \"-march=x86-64\" \"-Wall\" \"-Wextra\" \"-o\"",
         ),
         (
             [
                 ("CARGO_TRIM_PATHS_SCOPE", "object"),
                 ("CARGO_TRIM_PATHS_REMAP", "/a=/b:/c=/d"),
+                ("", ""),
             ],
-            "warnings=true",
+            "",
             "\"-Wextra\" \"-fmacro-prefix-map=/a=/b\" \"-fdebug-prefix-map=/a=/b\" \"-fmacro-prefix-map=/c=/d\" \"-fdebug-prefix-map=/c=/d\" \"-o\"",
         ),
         (
-            [("CARGO_ENCODED_RUSTFLAGS", "-Ccode-model=tiny\u{1f}-Cno-redzone=no"), ("DEBUG", "1")],
+            [
+                (
+                    "CARGO_ENCODED_RUSTFLAGS",
+                    "-Ccode-model=tiny\u{1f}-Cno-redzone=no",
+                ),
+                ("DEBUG", "1"),
+                ("", ""),
+            ],
             "flag_if_supported=-x remap_source_path==y",
             "\"-fPIC\" \"-g1\" \"-gdwarf-4\" \"-fno-omit-frame-pointer\" \"-mno-omit-leaf-frame-pointer\" \"-m64\" \"-march=x86-64\" \"-Wall\" \"-Wextra\" \"-mcmodel=tiny\" \"-mred-zone\" \"-fmacro-prefix-map==y\" \"-fdebug-prefix-map==y\" \"-x\" \"-o\"",
         ),
     ] {
-        let mut host = host_with(rt.alloc(), vars)?;
-        let line = format!(in rt.alloc(); "compile foo file=src/a.c {SETTINGS} {words}")?;
-        let log = log_of(&rt, line.as_str(), &mut host)?;
+        let log = log_with(&rt, &vars, words)?;
         assert!(rt; log.as_str().contains(told), "{words} {told}");
     }
     Ok(())
 }
 
+// A host whose compiler takes no flag that it is asked about, where Cargo hands one down.
+fn lacking_host(alloc: Global) -> Mem<BenchHost> {
+    let mut host = host_with(alloc, &[("CARGO_ENCODED_RUSTFLAGS", "-Csoft-float")])?;
+    let family = ToolFamily::Gnu;
+    host.answer(Ask::Flag { cpp: false, family }, "cc", done(alloc, 1, "")?)?;
+    Ok(host)
+}
+
 #[test]
 fn a_flag_that_is_not_supported_is_left_out(rt: HostRuntime) -> Result<(), Fail> {
-    let mut host = host_with(rt.alloc(), [("CARGO_ENCODED_RUSTFLAGS", "-Csoft-float"), ("", "")])?;
-    let family = ToolFamily::Gnu;
-    host.answer(Ask::Flag { cpp: false, family }, "cc", done(rt.alloc(), 1, "")?)?;
-    let line = format!(in rt.alloc(); "compile foo file=src/a.c {SETTINGS} flag_if_supported=-x flag=-y")?;
-    let log = log_of(&rt, line.as_str(), &mut host)?;
+    let mut host = lacking_host(rt.alloc())?;
+    let log = log_on(&rt, "flag_if_supported=-x flag=-y", &mut host)?;
     assert!(rt;
-        log.as_str()
-            .contains("cargo:warning=Inherited flag \"-msoft-float\" is not supported by the currently used CC\n")
+        log.as_str().contains(
+            "cargo:warning=Inherited flag \"-msoft-float\" is not supported by the currently used CC\n"
+        )
     );
     assert!(rt; log.as_str().contains("\"-Wextra\" \"-y\" \"-o\""));
     Ok(())
 }
 
+// Why a run is refused on a host with these flags that Cargo hands down.
+fn refusal(rt: &(impl Wait + AllocGlobal), flags: &str) -> Mem<Option<Error>> {
+    let mut host = host_with(rt.alloc(), &[("CARGO_ENCODED_RUSTFLAGS", flags)])?;
+    let line = format!(in rt.alloc(); "compile foo file=src/a.c {SETTINGS}")?;
+    Ok(drive_line(rt, line.as_str(), &mut host)?.error)
+}
+
 #[test]
 fn a_wrong_rustflag_is_told(rt: HostRuntime) -> Result<(), Fail> {
-    let mut host = host_with(rt.alloc(), [("CARGO_ENCODED_RUSTFLAGS", "-Cdwarf-version=x"), ("", "")])?;
-    let line = format!(in rt.alloc(); "compile foo file=src/a.c {SETTINGS}")?;
-    let ended = drive_line(&rt, line.as_str(), &mut host)?;
-    let error = ended.error.expect(&rt, "an error");
-    assert_eq!(rt; error.kind(), cc_build::ErrorKind::InvalidFlag);
+    let error = refusal(&rt, "-Cdwarf-version=x")?.expect(&rt, "an error");
+    assert_eq!(rt; error.kind(), ErrorKind::InvalidFlag);
+    assert_eq!(rt; error.subject(), "-Cdwarf-version");
     assert_eq!(rt; error.message(), "-Cdwarf-version must have a value");
-    let ended = drive_line(&rt, "compile foo remap_source_path=x", &mut host)?;
-    assert_eq!(rt; ended.word, Some(BadWord { place: 2, cause: WordCause::BadValue }));
     Ok(())
 }

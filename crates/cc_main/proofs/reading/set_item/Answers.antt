@@ -19,6 +19,10 @@ pub returns-in-flag : goal.returns-in-flag
 unfolding key_cause is_text_key is_item_key
 returns-in-flag g c = λ _. set_done c.args.build.now c.flag.new.self c.args.key.now (codes "flag") c.args.value.now c.flag.result c.set-in-flag.result c.in-flag.is refl c.set-in-flag.ensures c.flag.ensures.ok
 
+pub returns-in-flag_if_supported : goal.returns-in-flag_if_supported
+unfolding key_cause is_text_key is_item_key
+returns-in-flag_if_supported g c = λ _. set_done c.args.build.now c.flag_if_supported.new.self c.args.key.now (codes "flag_if_supported") c.args.value.now c.flag_if_supported.result c.set-in-flag_if_supported.result c.in-flag_if_supported.is refl c.set-in-flag_if_supported.ensures c.flag_if_supported.ensures.ok
+
 pub returns-in-define : goal.returns-in-define
 unfolding key_cause is_text_key is_item_key
 returns-in-define g c = λ _. set_done c.args.build.now c.define.new.build c.args.key.now (codes "define") c.args.value.now c.define.result c.set-in-define.result c.in-define.is refl c.set-in-define.ensures c.define.ensures
@@ -28,4 +32,4 @@ unfolding key_cause is_text_key is_item_key
 returns-in-remove_flag g c = λ _. sets_key c.args.build.now c.remove_flag.new.self c.args.key.now (codes "remove_flag") c.args.value.now None c.in-remove_flag.is (refl, λ _. c.remove_flag.ensures)
 
 pub returns-in_default : goal.returns-in_default
-returns-in_default g c = λ text. c.set_other.ensures text (no_item_key c.args.key.now c.in_default.not-file c.in_default.not-include c.in_default.not-asm_flag c.in_default.not-flag c.in_default.not-define c.in_default.not-remove_flag)
+returns-in_default g c = λ text. c.set_other.ensures text (no_item_key c.args.key.now c.in_default.not-file c.in_default.not-include c.in_default.not-asm_flag c.in_default.not-flag c.in_default.not-flag_if_supported c.in_default.not-define c.in_default.not-remove_flag)

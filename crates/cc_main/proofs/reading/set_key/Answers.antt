@@ -23,6 +23,10 @@ pub returns-in-opt_level_str : goal.returns-in-opt_level_str
 unfolding key_cause is_text_key is_item_key
 returns-in-opt_level_str g c = set_done c.args.build.now c.opt_level_str.new.self c.args.key.now (codes "opt_level_str") c.args.value.now c.opt_level_str.result c.set-in-opt_level_str.result c.in-opt_level_str.is refl c.set-in-opt_level_str.ensures c.opt_level_str.ensures.ok
 
+pub returns-in-debug_str : goal.returns-in-debug_str
+unfolding key_cause is_text_key is_item_key
+returns-in-debug_str g c = set_done c.args.build.now c.debug_str.new.self c.args.key.now (codes "debug_str") c.args.value.now c.debug_str.result c.set-in-debug_str.result c.in-debug_str.is refl c.set-in-debug_str.ensures c.debug_str.ensures.ok
+
 pub returns-in-out_dir : goal.returns-in-out_dir
 unfolding key_cause is_text_key is_item_key
 returns-in-out_dir g c = set_done c.args.build.now c.out_dir.new.self c.args.key.now (codes "out_dir") c.args.value.now c.out_dir.result c.set-in-out_dir.result c.in-out_dir.is refl c.set-in-out_dir.ensures c.out_dir.ensures.ok
@@ -42,4 +46,4 @@ returns-in-cpp_set_stdlib g c =
     set_done c.args.build.now c.cpp_set_stdlib.new.self c.args.key.now (codes "cpp_set_stdlib") c.args.value.now c.cpp_set_stdlib.result c.set-in-cpp_set_stdlib.result c.in-cpp_set_stdlib.is refl c.set-in-cpp_set_stdlib.ensures done
 
 pub returns-in_default : goal.returns-in_default
-returns-in_default g c = c.set_item.ensures (no_text_key c.args.key.now c.in_default.not-source_root c.in_default.not-std c.in_default.not-target c.in_default.not-host c.in_default.not-opt_level_str c.in_default.not-out_dir c.in_default.not-compiler c.in_default.not-archiver c.in_default.not-cpp_set_stdlib)
+returns-in_default g c = c.set_item.ensures (no_text_key c.args.key.now c.in_default.not-source_root c.in_default.not-std c.in_default.not-target c.in_default.not-host c.in_default.not-opt_level_str c.in_default.not-debug_str c.in_default.not-out_dir c.in_default.not-compiler c.in_default.not-archiver c.in_default.not-cpp_set_stdlib)
