@@ -164,7 +164,15 @@ impl<W: World> Build<W> {
         ensures supported { IfOk result (λ b. Holds (answers (since (H.log host.old) (H.log host.new))) (λ look. b ≡ is_yes (flag_verdict self.now.config self.now.env flag.now look))) }
         ensures outcome { Holds (answers (since (H.log host.old) (H.log host.new))) (λ look. Outcome (support_error self.now.config self.now.env flag.now look) (support_steps self.now.config self.now.env look) (since (H.log host.old) (H.log host.new)) result) }
     {
-        is_flag_supported(rt, self.alloc, host, &self.caches, &self.config, &self.env, flag)
+        is_flag_supported(
+            rt,
+            self.alloc,
+            host,
+            &self.caches,
+            &self.config,
+            &self.env,
+            flag,
+        )
     }
 
     /// The compiler of this build: the program with its wrapper, the words that each source is compiled with, and its variables. Prints the

@@ -12,12 +12,11 @@ ghost use Rattle.cc_plan.specs.Support as spec;
 ghost use Rattle.cc_text.specs.Words.{when};
 
 use crate::compiler::Compiler;
-use crate::{BuildFlag, Flags};
-use crate::tool::{check_words_by, language_variable, words_by};
 use crate::given::{has_no_defaults, probe_folder};
 use crate::sight::is_yes;
+use crate::tool::{check_words_by, language_variable, words_by};
 use crate::words::{asked_words, is_clang, is_link, is_visual_studio};
-use crate::{BuildConfig, Choice, PlanError, Sight};
+use crate::{BuildConfig, BuildFlag, Choice, Flags, PlanError, Sight};
 use cc_env::BuildEnv;
 use cc_host::{Ask, Host, Question, World};
 use cc_target::TargetInfo;
@@ -36,7 +35,12 @@ fn second(alloc: Global, text: &Option<Text>) -> Mem<Option<Text>>
 }
 
 // The settings of a question on a flag.
-pub(crate) fn flag_settings(alloc: Global, set: &BuildConfig, path: &str, flag: &str) -> Mem<BuildConfig>
+pub(crate) fn flag_settings(
+    alloc: Global,
+    set: &BuildConfig,
+    path: &str,
+    flag: &str,
+) -> Mem<BuildConfig>
     ensures { IfOk result (λ plain. plain ≡ spec.flag_settings set.now path.now flag.now) }
 {
     let mut flags = Flags::new(alloc);
@@ -256,7 +260,17 @@ fn taken_among<W: World, H: Host<W>>(
 {
     let mut taken = Words::new(alloc);
     for word in words.as_slice() {
-        let is_taken = takes(rt, alloc, set, env, target, family, path, word.as_str(), sight)?;
+        let is_taken = takes(
+            rt,
+            alloc,
+            set,
+            env,
+            target,
+            family,
+            path,
+            word.as_str(),
+            sight,
+        )?;
         push_if(&mut taken, is_taken, word.as_str())?;
     }
     Ok(taken)

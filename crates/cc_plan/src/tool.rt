@@ -22,9 +22,9 @@ use crate::compiler::{Compiler, compiler_of};
 use crate::given::{
     environment_flags, has_no_defaults, host_of, is_cargos_target, level_of, target_of,
 };
-use crate::printing::{print_warnings, wanted_lines};
 use crate::inherited::{inherited_words, push_lost};
 use crate::link_warning::{is_told, leaves_off};
+use crate::printing::{print_warnings, wanted_lines};
 use crate::support::supported_words;
 use crate::words::{
     cargo_maps, check_words, is_cl, is_gnu, push_map_lacks, set_maps, tool_warnings, tool_words,
@@ -75,7 +75,11 @@ fn demand<'a>(alloc: Global, name: &str, value: Option<&'a str>) -> Result<&'a s
 }
 
 // What is known of the target, which is set and known.
-pub(crate) fn known_target(alloc: Global, set: &BuildConfig, env: &BuildEnv) -> Result<TargetInfo, PlanError>
+pub(crate) fn known_target(
+    alloc: Global,
+    set: &BuildConfig,
+    env: &BuildEnv,
+) -> Result<TargetInfo, PlanError>
     ensures info { IfOk result (λ target. info_seen target ≡ target_info set.now env.now) }
     ensures allowed { OnOk result (target_refusal (target_of set.now env.now) ≡ None) }
     ensures refused { IfErr result (λ e. (e ≡ WantsMemory) ⊎ (target_refusal (target_of set.now env.now) ≡ Some e)) }
@@ -402,7 +406,16 @@ pub(crate) fn plan_tool<W: World, H: Host<W>>(
     let supported = supported_words(rt, alloc, set, env, &target, &compiler, sight)?;
     let supported = supported.as_slice();
     let tool = tool_by(alloc, set, env, &target, &compiler, supported)?;
-    let warned = warnings_by(rt, alloc, sight.caches, set, env, &target, &compiler, supported)?;
+    let warned = warnings_by(
+        rt,
+        alloc,
+        sight.caches,
+        set,
+        env,
+        &target,
+        &compiler,
+        supported,
+    )?;
     Ok(ToolPlan {
         target,
         tool,
