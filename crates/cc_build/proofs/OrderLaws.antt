@@ -109,7 +109,8 @@ no_source_archives set env told look = none_both (folder_steps set env) (compile
 
 archives_last : (set : BuildConfig) (env : EnvSeen) (told : Bool) (look : Look) (steps : List Step) (part : List Event) → IsPartly steps part → IsOrdered (folder_steps set env) (compile_steps set env told look) steps → ArchivesLast set env look part
 archives_last set env told look steps part p k = λ before after event is archives.
-    (told, archives_behind (folder_steps set env ++ compile_steps set env told look) steps part (no_source_archives set env told look) p k before after event is archives)
+    let found = archives_behind (folder_steps set env ++ compile_steps set env told look) steps part (no_source_archives set env told look) p k before after event is archives in
+    (told, found.0, found.1)
 
 -- a compile run archives behind the folder and all sources
 pub ordered : {T : Type 0} (set : BuildConfig) (env : EnvSeen) (told : Bool) (look : Look) (output : List ℕ) (part : List Event) (r : Result T ErrorSeen) → Outcome (refusal_error set env look output) (planned_steps set env told look output) part r → ArchivesLast set env look part

@@ -26,10 +26,10 @@ answered refusal error steps part (Err e) o tried (inl memory) = (partly_whole s
 answered refusal error steps part (Err e) o tried (inr is) = (partly_whole steps part o.1, inr (inl (ap (λ x. first_of x error) o.0 ∙ is)))
 
 -- no question could be asked, or a line not be printed
-pub unanswered : {T : Type 0} (refusal error : Option ErrorSeen) (steps : List Step) (part : List Event) (e : ErrorSeen) → Outcome {T = T} refusal steps part (Err e) → Outcome {T = T} (first_of refusal error) steps part (Err e)
-unanswered refusal error steps part e (partly, inl memory) = (partly, inl memory)
-unanswered refusal error steps part e (partly, inr (inl refused)) = (partly, inr (inl (ap (λ x. first_of x error) refused)))
-unanswered refusal error steps part e (partly, inr (inr stopped)) = (partly, inr (inr stopped))
+pub unanswered : (T : Type 0) (refusal error : Option ErrorSeen) (steps : List Step) (part : List Event) (e : ErrorSeen) → Outcome {T = T} refusal steps part (Err e) → Outcome {T = T} (first_of refusal error) steps part (Err e)
+unanswered T refusal error steps part e (partly, inl memory) = (partly, inl memory)
+unanswered T refusal error steps part e (partly, inr (inl refused)) = (partly, inr (inl (ap (λ x. first_of x error) refused)))
+unanswered T refusal error steps part e (partly, inr (inr stopped)) = (partly, inr (inr stopped))
 
 pub answered_outcome : {X : Type 0} (known : List Answer) (warnings : Bool → Look → List (List ℕ)) (refusal : Look → Option PlanError) (set : BuildConfig) (env : EnvSeen) (part : List Event) (result : Result X PlanError) (x : X) (error : Option ErrorSeen) (r : Result Bool ErrorSeen) (look : Look) → Agrees look known → result ≡ Ok x → (w : Warns known warnings result part) → Settles known refusal None → OnOk r (error ≡ None) → IfErr r (λ e. (e ≡ no_memory) ⊎ (error ≡ Some e)) → Outcome (first_of (option_map (plan_error set env []) (refusal look)) error) (prints Warning (warnings w.told look)) part r
 answered_outcome {X} known warnings refusal set env part result x error r look agree is w allowed tried untried =

@@ -49,6 +49,6 @@ returns-clause-outcome g c =
     let error = verdict_error (path_of c.args.set.now c.args.env.now look) (flag_verdict c.args.set.now c.args.env.now c.args.flag.now look) in
     then_outcome _ _ _ _ _ _ _ _ _ c.flag_support.ensures.asks (grind arith) c.new-answers.ensures c.flag_support.ensures.asks.holds.silent {T = Bool}
     (support_error c.args.set.now c.args.env.now c.args.flag.now look) (support_steps c.args.set.now c.args.env.now look) (Err c.or_no_memory.result)
-    (unanswered {T = Bool} (option_map (plan_error c.args.set.now c.args.env.now []) (support_refusal c.args.set.now c.args.env.now c.args.flag.now look)) error (support_steps c.args.set.now c.args.env.now look) c.flag_support.ensures.asks.rest c.or_no_memory.result
+    (unanswered Bool (option_map (plan_error c.args.set.now c.args.env.now []) (support_refusal c.args.set.now c.args.env.now c.args.flag.now look)) error (support_steps c.args.set.now c.args.env.now look) c.flag_support.ensures.asks.rest c.or_no_memory.result
     (unplanned_outcome Bool c.flag_support.new.sight.answers.now (λ told. support_lines c.args.set.now c.args.env.now) (support_refusal c.args.set.now c.args.env.now c.args.flag.now) c.args.set.now c.args.env.now c.flag_support.ensures.asks.rest c.flag_support.result c.in-Err.error c.or_no_memory.result look agree c.in-Err.is c.flag_support.ensures.asks.holds c.in-Err.ensures.refused
     (told c.plan_error.result c.or_no_memory.result _ c.or_no_memory.ensures c.plan_error.ensures))))
