@@ -206,7 +206,7 @@ fn serve<W: World, H: Host<W>>(
 }
 
 // Reads the words, and does what they ask for.
-#[tactic(auto, using(cc_host::proofs::Parts::since_append, cc_main::proofs::RepeatLaws::reads_repeating))]
+#[tactic(auto, using(cc_host::proofs::Parts::since_append, crate::proofs::RepeatLaws::reads_repeating))]
 fn run<W: World, H: Host<W>>(rt: &impl Wait, alloc: Global, words: &[String], host: &mut H) -> Ended
     ensures extends { H.log host.new ≡ H.log host.old ++ since (H.log host.old) (H.log host.new) }
     ensures asked { AsksWords W.steady W.answer (read (map string_bytes words.now)) (since (H.log host.old) (H.log host.new)) }
