@@ -15,68 +15,78 @@ fn log_on(rt: &(impl Wait + AllocGlobal + Abort), words: &str, host: &mut BenchH
     log_of(rt, line.as_str(), host)
 }
 
-// The same on a host with these variables.
-fn log_with(
+// On a host with these variables the run has a command with these words.
+fn check_words(
     rt: &(impl Wait + AllocGlobal + Abort),
     vars: &[(&str, &str)],
     words: &str,
-) -> Mem<Text> {
+    told: &str,
+) -> Result<(), Fail> {
     let mut host = host_with(rt.alloc(), vars)?;
-    log_on(rt, words, &mut host)
+    let log = log_on(rt, words, &mut host)?;
+    assert!(rt; log.as_str().contains(told), "{words} {told}");
+    Ok(())
 }
 
 #[test]
-fn words_follow_from_debug_text_rustflags_and_maps(rt: HostRuntime) -> Result<(), Fail> {
-    for (vars, words, told) in [
-        (
-            [("", ""), ("", ""), ("", "")],
-            "debug=true",
-            "\"-fPIC\" \"-g\" \"-gdwarf-4\" \"-fno-omit-frame-pointer\" \"-mno-omit-leaf-frame-pointer\" \"-m64\" \"-march=x86-64\" \"-Wall\" \"-Wextra\" \"-o\"",
-        ),
-        (
-            [
-                ("CARGO_ENCODED_RUSTFLAGS", "-Ctarget-cpu=native"),
-                ("", ""),
-                ("", ""),
-            ],
-            "",
-            "\"-fPIC\" \"-m64\" \"-Wall\" \"-Wextra\" \"-o\"",
-        ),
-        (
-            [
-                ("CARGO_ENCODED_RUSTFLAGS", "-Ctarget-cpu=native"),
-                ("CARGO_TRIM_PATHS_SCOPE", "object"),
-                ("CARGO_TRIM_PATHS_REMAP", "/a=/b"),
-            ],
-            "inherit_rustflags=false inherit_trim_paths=false force_frame_pointer=true",
-            "\"-fPIC\" \"-fno-omit-frame-pointer\" \"-mno-omit-leaf-frame-pointer\" \"-m64\" \"-march=x86-64\" \"-Wall\" \"-Wextra\" \"-o\"",
-        ),
-        (
-            [
-                ("CARGO_TRIM_PATHS_SCOPE", "object"),
-                ("CARGO_TRIM_PATHS_REMAP", "/a=/b:/c=/d"),
-                ("", ""),
-            ],
-            "",
-            "\"-Wextra\" \"-fmacro-prefix-map=/a=/b\" \"-fdebug-prefix-map=/a=/b\" \"-fmacro-prefix-map=/c=/d\" \"-fdebug-prefix-map=/c=/d\" \"-o\"",
-        ),
-        (
-            [
-                (
-                    "CARGO_ENCODED_RUSTFLAGS",
-                    "-Ccode-model=tiny\u{1f}-Cno-redzone=no",
-                ),
-                ("DEBUG", "1"),
-                ("", ""),
-            ],
-            "flag_if_supported=-x remap_source_path==y",
-            "\"-fPIC\" \"-g1\" \"-gdwarf-4\" \"-fno-omit-frame-pointer\" \"-mno-omit-leaf-frame-pointer\" \"-m64\" \"-march=x86-64\" \"-Wall\" \"-Wextra\" \"-mcmodel=tiny\" \"-mred-zone\" \"-fmacro-prefix-map==y\" \"-fdebug-prefix-map==y\" \"-x\" \"-o\"",
-        ),
-    ] {
-        let log = log_with(&rt, &vars, words)?;
-        assert!(rt; log.as_str().contains(told), "{words} {told}");
-    }
-    Ok(())
+fn words_follow_from_debug_text_and_frame_pointers(rt: HostRuntime) -> Result<(), Fail> {
+    check_words(
+        &rt,
+        &[],
+        "debug=true",
+        "\"-fPIC\" \"-g\" \"-gdwarf-4\" \"-fno-omit-frame-pointer\" \"-mno-omit-leaf-frame-pointer\" \"-m64\" \"-march=x86-64\" \"-Wall\" \"-Wextra\" \"-o\"",
+    )?;
+    check_words(
+        &rt,
+        &[],
+        "debug=true debug_str=false force_frame_pointer=true",
+        "\"-fPIC\" \"-fno-omit-frame-pointer\" \"-mno-omit-leaf-frame-pointer\" \"-m64\"",
+    )
+}
+
+#[test]
+fn words_follow_from_what_cargo_hands_down(rt: HostRuntime) -> Result<(), Fail> {
+    check_words(
+        &rt,
+        &[("CARGO_ENCODED_RUSTFLAGS", "-Ctarget-cpu=native")],
+        "",
+        "\"-fPIC\" \"-m64\" \"-Wall\" \"-Wextra\" \"-o\"",
+    )?;
+    check_words(
+        &rt,
+        &[
+            ("CARGO_TRIM_PATHS_SCOPE", "object"),
+            ("CARGO_TRIM_PATHS_REMAP", "/a=/b:/c=/d"),
+        ],
+        "",
+        "\"-Wextra\" \"-fmacro-prefix-map=/a=/b\" \"-fdebug-prefix-map=/a=/b\" \"-fmacro-prefix-map=/c=/d\" \"-fdebug-prefix-map=/c=/d\" \"-o\"",
+    )?;
+    check_words(
+        &rt,
+        &[
+            (
+                "CARGO_ENCODED_RUSTFLAGS",
+                "-Ccode-model=tiny\u{1f}-Cno-redzone=no",
+            ),
+            ("DEBUG", "1"),
+        ],
+        "flag_if_supported=-x remap_source_path==y",
+        "\"-fPIC\" \"-g1\" \"-gdwarf-4\" \"-fno-omit-frame-pointer\" \"-mno-omit-leaf-frame-pointer\" \"-m64\" \"-march=x86-64\" \"-Wall\" \"-Wextra\" \"-mcmodel=tiny\" \"-mred-zone\" \"-fmacro-prefix-map==y\" \"-fdebug-prefix-map==y\" \"-x\" \"-o\"",
+    )
+}
+
+#[test]
+fn what_cargo_hands_down_is_left_where_it_is_off(rt: HostRuntime) -> Result<(), Fail> {
+    check_words(
+        &rt,
+        &[
+            ("CARGO_ENCODED_RUSTFLAGS", "-Ctarget-cpu=native"),
+            ("CARGO_TRIM_PATHS_SCOPE", "object"),
+            ("CARGO_TRIM_PATHS_REMAP", "/a=/b"),
+        ],
+        "inherit_rustflags=false inherit_trim_paths=false",
+        "\"-fPIC\" \"-m64\" \"-march=x86-64\" \"-Wall\" \"-Wextra\" \"-o\"",
+    )
 }
 
 // A host whose compiler takes no flag that it is asked about, where Cargo hands one down.
