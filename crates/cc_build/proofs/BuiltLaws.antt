@@ -37,9 +37,9 @@ no_error set env look output h =
     record { early = unmapped (plan_error set env output) (early_refusal set env output) n.0; enabled = late.0; late = unmapped (plan_error set env output) (late_refusal set env look) late.1 }
 
 -- what is planned where nothing is refused
-pub accepted_steps : (set : BuildConfig) (env : EnvSeen) (look : Look) (output : List ℕ) → Accepted set env look output → planned_steps set env look output ≡ folder_steps set env ++ run_steps set env look output
+pub accepted_steps : (set : BuildConfig) (env : EnvSeen) (told : Bool) (look : Look) (output : List ℕ) → Accepted set env look output → planned_steps set env told look output ≡ folder_steps set env ++ run_steps set env told look output
 unfolding planned_steps late_steps
-accepted_steps set env look output a =
+accepted_steps set env told look output a =
     let early : early_refusal set env output ≡ None = a.early in
     let enabled : is_disabled env ≡ false = a.enabled in
     let late : late_refusal set env look ≡ None = a.late in
@@ -53,30 +53,31 @@ glued part f1 r1 f2 r2 f3 r3 f4 r4 f5 r5 x e1 e2 e3 e4 e5 =
     let joined : ((f1 ++ f2) ++ f3) ++ x ∷ (f4 ++ f5) ++ r5 ≡ f1 ++ (f2 ++ (f3 ++ ((x ∷ []) ++ (f4 ++ (f5 ++ r5))))) = simp append_assoc in
     whole ∙ sym joined
 
-pub built : (set : BuildConfig) (env : EnvSeen) (look : Look) (output : List ℕ) (part : List Event) → refusal_error set env look output ≡ None → IsWhole (planned_steps set env look output) part → Built set env look output part
+pub built : (set : BuildConfig) (env : EnvSeen) (told : Bool) (look : Look) (output : List ℕ) (part : List Event) → refusal_error set env look output ≡ None → IsWhole (planned_steps set env told look output) part → Built set env look output part
 unfolding removal_steps
-built set env look output part h w =
+built set env told look output part h w =
     let accepted : Accepted set env look output = no_error set env look output h in
-    let all : IsWhole (folder_steps set env ++ run_steps set env look output) part = subst (λ s. IsWhole s part) (accepted_steps set env look output accepted) w in
-    let c1 = whole_cut (folder_steps set env) (run_steps set env look output) part all in
-    let c2 = whole_cut (compile_steps set env look) (removal_steps set env output ++ (archive_steps set env output ++ (index_steps set env output ++ link_steps set env output))) c1.back c1.behind in
+    let all : IsWhole (folder_steps set env ++ run_steps set env told look output) part = subst (λ s. IsWhole s part) (accepted_steps set env told look output accepted) w in
+    let c1 = whole_cut (folder_steps set env) (run_steps set env told look output) part all in
+    let c2 = whole_cut (compile_steps set env told look) (removal_steps set env output ++ (archive_steps set env output ++ (index_steps set env output ++ link_steps set env output))) c1.back c1.behind in
     let c3 = removal (library_of set env output) (archive_steps set env output ++ (index_steps set env output ++ link_steps set env output)) c2.back c2.behind in
     let c4 = whole_cut (archive_steps set env output) (index_steps set env output ++ link_steps set env output) c3.back c3.behind in
     let c5 = whole_cut (index_steps set env output) (link_steps set env output) c4.back c4.behind in
     record {
       accepted = accepted;
+      told = told;
       runs = (c1.front ++ c2.front) ++ c3.front;
       how = c3.how;
       archives = c4.front ++ c5.front;
       lines = c5.back;
       cut = glued part c1.front c1.back c2.front c2.back c3.front c3.back c4.front c4.back c5.front c5.back (Removed (library_of set env output) c3.how) c1.cut c2.cut c3.cut c4.cut c5.cut;
-      compiled = subst (λ (steps : List Step). IsWhole steps ((c1.front ++ c2.front) ++ c3.front)) (append-nil (folder_steps set env ++ compile_steps set env look))
-          (whole_then (folder_steps set env ++ compile_steps set env look) [] (c1.front ++ c2.front) c3.front (whole_then (folder_steps set env) (compile_steps set env look) c1.front c2.front c1.before c2.before) c3.before);
+      compiled = subst (λ (steps : List Step). IsWhole steps ((c1.front ++ c2.front) ++ c3.front)) (append-nil (folder_steps set env ++ compile_steps set env told look))
+          (whole_then (folder_steps set env ++ compile_steps set env told look) [] (c1.front ++ c2.front) c3.front (whole_then (folder_steps set env) (compile_steps set env told look) c1.front c2.front c1.before c2.before) c3.before);
       archived = whole_then (archive_steps set env output) (index_steps set env output) c4.front c5.front c4.before c5.before;
       linked = c5.behind;
     }
 
 -- a run that answers Ok is built
-pub built_on_ok : {T : Type 0} (set : BuildConfig) (env : EnvSeen) (look : Look) (output : List ℕ) (part : List Event) (r : Result T ErrorSeen) → Outcome (refusal_error set env look output) (planned_steps set env look output) part r → OnOk r (Built set env look output part)
-built_on_ok set env look output part (Ok x) o = built set env look output part o.0 o.1
-built_on_ok set env look output part (Err e) o = tt
+pub built_on_ok : {T : Type 0} (set : BuildConfig) (env : EnvSeen) (told : Bool) (look : Look) (output : List ℕ) (part : List Event) (r : Result T ErrorSeen) → Outcome (refusal_error set env look output) (planned_steps set env told look output) part r → OnOk r (Built set env look output part)
+built_on_ok set env told look output part (Ok x) o = built set env told look output part o.0 o.1
+built_on_ok set env told look output part (Err e) o = tt

@@ -6,4 +6,5 @@ pub mod OrderLaws
 pub mod Outcomes
 pub mod Splits
 pub mod Stages
+pub mod SupportLaws
 pub mod Telling

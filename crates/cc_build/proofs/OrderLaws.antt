@@ -71,9 +71,9 @@ unfolding prints
 no_line_archives kind [] = refl
 no_line_archives kind (line ∷ lines) = no_line_archives kind lines
 
-no_compile_archives : (set : BuildConfig) (env : EnvSeen) (look : Look) → list_any is_archive (compile_steps set env look) ≡ false
+no_compile_archives : (set : BuildConfig) (env : EnvSeen) (told : Bool) (look : Look) → list_any is_archive (compile_steps set env told look) ≡ false
 unfolding compile_steps
-no_compile_archives set env look = none_both (prints Warning (warning_lines set env look)) (runs Compile (compiles_of set env look)) (no_line_archives Warning (warning_lines set env look)) (compiles_alone (compiles_of set env look))
+no_compile_archives set env told look = none_both (prints Warning (warning_lines set env told look)) (runs Compile (compiles_of set env look)) (no_line_archives Warning (warning_lines set env told look)) (compiles_alone (compiles_of set env look))
 
 -- these steps begin with those of the folder and the sources, or none of them archives
 abbrev pub IsOrdered : (folder compile steps : List Step) → Type 0
@@ -85,10 +85,10 @@ by_checks false true late folder compile more none = inr (none_both folder [] no
 by_checks false false true folder compile more none = inr (none_both folder [] none refl)
 by_checks false false false folder compile more none = inl (more, sym (append_assoc folder compile more))
 
-pub planned : (set : BuildConfig) (env : EnvSeen) (look : Look) (output : List ℕ) → IsOrdered (folder_steps set env) (compile_steps set env look) (planned_steps set env look output)
+pub planned : (set : BuildConfig) (env : EnvSeen) (told : Bool) (look : Look) (output : List ℕ) → IsOrdered (folder_steps set env) (compile_steps set env told look) (planned_steps set env told look output)
 unfolding planned_steps late_steps
-planned set env look output =
-    by_checks (is_some (early_refusal set env output)) (is_disabled env) (is_some (late_refusal set env look)) (folder_steps set env) (compile_steps set env look)
+planned set env told look output =
+    by_checks (is_some (early_refusal set env output)) (is_disabled env) (is_some (late_refusal set env look)) (folder_steps set env) (compile_steps set env told look)
     (removal_steps set env output ++ (archive_steps set env output ++ (index_steps set env output ++ link_steps set env output)))
     (no_folder_archives set env)
 
@@ -104,14 +104,15 @@ archives_behind first steps part none p (inr alone) before after event is archiv
     absurd (no_archive steps part before after event p alone is (of_archive event archives))
 
 -- neither the folder nor the sources archive
-pub no_source_archives : (set : BuildConfig) (env : EnvSeen) (look : Look) → list_any is_archive (folder_steps set env ++ compile_steps set env look) ≡ false
-no_source_archives set env look = none_both (folder_steps set env) (compile_steps set env look) (no_folder_archives set env) (no_compile_archives set env look)
+pub no_source_archives : (set : BuildConfig) (env : EnvSeen) (told : Bool) (look : Look) → list_any is_archive (folder_steps set env ++ compile_steps set env told look) ≡ false
+no_source_archives set env told look = none_both (folder_steps set env) (compile_steps set env told look) (no_folder_archives set env) (no_compile_archives set env told look)
 
-archives_last : (set : BuildConfig) (env : EnvSeen) (look : Look) (steps : List Step) (part : List Event) → IsPartly steps part → IsOrdered (folder_steps set env) (compile_steps set env look) steps → ArchivesLast set env look part
-archives_last set env look steps part p k = λ before after event is archives.
-    archives_behind (folder_steps set env ++ compile_steps set env look) steps part (no_source_archives set env look) p k before after event is archives
+archives_last : (set : BuildConfig) (env : EnvSeen) (told : Bool) (look : Look) (steps : List Step) (part : List Event) → IsPartly steps part → IsOrdered (folder_steps set env) (compile_steps set env told look) steps → ArchivesLast set env look part
+archives_last set env told look steps part p k = λ before after event is archives.
+    let found = archives_behind (folder_steps set env ++ compile_steps set env told look) steps part (no_source_archives set env told look) p k before after event is archives in
+    (told, found.0, found.1)
 
 -- a compile run archives behind the folder and all sources
-pub ordered : {T : Type 0} (set : BuildConfig) (env : EnvSeen) (look : Look) (output : List ℕ) (part : List Event) (r : Result T ErrorSeen) → Outcome (refusal_error set env look output) (planned_steps set env look output) part r → ArchivesLast set env look part
-ordered set env look output part r o =
-    archives_last set env look (planned_steps set env look output) part (begun (refusal_error set env look output) (planned_steps set env look output) part r o) (planned set env look output)
+pub ordered : {T : Type 0} (set : BuildConfig) (env : EnvSeen) (told : Bool) (look : Look) (output : List ℕ) (part : List Event) (r : Result T ErrorSeen) → Outcome (refusal_error set env look output) (planned_steps set env told look output) part r → ArchivesLast set env look part
+ordered set env told look output part r o =
+    archives_last set env told look (planned_steps set env told look output) part (begun (refusal_error set env look output) (planned_steps set env told look output) part r o) (planned set env told look output)

@@ -1,5 +1,5 @@
 -- How the checks of settings and the stages of a plan make up a compile run.
-use Rattle.std.proofs.Common.{◌≡◌, ◌⊎◌, inl, inr, ℕ, List, [], ◌∷◌, ◌++◌, Option, Some, None, true, false, Result, refl, sym, ◌∙◌, ap, subst}
+use Rattle.std.proofs.Common.{◌≡◌, ◌⊎◌, inl, inr, ℕ, List, [], ◌∷◌, ◌++◌, Option, Some, None, Bool, true, false, Result, refl, sym, ◌∙◌, ap, subst}
 use Rattle.std.specs.Option.{option_map}
 use Rattle.cc_host.specs.Command.{CommandSeen}
 use Rattle.cc_host.specs.Part.{Step, runs, IsPartly, IsWhole}
@@ -42,14 +42,14 @@ pub late_decides : (set : BuildConfig) (env : EnvSeen) (look : Look) (output : L
 late_decides set env look output passed = ap (λ r. first_of (option_map (plan_error set env output) r) (late_error set env look output)) (sym passed)
 
 -- where the first checks pass, the folder and the rest are planned
-pub early_passed : (set : BuildConfig) (env : EnvSeen) (look : Look) (output : List ℕ) → early_refusal set env output ≡ None → folder_steps set env ++ late_steps set env look output ≡ planned_steps set env look output
+pub early_passed : (set : BuildConfig) (env : EnvSeen) (told : Bool) (look : Look) (output : List ℕ) → early_refusal set env output ≡ None → folder_steps set env ++ late_steps set env told look output ≡ planned_steps set env told look output
 unfolding planned_steps
-early_passed set env look output passed = rw passed refl
+early_passed set env told look output passed = rw passed refl
 
 -- where the later checks pass too, the whole run is planned
-pub late_passed : (set : BuildConfig) (env : EnvSeen) (look : Look) (output : List ℕ) → is_disabled env ≡ false → late_refusal set env look ≡ None → run_steps set env look output ≡ late_steps set env look output
+pub late_passed : (set : BuildConfig) (env : EnvSeen) (told : Bool) (look : Look) (output : List ℕ) → is_disabled env ≡ false → late_refusal set env look ≡ None → run_steps set env told look output ≡ late_steps set env told look output
 unfolding late_steps
-late_passed set env look output enabled passed = rw (enabled, passed) refl
+late_passed set env told look output enabled passed = rw (enabled, passed) refl
 
 pub no_late_error : (set : BuildConfig) (env : EnvSeen) (look : Look) (output : List ℕ) → is_disabled env ≡ false → late_refusal set env look ≡ None → late_error set env look output ≡ None
 no_late_error set env look output enabled passed = rw (enabled, passed) refl
@@ -65,9 +65,9 @@ late_disabled set env look output e disabled (inl memory) = inl memory
 late_disabled set env look output e disabled (inr is) = inr (rw disabled (ap Some (sym is)))
 
 -- the stages of a plan are the planned steps
-pub stages : (set : BuildConfig) (env : EnvSeen) (look : Look) (output : List ℕ) (warnings : List (List ℕ)) (compiles archives indexes : List CommandSeen) (lines : List (List ℕ)) (library : List ℕ) → warnings ≡ warning_lines set env look → compiles ≡ compiles_of set env look → archives ≡ archives_of set env output → indexes ≡ indexes_of set env output → lines ≡ link_lines set env output → library ≡ library_of set env output → (prints Warning warnings ++ runs Compile compiles) ++ ((Removes library ∷ []) ++ (runs Archive archives ++ (runs Index indexes ++ prints Link lines))) ≡ run_steps set env look output
+pub stages : (set : BuildConfig) (env : EnvSeen) (told : Bool) (look : Look) (output : List ℕ) (warnings : List (List ℕ)) (compiles archives indexes : List CommandSeen) (lines : List (List ℕ)) (library : List ℕ) → warnings ≡ warning_lines set env told look → compiles ≡ compiles_of set env look → archives ≡ archives_of set env output → indexes ≡ indexes_of set env output → lines ≡ link_lines set env output → library ≡ library_of set env output → (prints Warning warnings ++ runs Compile compiles) ++ ((Removes library ∷ []) ++ (runs Archive archives ++ (runs Index indexes ++ prints Link lines))) ≡ run_steps set env told look output
 unfolding compile_steps removal_steps archive_steps index_steps link_steps
-stages set env look output warnings compiles archives indexes lines library e0 e1 e2 e3 e4 e5 = rw (e0, e1, e2, e3, e4, e5) refl
+stages set env told look output warnings compiles archives indexes lines library e0 e1 e2 e3 e4 e5 = rw (e0, e1, e2, e3, e4, e5) refl
 
 -- an outcome by other names
 pub renamed : {T : Type 0} (refusal refusal' : Option ErrorSeen) (steps steps' : List Step) (part : List Event) (r : Result T ErrorSeen) → refusal ≡ refusal' → steps ≡ steps' → Outcome refusal steps part r → Outcome refusal' steps' part r

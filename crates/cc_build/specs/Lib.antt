@@ -6,6 +6,7 @@ pub mod Error
 pub mod ErrorFields
 pub mod ErrorText
 pub mod Failed
+pub mod FlagSupport
 pub mod Flags
 pub mod Order
 pub mod Outcome

@@ -17,4 +17,4 @@ is_archive_event _ = false
 
 -- No archive command stands in the part unless, before it, the folder was made and the compile command of every source ended with 0.
 abbrev pub ArchivesLast : BuildConfig → EnvSeen → Look → List Event → Type 0
-ArchivesLast set env look part = (before after : List Event) (event : Event) → part ≡ before ++ event ∷ after → is_archive_event event ≡ true → (rest : List Step) × (done before ≡ (folder_steps set env ++ compile_steps set env look) ++ rest)
+ArchivesLast set env look part = (before after : List Event) (event : Event) → part ≡ before ++ event ∷ after → is_archive_event event ≡ true → (told : Bool) × (rest : List Step) × (done before ≡ (folder_steps set env ++ compile_steps set env told look) ++ rest)

@@ -1,9 +1,10 @@
 // A build: its settings and its environment, and the compile run.
-ghost use Rattle.std.specs.Prelude.{◌≡◌, ◌++◌, [], ◌∷◌, None, IfOk, IfErr, OnOk, OnErr, ◌⊎◌, Some, unwrap_or};
+ghost use Rattle.std.specs.Prelude.{◌≡◌, ◌++◌, Bool, [], ◌∷◌, None, IfOk, IfErr, OnOk, OnErr, ◌⊎◌, Some, unwrap_or};
 ghost use Rattle.cc_env.specs.Snapshot.{snapshot_of};
 ghost use Rattle.cc_host.specs.Part.{since};
-ghost use Rattle.cc_host.specs.Question.{answers, Holds};
+ghost use Rattle.cc_host.specs.Question.{answers, is_yes, Holds};
 ghost use Rattle.cc_host.specs.Part.Step.{Lists};
+ghost use Rattle.cc_plan.specs.FlagSupport.{flag_verdict};
 ghost use Rattle.cc_plan.specs.Given.{variable_flags};
 ghost use Rattle.cc_plan.specs.Plan.{planned_steps};
 ghost use Rattle.cc_plan.specs.Settings.{unset_settings};
@@ -12,6 +13,7 @@ ghost use Rattle.cc_plan.specs.Planned.{tool_of};
 ghost use Rattle.cc_build.specs.Built.{Built};
 ghost use Rattle.cc_build.specs.Captured.{Captures};
 ghost use Rattle.cc_build.specs.Error.{no_memory};
+ghost use Rattle.cc_build.specs.FlagSupport.{support_error, support_steps};
 ghost use Rattle.cc_build.specs.Flags.{always, flags_error};
 ghost use Rattle.cc_build.specs.Order.{ArchivesLast};
 ghost use Rattle.cc_build.specs.Outcome.{Outcome};
@@ -25,6 +27,7 @@ use crate::compiling::compile;
 use crate::environment::flags_of_variable;
 use crate::lists::always;
 use crate::run::list_vars;
+use crate::support::is_flag_supported;
 use cc_env::{BuildEnv, EnvSnapshot};
 use cc_host::{Host, World};
 use cc_plan::BuildConfig;
@@ -145,6 +148,33 @@ impl<W: World> Build<W> {
         Ok(())
     }
 
+    /// Whether the compiler of this build takes a flag: false also of a word for the linker of Visual Studio. Prints the warnings of how the
+    /// compiler was found.
+    ///
+    /// Refused with IOError where the compiler is missing or couldn't be asked; where the target is set nowhere or isn't known, or the command
+    /// that tries the flag would be refused; or where a warning couldn't be printed.
+    pub fn is_flag_supported<H: Host<W>>(
+        &self,
+        rt: &impl Wait,
+        host: &mut H,
+        flag: &str,
+    ) -> Result<bool, Error>
+        ensures extends { H.log host.new ≡ H.log host.old ++ since (H.log host.old) (H.log host.new) }
+        ensures asked { Asked W.steady W.answer (probe_folder self.now.config self.now.env) (since (H.log host.old) (H.log host.new)) }
+        ensures supported { IfOk result (λ b. Holds (answers (since (H.log host.old) (H.log host.new))) (λ look. b ≡ is_yes (flag_verdict self.now.config self.now.env flag.now look))) }
+        ensures outcome { Holds (answers (since (H.log host.old) (H.log host.new))) (λ look. Outcome (support_error self.now.config self.now.env flag.now look) (support_steps self.now.config self.now.env look) (since (H.log host.old) (H.log host.new)) result) }
+    {
+        is_flag_supported(
+            rt,
+            self.alloc,
+            host,
+            &self.caches,
+            &self.config,
+            &self.env,
+            flag,
+        )
+    }
+
     /// The compiler of this build: the program with its wrapper, the words that each source is compiled with, and its variables. Prints the
     /// warnings of its plan.
     ///
@@ -154,7 +184,7 @@ impl<W: World> Build<W> {
         ensures extends { H.log host.new ≡ H.log host.old ++ since (H.log host.old) (H.log host.new) }
         ensures asked { Asked W.steady W.answer (probe_folder self.now.config self.now.env) (since (H.log host.old) (H.log host.new)) }
         ensures tool { IfOk result (λ tool. Holds (answers (since (H.log host.old) (H.log host.new))) (λ look. tool ≡ tool_of self.now.config self.now.env look)) }
-        ensures outcome { Holds (answers (since (H.log host.old) (H.log host.new))) (λ look. Outcome (tool_error self.now.config self.now.env look) (tool_steps self.now.config self.now.env look) (since (H.log host.old) (H.log host.new)) result) }
+        ensures outcome { Holds (answers (since (H.log host.old) (H.log host.new))) (λ look. (told : Bool) × Outcome (tool_error self.now.config self.now.env look) (tool_steps self.now.config self.now.env told look) (since (H.log host.old) (H.log host.new)) result) }
     {
         compiler(rt, self.alloc, host, &self.caches, &self.config, &self.env)
     }
@@ -175,7 +205,7 @@ impl<W: World> Build<W> {
         ensures asked { Asked W.steady W.answer (probe_folder self.now.config self.now.env) (since (H.log host.old) (H.log host.new)) }
         ensures built { OnOk result (Holds (answers (since (H.log host.old) (H.log host.new))) (λ look. Built self.now.config self.now.env look output.now (since (H.log host.old) (H.log host.new)))) }
         ensures order { Holds (answers (since (H.log host.old) (H.log host.new))) (λ look. ArchivesLast self.now.config self.now.env look (since (H.log host.old) (H.log host.new))) }
-        ensures outcome { Holds (answers (since (H.log host.old) (H.log host.new))) (λ look. Outcome (refusal_error self.now.config self.now.env look output.now) (planned_steps self.now.config self.now.env look output.now) (since (H.log host.old) (H.log host.new)) result) }
+        ensures outcome { Holds (answers (since (H.log host.old) (H.log host.new))) (λ look. (told : Bool) × Outcome (refusal_error self.now.config self.now.env look output.now) (planned_steps self.now.config self.now.env told look output.now) (since (H.log host.old) (H.log host.new)) result) }
     {
         compile(
             rt,

@@ -1,5 +1,5 @@
 // The compiler of a build.
-ghost use Rattle.std.specs.Prelude.{◌≡◌, ◌++◌, IfOk};
+ghost use Rattle.std.specs.Prelude.{◌≡◌, ◌++◌, Bool, IfOk};
 ghost use Rattle.cc_host.specs.Part.{since};
 ghost use Rattle.cc_host.specs.Question.{answers, Holds};
 ghost use Rattle.cc_plan.specs.Given.{probe_folder};
@@ -31,7 +31,7 @@ pub(crate) fn compiler<W: World, H: Host<W>>(
     ensures extends { H.log host.new ≡ H.log host.old ++ since (H.log host.old) (H.log host.new) }
     ensures asked { Asked W.steady W.answer (probe_folder set.now env.now) (since (H.log host.old) (H.log host.new)) }
     ensures tool { IfOk result (λ tool. Holds (answers (since (H.log host.old) (H.log host.new))) (λ look. tool ≡ tool_of set.now env.now look)) }
-    ensures outcome { Holds (answers (since (H.log host.old) (H.log host.new))) (λ look. Outcome (tool_error set.now env.now look) (tool_steps set.now env.now look) (since (H.log host.old) (H.log host.new)) result) }
+    ensures outcome { Holds (answers (since (H.log host.old) (H.log host.new))) (λ look. (told : Bool) × Outcome (tool_error set.now env.now look) (tool_steps set.now env.now told look) (since (H.log host.old) (H.log host.new)) result) }
 {
     let mut answers = Answers::new(alloc);
     let mut sight = Sight {

@@ -1,5 +1,5 @@
 // The stages of a compile run.
-ghost use Rattle.std.specs.Prelude.{◌≡◌, ◌⊎◌, ◌++◌, [], ◌∷◌, None, Some, IfOk, IfErr};
+ghost use Rattle.std.specs.Prelude.{◌≡◌, ◌⊎◌, Bool, ◌++◌, [], ◌∷◌, None, Some, IfOk, IfErr};
 ghost use Rattle.std.specs.Option.{option_map};
 ghost use Rattle.cc_host.specs.Part.{since, runs, IsWhole};
 ghost use Rattle.cc_host.specs.Part.Step.{Removes};
@@ -122,7 +122,7 @@ fn compile_sources<W: World, H: Host<W>>(
     requires objects { sources.now.objects.items ≡ objects_of set.now env.now }
     ensures extends { H.log host.new ≡ H.log host.old ++ since (H.log host.old) (H.log host.new) }
     ensures asked { Asked W.steady W.answer (probe_folder set.now env.now) (since (H.log host.old) (H.log host.new)) }
-    ensures outcome { Holds (answers (since (H.log host.old) (H.log host.new))) (λ look. Outcome (late_error set.now env.now look output.now) (late_steps set.now env.now look output.now) (since (H.log host.old) (H.log host.new)) result) }
+    ensures outcome { Holds (answers (since (H.log host.old) (H.log host.new))) (λ look. (told : Bool) × Outcome (late_error set.now env.now look output.now) (late_steps set.now env.now told look output.now) (since (H.log host.old) (H.log host.new)) result) }
 {
     if is_disabled(env) {
         return Err(or_no_memory(disabled(alloc)));
@@ -164,7 +164,7 @@ pub(crate) fn compile<W: World, H: Host<W>>(
 ) -> Result<(), Error>
     ensures extends { H.log host.new ≡ H.log host.old ++ since (H.log host.old) (H.log host.new) }
     ensures asked { Asked W.steady W.answer (probe_folder set.now env.now) (since (H.log host.old) (H.log host.new)) }
-    ensures outcome { Holds (answers (since (H.log host.old) (H.log host.new))) (λ look. Outcome (refusal_error set.now env.now look output.now) (planned_steps set.now env.now look output.now) (since (H.log host.old) (H.log host.new)) result) }
+    ensures outcome { Holds (answers (since (H.log host.old) (H.log host.new))) (λ look. (told : Bool) × Outcome (refusal_error set.now env.now look output.now) (planned_steps set.now env.now told look output.now) (since (H.log host.old) (H.log host.new)) result) }
 {
     let sources = match plan_sources(alloc, set, env, output) {
         Ok(sources) => sources,

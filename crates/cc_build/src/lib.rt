@@ -15,6 +15,7 @@ mod marks;
 mod message;
 mod refusal;
 mod run;
+mod support;
 #[cfg(test)]
 mod tests;
 mod texts;

@@ -1,5 +1,5 @@
 -- What the answers of the program say.
-use Rattle.std.proofs.Common.{◌≡◌, inl, inr, ℕ, List, [], ◌∷◌, ◌++◌, Bool, None, Err, refl, sym, ◌∙◌, ap, subst, append-nil}
+use Rattle.std.proofs.Common.{◌≡◌, inl, inr, ℕ, List, [], ◌∷◌, ◌++◌, Bool, true, None, Err, refl, sym, ◌∙◌, ap, subst, append-nil}
 use Rattle.cc_env.specs.Env.{EnvSeen}
 use Rattle.cc_host.specs.Question.{Look}
 use Rattle.cc_host.specs.Part.{since, IsPartly, IsWhole}
@@ -26,14 +26,14 @@ use Rattle.cc_main.specs.Read.{Request}
 use Rattle.cc_main.specs.declared.top.Ended.{Ended}
 
 -- a run that was refused, and the line behind it
-run_refused : (set : BuildConfig) (env : EnvSeen) (look : Look) (name : List ℕ) (run line part : List Event) (e : ErrorSeen) (ended : Ended) → part ≡ run ++ line → IsRefused (refusal_error set env look name) (planned_steps set env look name) run e → AnswersError e line ended → RunAnswers set env look name part ended
+run_refused : (set : BuildConfig) (env : EnvSeen) (look : Look) (name : List ℕ) (run line part : List Event) (e : ErrorSeen) (ended : Ended) → part ≡ run ++ line → IsRefused (refusal_error set env look name) (planned_steps set env true look name) run e → AnswersError e line ended → RunAnswers set env look name part ended
 run_refused set env look name run line part e ended cut refused (inl told) =
     inr (inl (record { error = e; run = run; line = line; cut = cut; told = told.2; refused = refused; known = told.1; is = told.0 }))
 run_refused set env look name run line part e ended cut refused (inr wanting) =
-    inr (inr (wanting.0, subst (λ (p : List Event). IsPartly (planned_steps set env look name) p) (sym (cut ∙ ap (λ l. run ++ l) wanting.1 ∙ append-nil run)) refused.0))
+    inr (inr (wanting.0, subst (λ (p : List Event). IsPartly (planned_steps set env true look name) p) (sym (cut ∙ ap (λ l. run ++ l) wanting.1 ∙ append-nil run)) refused.0))
 
 -- the same of the parts of two calls
-pub run_behind : (set : BuildConfig) (env : EnvSeen) (look : Look) (name : List ℕ) (old mid new : List Event) (e : ErrorSeen) (ended : Ended) → mid ≡ old ++ since old mid → new ≡ mid ++ since mid new → IsRefused (refusal_error set env look name) (planned_steps set env look name) (since old mid) e → AnswersError e (since mid new) ended → RunAnswers set env look name (since old new) ended
+pub run_behind : (set : BuildConfig) (env : EnvSeen) (look : Look) (name : List ℕ) (old mid new : List Event) (e : ErrorSeen) (ended : Ended) → mid ≡ old ++ since old mid → new ≡ mid ++ since mid new → IsRefused (refusal_error set env look name) (planned_steps set env true look name) (since old mid) e → AnswersError e (since mid new) ended → RunAnswers set env look name (since old new) ended
 run_behind set env look name old mid new e ended f h refused told =
     run_refused set env look name (since old mid) (since mid new) (since old new) e ended (since_since old mid new f h) refused told
 
@@ -42,11 +42,11 @@ listing_done : (vars : List (List ℕ × List ℕ)) → IsWhole (Lists ∷ []) (
 listing_done vars = record { done_all = refl; unstopped = refl }
 
 module _ (look : Look) (q : Request) (vars : List (List ℕ × List ℕ)) where
-  partly : (run : List Event) → IsPartly (planned_steps q.1.config (with_vars q.1.env vars) look q.0) run → IsPartly (Lists ∷ planned_steps q.1.config (with_vars q.1.env vars) look q.0) (Listed vars ∷ run)
-  partly run p = partly_then (Lists ∷ []) (planned_steps q.1.config (with_vars q.1.env vars) look q.0) (Listed vars ∷ []) run (listing_done vars) p
+  partly : (run : List Event) → IsPartly (planned_steps q.1.config (with_vars q.1.env vars) true look q.0) run → IsPartly (Lists ∷ planned_steps q.1.config (with_vars q.1.env vars) true look q.0) (Listed vars ∷ run)
+  partly run p = partly_then (Lists ∷ []) (planned_steps q.1.config (with_vars q.1.env vars) true look q.0) (Listed vars ∷ []) run (listing_done vars) p
 
-  refused : (run : List Event) (e : ErrorSeen) → IsRefused (refusal_error q.1.config (with_vars q.1.env vars) look q.0) (planned_steps q.1.config (with_vars q.1.env vars) look q.0) run e → IsRefused (refusal_error q.1.config (with_vars q.1.env vars) look q.0) (Lists ∷ planned_steps q.1.config (with_vars q.1.env vars) look q.0) (Listed vars ∷ run) e
-  refused run e r = outcome_then {T = Unit {0}} (refusal_error q.1.config (with_vars q.1.env vars) look q.0) (Lists ∷ []) (planned_steps q.1.config (with_vars q.1.env vars) look q.0) (Listed vars ∷ []) run (Err e) (listing_done vars) r
+  refused : (run : List Event) (e : ErrorSeen) → IsRefused (refusal_error q.1.config (with_vars q.1.env vars) look q.0) (planned_steps q.1.config (with_vars q.1.env vars) true look q.0) run e → IsRefused (refusal_error q.1.config (with_vars q.1.env vars) look q.0) (Lists ∷ planned_steps q.1.config (with_vars q.1.env vars) true look q.0) (Listed vars ∷ run) e
+  refused run e r = outcome_then {T = Unit {0}} (refusal_error q.1.config (with_vars q.1.env vars) look q.0) (Lists ∷ []) (planned_steps q.1.config (with_vars q.1.env vars) true look q.0) (Listed vars ∷ []) run (Err e) (listing_done vars) r
 
   -- what was answered behind the listing is the answer to the request
   pub answers_listed : (run : List Event) (ended : Ended) → RunAnswers q.1.config (with_vars q.1.env vars) look q.0 run ended → Answers look q (Listed vars ∷ run) ended

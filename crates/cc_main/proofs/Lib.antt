@@ -4,5 +4,6 @@ pub mod FlagLaws
 pub mod KeyLaws
 pub mod NumberLaws
 pub mod PromiseLaws
+pub mod RepeatLaws
 pub mod SettingLaws
 pub mod WordLaws

@@ -124,14 +124,14 @@ listed_first : (folder compile steps : List Step) → IsOrdered folder compile s
 listed_first folder compile steps (inl k) = inl (k.0, ap (λ l. Lists ∷ l) k.1)
 listed_first folder compile steps (inr none) = inr none
 
-order_in : (look : Look) (q : Request) (run : List Event) → IsPartly (steps_of look q run) run → Behind (Lists ∷ (folder_steps q.1.config (env_in q run) ++ compile_steps q.1.config (env_in q run) look)) run
+order_in : (look : Look) (q : Request) (run : List Event) → IsPartly (steps_of look q run) run → Behind (Lists ∷ (folder_steps q.1.config (env_in q run) ++ compile_steps q.1.config (env_in q run) true look)) run
 order_in look q run p =
-    archives_behind (Lists ∷ (folder_steps q.1.config (env_in q run) ++ compile_steps q.1.config (env_in q run) look)) (steps_of look q run) run (no_source_archives q.1.config (env_in q run) look) p
-    (listed_first (folder_steps q.1.config (env_in q run)) (compile_steps q.1.config (env_in q run) look) (planned_steps q.1.config (env_in q run) look q.0) (planned q.1.config (env_in q run) look q.0))
+    archives_behind (Lists ∷ (folder_steps q.1.config (env_in q run) ++ compile_steps q.1.config (env_in q run) true look)) (steps_of look q run) run (no_source_archives q.1.config (env_in q run) true look) p
+    (listed_first (folder_steps q.1.config (env_in q run)) (compile_steps q.1.config (env_in q run) true look) (planned_steps q.1.config (env_in q run) true look q.0) (planned q.1.config (env_in q run) true look q.0))
 
 order_of : (look : Look) (q : Request) (part : List Event) → Begun look q part → ArchivesBehind look q part
 order_of look q part b =
-    let first : List (List ℕ × List ℕ) → List Step = λ vars. Lists ∷ (folder_steps q.1.config (with_vars q.1.env vars) ++ compile_steps q.1.config (with_vars q.1.env vars) look) in
+    let first : List (List ℕ × List ℕ) → List Step = λ vars. Lists ∷ (folder_steps q.1.config (with_vars q.1.env vars) ++ compile_steps q.1.config (with_vars q.1.env vars) true look) in
     subst (λ (vars : List (List ℕ × List ℕ)). Behind (first vars) part) (sym (heard_same part b.run b.line b.cut b.told))
     (still_behind (first (heard b.run)) part b.run b.line b.cut b.told (order_in look q b.run b.partly))
 

@@ -78,16 +78,16 @@ pub record RunRefused (set : BuildConfig) (env : EnvSeen) (look : Look) (name : 
   pub line : List Event
   pub cut : part ≡ run ++ line
   pub told : Tells (error_line error) line
-  pub refused : IsRefused (refusal_error set env look name) (planned_steps set env look name) run error
+  pub refused : IsRefused (refusal_error set env look name) (planned_steps set env true look name) run error
   pub known : is_wanting error.kind ≡ false
   pub is : ended ≡ ended_refused error
 
 -- a compile run: it is built by its steps, or refused, or memory was wanted behind its first steps
 abbrev pub RunAnswers : BuildConfig → EnvSeen → Look → List ℕ → List Event → Ended → Type 0
 RunAnswers set env look name part ended =
-    ((ended ≡ ended_well) × (Built set env look name part × IsPartly (planned_steps set env look name) part))
+    ((ended ≡ ended_well) × (Built set env look name part × IsPartly (planned_steps set env true look name) part))
     ⊎ (RunRefused set env look name part ended
-    ⊎ ((ended ≡ ended_wanting) × IsPartly (planned_steps set env look name) part))
+    ⊎ ((ended ≡ ended_wanting) × IsPartly (planned_steps set env true look name) part))
 
 abbrev pub first_listing : List (List (List ℕ × List ℕ)) → List (List ℕ × List ℕ)
 first_listing [] = []
@@ -101,9 +101,10 @@ heard part = first_listing (listings part)
 abbrev pub env_in : Request → List Event → EnvSeen
 env_in request part = with_vars request.1.env (heard part)
 
--- the steps of a request: the host lists its variables, then come those of the compile run
+-- The steps of a request: the host lists its variables, then come those of the compile run. The settings of words repeat their lines, so a
+-- run is told of flags for the linker whenever it leaves some off.
 abbrev pub steps_of : Look → Request → List Event → List Step
-steps_of look request part = Lists ∷ planned_steps request.1.config (env_in request part) look request.0
+steps_of look request part = Lists ∷ planned_steps request.1.config (env_in request part) true look request.0
 
 -- the error of a request's settings
 abbrev pub error_of : Look → Request → List Event → Option ErrorSeen

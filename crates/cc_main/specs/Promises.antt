@@ -58,7 +58,7 @@ IsBegun look words part = IfOk words (λ request. Begun look request part)
 
 -- No archive command stands in the part unless, before it, the folder was made and every source's compile command ended with 0.
 abbrev pub ArchivesBehind : Look → Request → List Event → Type 0
-ArchivesBehind look request part = (before after : List Event) (event : Event) → part ≡ before ++ event ∷ after → is_archive_event event ≡ true → (rest : List Step) × (done before ≡ (Lists ∷ (folder_steps request.1.config (env_in request part) ++ compile_steps request.1.config (env_in request part) look)) ++ rest)
+ArchivesBehind look request part = (before after : List Event) (event : Event) → part ≡ before ++ event ∷ after → is_archive_event event ≡ true → (rest : List Step) × (done before ≡ (Lists ∷ (folder_steps request.1.config (env_in request part) ++ compile_steps request.1.config (env_in request part) true look)) ++ rest)
 
 abbrev pub CompilesFirst : Look → Result Request BadWord → List Event → Type 0
 CompilesFirst look words part = IfOk words (λ request. ArchivesBehind look request part)

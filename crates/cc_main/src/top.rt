@@ -1,5 +1,5 @@
 // The top call of the program.
-ghost use Rattle.std.specs.Prelude.{◌≡◌, ◌++◌, [], map, string_bytes, IfOk, OnOk, OnErr};
+ghost use Rattle.std.specs.Prelude.{◌≡◌, ◌++◌, [], true, map, string_bytes, IfOk, OnOk, OnErr};
 ghost use Rattle.std.specs.Fmt.{decimal};
 ghost use Rattle.cc_tool.specs.Asked.{question_events, Asked};
 ghost use Rattle.cc_host.specs.Part.{since};
@@ -151,6 +151,7 @@ fn compile<W: World, H: Host<W>>(
     name: &str,
     host: &mut H,
 ) -> Ended
+    requires repeats { build.now.config.repeat_lines ≡ true }
     ensures extends { H.log host.new ≡ H.log host.old ++ since (H.log host.old) (H.log host.new) }
     ensures asked { Asked W.steady W.answer (probe_folder build.now.config build.now.env) (since (H.log host.old) (H.log host.new)) }
     ensures answer { Holds (answers (since (H.log host.old) (H.log host.new))) (λ look. RunAnswers build.now.config build.now.env look name.now (since (H.log host.old) (H.log host.new)) result) }
@@ -174,6 +175,7 @@ fn capture_and_compile<W: World, H: Host<W>>(
     name: &str,
     host: &mut H,
 ) -> Ended
+    requires repeats { build.old.config.repeat_lines ≡ true }
     ensures extends { H.log host.new ≡ H.log host.old ++ since (H.log host.old) (H.log host.new) }
     ensures asked { AsksFor W.steady W.answer (name.now, build.old) (since (H.log host.old) (H.log host.new)) }
     ensures answer { Holds (answers (since (H.log host.old) (H.log host.new))) (λ look. Answers look (name.now, build.old) (since (H.log host.old) (H.log host.new)) result) }
@@ -191,6 +193,7 @@ fn serve<W: World, H: Host<W>>(
     request: &mut Request<W>,
     host: &mut H,
 ) -> Ended
+    requires repeats { request.old.build.config.repeat_lines ≡ true }
     ensures extends { H.log host.new ≡ H.log host.old ++ since (H.log host.old) (H.log host.new) }
     ensures asked { AsksFor W.steady W.answer (name_of request.old.job, request.old.build) (since (H.log host.old) (H.log host.new)) }
     ensures answer { Holds (answers (since (H.log host.old) (H.log host.new))) (λ look. Answers look (name_of request.old.job, request.old.build) (since (H.log host.old) (H.log host.new)) result) }
@@ -203,7 +206,7 @@ fn serve<W: World, H: Host<W>>(
 }
 
 // Reads the words, and does what they ask for.
-#[tactic(auto, using(cc_host::proofs::Parts::since_append))]
+#[tactic(auto, using(cc_host::proofs::Parts::since_append, cc_main::proofs::RepeatLaws::reads_repeating))]
 fn run<W: World, H: Host<W>>(rt: &impl Wait, alloc: Global, words: &[String], host: &mut H) -> Ended
     ensures extends { H.log host.new ≡ H.log host.old ++ since (H.log host.old) (H.log host.new) }
     ensures asked { AsksWords W.steady W.answer (read (map string_bytes words.now)) (since (H.log host.old) (H.log host.new)) }

@@ -1,3 +1,4 @@
+pub mod BeforeLemmas
 pub mod CutTextLemmas
 pub mod DashLemmas
 pub mod FindLemmas
@@ -5,5 +6,7 @@ pub mod LineLemmas
 pub mod OwnLemmas
 pub mod ResultLemmas
 pub mod SourceLaws
+pub mod SupportLemmas
 pub mod ValidLaws
+pub mod VerdictLemmas
 pub mod WarnLemmas

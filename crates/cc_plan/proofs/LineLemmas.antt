@@ -16,7 +16,7 @@ use Rattle.cc_plan.specs.Link.{printed_line}
 use Rattle.cc_plan.specs.Plan.{prints}
 use Rattle.cc_plan.specs.Asking.{PrintsLine, EndsPrinting}
 use Rattle.cc_plan.specs.declared.error.PlanError.{PlanError}
-use Rattle.cc_plan.specs.declared.error.PlanError.TheVariants.{Argument, NotSet, UnknownTarget, QnxArch, Host, NoMemory}
+use Rattle.cc_plan.specs.declared.error.PlanError.TheVariants.{Argument, NotSet, UnknownTarget, QnxArch, Flag, Host, NoMemory}
 
 -- one event more, behind a part
 pub part_more : (old mid new : List Event) (event : Event) → mid ≡ old ++ since old mid → new ≡ mid ++ event ∷ [] → since old new ≡ since old mid ++ event ∷ []
@@ -82,6 +82,7 @@ partly_lines lines i line before part (Argument cause) within is whole h = absur
 partly_lines lines i line before part (NotSet name) within is whole h = absurd h
 partly_lines lines i line before part (UnknownTarget name) within is whole h = absurd h
 partly_lines lines i line before part (QnxArch name) within is whole h = absurd h
+partly_lines lines i line before part (Flag flag) within is whole h = absurd h
 
 -- a line asks nothing
 pub line_silent : {X : Type 0} (line : List ℕ) (part : List Event) (r : Result X PlanError) → PrintsLine line part r → question_events part ≡ []
@@ -92,6 +93,7 @@ line_silent line part (Err (Argument cause)) h = absurd h
 line_silent line part (Err (NotSet name)) h = absurd h
 line_silent line part (Err (UnknownTarget name)) h = absurd h
 line_silent line part (Err (QnxArch name)) h = absurd h
+line_silent line part (Err (Flag flag)) h = absurd h
 
 -- a line was refused
 pub line_refused : (old mid new : List Event) (lines : List (List ℕ)) (i : ℕ) (line : List ℕ) (e : PlanError) → mid ≡ old ++ since old mid → new ≡ mid ++ since mid new → i < length lines → line ≡ get_or lines i line → IsWhole (prints Warning (take i lines)) (since old mid) → PrintsLine {X = Unit {0}} line (since mid new) (Err e) → IsPartly (prints Warning lines) (since old new) × EndsPrinting (since old new) e

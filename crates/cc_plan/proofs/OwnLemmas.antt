@@ -3,12 +3,19 @@ use Rattle.std.proofs.Common.{◌≡◌, ◌⊎◌, inl, inr, ℕ, List, Bool, t
 use Rattle.cc_env.specs.Env.{EnvSeen}
 use Rattle.cc_target.specs.Targets.{Info, is_known}
 use Rattle.cc_text.specs.declared.family.ToolFamily.{ToolFamily}
+use Rattle.std.specs.Option.{option_map, option_and_then}
+use Rattle.cc_flags.specs.Fields.{refusal_of as flags_refusal}
+use Rattle.cc_flags.specs.declared.error.FlagError.{FlagError}
+use Rattle.cc_flags.specs.declared.error.FlagError.TheVariants.{InvalidFlag, NoMemory as FlagMemory}
+use Rattle.cc_plan.specs.Inherited.{inherited_refusal, inherited_text, plan_refusal}
 use Rattle.cc_plan.specs.Asking.{IsOwn}
 use Rattle.cc_env.specs.Snapshot.{last_value}
 use Rattle.cc_plan.specs.DefaultWords.{qnx_refusal, lacks_qnx_variant, sysroot_refusal, is_wasm_linux, is_told_target}
 use Rattle.cc_plan.specs.Given.{target_of, host_of, level_of, is_cargos_target, has_no_defaults}
 use Rattle.cc_plan.specs.Target.{target_name, target_info}
 use Rattle.cc_plan.specs.Refusal.{first_of, unset, target_refusal, given_refusal, refusal_by}
+use Rattle.cc_plan.specs.FlagSupport.{is_for_linker, verdict_refusal}
+use Rattle.cc_plan.specs.Support.{flag_settings, flag_compiler}
 use Rattle.cc_plan.specs.Tool.{words_refusal_by}
 use Rattle.cc_plan.specs.ToolWords.{first_refusal, clang_refusal, default_refusal, words_refusal}
 use Rattle.cc_plan.specs.declared.compiler.Compiler.{Compiler}
@@ -52,13 +59,28 @@ sysroot_own : (target : Info) (sysroot : Option (List ℕ)) → AreOwn (sysroot_
 unfolding sysroot_refusal
 sysroot_own target sysroot = choice_own (is_wasm_linux target && is_none sysroot) (Some (NotSet (codes "WASM_MUSL_SYSROOT"))) None tt tt
 
-words_own : (no_defaults : Bool) (set : BuildConfig) (env : List (List ℕ × List ℕ)) (cargos : Bool) (name : List ℕ) (target : Info) (family : ToolFamily) (program : List ℕ) → AreOwn (words_refusal no_defaults set env cargos name target family program)
-unfolding words_refusal default_refusal clang_refusal
-words_own no_defaults set env cargos name target family program =
+flag_own : (refusal : Option FlagError) → AreOwn (option_map plan_refusal refusal)
+flag_own None = tt
+flag_own (Some (InvalidFlag flag)) = tt
+flag_own (Some FlagMemory) = tt
+
+inherited_own : (inherits : Bool) (env : List (List ℕ × List ℕ)) → AreOwn (inherited_refusal inherits env)
+unfolding inherited_refusal
+inherited_own inherits env = flag_own (option_and_then flags_refusal (inherited_text inherits env))
+
+defaults_own : (no_defaults : Bool) (set : BuildConfig) (env : List (List ℕ × List ℕ)) (cargos : Bool) (name : List ℕ) (target : Info) (family : ToolFamily) (program : List ℕ) → AreOwn (if no_defaults then None else default_refusal set env cargos name target family program)
+unfolding default_refusal clang_refusal
+defaults_own no_defaults set env cargos name target family program =
     let sysroot = sysroot_refusal target (last_value env (codes "WASM_MUSL_SYSROOT")) in
     let told = is_told_target family set.compiler target program in
     choice_own no_defaults None (first_refusal (qnx_refusal family target) (if told then sysroot else None)) tt
     (first_words_own (qnx_refusal family target) (if told then sysroot else None) (qnx_own family target) (choice_own told sysroot None (sysroot_own target (last_value env (codes "WASM_MUSL_SYSROOT"))) tt))
+
+words_own : (no_defaults : Bool) (set : BuildConfig) (env : List (List ℕ × List ℕ)) (cargos : Bool) (name : List ℕ) (target : Info) (family : ToolFamily) (program : List ℕ) → AreOwn (words_refusal no_defaults set env cargos name target family program)
+unfolding words_refusal
+words_own no_defaults set env cargos name target family program =
+    first_words_own (if no_defaults then None else default_refusal set env cargos name target family program) (inherited_refusal set.inherit_rustflags env)
+    (defaults_own no_defaults set env cargos name target family program) (inherited_own set.inherit_rustflags env)
 
 by_own : (set : BuildConfig) (env : EnvSeen) (compiler : Compiler) → AreOwn (refusal_by set env compiler)
 unfolding refusal_by words_refusal_by
@@ -78,3 +100,14 @@ given_is_own set env e h = own (given_refusal set env) e (given_own set env) h
 
 pub built_is_own : (set : BuildConfig) (env : EnvSeen) (compiler : Compiler) (e : PlanError) → (e ≡ WantsMemory) ⊎ (refusal_by set env compiler ≡ Some e) → IsOwn e
 built_is_own set env compiler e h = own (refusal_by set env compiler) e (by_own set env compiler) h
+
+verdict_own : (set : BuildConfig) (env : EnvSeen) (family : ToolFamily) (path flag : List ℕ) → AreOwn (verdict_refusal set env family path flag)
+unfolding verdict_refusal
+verdict_own set env family path flag =
+    choice_own (is_for_linker family flag) None (refusal_by (flag_settings set path flag) env (flag_compiler path family)) tt (by_own (flag_settings set path flag) env (flag_compiler path family))
+
+pub verdict_is_own : (set : BuildConfig) (env : EnvSeen) (family : ToolFamily) (path flag : List ℕ) (e : PlanError) → (e ≡ WantsMemory) ⊎ (verdict_refusal set env family path flag ≡ Some e) → IsOwn e
+verdict_is_own set env family path flag e h = own (verdict_refusal set env family path flag) e (verdict_own set env family path flag) h
+
+pub target_is_own : (set : BuildConfig) (env : EnvSeen) (e : PlanError) → (e ≡ WantsMemory) ⊎ (target_refusal (target_of set env) ≡ Some e) → IsOwn e
+target_is_own set env e h = own (target_refusal (target_of set env)) e (target_own (target_of set env)) h

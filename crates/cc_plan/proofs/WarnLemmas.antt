@@ -1,5 +1,5 @@
 -- Questions, and then the lines of their warnings.
-use Rattle.std.proofs.Common.{◌≡◌, inl, inr, ℕ, List, [], ◌++◌, Bool, Result, Ok, Err, refl, sym, subst, append-nil}
+use Rattle.std.proofs.Common.{◌≡◌, inl, inr, ℕ, List, [], ◌++◌, Bool, false, Result, Ok, Err, refl, sym, subst, append-nil}
 use Rattle.cc_host.specs.declared.event.Event.{Event}
 use Rattle.cc_host.specs.declared.question.Outcome.{Outcome}
 use Rattle.cc_host.specs.declared.question.Question.{Question}
@@ -10,18 +10,19 @@ use Rattle.cc_tool.specs.Asked.{question_events}
 use Rattle.cc_tool.specs.Asks.{Asks}
 use Rattle.cc_plan.specs.Asking.{AsksThen, AreLines, Warns, Printed, EndsPrinting, IsOwn}
 use Rattle.cc_plan.specs.declared.error.PlanError.{PlanError}
-use Rattle.cc_plan.specs.declared.error.PlanError.TheVariants.{Argument, NotSet, UnknownTarget, QnxArch, Host, NoMemory}
+use Rattle.cc_plan.specs.declared.error.PlanError.TheVariants.{Argument, NotSet, UnknownTarget, QnxArch, Flag, Host, NoMemory}
 
 ends_none : (e : PlanError) → IsOwn e → EndsPrinting [] e
 ends_none (Argument cause) h = refl
 ends_none (NotSet name) h = refl
 ends_none (UnknownTarget name) h = refl
 ends_none (QnxArch name) h = refl
+ends_none (Flag flag) h = refl
 ends_none (Host call why) h = absurd h
 ends_none NoMemory h = refl
 
 -- a plan was refused: nothing is printed
-pub warns_refused : {X : Type 0} {steady : Bool} {world : Question → Outcome} {dir : List ℕ} {before after : List Event} {old new : List Answer} {warnings : Look → List (List ℕ)} (result : Result X PlanError) (e : PlanError) → result ≡ Err e → IsOwn e → Asks steady world dir before after old new → AsksThen steady world dir before after old new (Warns new warnings result)
+pub warns_refused : {X : Type 0} {steady : Bool} {world : Question → Outcome} {dir : List ℕ} {before after : List Event} {old new : List Answer} {warnings : Bool → Look → List (List ℕ)} (result : Result X PlanError) (e : PlanError) → result ≡ Err e → IsOwn e → Asks steady world dir before after old new → AsksThen steady world dir before after old new (Warns new warnings result)
 warns_refused {X} {steady} {world} {dir} {before} {after} {old} {new} {warnings} result e is own asks =
     subst (λ (r : Result X PlanError). AsksThen steady world dir before after old new (Warns new warnings r)) (sym is)
     (record {
@@ -29,7 +30,7 @@ warns_refused {X} {steady} {world} {dir} {before} {after} {old} {new} {warnings}
       rest = [];
       asks = asks;
       extends = sym (append-nil after);
-      holds = record { lines = []; settled = inl refl; printed = (partly_none _, ends_none e own); silent = refl };
+      holds = record { told = false; lines = []; settled = inl refl; printed = (partly_none _, ends_none e own); silent = refl };
     })
 
 are_lines : {X : Type 0} (known : List Answer) (warnings : Look → List (List ℕ)) (lines : List (List ℕ)) (part : List Event) (result : Result X PlanError) → Settles known warnings lines → AreLines known warnings lines part result
@@ -37,11 +38,11 @@ are_lines known warnings lines part (Ok x) s = s
 are_lines known warnings lines part (Err e) s = inr s
 
 -- a plan was made, and its lines were printed, or not all of them
-pub warns_printed : {X : Type 0} {steady : Bool} {world : Question → Outcome} {dir : List ℕ} {before mid after : List Event} {old new : List Answer} {warnings : Look → List (List ℕ)} (lines : List (List ℕ)) (result : Result X PlanError) → Asks steady world dir before mid old new → after ≡ mid ++ since mid after → Settles new warnings lines → Printed lines (since mid after) result → question_events (since mid after) ≡ [] → AsksThen steady world dir before after old new (Warns new warnings result)
-warns_printed {X} {steady} {world} {dir} {before} {mid} {after} {old} {new} {warnings} lines result asks extends settled h silent = record {
+pub warns_printed : {X : Type 0} {steady : Bool} {world : Question → Outcome} {dir : List ℕ} {before mid after : List Event} {old new : List Answer} {warnings : Bool → Look → List (List ℕ)} (told : Bool) (lines : List (List ℕ)) (result : Result X PlanError) → Asks steady world dir before mid old new → after ≡ mid ++ since mid after → Settles new (warnings told) lines → Printed lines (since mid after) result → question_events (since mid after) ≡ [] → AsksThen steady world dir before after old new (Warns new warnings result)
+warns_printed {X} {steady} {world} {dir} {before} {mid} {after} {old} {new} {warnings} told lines result asks extends settled h silent = record {
   mid = mid;
   rest = since mid after;
   asks = asks;
   extends = extends;
-  holds = record { lines = lines; settled = are_lines new warnings lines (since mid after) result settled; printed = h; silent = silent };
+  holds = record { told = told; lines = lines; settled = are_lines new (warnings told) lines (since mid after) result settled; printed = h; silent = silent };
 }

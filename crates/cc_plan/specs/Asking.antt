@@ -51,9 +51,11 @@ abbrev pub AreLines : {X : Type 0} → List Answer → (Look → List (List ℕ)
 AreLines known warnings lines part (Ok x) = Settles known warnings lines
 AreLines known warnings lines part (Err e) = (part ≡ []) ⊎ Settles known warnings lines
 
--- the lines are what the answers settle, and nothing is asked meanwhile; a call that is refused for another cause prints none
-pub record Warns {X : Type 0} (known : List Answer) (warnings : Look → List (List ℕ)) (result : Result X PlanError) (part : List Event) : Type 0 where
+-- The lines are what the answers settle, where it is given whether the call is told of flags for the linker, and nothing is asked
+-- meanwhile. A call that is refused for another cause prints none.
+pub record Warns {X : Type 0} (known : List Answer) (warnings : Bool → Look → List (List ℕ)) (result : Result X PlanError) (part : List Event) : Type 0 where
+  pub told : Bool
   pub lines : List (List ℕ)
-  pub settled : AreLines known warnings lines part result
+  pub settled : AreLines known (warnings told) lines part result
   pub printed : Printed lines part result
   pub silent : question_events part ≡ []

@@ -1,5 +1,6 @@
 -- The choice of the compiler: the set one, else that of the environment, else the one that the target wants.
-use Rattle.std.specs.Prelude.{ℕ, Bool, ◌||◌, List, [], ◌++◌, Option, Some, None, unwrap_or, option_and_then, codes, if◌then◌else◌}
+use Rattle.std.specs.Prelude.{ℕ, Bool, true, false, ◌||◌, List, [], ◌++◌, Option, Some, None, unwrap_or, option_and_then, codes, if◌then◌else◌}
+use Rattle.std.specs.Option.{option_map_or}
 use Rattle.std.specs.Path.{path_join}
 use Rattle.cc_env.specs.Env.{EnvSeen, overridable}
 use Rattle.cc_host.specs.Question.{Look}
@@ -7,6 +8,7 @@ use Rattle.cc_target.specs.Targets.{Info}
 use Rattle.cc_plan.specs.Android.{android_compiler}
 use Rattle.cc_plan.specs.DefaultWords.{is_qnx}
 use Rattle.cc_plan.specs.EnvTool.{env_tool, in_rustc_wrapper}
+use Rattle.cc_plan.specs.Inherited.{inherited_flags}
 use Rattle.cc_plan.specs.Languages.{compiler_variable, gnu_name, traditional_name, clang_name, emscripten_name, vxworks_name, qnx_name}
 use Rattle.cc_plan.specs.Prefix.{is_cross, gnu_prefix}
 use Rattle.cc_plan.specs.Search.{which, path_folders}
@@ -37,14 +39,29 @@ compiler_behind cpp target = if is target.abi "llvm" then clang_name cpp else gn
 unfoldable pub prefixed_compiler : Bool → Info → List ℕ → List ℕ
 prefixed_compiler cpp target prefix = prefix ++ codes "-" ++ compiler_behind cpp target
 
--- the compiler for another target than the host, where it has a prefix
-abbrev pub prefixed_or_default : Bool → Info → Option (List ℕ) → List ℕ
-prefixed_or_default cpp target None = traditional_name cpp
-prefixed_or_default cpp target (Some prefix) = prefixed_compiler cpp target prefix
+-- The linker optimises by its plugin, as the flags of Rust code say, whether or not they are inherited.
+unfoldable pub links_by_plugin : EnvSeen → Bool
+links_by_plugin env = option_map_or (λ flags. unwrap_or flags.linker_plugin_lto false) (inherited_flags true env.inherited) false
+
+-- Clang, where it is wanted for that and found
+abbrev pub plugin_compiler : Bool → EnvSeen → Look → Option (List ℕ)
+plugin_compiler cpp env look = if links_by_plugin env then which look (path_folders env) (clang_name cpp) else None
+
+-- the compiler of the system
+abbrev pub default_compiler : Bool → EnvSeen → Look → List ℕ
+default_compiler cpp env look = unwrap_or (plugin_compiler cpp env look) (traditional_name cpp)
+
+-- the prefix of compilers for another target than the host
+abbrev pub cross_prefix : BuildConfig → EnvSeen → Look → Option (List ℕ)
+cross_prefix set env look = if is_cross set env then gnu_prefix set env (target_name set env) look else None
+
+-- the compiler behind a prefix, where there is one
+abbrev pub prefixed_or_default : BuildConfig → EnvSeen → Look → Option (List ℕ) → List ℕ
+prefixed_or_default set env look None = default_compiler set.cpp env look
+prefixed_or_default set env look (Some prefix) = prefixed_compiler set.cpp (target_info set env) prefix
 
 abbrev pub cross_compiler : BuildConfig → EnvSeen → Look → List ℕ
-cross_compiler set env look =
-    if is_cross set env then prefixed_or_default set.cpp (target_info set env) (gnu_prefix set env (target_name set env) look) else traditional_name set.cpp
+cross_compiler set env look = prefixed_or_default set env look (cross_prefix set env look)
 
 -- the compiler of targets that have one name for it
 unfoldable pub fixed_compiler : Bool → Info → Option (List ℕ)

@@ -51,7 +51,10 @@ keeps_frame_pointers family force debug = is_gnu_like family && unwrap_or force 
 abbrev pub leaf_word : List (List ℕ)
 leaf_word = word "-mno-omit-leaf-frame-pointer"
 
+-- the words that keep frame pointers
+unfoldable pub kept_words : Bool → List (List ℕ)
+kept_words takes_leaf = word "-fno-omit-frame-pointer" ++ when takes_leaf leaf_word
+
 -- frame pointers, where they are kept; `takes_leaf` tells whether the compiler takes the word for leaves
 unfoldable pub frame_pointer_words : ToolFamily → Option Bool → Option (List ℕ) → Bool → List (List ℕ)
-frame_pointer_words family force debug takes_leaf =
-    when (keeps_frame_pointers family force debug) (word "-fno-omit-frame-pointer" ++ when takes_leaf leaf_word)
+frame_pointer_words family force debug takes_leaf = when (keeps_frame_pointers family force debug) (kept_words takes_leaf)

@@ -1,7 +1,6 @@
 -- The flags of Rust code that Cargo hands down.
-use Rattle.std.specs.Prelude.{ℕ, Bool, false, not, List, [], ◌∷◌, ◌++◌, Option, Some, None, filter, map, is_none, codes, if◌then◌else◌}
+use Rattle.std.specs.Prelude.{ℕ, Bool, not, List, [], ◌++◌, Option, Some, None, filter, map, is_none, codes, if◌then◌else◌}
 use Rattle.std.specs.Option.{option_map, option_and_then, option_map_or}
-use Rattle.cc_env.specs.Env.{EnvSeen}
 use Rattle.cc_env.specs.Snapshot.{last_value}
 use Rattle.cc_flags.specs.Fields.{flags_of, refusal_of}
 use Rattle.cc_flags.specs.Pairs.{pairs_of}

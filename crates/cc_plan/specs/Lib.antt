@@ -10,6 +10,7 @@ pub mod DebugWords
 pub mod DefaultWords
 pub mod EnvTool
 pub mod Families
+pub mod FlagSupport
 pub mod Flags
 pub mod Given
 pub mod GnuWords

@@ -2,12 +2,12 @@
 use Rattle.std.specs.Prelude.{ℕ, Bool, true, false, not, ◌&&◌, ◌||◌, ◌==◌, List, [], ◌∷◌, ◌++◌, Option, Some, None, codes, filter, is_some, if◌then◌else◌}
 use Rattle.std.specs.List.{flat_map, list_any, slice_split}
 use Rattle.cc_env.specs.Snapshot.{last_value}
+use Rattle.cc_text.specs.Pieces.{has_bytes}
 use Rattle.cc_text.specs.Quoted.{quoted}
 use Rattle.cc_text.specs.Words.{when}
 use Rattle.cc_text.specs.declared.family.ToolFamily.{ToolFamily}
 use Rattle.cc_plan.specs.declared.words.maps.Maps.{Maps}
 use Rattle.cc_plan.specs.Families.{is_cl, is_clang_cl}
-use Rattle.cc_plan.specs.Blanks.{has_bytes}
 use Rattle.cc_plan.specs.SettingWords.{is_among}
 use Rattle.cc_plan.specs.Texts.{is}
 
@@ -44,9 +44,13 @@ pairs_words family maps pairs = flat_map (pair_words family maps) pairs
 abbrev pub scopes_of : List ℕ → List (List ℕ)
 scopes_of = slice_split (λ b. b == 44)
 
+-- the parts between colons
+abbrev pub colon_parts : List ℕ → List (List ℕ)
+colon_parts = slice_split (λ b. b == 58)
+
 -- the pairs that Cargo trims paths by
 unfoldable pub trim_pairs : List ℕ → List (List ℕ)
-trim_pairs remap = filter has_bytes (slice_split (λ b. b == 58) remap)
+trim_pairs remap = filter has_bytes (colon_parts remap)
 
 abbrev pub is_object_scope : List ℕ → Bool
 is_object_scope scope = is scope "all" || is scope "object"

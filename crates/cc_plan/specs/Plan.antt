@@ -1,5 +1,5 @@
 -- The steps of a compile run, as a function of the settings, the environment and the output.
-use Rattle.std.specs.Prelude.{ℕ, List, [], ◌∷◌, ◌++◌, map, unwrap_or, is_some, codes, if◌then◌else◌}
+use Rattle.std.specs.Prelude.{ℕ, Bool, List, [], ◌∷◌, ◌++◌, map, unwrap_or, is_some, codes, if◌then◌else◌}
 use Rattle.std.specs.Path.{path_parent, path_join}
 use Rattle.cc_env.specs.Env.{EnvSeen}
 use Rattle.cc_host.specs.Command.{CommandSeen}
@@ -53,13 +53,13 @@ warning_line text = codes "cargo:warning=" ++ text
 abbrev pub wanted_lines : BuildConfig → List (List ℕ) → List (List ℕ)
 wanted_lines set warnings = if set.cargo_warnings then map warning_line warnings else []
 
--- the warnings of the tool, where they are wanted
-abbrev pub tool_lines : BuildConfig → EnvSeen → Look → List (List ℕ)
-tool_lines set env look = wanted_lines set (warnings_of set env look)
+-- the warnings of the tool, where they are wanted; `told` tells whether the call is told of flags for the linker
+abbrev pub tool_lines : BuildConfig → EnvSeen → Bool → Look → List (List ℕ)
+tool_lines set env told look = wanted_lines set (warnings_of set env told look)
 
 -- the warnings of the plan, where there is a source
-abbrev pub warning_lines : BuildConfig → EnvSeen → Look → List (List ℕ)
-warning_lines set env look = if is_empty set.files then [] else tool_lines set env look
+abbrev pub warning_lines : BuildConfig → EnvSeen → Bool → Look → List (List ℕ)
+warning_lines set env told look = if is_empty set.files then [] else tool_lines set env told look
 
 -- the folder is made where there is a source
 unfoldable pub folder_steps : BuildConfig → EnvSeen → List Step
@@ -69,8 +69,8 @@ unfoldable pub prints : LineKind → List (List ℕ) → List Step
 prints kind lines = map (λ line. Prints kind (printed_line line)) lines
 
 -- the warnings of the plan are printed, then each source is compiled
-unfoldable pub compile_steps : BuildConfig → EnvSeen → Look → List Step
-compile_steps set env look = prints Warning (warning_lines set env look) ++ runs Compile (compiles_of set env look)
+unfoldable pub compile_steps : BuildConfig → EnvSeen → Bool → Look → List Step
+compile_steps set env told look = prints Warning (warning_lines set env told look) ++ runs Compile (compiles_of set env look)
 
 -- the old library is removed
 unfoldable pub removal_steps : BuildConfig → EnvSeen → List ℕ → List Step
@@ -86,14 +86,14 @@ unfoldable pub link_steps : BuildConfig → EnvSeen → List ℕ → List Step
 link_steps set env output = prints Link (link_lines set env output)
 
 -- the steps behind the folder
-abbrev pub run_steps : BuildConfig → EnvSeen → Look → List ℕ → List Step
-run_steps set env look output =
-    compile_steps set env look ++ (removal_steps set env output ++ (archive_steps set env output ++ (index_steps set env output ++ link_steps set env output)))
+abbrev pub run_steps : BuildConfig → EnvSeen → Bool → Look → List ℕ → List Step
+run_steps set env told look output =
+    compile_steps set env told look ++ (removal_steps set env output ++ (archive_steps set env output ++ (index_steps set env output ++ link_steps set env output)))
 
 -- the same, where commands may run and the settings are not refused behind the folder
-unfoldable pub late_steps : BuildConfig → EnvSeen → Look → List ℕ → List Step
-late_steps set env look output = if is_disabled env then [] else (if is_some (late_refusal set env look) then [] else run_steps set env look output)
+unfoldable pub late_steps : BuildConfig → EnvSeen → Bool → Look → List ℕ → List Step
+late_steps set env told look output = if is_disabled env then [] else (if is_some (late_refusal set env look) then [] else run_steps set env told look output)
 
 -- The steps of a compile run. Settings that are refused before the folder is made plan none, and those that are refused behind it the folder alone.
-unfoldable pub planned_steps : BuildConfig → EnvSeen → Look → List ℕ → List Step
-planned_steps set env look output = if is_some (early_refusal set env output) then [] else folder_steps set env ++ late_steps set env look output
+unfoldable pub planned_steps : BuildConfig → EnvSeen → Bool → Look → List ℕ → List Step
+planned_steps set env told look output = if is_some (early_refusal set env output) then [] else folder_steps set env ++ late_steps set env told look output

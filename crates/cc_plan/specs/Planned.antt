@@ -1,5 +1,5 @@
 -- The planned tool, as a function of all verdicts.
-use Rattle.std.specs.Prelude.{ℕ, List, Option}
+use Rattle.std.specs.Prelude.{ℕ, Bool, List, Option}
 use Rattle.cc_env.specs.Env.{EnvSeen}
 use Rattle.cc_host.specs.Question.{Look}
 use Rattle.cc_tool.specs.Tool.{ToolSeen}
@@ -17,9 +17,9 @@ words_refusal_of set env look = words_refusal_by set env (compiler_of set env lo
 abbrev pub supported_of : BuildConfig → EnvSeen → Look → List (List ℕ)
 supported_of set env look = supported_by set env (compiler_of set env look) look
 
--- the texts of the warnings
-abbrev pub warnings_of : BuildConfig → EnvSeen → Look → List (List ℕ)
-warnings_of set env look = warnings_by set env (compiler_of set env look) (supported_of set env look)
+-- The texts of the warnings. `told` tells whether the call is the one of its caches that is told of flags for the linker.
+abbrev pub warnings_of : BuildConfig → EnvSeen → Bool → Look → List (List ℕ)
+warnings_of set env told look = warnings_by set env (compiler_of set env look) (supported_of set env look) told
 
 -- the tool
 abbrev pub tool_of : BuildConfig → EnvSeen → Look → ToolSeen

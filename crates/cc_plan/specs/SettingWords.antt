@@ -1,6 +1,6 @@
 -- The words that settings bring, whatever the target: a definition a group.
 use Rattle.std.specs.Prelude.{ℕ, Bool, true, ◌&&◌, ◌||◌, bytes_eq, List, [], ◌∷◌, ◌++◌, Option, Some, None, unwrap_or, is_none, map, codes, if◌then◌else◌}
-use Rattle.std.specs.List.{flat_map, list_any}
+use Rattle.std.specs.List.{flat_map, list_any, before_first}
 use Rattle.cc_text.specs.Words.{when}
 use Rattle.cc_text.specs.declared.family.ToolFamily.{ToolFamily}
 use Rattle.cc_plan.specs.declared.flags.BuildFlag.{BuildFlag}
@@ -52,8 +52,7 @@ is_link_flag flag = is_link (text_of flag)
 
 -- the front of a list before the first of which something holds
 abbrev pub before : {X : Type 0} → (X → Bool) → List X → List X
-before p [] = []
-before p (x ∷ xs) = if p x then [] else x ∷ before p xs
+before p xs = before_first p xs
 
 -- the flags that the compiler is given: for Visual Studio those before what is for the linker
 unfoldable pub compiler_flags : ToolFamily → List BuildFlag → List BuildFlag

@@ -1,5 +1,5 @@
 -- Words that a compiler is given only where it takes them.
-use Rattle.std.specs.Prelude.{ℕ, Bool, true, false, not, ◌&&◌, ◌||◌, List, [], ◌∷◌, ◌++◌, Option, Some, None, is_some, bytes_eq, codes, filter, if◌then◌else◌}
+use Rattle.std.specs.Prelude.{ℕ, Bool, true, false, not, ◌&&◌, ◌||◌, List, [], ◌∷◌, ◌++◌, Option, Some, None, is_none, bytes_eq, codes, filter, if◌then◌else◌}
 use Rattle.std.specs.List.{list_any}
 use Rattle.cc_env.specs.Env.{EnvSeen}
 use Rattle.cc_env.specs.Snapshot.{child_of}
@@ -46,24 +46,27 @@ unused_words family = when (is_clang family) (word "-Wno-unused-command-line-arg
 unfoldable pub quiet_words : List (List ℕ) → List (List ℕ)
 quiet_words words = filter (λ w. not (bytes_eq w (codes "-v"))) words
 
--- the words of a question on a flag
-unfoldable pub question_words : BuildConfig → EnvSeen → ToolFamily → List ℕ → List ℕ → List (List ℕ)
-question_words set env family path flag =
-    quiet_words (words_by (flag_settings set path flag) env (flag_compiler path family) []) ++ unused_words family
+-- the words of a question on a flag, by its settings
+unfoldable pub question_words : BuildConfig → EnvSeen → Compiler → List (List ℕ)
+question_words plain env compiler = quiet_words (words_by plain env compiler []) ++ unused_words compiler.family
+
+-- the question by its settings
+abbrev pub plain_question : BuildConfig → EnvSeen → Compiler → Question
+plain_question plain env compiler = record {
+  ask = Flag plain.cpp compiler.family;
+  program = compiler.choice.path;
+  words = question_words plain env compiler;
+  vars = child_of env.inherited (language_variable compiler.family ∷ env.explicit);
+}
 
 -- whether the compiler at a path takes a flag
 abbrev pub flag_question : BuildConfig → EnvSeen → ToolFamily → List ℕ → List ℕ → Question
-flag_question set env family path flag = record {
-  ask = Flag set.cpp family;
-  program = path;
-  words = question_words set env family path flag;
-  vars = child_of env.inherited (language_variable family ∷ env.explicit);
-}
+flag_question set env family path flag = plain_question (flag_settings set path flag) env (flag_compiler path family)
 
 -- what the linker is told isn't asked about, and neither is a flag for which there is no command
 unfoldable pub is_asked_of : BuildConfig → EnvSeen → ToolFamily → List ℕ → List ℕ → Bool
 is_asked_of set env family path flag =
-    not (is_visual_studio family && is_link flag) && not (is_some (words_refusal_by (flag_settings set path flag) env (flag_compiler path family)))
+    not (is_visual_studio family && is_link flag) && is_none (words_refusal_by (flag_settings set path flag) env (flag_compiler path family))
 
 -- the compiler of a family at a path takes the flag
 unfoldable pub takes : BuildConfig → EnvSeen → ToolFamily → List ℕ → Look → List ℕ → Bool
@@ -73,13 +76,9 @@ takes set env family path look flag = is_asked_of set env family path flag && is
 abbrev pub bare_family : EnvSeen → List ℕ → Look → ToolFamily
 bare_family env path look = (family_of look path [] (child_of env.inherited env.explicit)).0
 
--- the compiler at a path takes the flag
-abbrev pub supports : BuildConfig → EnvSeen → List ℕ → Look → List ℕ → Bool
-supports set env path look flag = takes set env (bare_family env path look) path look flag
-
 -- those of some words that the compiler takes
 abbrev pub supported_among : BuildConfig → EnvSeen → List ℕ → List (List ℕ) → Look → List (List ℕ)
-supported_among set env path words look = filter (supports set env path look) words
+supported_among set env path words look = filter (takes set env (bare_family env path look) path look) words
 
 -- those that the compiler takes of the words it is asked about
 abbrev pub supported_by : BuildConfig → EnvSeen → Compiler → Look → List (List ℕ)

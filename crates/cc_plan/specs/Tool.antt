@@ -1,5 +1,5 @@
 -- The planned tool: the compiler with the words and variables that every compile command has.
-use Rattle.std.specs.Prelude.{ℕ, List, [], ◌∷◌, ◌++◌, ◌&&◌, Option, is_none, codes, if◌then◌else◌}
+use Rattle.std.specs.Prelude.{ℕ, Bool, List, [], ◌∷◌, ◌++◌, ◌&&◌, ◌||◌, Option, is_none, codes, if◌then◌else◌}
 use Rattle.cc_env.specs.Env.{EnvSeen}
 use Rattle.cc_target.specs.Targets.{Info}
 use Rattle.cc_text.specs.Quoted.{quoted}
@@ -13,6 +13,7 @@ use Rattle.cc_plan.specs.Target.{target_name, target_info}
 use Rattle.cc_plan.specs.Texts.{is}
 use Rattle.cc_plan.specs.Inherited.{inherited_words, lost_words}
 use Rattle.cc_plan.specs.MapWords.{cargo_maps, set_maps, map_lacks}
+use Rattle.cc_plan.specs.SettingWords.{leaves_off}
 use Rattle.cc_plan.specs.ToolWords.{asked_words, tool_words, tool_warnings, words_refusal}
 use Rattle.cc_plan.specs.declared.compiler.Compiler.{Compiler}
 use Rattle.cc_plan.specs.declared.error.PlanError.{PlanError}
@@ -48,13 +49,22 @@ lacks_by set env compiler supported =
     ++ map_lacks compiler.choice.path compiler.family supported (cargo_maps set.inherit_trim_paths env.inherited compiler.family)
     ++ map_lacks compiler.choice.path compiler.family supported (set_maps compiler.family set.remap_source_paths)
 
--- what a user is warned of
-abbrev pub warnings_by : BuildConfig → EnvSeen → Compiler → List (List ℕ) → List (List ℕ)
-warnings_by set env compiler supported =
+-- flags are left off that are for the linker: a user is told of it at each call, or at the one that is told to
+unfoldable pub link_warnings : BuildConfig → EnvSeen → ToolFamily → Bool → List (List ℕ)
+link_warnings set env family told =
+    when (leaves_off family set.flags (environment_flags set env) && (set.repeat_lines || told)) (codes "Ignoring linker flags after /link" ∷ [])
+
+-- what a user is warned of, but for flags that are left off
+abbrev pub other_warnings : BuildConfig → EnvSeen → Compiler → List (List ℕ) → List (List ℕ)
+other_warnings set env compiler supported =
     detection_warnings compiler.detected (quoted compiler.choice.path)
     ++ gnu_warnings set (target_info set env) compiler.family
     ++ tool_warnings (has_no_defaults set env) set compiler.family
     ++ lacks_by set env compiler supported
+
+-- what a user is warned of
+abbrev pub warnings_by : BuildConfig → EnvSeen → Compiler → List (List ℕ) → Bool → List (List ℕ)
+warnings_by set env compiler supported told = other_warnings set env compiler supported ++ link_warnings set env compiler.family told
 
 -- the compiler with its wrapper
 abbrev pub wrapped_tool : EnvSeen → Compiler → ToolSeen

@@ -11,6 +11,7 @@ ghost use Rattle.cc_plan.specs.Target.{target_name, target_info};
 use crate::android::android_compiler;
 use crate::env_tool::{env_tool, in_rustc_wrapper};
 use crate::given::target_of;
+use crate::inherited::inherited_flags;
 use crate::languages::{
     clang_name, compiler_variable, emscripten_name, gnu_name, qnx_name, traditional_name,
     vxworks_name,
@@ -145,7 +146,83 @@ fn prefixed_compiler(alloc: Global, cpp: bool, target: &TargetInfo, prefix: &str
     Ok(name)
 }
 
+// The linker optimises by its plugin.
+#[tactic(auto, unfolding(crate::specs::Choice::links_by_plugin))]
+fn links_by_plugin(alloc: Global, env: &BuildEnv) -> Mem<bool>
+    ensures { IfOk result (λ b. b ≡ spec.links_by_plugin env.now) }
+{
+    match inherited_flags(alloc, true, env.inherited())? {
+        Some(flags) => Ok(flags.linker_plugin_lto()),
+        None => Ok(false),
+    }
+}
+
+// Clang, where it is wanted for the linker's plugin and found.
+fn plugin_compiler<W: World, H: Host<W>>(
+    rt: &impl Wait,
+    alloc: Global,
+    set: &BuildConfig,
+    env: &BuildEnv,
+    sight: &mut Sight<'_, W, H>,
+) -> Mem<Option<Text>>
+    ensures same_host { sight.new.host.ghost_name ≡ sight.old.host.ghost_name }
+    ensures same_answers { sight.new.answers.ghost_name ≡ sight.old.answers.ghost_name }
+    ensures asks { Asks W.steady W.answer (probe_folder set.now env.now) (H.log sight.old.host.now) (H.log sight.new.host.now) sight.old.answers.now sight.new.answers.now }
+    ensures settles { IfOk result (Settles sight.new.answers.now (spec.plugin_compiler set.now.cpp env.now)) }
+{
+    if links_by_plugin(alloc, env)? {
+        let folders = path_folders(alloc, env)?;
+        let name = clang_name(set.cpp);
+        which(rt, alloc, set, env, folders.as_slice(), name, sight)
+    } else {
+        Ok(None)
+    }
+}
+
+// The compiler of the system.
+fn default_compiler<W: World, H: Host<W>>(
+    rt: &impl Wait,
+    alloc: Global,
+    set: &BuildConfig,
+    env: &BuildEnv,
+    sight: &mut Sight<'_, W, H>,
+) -> Mem<Text>
+    ensures same_host { sight.new.host.ghost_name ≡ sight.old.host.ghost_name }
+    ensures same_answers { sight.new.answers.ghost_name ≡ sight.old.answers.ghost_name }
+    ensures asks { Asks W.steady W.answer (probe_folder set.now env.now) (H.log sight.old.host.now) (H.log sight.new.host.now) sight.old.answers.now sight.new.answers.now }
+    ensures settles { IfOk result (Settles sight.new.answers.now (spec.default_compiler set.now.cpp env.now)) }
+{
+    match plugin_compiler(rt, alloc, set, env, sight)? {
+        Some(path) => Ok(path),
+        None => {
+            let path = Text::of(alloc, traditional_name(set.cpp))?;
+            Ok(path)
+        }
+    }
+}
+
+// The prefix of compilers for another target than the host.
+fn cross_prefix<W: World, H: Host<W>>(
+    rt: &impl Wait,
+    alloc: Global,
+    set: &BuildConfig,
+    env: &BuildEnv,
+    sight: &mut Sight<'_, W, H>,
+) -> Mem<Option<Text>>
+    ensures same_host { sight.new.host.ghost_name ≡ sight.old.host.ghost_name }
+    ensures same_answers { sight.new.answers.ghost_name ≡ sight.old.answers.ghost_name }
+    ensures asks { Asks W.steady W.answer (probe_folder set.now env.now) (H.log sight.old.host.now) (H.log sight.new.host.now) sight.old.answers.now sight.new.answers.now }
+    ensures settles { IfOk result (Settles sight.new.answers.now (spec.cross_prefix set.now env.now)) }
+{
+    if is_cross(set, env) {
+        prefix_for(rt, alloc, set, env, target_name(set, env), sight)
+    } else {
+        Ok(None)
+    }
+}
+
 // The compiler for another target than the host, where it has a prefix; else that of the system.
+#[tactic(auto, using(cc_tool::proofs::AskLemmas::asks_then))]
 fn cross_compiler<W: World, H: Host<W>>(
     rt: &impl Wait,
     alloc: Global,
@@ -160,12 +237,16 @@ fn cross_compiler<W: World, H: Host<W>>(
     ensures asks { Asks W.steady W.answer (probe_folder set.now env.now) (H.log sight.old.host.now) (H.log sight.new.host.now) sight.old.answers.now sight.new.answers.now }
     ensures settles { IfOk result (Settles sight.new.answers.now (spec.cross_compiler set.now env.now)) }
 {
-    if is_cross(set, env) {
-        if let Some(prefix) = prefix_for(rt, alloc, set, env, target_name(set, env), sight)? {
-            return prefixed_compiler(alloc, set.cpp, target, prefix.as_str());
+    match cross_prefix(rt, alloc, set, env, sight)? {
+        Some(prefix) => {
+            let name = prefixed_compiler(alloc, set.cpp, target, prefix.as_str())?;
+            Ok(name)
+        }
+        None => {
+            let path = default_compiler(rt, alloc, set, env, sight)?;
+            Ok(path)
         }
     }
-    Text::of(alloc, traditional_name(set.cpp))
 }
 
 // The compiler of targets that have one name for it.

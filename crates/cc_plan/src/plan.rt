@@ -31,9 +31,11 @@ pub struct Sources {
     pub objects: Vec<Object>,
 }
 
-/// The warnings, commands and lines of a compile run.
+/// The warnings, commands and lines of a compile run; `told` tells whether the run is the one of its caches that is told of flags for the
+/// linker.
 #[derive(Drop, Debug)]
 pub struct Plan {
+    pub told: bool,
     pub warnings: Words,
     pub compiles: Vec<Command>,
     pub archives: Vec<Command>,
@@ -95,6 +97,7 @@ pub fn plan_sources(
 // The warnings and the commands that compile.
 #[derive(Drop, Debug)]
 struct Compiles {
+    told: bool,
     warnings: Words,
     cmds: Vec<Command>,
 }
@@ -108,6 +111,7 @@ fn no_compiles(alloc: Global, set: &BuildConfig, env: &BuildEnv) -> Result<Compi
 {
     check_platform(alloc, set, env)?;
     Ok(Compiles {
+        told: false,
         warnings: Words::new(alloc),
         cmds: Vec::new(alloc),
     })
@@ -126,15 +130,19 @@ fn tool_compiles<W: World, H: Host<W>>(
     ensures same_host { sight.new.host.ghost_name ≡ sight.old.host.ghost_name }
     ensures same_answers { sight.new.answers.ghost_name ≡ sight.old.answers.ghost_name }
     ensures asks { Asks W.steady W.answer (probe_folder set.now env.now) (H.log sight.old.host.now) (H.log sight.new.host.now) sight.old.answers.now sight.new.answers.now }
-    ensures warnings { IfOk result (λ plan. Settles sight.new.answers.now (tool_lines set.now env.now) plan.warnings) }
+    ensures warnings { IfOk result (λ plan. Settles sight.new.answers.now (tool_lines set.now env.now plan.told) plan.warnings) }
     ensures compiles { IfOk result (λ plan. Settles sight.new.answers.now (compiles_of set.now env.now) plan.cmds.items) }
     ensures allowed { OnOk result (Settles sight.new.answers.now (tool_refusal set.now env.now) None) }
     ensures refused { IfErr result (λ e. (e ≡ WantsMemory) ⊎ Settles sight.new.answers.now (tool_refusal set.now env.now) (Some e)) }
 {
     let plan = plan_tool(rt, alloc, set, env, sight)?;
-    let warnings = wanted_lines(alloc, set, &plan.warnings)?;
+    let warnings = wanted_lines(alloc, set, &plan.warned.warnings)?;
     let cmds = compile_commands(alloc, set, &plan.target, &plan.tool, objects)?;
-    Ok(Compiles { warnings, cmds })
+    Ok(Compiles {
+        told: plan.warned.told,
+        warnings,
+        cmds,
+    })
 }
 
 #[tactic(auto, unfolding(crate::specs::Refusal::late_refusal))]
@@ -150,7 +158,7 @@ fn plan_compiles<W: World, H: Host<W>>(
     ensures same_host { sight.new.host.ghost_name ≡ sight.old.host.ghost_name }
     ensures same_answers { sight.new.answers.ghost_name ≡ sight.old.answers.ghost_name }
     ensures asks { Asks W.steady W.answer (probe_folder set.now env.now) (H.log sight.old.host.now) (H.log sight.new.host.now) sight.old.answers.now sight.new.answers.now }
-    ensures warnings { IfOk result (λ plan. Settles sight.new.answers.now (lines_of_warnings set.now env.now) plan.warnings) }
+    ensures warnings { IfOk result (λ plan. Settles sight.new.answers.now (lines_of_warnings set.now env.now plan.told) plan.warnings) }
     ensures compiles { IfOk result (λ plan. Settles sight.new.answers.now (compiles_of set.now env.now) plan.cmds.items) }
     ensures allowed { OnOk result (Settles sight.new.answers.now (late_refusal set.now env.now) None) }
     ensures refused { IfErr result (λ e. (e ≡ WantsMemory) ⊎ Settles sight.new.answers.now (late_refusal set.now env.now) (Some e)) }
@@ -181,7 +189,7 @@ pub fn plan_commands<W: World, H: Host<W>>(
     ensures same_host { sight.new.host.ghost_name ≡ sight.old.host.ghost_name }
     ensures same_answers { sight.new.answers.ghost_name ≡ sight.old.answers.ghost_name }
     ensures asks { Asks W.steady W.answer (probe_folder set.now env.now) (H.log sight.old.host.now) (H.log sight.new.host.now) sight.old.answers.now sight.new.answers.now }
-    ensures warnings { IfOk result (λ plan. Settles sight.new.answers.now (lines_of_warnings set.now env.now) plan.warnings) }
+    ensures warnings { IfOk result (λ plan. Settles sight.new.answers.now (lines_of_warnings set.now env.now plan.told) plan.warnings) }
     ensures compiles { IfOk result (λ plan. Settles sight.new.answers.now (compiles_of set.now env.now) plan.compiles.items) }
     ensures archives { IfOk result (λ plan. plan.archives.items ≡ archives_of set.now env.now output.now) }
     ensures indexes { IfOk result (λ plan. plan.indexes.items ≡ indexes_of set.now env.now output.now) }
@@ -196,6 +204,7 @@ pub fn plan_commands<W: World, H: Host<W>>(
     let folder = parent(library).unwrap_or("");
     let lines = link_lines(alloc, sources.name.as_str(), folder)?;
     Ok(Plan {
+        told: compiles.told,
         warnings: compiles.warnings,
         compiles: compiles.cmds,
         archives,

@@ -1,19 +1,22 @@
 // Words that a compiler is given only where it takes them.
-ghost use Rattle.std.specs.Prelude.{◌≡◌, ◌⊎◌, ◌++◌, [], ◌∷◌, IfOk, OnOk, true};
+ghost use Rattle.std.specs.Prelude.{◌≡◌, ◌++◌, [], ◌∷◌, IfOk, OnOk, Some, None, filter, is_none, if◌then◌else◌};
+ghost use Rattle.cc_env.specs.Snapshot.{child_of};
 ghost use Rattle.cc_host.specs.Question.{Settles};
 ghost use Rattle.cc_target.specs.Targets.{info_seen};
 ghost use Rattle.cc_tool.specs.Asks.{Asks};
 ghost use Rattle.cc_plan.specs.Given.{probe_folder};
 ghost use Rattle.cc_plan.specs.Target.{target_info};
+ghost use Rattle.cc_plan.specs.Tool.{language_variable, words_refusal_by};
+ghost use Rattle.cc_plan.specs.Support.{supported_by};
 ghost use Rattle.cc_plan.specs.Support as spec;
+ghost use Rattle.cc_text.specs.Words.{when};
 
 use crate::compiler::Compiler;
-use crate::{BuildFlag, Flags};
-use crate::tool::{check_words_by, language_variable, words_by};
 use crate::given::{has_no_defaults, probe_folder};
 use crate::sight::is_yes;
+use crate::tool::{check_words_by, language_variable, words_by};
 use crate::words::{asked_words, is_clang, is_link, is_visual_studio};
-use crate::{BuildConfig, Choice, PlanError, Sight};
+use crate::{BuildConfig, BuildFlag, Choice, Flags, PlanError, Sight};
 use cc_env::BuildEnv;
 use cc_host::{Ask, Host, Question, World};
 use cc_target::TargetInfo;
@@ -32,7 +35,12 @@ fn second(alloc: Global, text: &Option<Text>) -> Mem<Option<Text>>
 }
 
 // The settings of a question on a flag.
-fn flag_settings(alloc: Global, set: &BuildConfig, path: &str, flag: &str) -> Mem<BuildConfig>
+pub(crate) fn flag_settings(
+    alloc: Global,
+    set: &BuildConfig,
+    path: &str,
+    flag: &str,
+) -> Mem<BuildConfig>
     ensures { IfOk result (λ plain. plain ≡ spec.flag_settings set.now path.now flag.now) }
 {
     let mut flags = Flags::new(alloc);
@@ -50,7 +58,7 @@ fn flag_settings(alloc: Global, set: &BuildConfig, path: &str, flag: &str) -> Me
     Ok(plain)
 }
 
-fn flag_compiler(alloc: Global, path: &str, family: ToolFamily) -> Mem<Compiler>
+pub(crate) fn flag_compiler(alloc: Global, path: &str, family: ToolFamily) -> Mem<Compiler>
     ensures { IfOk result (λ compiler. compiler ≡ spec.flag_compiler path.now family) }
 {
     Ok(Compiler {
@@ -89,6 +97,77 @@ fn flag_vars(alloc: Global, env: &BuildEnv, family: ToolFamily) -> Mem<Vars>
     env.inherited().child_vars(alloc, &entries)
 }
 
+// Adds that Clang doesn't complain of a word that it has no use for.
+fn push_unused(words: &mut Words, family: ToolFamily) -> Mem<()>
+    ensures { OnOk result (words.new ≡ words.old ++ spec.unused_words family) }
+{
+    if is_clang(family) {
+        words.push("-Wno-unused-command-line-argument")?;
+    }
+    Ok(())
+}
+
+// The words of a question on a flag, by its settings.
+#[tactic(auto, unfolding(crate::specs::Support::question_words))]
+fn question_words(
+    alloc: Global,
+    env: &BuildEnv,
+    target: &TargetInfo,
+    plain: &BuildConfig,
+    compiler: &Compiler,
+) -> Mem<Words>
+    requires { info_seen target.now ≡ target_info plain.now env.now }
+    ensures { IfOk result (λ words. words ≡ spec.question_words plain.now env.now compiler.now) }
+{
+    let words = words_by(alloc, plain, env, target, compiler, &[])?;
+    let mut quiet = quiet_words(alloc, &words)?;
+    push_unused(&mut quiet, compiler.family)?;
+    Ok(quiet)
+}
+
+// The question whether the compiler at a path takes a flag.
+pub(crate) fn flag_question(
+    alloc: Global,
+    env: &BuildEnv,
+    target: &TargetInfo,
+    plain: &BuildConfig,
+    compiler: &Compiler,
+) -> Mem<Question>
+    requires { info_seen target.now ≡ target_info plain.now env.now }
+    ensures { IfOk result (λ q. q ≡ spec.plain_question plain.now env.now compiler.now) }
+{
+    let words = question_words(alloc, env, target, plain, compiler)?;
+    let vars = flag_vars(alloc, env, compiler.family)?;
+    let program = Text::of(alloc, compiler.choice.path.as_str())?;
+    Ok(Question {
+        ask: Ask::Flag {
+            cpp: plain.cpp,
+            family: compiler.family,
+        },
+        program,
+        words,
+        vars,
+    })
+}
+
+// Whether there is a command of a question on a flag.
+fn can_ask(
+    alloc: Global,
+    env: &BuildEnv,
+    target: &TargetInfo,
+    plain: &BuildConfig,
+    compiler: &Compiler,
+) -> Mem<bool>
+    requires { info_seen target.now ≡ target_info plain.now env.now }
+    ensures { IfOk result (λ b. b ≡ is_none (words_refusal_by plain.now env.now compiler.now)) }
+{
+    match check_words_by(alloc, plain, env, target, compiler) {
+        Ok(()) => Ok(true),
+        Err(PlanError::NoMemory) => Err(NoMemory),
+        Err(_) => Ok(false),
+    }
+}
+
 // Whether a flag is asked about.
 #[tactic(auto, unfolding(crate::specs::Support::is_asked_of))]
 fn question_of(
@@ -108,25 +187,12 @@ fn question_of(
     }
     let plain = flag_settings(alloc, set, path, flag)?;
     let compiler = flag_compiler(alloc, path, family)?;
-    match check_words_by(alloc, &plain, env, target, &compiler) {
-        Ok(()) => {}
-        Err(PlanError::NoMemory) => return Err(NoMemory),
-        Err(_) => return Ok(None),
+    if can_ask(alloc, env, target, &plain, &compiler)? {
+        let question = flag_question(alloc, env, target, &plain, &compiler)?;
+        Ok(Some(question))
+    } else {
+        Ok(None)
     }
-    let words = words_by(alloc, &plain, env, target, &compiler, &[])?;
-    let mut words = quiet_words(alloc, &words)?;
-    if is_clang(family) {
-        words.push("-Wno-unused-command-line-argument")?;
-    }
-    Ok(Some(Question {
-        ask: Ask::Flag {
-            cpp: set.cpp,
-            family,
-        },
-        program: Text::of(alloc, path)?,
-        words,
-        vars: flag_vars(alloc, env, family)?,
-    }))
 }
 
 // Whether the compiler of a family at a path takes a flag.
@@ -165,6 +231,15 @@ fn takes<W: World, H: Host<W>>(
     }
 }
 
+fn push_if(words: &mut Words, wanted: bool, word: &str) -> Mem<()>
+    ensures { OnOk result (words.new ≡ words.old ++ when wanted (word.now ∷ [])) }
+{
+    if wanted {
+        words.push(word)?;
+    }
+    Ok(())
+}
+
 // Those of some words that the compiler of a family at a path takes.
 fn taken_among<W: World, H: Host<W>>(
     rt: &impl Wait,
@@ -185,10 +260,70 @@ fn taken_among<W: World, H: Host<W>>(
 {
     let mut taken = Words::new(alloc);
     for word in words.as_slice() {
-        if takes(rt, alloc, set, env, target, family, path, word.as_str(), sight)? {
-            taken.push(word.as_str())?;
-        }
+        let is_taken = takes(
+            rt,
+            alloc,
+            set,
+            env,
+            target,
+            family,
+            path,
+            word.as_str(),
+            sight,
+        )?;
+        push_if(&mut taken, is_taken, word.as_str())?;
     }
+    Ok(taken)
+}
+
+/// The family that a question on a flag is asked with: that of the path alone.
+pub(crate) fn bare_family<W: World, H: Host<W>>(
+    rt: &impl Wait,
+    alloc: Global,
+    set: &BuildConfig,
+    env: &BuildEnv,
+    path: &str,
+    sight: &mut Sight<'_, W, H>,
+) -> Mem<ToolFamily>
+    ensures same_host { sight.new.host.ghost_name ≡ sight.old.host.ghost_name }
+    ensures same_answers { sight.new.answers.ghost_name ≡ sight.old.answers.ghost_name }
+    ensures asks { Asks W.steady W.answer (probe_folder set.now env.now) (H.log sight.old.host.now) (H.log sight.new.host.now) sight.old.answers.now sight.new.answers.now }
+    ensures settles { IfOk result (Settles sight.new.answers.now (spec.bare_family env.now path.now)) }
+{
+    let none = Words::new(alloc);
+    let (family, _) = ask_family(
+        rt,
+        alloc,
+        sight.host,
+        sight.caches,
+        sight.answers,
+        path,
+        &none,
+        env,
+        probe_folder(set, env),
+    )?;
+    Ok(family)
+}
+
+// Those of some words that the compiler at a path takes.
+fn supported_among<W: World, H: Host<W>>(
+    rt: &impl Wait,
+    alloc: Global,
+    set: &BuildConfig,
+    env: &BuildEnv,
+    target: &TargetInfo,
+    path: &str,
+    words: &Words,
+    sight: &mut Sight<'_, W, H>,
+) -> Mem<Words>
+    requires { info_seen target.now ≡ target_info set.now env.now }
+    ensures same_host { sight.new.host.ghost_name ≡ sight.old.host.ghost_name }
+    ensures same_answers { sight.new.answers.ghost_name ≡ sight.old.answers.ghost_name }
+    ensures asks { Asks W.steady W.answer (probe_folder set.now env.now) (H.log sight.old.host.now) (H.log sight.new.host.now) sight.old.answers.now sight.new.answers.now }
+    ensures settles { IfOk result (Settles sight.new.answers.now (spec.supported_among set.now env.now path.now words.now)) }
+{
+    let family = bare_family(rt, alloc, set, env, path, sight)?;
+    let taken = taken_among(rt, alloc, set, env, target, family, path, words, sight)?;
     Ok(taken)
 }
 
@@ -220,16 +355,5 @@ pub(crate) fn supported_words<W: World, H: Host<W>>(
         return Ok(words);
     }
     let path = compiler.choice.path.as_str();
-    let (family, _) = ask_family(
-        rt,
-        alloc,
-        sight.host,
-        sight.caches,
-        sight.answers,
-        path,
-        &Words::new(alloc),
-        env,
-        probe_folder(set, env),
-    )?;
-    taken_among(rt, alloc, set, env, target, family, path, &words, sight)
+    supported_among(rt, alloc, set, env, target, path, &words, sight)
 }

@@ -1,5 +1,6 @@
 // The tool of a compile command: the compiler with the words and variables that all sources share.
-ghost use Rattle.std.specs.Prelude.{◌≡◌, ◌++◌, ◌∷◌, [], IfOk, IfErr, OnOk, ◌⊎◌, Some, None, ℕ};
+ghost use Rattle.std.specs.Prelude.{◌≡◌, ◌++◌, ◌∷◌, [], ◌&&◌, ◌||◌, IfOk, IfErr, OnOk, ◌⊎◌, Some, None, ℕ, codes};
+ghost use Rattle.cc_text.specs.Words.{when};
 ghost use Rattle.std.specs.Option.{option_copied};
 ghost use Rattle.cc_host.specs.Question.{Settles};
 ghost use Rattle.cc_host.specs.declared.event.HostCall.TheVariants.{Print};
@@ -12,8 +13,7 @@ ghost use Rattle.cc_plan.specs.Plan.{tool_lines, wanted_lines as lines_of};
 ghost use Rattle.cc_plan.specs.Refusal.{unset, target_refusal, platform_refusal, given_refusal, refusal_by, tool_refusal};
 ghost use Rattle.cc_plan.specs.Target.{target_name, target_info};
 ghost use Rattle.cc_plan.specs.Planned.{warnings_of, tool_of};
-ghost use Rattle.cc_plan.specs.Support.{supported_by};
-ghost use Rattle.cc_plan.specs.Tool.{language_variable, gnu_warnings, lacks_by, words_by, words_refusal_by, warnings_by, wrapped_tool, tool_by};
+ghost use Rattle.cc_plan.specs.Tool.{language_variable, gnu_warnings, lacks_by, other_warnings, words_by, words_refusal_by, warnings_by, wrapped_tool, tool_by};
 ghost use Rattle.cc_text.specs.Quoted.{quoted as quoted_path};
 ghost use Rattle.cc_tool.specs.Family.{detection_warnings};
 ghost use Rattle.cc_plan.specs.declared.error.PlanError.TheVariants.{NoMemory as WantsMemory, NotSet, Host as HostFault};
@@ -22,8 +22,9 @@ use crate::compiler::{Compiler, compiler_of};
 use crate::given::{
     environment_flags, has_no_defaults, host_of, is_cargos_target, level_of, target_of,
 };
-use crate::printing::{print_warnings, wanted_lines};
 use crate::inherited::{inherited_words, push_lost};
+use crate::link_warning::{is_told, leaves_off};
+use crate::printing::{print_warnings, wanted_lines};
 use crate::support::supported_words;
 use crate::words::{
     cargo_maps, check_words, is_cl, is_gnu, push_map_lacks, set_maps, tool_warnings, tool_words,
@@ -33,7 +34,7 @@ use cc_env::BuildEnv;
 use cc_host::{Host, World};
 use cc_target::TargetInfo;
 use cc_text::{Mem, Text, ToolFamily, Words, quoted};
-use cc_tool::{Detected, Tool};
+use cc_tool::{Caches, Detected, Tool};
 use std::alloc::Global;
 use std::sync::Wait;
 
@@ -42,6 +43,13 @@ use std::sync::Wait;
 pub(crate) struct ToolPlan {
     pub target: TargetInfo,
     pub tool: Tool,
+    pub warned: Warned,
+}
+
+/// Warnings, and whether the call is the one of its caches that is told of flags for the linker.
+#[derive(Drop, Debug)]
+pub(crate) struct Warned {
+    pub told: bool,
     pub warnings: Words,
 }
 
@@ -67,7 +75,11 @@ fn demand<'a>(alloc: Global, name: &str, value: Option<&'a str>) -> Result<&'a s
 }
 
 // What is known of the target, which is set and known.
-fn known_target(alloc: Global, set: &BuildConfig, env: &BuildEnv) -> Result<TargetInfo, PlanError>
+pub(crate) fn known_target(
+    alloc: Global,
+    set: &BuildConfig,
+    env: &BuildEnv,
+) -> Result<TargetInfo, PlanError>
     ensures info { IfOk result (λ target. info_seen target ≡ target_info set.now env.now) }
     ensures allowed { OnOk result (target_refusal (target_of set.now env.now) ≡ None) }
     ensures refused { IfErr result (λ e. (e ≡ WantsMemory) ⊎ (target_refusal (target_of set.now env.now) ≡ Some e)) }
@@ -176,7 +188,7 @@ pub(crate) fn check_words_by(
 
 // Whether a compiler has words, and the host is set too.
 #[tactic(auto, unfolding(crate::specs::Refusal::refusal_by))]
-fn check_compiler(
+pub(crate) fn check_compiler(
     alloc: Global,
     set: &BuildConfig,
     env: &BuildEnv,
@@ -256,7 +268,7 @@ fn tool_by(
 
 // GCC was found for a target of the Visual Studio tools.
 #[tactic(auto, unfolding(crate::specs::Tool::gnu_warnings))]
-fn push_gnu_warning(
+pub(crate) fn push_gnu_warning(
     warnings: &mut Words,
     set: &BuildConfig,
     target: &TargetInfo,
@@ -271,7 +283,7 @@ fn push_gnu_warning(
 }
 
 // How the family of the compiler was found, where a user is warned of it.
-fn detection_warnings(alloc: Global, compiler: &Compiler) -> Mem<Words>
+pub(crate) fn detection_warnings(alloc: Global, compiler: &Compiler) -> Mem<Words>
     ensures { IfOk result (λ warnings. warnings ≡ detection_warnings compiler.now.detected (quoted_path compiler.now.choice.path)) }
 {
     let mut warnings = Words::new(alloc);
@@ -312,8 +324,24 @@ fn push_lacks(
     push_map_lacks(warnings, alloc, path, family, supported, own)
 }
 
-// What a user is warned of.
-fn warnings_by(
+// Flags are left off, and a user is told of it.
+#[tactic(auto, unfolding(crate::specs::Tool::link_warnings))]
+fn push_link_warning(
+    warnings: &mut Words,
+    set: &BuildConfig,
+    leaves_off: bool,
+    told: bool,
+) -> Mem<()>
+    ensures { OnOk result (warnings.new ≡ warnings.old ++ when (leaves_off && (set.now.repeat_lines || told)) (codes "Ignoring linker flags after /link" ∷ [])) }
+{
+    if leaves_off && (set.repeat_lines || told) {
+        warnings.push("Ignoring linker flags after /link")?;
+    }
+    Ok(())
+}
+
+// What a user is warned of, but for flags that are left off.
+fn other_warnings(
     alloc: Global,
     set: &BuildConfig,
     env: &BuildEnv,
@@ -322,13 +350,36 @@ fn warnings_by(
     supported: &[Text],
 ) -> Mem<Words>
     requires { info_seen target.now ≡ target_info set.now env.now }
-    ensures { IfOk result (λ warnings. warnings ≡ warnings_by set.now env.now compiler.now supported.now) }
+    ensures { IfOk result (λ warnings. warnings ≡ other_warnings set.now env.now compiler.now supported.now) }
 {
     let mut warnings = detection_warnings(alloc, compiler)?;
     push_gnu_warning(&mut warnings, set, target, compiler.family)?;
-    warnings.append(tool_warnings(alloc, has_no_defaults(set, env), set, compiler.family)?)?;
+    let own = tool_warnings(alloc, has_no_defaults(set, env), set, compiler.family)?;
+    warnings.append(own)?;
     push_lacks(&mut warnings, alloc, set, env, target, compiler, supported)?;
     Ok(warnings)
+}
+
+// What a user is warned of.
+#[tactic(auto, unfolding(crate::specs::Tool::link_warnings))]
+fn warnings_by<W: World>(
+    rt: &impl Wait,
+    alloc: Global,
+    caches: &Caches<W>,
+    set: &BuildConfig,
+    env: &BuildEnv,
+    target: &TargetInfo,
+    compiler: &Compiler,
+    supported: &[Text],
+) -> Mem<Warned>
+    requires { info_seen target.now ≡ target_info set.now env.now }
+    ensures { IfOk result (λ warned. warned.warnings ≡ warnings_by set.now env.now compiler.now supported.now warned.told) }
+{
+    let mut warnings = other_warnings(alloc, set, env, target, compiler, supported)?;
+    let leaves_off = leaves_off(alloc, set, env, compiler.family)?;
+    let told = is_told(rt, caches, set, leaves_off);
+    push_link_warning(&mut warnings, set, leaves_off, told)?;
+    Ok(Warned { told, warnings })
 }
 
 /// The tool of these settings in this environment, with its target and its warnings. It asks, and prints nothing.
@@ -344,7 +395,7 @@ pub(crate) fn plan_tool<W: World, H: Host<W>>(
     ensures asks { Asks W.steady W.answer (probe_folder set.now env.now) (H.log sight.old.host.now) (H.log sight.new.host.now) sight.old.answers.now sight.new.answers.now }
     ensures info { IfOk result (λ plan. info_seen plan.target ≡ target_info set.now env.now) }
     ensures tool { IfOk result (λ plan. Settles sight.new.answers.now (tool_of set.now env.now) plan.tool) }
-    ensures warnings { IfOk result (λ plan. Settles sight.new.answers.now (warnings_of set.now env.now) plan.warnings) }
+    ensures warnings { IfOk result (λ plan. Settles sight.new.answers.now (warnings_of set.now env.now plan.warned.told) plan.warned.warnings) }
     ensures allowed { OnOk result (Settles sight.new.answers.now (tool_refusal set.now env.now) None) }
     ensures refused { IfErr result (λ e. (e ≡ WantsMemory) ⊎ Settles sight.new.answers.now (tool_refusal set.now env.now) (Some e)) }
     ensures own { IfErr result IsOwn }
@@ -355,11 +406,20 @@ pub(crate) fn plan_tool<W: World, H: Host<W>>(
     let supported = supported_words(rt, alloc, set, env, &target, &compiler, sight)?;
     let supported = supported.as_slice();
     let tool = tool_by(alloc, set, env, &target, &compiler, supported)?;
-    let warnings = warnings_by(alloc, set, env, &target, &compiler, supported)?;
+    let warned = warnings_by(
+        rt,
+        alloc,
+        sight.caches,
+        set,
+        env,
+        &target,
+        &compiler,
+        supported,
+    )?;
     Ok(ToolPlan {
         target,
         tool,
-        warnings,
+        warned,
     })
 }
 
@@ -382,7 +442,7 @@ pub fn tool_of<W: World, H: Host<W>>(
     ensures refused { IfErr result (λ e. (e ≡ WantsMemory) ⊎ (((why : Why) × (e ≡ HostFault Print why)) ⊎ Settles sight.new.answers.now (tool_refusal set.now env.now) (Some e))) }
 {
     let plan = plan_tool(rt, alloc, set, env, sight)?;
-    let lines = wanted_lines(alloc, set, &plan.warnings)?;
+    let lines = wanted_lines(alloc, set, &plan.warned.warnings)?;
     print_warnings(alloc, sight.host, &lines)?;
     Ok(plan.tool)
 }

@@ -2,6 +2,7 @@
 ghost use Rattle.std.specs.Prelude.{◌≡◌, ◌++◌, OnOk};
 ghost use Rattle.std.specs.Option.{option_copied};
 ghost use Rattle.cc_target.specs.Targets.{info_seen};
+ghost use Rattle.cc_text.specs.Words.{when};
 ghost use Rattle.cc_plan.specs.DebugWords as spec;
 
 use crate::words::family::{is_clang, is_gnu_like, is_visual_studio};
@@ -31,10 +32,7 @@ pub(crate) fn has_debug(debug: Option<&str>) -> bool
 fn is_limited(text: &str) -> bool
     ensures { result ≡ spec.is_limited text.now }
 {
-    text == "1"
-        || text == "limited"
-        || text == "line-tables-only"
-        || text == "line-directives-only"
+    text == "1" || text == "limited" || text == "line-tables-only" || text == "line-directives-only"
 }
 
 // How much debug information is wanted.
@@ -127,6 +125,26 @@ pub(crate) fn keeps_frame_pointers(
     is_gnu_like(family) && force.unwrap_or(has_debug(debug))
 }
 
+// The word for leaves, where it is wanted.
+pub(super) fn push_leaf_word(words: &mut Words, wanted: bool) -> Mem<()>
+    ensures { OnOk result (words.new ≡ words.old ++ when wanted spec.leaf_word) }
+{
+    if wanted {
+        words.push("-mno-omit-leaf-frame-pointer")?;
+    }
+    Ok(())
+}
+
+// The words that keep frame pointers.
+#[tactic(auto, unfolding(crate::specs::DebugWords::kept_words))]
+fn push_kept_words(words: &mut Words, takes_leaf: bool) -> Mem<()>
+    ensures { OnOk result (words.new ≡ words.old ++ spec.kept_words takes_leaf) }
+{
+    words.push("-fno-omit-frame-pointer")?;
+    push_leaf_word(words, takes_leaf)?;
+    Ok(())
+}
+
 // Frame pointers, where they are kept; `takes_leaf` tells whether the compiler takes the word for leaves.
 #[tactic(auto, unfolding(crate::specs::DebugWords::frame_pointer_words))]
 pub(super) fn push_frame_pointer_words(
@@ -139,10 +157,7 @@ pub(super) fn push_frame_pointer_words(
     ensures { OnOk result (words.new ≡ words.old ++ spec.frame_pointer_words family force (option_copied debug.entry) takes_leaf) }
 {
     if keeps_frame_pointers(family, force, debug) {
-        words.push("-fno-omit-frame-pointer")?;
-        if takes_leaf {
-            words.push("-mno-omit-leaf-frame-pointer")?;
-        }
+        push_kept_words(words, takes_leaf)?;
     }
     Ok(())
 }

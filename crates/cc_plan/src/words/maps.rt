@@ -1,7 +1,8 @@
 // The words that map the folders of sources to others, in what macros and debug information tell.
-ghost use Rattle.std.specs.Prelude.{◌≡◌, ◌++◌, ◌==◌, ◌∷◌, [], filter, IfOk, OnOk};
+ghost use Rattle.std.specs.Prelude.{◌≡◌, ◌++◌, map, IfOk, OnOk};
 ghost use Rattle.std.specs.List.{list_any};
 ghost use Rattle.std.specs.Option.{option_copied};
+ghost use Rattle.cc_text.specs.Words.{texts};
 ghost use Rattle.cc_plan.specs.MapWords as spec;
 
 use crate::words::family::{is_cl, is_clang_cl};
@@ -114,14 +115,28 @@ fn is_macro_scope(scope: &str) -> bool
     is_object_scope(scope) || scope == "macro"
 }
 
+// One of the scopes between commas has macros.
+fn has_macro_scope(scopes: &str) -> bool
+    ensures { result ≡ list_any spec.is_macro_scope (spec.scopes_of scopes.now) }
+{
+    scopes.split(',').any(|scope| is_macro_scope(scope))
+}
+
+// One of the scopes between commas has debug information.
+fn has_object_scope(scopes: &str) -> bool
+    ensures { result ≡ list_any spec.is_object_scope (spec.scopes_of scopes.now) }
+{
+    scopes.split(',').any(|scope| is_object_scope(scope))
+}
+
 // What these scopes want.
 #[tactic(auto, unfolding(crate::specs::MapWords::scope_maps))]
 fn scope_maps(scopes: &str) -> Maps
     ensures { result ≡ spec.scope_maps scopes.now }
 {
     Maps {
-        macros: scopes.split(',').any(|scope| is_macro_scope(scope)),
-        debug: scopes.split(',').any(|scope| is_object_scope(scope)),
+        macros: has_macro_scope(scopes),
+        debug: has_object_scope(scopes),
     }
 }
 
@@ -141,13 +156,22 @@ pub(crate) fn trim_maps(
     }
 }
 
+// The parts between colons.
+fn colon_parts(alloc: Global, remap: &str) -> Mem<Vec<&str>>
+    ensures { IfOk result (λ parts. texts parts.items ≡ spec.colon_parts remap.now) }
+{
+    let parts = remap.split(':').collect(alloc)?;
+    Ok(parts)
+}
+
 /// The pairs that Cargo trims paths by.
 #[tactic(auto, unfolding(crate::specs::MapWords::trim_pairs))]
 pub(crate) fn trim_pairs(alloc: Global, remap: &str) -> Mem<Words>
     ensures { IfOk result (λ pairs. pairs ≡ spec.trim_pairs remap.now) }
 {
     let mut pairs = Words::new(alloc);
-    for pair in remap.split(':') {
+    let parts = colon_parts(alloc, remap)?;
+    for pair in &parts {
         if !pair.is_empty() {
             pairs.push(pair)?;
         }
@@ -259,5 +283,6 @@ pub(crate) fn push_map_lacks(
     let macros = macro_map(alloc, family)?;
     push_lack(warnings, alloc, path, supported, maps.macros, macros)?;
     let debug = debug_map(alloc, family)?;
-    push_lack(warnings, alloc, path, supported, maps.debug, debug)
+    push_lack(warnings, alloc, path, supported, maps.debug, debug)?;
+    Ok(())
 }

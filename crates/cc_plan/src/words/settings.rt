@@ -1,5 +1,6 @@
 // The words that settings bring, whatever the target, a function a group.
-ghost use Rattle.std.specs.Prelude.{◌≡◌, ◌++◌, [], ◌∷◌, OnOk};
+ghost use Rattle.std.specs.Prelude.{◌≡◌, ◌++◌, ◌≤◌, [], ◌∷◌, length, OnOk, IfSome};
+ghost use Rattle.std.specs.List.{position};
 ghost use Rattle.std.specs.Option.{option_copied};
 ghost use Rattle.cc_plan.specs.SettingWords as spec;
 
@@ -122,7 +123,7 @@ pub(crate) fn is_link(text: &str) -> bool
     text == "/link" || text == "-link"
 }
 
-fn is_link_flag(flag: &BuildFlag) -> bool
+pub(crate) fn is_link_flag(flag: &BuildFlag) -> bool
     ensures { result ≡ spec.is_link_flag flag.now }
 {
     match flag {
@@ -153,6 +154,24 @@ fn push_flag(words: &mut Words, supported: &[Text], flag: &BuildFlag) -> Mem<()>
     Ok(())
 }
 
+// The place of the first flag that is for the linker.
+fn link_flag_place(flags: &[BuildFlag]) -> Option<usize>
+    ensures place { result ≡ position spec.is_link_flag flags.now }
+    ensures within { IfSome result (λ place. place ≤ length flags.now) }
+{
+    flags.iter().position(|flag| is_link_flag(flag))
+}
+
+// The flags before those that are for the linker.
+fn flags_before_link(flags: &[BuildFlag]) -> &[BuildFlag]
+    ensures { result.now ≡ spec.before spec.is_link_flag flags.now }
+{
+    match link_flag_place(flags) {
+        Some(place) => &flags[..place],
+        None => flags,
+    }
+}
+
 // The flags that the compiler is given: for Visual Studio those before what is for the linker.
 #[tactic(auto, unfolding(crate::specs::SettingWords::compiler_flags))]
 fn compiler_flags(family: ToolFamily, flags: &[BuildFlag]) -> &[BuildFlag]
@@ -162,15 +181,6 @@ fn compiler_flags(family: ToolFamily, flags: &[BuildFlag]) -> &[BuildFlag]
         flags_before_link(flags)
     } else {
         flags
-    }
-}
-
-fn flags_before_link(flags: &[BuildFlag]) -> &[BuildFlag]
-    ensures { result.now ≡ before is_link_flag flags.now }
-{
-    match flags.iter().position(|flag| is_link_flag(flag)) {
-        Some(place) => &flags[..place],
-        None => flags,
     }
 }
 
@@ -201,11 +211,7 @@ fn push_flag_ask(words: &mut Words, flag: &BuildFlag) -> Mem<()>
 
 // Adds the flags that a compiler is asked about.
 #[tactic(auto, unfolding(crate::specs::SettingWords::flag_asks))]
-pub(super) fn push_flag_asks(
-    words: &mut Words,
-    family: ToolFamily,
-    flags: &[BuildFlag],
-) -> Mem<()>
+pub(super) fn push_flag_asks(words: &mut Words, family: ToolFamily, flags: &[BuildFlag]) -> Mem<()>
     ensures { OnOk result (words.new ≡ words.old ++ spec.flag_asks family flags.now) }
 {
     for flag in compiler_flags(family, flags) {
@@ -242,14 +248,29 @@ pub(super) fn push_definition_words(
     Ok(())
 }
 
-// Adds the words before those that are for the linker.
-fn push_before_link(words: &mut Words, list: &[Text]) -> Mem<()>
-    ensures { OnOk result (words.new ≡ words.old ++ before spec.is_link list.now) }
+// The place of the first word that is for the linker.
+fn link_place(words: &[Text]) -> Option<usize>
+    ensures place { result ≡ position spec.is_link words.now }
+    ensures within { IfSome result (λ place. place ≤ length words.now) }
 {
-    for word in list {
-        if is_link(word.as_str()) {
-            return Ok(());
-        }
+    words.iter().position(|word| is_link(word.as_str()))
+}
+
+// The words before those that are for the linker.
+fn words_before_link(words: &[Text]) -> &[Text]
+    ensures { result.now ≡ spec.before spec.is_link words.now }
+{
+    match link_place(words) {
+        Some(place) => &words[..place],
+        None => words,
+    }
+}
+
+// Adds them.
+fn push_before_link(words: &mut Words, list: &[Text]) -> Mem<()>
+    ensures { OnOk result (words.new ≡ words.old ++ spec.before spec.is_link list.now) }
+{
+    for word in words_before_link(list) {
         words.push(word.as_str())?;
     }
     Ok(())

@@ -3,16 +3,20 @@ ghost use Rattle.std.specs.Prelude.{◌≡◌, ◌++◌, ◌⊎◌, IfOk, IfErr,
 ghost use Rattle.std.specs.Option.{option_copied};
 ghost use Rattle.cc_target.specs.Targets.{info_seen};
 ghost use Rattle.cc_plan.specs.DefaultWords.{qnx_refusal};
+ghost use Rattle.cc_plan.specs.GnuWords.{processor_words};
+ghost use Rattle.cc_plan.specs.Inherited.{inherited_cpu};
 ghost use Rattle.cc_plan.specs.ToolWords as spec;
 ghost use Rattle.cc_plan.specs.declared.error.PlanError.TheVariants.{NoMemory as WantsMemory};
 
+use crate::inherited::{check_inherited, inherited_flags, inherited_words, push_taken};
+use crate::words::debug::{
+    keeps_frame_pointers, push_debug_words, push_frame_pointer_words, push_leaf_word,
+};
 use crate::words::defaults::{
     is_told_target, is_wasm_linux, lacks_qnx_variant, push_clang_target_words, push_linkage_words,
     push_optimisation_words, push_position_independence_words, push_qnx_words,
     push_sanitizer_words, push_standard_library_words, push_wasi_words, push_width_words,
 };
-use crate::inherited::{check_inherited, inherited_flags, inherited_words, push_taken};
-use crate::words::debug::{keeps_frame_pointers, push_debug_words, push_frame_pointer_words};
 use crate::words::family::{is_gnu, is_gnu_like, is_visual_studio};
 use crate::words::gnu::{
     push_bare_and_arm_words, push_gnu_words, push_processor_words, push_riscv_words,
@@ -21,9 +25,9 @@ use crate::words::maps::{
     cargo_maps, push_map_asks, push_pairs_words, remap_pairs, set_maps, taken_maps, trim_pairs,
 };
 use crate::words::settings::{
-    is_among, push_flag_asks,
-    push_definition_words, push_environment_words, push_error_words, push_extra_warning_words,
-    push_flag_words, push_include_words, push_standard_words, push_warning_words,
+    is_among, push_definition_words, push_environment_words, push_error_words,
+    push_extra_warning_words, push_flag_asks, push_flag_words, push_include_words,
+    push_standard_words, push_warning_words,
 };
 use crate::words::texts::{has, lent, value_or_empty};
 use crate::words::visual_studio::{push_visual_studio_target_words, push_visual_studio_words};
@@ -105,6 +109,7 @@ fn push_clang_words(
 }
 
 // The words for the processor, which the flags of Rust code may name.
+#[tactic(auto, unfolding(crate::specs::Inherited::inherited_cpu))]
 fn push_wanted_processor(
     words: &mut Words,
     alloc: Global,
@@ -115,9 +120,10 @@ fn push_wanted_processor(
     ensures { OnOk result (words.new ≡ words.old ++ processor_words (info_seen target.now) (inherited_cpu inherits env.now)) }
 {
     match inherited_flags(alloc, inherits, env)? {
-        Some(flags) => push_processor_words(words, target, flags.target_cpu()),
-        None => push_processor_words(words, target, None),
+        Some(flags) => push_processor_words(words, target, flags.target_cpu())?,
+        None => push_processor_words(words, target, None)?,
     }
+    Ok(())
 }
 
 // What GCC alone takes.
@@ -215,9 +221,15 @@ fn push_trim_words(
 ) -> Mem<()>
     ensures { OnOk result (words.new ≡ words.old ++ spec.trim_words set.now env.now family supported.now) }
 {
-    let maps = taken_maps(alloc, family, supported, cargo_maps(set.inherit_trim_paths, env, family))?;
+    let maps = taken_maps(
+        alloc,
+        family,
+        supported,
+        cargo_maps(set.inherit_trim_paths, env, family),
+    )?;
     let pairs = trim_pairs(alloc, value_or_empty(env, "CARGO_TRIM_PATHS_REMAP"))?;
-    push_pairs_words(words, alloc, family, maps, &pairs)
+    push_pairs_words(words, alloc, family, maps, &pairs)?;
+    Ok(())
 }
 
 // What the settings want told as others.
@@ -231,9 +243,15 @@ fn push_remap_words(
 ) -> Mem<()>
     ensures { OnOk result (words.new ≡ words.old ++ spec.remap_words set.now family supported.now) }
 {
-    let maps = taken_maps(alloc, family, supported, set_maps(family, &set.remap_source_paths))?;
+    let maps = taken_maps(
+        alloc,
+        family,
+        supported,
+        set_maps(family, &set.remap_source_paths),
+    )?;
     let pairs = remap_pairs(alloc, &set.remap_source_paths)?;
-    push_pairs_words(words, alloc, family, maps, &pairs)
+    push_pairs_words(words, alloc, family, maps, &pairs)?;
+    Ok(())
 }
 
 // What is handed down.
@@ -318,9 +336,8 @@ fn push_leaf_ask(
     ensures { OnOk result (words.new ≡ words.old ++ spec.leaf_ask no_defaults set.now env.now family) }
 {
     let debug = debug_of(&set.debug, env);
-    if !no_defaults && keeps_frame_pointers(family, set.force_frame_pointer, debug) {
-        words.push("-mno-omit-leaf-frame-pointer")?;
-    }
+    let keeps = keeps_frame_pointers(family, set.force_frame_pointer, debug);
+    push_leaf_word(words, !no_defaults && keeps)?;
     Ok(())
 }
 
@@ -338,9 +355,20 @@ pub(crate) fn asked_words(
 {
     let mut words = Words::new(alloc);
     push_leaf_ask(&mut words, no_defaults, set, env, family)?;
-    words.append(inherited_words(alloc, set.inherit_rustflags, env, family, target)?)?;
-    push_map_asks(&mut words, alloc, family, cargo_maps(set.inherit_trim_paths, env, family))?;
-    push_map_asks(&mut words, alloc, family, set_maps(family, &set.remap_source_paths))?;
+    let inherited = inherited_words(alloc, set.inherit_rustflags, env, family, target)?;
+    words.append(inherited)?;
+    push_map_asks(
+        &mut words,
+        alloc,
+        family,
+        cargo_maps(set.inherit_trim_paths, env, family),
+    )?;
+    push_map_asks(
+        &mut words,
+        alloc,
+        family,
+        set_maps(family, &set.remap_source_paths),
+    )?;
     push_flag_asks(&mut words, family, set.flags.as_slice())?;
     Ok(words)
 }

@@ -1,4 +1,4 @@
-use Rattle.std.proofs.Common.{◌++◌, ap}
+use Rattle.std.proofs.Common.{◌++◌, false, ap}
 use Rattle.std.proofs.lemmas.Result.{err_from_is_err_and}
 use Rattle.cc_host.specs.Part.{since}
 use Rattle.cc_plan.specs.Plan.{folder_steps, late_steps, planned_steps}
@@ -14,29 +14,37 @@ use Rattle.cc_build.proofs.compiling.compile.Goals as goal
 
 pub returns-in-Err-clause-outcome : goal.returns-in-Err-clause-outcome
 returns-in-Err-clause-outcome g c = record {
-  under = λ look agree.
-      refused_none (refusal_error c.args.set.now c.args.env.now look c.args.output.now) (planned_steps c.args.set.now c.args.env.now look c.args.output.now) (since (g.H.Host.log c.args.host.now) (g.H.Host.log c.args.host.now)) c.or_no_memory.result (since_none (g.H.Host.log c.args.host.now))
-      (early_first c.args.set.now c.args.env.now look c.args.output.now c.or_no_memory.result
-      (plan_cause c.args.set.now c.args.env.now c.args.output.now c.in-Err.error c.or_no_memory.result (early_refusal c.args.set.now c.args.env.now c.args.output.now) (told c.plan_error.result c.or_no_memory.result _ c.or_no_memory.ensures c.plan_error.ensures) c.in-Err.ensures.refused));
+  under = λ look agree. (
+    false,
+    refused_none (refusal_error c.args.set.now c.args.env.now look c.args.output.now) (planned_steps c.args.set.now c.args.env.now false look c.args.output.now) (since (g.H.Host.log c.args.host.now) (g.H.Host.log c.args.host.now)) c.or_no_memory.result (since_none (g.H.Host.log c.args.host.now))
+        (early_first c.args.set.now c.args.env.now look c.args.output.now c.or_no_memory.result
+        (plan_cause c.args.set.now c.args.env.now c.args.output.now c.in-Err.error c.or_no_memory.result (early_refusal c.args.set.now c.args.env.now c.args.output.now) (told c.plan_error.result c.or_no_memory.result _ c.or_no_memory.ensures c.plan_error.ensures) c.in-Err.ensures.refused)),
+  );
 }
 
 pub returns-in_err-prepare_folder-clause-outcome : goal.returns-in_err-prepare_folder-clause-outcome
 returns-in_err-prepare_folder-clause-outcome g c =
     let p = err_from_is_err_and c.from_residual.result c.from_residual.ensures.1 in
     rw (p.1, p.2) (record {
-      under = λ look agree. refused_renamed (refusal_error c.args.set.now c.args.env.now look c.args.output.now) (folder_steps c.args.set.now c.args.env.now ++ late_steps c.args.set.now c.args.env.now look c.args.output.now) (planned_steps c.args.set.now c.args.env.now look c.args.output.now) (since (g.H.Host.log c.args.host.now) (g.H.Host.log c.prepare_folder.new.host)) c.in_err-prepare_folder.field-0.0
-          (early_passed c.args.set.now c.args.env.now look c.args.output.now c.in-Ok.ensures.allowed)
-          (refused_more (refusal_error c.args.set.now c.args.env.now look c.args.output.now) (folder_steps c.args.set.now c.args.env.now) (late_steps c.args.set.now c.args.env.now look c.args.output.now) _ c.in_err-prepare_folder.field-0.0 c.in_err-prepare_folder.ensures.outcome);
+      under = λ look agree. (
+        false,
+        refused_renamed (refusal_error c.args.set.now c.args.env.now look c.args.output.now) (folder_steps c.args.set.now c.args.env.now ++ late_steps c.args.set.now c.args.env.now false look c.args.output.now) (planned_steps c.args.set.now c.args.env.now false look c.args.output.now) (since (g.H.Host.log c.args.host.now) (g.H.Host.log c.prepare_folder.new.host)) c.in_err-prepare_folder.field-0.0
+            (early_passed c.args.set.now c.args.env.now false look c.args.output.now c.in-Ok.ensures.allowed)
+            (refused_more (refusal_error c.args.set.now c.args.env.now look c.args.output.now) (folder_steps c.args.set.now c.args.env.now) (late_steps c.args.set.now c.args.env.now false look c.args.output.now) _ c.in_err-prepare_folder.field-0.0 c.in_err-prepare_folder.ensures.outcome),
+      );
     })
 
 pub returns-clause-outcome : goal.returns-clause-outcome
 returns-clause-outcome g c = record {
   under = λ look agree.
-      renamed (late_error c.args.set.now c.args.env.now look c.args.output.now) (refusal_error c.args.set.now c.args.env.now look c.args.output.now) (folder_steps c.args.set.now c.args.env.now ++ late_steps c.args.set.now c.args.env.now look c.args.output.now) (planned_steps c.args.set.now c.args.env.now look c.args.output.now) (since (g.H.Host.log c.args.host.now) (g.H.Host.log c.compile_sources.new.host)) c.compile_sources.result
-      (late_decides c.args.set.now c.args.env.now look c.args.output.now c.in-Ok.ensures.allowed) (early_passed c.args.set.now c.args.env.now look c.args.output.now c.in-Ok.ensures.allowed)
-      (outcome_from (late_error c.args.set.now c.args.env.now look c.args.output.now) (g.H.Host.log c.args.host.now) (g.H.Host.log c.prepare_folder.new.host) (g.H.Host.log c.compile_sources.new.host) (folder_steps c.args.set.now c.args.env.now) (late_steps c.args.set.now c.args.env.now look c.args.output.now) c.compile_sources.result
-      c.prepare_folder.ensures.extends c.compile_sources.ensures.extends c.in_ok-prepare_folder.ensures.outcome.1
-      (c.compile_sources.ensures.outcome.under look (agrees_since look (g.H.Host.log c.args.host.now) (g.H.Host.log c.prepare_folder.new.host) (g.H.Host.log c.compile_sources.new.host) c.prepare_folder.ensures.extends c.compile_sources.ensures.extends agree).1));
+      let run = c.compile_sources.ensures.outcome.under look (agrees_since look (g.H.Host.log c.args.host.now) (g.H.Host.log c.prepare_folder.new.host) (g.H.Host.log c.compile_sources.new.host) c.prepare_folder.ensures.extends c.compile_sources.ensures.extends agree).1 in (
+        run.0,
+        renamed (late_error c.args.set.now c.args.env.now look c.args.output.now) (refusal_error c.args.set.now c.args.env.now look c.args.output.now) (folder_steps c.args.set.now c.args.env.now ++ late_steps c.args.set.now c.args.env.now run.0 look c.args.output.now) (planned_steps c.args.set.now c.args.env.now run.0 look c.args.output.now) (since (g.H.Host.log c.args.host.now) (g.H.Host.log c.compile_sources.new.host)) c.compile_sources.result
+            (late_decides c.args.set.now c.args.env.now look c.args.output.now c.in-Ok.ensures.allowed) (early_passed c.args.set.now c.args.env.now run.0 look c.args.output.now c.in-Ok.ensures.allowed)
+            (outcome_from (late_error c.args.set.now c.args.env.now look c.args.output.now) (g.H.Host.log c.args.host.now) (g.H.Host.log c.prepare_folder.new.host) (g.H.Host.log c.compile_sources.new.host) (folder_steps c.args.set.now c.args.env.now) (late_steps c.args.set.now c.args.env.now run.0 look c.args.output.now) c.compile_sources.result
+            c.prepare_folder.ensures.extends c.compile_sources.ensures.extends c.in_ok-prepare_folder.ensures.outcome.1
+            run.1),
+      );
 }
 
 pub returns-in-Err-clause-asked : goal.returns-in-Err-clause-asked

@@ -1,4 +1,9 @@
-use Rattle.std.proofs.Common.{rules, ◌≡◌, Err}
+use Rattle.std.proofs.Common.{rules, ◌≡◌, Err, sym, ap, ◌∙◌}
+use Rattle.cc_tool.proofs.AskLemmas.{asks_then, asks_grows}
+use Rattle.cc_tool.proofs.SettleLemmas.{settles_on, settles_two}
+use Rattle.cc_plan.specs.Support.{supported_by}
+use Rattle.cc_plan.specs.Tool.{tool_by, warnings_by}
+use Rattle.cc_plan.proofs.ResultLemmas.{allowed_by}
 use Rattle.cc_plan.proofs.OwnLemmas.{given_is_own, built_is_own}
 use Rattle.cc_plan.proofs.tool.plan_tool.Goals as goal
 
@@ -7,7 +12,39 @@ returns-in_err-target-clause-own g c =
     let r : c.from_residual.result ≡ Err c.in_err-target.field-0.0 = search rules in
     rw r (given_is_own c.args.set.now c.args.env.now c.in_err-target.field-0.0 c.in_err-target.ensures.refused)
 
-pub returns-in_err-tool-clause-own : goal.returns-in_err-tool-clause-own
-returns-in_err-tool-clause-own g c =
-    let r : c.from_residual-in_err-tool.result ≡ Err c.in_err-tool.field-0.0 = search rules in
-    rw r (built_is_own c.args.set.now c.args.env.now c.in_ok-compiler.compiler c.in_err-tool.field-0.0 c.in_err-tool.ensures.refused)
+pub returns-in_err-check_compiler-clause-own : goal.returns-in_err-check_compiler-clause-own
+returns-in_err-check_compiler-clause-own g c =
+    let r : c.from_residual-in_err-check_compiler.result ≡ Err c.in_err-check_compiler.field-0.0 = search rules in
+    rw r (built_is_own c.args.set.now c.args.env.now c.in_ok-compiler.compiler c.in_err-check_compiler.field-0.0 c.in_err-check_compiler.ensures.refused)
+
+pub returns-in_err-supported-clause-asks : goal.returns-in_err-supported-clause-asks
+returns-in_err-supported-clause-asks g c = asks_then c.compiler_of.ensures.asks c.supported_words.ensures.asks
+
+pub returns-in_err-tool-clause-asks : goal.returns-in_err-tool-clause-asks
+returns-in_err-tool-clause-asks g c = asks_then c.compiler_of.ensures.asks c.supported_words.ensures.asks
+
+pub returns-in_err-warned-clause-asks : goal.returns-in_err-warned-clause-asks
+returns-in_err-warned-clause-asks g c = asks_then c.compiler_of.ensures.asks c.supported_words.ensures.asks
+
+pub returns-clause-asks : goal.returns-clause-asks
+returns-clause-asks g c = asks_then c.compiler_of.ensures.asks c.supported_words.ensures.asks
+
+pub returns-clause-tool : goal.returns-clause-tool
+returns-clause-tool g c =
+    settles_two (settles_on (asks_grows c.supported_words.ensures.asks) c.in_ok-compiler.ensures.settles) c.in_ok-supported.ensures.settles
+    (λ look a b.
+    ap (λ k. tool_by c.args.set.now c.args.env.now k (supported_by c.args.set.now c.args.env.now k look)) a
+    ∙ ap (λ s. tool_by c.args.set.now c.args.env.now c.in_ok-compiler.compiler s) (b ∙ sym c.as_slice-supported.ensures)
+    ∙ sym c.in_ok-tool.ensures)
+
+pub returns-clause-warnings : goal.returns-clause-warnings
+returns-clause-warnings g c =
+    settles_two (settles_on (asks_grows c.supported_words.ensures.asks) c.in_ok-compiler.ensures.settles) c.in_ok-supported.ensures.settles
+    (λ look a b.
+    ap (λ k. warnings_by c.args.set.now c.args.env.now k (supported_by c.args.set.now c.args.env.now k look) c.in_ok-warned.warned.told) a
+    ∙ ap (λ s. warnings_by c.args.set.now c.args.env.now c.in_ok-compiler.compiler s c.in_ok-warned.warned.told) (b ∙ sym c.as_slice-supported.ensures)
+    ∙ sym c.in_ok-warned.ensures)
+
+pub returns-clause-allowed : goal.returns-clause-allowed
+returns-clause-allowed g c =
+    allowed_by c.args.set.now c.args.env.now c.in_ok-target.ensures.allowed (settles_on (asks_grows c.supported_words.ensures.asks) c.in_ok-compiler.ensures.settles) c.in_ok-check_compiler.ensures.allowed

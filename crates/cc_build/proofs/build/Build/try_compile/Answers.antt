@@ -1,4 +1,4 @@
-use Rattle.std.proofs.Common.{OnOk, subst}
+use Rattle.std.proofs.Common.{Bool, OnOk, subst}
 use Rattle.cc_host.specs.Part.{since}
 use Rattle.cc_host.specs.Question.{answers, Holds}
 use Rattle.cc_tool.specs.Asked.{Asked}
@@ -18,13 +18,13 @@ pub returns-clause-built : goal.returns-clause-built
 returns-clause-built g c =
     let part = since (g.H.Host.log c.args.host.now) (g.H.Host.log c.compile.new.host) in
     subst (λ (b : BuildSeen). OnOk c.compile.result (Holds (answers part) (λ look. Built b.config b.env look c.args.output.now part))) c.self.view_is
-    (ok_holds _ (answers part) c.compile.result (record { under = λ look agree. built_on_ok c.self.inside.config c.self.inside.env look c.args.output.now part c.compile.result (c.compile.ensures.outcome.under look agree) }))
+    (ok_holds _ (answers part) c.compile.result (record { under = λ look agree. let run = c.compile.ensures.outcome.under look agree in built_on_ok c.self.inside.config c.self.inside.env run.0 look c.args.output.now part c.compile.result run.1 }))
 
 pub returns-clause-order : goal.returns-clause-order
 returns-clause-order g c =
     let part = since (g.H.Host.log c.args.host.now) (g.H.Host.log c.compile.new.host) in
     subst (λ (b : BuildSeen). Holds (answers part) (λ look. ArchivesLast b.config b.env look part)) c.self.view_is
-    (record { under = λ look agree. ordered c.self.inside.config c.self.inside.env look c.args.output.now part c.compile.result (c.compile.ensures.outcome.under look agree) })
+    (record { under = λ look agree. let run = c.compile.ensures.outcome.under look agree in ordered c.self.inside.config c.self.inside.env run.0 look c.args.output.now part c.compile.result run.1 })
 
 pub returns-clause-asked : goal.returns-clause-asked
 returns-clause-asked g c =
@@ -34,4 +34,4 @@ returns-clause-asked g c =
 pub returns-clause-outcome : goal.returns-clause-outcome
 returns-clause-outcome g c =
     let part = since (g.H.Host.log c.args.host.now) (g.H.Host.log c.compile.new.host) in
-    subst (λ (b : BuildSeen). Holds (answers part) (λ look. Outcome (refusal_error b.config b.env look c.args.output.now) (planned_steps b.config b.env look c.args.output.now) part c.compile.result)) c.self.view_is c.compile.ensures.outcome
+    subst (λ (b : BuildSeen). Holds (answers part) (λ look. (told : Bool) × Outcome (refusal_error b.config b.env look c.args.output.now) (planned_steps b.config b.env told look c.args.output.now) part c.compile.result)) c.self.view_is c.compile.ensures.outcome

@@ -1,4 +1,4 @@
-use Rattle.std.proofs.Common.{subst}
+use Rattle.std.proofs.Common.{Bool, subst}
 use Rattle.cc_host.specs.Part.{since}
 use Rattle.cc_host.specs.Question.{answers, Holds}
 use Rattle.cc_build.specs.Build.{BuildSeen}
@@ -9,4 +9,4 @@ use Rattle.cc_build.proofs.build.Build.try_get_compiler.Goals as goal
 pub returns-clause-outcome : goal.returns-clause-outcome
 returns-clause-outcome g c =
     let part = since (g.H.Host.log c.args.host.now) (g.H.Host.log c.compiler.new.host) in
-    subst (λ (b : BuildSeen). Holds (answers part) (λ look. Outcome (tool_error b.config b.env look) (tool_steps b.config b.env look) part c.compiler.result)) c.self.view_is c.compiler.ensures.outcome
+    subst (λ (b : BuildSeen). Holds (answers part) (λ look. (told : Bool) × Outcome (tool_error b.config b.env look) (tool_steps b.config b.env told look) part c.compiler.result)) c.self.view_is c.compiler.ensures.outcome
