@@ -1,6 +1,7 @@
 // Runs with debug information, flags that Cargo hands down, mapped paths and flags that want support.
 use super::questions::host_with;
 use super::{SETTINGS, done, drive_line, log_of};
+use crate::words::{BadWord, WordCause};
 use cc_build::{Error, ErrorKind};
 use cc_host::{Ask, BenchHost};
 use cc_text::{Mem, Text, ToolFamily};
@@ -123,5 +124,27 @@ fn a_wrong_rustflag_is_told(rt: HostRuntime) -> Result<(), Fail> {
     assert_eq!(rt; error.kind(), ErrorKind::InvalidFlag);
     assert_eq!(rt; error.subject(), "-Cdwarf-version");
     assert_eq!(rt; error.message(), "-Cdwarf-version must have a value");
+    Ok(())
+}
+
+// The first bad word of a line.
+fn bad_word(rt: &(impl Wait + AllocGlobal), line: &str) -> Mem<Option<BadWord>> {
+    let mut host = BenchHost::new(rt.alloc())?;
+    Ok(drive_line(rt, line, &mut host)?.word)
+}
+
+#[test]
+fn a_wrong_form_is_told_by_its_place(rt: HostRuntime) -> Result<(), Fail> {
+    for (line, place, cause) in [
+        ("compile foo debug_str=2 debug=2", 3, WordCause::BadValue),
+        ("compile foo remap_source_path=x", 2, WordCause::BadValue),
+        ("compile foo repeat_lines=true", 2, WordCause::UnknownKey),
+    ] {
+        assert_eq!(rt;
+            bad_word(&rt, line)?,
+            Some(BadWord { place, cause }),
+            "{line}"
+        );
+    }
     Ok(())
 }
