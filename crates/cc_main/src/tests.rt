@@ -164,24 +164,6 @@ fn bad_words_are_told_by_place_and_cause(rt: HostRuntime) -> Result<(), Fail> {
             WordCause::BadValue,
             "word 2: bad value\n",
         ),
-        (
-            "compile f debug_str=2 debug=2",
-            3,
-            WordCause::BadValue,
-            "word 3: bad value\n",
-        ),
-        (
-            "compile f remap_source_path=x",
-            2,
-            WordCause::BadValue,
-            "word 2: bad value\n",
-        ),
-        (
-            "compile f repeat_lines=true",
-            2,
-            WordCause::UnknownKey,
-            "word 2: unknown key\n",
-        ),
     ] {
         let mut host = BenchHost::new(alloc)?;
         let ended = drive_line(&rt, line, &mut host)?;
