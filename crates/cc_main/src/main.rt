@@ -28,14 +28,17 @@ keys that may stand again, each adding one:
   include=DIR            a folder of headers
   define=K, define=K=V   a macro
   flag=WORD              a flag of the compiler
+  flag_if_supported=WORD a flag that is left out where the compiler doesn't take it
   remove_flag=WORD       takes out every earlier flag that is this word
   asm_flag=WORD          a flag of sources in assembly
   env=K=V                a variable of the commands
+  remap_source_path=FROM=TO   paths that begin with FROM are told as beginning with TO
 
 keys of which the last counts:
   target=NAME, host=NAME   as rustc names them, else TARGET and HOST
   out_dir=PATH             the folder of the objects and of the library, else OUT_DIR
   opt_level=NUMBER, opt_level_str=LEVEL   the optimisation level, else OPT_LEVEL
+  debug=true, debug=false, debug_str=LEVEL   debug information, else DEBUG
   compiler=PROGRAM         the compiler, else cc or c++
   archiver=PROGRAM         the archiver, else ar
   source_root=DIR          the folder that folders of sources count from in the names of objects
@@ -45,7 +48,7 @@ keys of which the last counts:
 keys of true or false:
   cpp  pic  use_plt  static_crt  static_flag  shared_flag  warnings  extra_warnings  warnings_into_errors
   no_default_flags  reproducible_codeview  shell_escaped_flags  cargo_warnings  emit_rerun_if_env_changed
-  prefer_clang_cl_over_msvc
+  prefer_clang_cl_over_msvc  force_frame_pointer  inherit_rustflags  inherit_trim_paths
 
 options:
   --help      print this text

@@ -5,6 +5,7 @@ ghost use Rattle.cc_host.specs.declared.question.Outcome.TheVariants.{Unanswered
 mod machine;
 mod questions;
 mod support;
+mod verdicts;
 
 use crate::top::{Ended, drive};
 use crate::words::{BadWord, WordCause};
