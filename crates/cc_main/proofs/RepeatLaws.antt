@@ -1,10 +1,10 @@
 -- The settings of words repeat their lines: a run of them is told of flags for the linker whenever it leaves some off.
-use Rattle.std.proofs.Common.{◌≡◌, ℕ, List, [], ◌∷◌, ◌++◌, Bool, true, false, Option, Some, None, Result, Ok, Err, if◌then◌else◌, refl, sym, ◌∙◌, ap}
+use Rattle.std.proofs.Common.{◌≡◌, ℕ, List, [], ◌∷◌, ◌++◌, Bool, true, false, Option, Some, None, Ok, Err, if◌then◌else◌, refl, sym, ap}
 use Rattle.cc_env.specs.Env.{EnvSeen}
 use Rattle.cc_host.specs.Question.{Look}
 use Rattle.cc_text.specs.declared.family.ToolFamily.{ToolFamily}
 use Rattle.cc_plan.specs.Compiler.{compiler_of}
-use Rattle.cc_plan.specs.Plan.{warning_lines, planned_steps, late_steps, compile_steps}
+use Rattle.cc_plan.specs.Plan.{planned_steps, late_steps, compile_steps}
 use Rattle.cc_plan.specs.Planned.{warnings_of, supported_of}
 use Rattle.cc_plan.specs.Tool.{link_warnings, other_warnings}
 use Rattle.cc_plan.specs.declared.settings.BuildConfig.{BuildConfig}
