@@ -1,12 +1,15 @@
+// Names, objects, commands and plans of settings, on a host in memory.
+//
+// Few values are held at a `?`, since each exit that drops them makes a proof dearer.
 use crate::{
     ArgumentCause, BuildConfig, Object, Plan, PlanError, Sight, compile_command,
     lib_and_archive_names, object_path, objects_from_files, plan_commands, plan_sources, tool_of,
 };
 use cc_env::{BuildEnv, EnvSnapshot};
-use cc_host::{BenchHost, Command, command_line};
+use cc_host::{Bench, BenchHost, Command, command_line};
 use cc_target::TargetInfo;
 use cc_text::{Mem, Text, Vars, Words};
-use cc_tool::{Answers, Caches};
+use cc_tool::{Answers, Caches, Tool};
 use std::alloc::Global;
 use std::sync::Wait;
 use std::test::Fail;
@@ -26,14 +29,32 @@ fn two_words(alloc: Global, first: &str, second: &str) -> Mem<Words> {
     Ok(words)
 }
 
+fn set_text(setting: &mut Option<Text>, alloc: Global, text: &str) -> Mem<()> {
+    *setting = Some(Text::of(alloc, text)?);
+    Ok(())
+}
+
+fn set_texts(set: &mut BuildConfig, alloc: Global) -> Mem<()> {
+    set_text(&mut set.host, alloc, "x86_64-unknown-linux-gnu")?;
+    set_text(&mut set.target, alloc, "x86_64-unknown-linux-gnu")?;
+    set_text(&mut set.opt_level, alloc, "0")?;
+    set_text(&mut set.out_dir, alloc, "/o")?;
+    set_text(&mut set.compiler, alloc, "cc")
+}
+
 fn linux_settings(alloc: Global) -> Mem<BuildConfig> {
-    let target = Text::of(alloc, "x86_64-unknown-linux-gnu")?;
     let mut set = BuildConfig::new(alloc);
-    set.host = Some(target.try_clone()?);
-    set.target = Some(target);
-    set.opt_level = Some(Text::of(alloc, "0")?);
-    set.out_dir = Some(Text::of(alloc, "/o")?);
-    set.compiler = Some(Text::of(alloc, "cc")?);
+    set_texts(&mut set, alloc)?;
+    Ok(set)
+}
+
+fn push_file(set: &mut BuildConfig) -> Mem<()> {
+    set.files.push("src/a.c")
+}
+
+fn sourced_settings(alloc: Global) -> Mem<BuildConfig> {
+    let mut set = linux_settings(alloc)?;
+    push_file(&mut set)?;
     Ok(set)
 }
 
@@ -48,54 +69,84 @@ fn push_command(text: &mut Text, alloc: Global, cmd: &Command) -> Mem<()> {
     text.push_str(command_line(alloc, cmd)?.as_str())
 }
 
-fn compiled(rt: &impl Wait, alloc: Global, set: &BuildConfig) -> Result<Command, PlanError> {
+fn object_of_a(alloc: Global) -> Mem<Object> {
+    let src = Text::of(alloc, "src/a.c")?;
+    Ok(Object {
+        src,
+        dst: Text::of(alloc, "OBJECT")?,
+    })
+}
+
+fn tool_on(
+    rt: &impl Wait,
+    alloc: Global,
+    set: &BuildConfig,
+    host: &mut BenchHost,
+    caches: &Caches<Bench>,
+) -> Result<Tool, PlanError> {
     let env = BuildEnv::empty(alloc);
-    let mut host = BenchHost::new(alloc)?;
-    let caches = Caches::new(alloc)?;
     let mut answers = Answers::new(alloc);
     let mut sight = Sight {
-        host: &mut host,
-        caches: &caches,
+        host,
+        caches,
         answers: &mut answers,
     };
-    let tool = tool_of(rt, alloc, set, &env, &mut sight)?;
-    let target = TargetInfo::from_rustc_target("x86_64-unknown-linux-gnu");
-    let object = Object {
-        src: Text::of(alloc, "src/a.c")?,
-        dst: Text::of(alloc, "OBJECT")?,
-    };
-    match target {
-        Ok(target) => compile_command(alloc, set, &target, &tool, None, &object),
+    tool_of(rt, alloc, set, &env, &mut sight)
+}
+
+fn planned_tool(rt: &impl Wait, alloc: Global, set: &BuildConfig) -> Result<Tool, PlanError> {
+    let caches = Caches::new(alloc)?;
+    let mut host = BenchHost::new(alloc)?;
+    tool_on(rt, alloc, set, &mut host, &caches)
+}
+
+fn command_of(alloc: Global, set: &BuildConfig, tool: &Tool) -> Result<Command, PlanError> {
+    let object = object_of_a(alloc)?;
+    match TargetInfo::from_rustc_target("x86_64-unknown-linux-gnu") {
+        Ok(target) => compile_command(alloc, set, &target, tool, None, &object),
         Err(_) => Err(PlanError::UnknownTarget(Text::new(alloc))),
     }
 }
 
-// The command that makes OBJECT from `src/a.c`.
-fn compile_text(rt: &impl Wait, alloc: Global) -> Result<Text, PlanError> {
-    let set = linux_settings(alloc)?;
-    let cmd = compiled(rt, alloc, &set)?;
+fn compiled(rt: &impl Wait, alloc: Global, set: &BuildConfig) -> Result<Command, PlanError> {
+    let tool = planned_tool(rt, alloc, set)?;
+    command_of(alloc, set, &tool)
+}
+
+fn command_text(alloc: Global, cmd: &Command) -> Mem<Text> {
     let mut text = Text::new(alloc);
-    push_command(&mut text, alloc, &cmd)?;
+    push_command(&mut text, alloc, cmd)?;
     Ok(text)
 }
 
-fn planned(
+// The command that makes OBJECT from `src/a.c`.
+fn compile_text(rt: &impl Wait, alloc: Global, set: &BuildConfig) -> Result<Text, PlanError> {
+    let cmd = compiled(rt, alloc, set)?;
+    Ok(command_text(alloc, &cmd)?)
+}
+
+fn plan_on(
     rt: &impl Wait,
     alloc: Global,
     set: &BuildConfig,
-    output: &str,
+    host: &mut BenchHost,
+    caches: &Caches<Bench>,
 ) -> Result<Plan, PlanError> {
     let env = BuildEnv::empty(alloc);
-    let mut host = BenchHost::new(alloc)?;
-    let caches = Caches::new(alloc)?;
+    let sources = plan_sources(alloc, set, &env, "foo")?;
     let mut answers = Answers::new(alloc);
     let mut sight = Sight {
-        host: &mut host,
-        caches: &caches,
+        host,
+        caches,
         answers: &mut answers,
     };
-    let sources = plan_sources(alloc, set, &env, output)?;
-    plan_commands(rt, alloc, set, &env, output, &sources, &mut sight)
+    plan_commands(rt, alloc, set, &env, "foo", &sources, &mut sight)
+}
+
+fn planned(rt: &impl Wait, alloc: Global, set: &BuildConfig) -> Result<Plan, PlanError> {
+    let caches = Caches::new(alloc)?;
+    let mut host = BenchHost::new(alloc)?;
+    plan_on(rt, alloc, set, &mut host, &caches)
 }
 
 // The archive and index commands and the link lines, each with a line feed behind it.
@@ -113,14 +164,16 @@ fn push_archive_and_lines(text: &mut Text, alloc: Global, plan: &Plan) -> Mem<()
     Ok(())
 }
 
-// What a plan of `src/a.c` for `foo` has behind its compile commands.
-fn plan_text(rt: &impl Wait, alloc: Global) -> Result<Text, PlanError> {
-    let mut set = linux_settings(alloc)?;
-    set.files.push("src/a.c")?;
-    let plan = planned(rt, alloc, &set, "foo")?;
+fn archive_and_lines(alloc: Global, plan: &Plan) -> Mem<Text> {
     let mut text = Text::new(alloc);
-    push_archive_and_lines(&mut text, alloc, &plan)?;
+    push_archive_and_lines(&mut text, alloc, plan)?;
     Ok(text)
+}
+
+// What a plan for `foo` has behind its compile commands.
+fn plan_text(rt: &impl Wait, alloc: Global, set: &BuildConfig) -> Result<Text, PlanError> {
+    let plan = planned(rt, alloc, set)?;
+    Ok(archive_and_lines(alloc, &plan)?)
 }
 
 #[test]
@@ -176,8 +229,10 @@ fn sources_have_a_name_and_objects_of_their_own(rt: HostRuntime) -> Result<(), F
 
 #[test]
 fn compiles_with_the_words_of_the_target(rt: HostRuntime) -> Result<(), Fail> {
+    let set = linux_settings(rt.alloc())?;
+    let text = compile_text(&rt, rt.alloc(), &set)?;
     assert_eq!(rt;
-        compile_text(&rt, rt.alloc())?.as_str(),
+        text.as_str(),
         "LC_ALL=C \"cc\" \"-O0\" \"-ffunction-sections\" \"-fdata-sections\" \"-fPIC\" \"-m64\" \"-march=x86-64\" \"-Wall\" \"-Wextra\" \"-o\" \"OBJECT\" \"-c\" \"src/a.c\""
     );
     Ok(())
@@ -185,8 +240,10 @@ fn compiles_with_the_words_of_the_target(rt: HostRuntime) -> Result<(), Fail> {
 
 #[test]
 fn plans_one_archive_its_index_and_two_lines(rt: HostRuntime) -> Result<(), Fail> {
+    let set = sourced_settings(rt.alloc())?;
+    let text = plan_text(&rt, rt.alloc(), &set)?;
     assert_eq!(rt;
-        plan_text(&rt, rt.alloc())?.as_str(),
+        text.as_str(),
         "ZERO_AR_DATE=1 \"ar\" \"cqD\" \"/o/libfoo.a\" \"/o/f268e9834a4b7b98-a.o\"\n\
          \"ar\" \"sD\" \"/o/libfoo.a\"\n\
          cargo:rustc-link-lib=static=foo\n\
