@@ -30,8 +30,6 @@ mod search;
 mod settings;
 mod sight;
 mod support;
-#[cfg(test)]
-mod tests;
 mod tool;
 mod words;
 

@@ -1,12 +1,12 @@
 // Names, objects, commands and plans of settings, on a host in memory.
 //
 // Few values are held at a `?`, since each exit that drops them makes a proof dearer.
-use crate::{
+use cc_env::{BuildEnv, EnvSnapshot};
+use cc_host::{Bench, BenchHost, Command, command_line};
+use cc_plan::{
     ArgumentCause, BuildConfig, Object, Plan, PlanError, Sight, compile_command,
     lib_and_archive_names, object_path, objects_from_files, plan_commands, plan_sources, tool_of,
 };
-use cc_env::{BuildEnv, EnvSnapshot};
-use cc_host::{Bench, BenchHost, Command, command_line};
 use cc_target::TargetInfo;
 use cc_text::{Mem, Text, Vars, Words};
 use cc_tool::{Answers, Caches, Tool};
