@@ -17,13 +17,13 @@ fn set_places(build: &mut Build<Bench>) -> Result<(), Error> {
 }
 
 fn set_tool(build: &mut Build<Bench>, compiler: &str) -> Result<(), Error> {
+    set_places(build)?;
     build.opt_level(0)?;
     build.compiler(compiler)
 }
 
 fn build_with(alloc: Global, compiler: &str) -> Result<Build<Bench>, Error> {
     let mut build = Build::new(alloc)?;
-    set_places(&mut build)?;
     set_tool(&mut build, compiler)?;
     Ok(build)
 }
@@ -68,14 +68,33 @@ fn flag_events(alloc: Global, log: &[Event]) -> Mem<Text> {
     Ok(text)
 }
 
+// What a build and its clone answer.
+fn answers(
+    build: &Build<Bench>,
+    rt: &impl Wait,
+    host: &mut BenchHost,
+) -> Result<(&'static str, &'static str), Error> {
+    let clone = build.try_clone()?;
+    let first = answer(build, rt, host);
+    Ok((first, answer(&clone, rt, host)))
+}
+
+// The same, and how the questions were answered, on a host that has no answers of its own.
+fn answers_and_events(
+    rt: &(impl Wait + AllocGlobal),
+    build: &Build<Bench>,
+) -> Result<(&'static str, &'static str, Text), Fail> {
+    let mut host = BenchHost::new(rt.alloc())?;
+    let (first, second) = answers(build, rt, &mut host)?;
+    Ok((first, second, flag_events(rt.alloc(), host.log())?))
+}
+
 #[test]
 fn a_flag_is_tried_once_for_a_build_and_its_clones(rt: HostRuntime) -> Result<(), Fail> {
     let build = build_with(rt.alloc(), "cc")?;
-    let clone = build.try_clone()?;
-    let mut host = BenchHost::new(rt.alloc())?;
-    assert_eq!(rt; answer(&build, &rt, &mut host), "yes");
-    assert_eq!(rt; answer(&clone, &rt, &mut host), "yes");
-    let events = flag_events(rt.alloc(), host.log())?;
+    let (first, second, events) = answers_and_events(&rt, &build)?;
+    assert_eq!(rt; first, "yes");
+    assert_eq!(rt; second, "yes");
     assert_eq!(rt; events.as_str(), "asked known ");
     Ok(())
 }
@@ -98,6 +117,12 @@ fn noisy_host(alloc: Global) -> Mem<BenchHost> {
     Ok(host)
 }
 
+// What a new build answers on a host.
+fn answer_on(rt: &(impl Wait + AllocGlobal), mut host: BenchHost) -> Result<&'static str, Error> {
+    let build = build_with(rt.alloc(), "cc")?;
+    Ok(answer(&build, rt, &mut host))
+}
+
 fn missing_host(alloc: Global) -> Mem<BenchHost> {
     let mut host = BenchHost::new(alloc)?;
     let family = ToolFamily::Gnu;
@@ -109,12 +134,10 @@ fn missing_host(alloc: Global) -> Mem<BenchHost> {
 fn a_noisy_compiler_takes_no_flag_and_a_missing_one_is_not_tried(
     rt: HostRuntime,
 ) -> Result<(), Fail> {
-    let build = build_with(rt.alloc(), "cc")?;
-    let mut noisy = noisy_host(rt.alloc())?;
-    assert_eq!(rt; answer(&build, &rt, &mut noisy), "no");
-    let other = build_with(rt.alloc(), "cc")?;
-    let mut missing = missing_host(rt.alloc())?;
-    assert_eq!(rt; answer(&other, &rt, &mut missing), "not tried");
+    let noisy = noisy_host(rt.alloc())?;
+    assert_eq!(rt; answer_on(&rt, noisy)?, "no");
+    let missing = missing_host(rt.alloc())?;
+    assert_eq!(rt; answer_on(&rt, missing)?, "not tried");
     Ok(())
 }
 
@@ -128,8 +151,8 @@ fn clang_cl_host(alloc: Global) -> Mem<BenchHost> {
 
 fn linking_build(alloc: Global, repeats: bool) -> Result<Build<Bench>, Error> {
     let mut build = build_with(alloc, "clang-cl")?;
-    build.flag("/link")?;
     build.repeat_lines(repeats);
+    build.flag("/link")?;
     Ok(build)
 }
 
@@ -138,14 +161,23 @@ fn get_compiler(build: &Build<Bench>, rt: &impl Wait, host: &mut BenchHost) -> R
     Ok(())
 }
 
-// What a build and its clone print, of which each is asked for its compiler.
+// Asks a build and its clone for their compilers.
+fn get_compilers(build: &Build<Bench>, rt: &impl Wait, host: &mut BenchHost) -> Result<(), Error> {
+    get_compiler(build, rt, host)?;
+    let clone = build.try_clone()?;
+    get_compiler(&clone, rt, host)
+}
+
+// What a build and its clone print.
+fn printed_by(rt: &(impl Wait + AllocGlobal), build: &Build<Bench>) -> Result<Text, Fail> {
+    let mut host = clang_cl_host(rt.alloc())?;
+    get_compilers(build, rt, &mut host)?;
+    Ok(log_text(rt.alloc(), &host)?)
+}
+
 fn printed(rt: &(impl Wait + AllocGlobal), repeats: bool) -> Result<Text, Fail> {
     let build = linking_build(rt.alloc(), repeats)?;
-    let clone = build.try_clone()?;
-    let mut host = clang_cl_host(rt.alloc())?;
-    get_compiler(&build, rt, &mut host)?;
-    get_compiler(&clone, rt, &mut host)?;
-    Ok(log_text(rt.alloc(), &host)?)
+    printed_by(rt, &build)
 }
 
 #[test]
