@@ -2,7 +2,7 @@
 use Rattle.std.specs.Prelude.{[], None, true, false}
 use Rattle.cc_plan.specs.declared.settings.BuildConfig.{BuildConfig}
 
--- no source and nothing set, warnings, rerun lines and what Cargo hands down on, all else off
+-- no source and nothing set, warnings, output of the commands, rerun lines and what Cargo hands down on, all else off
 abbrev pub unset_settings : BuildConfig
 unset_settings = record {
   files = [];
@@ -26,6 +26,7 @@ unset_settings = record {
   warnings = None;
   extra_warnings = None;
   force_frame_pointer = None;
+  cargo_debug = None;
   pic = None;
   use_plt = None;
   static_crt = None;
@@ -35,6 +36,7 @@ unset_settings = record {
   cpp = false;
   warnings_into_errors = false;
   cargo_warnings = true;
+  cargo_output = true;
   emit_rerun_if_env_changed = true;
   inherit_rustflags = true;
   inherit_trim_paths = true;

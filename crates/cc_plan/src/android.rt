@@ -79,6 +79,7 @@ fn older_compiler<W: World, H: Host<W>>(
     ensures same_answers { sight.new.answers.ghost_name ≡ sight.old.answers.ghost_name }
     ensures asks { Asks W.steady W.answer (probe_folder set.now env.now) (H.log sight.old.host.now) (H.log sight.new.host.now) sight.old.answers.now sight.new.answers.now }
     ensures settles { IfOk result (Settles sight.new.answers.now (spec.older_compiler set.now.cpp env.now name.now)) }
+    ensures patient { H.patience sight.new.host.now ≡ H.patience sight.old.host.now }
 {
     let gnu = older_name(alloc, name, gnu_name(set.cpp))?;
     if can_start(rt, alloc, set, env, gnu.as_str(), sight)? {
@@ -102,6 +103,7 @@ fn kit_or_older<W: World, H: Host<W>>(
     ensures same_answers { sight.new.answers.ghost_name ≡ sight.old.answers.ghost_name }
     ensures asks { Asks W.steady W.answer (probe_folder set.now env.now) (H.log sight.old.host.now) (H.log sight.new.host.now) sight.old.answers.now sight.new.answers.now }
     ensures settles { IfOk result (Settles sight.new.answers.now (λ look. spec.kit_or_older set.now.cpp env.now name.now look (Some kit.now))) }
+    ensures patient { H.patience sight.new.host.now ≡ H.patience sight.old.host.now }
 {
     if can_start(rt, alloc, set, env, kit, sight)? {
         let path = Text::of(alloc, kit)?;
@@ -124,6 +126,7 @@ pub(crate) fn android_compiler<W: World, H: Host<W>>(
     ensures same_answers { sight.new.answers.ghost_name ≡ sight.old.answers.ghost_name }
     ensures asks { Asks W.steady W.answer (probe_folder set.now env.now) (H.log sight.old.host.now) (H.log sight.new.host.now) sight.old.answers.now sight.new.answers.now }
     ensures settles { IfOk result (Settles sight.new.answers.now (spec.android_compiler set.now.cpp env.now name.now)) }
+    ensures patient { H.patience sight.new.host.now ≡ H.patience sight.old.host.now }
 {
     match kit_compiler(name) {
         Some(kit) => kit_or_older(rt, alloc, set, env, name, kit, sight),

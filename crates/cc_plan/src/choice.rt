@@ -83,6 +83,7 @@ fn wasi_kit_compiler<W: World, H: Host<W>>(
     ensures same_answers { sight.new.answers.ghost_name ≡ sight.old.answers.ghost_name }
     ensures asks { Asks W.steady W.answer (probe_folder set.now env.now) (H.log sight.old.host.now) (H.log sight.new.host.now) sight.old.answers.now sight.new.answers.now }
     ensures settles { IfOk result (Settles sight.new.answers.now (spec.wasi_kit_compiler env.now name.now)) }
+    ensures patient { H.patience sight.new.host.now ≡ H.patience sight.old.host.now }
 {
     match env.overridable("WASI_SDK_PATH") {
         Some(kit) => {
@@ -115,6 +116,7 @@ fn wasi_compiler<W: World, H: Host<W>>(
     ensures same_answers { sight.new.answers.ghost_name ≡ sight.old.answers.ghost_name }
     ensures asks { Asks W.steady W.answer (probe_folder set.now env.now) (H.log sight.old.host.now) (H.log sight.new.host.now) sight.old.answers.now sight.new.answers.now }
     ensures settles { IfOk result (Settles sight.new.answers.now (spec.wasi_compiler set.now.cpp env.now name.now)) }
+    ensures patient { H.patience sight.new.host.now ≡ H.patience sight.old.host.now }
 {
     match wasi_kit_compiler(rt, alloc, set, env, name, sight)? {
         Some(path) => Ok(path),
@@ -169,6 +171,7 @@ fn plugin_compiler<W: World, H: Host<W>>(
     ensures same_answers { sight.new.answers.ghost_name ≡ sight.old.answers.ghost_name }
     ensures asks { Asks W.steady W.answer (probe_folder set.now env.now) (H.log sight.old.host.now) (H.log sight.new.host.now) sight.old.answers.now sight.new.answers.now }
     ensures settles { IfOk result (Settles sight.new.answers.now (spec.plugin_compiler set.now.cpp env.now)) }
+    ensures patient { H.patience sight.new.host.now ≡ H.patience sight.old.host.now }
 {
     if links_by_plugin(alloc, env)? {
         let folders = path_folders(alloc, env)?;
@@ -191,6 +194,7 @@ fn default_compiler<W: World, H: Host<W>>(
     ensures same_answers { sight.new.answers.ghost_name ≡ sight.old.answers.ghost_name }
     ensures asks { Asks W.steady W.answer (probe_folder set.now env.now) (H.log sight.old.host.now) (H.log sight.new.host.now) sight.old.answers.now sight.new.answers.now }
     ensures settles { IfOk result (Settles sight.new.answers.now (spec.default_compiler set.now.cpp env.now)) }
+    ensures patient { H.patience sight.new.host.now ≡ H.patience sight.old.host.now }
 {
     match plugin_compiler(rt, alloc, set, env, sight)? {
         Some(path) => Ok(path),
@@ -213,6 +217,7 @@ fn cross_prefix<W: World, H: Host<W>>(
     ensures same_answers { sight.new.answers.ghost_name ≡ sight.old.answers.ghost_name }
     ensures asks { Asks W.steady W.answer (probe_folder set.now env.now) (H.log sight.old.host.now) (H.log sight.new.host.now) sight.old.answers.now sight.new.answers.now }
     ensures settles { IfOk result (Settles sight.new.answers.now (spec.cross_prefix set.now env.now)) }
+    ensures patient { H.patience sight.new.host.now ≡ H.patience sight.old.host.now }
 {
     if is_cross(set, env) {
         prefix_for(rt, alloc, set, env, target_name(set, env), sight)
@@ -236,6 +241,7 @@ fn cross_compiler<W: World, H: Host<W>>(
     ensures same_answers { sight.new.answers.ghost_name ≡ sight.old.answers.ghost_name }
     ensures asks { Asks W.steady W.answer (probe_folder set.now env.now) (H.log sight.old.host.now) (H.log sight.new.host.now) sight.old.answers.now sight.new.answers.now }
     ensures settles { IfOk result (Settles sight.new.answers.now (spec.cross_compiler set.now env.now)) }
+    ensures patient { H.patience sight.new.host.now ≡ H.patience sight.old.host.now }
 {
     match cross_prefix(rt, alloc, set, env, sight)? {
         Some(prefix) => {
@@ -278,6 +284,7 @@ fn fixed_or_cross<W: World, H: Host<W>>(
     ensures same_answers { sight.new.answers.ghost_name ≡ sight.old.answers.ghost_name }
     ensures asks { Asks W.steady W.answer (probe_folder set.now env.now) (H.log sight.old.host.now) (H.log sight.new.host.now) sight.old.answers.now sight.new.answers.now }
     ensures settles { IfOk result (Settles sight.new.answers.now (λ look. spec.fixed_or_cross set.now env.now look (spec.fixed_compiler set.now.cpp (target_info set.now env.now)))) }
+    ensures patient { H.patience sight.new.host.now ≡ H.patience sight.old.host.now }
 {
     match fixed_compiler(set.cpp, target) {
         Some(name) => Text::of(alloc, name),
@@ -299,6 +306,7 @@ fn target_compiler<W: World, H: Host<W>>(
     ensures same_answers { sight.new.answers.ghost_name ≡ sight.old.answers.ghost_name }
     ensures asks { Asks W.steady W.answer (probe_folder set.now env.now) (H.log sight.old.host.now) (H.log sight.new.host.now) sight.old.answers.now sight.new.answers.now }
     ensures settles { IfOk result (Settles sight.new.answers.now (spec.target_compiler set.now env.now)) }
+    ensures patient { H.patience sight.new.host.now ≡ H.patience sight.old.host.now }
 {
     if target.os == "android" {
         android_compiler(rt, alloc, set, env, target_name(set, env), sight)
@@ -323,6 +331,7 @@ fn own_choice<W: World, H: Host<W>>(
     ensures same_answers { sight.new.answers.ghost_name ≡ sight.old.answers.ghost_name }
     ensures asks { Asks W.steady W.answer (probe_folder set.now env.now) (H.log sight.old.host.now) (H.log sight.new.host.now) sight.old.answers.now sight.new.answers.now }
     ensures settles { IfOk result (Settles sight.new.answers.now (spec.own_choice set.now env.now)) }
+    ensures patient { H.patience sight.new.host.now ≡ H.patience sight.old.host.now }
 {
     if target.os == "emscripten" {
         return bare(alloc, emscripten_name(set.cpp));
@@ -346,6 +355,7 @@ fn found_choice<W: World, H: Host<W>>(
     ensures same_answers { sight.new.answers.ghost_name ≡ sight.old.answers.ghost_name }
     ensures asks { Asks W.steady W.answer (probe_folder set.now env.now) (H.log sight.old.host.now) (H.log sight.new.host.now) sight.old.answers.now sight.new.answers.now }
     ensures settles { IfOk result (Settles sight.new.answers.now (spec.found_choice set.now env.now)) }
+    ensures patient { H.patience sight.new.host.now ≡ H.patience sight.old.host.now }
 {
     match env_tool(rt, alloc, set, env, compiler_variable(set.cpp), sight)? {
         Some(choice) => Ok(choice),
@@ -370,6 +380,7 @@ pub(crate) fn choose<W: World, H: Host<W>>(
     ensures same_answers { sight.new.answers.ghost_name ≡ sight.old.answers.ghost_name }
     ensures asks { Asks W.steady W.answer (probe_folder set.now env.now) (H.log sight.old.host.now) (H.log sight.new.host.now) sight.old.answers.now sight.new.answers.now }
     ensures settles { IfOk result (Settles sight.new.answers.now (spec.choice_of set.now env.now)) }
+    ensures patient { H.patience sight.new.host.now ≡ H.patience sight.old.host.now }
 {
     match &set.compiler {
         Some(path) => bare(alloc, path.as_str()),

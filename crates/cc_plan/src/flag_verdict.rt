@@ -78,6 +78,7 @@ fn verdict_on<W: World, H: Host<W>>(
     ensures verdict { IfOk result (Settles sight.new.answers.now (spec.verdict_on set.now env.now family path.now flag.now)) }
     ensures allowed { OnOk result (spec.verdict_refusal set.now env.now family path.now flag.now ≡ None) }
     ensures refused { IfErr result (λ e. (e ≡ WantsMemory) ⊎ (spec.verdict_refusal set.now env.now family path.now flag.now ≡ Some e)) }
+    ensures patient { H.patience sight.new.host.now ≡ H.patience sight.old.host.now }
 {
     if is_for_linker(family, flag) {
         return Ok(Verdict::No);
@@ -141,6 +142,7 @@ fn found_compiler<W: World, H: Host<W>>(
     ensures same_answers { sight.new.answers.ghost_name ≡ sight.old.answers.ghost_name }
     ensures asks { Asks W.steady W.answer (probe_folder set.now env.now) (H.log sight.old.host.now) (H.log sight.new.host.now) sight.old.answers.now sight.new.answers.now }
     ensures settles { IfOk result (λ found. Settles sight.new.answers.now (λ look. (compiler_of set.now env.now look, bare_family env.now (spec.path_of set.now env.now look) look)) found) }
+    ensures patient { H.patience sight.new.host.now ≡ H.patience sight.old.host.now }
 {
     let compiler = compiler_of(rt, alloc, set, env, target, sight)?;
     let family = bare_family(rt, alloc, set, env, compiler.choice.path.as_str(), sight)?;
@@ -165,6 +167,7 @@ fn plan_support<W: World, H: Host<W>>(
     ensures allowed { OnOk result (Settles sight.new.answers.now (spec.support_refusal set.now env.now flag.now) None) }
     ensures refused { IfErr result (λ e. (e ≡ WantsMemory) ⊎ Settles sight.new.answers.now (spec.support_refusal set.now env.now flag.now) (Some e)) }
     ensures own { IfErr result IsOwn }
+    ensures patient { H.patience sight.new.host.now ≡ H.patience sight.old.host.now }
 {
     let target = known_target(alloc, set, env)?;
     let (compiler, family) = found_compiler(rt, alloc, set, env, &target, sight)?;
@@ -196,6 +199,7 @@ pub fn flag_support<W: World, H: Host<W>>(
     ensures verdict { IfOk result (λ found. Settles sight.new.answers.now (spec.flag_verdict set.now env.now flag.now) found.verdict) }
     ensures allowed { OnOk result (Settles sight.new.answers.now (spec.support_refusal set.now env.now flag.now) None) }
     ensures refused { IfErr result (λ e. (e ≡ WantsMemory) ⊎ (((why : Why) × (e ≡ HostFault Print why)) ⊎ Settles sight.new.answers.now (spec.support_refusal set.now env.now flag.now) (Some e))) }
+    ensures patient { H.patience sight.new.host.now ≡ H.patience sight.old.host.now }
 {
     let support = plan_support(rt, alloc, set, env, flag, sight)?;
     let lines = wanted_lines(alloc, set, &support.warnings)?;

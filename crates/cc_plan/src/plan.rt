@@ -134,6 +134,7 @@ fn tool_compiles<W: World, H: Host<W>>(
     ensures compiles { IfOk result (λ plan. Settles sight.new.answers.now (compiles_of set.now env.now) plan.cmds.items) }
     ensures allowed { OnOk result (Settles sight.new.answers.now (tool_refusal set.now env.now) None) }
     ensures refused { IfErr result (λ e. (e ≡ WantsMemory) ⊎ Settles sight.new.answers.now (tool_refusal set.now env.now) (Some e)) }
+    ensures patient { H.patience sight.new.host.now ≡ H.patience sight.old.host.now }
 {
     let plan = plan_tool(rt, alloc, set, env, sight)?;
     let warnings = wanted_lines(alloc, set, &plan.warned.warnings)?;
@@ -162,6 +163,7 @@ fn plan_compiles<W: World, H: Host<W>>(
     ensures compiles { IfOk result (λ plan. Settles sight.new.answers.now (compiles_of set.now env.now) plan.cmds.items) }
     ensures allowed { OnOk result (Settles sight.new.answers.now (late_refusal set.now env.now) None) }
     ensures refused { IfErr result (λ e. (e ≡ WantsMemory) ⊎ Settles sight.new.answers.now (late_refusal set.now env.now) (Some e)) }
+    ensures patient { H.patience sight.new.host.now ≡ H.patience sight.old.host.now }
 {
     if set.files.is_empty() {
         no_compiles(alloc, set, env)
@@ -196,6 +198,7 @@ pub fn plan_commands<W: World, H: Host<W>>(
     ensures lines { IfOk result (λ plan. plan.lines ≡ lines_of set.now env.now output.now) }
     ensures allowed { OnOk result (Settles sight.new.answers.now (late_refusal set.now env.now) None) }
     ensures refused { IfErr result (λ e. (e ≡ WantsMemory) ⊎ Settles sight.new.answers.now (late_refusal set.now env.now) (Some e)) }
+    ensures patient { H.patience sight.new.host.now ≡ H.patience sight.old.host.now }
 {
     let library = sources.library.as_str();
     let compiles = plan_compiles(rt, alloc, set, env, &sources.objects, sight)?;

@@ -128,6 +128,7 @@ fn shown_candidate<W: World, H: Host<W>>(
     ensures same_answers { sight.new.answers.ghost_name ≡ sight.old.answers.ghost_name }
     ensures asks { Asks W.steady W.answer (probe_folder set.now env.now) (H.log sight.old.host.now) (H.log sight.new.host.now) sight.old.answers.now sight.new.answers.now }
     ensures settles { IfOk result (Settles sight.new.answers.now (λ look. spec.shown_candidate look tries.now)) }
+    ensures patient { H.patience sight.new.host.now ≡ H.patience sight.old.host.now }
 {
     for pair in tries {
         if is_there(rt, alloc, set, env, pair.0.as_str(), sight)? {
@@ -159,6 +160,7 @@ fn candidate_prefix<W: World, H: Host<W>>(
     ensures same_answers { sight.new.answers.ghost_name ≡ sight.old.answers.ghost_name }
     ensures asks { Asks W.steady W.answer (probe_folder set.now env.now) (H.log sight.old.host.now) (H.log sight.new.host.now) sight.old.answers.now sight.new.answers.now }
     ensures settles { IfOk result (Settles sight.new.answers.now (spec.candidate_prefix set.now env.now (texts candidates.now))) }
+    ensures patient { H.patience sight.new.host.now ≡ H.patience sight.old.host.now }
 {
     let folders = path_folders(alloc, env)?;
     let tries = tried_compilers(alloc, set.cpp, folders.as_slice(), candidates)?;
@@ -181,6 +183,7 @@ pub(crate) fn prefix_for<W: World, H: Host<W>>(
     ensures same_answers { sight.new.answers.ghost_name ≡ sight.old.answers.ghost_name }
     ensures asks { Asks W.steady W.answer (probe_folder set.now env.now) (H.log sight.old.host.now) (H.log sight.new.host.now) sight.old.answers.now sight.new.answers.now }
     ensures settles { IfOk result (Settles sight.new.answers.now (spec.gnu_prefix set.now env.now name.now)) }
+    ensures patient { H.patience sight.new.host.now ≡ H.patience sight.old.host.now }
 {
     match known_prefix(env, name) {
         Some(prefix) => Ok(Some(Text::of(alloc, prefix)?)),

@@ -60,6 +60,7 @@ fn print_warning<W: World, H: Host<W>>(
     ensures extends { H.log host.new ≡ H.log host.old ++ since (H.log host.old) (H.log host.new) }
     ensures prints { PrintsLine line.now (since (H.log host.old) (H.log host.new)) result }
     ensures refused { IfErr result (λ e. (e ≡ WantsMemory) ⊎ ((why : Why) × (e ≡ HostFault Print why))) }
+    ensures patient { H.patience host.new ≡ H.patience host.old }
 {
     let text = printed_line(alloc, line)?;
     match host.print(LineKind::Warning, text.as_str().as_bytes()) {
@@ -80,6 +81,7 @@ pub(crate) fn print_warnings<W: World, H: Host<W>>(
     ensures prints { Printed lines.now (since (H.log host.old) (H.log host.new)) result }
     ensures silent { question_events (since (H.log host.old) (H.log host.new)) ≡ [] }
     ensures refused { IfErr result (λ e. (e ≡ WantsMemory) ⊎ ((why : Why) × (e ≡ HostFault Print why))) }
+    ensures patient { H.patience host.new ≡ H.patience host.old }
 {
     for line in lines.as_slice() {
         print_warning(alloc, host, line.as_str())?;

@@ -80,6 +80,7 @@ fn first_there<W: World, H: Host<W>>(
     ensures same_answers { sight.new.answers.ghost_name ≡ sight.old.answers.ghost_name }
     ensures asks { Asks W.steady W.answer (probe_folder set.now env.now) (H.log sight.old.host.now) (H.log sight.new.host.now) sight.old.answers.now sight.new.answers.now }
     ensures settles { IfOk result (Settles sight.new.answers.now (λ look. spec.first_there look paths.now)) }
+    ensures patient { H.patience sight.new.host.now ≡ H.patience sight.old.host.now }
 {
     for path in paths {
         if is_there(rt, alloc, set, env, path.as_str(), sight)? {
@@ -103,6 +104,7 @@ pub(crate) fn which<W: World, H: Host<W>>(
     ensures same_answers { sight.new.answers.ghost_name ≡ sight.old.answers.ghost_name }
     ensures asks { Asks W.steady W.answer (probe_folder set.now env.now) (H.log sight.old.host.now) (H.log sight.new.host.now) sight.old.answers.now sight.new.answers.now }
     ensures settles { IfOk result (Settles sight.new.answers.now (λ look. spec.which look folders.now tool.now)) }
+    ensures patient { H.patience sight.new.host.now ≡ H.patience sight.old.host.now }
 {
     let paths = places_of(alloc, folders, tool)?;
     first_there(rt, alloc, set, env, paths.as_slice(), sight)

@@ -40,6 +40,8 @@ pub struct BuildConfig {
     pub warnings: Option<bool>,
     pub extra_warnings: Option<bool>,
     pub force_frame_pointer: Option<bool>,
+    /// Whether the commands are told before they run, and how they ended.
+    pub cargo_debug: Option<bool>,
     pub pic: Option<bool>,
     pub use_plt: Option<bool>,
     pub static_crt: Option<bool>,
@@ -50,6 +52,8 @@ pub struct BuildConfig {
     pub cpp: bool,
     pub warnings_into_errors: bool,
     pub cargo_warnings: bool,
+    /// Whether the standard output of the commands goes where that of the program goes.
+    pub cargo_output: bool,
     pub emit_rerun_if_env_changed: bool,
     /// Whether the flags of Rust code are taken that Cargo hands down.
     pub inherit_rustflags: bool,
@@ -62,7 +66,7 @@ pub struct BuildConfig {
 }
 
 impl BuildConfig {
-    /// No source, nothing set, warnings, rerun lines and what Cargo hands down on, all else off. It takes no memory.
+    /// No source, nothing set, warnings, output of the commands, rerun lines and what Cargo hands down on, all else off. It takes no memory.
     pub fn new(alloc: Global) -> BuildConfig
         ensures { result ≡ unset_settings }
     {
@@ -88,6 +92,7 @@ impl BuildConfig {
             warnings: None,
             extra_warnings: None,
             force_frame_pointer: None,
+            cargo_debug: None,
             pic: None,
             use_plt: None,
             static_crt: None,
@@ -97,6 +102,7 @@ impl BuildConfig {
             cpp: false,
             warnings_into_errors: false,
             cargo_warnings: true,
+            cargo_output: true,
             emit_rerun_if_env_changed: true,
             inherit_rustflags: true,
             inherit_trim_paths: true,
@@ -131,6 +137,7 @@ impl BuildConfig {
             warnings: self.warnings,
             extra_warnings: self.extra_warnings,
             force_frame_pointer: self.force_frame_pointer,
+            cargo_debug: self.cargo_debug,
             pic: self.pic,
             use_plt: self.use_plt,
             static_crt: self.static_crt,
@@ -140,6 +147,7 @@ impl BuildConfig {
             cpp: self.cpp,
             warnings_into_errors: self.warnings_into_errors,
             cargo_warnings: self.cargo_warnings,
+            cargo_output: self.cargo_output,
             emit_rerun_if_env_changed: self.emit_rerun_if_env_changed,
             inherit_rustflags: self.inherit_rustflags,
             inherit_trim_paths: self.inherit_trim_paths,

@@ -64,6 +64,7 @@ pub(crate) fn is_there<W: World, H: Host<W>>(
     ensures same_answers { sight.new.answers.ghost_name ≡ sight.old.answers.ghost_name }
     ensures asks { Asks W.steady W.answer (probe_folder set.now env.now) (H.log sight.old.host.now) (H.log sight.new.host.now) sight.old.answers.now sight.new.answers.now }
     ensures settles { IfOk result (Settles sight.new.answers.now (λ look. is_there look path.now)) }
+    ensures patient { H.patience sight.new.host.now ≡ H.patience sight.old.host.now }
 {
     let dir = probe_folder(set, env);
     let question = exists_of(alloc, path)?;
@@ -92,6 +93,7 @@ pub(crate) fn can_start<W: World, H: Host<W>>(
     ensures same_answers { sight.new.answers.ghost_name ≡ sight.old.answers.ghost_name }
     ensures asks { Asks W.steady W.answer (probe_folder set.now env.now) (H.log sight.old.host.now) (H.log sight.new.host.now) sight.old.answers.now sight.new.answers.now }
     ensures settles { IfOk result (Settles sight.new.answers.now (λ look. can_start env.now look program.now)) }
+    ensures patient { H.patience sight.new.host.now ≡ H.patience sight.old.host.now }
 {
     let dir = probe_folder(set, env);
     let question = starts_of(alloc, env, program)?;

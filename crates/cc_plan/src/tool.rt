@@ -399,6 +399,7 @@ pub(crate) fn plan_tool<W: World, H: Host<W>>(
     ensures allowed { OnOk result (Settles sight.new.answers.now (tool_refusal set.now env.now) None) }
     ensures refused { IfErr result (λ e. (e ≡ WantsMemory) ⊎ Settles sight.new.answers.now (tool_refusal set.now env.now) (Some e)) }
     ensures own { IfErr result IsOwn }
+    ensures patient { H.patience sight.new.host.now ≡ H.patience sight.old.host.now }
 {
     let target = given_target(alloc, set, env)?;
     let compiler = compiler_of(rt, alloc, set, env, &target, sight)?;
@@ -440,6 +441,7 @@ pub fn tool_of<W: World, H: Host<W>>(
     ensures tool { IfOk result (Settles sight.new.answers.now (tool_of set.now env.now)) }
     ensures allowed { OnOk result (Settles sight.new.answers.now (tool_refusal set.now env.now) None) }
     ensures refused { IfErr result (λ e. (e ≡ WantsMemory) ⊎ (((why : Why) × (e ≡ HostFault Print why)) ⊎ Settles sight.new.answers.now (tool_refusal set.now env.now) (Some e))) }
+    ensures patient { H.patience sight.new.host.now ≡ H.patience sight.old.host.now }
 {
     let plan = plan_tool(rt, alloc, set, env, sight)?;
     let lines = wanted_lines(alloc, set, &plan.warned.warnings)?;

@@ -55,6 +55,7 @@ fn hear<W: World, H: Host<W>>(
     requires { q.now.ask ≢ AsksExists }
     ensures probes { Probes dir.now (H.log host.old) (H.log host.new) [] [] (told q.now result) 0 }
     ensures steady { IfOk result (λ heard. heard.verdict ≢ Unanswered → IsSteady W.steady W.answer q.now heard.verdict) }
+    ensures patient { H.patience host.new ≡ H.patience host.old }
 {
     if let Some(verdict) = caches.find(rt, q)? {
         host.reused(q, &verdict)?;
@@ -112,6 +113,7 @@ fn ask_command<W: World, H: Host<W>>(
     requires { q.now.ask ≢ AsksExists }
     ensures asks { Asks W.steady W.answer dir.now (H.log host.old) (H.log host.new) answers.old answers.new }
     ensures settles { IfOk result (λ v. Settles answers.new (λ look. look q.now) v) }
+    ensures patient { H.patience host.new ≡ H.patience host.old }
 {
     match answers.get(q) {
         Some(verdict) => return verdict.try_clone(),
@@ -148,6 +150,7 @@ fn ask_exists<W: World, H: Host<W>>(
 ) -> Mem<Verdict>
     ensures asks { Asks W.steady W.answer dir.now (H.log host.old) (H.log host.new) answers.old answers.new }
     ensures settles { IfOk result (λ v. Settles answers.new (λ look. look (exists_question path.now)) v) }
+    ensures patient { H.patience host.new ≡ H.patience host.old }
 {
     let _ = dir;
     let question = exists_of(alloc, path)?;
@@ -189,6 +192,7 @@ pub fn ask<W: World, H: Host<W>>(
 ) -> Mem<Verdict>
     ensures asks { Asks W.steady W.answer dir.now (H.log host.old) (H.log host.new) answers.old answers.new }
     ensures settles { IfOk result (λ v. Settles answers.new (λ look. look (asked q.now)) v) }
+    ensures patient { H.patience host.new ≡ H.patience host.old }
 {
     if is_exists(q.ask) {
         ask_exists(alloc, host, answers, q.program.as_str(), dir)
@@ -209,6 +213,7 @@ pub fn ask_flag<W: World, H: Host<W>>(
 ) -> Mem<Verdict>
     ensures asks { Asks W.steady W.answer dir.now (H.log host.old) (H.log host.new) answers.old answers.new }
     ensures settles { IfOk result (λ v. Settles answers.new (λ look. look (asked q.now)) v) }
+    ensures patient { H.patience host.new ≡ H.patience host.old }
 {
     ask(rt, alloc, host, caches, answers, q, dir)
 }

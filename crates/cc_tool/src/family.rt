@@ -155,6 +155,7 @@ fn ask_path<W: World, H: Host<W>>(
     requires { asked ≢ AsksExists }
     ensures asks { Asks W.steady W.answer dir.now (H.log host.old) (H.log host.new) answers.old answers.new }
     ensures settles { IfOk result (λ v. Settles answers.new (λ look. look (families.question asked path.now words.now vars.now)) v) }
+    ensures patient { H.patience host.new ≡ H.patience host.old }
 {
     let q = question(asked, path, words, vars, alloc)?;
     ask(rt, alloc, host, caches, answers, &q, dir)
@@ -187,6 +188,7 @@ fn ask_shown<W: World, H: Host<W>>(
 ) -> Mem<Verdict>
     ensures asks { Asks W.steady W.answer dir.now (H.log host.old) (H.log host.new) answers.old answers.new }
     ensures settles { IfOk result (λ v. Settles answers.new (λ look. families.shown look path.now vars.now) v) }
+    ensures patient { H.patience host.new ≡ H.patience host.old }
 {
     let none = Words::new(alloc);
     let first = ask_path(
@@ -254,6 +256,7 @@ fn ask_detection<W: World, H: Host<W>>(
 ) -> Mem<(Option<ToolFamily>, Detected)>
     ensures asks { Asks W.steady W.answer dir.now (H.log host.old) (H.log host.new) answers.old answers.new }
     ensures settles { IfOk result (λ d. Settles answers.new (λ look. families.detection look path.now args.now vars.now) d) }
+    ensures patient { H.patience host.new ≡ H.patience host.old }
 {
     let shown = ask_shown(rt, alloc, host, caches, answers, path, vars, dir)?;
     match marks_in(&shown) {
@@ -308,6 +311,7 @@ fn ask_zig<W: World, H: Host<W>>(
 ) -> Mem<ToolFamily>
     ensures asks { Asks W.steady W.answer dir.now (H.log host.old) (H.log host.new) answers.old answers.new }
     ensures settles { IfOk result (λ f. Settles answers.new (λ look. families.with_zig family (families.is_zig look path.now vars.now)) f) }
+    ensures patient { H.patience host.new ≡ H.patience host.old }
 {
     if is_plain_clang(family) {
         let none = Words::new(alloc);
@@ -343,6 +347,7 @@ pub fn ask_family<W: World, H: Host<W>>(
 ) -> Mem<(ToolFamily, Detected)>
     ensures asks { Asks W.steady W.answer dir.now (H.log host.old) (H.log host.new) answers.old answers.new }
     ensures settles { IfOk result (λ f. Settles answers.new (λ look. families.family_of look path.now args.now (child_of env.now.inherited env.now.explicit)) f) }
+    ensures patient { H.patience host.new ≡ H.patience host.old }
 {
     let vars = env.child_vars(alloc)?;
     let (seen, how) = ask_detection(rt, alloc, host, caches, answers, path, args, &vars, dir)?;

@@ -41,6 +41,7 @@ fn attempt<W: World, H: Host<W>>(
     contents: &[u8],
 ) -> Result<Option<Text>, HostError>
     ensures tried { Attempted dir.now suffix.now contents.now (H.log host.old) (H.log host.new) result }
+    ensures patient { H.patience host.new ≡ H.patience host.old }
 {
     let word = host.random()?;
     let path = probe_path(alloc, dir, word, suffix)?;
@@ -62,6 +63,7 @@ impl NamedTempfile {
     ) -> Result<Option<NamedTempfile>, HostError>
         ensures tried { Tried dir.now suffix.now contents.now (H.log host.old) (H.log host.new) result }
         ensures open { IfOk result (λ file. IfSome file (λ path. IsOpen path (H.log host.new))) }
+        ensures patient { H.patience host.new ≡ H.patience host.old }
     {
         let _tidy = host.log();
         for tries in 0..10usize {
@@ -93,6 +95,7 @@ impl NamedTempfile {
         requires { IsOpen self (H.log host.old) }
         ensures adds { H.log host.new ≡ H.log host.old ++ Dropped self ∷ [] }
         ensures later { H.faults host.old ≤ H.faults host.new }
+        ensures patient { H.patience host.new ≡ H.patience host.old }
     {
         host.drop_probe(self.path.as_str());
     }

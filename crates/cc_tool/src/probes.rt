@@ -21,6 +21,7 @@ fn make_file<W: World, H: Host<W>>(
 ) -> Mem<Option<NamedTempfile>>
     ensures probes { (from : List File) → Probes dir.now (H.log host.old) (H.log host.new) from (from ++ made_of kind result) [] (lack result) }
     ensures made { IsMade dir.now kind result }
+    ensures patient { H.patience host.new ≡ H.patience host.old }
 {
     let contents = kind.contents().as_bytes();
     match NamedTempfile::create(alloc, host, dir, kind.suffix(), contents) {
@@ -39,6 +40,7 @@ fn make_source<W: World, H: Host<W>>(
 ) -> Mem<Option<NamedTempfile>>
     ensures probes { Probes dir.now (H.log host.old) (H.log host.new) [] (made_of kind result) [] (lack result) }
     ensures made { IsMade dir.now kind result }
+    ensures patient { H.patience host.new ≡ H.patience host.old }
 {
     match host.make_dir(Scope::Probe, dir) {
         Ok(()) => make_file(alloc, host, dir, kind),
@@ -51,6 +53,7 @@ fn make_source<W: World, H: Host<W>>(
 fn leave<W: World, H: Host<W>>(host: &mut H, q: &Question) -> Mem<Outcome>
     ensures adds { H.log host.new ≡ H.log host.old ++ noted q.now result }
     ensures unanswered { IfOk result (λ outcome. outcome ≡ Unanswered) }
+    ensures patient { H.patience host.new ≡ H.patience host.old }
 {
     host.unasked(q)?;
     Ok(Outcome::Unanswered)
@@ -69,6 +72,7 @@ fn ask_source<W: World, H: Host<W>>(
     requires named { kinds.IsPath dir.now kind files.source }
     ensures probes { Probes dir.now (H.log host.old) (H.log host.new) ((files.source, kinds.contents_of kind) ∷ []) [] (heard q.now result) 0 }
     ensures steady { W.steady ≡ true → IfOk result (λ outcome. outcome ≢ Unanswered → outcome ≡ W.answer q.now) }
+    ensures patient { H.patience host.new ≡ H.patience host.old }
 {
     let outcome = host.probe(q, &files);
     host.drop_probe(files.source.as_str());
@@ -89,6 +93,7 @@ fn ask_both<W: World, H: Host<W>>(
     requires named { kinds.IsPath dir.now kind files.source × kinds.IsPath dir.now object files.object }
     ensures probes { Probes dir.now (H.log host.old) (H.log host.new) ((files.source, kinds.contents_of kind) ∷ (files.object, kinds.contents_of object) ∷ []) [] (heard q.now result) 0 }
     ensures steady { W.steady ≡ true → IfOk result (λ outcome. outcome ≢ Unanswered → outcome ≡ W.answer q.now) }
+    ensures patient { H.patience host.new ≡ H.patience host.old }
 {
     let outcome = host.probe(q, &files);
     host.drop_probe(files.source.as_str());
@@ -112,6 +117,7 @@ fn ask_object<W: World, H: Host<W>>(
     requires named { kinds.IsPath dir.now kind source }
     ensures probes { Probes dir.now (H.log host.old) (H.log host.new) ((source, kinds.contents_of kind) ∷ []) [] (heard q.now result) 0 }
     ensures steady { W.steady ≡ true → IfOk result (λ outcome. outcome ≢ Unanswered → outcome ≡ W.answer q.now) }
+    ensures patient { H.patience host.new ≡ H.patience host.old }
 {
     match make_file(alloc, host, dir, object) {
         Ok(Some(file)) => {
@@ -145,6 +151,7 @@ fn ask_with_files<W: World, H: Host<W>>(
     requires { (q.now.ask ≢ AsksExists) × (kinds.source_of q.now.ask ≡ Some kind) }
     ensures probes { Probes dir.now (H.log host.old) (H.log host.new) [] [] (heard q.now result) 0 }
     ensures steady { W.steady ≡ true → IfOk result (λ outcome. outcome ≢ Unanswered → outcome ≡ W.answer q.now) }
+    ensures patient { H.patience host.new ≡ H.patience host.old }
 {
     let folder = Text::of(alloc, dir)?;
     let _tidy = host.log();
@@ -177,6 +184,7 @@ fn ask_bare<W: World, H: Host<W>>(
     requires { (q.now.ask ≢ AsksExists) × (kinds.source_of q.now.ask ≡ None) }
     ensures probes { Probes dir.now (H.log host.old) (H.log host.new) [] [] (heard q.now result) 0 }
     ensures steady { W.steady ≡ true → IfOk result (λ outcome. outcome ≢ Unanswered → outcome ≡ W.answer q.now) }
+    ensures patient { H.patience host.new ≡ H.patience host.old }
 {
     let _ = dir;
     let files = ProbeFiles {
@@ -197,6 +205,7 @@ pub(crate) fn ask_host<W: World, H: Host<W>>(
     requires { q.now.ask ≢ AsksExists }
     ensures probes { Probes dir.now (H.log host.old) (H.log host.new) [] [] (heard q.now result) 0 }
     ensures steady { W.steady ≡ true → IfOk result (λ outcome. outcome ≢ Unanswered → outcome ≡ W.answer q.now) }
+    ensures patient { H.patience host.new ≡ H.patience host.old }
 {
     match source_of(q.ask) {
         Some(kind) => ask_with_files(alloc, host, dir, kind, q),

@@ -29,6 +29,7 @@ loop-pair-preserved g c = record {
   asks = asks_then c.loop-pair.invariant.asks c.is_there.ensures.asks;
   none = settles_two (settles_on (asks_grows c.is_there.ensures.asks) c.loop-pair.invariant.none) c.in_ok-is_there.ensures.settles
       (λ look a b. find_more (λ (t : List ℕ × List ℕ). is_there look t.0) c.args.tries.now c.loop-pair.pair-index c.pair-item.result c.pair-item.is a (ap (is_there look) (sym c.as_str.ensures) ∙ b ∙ c.if-branch.false));
+  patient = c.is_there.ensures.patient ∙ c.loop-pair.invariant.patient;
 }
 
 pub returns-clause-settles : goal.returns-clause-settles

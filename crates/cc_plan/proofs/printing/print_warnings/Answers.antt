@@ -14,7 +14,7 @@ use Rattle.cc_plan.proofs.printing.print_warnings.Goals as goal
 pub loop-line-init : goal.loop-line-init
 loop-line-init g c =
     let none = since_none (g.H.Host.log c.args.host.now) in
-    rw (none, no_lines) (record { extends = grind (arith, common_steps); whole = record { done_all = refl; unstopped = refl }; silent = refl })
+    rw (none, no_lines) (record { extends = grind (arith, common_steps); whole = record { done_all = refl; unstopped = refl }; silent = refl; patient = refl })
 
 pub returns-in_err-print_warning-clause-extends : goal.returns-in_err-print_warning-clause-extends
 returns-in_err-print_warning-clause-extends g c = since_extends (g.H.Host.log c.args.host.now) (g.H.Host.log c.loop-line.host) (g.H.Host.log c.print_warning.new.host) c.loop-line.invariant.extends c.print_warning.ensures.extends
@@ -41,4 +41,5 @@ loop-line-preserved g c =
       extends = since_extends (g.H.Host.log c.args.host.now) (g.H.Host.log c.loop-line.host) (g.H.Host.log c.print_warning.new.host) c.loop-line.invariant.extends c.print_warning.ensures.extends;
       whole = line_more (g.H.Host.log c.args.host.now) (g.H.Host.log c.loop-line.host) (g.H.Host.log c.print_warning.new.host) c.as_slice-line-items.result.now c.loop-line.line-index c.line-item.result c.loop-line.invariant.extends c.print_warning.ensures.extends c.loop-line-test.true c.line-item.is c.loop-line.invariant.whole one;
       silent = none_since (g.H.Host.log c.args.host.now) (g.H.Host.log c.loop-line.host) (g.H.Host.log c.print_warning.new.host) c.loop-line.invariant.extends c.print_warning.ensures.extends c.loop-line.invariant.silent (line_silent _ _ _ c.print_warning.ensures.prints);
+      patient = c.print_warning.ensures.patient ∙ c.loop-line.invariant.patient;
     }

@@ -11,4 +11,5 @@ invariant-loop-line g l = record {
   extends : g.H.Host.log l.host ≡ g.H.Host.log l.fn.host ++ since (g.H.Host.log l.fn.host) (g.H.Host.log l.host);
   whole : IsWhole (prints Warning (take l.line-index l.line-items)) (since (g.H.Host.log l.fn.host) (g.H.Host.log l.host));
   silent : question_events (since (g.H.Host.log l.fn.host) (g.H.Host.log l.host)) ≡ [];
+  patient : g.H.Host.patience l.host ≡ g.H.Host.patience l.fn.host;
 }

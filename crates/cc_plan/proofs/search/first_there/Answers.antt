@@ -29,4 +29,5 @@ loop-path-preserved g c = record {
   asks = asks_then c.loop-path.invariant.asks c.is_there.ensures.asks;
   none = settles_two (settles_on (asks_grows c.is_there.ensures.asks) c.loop-path.invariant.none) c.in_ok-is_there.ensures.settles
       (λ look a b. find_more (is_there look) c.args.paths.now c.loop-path.path-index c.path-item.result c.path-item.is a (ap (is_there look) (sym c.as_str.ensures) ∙ b ∙ c.if-branch.false));
+  patient = c.is_there.ensures.patient ∙ c.loop-path.invariant.patient;
 }

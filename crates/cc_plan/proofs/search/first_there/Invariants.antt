@@ -11,4 +11,5 @@ invariant-loop-path g l = record {
   same_answers : l.sight.answers.ghost_name ≡ l.fn.sight.answers.ghost_name;
   asks : Asks g.W.World.steady g.W.World.answer (probe_folder l.set l.env) (g.H.Host.log l.fn.sight.host.now) (g.H.Host.log l.sight.host.now) l.fn.sight.answers.now l.sight.answers.now;
   none : Settles l.sight.answers.now (λ look. find (is_there look) (take l.path-index l.paths)) None;
+  patient : g.H.Host.patience l.sight.host.now ≡ g.H.Host.patience l.fn.sight.host.now;
 }

@@ -12,6 +12,7 @@ loop-word-init g c = record {
   same_answers = refl;
   asks = asks_none _ _;
   taken = record { is = λ look a. sym c.new-taken.ensures };
+  patient = refl;
 }
 
 pub returns-in_err-is_taken-clause-asks : goal.returns-in_err-is_taken-clause-asks
@@ -29,4 +30,5 @@ loop-word-preserved g c = record {
       (λ look a b. keep_more (takes c.args.set.now c.args.env.now c.args.family c.args.path.now look) c.args.words.now c.loop-word.word-index c.word-item.result c.loop-word.taken _ c.in_ok-is_taken.is_taken (omega (arith, ap length c.as_slice-word-items.ensures)) (c.word-item.is ∙ ap (λ xs. slice_index_or xs c.loop-word.word-index c.word-item.result) c.as_slice-word-items.ensures) a
       (ap (takes c.args.set.now c.args.env.now c.args.family c.args.path.now look) (sym c.as_str.ensures) ∙ b)
       (c.in_ok-push_if.ensures ∙ ap (λ w. c.loop-word.taken ++ when c.in_ok-is_taken.is_taken (w ∷ [])) c.as_str-in-loop-word.ensures));
+  patient = c.takes.ensures.patient ∙ c.loop-word.invariant.patient;
 }

@@ -12,4 +12,5 @@ invariant-loop-word g l = record {
   same_answers : l.sight.answers.ghost_name ≡ l.fn.sight.answers.ghost_name;
   asks : Asks g.W.World.steady g.W.World.answer (probe_folder l.set l.env) (g.H.Host.log l.fn.sight.host.now) (g.H.Host.log l.sight.host.now) l.fn.sight.answers.now l.sight.answers.now;
   taken : Settles l.sight.answers.now (λ look. filter (takes l.set l.env l.family l.path look) (take l.word-index l.words)) l.taken;
+  patient : g.H.Host.patience l.sight.host.now ≡ g.H.Host.patience l.fn.sight.host.now;
 }
