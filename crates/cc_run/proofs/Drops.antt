@@ -91,7 +91,7 @@ in_order_from : (r : Run) (ls : List Live) (part : List Event) → InOrder (ids 
 in_order_from r ls [] h = h
 in_order_from r ls (e ∷ es) h = in_order_from (run_after r e) (live_after ls e) es (in_order_after r ls e h)
 
-live_append : (ls : List Live) (a b : List Event) → live_from ls (a ++ b) ≡ live_from (live_from ls a) b
+pub live_append : (ls : List Live) (a b : List Event) → live_from ls (a ++ b) ≡ live_from (live_from ls a) b
 live_append ls [] b = refl
 live_append ls (e ∷ a) b = live_append (live_after ls e) a b
 

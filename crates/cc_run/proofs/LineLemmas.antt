@@ -4,9 +4,10 @@ use Rattle.std.specs.Borrow.{Bor}
 use Rattle.std.specs.List.{onto_first}
 use Rattle.std.proofs.lemmas.Grind.{common_steps}
 use Rattle.std.proofs.lemmas.List.Splits.{slice_split-cons_no}
-use Rattle.std.proofs.lemmas.List.{take_more, map-append}
+use Rattle.std.specs.Prelude.{option_to_list}
+use Rattle.std.proofs.lemmas.List.{append-nil, take_more, map-append}
 use Rattle.cc_run.specs.declared.print.Line.{Line}
-use Rattle.cc_run.specs.Lines.{is_feed, IsUncut, pieces, front, back, whole_lines, rest_of}
+use Rattle.cc_run.specs.Lines.{is_feed, IsUncut, pieces, front, back, whole_lines, rest_of, lines, some_line, last_line}
 
 -- bytes put before the first of some pieces
 glue : List ℕ → List (List ℕ) → List (List ℕ)
@@ -134,3 +135,52 @@ pub push_line : (f : List ℕ → Line) (texts : List (List ℕ)) (i : ℕ) (t :
 push_line f texts i t before after all lt at e h =
     e ∙ ap (λ l. l ++ f t ∷ []) h ∙ append_assoc all (map f (take i texts)) (f t ∷ [])
     ∙ ap (λ l. all ++ l) (sym (ap (map f) (take_more texts i t lt ∙ ap (λ x. take i texts ++ x ∷ []) (sym at)) ∙ map-append f (take i texts) (t ∷ [])))
+
+onto_glue : (x : ℕ) (r : List ℕ) (ps : List (List ℕ)) → onto_first x (glue r ps) ≡ glue (x ∷ r) ps
+unfolding glue
+onto_glue x r [] = refl
+onto_glue x r (p ∷ ps) = refl
+
+cut_both : (x q : List ℕ) → pieces (x ++ q) ≡ front (pieces x) ++ glue (back (pieces x)) (pieces q)
+cut_both [] q = glued [] q tt
+cut_both (b ∷ x) q = at (is_feed b) (pieces x) refl (cut_both x q)
+  where
+    at : (d : Bool) (ps : List (List ℕ)) → ps ≡ pieces x → pieces (x ++ q) ≡ front ps ++ glue (back ps) (pieces q) → cond d ([] ∷ pieces (x ++ q)) (onto_first b (pieces (x ++ q))) ≡ front (cond d ([] ∷ ps) (onto_first b ps)) ++ glue (back (cond d ([] ∷ ps) (onto_first b ps))) (pieces q)
+    at d [] e h = absurd (some_pieces x e)
+    at true (p ∷ ps) e h = ap (λ l. [] ∷ l) h
+    at false (p ∷ []) e h = ap (onto_first b) h ∙ onto_glue b p (pieces q)
+    at false (p ∷ r ∷ ps) e h = ap (onto_first b) h
+
+-- bytes cut in two: the lines that the first ones end, and the pieces of what is left
+pieces_then : (x q : List ℕ) → pieces (x ++ q) ≡ whole_lines x ++ pieces (rest_of x ++ q)
+pieces_then x q = cut_both x q ∙ ap (λ l. whole_lines x ++ l) (sym (glued (rest_of x) q (rest_uncut x)))
+
+front_behind : (a b : List (List ℕ)) → ([] ≡ b → ⊥) → (front (a ++ b) ≡ a ++ front b) × (back (a ++ b) ≡ back b)
+front_behind [] b some = (refl, refl)
+front_behind (x ∷ []) [] some = absurd (some refl)
+front_behind (x ∷ []) (y ∷ b) some = (refl, refl)
+front_behind (x ∷ y ∷ a) b some = let k = front_behind (y ∷ a) b some in (ap (λ l. x ∷ l) k.0, k.1)
+
+pub whole_both : (x q : List ℕ) → whole_lines (x ++ q) ≡ whole_lines x ++ whole_lines (rest_of x ++ q)
+whole_both x q = ap front (pieces_then x q) ∙ (front_behind (whole_lines x) (pieces (rest_of x ++ q)) (some_pieces (rest_of x ++ q))).0
+
+pub lines_both : (x q : List ℕ) → lines (x ++ q) ≡ whole_lines x ++ lines (rest_of x ++ q)
+lines_both x q =
+    let k : rest_of (x ++ q) ≡ rest_of (rest_of x ++ q) = ap back (pieces_then x q) ∙ (front_behind (whole_lines x) (pieces (rest_of x ++ q)) (some_pieces (rest_of x ++ q))).1 in
+    ap (λ l. l ++ some_line (rest_of (x ++ q))) (whole_both x q) ∙ ap (λ r. (whole_lines x ++ whole_lines (rest_of x ++ q)) ++ some_line r) k ∙ append_assoc (whole_lines x) _ _
+
+one_piece : (r : List ℕ) → IsUncut r → pieces r ≡ r ∷ []
+unfolding glue
+one_piece r h = ap pieces (sym (append-nil r)) ∙ glued r [] h ∙ ap (λ l. l ∷ []) (append-nil r)
+
+-- bytes without a line feed end no line
+pub uncut_whole : (r : List ℕ) → IsUncut r → whole_lines r ≡ []
+uncut_whole r h = ap front (one_piece r h)
+
+-- and are a line, if there are some
+pub uncut_lines : (r : List ℕ) → IsUncut r → lines r ≡ option_to_list (last_line r)
+uncut_lines r h = ap (λ l. l ++ some_line (rest_of r)) (uncut_whole r h) ∙ ap (λ l. some_line (back l)) (one_piece r h) ∙ last r
+  where
+    last : (r : List ℕ) → some_line r ≡ option_to_list (last_line r)
+    last [] = refl
+    last (b ∷ r) = refl

@@ -1,6 +1,6 @@
 -- Laws on parts of a log and on runs.
 use Rattle.std.proofs.Common.{◌≡◌, ◌⊎◌, inl, inr, ℕ, ◌+◌, ◌<◌, List, [], ◌∷◌, ◌++◌, length, take, get_or, refl, sym, ◌∙◌, ap, subst, append_assoc, zero-add, arith, Bool, true, false}
-use Rattle.std.specs.Prelude.{Option, None, Some}
+use Rattle.std.specs.Prelude.{Option, None, Some, Result, Ok, IfSome, ◌≤◌}
 use Rattle.std.proofs.lemmas.List.{append-nil, take_more}
 use Rattle.std.proofs.lemmas.Grind.{common_steps, flat_map-append}
 use Rattle.std.proofs.lemmas.List.Sums.{sum_by-append}
@@ -20,8 +20,8 @@ use Rattle.cc_host.specs.declared.event.Event.{Event}
 use Rattle.cc_host.specs.declared.event.Event.TheVariants.{Started, Missing, Turn, Fault, Heard, Unread, Ended}
 use Rattle.cc_host.specs.declared.event.HostCall.TheVariants.{Start as Starting, Turn as Turning}
 use Rattle.cc_run.specs.Paid.{starts, starts_of, loads, held_of}
+use Rattle.cc_run.specs.Printing.{printed, printed_of}
 use Rattle.cc_run.specs.Run.{Run, run_after, run_from, ended_run, Along}
-use Rattle.std.specs.Prelude.{Result, Ok, IfSome, ◌≤◌}
 use Rattle.cc_run.specs.Outcome.{IsTold, IsOpen, EndsAt, start_error, turn_error}
 use Rattle.cc_run.specs.declared.error.RunError.{RunError}
 use Rattle.cc_run.specs.declared.error.Step.{Step}
@@ -143,6 +143,9 @@ silent f a b c (n ∷ ns) = flat_map-append f (told n) (flat_map told ns) ∙ ap
 
 pub news_started : (ns : List News) → started (flat_map told ns) ≡ []
 news_started = silent started_of (λ id p. refl) (λ id. refl) (λ id s. refl)
+
+pub news_printed : (ns : List News) → printed (flat_map told ns) ≡ []
+news_printed = silent printed_of (λ id p. refl) (λ id. refl) (λ id s. refl)
 
 pub news_missing : (ns : List News) → missing (flat_map told ns) ≡ []
 news_missing = silent missing_of (λ id p. refl) (λ id. refl) (λ id s. refl)

@@ -1,5 +1,5 @@
 -- Laws on a run of one command.
-use Rattle.std.proofs.Common.{◌≡◌, inr, ℕ, ◌+◌, ◌<◌, List, [], ◌∷◌, ◌++◌, length, take, get_or, sym, ◌∙◌, ap, subst, append_assoc, arith}
+use Rattle.std.proofs.Common.{◌≡◌, ◌≢◌, inr, ℕ, ◌+◌, ◌<◌, List, [], ◌∷◌, ◌++◌, length, take, get_or, sym, ◌∙◌, ap, subst, append_assoc, arith}
 use Rattle.std.specs.Prelude.{Result, Ok, Err, Option, None, Some, OnOk, IfErr}
 use Rattle.std.proofs.lemmas.List.{append-nil, length-map}
 use Rattle.std.proofs.lemmas.Grind.{flat_map-append}
@@ -99,12 +99,14 @@ solo_unstarted shows p old new log log' e x z s =
       run = nothing;
       mid = log';
       work = alone_none (asked shows (p ∷ [])) log log' nothing g (unstarted_counts shows p 0 old new (since log log') e s).1;
+      kept = k.2;
       dropped = sym (append-nil log');
       missing_is = k.0;
       faults_are = k.1;
       done = tt;
       cause = unstarted_cause shows p old new (since log log') e z s;
       ends = unstarted_ends shows p 0 old new log log' e x s;
+      tokenless = λ is. let fault : e ≡ JobFault = cc in subst (λ (o : RunError). IsStart shows p 0 old (Err o) new (since log log')) fault s;
     }
 
 module _ (log mid new : List Event) (l : List (ℕ × ℕ)) where
@@ -124,18 +126,20 @@ module _ (log mid new : List Event) (l : List (ℕ × ℕ)) where
   solo_faults e f = ap faults (gone_part e f) ∙ flat_map-append fault_of (since log mid) (gone l) ∙ ap (λ x. faults (since log mid) ++ x) (gone_faults l) ∙ append-nil (faults (since log mid))
 
 -- the one command was started, and turns were made
-pub solo_whole : {t : Option ℕ} (cmds : List Asked) (st fin : Run) (log s w d : List Event) (result : Result (Unit {0}) RunError) → Alone cmds log s st → Goes t cmds s st w fin → loads (since s w) ≡ 0 → IsTold {T = Step} cmds (Ok Ready) (since log s) → IsTold cmds result (since s w) → d ≡ w ++ gone fin.live → OnOk result (IsDone (length cmds) fin × (fin.failed ≡ None)) → IfErr result (IsRunError (length cmds) fin) → IfErr result (EndsAt w) → IsSolo cmds log d result
-solo_whole cmds st fin log s w d result a g z k m f done cause ends =
+pub solo_whole : {t : Option ℕ} (cmds : List Asked) (st fin : Run) (log s w d : List Event) (result : Result (Unit {0}) RunError) → Alone cmds log s st → Goes t cmds s st w fin → loads (since s w) ≡ 0 → IsTold {T = Step} cmds (Ok Ready) (since log s) → IsTold cmds result (since s w) → d ≡ w ++ gone fin.live → OnOk result (IsDone (length cmds) fin × (fin.failed ≡ None)) → IfErr result (IsRunError (length cmds) fin) → IfErr result (EndsAt w) → result ≢ Err JobFault → IsSolo cmds log d result
+solo_whole cmds st fin log s w d result a g z k m f done cause ends tokenless =
     let b = alone_then cmds log s w st fin a g z in
     let q = told_pair cmds log s w Ready result a.extends g.extends k m in
     record {
       run = fin;
       mid = w;
       work = b;
+      kept = q.2;
       dropped = f;
       missing_is = solo_missing log w d fin.live b.extends f ∙ q.0;
       faults_are = solo_faults log w d fin.live b.extends f ∙ q.1;
       done = done;
       cause = cause;
       ends = ends;
+      tokenless = tokenless;
     }

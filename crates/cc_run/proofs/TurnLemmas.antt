@@ -5,6 +5,7 @@ use Rattle.std.specs.List.{flat_map}
 use Rattle.std.proofs.lemmas.List.{append-nil}
 use Rattle.std.proofs.lemmas.Grind.{flat_map-append}
 use Rattle.std.proofs.lemmas.List.Sums.{sum_by-append}
+use Rattle.cc_host.specs.Children.{Live, live_from}
 use Rattle.cc_host.specs.Event.{told}
 use Rattle.cc_host.specs.Part.{since}
 use Rattle.cc_host.proofs.Parts.{since_append}
@@ -94,6 +95,19 @@ fault_counts (Err WaitFault) = (refl, refl, refl)
 fault_counts (Err JobFault) = (refl, refl, refl)
 fault_counts (Err TurnsSpent) = (refl, refl, refl)
 fault_counts (Err NoMemory) = (refl, refl, refl)
+
+-- and polls no child
+pub fault_lives : {T : Type 0} (result : Result T RunError) (cs : List Live) → live_from cs (fault_of_answer result) ≡ cs
+unfolding fault_of_answer
+fault_lives (Ok x) cs = refl
+fault_lives (Err (HostFault call why)) cs = refl
+fault_lives (Err (ToolNotFound n)) cs = refl
+fault_lives (Err (Failed n s)) cs = refl
+fault_lives (Err (StartFault n)) cs = refl
+fault_lives (Err WaitFault) cs = refl
+fault_lives (Err JobFault) cs = refl
+fault_lives (Err TurnsSpent) cs = refl
+fault_lives (Err NoMemory) cs = refl
 
 goes_fault : (t : Option ℕ) (cmds : List Asked) (old new : List Event) (r : Run) {T : Type 0} (result : Result T RunError) → new ≡ old ++ fault_of_answer result → Goes t cmds old r new r
 unfolding fault_of_answer

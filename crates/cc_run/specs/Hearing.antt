@@ -1,5 +1,5 @@
 -- The lines that the news of a turn give, one after another.
-use Rattle.std.specs.Prelude.{ℕ, Bool, List, [], ◌∷◌, ◌++◌, ◌==◌, drop, take, flat_map, if◌then◌else◌}
+use Rattle.std.specs.Prelude.{ℕ, Bool, List, [], ◌∷◌, ◌++◌, ◌==◌, drop, take, flat_map, if◌then◌else◌, Option, None, Some}
 use Rattle.cc_host.specs.declared.event.Event.{Event}
 use Rattle.cc_host.specs.declared.event.Event.TheVariants.{Heard, Unread, Ended}
 use Rattle.cc_host.specs.declared.event.Status.{Status}
@@ -19,6 +19,11 @@ at_child id f (c ∷ cs) = if c.id == id then f c ∷ cs else c ∷ at_child id 
 abbrev pub of_child : ℕ → (Child → List Line) → List Child → List Line
 of_child id f [] = []
 of_child id f (c ∷ cs) = if c.id == id then f c else of_child id f cs
+
+-- the lines of a child, where there is one
+abbrev pub of_some : (Child → List Line) → Option Child → List Line
+of_some f None = []
+of_some f (Some c) = f c
 
 -- the children after an event
 abbrev pub children_after : List Child → Event → List Child

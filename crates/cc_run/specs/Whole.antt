@@ -4,7 +4,7 @@ use Rattle.cc_host.specs.declared.event.Event.{Event}
 use Rattle.cc_run.specs.Run.{Run, nothing, gone}
 use Rattle.cc_host.specs.Part.{since}
 use Rattle.cc_run.specs.Planned.{Asked}
-use Rattle.cc_run.specs.Part.{Goes, missing, faults}
+use Rattle.cc_run.specs.Part.{Goes, missing, faults, abandoned}
 use Rattle.cc_run.specs.Outcome.{missing_by, faults_by, IsDone, IsRunError, EndsAt}
 use Rattle.cc_run.specs.Paid.{Paid}
 use Rattle.cc_run.specs.declared.error.RunError.{RunError}
@@ -14,6 +14,7 @@ pub record IsRun {T : Type 0} (total : Option ℕ) (cmds : List Asked) (old new 
   pub run : Run
   pub mid : List Event
   pub work : Goes total cmds old nothing mid run
+  pub kept : abandoned (since old mid) ≡ []
   pub dropped : new ≡ mid ++ gone run.live
   pub whole : Goes total cmds old nothing new (record { live = []; begun = run.begun; failed = run.failed })
   pub missing_is : missing (since old new) ≡ missing_by cmds result

@@ -1,16 +1,22 @@
 // Runs a list of commands to their ends.
-ghost use Rattle.std.specs.Prelude.{◌≡◌, ◌++◌, ◌+◌, ◌≤◌, ◌<◌, ◌^◌, ◌⊎◌, length, true, false, OnOk, IfErr, IfSome, None};
-ghost use Rattle.std.specs.List.{All};
+ghost use Rattle.std.specs.Prelude.{◌≡◌, ◌++◌, ◌+◌, ◌≤◌, ◌<◌, ◌^◌, ◌⊎◌, length, true, false, OnOk, IfErr, IfSome, None, ◌*◌, ℕ, List, [], filter};
+ghost use Rattle.std.specs.List.{All, list_all};
 ghost use Rattle.cc_host.specs.Children.{InOrder, running as running_on};
 ghost use Rattle.cc_host.specs.Part.{since};
 ghost use Rattle.cc_host.specs.declared.event.Role.TheVariants.{Compile};
 ghost use Rattle.cc_jobs.specs.Seats.{Rose};
 ghost use Rattle.cc_run.specs.Children.{ArePlaced, nothing_kept, run_of};
+ghost use Rattle.cc_run.specs.Debugging.{debug_printed, debug_from};
 ghost use Rattle.cc_run.specs.Outcome.{IsTold, IsPassError, IsRunError, IsOutcome, IsOpen, IsDone, EndsAt};
+ghost use Rattle.cc_run.specs.Own.{is_of_run};
 ghost use Rattle.cc_run.specs.Paid.{Paid};
 ghost use Rattle.cc_run.specs.Part.{Goes, turns as turns_in};
+ghost use Rattle.cc_run.specs.Patience.{Bounded, Unspent, Waited, Lasts};
 ghost use Rattle.cc_run.specs.Planned.{asked};
-ghost use Rattle.cc_run.specs.Run.{ids, gone};
+ghost use Rattle.cc_run.specs.Printing.{IsPrinted, kept_from, printed, is_foreign};
+ghost use Rattle.cc_run.specs.Run.{nothing, ids, gone};
+ghost use Rattle.cc_run.specs.Stderr.{Close, IsChild, IsForwarded, stderr_printed, stderr_given};
+ghost use Rattle.cc_run.specs.Warned.{warnings_printed, warnings_from};
 ghost use Rattle.cc_run.specs.Whole.{IsRun};
 
 use crate::{Planned, RunError, Running, Shows, SpawnState, Step, Turns, WaitState};
@@ -45,6 +51,7 @@ pub(crate) fn pass<W: World, H: Host<W>, J: Jobs>(
     ensures told { IsTold (asked shows.now cmds.now) result (since (H.log host.old) (H.log host.new)) }
     ensures turns { turns.new.left + turns_in (since (H.log host.old) (H.log host.new)) ≡ turns.old.left }
     ensures used { turns.new.used ≡ turns.old.used + turns_in (since (H.log host.old) (H.log host.new)) }
+    ensures waited { Waited (H.patience host.new) (H.log host.old) (H.log host.new) }
     ensures one_turn { OnOk result (turns.new.left + 1 ≡ turns.old.left) }
     ensures unfinished { result ≡ Ok false → IsOpen (length (asked shows.now cmds.now)) (run_of running.new) }
     ensures done { result ≡ Ok true → IsDone (length (asked shows.now cmds.now)) (run_of running.new) }
@@ -53,6 +60,10 @@ pub(crate) fn pass<W: World, H: Host<W>, J: Jobs>(
     ensures paid { Paid result (length running.new.children) (since (H.log host.old) (H.log host.new)) (J.taken seat.old) (J.load seat.old) (J.taken seat.new) (J.load seat.new) }
     ensures ends { IfErr result (EndsAt (H.log host.new)) }
     ensures job_fault { result ≡ Err RunError.JobFault → Rose (J.faults seat.old) (J.faults seat.new) }
+    ensures own { list_all is_of_run (since (H.log host.old) (H.log host.new)) ≡ true }
+    ensures tells { polls.new.1.tells ≡ polls.old.1.tells }
+    ensures kept { OnOk result (kept_from running.old (since (H.log host.old) (H.log host.new)) ≡ running.new) }
+    ensures lines { IsPrinted shows.now polls.old.1.tells cmds.now running.old result (since (H.log host.old) (H.log host.new)) }
 {
     let spawned = match polls.0.poll(alloc, host, jobs, seat, cmds, running, shows) {
         Ok(step) => step,
@@ -108,12 +119,16 @@ fn run_passes<W: World, H: Host<W>, J: Jobs>(
     ensures told { IsTold (asked shows.now cmds.now) result (since (H.log host.old) (H.log host.new)) }
     ensures turns { turns.new.left + turns_in (since (H.log host.old) (H.log host.new)) ≡ turns.old.left }
     ensures used { turns.new.used ≡ turns.old.used + turns_in (since (H.log host.old) (H.log host.new)) }
+    ensures within { running.new.begun ≤ length cmds.now }
+    ensures lasts { IfSome (J.total seat.old) (λ _. Lasts (H.patience host.old) (H.log host.old) (run_of running.old) (H.log host.new)) }
     ensures done { OnOk result (IsDone (length (asked shows.now cmds.now)) (run_of running.new) × (running.new.failed ≡ None)) }
     ensures cause { IfErr result (IsRunError (length (asked shows.now cmds.now)) (run_of running.new)) }
     ensures paid { Paid result (length running.new.children) (since (H.log host.old) (H.log host.new)) (J.taken seat.old) (J.load seat.old) (J.taken seat.new) (J.load seat.new) }
     ensures ends { IfErr result (EndsAt (H.log host.new)) }
     ensures spent { result ≡ Err RunError.TurnsSpent → turns.new.left ≡ 0 }
     ensures job_fault { result ≡ Err RunError.JobFault → Rose (J.faults seat.old) (J.faults seat.new) }
+    ensures own { list_all is_of_run (since (H.log host.old) (H.log host.new)) ≡ true }
+    ensures lines { IsPrinted shows.now true cmds.now running.old result (since (H.log host.old) (H.log host.new)) }
 {
     let mut polls = (SpawnState::new(), WaitState::new());
     'passes: loop {
@@ -155,7 +170,8 @@ pub(crate) fn drop_all<W: World, H: Host<W>, J: Jobs>(
 
 /// Runs each command to its end, each under a token, and as many side by side as there are tokens. A failed command
 /// stops no other: the refusal is that of the one that ended last. A missing program, a fault of the host or the pool,
-/// want of memory and the want of turns end the run at once: the children that run are abandoned.
+/// want of memory and the want of turns end the run at once: the children that run are abandoned. Printed are the line
+/// before each command, the lines of each standard error, how each command ended, and a warning of each failure.
 pub fn run_all<W: World, H: Host<W>, J: Jobs>(
     alloc: Global,
     host: &mut H,
@@ -178,8 +194,17 @@ pub fn run_all<W: World, H: Host<W>, J: Jobs>(
     ensures outcome { IsRun (J.total seat.old) (asked shows.now cmds.now) (H.log host.old) (H.log host.new) result (J.taken seat.old) (J.load seat.old) (J.taken seat.new) (J.load seat.new) }
     ensures turns { turns.new.left + turns_in (since (H.log host.old) (H.log host.new)) ≡ turns.old.left }
     ensures used { turns.new.used ≡ turns.old.used + turns_in (since (H.log host.old) (H.log host.new)) }
+    ensures bound { IfSome (J.total seat.old) (λ _. Bounded (H.patience host.old) (length cmds.now) (since (H.log host.old) (H.log host.new))) }
+    ensures enough { result ≡ Err RunError.TurnsSpent → IfSome (J.total seat.old) (λ _. Unspent (H.patience host.old) (length cmds.now) (since (H.log host.old) (H.log host.new))) }
     ensures spent { result ≡ Err RunError.TurnsSpent → turns.new.left ≡ 0 }
     ensures job_fault { result ≡ Err RunError.JobFault → Rose (J.faults seat.old) (J.faults seat.new) }
+    ensures own { list_all is_of_run (since (H.log host.old) (H.log host.new)) ≡ true }
+    ensures lines { IsPrinted shows.now true cmds.now nothing_kept result (since (H.log host.old) (H.log host.new)) }
+    ensures kinds { filter is_foreign (printed (since (H.log host.old) (H.log host.new))) ≡ [] }
+    ensures stderr { (id : ℕ) (pieces : List (List ℕ)) (close : Close) → IsChild id pieces close (since (H.log host.old) (H.log host.new)) → IsForwarded result (stderr_printed id (since (H.log host.old) (H.log host.new))) (stderr_given shows.now id pieces close) }
+    ensures debug { OnOk result (debug_printed (since (H.log host.old) (H.log host.new)) ≡ debug_from shows.now nothing (since (H.log host.old) (H.log host.new))) }
+    ensures twice { shows.now.debug ≡ true → OnOk result (length (debug_printed (since (H.log host.old) (H.log host.new))) ≡ 2 * length cmds.now) }
+    ensures warnings { IsForwarded result (warnings_printed (since (H.log host.old) (H.log host.new))) (warnings_from shows.now true cmds.now nothing (since (H.log host.old) (H.log host.new))) }
 {
     let mut running = Running::new(alloc);
     let result = run_passes(alloc, host, jobs, seat, turns, cmds, &mut running, shows);

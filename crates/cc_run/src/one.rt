@@ -1,12 +1,20 @@
 // Runs one command to its end, without a token.
-ghost use Rattle.std.specs.Prelude.{◌≡◌, ◌++◌, ◌+◌, ◌≤◌, ◌<◌, ◌^◌, ◌∷◌, [], length, OnOk, IfErr, None};
+ghost use Rattle.std.specs.Prelude.{◌≡◌, ◌≢◌, ◌++◌, ◌+◌, ◌≤◌, ◌<◌, ◌^◌, ◌∷◌, [], length, OnOk, IfErr, IfSome, None, true, ℕ, List, filter, false};
+ghost use Rattle.std.specs.List.{list_all};
 ghost use Rattle.cc_host.specs.Part.{since};
-ghost use Rattle.cc_run.specs.Children.{ArePlaced, run_of};
+ghost use Rattle.cc_run.specs.Children.{ArePlaced, nothing_kept, run_of};
+ghost use Rattle.cc_run.specs.Debugging.{debug_printed, debug_from};
 ghost use Rattle.cc_run.specs.Outcome.{IsTold, IsRunError, IsDone, EndsAt};
+ghost use Rattle.cc_run.specs.Own.{is_of_run};
 ghost use Rattle.cc_run.specs.Paid.{loads};
 ghost use Rattle.cc_run.specs.Part.{Goes, turns as turns_in};
+ghost use Rattle.cc_run.specs.Patience.{Bounded, Unspent, Lasts};
 ghost use Rattle.cc_run.specs.Planned.{asked};
+ghost use Rattle.cc_run.specs.Printing.{IsPrinted, printed, is_foreign};
+ghost use Rattle.cc_run.specs.Run.{nothing};
 ghost use Rattle.cc_run.specs.Solo.{IsSolo};
+ghost use Rattle.cc_run.specs.Stderr.{Close, IsChild, IsForwarded, stderr_printed, stderr_given};
+ghost use Rattle.cc_run.specs.Warned.{warnings_printed, warnings_from};
 
 use crate::all::{drop_all, outcome_of};
 use crate::spawn::start;
@@ -39,11 +47,15 @@ fn wait_out<W: World, H: Host<W>, J: Jobs>(
     ensures told { IsTold (asked shows.now cmds.now) result (since (H.log host.old) (H.log host.new)) }
     ensures turns { turns.new.left + turns_in (since (H.log host.old) (H.log host.new)) ≡ turns.old.left }
     ensures used { turns.new.used ≡ turns.old.used + turns_in (since (H.log host.old) (H.log host.new)) }
+    ensures lasts { IfSome (J.total seat.old) (λ _. Lasts (H.patience host.old) (H.log host.old) (run_of running.old) (H.log host.new)) }
     ensures free { loads (since (H.log host.old) (H.log host.new)) ≡ 0 }
     ensures done { OnOk result (IsDone (length (asked shows.now cmds.now)) (run_of running.new) × (running.new.failed ≡ None)) }
     ensures cause { IfErr result (IsRunError (length (asked shows.now cmds.now)) (run_of running.new)) }
     ensures ends { IfErr result (EndsAt (H.log host.new)) }
     ensures spent { result ≡ Err RunError.TurnsSpent → turns.new.left ≡ 0 }
+    ensures tokenless { result ≢ Err RunError.JobFault }
+    ensures own { list_all is_of_run (since (H.log host.old) (H.log host.new)) ≡ true }
+    ensures lines { IsPrinted shows.now false cmds.now running.old result (since (H.log host.old) (H.log host.new)) }
 {
     let mut wait = WaitState::silent();
     'turns: loop {
@@ -57,7 +69,8 @@ fn wait_out<W: World, H: Host<W>, J: Jobs>(
 }
 
 /// Runs one command to its end, by a start and turns. It takes no token, and its start carries 0. A missing program, a
-/// fault of the host, want of memory and the want of turns end the run at once: a child that runs is abandoned.
+/// fault of the host, want of memory and the want of turns end the run at once: a child that runs is abandoned. It
+/// prints as `run_all` does, without a warning of a failure.
 pub fn run_one<W: World, H: Host<W>>(
     alloc: Global,
     host: &mut H,
@@ -70,7 +83,16 @@ pub fn run_one<W: World, H: Host<W>>(
     ensures outcome { IsSolo (asked shows.now (cmd.now ∷ [])) (H.log host.old) (H.log host.new) result }
     ensures turns { turns.new.left + turns_in (since (H.log host.old) (H.log host.new)) ≡ turns.old.left }
     ensures used { turns.new.used ≡ turns.old.used + turns_in (since (H.log host.old) (H.log host.new)) }
+    ensures bound { Bounded (H.patience host.old) 1 (since (H.log host.old) (H.log host.new)) }
+    ensures enough { result ≡ Err RunError.TurnsSpent → Unspent (H.patience host.old) 1 (since (H.log host.old) (H.log host.new)) }
     ensures spent { result ≡ Err RunError.TurnsSpent → turns.new.left ≡ 0 }
+    ensures own { list_all is_of_run (since (H.log host.old) (H.log host.new)) ≡ true }
+    ensures lines { IsPrinted shows.now false (cmd.now ∷ []) nothing_kept result (since (H.log host.old) (H.log host.new)) }
+    ensures kinds { filter is_foreign (printed (since (H.log host.old) (H.log host.new))) ≡ [] }
+    ensures stderr { (id : ℕ) (pieces : List (List ℕ)) (close : Close) → IsChild id pieces close (since (H.log host.old) (H.log host.new)) → IsForwarded result (stderr_printed id (since (H.log host.old) (H.log host.new))) (stderr_given shows.now id pieces close) }
+    ensures debug { OnOk result (debug_printed (since (H.log host.old) (H.log host.new)) ≡ debug_from shows.now nothing (since (H.log host.old) (H.log host.new))) }
+    ensures twice { shows.now.debug ≡ true → OnOk result (length (debug_printed (since (H.log host.old) (H.log host.new))) ≡ 2) }
+    ensures warnings { IsForwarded result (warnings_printed (since (H.log host.old) (H.log host.new))) (warnings_from shows.now false (cmd.now ∷ []) nothing (since (H.log host.old) (H.log host.new))) }
 {
     let mut running = Running::new(alloc);
     let (jobs, mut seat) = OneCaller::new(1);

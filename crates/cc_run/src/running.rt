@@ -1,8 +1,11 @@
 // The children of a run that run.
-ghost use Rattle.std.specs.Prelude.{◌≡◌, ◌+◌, length, map, MatchOption, IfSome, IfNone, ◌<◌, ℕ, Some, Option};
+ghost use Rattle.std.specs.Prelude.{◌≡◌, ◌+◌, length, map, MatchOption, IfSome, IfNone, ◌<◌, ℕ, List, Some, Option};
 ghost use Rattle.std.specs.Option.{option_map};
 ghost use Rattle.cc_run.specs.Children.{Kept, ArePlaced, nothing_kept, run_of, seat, without_child, IsFirst};
+ghost use Rattle.cc_run.specs.Hearing.{of_child, of_some};
 ghost use Rattle.cc_run.specs.Run.{ended_run, place_of};
+ghost use Rattle.cc_run.specs.declared.print.Line.{Line as LineSeen};
+ghost use Rattle.cc_run.specs.declared.running.Child.{Child as ChildSeen};
 
 use crate::Forwarder;
 use cc_host::Status;
@@ -64,6 +67,7 @@ impl Running {
         ensures place { option_map (λ c. c.place) result ≡ place_of id (map seat self.old.children) }
         ensures rest { self.new ≡ record self.old { children = without_child id self.old.children } }
         ensures len { MatchOption result (self.new ≡ self.old) (λ _. length self.new.children + 1 ≡ length self.old.children) }
+        ensures own { (f : ChildSeen → List LineSeen) → of_child id f self.old.children ≡ of_some f result }
     {
         let at = find(&self.children, id)?;
         Some(self.children.remove(at))
@@ -75,6 +79,7 @@ impl Running {
         ensures run { run_of self.new ≡ ended_run (run_of self.old) id (Some status) }
         ensures len { MatchOption result (self.new ≡ self.old) (λ _. length self.new.children + 1 ≡ length self.old.children) }
         ensures kept { self.new.children ≡ without_child id self.old.children }
+        ensures own { (f : ChildSeen → List LineSeen) → of_child id f self.old.children ≡ of_some f result }
         ensures placed { (bound : ℕ) → ArePlaced bound self.old → ArePlaced bound self.new × IfSome result (λ c. c.place < bound) }
     {
         let child = self.take_out(id)?;

@@ -1,12 +1,15 @@
 // Starts the commands of a run.
-ghost use Rattle.std.specs.Prelude.{◌≡◌, ◌++◌, ◌+◌, ◌-◌, ◌<◌, ◌≤◌, ◌^◌, ℕ, IfSome, IfErr, IfOk, OnErr, length};
+ghost use Rattle.std.specs.Prelude.{◌≡◌, ◌++◌, ◌+◌, ◌-◌, ◌<◌, ◌≤◌, ◌^◌, ℕ, IfSome, IfErr, IfOk, OnErr, length, true, Bool, OnOk};
+ghost use Rattle.std.specs.List.{list_all};
 ghost use Rattle.cc_host.specs.Part.{since};
 ghost use Rattle.cc_jobs.specs.Seats.{Rose};
 ghost use Rattle.cc_run.specs.Children.{ArePlaced, run_of};
 ghost use Rattle.cc_run.specs.Outcome.{IsTold, IsSpawnError, EndsAt};
+ghost use Rattle.cc_run.specs.Own.{is_of_run};
 ghost use Rattle.cc_run.specs.Paid.{Paid};
 ghost use Rattle.cc_run.specs.Part.{Goes, turns};
 ghost use Rattle.cc_run.specs.Planned.{asked, asked_by};
+ghost use Rattle.cc_run.specs.Printing.{IsPrinted, kept_from};
 ghost use Rattle.cc_run.specs.Started.{IsStart, IsBegun};
 
 use crate::error::start_error;
@@ -89,6 +92,9 @@ fn start_next<W: World, H: Host<W>, J: Jobs>(
     ensures paid { Paid result (length running.new.children) (since (H.log host.old) (H.log host.new)) (J.taken seat.old) (J.load seat.old) (J.taken seat.new) (J.load seat.new) }
     ensures ends { IfErr result (EndsAt (H.log host.new)) }
     ensures job_fault { result ≡ Err RunError.JobFault → Rose (J.faults seat.old) (J.faults seat.new) }
+    ensures own { list_all is_of_run (since (H.log host.old) (H.log host.new)) ≡ true }
+    ensures kept { OnOk result (kept_from running.old (since (H.log host.old) (H.log host.new)) ≡ running.new) }
+    ensures lines { (tells : Bool) → IsPrinted shows.now tells cmds.now running.old result (since (H.log host.old) (H.log host.new)) }
 {
     let planned = &cmds[running.started];
     match jobs.take(seat) {
@@ -150,6 +156,9 @@ impl SpawnState {
         ensures paid { Paid result (length running.new.children) (since (H.log host.old) (H.log host.new)) (J.taken seat.old) (J.load seat.old) (J.taken seat.new) (J.load seat.new) }
         ensures ends { IfErr result (EndsAt (H.log host.new)) }
         ensures job_fault { result ≡ Err RunError.JobFault → Rose (J.faults seat.old) (J.faults seat.new) }
+        ensures own { list_all is_of_run (since (H.log host.old) (H.log host.new)) ≡ true }
+        ensures kept { OnOk result (kept_from running.old (since (H.log host.old) (H.log host.new)) ≡ running.new) }
+        ensures lines { (tells : Bool) → IsPrinted shows.now tells cmds.now running.old result (since (H.log host.old) (H.log host.new)) }
     {
         while running.started < cmds.len() {
             match start_next(alloc, host, jobs, seat, cmds, running, shows) {

@@ -1,15 +1,19 @@
 // Waits for the children of a run.
-ghost use Rattle.std.specs.Prelude.{◌≡◌, ◌++◌, ◌∷◌, [], ◌+◌, ◌<◌, ◌≤◌, ◌^◌, ℕ, List, IfOk, IfErr, OnOk, MatchResult, length};
-ghost use Rattle.std.specs.List.{flat_map};
+ghost use Rattle.std.specs.Prelude.{◌≡◌, ◌++◌, ◌∷◌, [], ◌+◌, ◌<◌, ◌≤◌, ◌^◌, ℕ, List, IfOk, IfErr, OnOk, MatchResult, length, true, false};
+ghost use Rattle.std.specs.List.{flat_map, list_all};
 ghost use Rattle.cc_host.specs.Event.{told};
 ghost use Rattle.cc_host.specs.Children.{IsNews, Waits};
 ghost use Rattle.cc_host.specs.Part.{since};
 ghost use Rattle.cc_host.specs.declared.event.Event.TheVariants.{Turn as OneTurn};
 ghost use Rattle.cc_run.specs.Children.{ArePlaced, run_of};
+ghost use Rattle.cc_run.specs.Hearing.{children_from, owed_from};
 ghost use Rattle.cc_run.specs.Outcome.{IsTold, IsWaitError, EndsAt, IsUnturned};
+ghost use Rattle.cc_run.specs.Own.{is_of_run, AreRunLines};
 ghost use Rattle.cc_run.specs.Paid.{starts, loads};
 ghost use Rattle.cc_run.specs.Part.{BusyHere, Goes, turns as turns_in};
+ghost use Rattle.cc_run.specs.Patience.{Waited};
 ghost use Rattle.cc_run.specs.Planned.{asked};
+ghost use Rattle.cc_run.specs.Printing.{IsPrinted, kept_from};
 ghost use Rattle.cc_run.specs.Run.{ended_run, run_from};
 ghost use Rattle.cc_run.specs.Shown.{IsShown, IsPrintError};
 ghost use Rattle.cc_run.specs.declared.print.Line.{Line as LineSeen};
@@ -53,6 +57,9 @@ fn settle<J: Jobs>(
     ensures counts { (J.taken seat.new ≡ J.taken seat.old) × (J.load seat.new ≡ J.load seat.old) }
     ensures run { run_of running.new ≡ ended_run (run_of running.old) news.now.id news.now.ended }
     ensures placed { ArePlaced (length cmds.now) running.new }
+    ensures kinds { OnOk result (AreRunLines lines.old.items → AreRunLines lines.new.items) }
+    ensures children { OnOk result (running.new.children ≡ children_from running.old.children (told news.now)) }
+    ensures lines { OnOk result (lines.new.items ≡ lines.old.items ++ owed_from shows.now tells cmds.now running.old.children (told news.now)) }
 {
     let heard = hear(alloc, running, news, shows, lines);
     let Some(status) = news.ended else {
@@ -91,13 +98,14 @@ fn settle_all<J: Jobs>(
     ensures run { run_of running.new ≡ run_from (run_of running.old) (flat_map told news.now) }
     ensures begun { running.new.begun ≡ running.old.begun }
     ensures placed { ArePlaced (length cmds.now) running.new }
+    ensures kinds { OnOk result (AreRunLines lines.old.items → AreRunLines lines.new.items) }
+    ensures children { OnOk result (running.new.children ≡ children_from running.old.children (flat_map told news.now)) }
+    ensures lines { OnOk result (lines.new.items ≡ lines.old.items ++ owed_from shows.now tells cmds.now running.old.children (flat_map told news.now)) }
 {
     let mut told = Ok(());
     for item in news {
         let one = settle(alloc, jobs, seat, cmds, running, item, shows, tells, lines);
-        if told.is_ok() {
-            told = one;
-        }
+        told = told.and(one);
     }
     told
 }
@@ -158,6 +166,9 @@ fn take_news<W: World, H: Host<W>, J: Jobs>(
     ensures extends { H.log host.new ≡ H.log host.old ++ since (H.log host.old) (H.log host.new) }
     ensures shown { (lines : List LineSeen) × IsShown lines result (since (H.log host.old) (H.log host.new)) }
     ensures kind { IfErr result IsPrintError }
+    ensures own { list_all is_of_run (since (H.log host.old) (H.log host.new)) ≡ true }
+    ensures children { OnOk result (running.new.children ≡ children_from running.old.children (flat_map told news.now)) }
+    ensures lines { IsShown (owed_from shows.now tells cmds.now running.old.children (flat_map told news.now)) result (since (H.log host.old) (H.log host.new)) }
 {
     let mut lines = Vec::new(alloc);
     let settled = settle_all(
@@ -183,7 +194,9 @@ fn step_of(running: &Running) -> Step
 
 impl WaitState {
     /// The poll of a run that begins, where a failed command is told as a warning. It takes no memory.
-    pub fn new() -> WaitState {
+    pub fn new() -> WaitState
+        ensures { result.tells ≡ true }
+    {
         WaitState {
             idle: 0,
             started: 0,
@@ -192,7 +205,9 @@ impl WaitState {
     }
 
     // The same, where a failed command isn't told.
-    pub(crate) fn silent() -> WaitState {
+    pub(crate) fn silent() -> WaitState
+        ensures { result.tells ≡ false }
+    {
         WaitState {
             idle: 0,
             started: 0,
@@ -201,7 +216,9 @@ impl WaitState {
     }
 
     // Notes whether the pass made progress: whether a command was started or one ended.
-    fn note(&mut self, started: usize, ended: bool) {
+    fn note(&mut self, started: usize, ended: bool)
+        ensures tells { self.new.tells ≡ self.old.tells }
+    {
         if ended || started != self.started {
             self.idle = 0;
         } else if self.idle < 10 {
@@ -242,12 +259,17 @@ impl WaitState {
         ensures turns { turns.new.left + turns_in (since (H.log host.old) (H.log host.new)) ≡ turns.old.left }
         ensures used { turns.new.used ≡ turns.old.used + turns_in (since (H.log host.old) (H.log host.new)) }
         ensures one_turn { OnOk result (turns.new.left + 1 ≡ turns.old.left) }
+        ensures waited { Waited (H.patience host.new) (H.log host.old) (H.log host.new) }
         ensures starts { (starts (since (H.log host.old) (H.log host.new)) ≡ 0) × (loads (since (H.log host.old) (H.log host.new)) ≡ 0) }
         ensures ends { IfErr result (EndsAt (H.log host.new)) }
         ensures kind { IfErr result IsWaitError }
         ensures spent { result ≡ Err RunError.TurnsSpent → (turns.old.left ≡ 0) × (running.new ≡ running.old) }
         ensures ready { result ≡ Ok Step.Ready → (run_of running.new).live ≡ [] }
         ensures pending { result ≡ Ok Step.Pending → 0 < length (run_of running.new).live }
+        ensures own { list_all is_of_run (since (H.log host.old) (H.log host.new)) ≡ true }
+        ensures tells { self.new.tells ≡ self.old.tells }
+        ensures kept { OnOk result (kept_from running.old (since (H.log host.old) (H.log host.new)) ≡ running.new) }
+        ensures lines { IsPrinted shows.now self.old.tells cmds.now running.old result (since (H.log host.old) (H.log host.new)) }
     {
         let news = match turn_once(host, turns, self.idle) {
             Ok(news) => news,

@@ -1,4 +1,4 @@
-use Rattle.std.proofs.Common.{◌≡◌, ◌+◌, Ok, Err, Bool, true, false, length, arith, ◌∙◌}
+use Rattle.std.proofs.Common.{◌≡◌, ◌+◌, Ok, Err, Bool, true, false, length, arith, subst, ◌∙◌}
 use Rattle.std.proofs.lemmas.Grind.{common_steps}
 use Rattle.cc_host.specs.Part.{since}
 use Rattle.cc_run.specs.Part.{turns}
@@ -6,6 +6,10 @@ use Rattle.cc_run.proofs.Runs.{goes_on, turns_both, told_then}
 use Rattle.cc_run.specs.Paid.{PaidAnd}
 use Rattle.cc_run.specs.declared.error.RunError.{RunError}
 use Rattle.cc_run.proofs.Payments.{paid_then, paid_any}
+use Rattle.cc_run.proofs.PatienceLemmas.{lasts_then}
+use Rattle.cc_run.proofs.OwnLemmas.{own_then}
+use Rattle.cc_run.specs.Printing.{IsPrinted}
+use Rattle.cc_run.proofs.PrintingLemmas.{kept_then, printed_then, printed_outcome}
 use Rattle.cc_run.proofs.all.run_passes.Goals as goal
 
 pub passes-preserved : goal.passes-preserved
@@ -23,8 +27,13 @@ passes-preserved g c =
       unfinished = grind (arith, common_steps);
       told = told_then (tt {0}) (Ok false) c.passes.invariant.goes c.pass.ensures.goes c.passes.invariant.told (grind (arith, common_steps));
       paid = paid_then {T = Bool} {E = RunError} (g.H.Host.log c.args.host.now) (g.H.Host.log c.passes.host) (g.H.Host.log c.pass.new.host) (Ok false) (length c.pass.new.running.children) (g.J.Jobs.taken c.args.seat.now) (g.J.Jobs.load c.args.seat.now) (g.J.Jobs.taken c.passes.seat) (g.J.Jobs.load c.passes.seat) (g.J.Jobs.taken c.pass.new.seat) (g.J.Jobs.load c.pass.new.seat) c.passes.invariant.goes.extends c.pass.ensures.goes.extends c.passes.invariant.paid (grind (arith, common_steps, c.pass.ensures.paid));
+      lasts = lasts_then (g.H.Host.patience c.args.host.now) (g.H.Host.patience c.pass.new.host) c.passes.invariant.total (c.pass.ensures.patient ∙ c.passes.invariant.patient) c.passes.invariant.goes c.pass.ensures.goes c.passes.invariant.lasts c.pass.ensures.waited;
       left = omega (arith, both, c.pass.ensures.turns, c.passes.invariant.left);
       used = omega (arith, both, c.pass.ensures.used, c.passes.invariant.used);
+      own = own_then (g.H.Host.log c.args.host.now) (g.H.Host.log c.passes.host) (g.H.Host.log c.pass.new.host) c.passes.invariant.goes.extends c.pass.ensures.goes.extends c.passes.invariant.own c.pass.ensures.own;
+      tells = c.pass.ensures.tells ∙ c.passes.invariant.tells;
+      kept = kept_then c.args.running.now c.passes.running c.pass.new.running (g.H.Host.log c.args.host.now) (g.H.Host.log c.passes.host) (g.H.Host.log c.pass.new.host) c.passes.invariant.goes.extends c.pass.ensures.goes.extends c.passes.invariant.kept c.in-Ok-false.ensures.kept;
+      lines = printed_then {T = Bool} c.args.shows.now true c.args.cmds.now c.args.running.now c.passes.running (g.H.Host.log c.args.host.now) (g.H.Host.log c.passes.host) (g.H.Host.log c.pass.new.host) (Ok false) c.passes.invariant.goes.extends c.pass.ensures.goes.extends c.passes.invariant.kept c.passes.invariant.lines (subst (λ t. IsPrinted {T = Bool} c.args.shows.now t c.args.cmds.now c.passes.running (Ok false) (since (g.H.Host.log c.passes.host) (g.H.Host.log c.pass.new.host))) c.passes.invariant.tells c.in-Ok-false.ensures.lines);
     }
 
 pub returns-in-Err-clause-goes : goal.returns-in-Err-clause-goes
@@ -40,3 +49,21 @@ pub returns-clause-paid : goal.returns-clause-paid
 returns-clause-paid g c =
     let p : PaidAnd 0 0 (since (g.H.Host.log c.args.host.now) (g.H.Host.log c.pass.new.host)) (g.J.Jobs.taken c.args.seat.now) (g.J.Jobs.load c.args.seat.now) (g.J.Jobs.taken c.pass.new.seat) (g.J.Jobs.load c.pass.new.seat) = paid_then {T = Bool} {E = RunError} (g.H.Host.log c.args.host.now) (g.H.Host.log c.passes.host) (g.H.Host.log c.pass.new.host) (Ok true) (length c.pass.new.running.children) (g.J.Jobs.taken c.args.seat.now) (g.J.Jobs.load c.args.seat.now) (g.J.Jobs.taken c.passes.seat) (g.J.Jobs.load c.passes.seat) (g.J.Jobs.taken c.pass.new.seat) (g.J.Jobs.load c.pass.new.seat) c.passes.invariant.goes.extends c.pass.ensures.goes.extends c.passes.invariant.paid (grind (arith, common_steps, c.pass.ensures.paid)) in
     paid_any (since (g.H.Host.log c.args.host.now) (g.H.Host.log c.pass.new.host)) (g.J.Jobs.taken c.args.seat.now) (g.J.Jobs.load c.args.seat.now) (g.J.Jobs.taken c.pass.new.seat) (g.J.Jobs.load c.pass.new.seat) c.outcome_of.result (length c.pass.new.running.children) p
+
+pub returns-in-Err-clause-lasts : goal.returns-in-Err-clause-lasts
+returns-in-Err-clause-lasts g c = lasts_then (g.H.Host.patience c.args.host.now) (g.H.Host.patience c.pass.new.host) c.passes.invariant.total (c.pass.ensures.patient ∙ c.passes.invariant.patient) c.passes.invariant.goes c.pass.ensures.goes c.passes.invariant.lasts c.pass.ensures.waited
+
+pub returns-clause-lasts : goal.returns-clause-lasts
+returns-clause-lasts g c = lasts_then (g.H.Host.patience c.args.host.now) (g.H.Host.patience c.pass.new.host) c.passes.invariant.total (c.pass.ensures.patient ∙ c.passes.invariant.patient) c.passes.invariant.goes c.pass.ensures.goes c.passes.invariant.lasts c.pass.ensures.waited
+
+pub returns-in-Err-clause-own : goal.returns-in-Err-clause-own
+returns-in-Err-clause-own g c = own_then (g.H.Host.log c.args.host.now) (g.H.Host.log c.passes.host) (g.H.Host.log c.pass.new.host) c.passes.invariant.goes.extends c.pass.ensures.goes.extends c.passes.invariant.own c.pass.ensures.own
+
+pub returns-clause-own : goal.returns-clause-own
+returns-clause-own g c = own_then (g.H.Host.log c.args.host.now) (g.H.Host.log c.passes.host) (g.H.Host.log c.pass.new.host) c.passes.invariant.goes.extends c.pass.ensures.goes.extends c.passes.invariant.own c.pass.ensures.own
+
+pub returns-in-Err-clause-lines : goal.returns-in-Err-clause-lines
+returns-in-Err-clause-lines g c = printed_then {T = Bool} c.args.shows.now true c.args.cmds.now c.args.running.now c.passes.running (g.H.Host.log c.args.host.now) (g.H.Host.log c.passes.host) (g.H.Host.log c.pass.new.host) (Err c.in-Err.e) c.passes.invariant.goes.extends c.pass.ensures.goes.extends c.passes.invariant.kept c.passes.invariant.lines (subst (λ t. IsPrinted {T = Bool} c.args.shows.now t c.args.cmds.now c.passes.running (Err c.in-Err.e) (since (g.H.Host.log c.passes.host) (g.H.Host.log c.pass.new.host))) c.passes.invariant.tells c.in-Err.ensures.lines)
+
+pub returns-clause-lines : goal.returns-clause-lines
+returns-clause-lines g c = printed_outcome c.args.shows.now true c.args.cmds.now c.args.running.now (since (g.H.Host.log c.args.host.now) (g.H.Host.log c.pass.new.host)) c.pass.new.running.failed c.outcome_of.result c.outcome_of.ensures (printed_then {T = Bool} c.args.shows.now true c.args.cmds.now c.args.running.now c.passes.running (g.H.Host.log c.args.host.now) (g.H.Host.log c.passes.host) (g.H.Host.log c.pass.new.host) (Ok true) c.passes.invariant.goes.extends c.pass.ensures.goes.extends c.passes.invariant.kept c.passes.invariant.lines (subst (λ t. IsPrinted {T = Bool} c.args.shows.now t c.args.cmds.now c.passes.running (Ok true) (since (g.H.Host.log c.passes.host) (g.H.Host.log c.pass.new.host))) c.passes.invariant.tells c.in-Ok-true.ensures.lines))

@@ -1,10 +1,15 @@
-use Rattle.std.proofs.Common.{◌≡◌, ◌+◌, ◌<◌, length, Ok}
+use Rattle.std.proofs.Common.{◌≡◌, ◌+◌, ◌<◌, length, Ok, true, false}
+use Rattle.std.specs.Prelude.{IfSome}
+use Rattle.std.specs.List.{list_all}
 use Rattle.cc_host.specs.Part.{since}
 use Rattle.cc_run.specs.Children.{ArePlaced, run_of}
 use Rattle.cc_run.specs.Outcome.{IsTold}
+use Rattle.cc_run.specs.Own.{is_of_run}
 use Rattle.cc_run.specs.Paid.{loads}
+use Rattle.cc_run.specs.Patience.{Lasts}
 use Rattle.cc_run.specs.Part.{Goes, turns}
 use Rattle.cc_run.specs.Planned.{asked}
+use Rattle.cc_run.specs.Printing.{printed, kept_from, due_from}
 use Rattle.cc_run.proofs.one.wait_out.Given as goal
 
 abbrev pub invariant-turns : goal.invariant-turns
@@ -22,8 +27,13 @@ invariant-turns g l =
       goes : Goes (g.J.Jobs.total l.fn.seat) all (g.H.Host.log l.fn.host) (run_of l.fn.running) (g.H.Host.log l.host) (run_of l.running);
       told : IsTold {T = Unit {0}} all (Ok tt) part;
       free : loads part ≡ 0;
+      lasts : IfSome (g.J.Jobs.total l.fn.seat) (λ _. Lasts (g.H.Host.patience l.fn.host) (g.H.Host.log l.fn.host) (run_of l.fn.running) (g.H.Host.log l.host));
       left : l.turns.left + turns part ≡ l.fn.turns.left;
       used : l.turns.used ≡ l.fn.turns.used + turns part;
+      own : list_all is_of_run part ≡ true;
+      tells : l.wait.tells ≡ false;
+      kept : kept_from l.fn.running part ≡ l.running;
+      lines : printed part ≡ due_from l.shows false l.cmds l.fn.running part;
     }
 
 abbrev pub decreases-turns : goal.decreases-turns

@@ -1,9 +1,12 @@
-use Rattle.std.proofs.Common.{◌≡◌, ◌+◌, get_or, length, arith, Ok, Err, ap, sym, ◌∙◌, inr}
+use Rattle.std.proofs.Common.{◌≡◌, ◌+◌, get_or, length, arith, Ok, Err, ap, sym, ◌∙◌, inr, true}
 use Rattle.std.proofs.lemmas.Grind.{common_steps}
 use Rattle.cc_jobs.specs.Seats.{stands}
 use Rattle.cc_host.specs.Part.{since}
 use Rattle.cc_run.proofs.Payments.{paid_start, paid_idle}
+use Rattle.cc_run.proofs.PrintingLemmas.{start_kept, unstarted_printed}
+use Rattle.cc_run.specs.declared.error.Step.{Step}
 use Rattle.cc_run.proofs.StartLemmas.{start_goes, unstarted_goes, start_told, unstarted_told, start_turns, start_counts, unstarted_counts, unstarted_ends, unstarted_same, most_of}
+use Rattle.cc_run.proofs.OwnLemmas.{own_start}
 use Rattle.cc_run.proofs.spawn.start_next.Goals as goal
 
 pub returns-in-Ok-clause-placed : goal.returns-in-Ok-clause-placed
@@ -45,3 +48,20 @@ returns-in-Err-start-clause-paid g c =
 
 pub returns-in-Err-start-clause-ends : goal.returns-in-Err-start-clause-ends
 returns-in-Err-start-clause-ends g c = unstarted_ends c.args.shows.now c.index-cmds-running.result c.held-held.result c.args.running.now c.start.new.running (g.H.Host.log c.args.host.now) (g.H.Host.log c.start.new.host) c.in-Err-start.e c.start.ensures.extends c.in-Err-start.ensures.part
+
+pub returns-in-Ok-clause-own : goal.returns-in-Ok-clause-own
+returns-in-Ok-clause-own g c = own_start c.args.shows.now c.index-cmds-running.result c.held-held.result c.args.running.now c.start.new.running (since (g.H.Host.log c.args.host.now) (g.H.Host.log c.start.new.host)) (Ok c.in-Ok.field-0) c.in-Ok.ensures.part
+
+pub returns-in-Err-start-clause-own : goal.returns-in-Err-start-clause-own
+returns-in-Err-start-clause-own g c = own_start c.args.shows.now c.index-cmds-running.result c.held-held.result c.args.running.now c.start.new.running (since (g.H.Host.log c.args.host.now) (g.H.Host.log c.start.new.host)) (Err c.in-Err-start.e) c.in-Err-start.ensures.part
+
+pub returns-in-Ok-clause-kept : goal.returns-in-Ok-clause-kept
+returns-in-Ok-clause-kept g c = (start_kept c.args.shows.now true c.args.cmds.now c.index-cmds-running.result c.held-held.result c.args.running.now c.start.new.running (since (g.H.Host.log c.args.host.now) (g.H.Host.log c.start.new.host)) c.in-Ok.field-0 c.in-Ok.ensures.part).0
+
+pub returns-in-Ok-clause-lines : goal.returns-in-Ok-clause-lines
+returns-in-Ok-clause-lines g c = λ tells. (start_kept c.args.shows.now tells c.args.cmds.now c.index-cmds-running.result c.held-held.result c.args.running.now c.start.new.running (since (g.H.Host.log c.args.host.now) (g.H.Host.log c.start.new.host)) c.in-Ok.field-0 c.in-Ok.ensures.part).1
+
+pub returns-in-Err-start-clause-lines : goal.returns-in-Err-start-clause-lines
+returns-in-Err-start-clause-lines g c =
+    let at : c.index-cmds-running.result ≡ get_or c.args.cmds.now c.args.running.now.begun c.index-cmds-running.result = grind (arith, common_steps) in
+    λ tells. unstarted_printed c.args.shows.now tells c.args.cmds.now c.index-cmds-running.result c.held-held.result c.args.running.now c.start.new.running (since (g.H.Host.log c.args.host.now) (g.H.Host.log c.start.new.host)) Step c.in-Err-start.e c.in-Err-start.ensures.part c.requires.next at

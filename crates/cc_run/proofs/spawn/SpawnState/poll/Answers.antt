@@ -6,7 +6,9 @@ use Rattle.cc_run.specs.declared.error.RunError.{RunError}
 use Rattle.cc_run.specs.declared.error.Step.{Step}
 use Rattle.cc_run.specs.declared.error.Step.TheVariants.{Ready, Pending}
 use Rattle.cc_run.proofs.Payments.{paid_then}
+use Rattle.cc_run.proofs.PrintingLemmas.{kept_then, printed_then}
 use Rattle.cc_run.proofs.Runs.{goes_on, told_then, turns_both}
+use Rattle.cc_run.proofs.OwnLemmas.{own_then}
 use Rattle.cc_run.proofs.spawn.SpawnState.poll.Goals as goal
 
 pub loop-running-preserved : goal.loop-running-preserved
@@ -27,6 +29,9 @@ loop-running-preserved g c =
       more = grind (arith, common_steps);
       failed = c.start_next.ensures.failed ∙ c.loop-running.invariant.failed;
       paid = paid_then {T = Step} {E = RunError} (g.H.Host.log c.args.host.now) (g.H.Host.log c.loop-running.host) (g.H.Host.log c.start_next.new.host) (Ok Ready) (length c.start_next.new.running.children) (g.J.Jobs.taken c.args.seat.now) (g.J.Jobs.load c.args.seat.now) (g.J.Jobs.taken c.loop-running.seat) (g.J.Jobs.load c.loop-running.seat) (g.J.Jobs.taken c.start_next.new.seat) (g.J.Jobs.load c.start_next.new.seat) c.loop-running.invariant.goes.extends c.start_next.ensures.goes.extends c.loop-running.invariant.paid (grind (arith, common_steps, c.start_next.ensures.paid));
+      own = own_then (g.H.Host.log c.args.host.now) (g.H.Host.log c.loop-running.host) (g.H.Host.log c.start_next.new.host) c.loop-running.invariant.goes.extends c.start_next.ensures.goes.extends c.loop-running.invariant.own c.start_next.ensures.own;
+      kept = kept_then c.args.running.now c.loop-running.running c.start_next.new.running (g.H.Host.log c.args.host.now) (g.H.Host.log c.loop-running.host) (g.H.Host.log c.start_next.new.host) c.loop-running.invariant.goes.extends c.start_next.ensures.goes.extends c.loop-running.invariant.kept c.in-Ok-Ready.ensures.kept;
+      lines = λ tells. printed_then c.args.shows.now tells c.args.cmds.now c.args.running.now c.loop-running.running (g.H.Host.log c.args.host.now) (g.H.Host.log c.loop-running.host) (g.H.Host.log c.start_next.new.host) (Ok Ready) c.loop-running.invariant.goes.extends c.start_next.ensures.goes.extends c.loop-running.invariant.kept (c.loop-running.invariant.lines tells) (c.in-Ok-Ready.ensures.lines tells);
     }
 
 pub returns-in-Ok-Pending-clause-goes : goal.returns-in-Ok-Pending-clause-goes
@@ -40,3 +45,18 @@ returns-in-Ok-Pending-clause-paid g c = paid_then {T = Step} {E = RunError} (g.H
 
 pub returns-in-Err-clause-paid : goal.returns-in-Err-clause-paid
 returns-in-Err-clause-paid g c = paid_then {T = Step} {E = RunError} (g.H.Host.log c.args.host.now) (g.H.Host.log c.loop-running.host) (g.H.Host.log c.start_next.new.host) (Err c.in-Err.e) (length c.start_next.new.running.children) (g.J.Jobs.taken c.args.seat.now) (g.J.Jobs.load c.args.seat.now) (g.J.Jobs.taken c.loop-running.seat) (g.J.Jobs.load c.loop-running.seat) (g.J.Jobs.taken c.start_next.new.seat) (g.J.Jobs.load c.start_next.new.seat) c.loop-running.invariant.goes.extends c.start_next.ensures.goes.extends c.loop-running.invariant.paid c.in-Err.ensures.paid
+
+pub returns-in-Ok-Pending-clause-own : goal.returns-in-Ok-Pending-clause-own
+returns-in-Ok-Pending-clause-own g c = own_then (g.H.Host.log c.args.host.now) (g.H.Host.log c.loop-running.host) (g.H.Host.log c.start_next.new.host) c.loop-running.invariant.goes.extends c.start_next.ensures.goes.extends c.loop-running.invariant.own c.start_next.ensures.own
+
+pub returns-in-Err-clause-own : goal.returns-in-Err-clause-own
+returns-in-Err-clause-own g c = own_then (g.H.Host.log c.args.host.now) (g.H.Host.log c.loop-running.host) (g.H.Host.log c.start_next.new.host) c.loop-running.invariant.goes.extends c.start_next.ensures.goes.extends c.loop-running.invariant.own c.start_next.ensures.own
+
+pub returns-in-Ok-Pending-clause-kept : goal.returns-in-Ok-Pending-clause-kept
+returns-in-Ok-Pending-clause-kept g c = kept_then c.args.running.now c.loop-running.running c.start_next.new.running (g.H.Host.log c.args.host.now) (g.H.Host.log c.loop-running.host) (g.H.Host.log c.start_next.new.host) c.loop-running.invariant.goes.extends c.start_next.ensures.goes.extends c.loop-running.invariant.kept c.in-Ok-Pending.ensures.kept
+
+pub returns-in-Ok-Pending-clause-lines : goal.returns-in-Ok-Pending-clause-lines
+returns-in-Ok-Pending-clause-lines g c = λ tells. printed_then c.args.shows.now tells c.args.cmds.now c.args.running.now c.loop-running.running (g.H.Host.log c.args.host.now) (g.H.Host.log c.loop-running.host) (g.H.Host.log c.start_next.new.host) (Ok Pending) c.loop-running.invariant.goes.extends c.start_next.ensures.goes.extends c.loop-running.invariant.kept (c.loop-running.invariant.lines tells) (c.in-Ok-Pending.ensures.lines tells)
+
+pub returns-in-Err-clause-lines : goal.returns-in-Err-clause-lines
+returns-in-Err-clause-lines g c = λ tells. printed_then {T = Step} c.args.shows.now tells c.args.cmds.now c.args.running.now c.loop-running.running (g.H.Host.log c.args.host.now) (g.H.Host.log c.loop-running.host) (g.H.Host.log c.start_next.new.host) (Err c.in-Err.e) c.loop-running.invariant.goes.extends c.start_next.ensures.goes.extends c.loop-running.invariant.kept (c.loop-running.invariant.lines tells) (c.in-Err.ensures.lines tells)

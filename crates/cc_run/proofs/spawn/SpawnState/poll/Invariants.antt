@@ -1,10 +1,13 @@
-use Rattle.std.proofs.Common.{◌≡◌, ◌+◌, ◌-◌, ◌≤◌, length, Ok}
+use Rattle.std.proofs.Common.{◌≡◌, ◌+◌, ◌-◌, ◌≤◌, length, Ok, true, Bool}
+use Rattle.std.specs.List.{list_all}
 use Rattle.cc_host.specs.Part.{since}
 use Rattle.cc_run.specs.Children.{ArePlaced, run_of}
 use Rattle.cc_run.specs.Outcome.{IsTold}
+use Rattle.cc_run.specs.Own.{is_of_run}
 use Rattle.cc_run.specs.Paid.{PaidAnd}
 use Rattle.cc_run.specs.Part.{Goes, turns}
 use Rattle.cc_run.specs.Planned.{asked}
+use Rattle.cc_run.specs.Printing.{printed, kept_from, due_from}
 use Rattle.cc_run.proofs.spawn.SpawnState.poll.Given as goal
 
 abbrev pub invariant-loop-running : goal.invariant-loop-running
@@ -25,6 +28,9 @@ invariant-loop-running g l =
       more : l.fn.running.begun ≤ l.running.begun;
       failed : l.running.failed ≡ l.fn.running.failed;
       paid : PaidAnd 0 0 part (g.J.Jobs.taken l.fn.seat) (g.J.Jobs.load l.fn.seat) (g.J.Jobs.taken l.seat) (g.J.Jobs.load l.seat);
+      own : list_all is_of_run part ≡ true;
+      kept : kept_from l.fn.running part ≡ l.running;
+      lines : (tells : Bool) → printed part ≡ due_from l.shows tells l.cmds l.fn.running part;
     }
 
 abbrev pub decreases-loop-running : goal.decreases-loop-running

@@ -1,4 +1,4 @@
-use Rattle.std.proofs.Common.{◌≡◌, ◌∙◌, ap, arith, Ok, Err}
+use Rattle.std.proofs.Common.{◌≡◌, ◌∙◌, ap, arith, inl, Ok, Err, subst}
 use Rattle.std.specs.List.{flat_map}
 use Rattle.cc_host.specs.Event.{told}
 use Rattle.cc_run.specs.Run.{run_from}
@@ -7,7 +7,12 @@ use Rattle.cc_host.specs.Part.{since}
 use Rattle.cc_run.specs.Children.{run_of}
 use Rattle.cc_run.specs.Part.{turns}
 use Rattle.cc_run.specs.Planned.{asked}
+use Rattle.cc_run.proofs.PatienceLemmas.{unturned_calm, waited_turn}
+use Rattle.cc_run.specs.Hearing.{children_from, owed_from}
+use Rattle.cc_run.specs.Shown.{IsShown}
+use Rattle.cc_run.proofs.PrintingLemmas.{turn_kept, turn_some, unturned_printed}
 use Rattle.cc_run.proofs.TurnLemmas.{spoken, goes_news, turn_turns, turn_starts, turn_loads, fault_counts, news_told, spoken_well, spoken_told, spoken_ends}
+use Rattle.cc_run.proofs.OwnLemmas.{own_news, own_unturned}
 use Rattle.cc_run.proofs.wait.WaitState.poll.Goals as goal
 
 pub returns-in-Ok-taken-clause-goes : goal.returns-in-Ok-taken-clause-goes
@@ -68,3 +73,45 @@ pub returns-clause-ends : goal.returns-clause-ends
 returns-clause-ends g c =
     let s = spoken c.take_news-taken.ensures.shown.0 c.take_news-taken.result (since (g.H.Host.log c.turn_once.new.host) (g.H.Host.log c.take_news-taken.new.host)) c.take_news-taken.ensures.shown.1 in
     spoken_ends (g.H.Host.log c.turn_once.new.host) (g.H.Host.log c.take_news-taken.new.host) c.take_news-taken.result c.in-Err-taken.e c.take_news-taken.ensures.extends s c.in-Err-taken.is c.in-Err-taken.ensures.kind
+
+pub returns-in-Err-clause-waited : goal.returns-in-Err-clause-waited
+returns-in-Err-clause-waited g c = inl (unturned_calm (g.H.Host.log c.args.host.now) (g.H.Host.log c.turn_once.new.host) c.in-Err.e c.in-Err.ensures.err)
+
+pub returns-in-Ok-taken-clause-waited : goal.returns-in-Ok-taken-clause-waited
+returns-in-Ok-taken-clause-waited g c =
+    let s = spoken c.take_news-taken.ensures.shown.0 c.take_news-taken.result (since (g.H.Host.log c.turn_once.new.host) (g.H.Host.log c.take_news-taken.new.host)) c.take_news-taken.ensures.shown.1 in
+    let n : turns (since (g.H.Host.log c.args.host.now) (g.H.Host.log c.take_news-taken.new.host)) ≡ 1 = turn_turns (g.H.Host.log c.args.host.now) (g.H.Host.log c.turn_once.new.host) (g.H.Host.log c.take_news-taken.new.host) c.in-Ok.news.items _ c.in-Ok.ensures.ok c.take_news-taken.ensures.extends s (fault_counts c.take_news-taken.result).0 in
+    waited_turn (g.H.Host.patience c.turn_once.new.host) (g.H.Host.patience c.take_news-taken.new.host) (g.H.Host.log c.args.host.now) (g.H.Host.log c.turn_once.new.host) (g.H.Host.log c.take_news-taken.new.host) c.take_news-taken.result n c.take_news-taken.ensures.patient c.in-Ok.ensures.waits c.take_news-taken.ensures.extends s
+
+pub returns-clause-waited : goal.returns-clause-waited
+returns-clause-waited g c =
+    let s = spoken c.take_news-taken.ensures.shown.0 c.take_news-taken.result (since (g.H.Host.log c.turn_once.new.host) (g.H.Host.log c.take_news-taken.new.host)) c.take_news-taken.ensures.shown.1 in
+    let n : turns (since (g.H.Host.log c.args.host.now) (g.H.Host.log c.take_news-taken.new.host)) ≡ 1 = turn_turns (g.H.Host.log c.args.host.now) (g.H.Host.log c.turn_once.new.host) (g.H.Host.log c.take_news-taken.new.host) c.in-Ok.news.items _ c.in-Ok.ensures.ok c.take_news-taken.ensures.extends s (fault_counts c.take_news-taken.result).0 in
+    waited_turn (g.H.Host.patience c.turn_once.new.host) (g.H.Host.patience c.take_news-taken.new.host) (g.H.Host.log c.args.host.now) (g.H.Host.log c.turn_once.new.host) (g.H.Host.log c.take_news-taken.new.host) c.take_news-taken.result n c.take_news-taken.ensures.patient c.in-Ok.ensures.waits c.take_news-taken.ensures.extends s
+
+pub returns-in-Err-clause-own : goal.returns-in-Err-clause-own
+returns-in-Err-clause-own g c = own_unturned (g.H.Host.log c.args.host.now) (g.H.Host.log c.turn_once.new.host) c.in-Err.e c.in-Err.ensures.err
+
+pub returns-in-Ok-taken-clause-own : goal.returns-in-Ok-taken-clause-own
+returns-in-Ok-taken-clause-own g c = own_news (g.H.Host.log c.args.host.now) (g.H.Host.log c.turn_once.new.host) (g.H.Host.log c.take_news-taken.new.host) c.in-Ok.news.items c.in-Ok.ensures.ok c.take_news-taken.ensures.extends c.take_news-taken.ensures.own
+
+pub returns-clause-own : goal.returns-clause-own
+returns-clause-own g c = own_news (g.H.Host.log c.args.host.now) (g.H.Host.log c.turn_once.new.host) (g.H.Host.log c.take_news-taken.new.host) c.in-Ok.news.items c.in-Ok.ensures.ok c.take_news-taken.ensures.extends c.take_news-taken.ensures.own
+
+pub returns-in-Ok-taken-clause-kept : goal.returns-in-Ok-taken-clause-kept
+returns-in-Ok-taken-clause-kept g c =
+    let shown = subst (λ l. IsShown {T = Unit {0}} (owed_from c.args.shows.now c.args.self.now.tells c.args.cmds.now c.args.running.now.children (flat_map told l)) (Ok (tt {0})) (since (g.H.Host.log c.turn_once.new.host) (g.H.Host.log c.take_news-taken.new.host))) c.deref.ensures.value c.in-Ok-taken.ensures.lines in
+    (turn_kept c.args.shows.now c.args.self.now.tells c.args.cmds.now c.args.running.now c.in-Ok.news.items (tt {0}) c.take_news-taken.new.running (g.H.Host.log c.args.host.now) (g.H.Host.log c.turn_once.new.host) (g.H.Host.log c.take_news-taken.new.host) c.in-Ok.ensures.ok c.take_news-taken.ensures.extends shown (c.in-Ok-taken.ensures.children ∙ ap (λ l. children_from c.args.running.now.children (flat_map told l)) c.deref.ensures.value) (c.take_news-taken.ensures.run ∙ ap (λ l. run_from (run_of c.args.running.now) (flat_map told l)) c.deref.ensures.value)).0
+
+pub returns-in-Ok-taken-clause-lines : goal.returns-in-Ok-taken-clause-lines
+returns-in-Ok-taken-clause-lines g c =
+    let shown = subst (λ l. IsShown {T = Unit {0}} (owed_from c.args.shows.now c.args.self.now.tells c.args.cmds.now c.args.running.now.children (flat_map told l)) (Ok (tt {0})) (since (g.H.Host.log c.turn_once.new.host) (g.H.Host.log c.take_news-taken.new.host))) c.deref.ensures.value c.in-Ok-taken.ensures.lines in
+    (turn_kept c.args.shows.now c.args.self.now.tells c.args.cmds.now c.args.running.now c.in-Ok.news.items (tt {0}) c.take_news-taken.new.running (g.H.Host.log c.args.host.now) (g.H.Host.log c.turn_once.new.host) (g.H.Host.log c.take_news-taken.new.host) c.in-Ok.ensures.ok c.take_news-taken.ensures.extends shown (c.in-Ok-taken.ensures.children ∙ ap (λ l. children_from c.args.running.now.children (flat_map told l)) c.deref.ensures.value) (c.take_news-taken.ensures.run ∙ ap (λ l. run_from (run_of c.args.running.now) (flat_map told l)) c.deref.ensures.value)).1
+
+pub returns-clause-lines : goal.returns-clause-lines
+returns-clause-lines g c =
+    let shown = subst (λ l. IsShown {T = Unit {0}} (owed_from c.args.shows.now c.args.self.now.tells c.args.cmds.now c.args.running.now.children (flat_map told l)) (Err c.in-Err-taken.e) (since (g.H.Host.log c.turn_once.new.host) (g.H.Host.log c.take_news-taken.new.host))) c.deref.ensures.value c.in-Err-taken.ensures.lines in
+    turn_some c.args.shows.now c.args.self.now.tells c.args.cmds.now c.args.running.now c.in-Ok.news.items Step c.in-Err-taken.e (g.H.Host.log c.args.host.now) (g.H.Host.log c.turn_once.new.host) (g.H.Host.log c.take_news-taken.new.host) c.in-Ok.ensures.ok c.take_news-taken.ensures.extends shown c.in-Err-taken.ensures.kind
+
+pub returns-in-Err-clause-lines : goal.returns-in-Err-clause-lines
+returns-in-Err-clause-lines g c = unturned_printed Step c.args.shows.now c.args.self.now.tells c.args.cmds.now c.args.running.now (g.H.Host.log c.args.host.now) (g.H.Host.log c.turn_once.new.host) c.in-Err.e c.in-Err.ensures.err

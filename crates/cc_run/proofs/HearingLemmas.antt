@@ -1,0 +1,104 @@
+-- Laws on the lines that news give.
+use Rattle.std.proofs.Common.{◌≡◌, ℕ, ◌+◌, ◌<◌, zero, suc, Bool, List, [], ◌∷◌, ◌++◌, length, take, drop, get_or, refl, sym, ◌∙◌, ap, subst, append_assoc, arith}
+use Rattle.std.specs.Prelude.{Option, None, Some, Result, Ok, Err, OnOk}
+use Rattle.std.specs.Result.{result_and}
+use Rattle.std.specs.List.{flat_map}
+use Rattle.std.proofs.lemmas.List.{append-nil, take_more}
+use Rattle.std.proofs.lemmas.Grind.{flat_map-append}
+use Rattle.cc_host.specs.Event.{told, heard, unread, ended}
+use Rattle.cc_host.specs.declared.event.Event.{Event}
+use Rattle.cc_host.specs.declared.event.News.{News}
+use Rattle.cc_host.specs.declared.event.Status.{Status}
+use Rattle.cc_run.specs.Forwarded.{ended_lines}
+use Rattle.cc_run.specs.Hearing.{of_child, children_after, children_from, end_lines, owed, owed_from}
+use Rattle.cc_run.specs.Run.{Run, ended_run}
+use Rattle.cc_run.specs.declared.planned.Planned.{Planned}
+use Rattle.cc_run.specs.declared.planned.Shows.{Shows}
+use Rattle.cc_run.specs.declared.print.Line.{Line}
+use Rattle.cc_run.specs.declared.running.Child.{Child}
+
+pub children_both : (cs : List Child) (a b : List Event) → children_from cs (a ++ b) ≡ children_from (children_from cs a) b
+children_both cs [] b = refl
+children_both cs (e ∷ a) b = children_both (children_after cs e) a b
+
+pub owed_both : (shows : Shows) (tells : Bool) (cmds : List Planned) (cs : List Child) (a b : List Event) → owed_from shows tells cmds cs (a ++ b) ≡ owed_from shows tells cmds cs a ++ owed_from shows tells cmds (children_from cs a) b
+owed_both shows tells cmds cs [] b = refl
+owed_both shows tells cmds cs (e ∷ a) b = ap (λ l. owed shows tells cmds cs e ++ l) (owed_both shows tells cmds (children_after cs e) a b) ∙ sym (append_assoc (owed shows tells cmds cs e) _ _)
+
+-- what a child was heard of, in front of its end
+abbrev pub front_of : News → List Event
+front_of n = heard n.id n.piece ++ unread n.id n.unread
+
+pub told_owed : (shows : Shows) (tells : Bool) (cmds : List Planned) (cs : List Child) (n : News) → owed_from shows tells cmds cs (told n) ≡ owed_from shows tells cmds cs (front_of n) ++ owed_from shows tells cmds (children_from cs (front_of n)) (ended n.id n.ended)
+told_owed shows tells cmds cs n = owed_both shows tells cmds cs (front_of n) (ended n.id n.ended)
+
+-- the end of a child by its command
+pub end_at : (shows : Shows) (tells : Bool) (cmds : List Planned) (status : Status) (c : Child) (d : Planned) → c.place < length cmds → end_lines shows tells cmds status c ≡ ended_lines shows tells (get_or cmds c.place d).cmd status c
+end_at shows tells cmds status c d lt = at cmds c.place lt
+  where
+    at : (cmds : List Planned) (place : ℕ) → place < length cmds → flat_map (λ p. ended_lines shows tells p.cmd status c) (take 1 (drop place cmds)) ≡ ended_lines shows tells (get_or cmds place d).cmd status c
+    at (p ∷ cmds) zero lt = append-nil (ended_lines shows tells p.cmd status c)
+    at (p ∷ cmds) (suc place) lt = at cmds place (omega arith)
+    at [] place lt = absurd (omega arith)
+
+more_told : (news : List News) (i : ℕ) (d : News) → i < length news → flat_map told (take (i + 1) news) ≡ flat_map told (take i news) ++ told (get_or news i d)
+more_told news i d lt = ap (flat_map told) (take_more news i d lt) ∙ flat_map-append told (take i news) (get_or news i d ∷ []) ∙ ap (λ l. flat_map told (take i news) ++ l) (append-nil (told (get_or news i d)))
+
+-- the news one by one
+pub news_children : (cs : List Child) (news : List News) (i : ℕ) (d : News) → i < length news → children_from cs (flat_map told (take (i + 1) news)) ≡ children_from (children_from cs (flat_map told (take i news))) (told (get_or news i d))
+news_children cs news i d lt = ap (children_from cs) (more_told news i d lt) ∙ children_both cs (flat_map told (take i news)) (told (get_or news i d))
+
+pub news_owed : (shows : Shows) (tells : Bool) (cmds : List Planned) (cs : List Child) (news : List News) (i : ℕ) (d : News) → i < length news → owed_from shows tells cmds cs (flat_map told (take (i + 1) news)) ≡ owed_from shows tells cmds cs (flat_map told (take i news)) ++ owed_from shows tells cmds (children_from cs (flat_map told (take i news))) (told (get_or news i d))
+news_owed shows tells cmds cs news i d lt = ap (owed_from shows tells cmds cs) (more_told news i d lt) ∙ owed_both shows tells cmds cs (flat_map told (take i news)) (told (get_or news i d))
+
+-- facts that hold where both went well
+pub ok_both : {T U E : Type 0} {A B C : Type 0} (r : Result T E) (s t : Result U E) → t ≡ result_and r s → OnOk r A → OnOk s B → (A → B → C) → OnOk t C
+ok_both {C = C} r s t e a b f = subst (λ x. OnOk x C) (sym e) (both r s a b f)
+  where
+    both : {T U E : Type 0} {A B C : Type 0} (r : Result T E) (s : Result U E) → OnOk r A → OnOk s B → (A → B → C) → OnOk (result_and r s) C
+    both (Ok x) (Ok y) a b f = f a b
+    both (Ok x) (Err e) a b f = tt
+    both (Err e) s a b f = tt
+
+pub ok_three : {T U E : Type 0} {A B C D : Type 0} (r : Result T E) (s t : Result U E) → t ≡ result_and r s → OnOk r A → OnOk r B → OnOk s C → (A → B → C → D) → OnOk t D
+ok_three {D = D} r s t e a b c f = subst (λ x. OnOk x D) (sym e) (three r s a b c f)
+  where
+    three : {T U E : Type 0} {A B C D : Type 0} (r : Result T E) (s : Result U E) → OnOk r A → OnOk r B → OnOk s C → (A → B → C → D) → OnOk (result_and r s) D
+    three (Ok x) (Ok y) a b c f = f a b c
+    three (Ok x) (Err e) a b c f = tt
+    three (Err e) s a b c f = tt
+
+pub ok_pair : {T E : Type 0} {A B C : Type 0} (r : Result T E) → OnOk r A → OnOk r B → (A → B → C) → OnOk r C
+ok_pair (Ok x) a b f = f a b
+ok_pair (Err e) a b f = tt
+
+pub ended_begun : (r : Run) (id : ℕ) (end : Option Status) → (ended_run r id end).begun ≡ r.begun
+ended_begun r id None = refl
+ended_begun r id (Some s) = refl
+
+-- one child more was settled
+pub more_children : (cs now new : List Child) (news : List News) (i : ℕ) (n : News) → i < length news → n ≡ get_or news i n → now ≡ children_from cs (flat_map told (take i news)) → new ≡ children_from now (told n) → new ≡ children_from cs (flat_map told (take (i + 1) news))
+more_children cs now new news i n lt at a b =
+    b ∙ ap (λ l. children_from l (told n)) a ∙ ap (λ m. children_from (children_from cs (flat_map told (take i news))) (told m)) at ∙ sym (news_children cs news i n lt)
+
+pub more_lines : (shows : Shows) (tells : Bool) (cmds : List Planned) (cs now : List Child) (news : List News) (i : ℕ) (n : News) (first lines new : List Line) → i < length news → n ≡ get_or news i n → now ≡ children_from cs (flat_map told (take i news)) → lines ≡ first ++ owed_from shows tells cmds cs (flat_map told (take i news)) → new ≡ lines ++ owed_from shows tells cmds now (told n) → new ≡ first ++ owed_from shows tells cmds cs (flat_map told (take (i + 1) news))
+more_lines shows tells cmds cs now news i n first lines new lt at a c b =
+    b ∙ ap (λ l. l ++ owed_from shows tells cmds now (told n)) c ∙ append_assoc first _ _
+    ∙ ap (λ l. first ++ (owed_from shows tells cmds cs (flat_map told (take i news)) ++ owed_from shows tells cmds l (told n))) a
+    ∙ ap (λ m. first ++ (owed_from shows tells cmds cs (flat_map told (take i news)) ++ owed_from shows tells cmds (children_from cs (flat_map told (take i news))) (told m))) at
+    ∙ ap (λ l. first ++ l) (sym (news_owed shows tells cmds cs news i n lt))
+
+-- the end of somebody else's child
+pub foreign_lines : (shows : Shows) (tells : Bool) (cmds : List Planned) (cs now : List Child) (n : News) (status : Status) (first lines : List Line) → n.ended ≡ Some status → of_child n.id (end_lines shows tells cmds status) now ≡ [] → now ≡ children_from cs (front_of n) → lines ≡ first ++ owed_from shows tells cmds cs (front_of n) → lines ≡ first ++ owed_from shows tells cmds cs (told n)
+foreign_lines shows tells cmds cs now n status first lines e z a b =
+    b ∙ ap (λ l. first ++ l) (sym (told_owed shows tells cmds cs n
+    ∙ ap (λ l. owed_from shows tells cmds cs (front_of n) ++ l) (ap (λ x. owed_from shows tells cmds (children_from cs (front_of n)) (ended n.id x)) e ∙ append-nil _ ∙ ap (of_child n.id (end_lines shows tells cmds status)) (sym a) ∙ z)
+    ∙ append-nil _))
+
+-- the end of a child of the run
+pub ended_owed : (shows : Shows) (tells : Bool) (cmds : List Planned) (cs now : List Child) (n : News) (status : Status) (c : Child) (p : Planned) (first lines new : List Line) → n.ended ≡ Some status → of_child n.id (end_lines shows tells cmds status) now ≡ end_lines shows tells cmds status c → c.place < length cmds → now ≡ children_from cs (front_of n) → lines ≡ first ++ owed_from shows tells cmds cs (front_of n) → new ≡ lines ++ ended_lines shows tells (get_or cmds c.place p).cmd status c → new ≡ first ++ owed_from shows tells cmds cs (told n)
+ended_owed shows tells cmds cs now n status c p first lines new e own lt a b d =
+    let last : owed_from shows tells cmds (children_from cs (front_of n)) (ended n.id n.ended) ≡ ended_lines shows tells (get_or cmds c.place p).cmd status c =
+    ap (λ x. owed_from shows tells cmds (children_from cs (front_of n)) (ended n.id x)) e ∙ append-nil _ ∙ ap (of_child n.id (end_lines shows tells cmds status)) (sym a) ∙ own ∙ end_at shows tells cmds status c p lt in
+    d ∙ ap (λ l. l ++ ended_lines shows tells (get_or cmds c.place p).cmd status c) b ∙ append_assoc first _ _
+    ∙ ap (λ l. first ++ l) (ap (λ l. owed_from shows tells cmds cs (front_of n) ++ l) (sym last) ∙ sym (told_owed shows tells cmds cs n))

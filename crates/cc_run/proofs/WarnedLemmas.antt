@@ -1,0 +1,117 @@
+-- Laws on the warnings of a run.
+use Rattle.std.proofs.Common.{◌≡◌, ℕ, ◌+◌, ◌≤◌, Bool, true, false, List, [], ◌∷◌, ◌++◌, ◌==◌, ◌&&◌, not, length, map, take, drop, refl, ◌∙◌, ap, if◌then◌else◌}
+use Rattle.std.specs.Prelude.{Result, Some, filter, option_to_list}
+use Rattle.std.specs.List.{flat_map}
+use Rattle.std.proofs.lemmas.List.Elements.{filter-append}
+use Rattle.cc_text.specs.Words.{when}
+use Rattle.cc_host.specs.Command.{CommandSeen}
+use Rattle.cc_host.specs.Status.{is_success}
+use Rattle.cc_host.specs.declared.event.Event.{Event}
+use Rattle.cc_host.specs.declared.event.Event.TheVariants.{Started, Ended, Abandoned, Heard, Unread, Turn, Answered, Reused, Unasked, Drawn, Opened, Taken, Dropped, Ran, Missing, Made, Removed, Printed, Listed, Fault}
+use Rattle.cc_host.specs.declared.event.LineKind.TheVariants.{Warning}
+use Rattle.cc_host.specs.declared.event.Status.{Status}
+use Rattle.cc_run.specs.Children.{Kept, run_of, seat, AreBelow, nothing_kept}
+use Rattle.cc_run.specs.Forwarded.{heard_lines, rest_lines, unread_lines, ended_lines}
+use Rattle.cc_run.specs.Hearing.{of_child, end_lines}
+use Rattle.cc_run.specs.Lines.{whole_lines, last_line}
+use Rattle.cc_run.specs.Part.{started}
+use Rattle.cc_run.specs.Printing.{due, IsPrinted}
+use Rattle.cc_run.specs.Run.{nothing, place_of}
+use Rattle.cc_run.specs.Stderr.{IsForwarded}
+use Rattle.cc_run.specs.Texts.{announced, cargo_line, stderr_line, debug_line, ended_text, failed_line, unread_text}
+use Rattle.cc_run.specs.Warned.{is_warning, warnings_printed, unread_warned, failed_warned, warning_of, warnings_from}
+use Rattle.cc_run.specs.declared.error.RunError.{RunError}
+use Rattle.cc_run.specs.declared.planned.Planned.{Planned}
+use Rattle.cc_run.specs.declared.planned.Shows.{Shows}
+use Rattle.cc_run.specs.declared.print.Line.{Line}
+use Rattle.cc_run.specs.declared.running.Child.{Child}
+use Rattle.cc_run.proofs.SiftLemmas.{filter_when, when_none, along_due, sifted}
+
+no_stderr : (id : ℕ) (ts : List (List ℕ)) → filter is_warning (map (stderr_line id) ts) ≡ []
+no_stderr id [] = refl
+no_stderr id (t ∷ ts) = no_stderr id ts
+
+heard_none : (shows : Shows) (p : List ℕ) (c : Child) → filter is_warning (heard_lines shows c p) ≡ []
+heard_none shows p c = filter_when is_warning shows.warnings _ ∙ ap (when shows.warnings) (no_stderr c.id (whole_lines (c.rest ++ p))) ∙ when_none shows.warnings
+
+rest_none : (shows : Shows) (c : Child) → filter is_warning (rest_lines shows c) ≡ []
+rest_none shows c = filter_when is_warning shows.warnings _ ∙ ap (when shows.warnings) (no_stderr c.id (option_to_list (last_line c.rest))) ∙ when_none shows.warnings
+
+unread_one : (shows : Shows) (c : Child) → filter is_warning (unread_lines shows c) ≡ when shows.warnings (cargo_line Warning unread_text ∷ [])
+unread_one shows c =
+    filter-append is_warning (rest_lines shows c) (when shows.warnings (cargo_line Warning unread_text ∷ []))
+    ∙ ap (λ l. l ++ filter is_warning (when shows.warnings (cargo_line Warning unread_text ∷ []))) (rest_none shows c)
+    ∙ filter_when is_warning shows.warnings _
+
+ended_one : (shows : Shows) (tells : Bool) (cmd : CommandSeen) (s : Status) (c : Child) → filter is_warning (ended_lines shows tells cmd s c) ≡ when (tells && shows.warnings && not (is_success s)) (failed_line s cmd ∷ [])
+unfolding failed_line
+ended_one shows tells cmd s c =
+    filter-append is_warning (rest_lines shows c ++ when shows.debug (debug_line (ended_text s) ∷ [])) (when (tells && shows.warnings && not (is_success s)) (failed_line s cmd ∷ []))
+    ∙ ap (λ l. l ++ filter is_warning (when (tells && shows.warnings && not (is_success s)) (failed_line s cmd ∷ [])))
+    (filter-append is_warning (rest_lines shows c) (when shows.debug (debug_line (ended_text s) ∷ []))
+    ∙ ap (λ l. l ++ filter is_warning (when shows.debug (debug_line (ended_text s) ∷ []))) (rest_none shows c)
+    ∙ filter_when is_warning shows.debug _ ∙ when_none shows.debug)
+    ∙ filter_when is_warning (tells && shows.warnings && not (is_success s)) _
+
+announced_none : (shows : Shows) (cmd : CommandSeen) → filter is_warning (announced shows cmd) ≡ []
+unfolding announced
+announced_none shows cmd = filter_when is_warning shows.debug _ ∙ when_none shows.debug
+
+heard_of : (id : ℕ) (g : Child → List Line) → ((c : Child) → filter is_warning (g c) ≡ []) → (cs : List Child) → filter is_warning (of_child id g cs) ≡ []
+heard_of id g h [] = refl
+heard_of id g h (c ∷ cs) = at (c.id == id) (heard_of id g h cs)
+  where
+    at : (b : Bool) → filter is_warning (of_child id g cs) ≡ [] → filter is_warning (if b then g c else of_child id g cs) ≡ []
+    at true k = h c
+    at false k = k
+
+unread_of : (shows : Shows) (id : ℕ) (cs : List Child) → filter is_warning (of_child id (unread_lines shows) cs) ≡ unread_warned shows (place_of id (map seat cs))
+unread_of shows id [] = refl
+unread_of shows id (c ∷ cs) = at (c.id == id) (unread_of shows id cs)
+  where
+    at : (b : Bool) → filter is_warning (of_child id (unread_lines shows) cs) ≡ unread_warned shows (place_of id (map seat cs)) → filter is_warning (if b then unread_lines shows c else of_child id (unread_lines shows) cs) ≡ unread_warned shows (if b then Some c.place else place_of id (map seat cs))
+    at true k = unread_one shows c
+    at false k = k
+
+end_one : (shows : Shows) (tells : Bool) (s : Status) (c : Child) (ps : List Planned) → filter is_warning (flat_map (λ p. ended_lines shows tells p.cmd s c) ps) ≡ flat_map (λ p. when (tells && shows.warnings && not (is_success s)) (failed_line s p.cmd ∷ [])) ps
+end_one shows tells s c [] = refl
+end_one shows tells s c (p ∷ ps) =
+    filter-append is_warning (ended_lines shows tells p.cmd s c) (flat_map (λ q. ended_lines shows tells q.cmd s c) ps)
+    ∙ ap (λ l. l ++ filter is_warning (flat_map (λ q. ended_lines shows tells q.cmd s c) ps)) (ended_one shows tells p.cmd s c)
+    ∙ ap (λ l. when (tells && shows.warnings && not (is_success s)) (failed_line s p.cmd ∷ []) ++ l) (end_one shows tells s c ps)
+
+end_of : (shows : Shows) (tells : Bool) (cmds : List Planned) (id : ℕ) (s : Status) (cs : List Child) → filter is_warning (of_child id (end_lines shows tells cmds s) cs) ≡ failed_warned shows tells cmds s (place_of id (map seat cs))
+end_of shows tells cmds id s [] = refl
+end_of shows tells cmds id s (c ∷ cs) = at (c.id == id) (end_of shows tells cmds id s cs)
+  where
+    at : (b : Bool) → filter is_warning (of_child id (end_lines shows tells cmds s) cs) ≡ failed_warned shows tells cmds s (place_of id (map seat cs)) → filter is_warning (if b then end_lines shows tells cmds s c else of_child id (end_lines shows tells cmds s) cs) ≡ failed_warned shows tells cmds s (if b then Some c.place else place_of id (map seat cs))
+    at true k = end_one shows tells s c (take 1 (drop c.place cmds))
+    at false k = k
+
+-- one event
+warned_due : (shows : Shows) (tells : Bool) (cmds : List Planned) (k : Kept) (e : Event) → AreBelow (length cmds) (map seat k.children) → filter is_warning (due shows tells cmds k e) ≡ warning_of shows tells cmds (run_of k) e
+warned_due shows tells cmds k (Started n role cmd pipes held) h = announced_none shows cmd
+warned_due shows tells cmds k (Heard n p) h = heard_of n (λ c. heard_lines shows c p) (heard_none shows p) k.children
+warned_due shows tells cmds k (Unread n) h = unread_of shows n k.children
+warned_due shows tells cmds k (Ended n s) h = end_of shows tells cmds n s k.children
+warned_due shows tells cmds k (Abandoned n) h = refl
+warned_due shows tells cmds k (Turn n) h = refl
+warned_due shows tells cmds k (Answered q f o) h = refl
+warned_due shows tells cmds k (Reused q v) h = refl
+warned_due shows tells cmds k (Unasked q) h = refl
+warned_due shows tells cmds k (Drawn w) h = refl
+warned_due shows tells cmds k (Opened p b) h = refl
+warned_due shows tells cmds k (Taken p) h = refl
+warned_due shows tells cmds k (Dropped p) h = refl
+warned_due shows tells cmds k (Ran role cmd pipes status out err) h = refl
+warned_due shows tells cmds k (Missing role cmd) h = refl
+warned_due shows tells cmds k (Made scope p) h = refl
+warned_due shows tells cmds k (Removed p how) h = refl
+warned_due shows tells cmds k (Printed kind b) h = refl
+warned_due shows tells cmds k (Listed vars) h = refl
+warned_due shows tells cmds k (Fault call why) h = refl
+
+-- those that were printed, by the answer
+pub warned_all : {T : Type 0} (shows : Shows) (tells : Bool) (cmds : List Planned) (part : List Event) (result : Result T RunError) → IsPrinted shows tells cmds nothing_kept result part → 0 + length (started part) ≤ length cmds → IsForwarded result (warnings_printed part) (warnings_from shows tells cmds nothing part)
+warned_all shows tells cmds part result q few =
+    sifted is_warning shows tells cmds nothing_kept part (warnings_from shows tells cmds nothing part) (announced_none shows) (along_due is_warning (warning_of shows tells cmds) shows tells cmds (warned_due shows tells cmds) nothing_kept part tt few) result q

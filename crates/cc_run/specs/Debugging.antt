@@ -1,0 +1,38 @@
+-- The lines for debugging that a run prints: one before each command, and one after it where it ended.
+use Rattle.std.specs.Prelude.{ℕ, Bool, true, false, List, [], ◌∷◌, filter, Option, None, Some}
+use Rattle.cc_text.specs.Words.{when}
+use Rattle.cc_host.specs.declared.event.Event.{Event}
+use Rattle.cc_host.specs.declared.event.Event.TheVariants.{Started, Ended}
+use Rattle.cc_host.specs.declared.event.LineKind.{LineKind}
+use Rattle.cc_host.specs.declared.event.LineKind.TheVariants.{Debug}
+use Rattle.cc_host.specs.declared.event.Status.{Status}
+use Rattle.cc_run.specs.Printing.{printed, lines_along}
+use Rattle.cc_run.specs.Run.{Run, place_of}
+use Rattle.cc_run.specs.Texts.{announced, debug_line, ended_text}
+use Rattle.cc_run.specs.declared.planned.Shows.{Shows}
+use Rattle.cc_run.specs.declared.print.Line.{Line}
+
+abbrev pub is_debug_kind : LineKind → Bool
+is_debug_kind Debug = true
+is_debug_kind _ = false
+
+abbrev pub is_debug : Line → Bool
+is_debug line = is_debug_kind line.kind
+
+-- the lines for debugging that were printed
+abbrev pub debug_printed : List Event → List Line
+debug_printed part = filter is_debug (printed part)
+
+-- the line after a command, where its child is one of the run
+abbrev pub end_told : Shows → Status → Option ℕ → List Line
+end_told shows status None = []
+end_told shows status (Some place) = when shows.debug (debug_line (ended_text status) ∷ [])
+
+abbrev pub debug_of : Shows → Run → Event → List Line
+debug_of shows r (Started id role cmd pipes held) = announced shows cmd
+debug_of shows r (Ended id status) = end_told shows status (place_of id r.live)
+debug_of shows r _ = []
+
+-- the lines for debugging that these events give, in order
+abbrev pub debug_from : Shows → Run → List Event → List Line
+debug_from shows = lines_along (debug_of shows)

@@ -1,0 +1,82 @@
+-- The lines that a run prints, read from its part.
+use Rattle.std.specs.Prelude.{◌≡◌, ℕ, Bool, true, false, List, [], ◌∷◌, ◌++◌, drop, take, map, Result, Ok, Err}
+use Rattle.std.specs.List.{flat_map}
+use Rattle.cc_host.specs.declared.event.Event.{Event}
+use Rattle.cc_host.specs.declared.event.Event.TheVariants.{Started, Heard, Unread, Ended, Abandoned, Printed}
+use Rattle.cc_host.specs.declared.event.LineKind.{LineKind}
+use Rattle.cc_host.specs.declared.event.LineKind.TheVariants.{Warning, Stderr, Debug}
+use Rattle.cc_run.specs.Children.{Kept, seat, without_child}
+use Rattle.cc_run.specs.Forwarded.{fed, emptied}
+use Rattle.cc_run.specs.Hearing.{at_child, owed}
+use Rattle.cc_run.specs.Run.{Run, run_after, failed_at, place_of}
+use Rattle.cc_run.specs.Started.{with_child}
+use Rattle.cc_run.specs.Texts.{announced}
+use Rattle.cc_run.specs.declared.error.RunError.{RunError}
+use Rattle.cc_run.specs.declared.error.RunError.TheVariants.{ToolNotFound, StartFault, HostFault, NoMemory}
+use Rattle.cc_run.specs.declared.planned.Planned.{Planned}
+use Rattle.cc_run.specs.declared.planned.Shows.{Shows}
+use Rattle.cc_run.specs.declared.print.Line.{Line}
+
+abbrev pub printed_of : Event → List Line
+printed_of (Printed kind bytes) = record { kind = kind; bytes = bytes } ∷ []
+printed_of _ = []
+
+-- the lines that were printed, in order
+abbrev pub printed : List Event → List Line
+printed = flat_map printed_of
+
+-- what is kept of a run after an event: its children, each with what it gave since its last line feed
+abbrev pub kept_after : Kept → Event → Kept
+kept_after kept (Started id role cmd pipes held) = with_child id kept
+kept_after kept (Heard id piece) = record kept { children = at_child id (fed piece) kept.children }
+kept_after kept (Unread id) = record kept { children = at_child id emptied kept.children }
+kept_after kept (Ended id status) = record kept { children = without_child id kept.children; failed = failed_at (place_of id (map seat kept.children)) status kept.failed }
+kept_after kept (Abandoned id) = record kept { children = without_child id kept.children }
+kept_after kept _ = kept
+
+abbrev pub kept_from : Kept → List Event → Kept
+kept_from kept [] = kept
+kept_from kept (e ∷ es) = kept_from (kept_after kept e) es
+
+-- the lines that an event gives: a start the one before its command, news what the child wrote and how it ended
+abbrev pub due : Shows → Bool → List Planned → Kept → Event → List Line
+due shows tells cmds kept (Started id role cmd pipes held) = announced shows cmd
+due shows tells cmds kept e = owed shows tells cmds kept.children e
+
+-- the lines that these events give, in order
+abbrev pub due_from : Shows → Bool → List Planned → Kept → List Event → List Line
+due_from shows tells cmds kept [] = []
+due_from shows tells cmds kept (e ∷ es) = due shows tells cmds kept e ++ due_from shows tells cmds (kept_after kept e) es
+
+-- lines that each event gives to one who knows the run right before it
+abbrev pub lines_along : (Run → Event → List Line) → Run → List Event → List Line
+lines_along f r [] = []
+lines_along f r (e ∷ es) = f r e ++ lines_along f (run_after r e) es
+
+-- the line before the next command, where one is left
+abbrev pub next_lines : Shows → List Planned → ℕ → List Line
+next_lines shows cmds begun = flat_map (λ p. announced shows p.cmd) (take 1 (drop begun cmds))
+
+-- the lines that these events give, and that before the next command
+abbrev pub due_next : Shows → Bool → List Planned → Kept → List Event → List Line
+due_next shows tells cmds kept part = due_from shows tells cmds kept part ++ next_lines shows cmds (kept_from kept part).begun
+
+-- What was printed, by the answer: all lines that the events give, with the one before a command that couldn't be
+-- started. Where a print or memory was refused, the first of these.
+abbrev pub IsPrinted : {T : Type 0} → Shows → Bool → List Planned → Kept → Result T RunError → List Event → Type 0
+IsPrinted shows tells cmds kept (Ok _) part = printed part ≡ due_from shows tells cmds kept part
+IsPrinted shows tells cmds kept (Err (ToolNotFound place)) part = printed part ≡ due_next shows tells cmds kept part
+IsPrinted shows tells cmds kept (Err (StartFault place)) part = printed part ≡ due_next shows tells cmds kept part
+IsPrinted shows tells cmds kept (Err (HostFault call why)) part = (count : ℕ) × (printed part ≡ take count (due_next shows tells cmds kept part))
+IsPrinted shows tells cmds kept (Err NoMemory) part = (count : ℕ) × (printed part ≡ take count (due_next shows tells cmds kept part))
+IsPrinted shows tells cmds kept (Err _) part = printed part ≡ due_from shows tells cmds kept part
+
+-- a run prints no line of such a kind
+abbrev pub is_foreign_kind : LineKind → Bool
+is_foreign_kind Warning = false
+is_foreign_kind (Stderr id) = false
+is_foreign_kind Debug = false
+is_foreign_kind _ = true
+
+abbrev pub is_foreign : Line → Bool
+is_foreign line = is_foreign_kind line.kind

@@ -1,0 +1,46 @@
+-- The warnings that a run prints: where a standard error failed to be read, and where a command failed that is to be told.
+use Rattle.std.specs.Prelude.{ℕ, Bool, true, false, List, [], ◌∷◌, filter, not, ◌&&◌, take, drop, Option, None, Some}
+use Rattle.std.specs.List.{flat_map}
+use Rattle.cc_text.specs.Words.{when}
+use Rattle.cc_host.specs.Status.{is_success}
+use Rattle.cc_host.specs.declared.event.Event.{Event}
+use Rattle.cc_host.specs.declared.event.Event.TheVariants.{Unread, Ended}
+use Rattle.cc_host.specs.declared.event.LineKind.{LineKind}
+use Rattle.cc_host.specs.declared.event.LineKind.TheVariants.{Warning}
+use Rattle.cc_host.specs.declared.event.Status.{Status}
+use Rattle.cc_run.specs.Printing.{printed, lines_along}
+use Rattle.cc_run.specs.Run.{Run, place_of}
+use Rattle.cc_run.specs.Texts.{cargo_line, failed_line, unread_text}
+use Rattle.cc_run.specs.declared.planned.Planned.{Planned}
+use Rattle.cc_run.specs.declared.planned.Shows.{Shows}
+use Rattle.cc_run.specs.declared.print.Line.{Line}
+
+abbrev pub is_warning_kind : LineKind → Bool
+is_warning_kind Warning = true
+is_warning_kind _ = false
+
+abbrev pub is_warning : Line → Bool
+is_warning line = is_warning_kind line.kind
+
+-- the warnings that were printed
+abbrev pub warnings_printed : List Event → List Line
+warnings_printed part = filter is_warning (printed part)
+
+-- no more of a child of the run can be read
+abbrev pub unread_warned : Shows → Option ℕ → List Line
+unread_warned shows None = []
+unread_warned shows (Some place) = when shows.warnings (cargo_line Warning unread_text ∷ [])
+
+-- the command at that place failed
+abbrev pub failed_warned : Shows → Bool → List Planned → Status → Option ℕ → List Line
+failed_warned shows tells cmds status None = []
+failed_warned shows tells cmds status (Some place) = flat_map (λ p. when (tells && shows.warnings && not (is_success status)) (failed_line status p.cmd ∷ [])) (take 1 (drop place cmds))
+
+abbrev pub warning_of : Shows → Bool → List Planned → Run → Event → List Line
+warning_of shows tells cmds r (Unread id) = unread_warned shows (place_of id r.live)
+warning_of shows tells cmds r (Ended id status) = failed_warned shows tells cmds status (place_of id r.live)
+warning_of shows tells cmds r _ = []
+
+-- the warnings that these events give, in order
+abbrev pub warnings_from : Shows → Bool → List Planned → Run → List Event → List Line
+warnings_from shows tells cmds = lines_along (warning_of shows tells cmds)
