@@ -1,28 +1,31 @@
 -- A call that asks with answers of its own.
-use Rattle.std.proofs.Common.{◌≡◌, ◌⊎◌, inl, inr, ℕ, List, [], Bool, Option, Some, sym, ◌∙◌, ap, subst}
+use Rattle.std.proofs.Common.{◌≡◌, ◌⊎◌, inl, inr, ℕ, List, [], Bool, true, Option, Some, sym, ◌∙◌, ap, subst}
+use Rattle.std.specs.List.{list_all}
 use Rattle.std.specs.Option.{option_map}
 use Rattle.cc_env.specs.Env.{EnvSeen}
 use Rattle.cc_host.specs.declared.event.Event.{Event}
 use Rattle.cc_host.specs.declared.question.Outcome.{Outcome}
 use Rattle.cc_host.specs.declared.question.Question.{Question}
-use Rattle.cc_host.specs.Part.{since, IsWhole}
+use Rattle.cc_host.specs.Part.{since}
 use Rattle.cc_host.specs.Question.{Look, Answer, answers, Agrees, Settles, Holds}
 use Rattle.cc_tool.specs.Asked.{Asked}
 use Rattle.cc_tool.specs.Asks.{Asks}
-use Rattle.cc_tool.proofs.Asides.{asked_by, asks_quiet}
+use Rattle.cc_tool.specs.Probing.{is_asked}
+use Rattle.cc_tool.proofs.Asides.{asked_by}
 use Rattle.cc_plan.specs.declared.error.PlanError.{PlanError}
 use Rattle.cc_plan.specs.declared.error.PlanError.TheVariants.{NoMemory as WantsMemory}
 use Rattle.cc_plan.specs.declared.settings.BuildConfig.{BuildConfig}
 use Rattle.cc_build.specs.Error.{ErrorSeen, no_memory}
 use Rattle.cc_build.specs.Refusal.{plan_error}
+use Rattle.cc_build.proofs.Going.{part_is}
 use Rattle.cc_build.proofs.Stages.{plan_cause}
 
 module _ (steady : Bool) (world : Question → Outcome) (dir : List ℕ) (old mid new : List Event) (none known : List Answer) (asks : Asks steady world dir old mid none known) (is : new ≡ mid) (empty : none ≡ []) where
   from_nothing : Asks steady world dir old mid [] known
   from_nothing = subst (λ (l : List Answer). Asks steady world dir old mid l known) empty asks
 
-  pub quiet_at : IsWhole [] (since old new)
-  quiet_at = subst (λ (l : List Event). IsWhole [] (since old l)) (sym is) (asks_quiet steady world dir old mid none known asks)
+  pub quiet_at : list_all is_asked (since old new) ≡ true
+  quiet_at = subst (λ (l : List Event). list_all is_asked l ≡ true) (sym (ap (since old) is ∙ part_is old mid asks.part asks.extends)) asks.asked
 
   pub asked_at : Asked steady world dir (since old new)
   asked_at = subst (λ (l : List Event). Asked steady world dir (since old l)) (sym is) (asked_by steady world dir old mid known from_nothing).0

@@ -1,21 +1,35 @@
--- A part that did all the steps of a compile run is built.
-use Rattle.std.proofs.Common.{◌≡◌, List, [], ◌∷◌, ◌++◌, ℕ, Option, Some, None, Bool, true, false, if◌then◌else◌, Result, Ok, Err, OnOk, refl, sym, ◌∙◌, ap, subst, append_assoc, append-nil}
+-- A part that did all the stages of a compile run is built.
+use Rattle.std.proofs.Common.{◌≡◌, List, [], ◌∷◌, ◌++◌, ◌+◌, ℕ, length, Option, Some, None, Bool, true, false, if◌then◌else◌, Result, Ok, Err, OnOk, refl, sym, ◌∙◌, ap, ap₂, subst, append_assoc, zero-add, length-append}
 use Rattle.std.specs.Option.{option_map}
-use Rattle.cc_host.specs.Part.{Step, IsWhole}
-use Rattle.cc_host.specs.declared.event.Event.{Event}
-use Rattle.cc_host.specs.declared.event.Event.TheVariants.{Removed}
-use Rattle.cc_host.proofs.Parts.{whole_then}
+use Rattle.std.proofs.lemmas.List.{length-map}
 use Rattle.cc_env.specs.Env.{EnvSeen}
+use Rattle.cc_host.specs.Command.{CommandSeen}
+use Rattle.cc_host.specs.Part.{step_of}
+use Rattle.cc_host.specs.Part.Step.{Runs, Removes}
 use Rattle.cc_host.specs.Question.{Look}
-use Rattle.cc_plan.specs.declared.settings.BuildConfig.{BuildConfig}
-use Rattle.cc_plan.specs.Plan.{library_of, folder_steps, compile_steps, removal_steps, archive_steps, index_steps, link_steps, run_steps, late_steps, planned_steps}
+use Rattle.cc_host.specs.Status.{is_success}
+use Rattle.cc_host.specs.declared.event.Event.{Event}
+use Rattle.cc_host.specs.declared.event.Event.TheVariants.{Ran, Made, Removed, Printed, Listed}
+use Rattle.cc_host.specs.declared.event.LineKind.TheVariants.{Warning}
+use Rattle.cc_host.specs.declared.event.Removal.{Removal}
+use Rattle.cc_host.specs.declared.event.Role.{Role}
+use Rattle.cc_host.specs.declared.event.Role.TheVariants.{Compile, Archive, Index}
+use Rattle.cc_host.specs.declared.event.Scope.TheVariants.{Build, Probe as ForProbes}
 use Rattle.cc_plan.specs.Given.{is_disabled}
+use Rattle.cc_plan.specs.Plan.{library_of, compiles_of, archives_of, indexes_of, warning_lines, prints, folder_steps, removal_steps}
 use Rattle.cc_plan.specs.Refusal.{early_refusal, late_refusal, first_of}
-use Rattle.cc_build.specs.Built.{Accepted, Built}
+use Rattle.cc_plan.specs.declared.settings.BuildConfig.{BuildConfig}
+use Rattle.cc_run.specs.Part.{started}
+use Rattle.cc_run.specs.Planned.{asked}
+use Rattle.cc_run.specs.Run.{run_from, nothing}
+use Rattle.cc_run.specs.declared.planned.Planned.{Planned}
+use Rattle.cc_build.specs.Built.{Accepted, Built, ended_well}
 use Rattle.cc_build.specs.Error.{ErrorSeen}
-use Rattle.cc_build.specs.Outcome.{Outcome}
 use Rattle.cc_build.specs.Refusal.{early_error, late_error, refusal_error, plan_error, disabled_error}
-use Rattle.cc_build.proofs.Splits.{whole_cut, removal}
+use Rattle.cc_build.specs.Stage.{Stage, commands_in, calls, planned, beside, in_turn, folder_stages, compile_stages, removal_stages, archive_stages, link_stages, run_stages, late_stages, planned_stages}
+use Rattle.cc_build.specs.Stage.Stage.{Asks}
+use Rattle.cc_build.specs.Went.{Terms, Means, Went, Ends}
+use Rattle.cc_build.proofs.RunLaws.{commands_then, commands_calls, commands_beside, commands_in_turn, went_started, went_run, went_split}
 
 first_none : {X : Type 0} (a b : Option X) → first_of a b ≡ None → (a ≡ None) × (b ≡ None)
 first_none None b h = (refl, h)
@@ -36,48 +50,109 @@ no_error set env look output h =
     let late = chosen_none (is_disabled env) disabled_error (option_map (plan_error set env output) (late_refusal set env look)) n.1 in
     record { early = unmapped (plan_error set env output) (early_refusal set env output) n.0; enabled = late.0; late = unmapped (plan_error set env output) (late_refusal set env look) late.1 }
 
--- what is planned where nothing is refused
-pub accepted_steps : (set : BuildConfig) (env : EnvSeen) (told : Bool) (look : Look) (output : List ℕ) → Accepted set env look output → planned_steps set env told look output ≡ folder_steps set env ++ run_steps set env told look output
-unfolding planned_steps late_steps
-accepted_steps set env told look output a =
+-- what is planned where nothing is refused: the folder, questions and the compile commands, and then the rest
+accepted_stages : (set : BuildConfig) (env : EnvSeen) (told : Bool) (look : Look) (output : List ℕ) → Accepted set env look output → planned_stages set env told look output ≡ (folder_stages set env ++ Asks ∷ compile_stages set env told look) ++ (removal_stages set env output ++ (archive_stages set env output ++ link_stages set env output))
+unfolding planned_stages late_stages
+accepted_stages set env told look output a =
     let early : early_refusal set env output ≡ None = a.early in
     let enabled : is_disabled env ≡ false = a.enabled in
     let late : late_refusal set env look ≡ None = a.late in
-    rw (early, enabled, late) refl
+    let joined : planned_stages set env told look output ≡ folder_stages set env ++ Asks ∷ run_stages set env told look output = rw (early, enabled, late) refl in
+    joined ∙ sym (append_assoc (folder_stages set env) (Asks ∷ compile_stages set env told look) (removal_stages set env output ++ (archive_stages set env output ++ link_stages set env output)))
+
+-- ---- the commands of the stages
+
+folder_commands : (set : BuildConfig) (env : EnvSeen) → commands_in (folder_stages set env) ≡ []
+unfolding folder_stages
+folder_commands set env = commands_calls (folder_steps set env)
+
+compile_commands : (set : BuildConfig) (env : EnvSeen) (told : Bool) (look : Look) → commands_in (compile_stages set env told look) ≡ planned Compile (compiles_of set env look)
+unfolding compile_stages
+compile_commands set env told look =
+    let lines = prints Warning (warning_lines set env told look) in
+    let cmds = planned Compile (compiles_of set env look) in
+    commands_then (calls lines) (beside cmds) ∙ ap₂ (λ u v. u ++ v) (commands_calls lines) (commands_beside cmds)
+
+archive_commands : (set : BuildConfig) (env : EnvSeen) (output : List ℕ) → commands_in (archive_stages set env output) ≡ planned Archive (archives_of set env output) ++ planned Index (indexes_of set env output)
+unfolding archive_stages
+archive_commands set env output =
+    let first = planned Archive (archives_of set env output) in
+    let second = planned Index (indexes_of set env output) in
+    commands_then (in_turn first) (in_turn second) ∙ ap₂ (λ u v. u ++ v) (commands_in_turn first) (commands_in_turn second)
+
+source_commands : (set : BuildConfig) (env : EnvSeen) (told : Bool) (look : Look) → commands_in (folder_stages set env ++ Asks ∷ compile_stages set env told look) ≡ planned Compile (compiles_of set env look)
+source_commands set env told look =
+    commands_then (folder_stages set env) (Asks ∷ compile_stages set env told look) ∙ ap₂ (λ u v. u ++ v) (folder_commands set env) (compile_commands set env told look)
+
+planned_length : (role : Role) (cmds : List CommandSeen) → length (planned role cmds) ≡ length cmds
+planned_length role cmds = length-map cmds (λ cmd. record { role = role; cmd = cmd; message = None })
+
+both_length : (first second : List CommandSeen) → length (planned Archive first ++ planned Index second) ≡ length (first ++ second)
+both_length first second = length-append (planned Archive first) (planned Index second) ∙ ap₂ (λ m n. m + n) (planned_length Archive first) (planned_length Index second) ∙ sym (length-append first second)
+
+-- the commands of these stages were started, and nothing else
+started_from : (t : Terms) (stages : List Stage) (part : List Event) (x y : Means) (cmds : List Planned) → Went t stages part x y → commands_in stages ≡ cmds → started part ≡ asked t.shows cmds
+started_from t stages part x y cmds w is = went_started t stages part x y w ∙ ap (asked t.shows) is
+
+-- and each of them has ended with 0
+ended_from : (t : Terms) (stages : List Stage) (part : List Event) (x y : Means) (cmds : List Planned) (count : ℕ) → Went t stages part x y → commands_in stages ≡ cmds → length cmds ≡ count → run_from nothing part ≡ ended_well count
+ended_from t stages part x y cmds count w is long = went_run t stages part x y 0 w ∙ ap ended_well (zero-add (length (commands_in stages)) ∙ ap length is ∙ long)
+
+-- ---- the removal
+
+-- an event that removed this file
+removed_is : (path : List ℕ) (event : Event) → step_of event ≡ Removes path ∷ [] → (how : Removal) × (event ≡ Removed path how)
+removed_is path (Removed file how) e = let same : file ≡ path = cc in (how, ap (λ f. Removed f how) same)
+removed_is path (Ran role cmd pipes status out err) e = absurd (by_test (is_success status) e)
+  where
+    by_test : (b : Bool) → (if b then Runs role cmd ∷ [] else []) ≡ Removes path ∷ [] → ⊥
+    by_test true k = cc
+    by_test false k = cc
+removed_is path (Made Build folder) e = absurd (cc)
+removed_is path (Made ForProbes folder) e = absurd (cc)
+removed_is path (Printed kind bytes) e = absurd (cc)
+removed_is path (Listed vars) e = absurd (cc)
+removed_is path event e = absurd (cc)
+
+removal_is : (t : Terms) (set : BuildConfig) (env : EnvSeen) (output : List ℕ) (part : List Event) (x y : Means) → Went t (removal_stages set env output) part x y → (how : Removal) × (part ≡ Removed (library_of set env output) how ∷ [])
+unfolding removal_stages removal_steps
+removal_is t set env output part x y w =
+    let r = removed_is (library_of set env output) w.3.1.0 w.3.1.1.1 in
+    (r.0, w.3.0 ∙ ap₂ (λ u v. u ++ v) w.3.1.1.0 w.3.2.0 ∙ ap (λ event. event ∷ []) r.1)
 
 -- the pieces of a part, one after another
-glued : (part f1 r1 f2 r2 f3 r3 f4 r4 f5 r5 : List Event) (x : Event) → part ≡ f1 ++ r1 → r1 ≡ f2 ++ r2 → r2 ≡ f3 ++ x ∷ r3 → r3 ≡ f4 ++ r4 → r4 ≡ f5 ++ r5 → part ≡ ((f1 ++ f2) ++ f3) ++ x ∷ (f4 ++ f5) ++ r5
-glued part f1 r1 f2 r2 f3 r3 f4 r4 f5 r5 x e1 e2 e3 e4 e5 =
-    let whole : part ≡ f1 ++ (f2 ++ (f3 ++ ((x ∷ []) ++ (f4 ++ (f5 ++ r5))))) =
-    e1 ∙ ap (λ l. f1 ++ l) (e2 ∙ ap (λ l. f2 ++ l) (e3 ∙ ap (λ l. f3 ++ x ∷ l) (e4 ∙ ap (λ l. f4 ++ l) e5))) in
-    let joined : ((f1 ++ f2) ++ f3) ++ x ∷ (f4 ++ f5) ++ r5 ≡ f1 ++ (f2 ++ (f3 ++ ((x ∷ []) ++ (f4 ++ (f5 ++ r5))))) = simp append_assoc in
-    whole ∙ sym joined
+glued : (part runs back removal rest archives lines : List Event) (x : Event) → part ≡ runs ++ back → back ≡ removal ++ rest → removal ≡ x ∷ [] → rest ≡ archives ++ lines → part ≡ runs ++ x ∷ archives ++ lines
+glued part runs back removal rest archives lines x e1 e2 e3 e4 = e1 ∙ ap (λ l. runs ++ l) (e2 ∙ ap₂ (λ u v. u ++ v) e3 e4) ∙ sym (append_assoc runs (x ∷ archives) lines)
 
-pub built : (set : BuildConfig) (env : EnvSeen) (told : Bool) (look : Look) (output : List ℕ) (part : List Event) → refusal_error set env look output ≡ None → IsWhole (planned_steps set env told look output) part → Built set env look output part
-unfolding removal_steps
-built set env told look output part h w =
+pub built : (t : Terms) (set : BuildConfig) (env : EnvSeen) (told : Bool) (look : Look) (output : List ℕ) (part : List Event) (x y : Means) → refusal_error set env look output ≡ None → Went t (planned_stages set env told look output) part x y → Built t set env look output part
+built t set env told look output part x y h w =
     let accepted : Accepted set env look output = no_error set env look output h in
-    let all : IsWhole (folder_steps set env ++ run_steps set env told look output) part = subst (λ s. IsWhole s part) (accepted_steps set env told look output accepted) w in
-    let c1 = whole_cut (folder_steps set env) (run_steps set env told look output) part all in
-    let c2 = whole_cut (compile_steps set env told look) (removal_steps set env output ++ (archive_steps set env output ++ (index_steps set env output ++ link_steps set env output))) c1.back c1.behind in
-    let c3 = removal (library_of set env output) (archive_steps set env output ++ (index_steps set env output ++ link_steps set env output)) c2.back c2.behind in
-    let c4 = whole_cut (archive_steps set env output) (index_steps set env output ++ link_steps set env output) c3.back c3.behind in
-    let c5 = whole_cut (index_steps set env output) (link_steps set env output) c4.back c4.behind in
+    let sources = folder_stages set env ++ Asks ∷ compile_stages set env told look in
+    let archive = archive_stages set env output in
+    let link = link_stages set env output in
+    let all : Went t (sources ++ (removal_stages set env output ++ (archive ++ link))) part x y = subst (λ (stages : List Stage). Went t stages part x y) (accepted_stages set env told look output accepted) w in
+    let c1 = went_split t sources (removal_stages set env output ++ (archive ++ link)) part x y all in
+    let c2 = went_split t (removal_stages set env output) (archive ++ link) c1.1 c1.2 y c1.3.2 in
+    let c3 = went_split t archive link c2.1 c2.2 y c2.3.2 in
+    let removal = removal_is t set env output c2.0 c1.2 c2.2 c2.3.1 in
     record {
       accepted = accepted;
       told = told;
-      runs = (c1.front ++ c2.front) ++ c3.front;
-      how = c3.how;
-      archives = c4.front ++ c5.front;
-      lines = c5.back;
-      cut = glued part c1.front c1.back c2.front c2.back c3.front c3.back c4.front c4.back c5.front c5.back (Removed (library_of set env output) c3.how) c1.cut c2.cut c3.cut c4.cut c5.cut;
-      compiled = subst (λ (steps : List Step). IsWhole steps ((c1.front ++ c2.front) ++ c3.front)) (append-nil (folder_steps set env ++ compile_steps set env told look))
-          (whole_then (folder_steps set env ++ compile_steps set env told look) [] (c1.front ++ c2.front) c3.front (whole_then (folder_steps set env) (compile_steps set env told look) c1.front c2.front c1.before c2.before) c3.before);
-      archived = whole_then (archive_steps set env output) (index_steps set env output) c4.front c5.front c4.before c5.before;
-      linked = c5.behind;
+      runs = c1.0;
+      how = removal.0;
+      archives = c3.0;
+      lines = c3.1;
+      cut = glued part c1.0 c1.1 c2.0 c2.1 c3.0 c3.1 (Removed (library_of set env output) removal.0) c1.3.0 c2.3.0 removal.1 c3.3.0;
+      compiled = (x, c1.2, c1.3.1);
+      compiles = started_from t sources c1.0 x c1.2 (planned Compile (compiles_of set env look)) c1.3.1 (source_commands set env told look);
+      ended = ended_from t sources c1.0 x c1.2 (planned Compile (compiles_of set env look)) (length (compiles_of set env look)) c1.3.1 (source_commands set env told look) (planned_length Compile (compiles_of set env look));
+      archived = (c2.2, c3.2, c3.3.1);
+      writes = started_from t archive c3.0 c2.2 c3.2 (planned Archive (archives_of set env output) ++ planned Index (indexes_of set env output)) c3.3.1 (archive_commands set env output);
+      written = ended_from t archive c3.0 c2.2 c3.2 (planned Archive (archives_of set env output) ++ planned Index (indexes_of set env output)) (length (archives_of set env output ++ indexes_of set env output)) c3.3.1 (archive_commands set env output) (both_length (archives_of set env output) (indexes_of set env output));
+      linked = (c3.2, y, c3.3.2);
     }
 
 -- a run that answers Ok is built
-pub built_on_ok : {T : Type 0} (set : BuildConfig) (env : EnvSeen) (told : Bool) (look : Look) (output : List ℕ) (part : List Event) (r : Result T ErrorSeen) → Outcome (refusal_error set env look output) (planned_steps set env told look output) part r → OnOk r (Built set env look output part)
-built_on_ok set env told look output part (Ok x) o = built set env told look output part o.0 o.1
-built_on_ok set env told look output part (Err e) o = tt
+pub built_on_ok : {T : Type 0} (t : Terms) (set : BuildConfig) (env : EnvSeen) (told : Bool) (look : Look) (output : List ℕ) (part : List Event) (r : Result T ErrorSeen) (x y : Means) → Ends t (refusal_error set env look output) (planned_stages set env told look output) part r x y → OnOk r (Built t set env look output part)
+built_on_ok t set env told look output part (Ok v) x y o = built t set env told look output part x y o.0 o.1
+built_on_ok t set env told look output part (Err e) x y o = tt

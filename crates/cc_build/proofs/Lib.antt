@@ -1,10 +1,15 @@
 pub mod Asking
 pub mod BuiltLaws
+pub mod Going
 pub mod Lines
 pub mod Looks
 pub mod OrderLaws
 pub mod Outcomes
-pub mod Splits
+pub mod RunLaws
+pub mod Running
+pub mod SettledLaws
 pub mod Stages
+pub mod StopLaws
 pub mod SupportLaws
 pub mod Telling
+pub mod TurnLaws

@@ -1,118 +1,348 @@
 -- A compile run archives last.
-use Rattle.std.proofs.Common.{◌≡◌, ◌⊎◌, ◌+◌, inl, inr, arith, ℕ, List, [], ◌∷◌, ◌++◌, length, Option, Result, Ok, Err, Bool, true, false, ◌||◌, if◌then◌else◌, is_some, refl, sym, ◌∙◌, ap, subst, append_assoc, append-nil}
-use Rattle.std.proofs.lemmas.List.{length-append}
-use Rattle.std.specs.List.{list_any}
-use Rattle.cc_host.specs.Part.{Step, runs, done, left, IsPartly}
-use Rattle.cc_host.specs.Part.Step.{Makes}
-use Rattle.cc_host.specs.declared.event.Event.{Event}
-use Rattle.cc_host.specs.declared.event.Event.TheVariants.{Ran, Missing}
-use Rattle.cc_host.specs.declared.event.Role.TheVariants.{Compile, Archive, Index, Expand}
-use Rattle.cc_host.specs.declared.event.Scope.TheVariants.{Build}
-use Rattle.cc_host.proofs.Order.{IsOf, is_archive, archives_after, compiles_alone}
-use Rattle.cc_host.proofs.Parts.{done_then, partly_more, partly_whole}
+use Rattle.std.proofs.Common.{◌≡◌, ◌⊎◌, inl, inr, ℕ, List, [], ◌∷◌, ◌++◌, map, take, drop, Option, Result, Ok, Err, Bool, true, false, if◌then◌else◌, is_some, refl, sym, ◌∙◌, ap, subst, append_assoc, append-nil, take-append-drop}
+use Rattle.std.specs.List.{list_any, list_all}
+use Rattle.std.proofs.lemmas.Bool.{and_parts, or_parts, or_from}
+use Rattle.std.proofs.lemmas.Grind.{flat_map-append}
+use Rattle.std.proofs.lemmas.List.Folds.{list_any-append}
 use Rattle.cc_env.specs.Env.{EnvSeen}
+use Rattle.cc_host.specs.Command.{CommandSeen}
+use Rattle.cc_host.specs.Part.{Step, since, step_of, Refuses}
+use Rattle.cc_host.specs.Part.Step.{Runs, Makes, Removes, Prints, Lists}
 use Rattle.cc_host.specs.Question.{Look}
-use Rattle.cc_plan.specs.declared.settings.BuildConfig.{BuildConfig}
+use Rattle.cc_host.specs.Status.{is_success}
+use Rattle.cc_host.specs.declared.event.Event.{Event}
+use Rattle.cc_host.specs.declared.event.Event.TheVariants.{Started, Ran, Missing}
 use Rattle.cc_host.specs.declared.event.LineKind.{LineKind}
 use Rattle.cc_host.specs.declared.event.LineKind.TheVariants.{Warning}
+use Rattle.cc_host.specs.declared.event.Role.{Role}
+use Rattle.cc_host.specs.declared.event.Role.TheVariants.{Compile, Archive, Index, Expand}
+use Rattle.cc_host.specs.declared.event.Scope.TheVariants.{Build}
+use Rattle.cc_host.proofs.Parts.{since_append}
 use Rattle.cc_plan.specs.Given.{is_disabled}
-use Rattle.cc_plan.specs.Plan.{dir_of, warning_lines, prints, compiles_of, folder_steps, compile_steps, late_steps, planned_steps, removal_steps, archive_steps, index_steps, link_steps}
+use Rattle.cc_plan.specs.Plan.{dir_of, warning_lines, prints, compiles_of, folder_steps}
 use Rattle.cc_plan.specs.Refusal.{early_refusal, late_refusal, is_empty}
+use Rattle.cc_plan.specs.declared.settings.BuildConfig.{BuildConfig}
+use Rattle.cc_run.specs.Outcome.{missing_in, missing_by}
+use Rattle.cc_run.specs.Own.{is_of_run}
+use Rattle.cc_run.specs.Part.{started, started_of, missing}
+use Rattle.cc_run.specs.Planned.{Asked, asked}
+use Rattle.cc_run.specs.Run.{Run, gone}
+use Rattle.cc_run.specs.declared.error.RunError.{RunError}
+use Rattle.cc_run.specs.declared.error.RunError.TheVariants.{ToolNotFound}
+use Rattle.cc_run.specs.declared.planned.Planned.{Planned}
+use Rattle.cc_run.specs.declared.planned.Shows.{Shows}
+use Rattle.cc_tool.specs.Probing.{is_asked}
 use Rattle.cc_build.specs.Error.{ErrorSeen}
 use Rattle.cc_build.specs.Order.{is_archive_event, ArchivesLast}
-use Rattle.cc_build.specs.Outcome.{Outcome}
 use Rattle.cc_build.specs.Refusal.{refusal_error}
+use Rattle.cc_build.specs.Stage.{Stage, calls, planned as planned_in, beside, folder_stages, compile_stages, removal_stages, archive_stages, link_stages, late_stages, planned_stages}
+use Rattle.cc_build.specs.Stage.Stage.{Calls, Asks, RunsOne, RunsAll}
+use Rattle.cc_build.specs.Went.{Terms, Means, RanAll, RanOne, Did, Went, Stops, Halts, Halted, Ends, Partly, Goes}
 
-of_archive : (event : Event) → is_archive_event event ≡ true → IsOf Archive event
-of_archive (Ran Archive cmd pipes status out err) is = refl
-of_archive (Ran Compile cmd pipes status out err) is = absurd (cc)
-of_archive (Ran Index cmd pipes status out err) is = absurd (cc)
-of_archive (Ran Expand cmd pipes status out err) is = absurd (cc)
-of_archive (Missing Archive cmd) is = refl
-of_archive (Missing Compile cmd) is = absurd (cc)
-of_archive (Missing Index cmd) is = absurd (cc)
-of_archive (Missing Expand cmd) is = absurd (cc)
-of_archive event is = absurd (cc)
+-- ---- a part that went through the first of its stages
 
-or_rest : (t more whole : Bool) → (t || more) ≡ false → (more ≡ false → whole ≡ false) → (t || whole) ≡ false
-or_rest true more whole e rest = absurd (cc)
-or_rest false more whole e rest = rest e
+pub went_partly : (t : Terms) (stages : List Stage) (part : List Event) (x y : Means) → Went t stages part x y → Partly t stages part x y
+went_partly t [] part x y w = w
+went_partly t (s ∷ ss) part x y w = inr (inr (w.0, w.1, w.2, (w.3.0, w.3.1, went_partly t ss w.1 w.2 y w.3.2)))
 
-none_both : (xs ys : List Step) → list_any is_archive xs ≡ false → list_any is_archive ys ≡ false → list_any is_archive (xs ++ ys) ≡ false
-none_both [] ys a b = b
-none_both (x ∷ xs) ys a b = or_rest (is_archive x) (list_any is_archive xs) (list_any is_archive (xs ++ ys)) a (λ e. none_both xs ys e b)
+halts_partly : (t : Terms) (refusal : Option ErrorSeen) (stages : List Stage) (part : List Event) (e : ErrorSeen) (x y : Means) → Halts t refusal stages part e x y → Partly t stages part x y
+halts_partly t refusal [] part e x y h = (h.1, h.2)
+halts_partly t refusal (s ∷ ss) part e x y (inl h) = inl (h.1, h.2)
+halts_partly t refusal (s ∷ ss) part e x y (inr h) = inr (inl (e, h))
 
-longer : (steps : List Step) (step : Step) (t x : List Step) → steps ≡ ((steps ++ step ∷ []) ++ t) ++ x → ⊥
-longer steps step t x e =
-    let n : length steps ≡ ((length steps + 1) + length t) + length x =
-    ap length e ∙ length-append ((steps ++ step ∷ []) ++ t) x ∙ ap (λ k. k + length x) (length-append (steps ++ step ∷ []) t ∙ ap (λ k. k + length t) (length-append steps (step ∷ []))) in
-    omega (arith, n)
+-- these stages were done, and then the first of those
+partly_behind : (t : Terms) (a b : List Stage) (p q : List Event) (x y z : Means) → Went t a p x y → Partly t b q y z → Partly t (a ++ b) (p ++ q) x z
+partly_behind t [] b p q x y z w v = subst (λ (l : List Event). Partly t b (l ++ q) x z) (sym w.0) (subst (λ (m : Means). Partly t b q m z) w.1 v)
+partly_behind t (s ∷ a) b p q x y z w v = inr (inr (w.0, w.1 ++ q, w.2, (ap (λ l. l ++ q) w.3.0 ∙ append_assoc w.0 w.1 q, w.3.1, partly_behind t a b w.1 q w.2 y z w.3.2 v)))
 
--- a part of steps of which none archives has no archive command: it would stand behind one step more than there are
-no_archive : (steps : List Step) (part before after : List Event) (event : Event) → IsPartly steps part → list_any is_archive steps ≡ false → part ≡ before ++ event ∷ after → IsOf Archive event → ⊥
-no_archive steps part before after event p none is of =
-    let step : Step = Makes Build [] in
-    let one_more : IsPartly ((steps ++ step ∷ []) ++ []) part = subst (λ (l : List Step). IsPartly l part) (sym (append-nil (steps ++ step ∷ []))) (partly_more steps (step ∷ []) part p) in
-    let behind = archives_after (steps ++ step ∷ []) [] part before after event one_more (none_both steps (step ∷ []) none refl) is of in
-    let cut : steps ≡ (done before ++ done (event ∷ after)) ++ left steps part = p.begun ∙ ap (λ l. l ++ left steps part) (ap done is ∙ done_then before (event ∷ after)) in
-    longer steps step behind.0 (done (event ∷ after) ++ left steps part)
-    (cut ∙ append_assoc (done before) (done (event ∷ after)) (left steps part) ∙ ap (λ l. l ++ (done (event ∷ after) ++ left steps part)) behind.1)
+pub halted_partly : (t : Terms) (refusal : Option ErrorSeen) (stages : List Stage) (part : List Event) (e : ErrorSeen) (x y : Means) → Halted t refusal stages part e x y → Partly t stages part x y
+halted_partly t refusal stages part e x y h =
+    subst (λ (l : List Stage). Partly t l part x y) (sym h.stages_are) (subst (λ (l : List Event). Partly t (h.before ++ h.after) l x y) (sym h.cut)
+    (partly_behind t h.before h.after h.front h.rest x h.y y h.went (halts_partly t refusal h.after h.rest e h.y y h.halts)))
 
-no_folder_archives : (set : BuildConfig) (env : EnvSeen) → list_any is_archive (folder_steps set env) ≡ false
-unfolding folder_steps
+pub ended_partly : {T : Type 0} (t : Terms) (refusal : Option ErrorSeen) (stages : List Stage) (part : List Event) (r : Result T ErrorSeen) (x y : Means) → Ends t refusal stages part r x y → Partly t stages part x y
+ended_partly t refusal stages part (Ok v) x y o = went_partly t stages part x y o.1
+ended_partly t refusal stages part (Err e) x y o = halted_partly t refusal stages part e x y o
+
+-- ---- stages without an archive command
+
+abbrev is_archive_role : Role → Bool
+is_archive_role Archive = true
+is_archive_role _ = false
+
+abbrev is_archive_command : Planned → Bool
+is_archive_command p = is_archive_role p.role
+
+abbrev is_command : Step → Bool
+is_command (Runs role cmd) = true
+is_command _ = false
+
+-- a stage that runs an archive command, or calls for a command
+abbrev pub may_archive : Stage → Bool
+may_archive (Calls step) = is_command step
+may_archive Asks = false
+may_archive (RunsOne p) = is_archive_command p
+may_archive (RunsAll ps) = list_any is_archive_command ps
+
+-- none of these stages runs an archive command
+abbrev pub NoArchive : List Stage → Type 0
+NoArchive stages = list_any may_archive stages ≡ false
+
+-- no event is one of an archive command
+abbrev IsSilent : List Event → Type 0
+IsSilent part = list_any is_archive_event part ≡ false
+
+no_archive_then : (a b : List Stage) → NoArchive a → NoArchive b → NoArchive (a ++ b)
+no_archive_then a b m n = list_any-append may_archive a b ∙ or_from (list_any may_archive a) (list_any may_archive b) m n
+
+silent_then : (a b : List Event) → IsSilent a → IsSilent b → IsSilent (a ++ b)
+silent_then a b m n = list_any-append is_archive_event a b ∙ or_from (list_any is_archive_event a) (list_any is_archive_event b) m n
+
+silent_one : (event : Event) (part : List Event) → part ≡ event ∷ [] → is_archive_event event ≡ false → IsSilent part
+silent_one event part is none = ap (list_any is_archive_event) is ∙ or_from (is_archive_event event) false none refl
+
+silent_none : (part : List Event) → part ≡ [] → IsSilent part
+silent_none part none = ap (list_any is_archive_event) none
+
+-- an archive command stands in no such part
+never : (part before after : List Event) (event : Event) → IsSilent part → part ≡ before ++ event ∷ after → is_archive_event event ≡ true → ⊥
+never part before after event none is archives =
+    let all : list_any is_archive_event (before ++ event ∷ after) ≡ false = ap (list_any is_archive_event) (sym is) ∙ none in
+    let behind : list_any is_archive_event (event ∷ after) ≡ false = (or_parts (list_any is_archive_event before) (list_any is_archive_event (event ∷ after)) (sym (list_any-append is_archive_event before (event ∷ after)) ∙ all)).1 in
+    let here : is_archive_event event ≡ false = (or_parts (is_archive_event event) (list_any is_archive_event after) behind).0 in
+    absurd (cc)
+
+-- ---- the events of commands of other roles
+
+asks_archive : Asked → Bool
+asks_archive a = is_archive_role a.role
+
+lacks_archive : (Role × CommandSeen) → Bool
+lacks_archive m = is_archive_role m.0
+
+-- where no test passes, none passes among the first of a list or behind them
+none_taken : {X : Type 0} (test : X → Bool) (n : ℕ) (xs : List X) → list_any test xs ≡ false → (list_any test (take n xs) ≡ false) × (list_any test (drop n xs) ≡ false)
+none_taken test n xs none = or_parts (list_any test (take n xs)) (list_any test (drop n xs)) (sym (list_any-append test (take n xs) (drop n xs)) ∙ ap (list_any test) (take-append-drop n xs) ∙ none)
+
+asked_none : (shows : Shows) (ps : List Planned) → list_any is_archive_command ps ≡ false → list_any asks_archive (asked shows ps) ≡ false
+unfolding asks_archive
+asked_none shows [] none = refl
+asked_none shows (p ∷ ps) none =
+    let k = or_parts (is_archive_command p) (list_any is_archive_command ps) none in
+    or_from (is_archive_command p) (list_any asks_archive (asked shows ps)) k.0 (asked_none shows ps k.1)
+
+lacking_none : (cmds : List Asked) → list_any asks_archive cmds ≡ false → list_any lacks_archive (map (λ a. (a.role, a.cmd)) cmds) ≡ false
+unfolding asks_archive lacks_archive
+lacking_none [] none = refl
+lacking_none (a ∷ cmds) none =
+    let k = or_parts (is_archive_role a.role) (list_any asks_archive cmds) none in
+    or_from (is_archive_role a.role) (list_any lacks_archive (map (λ c. (c.role, c.cmd)) cmds)) k.0 (lacking_none cmds k.1)
+
+missing_none : (cmds : List Asked) (e : RunError) → list_any asks_archive cmds ≡ false → list_any lacks_archive (missing_in cmds e) ≡ false
+missing_none cmds (ToolNotFound place) none = lacking_none (take 1 (drop place cmds)) (none_taken asks_archive 1 (drop place cmds) (none_taken asks_archive place cmds none).1).0
+missing_none cmds e none = refl
+
+by_answer : (cmds : List Asked) (result : Result (Unit {0}) RunError) → list_any asks_archive cmds ≡ false → list_any lacks_archive (missing_by cmds result) ≡ false
+by_answer cmds (Ok v) none = refl
+by_answer cmds (Err e) none = missing_none cmds e none
+
+-- an event of a run is one of an archive command only by its role
+run_silent : (part : List Event) → list_all is_of_run part ≡ true → list_any asks_archive (started part) ≡ false → list_any lacks_archive (missing part) ≡ false → IsSilent part
+unfolding asks_archive lacks_archive
+run_silent [] own s m = refl
+run_silent (Started id Archive cmd pipes held ∷ part) own s m = absurd (cc)
+run_silent (Started id Compile cmd pipes held ∷ part) own s m = run_silent part own s m
+run_silent (Started id Index cmd pipes held ∷ part) own s m = run_silent part own s m
+run_silent (Started id Expand cmd pipes held ∷ part) own s m = run_silent part own s m
+run_silent (Missing Archive cmd ∷ part) own s m = absurd (cc)
+run_silent (Missing Compile cmd ∷ part) own s m = run_silent part own s m
+run_silent (Missing Index cmd ∷ part) own s m = run_silent part own s m
+run_silent (Missing Expand cmd ∷ part) own s m = run_silent part own s m
+run_silent (Ran role cmd pipes status out err ∷ part) own s m = absurd (cc)
+run_silent (event ∷ part) own s m = run_silent part (and_parts (is_of_run event) (list_all is_of_run part) own).1 s m
+
+gone_started : (live : List (ℕ × ℕ)) → started (gone live) ≡ []
+gone_started [] = refl
+gone_started (c ∷ live) = gone_started live
+
+-- the commands that were started are the first of the list
+first_started : (cmds : List Asked) (log mid part : List Event) (r : Run) → mid ≡ log ++ since log mid → started (since log mid) ≡ take r.begun cmds → log ++ part ≡ mid ++ gone r.live → started part ≡ take r.begun cmds
+first_started cmds log mid part r grew begun dropped =
+    let whole : log ++ part ≡ log ++ (since log mid ++ gone r.live) = dropped ∙ ap (λ l. l ++ gone r.live) grew ∙ append_assoc log (since log mid) (gone r.live) in
+    let cut : part ≡ since log mid ++ gone r.live = sym (since_append log part) ∙ ap (since log) whole ∙ since_append log (since log mid ++ gone r.live) in
+    ap started cut ∙ flat_map-append started_of (since log mid) (gone r.live) ∙ ap (λ l. started (since log mid) ++ l) (gone_started r.live) ∙ append-nil (started (since log mid)) ∙ begun
+
+commands_silent : (cmds : List Asked) (log mid part : List Event) (r : Run) (result : Result (Unit {0}) RunError) → list_any asks_archive cmds ≡ false → list_all is_of_run part ≡ true → mid ≡ log ++ since log mid → started (since log mid) ≡ take r.begun cmds → log ++ part ≡ mid ++ gone r.live → missing (since log (log ++ part)) ≡ missing_by cmds result → IsSilent part
+commands_silent cmds log mid part r result none own grew begun dropped lacking =
+    run_silent part own
+    (ap (list_any asks_archive) (first_started cmds log mid part r grew begun dropped) ∙ (none_taken asks_archive r.begun cmds none).0)
+    (ap (list_any lacks_archive) (ap missing (sym (since_append log part)) ∙ lacking) ∙ by_answer cmds result none)
+
+module _ (t : Terms) (part : List Event) (result : Result (Unit {0}) RunError) (x y : Means) where
+  all_silent : (ps : List Planned) → list_any is_archive_command ps ≡ false → RanAll t ps part result x y → IsSilent part
+  all_silent ps none h = commands_silent (asked t.shows ps) h.log h.run.mid part h.run.run result (asked_none t.shows ps none) h.own h.run.work.extends h.run.work.steps.asked h.run.dropped h.run.missing_is
+
+  one_silent : (p : Planned) → is_archive_command p ≡ false → RanOne t p part result x y → IsSilent part
+  one_silent p none h = commands_silent (asked t.shows (p ∷ [])) h.log h.run.mid part h.run.run result (asked_none t.shows (p ∷ []) (or_from (is_archive_command p) false none refl)) h.own h.run.work.extends h.run.work.begun h.run.dropped h.run.missing_is
+
+-- ---- the events of stages without an archive command
+
+ran_no_call : (b : Bool) (role : Role) (cmd : CommandSeen) (step : Step) → is_command step ≡ false → (if b then Runs role cmd ∷ [] else []) ≡ step ∷ [] → ⊥
+ran_no_call true role cmd step none e = let same : Runs role cmd ≡ step = cc in let yes : true ≡ false = ap is_command same ∙ none in absurd (cc)
+ran_no_call false role cmd step none e = cc
+
+call_silent : (step : Step) (event : Event) → is_command step ≡ false → step_of event ≡ step ∷ [] → is_archive_event event ≡ false
+call_silent step (Started id role cmd pipes held) none e = absurd (cc)
+call_silent step (Missing role cmd) none e = absurd (cc)
+call_silent step (Ran role cmd pipes status out err) none e = absurd (ran_no_call (is_success status) role cmd step none e)
+call_silent step event none e = refl
+
+refusal_silent : (step : Step) (event : Event) → is_command step ≡ false → Refuses step event → is_archive_event event ≡ false
+refusal_silent (Runs role cmd) event none r = absurd (cc)
+refusal_silent step (Started id role cmd pipes held) none r = no_refusal step r
+  where
+    no_refusal : (step : Step) → Refuses step (Started id role cmd pipes held) → is_archive_event (Started id role cmd pipes held) ≡ false
+    no_refusal (Runs r c) k = absurd k
+    no_refusal (Makes scope path) k = absurd k
+    no_refusal (Removes path) k = absurd k
+    no_refusal (Prints kind bytes) k = absurd k
+    no_refusal Lists k = absurd k
+refusal_silent (Makes scope path) (Missing role cmd) none r = absurd r
+refusal_silent (Removes path) (Missing role cmd) none r = absurd r
+refusal_silent (Prints kind bytes) (Missing role cmd) none r = absurd r
+refusal_silent Lists (Missing role cmd) none r = absurd r
+refusal_silent (Makes scope path) (Ran role cmd pipes status out err) none r = absurd r
+refusal_silent (Removes path) (Ran role cmd pipes status out err) none r = absurd r
+refusal_silent (Prints kind bytes) (Ran role cmd pipes status out err) none r = absurd r
+refusal_silent Lists (Ran role cmd pipes status out err) none r = absurd r
+refusal_silent step event none r = refl
+
+asked_silent_one : (event : Event) → is_asked event ≡ true → is_archive_event event ≡ false
+asked_silent_one (Started id role cmd pipes held) e = absurd (cc)
+asked_silent_one (Missing role cmd) e = absurd (cc)
+asked_silent_one (Ran role cmd pipes status out err) e = absurd (cc)
+asked_silent_one event e = refl
+
+asked_silent : (part : List Event) → list_all is_asked part ≡ true → IsSilent part
+asked_silent [] all = refl
+asked_silent (event ∷ part) all =
+    let k = and_parts (is_asked event) (list_all is_asked part) all in
+    or_from (is_archive_event event) (list_any is_archive_event part) (asked_silent_one event k.0) (asked_silent part k.1)
+
+did_silent : (t : Terms) (s : Stage) (part : List Event) (x y : Means) → may_archive s ≡ false → Did t s part x y → IsSilent part
+did_silent t (Calls step) part x y none d = silent_one d.0 part d.1.0 (call_silent step d.0 none d.1.1)
+did_silent t Asks part x y none d = asked_silent part d.0
+did_silent t (RunsOne p) part x y none d = one_silent t part (Ok tt) x y p none d
+did_silent t (RunsAll ps) part x y none d = all_silent t part (Ok tt) x y ps none d
+
+stop_silent : (t : Terms) (s : Stage) (part : List Event) (e : ErrorSeen) (x y : Means) → may_archive s ≡ false → Stops t s part e x y → IsSilent part
+stop_silent t (Calls step) part e x y none d = silent_one d.0 part d.1.0 (refusal_silent step d.0 none d.1.1)
+stop_silent t Asks part e x y none d = absurd d
+stop_silent t (RunsOne p) part e x y none d = one_silent t part (Err d.0) x y p none d.1.0
+stop_silent t (RunsAll ps) part e x y none d = all_silent t part (Err d.0) x y ps none d.1.0
+
+-- a part of stages of which none archives has no archive command
+partly_silent : (t : Terms) (stages : List Stage) (part : List Event) (x z : Means) → NoArchive stages → Partly t stages part x z → IsSilent part
+partly_silent t [] part x z none p = silent_none part p.0
+partly_silent t (s ∷ ss) part x z none (inl p) = silent_none part p.0
+partly_silent t (s ∷ ss) part x z none (inr (inl p)) = stop_silent t s part p.0 x z (or_parts (may_archive s) (list_any may_archive ss) none).0 p.1
+partly_silent t (s ∷ ss) part x z none (inr (inr p)) =
+    let k = or_parts (may_archive s) (list_any may_archive ss) none in
+    ap (list_any is_archive_event) p.3.0 ∙ silent_then p.0 p.1 (did_silent t s p.0 x p.2 k.0 p.3.1) (partly_silent t ss p.1 p.2 z k.1 p.3.2)
+
+-- ---- archive commands stand behind
+
+-- an archive command stands behind a part that has none
+past : (front rest before after : List Event) (event : Event) → IsSilent front → is_archive_event event ≡ true → front ++ rest ≡ before ++ event ∷ after → (more : List Event) × ((before ≡ front ++ more) × (rest ≡ more ++ event ∷ after))
+past [] rest before after event none is e = (before, (refl, e))
+past (f ∷ front) rest [] after event none is e =
+    let k = or_parts (is_archive_event f) (list_any is_archive_event front) none in
+    let same : f ≡ event = cc in
+    let both : true ≡ false = sym is ∙ ap is_archive_event (sym same) ∙ k.0 in
+    absurd (cc)
+past (f ∷ front) rest (b ∷ before) after event none is e =
+    let k = or_parts (is_archive_event f) (list_any is_archive_event front) none in
+    let same : b ≡ f = cc in
+    let tail : front ++ rest ≡ before ++ event ∷ after = cc in
+    let r = past front rest before after event k.1 is tail in
+    (r.0, (ap (λ l. b ∷ l) r.1.0 ∙ ap (λ x. x ∷ (front ++ r.0)) same, r.1.1))
+
+joined : (before front more runs rest : List Event) → before ≡ front ++ more → more ≡ runs ++ rest → before ≡ (front ++ runs) ++ rest
+joined before front more runs rest e f = e ∙ ap (λ l. front ++ l) f ∙ sym (append_assoc front runs rest)
+
+-- what stands before it went through all of the first stages
+behind_first : (t : Terms) (first more : List Stage) (part before after : List Event) (event : Event) (x z : Means) → NoArchive first → Partly t (first ++ more) part x z → part ≡ before ++ event ∷ after → is_archive_event event ≡ true → (runs rest : List Event) × (y : Means) × ((before ≡ runs ++ rest) × Went t first runs x y)
+behind_first t [] more part before after event x z none p is archives = ([], before, x, (refl, (refl, refl)))
+behind_first t (s ∷ first) more part before after event x z none (inl p) is archives = absurd (never part before after event (silent_none part p.0) is archives)
+behind_first t (s ∷ first) more part before after event x z none (inr (inl p)) is archives =
+    absurd (never part before after event (stop_silent t s part p.0 x z (or_parts (may_archive s) (list_any may_archive first) none).0 p.1) is archives)
+behind_first t (s ∷ first) more part before after event x z none (inr (inr p)) is archives =
+    let k = or_parts (may_archive s) (list_any may_archive first) none in
+    let c = past p.0 p.1 before after event (did_silent t s p.0 x p.2 k.0 p.3.1) archives (sym p.3.0 ∙ is) in
+    let r = behind_first t first more p.1 c.0 after event p.2 z k.1 p.3.2 c.1.1 archives in
+    (p.0 ++ r.0, r.1, r.2, (joined before p.0 c.0 r.0 r.1 c.1.0 r.3.0, (p.0, r.0, p.2, (refl, p.3.1, r.3.1))))
+
+-- a part of stages that begin with these archives behind them, if it archives at all
+pub archives_behind : (t : Terms) (first stages : List Stage) (part : List Event) (x y : Means) → (silent : NoArchive first) → Partly t stages part x y → ((rest : List Stage) × (stages ≡ first ++ rest)) ⊎ NoArchive stages → (before after : List Event) (event : Event) → part ≡ before ++ event ∷ after → is_archive_event event ≡ true → (runs rest : List Event) × ((before ≡ runs ++ rest) × Goes t first runs)
+archives_behind t first stages part x y none p (inl k) before after event is archives =
+    let r = behind_first t first k.0 part before after event x y none (subst (λ (l : List Stage). Partly t l part x y) k.1 p) is archives in
+    (r.0, r.1, (r.3.0, (x, r.2, r.3.1)))
+archives_behind t first stages part x y none p (inr alone) before after event is archives =
+    absurd (never part before after event (partly_silent t stages part x y alone p) is archives)
+
+-- ---- the stages of a compile run
+
+no_folder_archives : (set : BuildConfig) (env : EnvSeen) → NoArchive (folder_stages set env)
+unfolding folder_stages folder_steps
 no_folder_archives set env = by_files (is_empty set.files)
   where
-    by_files : (empty : Bool) → list_any is_archive (if empty then [] else Makes Build (dir_of set env) ∷ []) ≡ false
+    by_files : (empty : Bool) → NoArchive (calls (if empty then [] else Makes Build (dir_of set env) ∷ []))
     by_files true = refl
     by_files false = refl
 
-no_line_archives : (kind : LineKind) (lines : List (List ℕ)) → list_any is_archive (prints kind lines) ≡ false
+no_line_archives : (kind : LineKind) (lines : List (List ℕ)) → NoArchive (calls (prints kind lines))
 unfolding prints
 no_line_archives kind [] = refl
 no_line_archives kind (line ∷ lines) = no_line_archives kind lines
 
-no_compile_archives : (set : BuildConfig) (env : EnvSeen) (told : Bool) (look : Look) → list_any is_archive (compile_steps set env told look) ≡ false
-unfolding compile_steps
-no_compile_archives set env told look = none_both (prints Warning (warning_lines set env told look)) (runs Compile (compiles_of set env look)) (no_line_archives Warning (warning_lines set env told look)) (compiles_alone (compiles_of set env look))
+compiles_alone : (cmds : List CommandSeen) → list_any is_archive_command (planned_in Compile cmds) ≡ false
+compiles_alone [] = refl
+compiles_alone (cmd ∷ cmds) = compiles_alone cmds
 
--- these steps begin with those of the folder and the sources, or none of them archives
-abbrev pub IsOrdered : (folder compile steps : List Step) → Type 0
-IsOrdered folder compile steps = ((rest : List Step) × (steps ≡ (folder ++ compile) ++ rest)) ⊎ (list_any is_archive steps ≡ false)
+no_source_command : (cmds : List CommandSeen) → NoArchive (beside (planned_in Compile cmds))
+no_source_command [] = refl
+no_source_command (cmd ∷ []) = refl
+no_source_command (cmd ∷ next ∷ cmds) = or_from (list_any is_archive_command (planned_in Compile cmds)) false (compiles_alone cmds) refl
 
-by_checks : (early disabled late : Bool) (folder compile more : List Step) → list_any is_archive folder ≡ false → IsOrdered folder compile (if early then [] else folder ++ (if disabled then [] else (if late then [] else compile ++ more)))
+no_compile_archives : (set : BuildConfig) (env : EnvSeen) (told : Bool) (look : Look) → NoArchive (compile_stages set env told look)
+unfolding compile_stages
+no_compile_archives set env told look = no_archive_then (calls (prints Warning (warning_lines set env told look))) (beside (planned_in Compile (compiles_of set env look))) (no_line_archives Warning (warning_lines set env told look)) (no_source_command (compiles_of set env look))
+
+-- neither the folder nor the questions nor the sources archive
+pub no_source_archives : (set : BuildConfig) (env : EnvSeen) (told : Bool) (look : Look) → NoArchive (folder_stages set env ++ Asks ∷ compile_stages set env told look)
+no_source_archives set env told look = no_archive_then (folder_stages set env) (Asks ∷ compile_stages set env told look) (no_folder_archives set env) (no_compile_archives set env told look)
+
+-- these stages begin with those of the folder, the questions and the sources, or none of them archives
+abbrev pub IsOrdered : (folder compile stages : List Stage) → Type 0
+IsOrdered folder compile stages = ((rest : List Stage) × (stages ≡ (folder ++ Asks ∷ compile) ++ rest)) ⊎ NoArchive stages
+
+by_checks : (early disabled late : Bool) (folder compile more : List Stage) → NoArchive folder → IsOrdered folder compile (if early then [] else folder ++ (if disabled then [] else Asks ∷ (if late then [] else compile ++ more)))
 by_checks true disabled late folder compile more none = inr refl
-by_checks false true late folder compile more none = inr (none_both folder [] none refl)
-by_checks false false true folder compile more none = inr (none_both folder [] none refl)
-by_checks false false false folder compile more none = inl (more, sym (append_assoc folder compile more))
+by_checks false true late folder compile more none = inr (no_archive_then folder [] none refl)
+by_checks false false true folder compile more none = inr (no_archive_then folder (Asks ∷ []) none refl)
+by_checks false false false folder compile more none = inl (more, sym (append_assoc folder (Asks ∷ compile) more))
 
-pub planned : (set : BuildConfig) (env : EnvSeen) (told : Bool) (look : Look) (output : List ℕ) → IsOrdered (folder_steps set env) (compile_steps set env told look) (planned_steps set env told look output)
-unfolding planned_steps late_steps
+pub planned : (set : BuildConfig) (env : EnvSeen) (told : Bool) (look : Look) (output : List ℕ) → IsOrdered (folder_stages set env) (compile_stages set env told look) (planned_stages set env told look output)
+unfolding planned_stages late_stages
 planned set env told look output =
-    by_checks (is_some (early_refusal set env output)) (is_disabled env) (is_some (late_refusal set env look)) (folder_steps set env) (compile_steps set env told look)
-    (removal_steps set env output ++ (archive_steps set env output ++ (index_steps set env output ++ link_steps set env output)))
+    by_checks (is_some (early_refusal set env output)) (is_disabled env) (is_some (late_refusal set env look)) (folder_stages set env) (compile_stages set env told look)
+    (removal_stages set env output ++ (archive_stages set env output ++ link_stages set env output))
     (no_folder_archives set env)
 
-begun : {T : Type 0} (refusal : Option ErrorSeen) (steps : List Step) (part : List Event) (r : Result T ErrorSeen) → Outcome refusal steps part r → IsPartly steps part
-begun refusal steps part (Ok x) o = partly_whole steps part o.1
-begun refusal steps part (Err e) o = o.0
-
--- a part of steps that begin with these archives behind them, if it archives at all
-pub archives_behind : (first steps : List Step) (part : List Event) → list_any is_archive first ≡ false → IsPartly steps part → ((rest : List Step) × (steps ≡ first ++ rest)) ⊎ (list_any is_archive steps ≡ false) → (before after : List Event) (event : Event) → part ≡ before ++ event ∷ after → is_archive_event event ≡ true → (rest : List Step) × (done before ≡ first ++ rest)
-archives_behind first steps part none p (inl k) before after event is archives =
-    archives_after first k.0 part before after event (subst (λ (l : List Step). IsPartly l part) k.1 p) none is (of_archive event archives)
-archives_behind first steps part none p (inr alone) before after event is archives =
-    absurd (no_archive steps part before after event p alone is (of_archive event archives))
-
--- neither the folder nor the sources archive
-pub no_source_archives : (set : BuildConfig) (env : EnvSeen) (told : Bool) (look : Look) → list_any is_archive (folder_steps set env ++ compile_steps set env told look) ≡ false
-no_source_archives set env told look = none_both (folder_steps set env) (compile_steps set env told look) (no_folder_archives set env) (no_compile_archives set env told look)
-
-archives_last : (set : BuildConfig) (env : EnvSeen) (told : Bool) (look : Look) (steps : List Step) (part : List Event) → IsPartly steps part → IsOrdered (folder_steps set env) (compile_steps set env told look) steps → ArchivesLast set env look part
-archives_last set env told look steps part p k = λ before after event is archives.
-    let found = archives_behind (folder_steps set env ++ compile_steps set env told look) steps part (no_source_archives set env told look) p k before after event is archives in
-    (told, found.0, found.1)
-
--- a compile run archives behind the folder and all sources
-pub ordered : {T : Type 0} (set : BuildConfig) (env : EnvSeen) (told : Bool) (look : Look) (output : List ℕ) (part : List Event) (r : Result T ErrorSeen) → Outcome (refusal_error set env look output) (planned_steps set env told look output) part r → ArchivesLast set env look part
-ordered set env told look output part r o =
-    archives_last set env told look (planned_steps set env told look output) part (begun (refusal_error set env look output) (planned_steps set env told look output) part r o) (planned set env told look output)
+-- a compile run archives behind the folder, the questions and all sources
+pub ordered : {T : Type 0} (t : Terms) (set : BuildConfig) (env : EnvSeen) (told : Bool) (look : Look) (output : List ℕ) (part : List Event) (r : Result T ErrorSeen) (x y : Means) → Ends t (refusal_error set env look output) (planned_stages set env told look output) part r x y → ArchivesLast t set env look part
+ordered t set env told look output part r x y o = λ before after event is archives.
+    let stages = planned_stages set env told look output in
+    let first = folder_stages set env ++ Asks ∷ compile_stages set env told look in
+    let found = archives_behind t first stages part x y (no_source_archives set env told look) (ended_partly t (refusal_error set env look output) stages part r x y o) (planned set env told look output) before after event is archives in
+    (told, record { runs = found.0; rest = found.1; cut = found.2.0; compiled = found.2.1 })

@@ -1,24 +1,30 @@
 -- How the checks of settings and the stages of a plan make up a compile run.
-use Rattle.std.proofs.Common.{◌≡◌, ◌⊎◌, inl, inr, ℕ, List, [], ◌∷◌, ◌++◌, Option, Some, None, Bool, true, false, Result, refl, sym, ◌∙◌, ap, subst}
+use Rattle.std.proofs.Common.{◌≡◌, ◌⊎◌, inl, inr, ℕ, List, [], ◌∷◌, ◌++◌, Option, Some, None, Bool, true, false, if◌then◌else◌, is_some, Result, refl, sym, ◌∙◌, ap, subst}
+use Rattle.std.specs.List.{All, list_all}
 use Rattle.std.specs.Option.{option_map}
+use Rattle.std.proofs.lemmas.List.Elements.{All-map}
+use Rattle.cc_env.specs.Env.{EnvSeen}
 use Rattle.cc_host.specs.Command.{CommandSeen}
-use Rattle.cc_host.specs.Part.{Step, runs, IsPartly, IsWhole}
 use Rattle.cc_host.specs.Part.Step.{Removes}
+use Rattle.cc_host.specs.Question.{Look}
 use Rattle.cc_host.specs.declared.event.Event.{Event}
 use Rattle.cc_host.specs.declared.event.LineKind.TheVariants.{Link, Warning}
+use Rattle.cc_host.specs.declared.event.Role.{Role}
 use Rattle.cc_host.specs.declared.event.Role.TheVariants.{Archive, Compile, Index}
-use Rattle.cc_host.proofs.Parts.{partly_none, partly_more, partly_whole}
-use Rattle.cc_env.specs.Env.{EnvSeen}
-use Rattle.cc_host.specs.Question.{Look}
-use Rattle.cc_plan.specs.declared.settings.BuildConfig.{BuildConfig}
+use Rattle.cc_plan.specs.Given.{is_disabled}
+use Rattle.cc_plan.specs.Plan.{warning_lines, library_of, compiles_of, archives_of, indexes_of, link_lines, prints, folder_steps, removal_steps, link_steps}
+use Rattle.cc_plan.specs.Refusal.{first_of, early_refusal, late_refusal}
 use Rattle.cc_plan.specs.declared.error.PlanError.{PlanError}
 use Rattle.cc_plan.specs.declared.error.PlanError.TheVariants.{NoMemory as WantsMemory}
-use Rattle.cc_plan.specs.Given.{is_disabled}
-use Rattle.cc_plan.specs.Plan.{warning_lines, library_of, compiles_of, archives_of, indexes_of, link_lines, prints, folder_steps, compile_steps, removal_steps, archive_steps, index_steps, link_steps, run_steps, late_steps, planned_steps}
-use Rattle.cc_plan.specs.Refusal.{first_of, early_refusal, late_refusal}
+use Rattle.cc_plan.specs.declared.settings.BuildConfig.{BuildConfig}
+use Rattle.cc_run.specs.declared.planned.Planned.{Planned}
+use Rattle.cc_tool.specs.Probing.{is_asked}
 use Rattle.cc_build.specs.Error.{ErrorSeen, no_memory}
-use Rattle.cc_build.specs.Outcome.{IsRefused, Outcome}
 use Rattle.cc_build.specs.Refusal.{plan_error, disabled_error, refusal_error, early_error, late_error}
+use Rattle.cc_build.specs.Stage.{Stage, calls, planned, beside, in_turn, folder_stages, compile_stages, removal_stages, archive_stages, link_stages, run_stages, late_stages, planned_stages}
+use Rattle.cc_build.specs.Stage.Stage.{Asks}
+use Rattle.cc_build.specs.Went.{Terms, Means, Halted, Ends}
+use Rattle.cc_build.proofs.Going.{went_one, halted_among, ends_then}
 
 -- the error of a refused plan, by its cause
 pub plan_cause : (set : BuildConfig) (env : EnvSeen) (output : List ℕ) (error : PlanError) (e : ErrorSeen) (r : Option PlanError) → (e ≡ no_memory) ⊎ (e ≡ plan_error set env output error) → (error ≡ WantsMemory) ⊎ (r ≡ Some error) → (e ≡ no_memory) ⊎ (option_map (plan_error set env output) r ≡ Some e)
@@ -26,11 +32,6 @@ unfolding plan_error
 plan_cause set env output error e r (inl memory) cause = inl memory
 plan_cause set env output error e r (inr is) (inl wants) = inl (is ∙ ap (plan_error set env output) wants)
 plan_cause set env output error e r (inr is) (inr refused) = inr (ap (option_map (plan_error set env output)) refused ∙ ap Some (sym is))
-
--- nothing was asked, and the error has its cause
-pub refused_none : (refusal : Option ErrorSeen) (steps : List Step) (part : List Event) (e : ErrorSeen) → part ≡ [] → (e ≡ no_memory) ⊎ (refusal ≡ Some e) → IsRefused refusal steps part e
-refused_none refusal steps part e none (inl memory) = (subst (λ (p : List Event). IsPartly steps p) (sym none) (partly_none steps), inl memory)
-refused_none refusal steps part e none (inr refused) = (subst (λ (p : List Event). IsPartly steps p) (sym none) (partly_none steps), inr (inl refused))
 
 -- an error of the first checks is that of all
 pub early_first : (set : BuildConfig) (env : EnvSeen) (look : Look) (output : List ℕ) (e : ErrorSeen) → (e ≡ no_memory) ⊎ (early_error set env output ≡ Some e) → (e ≡ no_memory) ⊎ (refusal_error set env look output ≡ Some e)
@@ -42,13 +43,18 @@ pub late_decides : (set : BuildConfig) (env : EnvSeen) (look : Look) (output : L
 late_decides set env look output passed = ap (λ r. first_of (option_map (plan_error set env output) r) (late_error set env look output)) (sym passed)
 
 -- where the first checks pass, the folder and the rest are planned
-pub early_passed : (set : BuildConfig) (env : EnvSeen) (told : Bool) (look : Look) (output : List ℕ) → early_refusal set env output ≡ None → folder_steps set env ++ late_steps set env told look output ≡ planned_steps set env told look output
-unfolding planned_steps
+pub early_passed : (set : BuildConfig) (env : EnvSeen) (told : Bool) (look : Look) (output : List ℕ) → early_refusal set env output ≡ None → folder_stages set env ++ late_stages set env told look output ≡ planned_stages set env told look output
+unfolding planned_stages
 early_passed set env told look output passed = rw passed refl
 
--- where the later checks pass too, the whole run is planned
-pub late_passed : (set : BuildConfig) (env : EnvSeen) (told : Bool) (look : Look) (output : List ℕ) → is_disabled env ≡ false → late_refusal set env look ≡ None → run_steps set env told look output ≡ late_steps set env told look output
-unfolding late_steps
+-- the stages of the folder are its steps
+pub folder_is : (set : BuildConfig) (env : EnvSeen) → folder_stages set env ≡ calls (folder_steps set env)
+unfolding folder_stages
+folder_is set env = refl
+
+-- where the later checks pass too, questions are asked, and the whole run is planned
+pub late_passed : (set : BuildConfig) (env : EnvSeen) (told : Bool) (look : Look) (output : List ℕ) → is_disabled env ≡ false → late_refusal set env look ≡ None → Asks ∷ run_stages set env told look output ≡ late_stages set env told look output
+unfolding late_stages
 late_passed set env told look output enabled passed = rw (enabled, passed) refl
 
 pub no_late_error : (set : BuildConfig) (env : EnvSeen) (look : Look) (output : List ℕ) → is_disabled env ≡ false → late_refusal set env look ≡ None → late_error set env look output ≡ None
@@ -64,20 +70,34 @@ pub late_disabled : (set : BuildConfig) (env : EnvSeen) (look : Look) (output : 
 late_disabled set env look output e disabled (inl memory) = inl memory
 late_disabled set env look output e disabled (inr is) = inr (rw disabled (ap Some (sym is)))
 
--- the stages of a plan are the planned steps
-pub stages : (set : BuildConfig) (env : EnvSeen) (told : Bool) (look : Look) (output : List ℕ) (warnings : List (List ℕ)) (compiles archives indexes : List CommandSeen) (lines : List (List ℕ)) (library : List ℕ) → warnings ≡ warning_lines set env told look → compiles ≡ compiles_of set env look → archives ≡ archives_of set env output → indexes ≡ indexes_of set env output → lines ≡ link_lines set env output → library ≡ library_of set env output → (prints Warning warnings ++ runs Compile compiles) ++ ((Removes library ∷ []) ++ (runs Archive archives ++ (runs Index indexes ++ prints Link lines))) ≡ run_steps set env told look output
-unfolding compile_steps removal_steps archive_steps index_steps link_steps
-stages set env told look output warnings compiles archives indexes lines library e0 e1 e2 e3 e4 e5 = rw (e0, e1, e2, e3, e4, e5) refl
-
--- an outcome by other names
-pub renamed : {T : Type 0} (refusal refusal' : Option ErrorSeen) (steps steps' : List Step) (part : List Event) (r : Result T ErrorSeen) → refusal ≡ refusal' → steps ≡ steps' → Outcome refusal steps part r → Outcome refusal' steps' part r
-renamed refusal refusal' steps steps' part r e f o =
-    subst (λ (s : List Step). Outcome refusal' s part r) f (subst (λ (x : Option ErrorSeen). Outcome x steps part r) e o)
-
-pub refused_renamed : (refusal : Option ErrorSeen) (steps steps' : List Step) (part : List Event) (e : ErrorSeen) → steps ≡ steps' → IsRefused refusal steps part e → IsRefused refusal steps' part e
-refused_renamed refusal steps steps' part e f o = subst (λ (s : List Step). IsRefused refusal s part e) f o
+-- where commands may run, questions are asked first
+late_asks : (set : BuildConfig) (env : EnvSeen) (told : Bool) (look : Look) (output : List ℕ) → is_disabled env ≡ false → (rest : List Stage) × (late_stages set env told look output ≡ (Asks ∷ []) ++ rest)
+unfolding late_stages
+late_asks set env told look output enabled = (if is_some (late_refusal set env look) then [] else run_stages set env told look output, rw enabled refl)
 
 -- only questions were asked, and the error has its cause
-pub refused_quiet : (refusal : Option ErrorSeen) (steps : List Step) (part : List Event) (e : ErrorSeen) → IsWhole [] part → (e ≡ no_memory) ⊎ (refusal ≡ Some e) → IsRefused refusal steps part e
-refused_quiet refusal steps part e quiet (inl memory) = (partly_more [] steps part (partly_whole [] part quiet), inl memory)
-refused_quiet refusal steps part e quiet (inr refused) = (partly_more [] steps part (partly_whole [] part quiet), inr (inl refused))
+pub asked_halted : (t : Terms) (set : BuildConfig) (env : EnvSeen) (told : Bool) (look : Look) (output : List ℕ) (part : List Event) (e : ErrorSeen) (x : Means) → is_disabled env ≡ false → list_all is_asked part ≡ true → (e ≡ no_memory) ⊎ (late_error set env look output ≡ Some e) → Halted t (late_error set env look output) (late_stages set env told look output) part e x x
+asked_halted t set env told look output part e x enabled asked cause =
+    let k = late_asks set env told look output enabled in
+    subst (λ (s : List Stage). Halted t (late_error set env look output) s part e x x) (sym k.1) (halted_among t (late_error set env look output) (Asks ∷ []) k.0 part e x x (went_one t Asks part x x (asked, refl)) cause)
+
+-- questions were asked, and then the plan was run
+pub asked_then : {T : Type 0} (t : Terms) (run : List Stage) (a b : List Event) (r : Result T ErrorSeen) (x y : Means) → list_all is_asked a ≡ true → Ends t None run b r x y → Ends t None (Asks ∷ run) (a ++ b) r x y
+asked_then t run a b r x y asked o = ends_then t None (Asks ∷ []) run a b r x x y (went_one t Asks a x x (asked, refl)) o
+
+-- the stages of a plan are the planned ones
+pub stages : (set : BuildConfig) (env : EnvSeen) (told : Bool) (look : Look) (output : List ℕ) (warnings : List (List ℕ)) (compiles archives indexes : List Planned) (lines : List (List ℕ)) (library : List ℕ) → warnings ≡ warning_lines set env told look → compiles ≡ planned Compile (compiles_of set env look) → archives ≡ planned Archive (archives_of set env output) → indexes ≡ planned Index (indexes_of set env output) → lines ≡ link_lines set env output → library ≡ library_of set env output → (calls (prints Warning warnings) ++ beside compiles) ++ (calls (Removes library ∷ []) ++ ((in_turn archives ++ in_turn indexes) ++ calls (prints Link lines))) ≡ run_stages set env told look output
+unfolding compile_stages removal_stages archive_stages link_stages removal_steps link_steps
+stages set env told look output warnings compiles archives indexes lines library e0 e1 e2 e3 e4 e5 = rw (e0, e1, e2, e3, e4, e5) refl
+
+-- commands that are planned in a role have it
+pub have_role : (role : Role) (cmds : List CommandSeen) (ps : List Planned) → ps ≡ planned role cmds → All (λ (p : Planned). p.role ≡ role) ps
+have_role role cmds ps is = subst (λ (l : List Planned). All (λ (p : Planned). p.role ≡ role) l) (sym is) (All-map (λ (p : Planned). p.role ≡ role) (λ (cmd : CommandSeen). record { role = role; cmd = cmd; message = None }) cmds (λ _ _ _. refl))
+
+-- an outcome by other names
+pub renamed : {T : Type 0} (t : Terms) (refusal refusal' : Option ErrorSeen) (these those : List Stage) (part : List Event) (r : Result T ErrorSeen) (x y : Means) → refusal ≡ refusal' → these ≡ those → Ends t refusal these part r x y → Ends t refusal' those part r x y
+renamed t refusal refusal' these those part r x y e f o =
+    subst (λ (s : List Stage). Ends t refusal' s part r x y) f (subst (λ (c : Option ErrorSeen). Ends t c these part r x y) e o)
+
+pub halted_renamed : (t : Terms) (refusal : Option ErrorSeen) (these those : List Stage) (part : List Event) (e : ErrorSeen) (x y : Means) → these ≡ those → Halted t refusal these part e x y → Halted t refusal those part e x y
+halted_renamed t refusal these those part e x y f o = subst (λ (s : List Stage). Halted t refusal s part e x y) f o

@@ -1,7 +1,7 @@
 -- How an error is written for a user.
 use Rattle.std.specs.Prelude.{ℕ, List, ◌++◌, codes}
 use Rattle.cc_build.specs.declared.error.ErrorKind.{ErrorKind}
-use Rattle.cc_build.specs.declared.error.ErrorKind.TheVariants.{IOError, EnvVarNotFound, ToolExecError, ToolNotFound, InvalidArgument, InvalidTarget, UnknownTarget, InvalidFlag, Disabled, NoMemory}
+use Rattle.cc_build.specs.declared.error.ErrorKind.TheVariants.{IOError, EnvVarNotFound, ToolExecError, ToolNotFound, InvalidArgument, InvalidTarget, UnknownTarget, InvalidFlag, Disabled, TurnsSpent, NoMemory}
 use Rattle.cc_build.specs.Error.{ErrorSeen}
 
 abbrev pub kind_name : ErrorKind → List ℕ
@@ -14,6 +14,7 @@ kind_name InvalidTarget = codes "InvalidTarget"
 kind_name InvalidFlag = codes "InvalidFlag"
 kind_name UnknownTarget = codes "UnknownTarget"
 kind_name Disabled = codes "Disabled"
+kind_name TurnsSpent = codes "TurnsSpent"
 kind_name NoMemory = codes "NoMemory"
 
 -- its kind, and then its message

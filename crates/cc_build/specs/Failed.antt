@@ -1,20 +1,15 @@
 -- A part in which a command failed, and one in which the host did.
-use Rattle.std.specs.Prelude.{◌≡◌, List, Bool, true, false, not}
+use Rattle.std.specs.Prelude.{◌≡◌, ◌≢◌, ◌⊎◌, List, [], None, Bool, true, false, not}
 use Rattle.std.specs.List.{list_any}
-use Rattle.cc_host.specs.Status.{is_success}
 use Rattle.cc_host.specs.Part.{is_probing}
 use Rattle.cc_host.specs.declared.event.Event.{Event}
-use Rattle.cc_host.specs.declared.event.Event.TheVariants.{Ran, Missing, Fault}
+use Rattle.cc_host.specs.declared.event.Event.TheVariants.{Fault}
+use Rattle.cc_run.specs.Part.{missing}
+use Rattle.cc_run.specs.Run.{run_from, nothing}
 
--- a command that is missing, or that ended with another status than 0
-abbrev pub is_failed_command : Event → Bool
-is_failed_command (Ran role cmd pipes status out err) = not (is_success status)
-is_failed_command (Missing role cmd) = true
-is_failed_command _ = false
-
--- some command of the part failed
+-- some command of the part is missing, or was started in it and ended with another status than 0
 abbrev pub Failed : List Event → Type 0
-Failed part = list_any is_failed_command part ≡ true
+Failed part = (missing part ≢ []) ⊎ ((run_from nothing part).failed ≢ None)
 
 -- a fault, but one of what a question wants
 abbrev pub is_fault : Event → Bool

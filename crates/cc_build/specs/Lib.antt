@@ -1,3 +1,4 @@
+pub mod Attempts
 pub mod Build
 pub mod Built
 pub mod Captured
@@ -12,5 +13,9 @@ pub mod Order
 pub mod Outcome
 pub mod Questions
 pub mod Refusal
+pub mod RunErrors
+pub mod Shows
+pub mod Stage
 pub mod Stop
 pub mod Values
+pub mod Went

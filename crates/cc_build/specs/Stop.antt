@@ -1,6 +1,5 @@
 -- The errors of events that end a run, with the texts of their messages.
 use Rattle.std.specs.Prelude.{ℕ, List, [], ◌∷◌, ◌++◌, Option, Some, None, codes}
-use Rattle.std.specs.Fmt.{signed_decimal}
 use Rattle.cc_text.specs.Quoted.{quoted}
 use Rattle.cc_host.specs.Command.{CommandSeen}
 use Rattle.cc_host.specs.CommandLine.{command_line}
@@ -13,11 +12,11 @@ use Rattle.cc_host.specs.declared.event.HostCall.TheVariants.{Start, Turn, Outpu
 use Rattle.cc_host.specs.declared.event.HostError.{HostError}
 use Rattle.cc_host.specs.declared.event.HostError.TheVariants.{Fault as Faulted, NoMemory as WantsMemory}
 use Rattle.cc_host.specs.declared.event.Status.{Status}
-use Rattle.cc_host.specs.declared.event.Status.TheVariants.{Code, NoCode}
 use Rattle.cc_host.specs.declared.event.Why.{Why}
 use Rattle.cc_host.specs.declared.event.Why.TheVariants.{NotFound, Denied, Exists, Other}
 use Rattle.cc_build.specs.declared.error.ErrorKind.TheVariants.{IOError, ToolExecError, ToolNotFound}
 use Rattle.cc_build.specs.Error.{ErrorSeen, no_memory}
+use Rattle.cc_run.specs.Texts.{failed_text}
 
 abbrev pub call_name : HostCall → List ℕ
 call_name Start = codes "start"
@@ -36,22 +35,13 @@ why_name Denied = codes "denied"
 why_name Exists = codes "exists"
 why_name Other = codes "other"
 
--- how a command ended
-unfoldable pub ended_text : Status → List ℕ
-ended_text (Code n) = codes "(status code exit status: " ++ signed_decimal n ++ codes ")"
-ended_text NoCode = codes "(ended without a status)"
-
 -- the program can't be found
 unfoldable pub missing_error : CommandSeen → ErrorSeen
 missing_error cmd = record { kind = ToolNotFound; subject = cmd.program; message = codes "failed to find tool " ++ quoted cmd.program }
 
 -- the command ended with another status than 0
 unfoldable pub failed_error : Status → CommandSeen → ErrorSeen
-failed_error status cmd = record {
-  kind = ToolExecError;
-  subject = cmd.program;
-  message = codes "command did not execute successfully " ++ ended_text status ++ codes ": " ++ command_line cmd;
-}
+failed_error status cmd = record { kind = ToolExecError; subject = cmd.program; message = failed_text status cmd }
 
 -- the host couldn't run the command
 unfoldable pub unstarted_error : CommandSeen → ErrorSeen

@@ -1,12 +1,11 @@
 // A build: its settings and its environment, and the compile run.
-ghost use Rattle.std.specs.Prelude.{◌≡◌, ◌++◌, Bool, [], ◌∷◌, None, IfOk, IfErr, OnOk, OnErr, ◌⊎◌, Some, unwrap_or};
+ghost use Rattle.std.specs.Prelude.{◌≡◌, ◌++◌, ℕ, Bool, [], ◌∷◌, None, IfOk, IfErr, OnOk, OnErr, ◌⊎◌, Some, unwrap_or};
 ghost use Rattle.cc_env.specs.Snapshot.{snapshot_of};
 ghost use Rattle.cc_host.specs.Part.{since};
 ghost use Rattle.cc_host.specs.Question.{answers, is_yes, Holds};
 ghost use Rattle.cc_host.specs.Part.Step.{Lists};
 ghost use Rattle.cc_plan.specs.FlagSupport.{flag_verdict};
 ghost use Rattle.cc_plan.specs.Given.{variable_flags};
-ghost use Rattle.cc_plan.specs.Plan.{planned_steps};
 ghost use Rattle.cc_plan.specs.Settings.{unset_settings};
 ghost use Rattle.cc_plan.specs.Given.{probe_folder};
 ghost use Rattle.cc_plan.specs.Planned.{tool_of};
@@ -20,6 +19,9 @@ ghost use Rattle.cc_build.specs.Outcome.{Outcome};
 ghost use Rattle.cc_tool.specs.Asked.{question_events, Asked};
 ghost use Rattle.cc_build.specs.Refusal.{refusal_error};
 ghost use Rattle.cc_build.specs.Compiler.{tool_error, tool_steps};
+ghost use Rattle.cc_build.specs.Shows.{shows_of};
+ghost use Rattle.cc_build.specs.Stage.{calls, planned_stages};
+ghost use Rattle.cc_build.specs.Went.{Terms, Means, terms, means, Ends};
 
 use crate::Error;
 use crate::compiler::compiler;
@@ -30,7 +32,9 @@ use crate::run::list_vars;
 use crate::support::is_flag_supported;
 use cc_env::{BuildEnv, EnvSnapshot};
 use cc_host::{Host, World};
+use cc_jobs::Jobs;
 use cc_plan::BuildConfig;
+use cc_run::Turns;
 use cc_text::{Vars, Words};
 use cc_tool::{Caches, Tool};
 use std::alloc::Global;
@@ -120,7 +124,8 @@ impl<W: World> Build<W> {
         ensures asks_none { question_events (since (H.log host.old) (H.log host.new)) ≡ [] }
         ensures captured { OnOk result (Captures self.old self.new (since (H.log host.old) (H.log host.new))) }
         ensures err { OnErr result (self.new ≡ self.old) }
-        ensures outcome { Outcome None (Lists ∷ []) (since (H.log host.old) (H.log host.new)) result }
+        ensures patient { H.patience host.new ≡ H.patience host.old }
+        ensures outcome { (t : Terms) (x : Means) → Ends t None (calls (Lists ∷ [])) (since (H.log host.old) (H.log host.new)) result x x }
     {
         let vars = list_vars(self.alloc, host)?;
         self.set_envs_snapshot(&vars)
@@ -192,25 +197,43 @@ impl<W: World> Build<W> {
     /// Compiles the sources and archives them into the library of `output`, a name such as `foo` or `libfoo.a`.
     ///
     /// Makes the out dir where there is a source, asks what the plan wants to know, prints the warnings, runs one compile command per source,
-    /// removes the old library, archives all objects, writes the index, and prints the link lines. Ok means that all of this was done, and
-    /// nothing else. Else the first steps of it were, and the error is that of the refused settings, or of the event that ended the run. No
-    /// archive command is run before each source was compiled.
-    pub fn try_compile<H: Host<W>>(
+    /// removes the old library, archives all objects, writes the index, and prints the link lines. Two or more compile commands run beside
+    /// each other, each under a token of the pool. The seat is one of the pool and holds none, before and after; no more than so many turns
+    /// are made. Ok means that all of this was done, and nothing else. Else the first stages of it were, every command that was started has
+    /// ended or is left alone, and the error is that of the refused settings, or of the event that ended the run. No archive command is run
+    /// before each source was compiled.
+    pub fn try_compile<H: Host<W>, J: Jobs>(
         &self,
         rt: &impl Wait,
         host: &mut H,
+        jobs: &J,
+        seat: &mut J::Seat,
+        turns: u64,
         output: &str,
     ) -> Result<(), Error>
+        requires fits { J.fits jobs.now seat.old }
+        requires empty { J.held seat.old ≡ 0 }
+        ensures fits { J.fits jobs.now seat.new }
+        ensures empty { J.held seat.new ≡ 0 }
+        ensures total { J.total seat.new ≡ J.total seat.old }
+        ensures patient { H.patience host.new ≡ H.patience host.old }
         ensures extends { H.log host.new ≡ H.log host.old ++ since (H.log host.old) (H.log host.new) }
         ensures asked { Asked W.steady W.answer (probe_folder self.now.config self.now.env) (since (H.log host.old) (H.log host.new)) }
-        ensures built { OnOk result (Holds (answers (since (H.log host.old) (H.log host.new))) (λ look. Built self.now.config self.now.env look output.now (since (H.log host.old) (H.log host.new)))) }
-        ensures order { Holds (answers (since (H.log host.old) (H.log host.new))) (λ look. ArchivesLast self.now.config self.now.env look (since (H.log host.old) (H.log host.new))) }
-        ensures outcome { Holds (answers (since (H.log host.old) (H.log host.new))) (λ look. (told : Bool) × Outcome (refusal_error self.now.config self.now.env look output.now) (planned_steps self.now.config self.now.env told look output.now) (since (H.log host.old) (H.log host.new)) result) }
+        ensures built { OnOk result (Holds (answers (since (H.log host.old) (H.log host.new))) (λ look. Built (terms (shows_of self.now.config self.now.env) (J.total seat.old) (H.patience host.old)) self.now.config self.now.env look output.now (since (H.log host.old) (H.log host.new)))) }
+        ensures order { Holds (answers (since (H.log host.old) (H.log host.new))) (λ look. ArchivesLast (terms (shows_of self.now.config self.now.env) (J.total seat.old) (H.patience host.old)) self.now.config self.now.env look (since (H.log host.old) (H.log host.new))) }
+        ensures outcome { Holds (answers (since (H.log host.old) (H.log host.new))) (λ look. (told : Bool) × (left : ℕ) × Ends (terms (shows_of self.now.config self.now.env) (J.total seat.old) (H.patience host.old)) (refusal_error self.now.config self.now.env look output.now) (planned_stages self.now.config self.now.env told look output.now) (since (H.log host.old) (H.log host.new)) result (means turns (J.faults seat.old) (J.taken seat.old) (J.load seat.old)) (means left (J.faults seat.new) (J.taken seat.new) (J.load seat.new))) }
     {
+        let mut turns = Turns {
+            left: turns,
+            used: 0,
+        };
         compile(
             rt,
             self.alloc,
             host,
+            jobs,
+            seat,
+            &mut turns,
             &self.caches,
             &self.config,
             &self.env,

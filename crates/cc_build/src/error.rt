@@ -30,6 +30,8 @@ pub enum ErrorKind {
     UnknownTarget,
     /// `CC_FORCE_DISABLE` is true, so no command may run.
     Disabled,
+    /// No turn was left, and a command had no end.
+    TurnsSpent,
     /// Memory was refused. Subject and message are empty.
     NoMemory,
 }
@@ -155,6 +157,7 @@ fn kind_name(kind: ErrorKind) -> &'static str
         ErrorKind::InvalidFlag => "InvalidFlag",
         ErrorKind::UnknownTarget => "UnknownTarget",
         ErrorKind::Disabled => "Disabled",
+        ErrorKind::TurnsSpent => "TurnsSpent",
         ErrorKind::NoMemory => "NoMemory",
     }
 }

@@ -1,8 +1,8 @@
 //! `Build`: settings, and the compile run that they ask for.
 //!
-//! Stands on `cc_text`, `cc_env`, `cc_host`, `cc_tool` and `cc_plan`. A run makes the plan, asks the host for its steps one after another,
-//! and stops at the first that is refused. The crate above uses one thing: `try_compile` answers Ok only where `Built`
-//! holds, and each error has its cause in the settings or in the log (`specs/Outcome.antt`).
+//! Stands on `cc_text`, `cc_env`, `cc_host`, `cc_jobs`, `cc_tool`, `cc_plan` and `cc_run`. A run makes the plan, goes through its stages one
+//! after another, and stops at the first that is refused. The crate above uses one thing: `try_compile` answers Ok only where `Built`
+//! holds, and each error has its cause in the settings or in the log (`specs/Went.antt`).
 #![tactic(auto)]
 
 mod build;
@@ -15,6 +15,7 @@ mod marks;
 mod message;
 mod refusal;
 mod run;
+mod shows;
 mod support;
 #[cfg(test)]
 mod tests;

@@ -97,6 +97,20 @@ impl<W: World> Build<W> {
         self.config.cargo_warnings = cargo_warnings;
     }
 
+    /// Sets whether the standard output of the commands goes where that of the program goes. It takes no memory.
+    pub fn cargo_output(&mut self, cargo_output: bool)
+        ensures { self.new ≡ record self.old { config = record self.old.config { cargo_output = cargo_output } } }
+    {
+        self.config.cargo_output = cargo_output;
+    }
+
+    /// Sets whether lines tell the commands before they run, and how they ended. It takes no memory.
+    pub fn cargo_debug(&mut self, cargo_debug: bool)
+        ensures { self.new ≡ record self.old { config = record self.old.config { cargo_debug = Some cargo_debug } } }
+    {
+        self.config.cargo_debug = Some(cargo_debug);
+    }
+
     /// Sets whether lines are printed that make Cargo run the script again where a variable changes. It takes no memory.
     pub fn emit_rerun_if_env_changed(&mut self, emit_rerun_if_env_changed: bool)
         ensures { self.new ≡ record self.old { config = record self.old.config { emit_rerun_if_env_changed = emit_rerun_if_env_changed } } }

@@ -1,13 +1,15 @@
 // The errors of events that end a run.
-ghost use Rattle.std.specs.Prelude.{◌≡◌, IfOk, MatchResult, string_bytes};
-ghost use Rattle.std.specs.Fmt.{signed_decimal};
+ghost use Rattle.std.specs.Prelude.{◌≡◌, ◌⊎◌, [], IfOk, MatchResult};
+ghost use Rattle.std.specs.Option.{option_copied};
 ghost use Rattle.cc_build.specs.Error.{no_memory};
-ghost use Rattle.cc_build.specs.Stop.{call_name as name_of_call, why_name as name_of_why, ended_text as text_of_end, missing_error, failed_error, unstarted_error, fault_error, host_error};
+ghost use Rattle.cc_build.specs.RunErrors.{command_at, error_of, run_error};
+ghost use Rattle.cc_build.specs.Stop.{call_name as name_of_call, why_name as name_of_why, missing_error, failed_error, unstarted_error, fault_error, host_error};
 
 use crate::{Error, ErrorKind};
 use cc_host::{Command, HostCall, HostError, Status, Why, command_line};
+use cc_run::{Planned, RunError, failed_text};
 use cc_text::{Mem, Text, quoted};
-use std::alloc::{AllocError, Global};
+use std::alloc::Global;
 
 // An error, or want of memory where its texts could not be made.
 pub(crate) fn or_no_memory(error: Mem<Error>) -> Error
@@ -46,29 +48,6 @@ fn why_name(why: Why) -> &'static str
     }
 }
 
-fn decimal(alloc: Global, n: i32) -> Result<String, AllocError>
-    ensures { IfOk result (λ s. string_bytes s ≡ signed_decimal n) }
-{
-    format!(in alloc; "{n}")
-}
-
-// How a command ended.
-#[tactic(auto, unfolding(crate::specs::Stop::ended_text))]
-fn ended_text(alloc: Global, status: Status) -> Mem<Text>
-    ensures { IfOk result (λ text. text ≡ text_of_end status) }
-{
-    match status {
-        Status::Code(n) => {
-            let number = decimal(alloc, n)?;
-            let mut text = Text::of(alloc, "(status code exit status: ")?;
-            text.push_str(number.as_str())?;
-            text.push_str(")")?;
-            Ok(text)
-        }
-        Status::NoCode => Text::of(alloc, "(ended without a status)"),
-    }
-}
-
 // The program can't be found.
 #[tactic(auto, unfolding(crate::specs::Stop::missing_error))]
 pub(crate) fn missing(alloc: Global, cmd: &Command) -> Mem<Error>
@@ -87,12 +66,7 @@ pub(crate) fn failed(alloc: Global, status: Status, cmd: &Command) -> Mem<Error>
     ensures { IfOk result (λ e. e ≡ failed_error status cmd.now) }
 {
     let subject = Text::of(alloc, cmd.get_program())?;
-    let end = ended_text(alloc, status)?;
-    let line = command_line(alloc, cmd)?;
-    let mut message = Text::of(alloc, "command did not execute successfully ")?;
-    message.push_str(end.as_str())?;
-    message.push_str(": ")?;
-    message.push_str(line.as_str())?;
+    let message = failed_text(alloc, status, cmd)?;
     Ok(Error::told(ErrorKind::ToolExecError, subject, message))
 }
 
@@ -127,5 +101,79 @@ pub(crate) fn host_error(alloc: Global, error: HostError, subject: &str) -> Mem<
     match error {
         HostError::Fault(call, why) => fault(alloc, call, why, subject),
         HostError::NoMemory => Ok(Error::no_memory()),
+    }
+}
+
+// The command at a place.
+fn command_at(cmds: &[Planned], place: u64) -> Option<&Command>
+    ensures { option_copied result ≡ command_at cmds.now place }
+{
+    match cmds.get(place as usize) {
+        Some(planned) => Some(&planned.cmd),
+        None => None,
+    }
+}
+
+// An error that is about none.
+fn plain(alloc: Global, kind: ErrorKind, message: &str) -> Mem<Error>
+    ensures { IfOk result (λ e. e ≡ record { kind = kind; subject = []; message = message.now }) }
+{
+    let message = Text::of(alloc, message)?;
+    Ok(Error::told(kind, Text::new(alloc), message))
+}
+
+fn missing_at(alloc: Global, cmd: Option<&Command>) -> Mem<Error>
+    ensures { IfOk result (λ e. e ≡ error_of missing_error (option_copied cmd.entry)) }
+{
+    match cmd {
+        Some(cmd) => missing(alloc, cmd),
+        None => Ok(Error::no_memory()),
+    }
+}
+
+fn failed_at(alloc: Global, status: Status, cmd: Option<&Command>) -> Mem<Error>
+    ensures { IfOk result (λ e. e ≡ error_of (failed_error status) (option_copied cmd.entry)) }
+{
+    match cmd {
+        Some(cmd) => failed(alloc, status, cmd),
+        None => Ok(Error::no_memory()),
+    }
+}
+
+fn unstarted_at(alloc: Global, cmd: Option<&Command>) -> Mem<Error>
+    ensures { IfOk result (λ e. e ≡ error_of unstarted_error (option_copied cmd.entry)) }
+{
+    match cmd {
+        Some(cmd) => unstarted(alloc, cmd),
+        None => Ok(Error::no_memory()),
+    }
+}
+
+fn run_error(alloc: Global, e: RunError, cmds: &[Planned]) -> Mem<Error>
+    ensures { IfOk result (λ error. error ≡ run_error cmds.now e) }
+{
+    match e {
+        RunError::ToolNotFound(place) => missing_at(alloc, command_at(cmds, place)),
+        RunError::Failed(place, status) => failed_at(alloc, status, command_at(cmds, place)),
+        RunError::StartFault(place) => unstarted_at(alloc, command_at(cmds, place)),
+        RunError::WaitFault => plain(
+            alloc,
+            ErrorKind::ToolExecError,
+            "failed to wait for running commands",
+        ),
+        RunError::HostFault(call, why) => fault(alloc, call, why, ""),
+        RunError::JobFault => plain(alloc, ErrorKind::IOError, "no job token could be asked for"),
+        RunError::TurnsSpent => plain(alloc, ErrorKind::TurnsSpent, "turns spent"),
+        RunError::NoMemory => Ok(Error::no_memory()),
+    }
+}
+
+impl Error {
+    /// The error of a run that ended without success, told by the command at its place, or want of memory where its texts could not
+    /// be made. A place that the list doesn't have counts as want of memory.
+    pub fn of_run(alloc: Global, e: RunError, cmds: &[Planned]) -> Error
+        ensures { (result ≡ run_error cmds.now e) ⊎ (result ≡ no_memory) }
+    {
+        or_no_memory(run_error(alloc, e, cmds))
     }
 }

@@ -1,5 +1,6 @@
 use crate::{Build, Error, ErrorKind};
 use cc_host::{Ask, Bench, BenchHost, Event, Host, HostCall, Outcome, Role, Scope, Script, Status};
+use cc_jobs::OneCaller;
 use cc_text::{Bytes, Mem, Text, Vars};
 use std::alloc::Global;
 use std::process::Abort;
@@ -88,7 +89,10 @@ fn host_in(alloc: Global, trouble: Trouble) -> Mem<BenchHost> {
 fn run_in(rt: &impl Wait, alloc: Global, trouble: Trouble) -> Result<Run, Error> {
     let build = build_in(alloc, trouble)?;
     let mut host = host_in(alloc, trouble)?;
-    let error = build.try_compile(rt, &mut host, "foo").err();
+    let (jobs, mut seat) = OneCaller::new(2);
+    let error = build
+        .try_compile(rt, &mut host, &jobs, &mut seat, 50, "foo")
+        .err();
     Ok(Run { host, error })
 }
 
@@ -99,7 +103,8 @@ fn word_of(event: &Event) -> &str {
             scope: Scope::Probe,
             ..
         } => "",
-        Event::Ran { cmd, .. } => cmd.get_program(),
+        Event::Started { cmd, .. } => cmd.get_program(),
+        Event::Ran { .. } => "ran",
         Event::Missing { .. } => "missing",
         Event::Made { .. } => "made",
         Event::Removed { .. } => "removed",
@@ -178,7 +183,7 @@ fn a_run_ends_at_its_first_trouble_and_names_it(rt: HostRuntime) -> Result<(), F
         ),
         (
             Trouble::FirstSourceFails,
-            "made cc \nToolExecError\ncc\ncommand did not execute successfully (status code exit status: 2): \"cc\" \"-O0\" \"-ffunction-sections\" \"-fdata-sections\" \"-fPIC\" \"-m64\" \"-march=x86-64\" \"-Wall\" \"-Wextra\" \"-o\" \"/o/f268e9834a4b7b98-a.o\" \"-c\" \"src/a.c\"\n",
+            "made cc cc printed \nToolExecError\ncc\ncommand did not execute successfully (status code exit status: 2): \"cc\" \"-O0\" \"-ffunction-sections\" \"-fdata-sections\" \"-fPIC\" \"-m64\" \"-march=x86-64\" \"-Wall\" \"-Wextra\" \"-o\" \"/o/f268e9834a4b7b98-a.o\" \"-c\" \"src/a.c\"\n",
         ),
         (
             Trouble::LibraryStays,

@@ -1,9 +1,6 @@
-use Rattle.std.proofs.Common.{◌≡◌, IfOk, subst}
+use Rattle.std.proofs.Common.{subst}
 use Rattle.cc_host.specs.Part.{since}
-use Rattle.cc_host.specs.Question.{answers, is_yes, Holds}
-use Rattle.cc_tool.specs.Asked.{Asked}
-use Rattle.cc_plan.specs.FlagSupport.{flag_verdict}
-use Rattle.cc_plan.specs.Given.{probe_folder}
+use Rattle.cc_host.specs.Question.{answers, Holds}
 use Rattle.cc_build.specs.Build.{BuildSeen}
 use Rattle.cc_build.specs.FlagSupport.{support_error, support_steps}
 use Rattle.cc_build.specs.Outcome.{Outcome}

@@ -1,0 +1,166 @@
+-- Runs of commands as stages.
+use Rattle.std.proofs.Common.{◌≡◌, ◌⊎◌, ◌+◌, inl, inr, ℕ, List, [], ◌∷◌, ◌++◌, length, take, drop, get_or, ◌<◌, ◌≤◌, suc, add-one, true, false, None, Result, Ok, Err, refl, sym, ◌∙◌, ap, subst}
+use Rattle.std.specs.Prelude.{IfSome}
+use Rattle.std.specs.List.{list_all}
+use Rattle.std.proofs.lemmas.Bool.{and_parts}
+use Rattle.std.proofs.lemmas.Grind.{take_at_read}
+use Rattle.std.proofs.lemmas.List.{map-append, take-append-drop}
+use Rattle.std.proofs.Math.Seq.{drop-cons}
+use Rattle.cc_host.specs.Part.{Step, since}
+use Rattle.cc_host.specs.Part.Step.{Prints}
+use Rattle.cc_host.specs.declared.event.Event.{Event}
+use Rattle.cc_host.specs.declared.event.Event.TheVariants.{Answered, Reused, Unasked, Drawn, Opened, Taken, Dropped, Made, Fault}
+use Rattle.cc_host.specs.declared.event.HostCall.TheVariants.{Start as Starts, Turn as Turns, Print as Printing, Output, Probe, MakeDir, CreateProbe, Remove, Vars}
+use Rattle.cc_host.specs.declared.event.LineKind.{LineKind}
+use Rattle.cc_host.specs.declared.event.Scope.TheVariants.{Build, Probe as ForProbes}
+use Rattle.cc_host.proofs.Parts.{since_extends}
+use Rattle.cc_plan.specs.Link.{printed_line}
+use Rattle.cc_plan.specs.Plan.{prints}
+use Rattle.cc_run.specs.Children.{nothing_kept}
+use Rattle.cc_run.specs.Own.{is_of_run}
+use Rattle.cc_run.specs.Part.{turns}
+use Rattle.cc_run.specs.Patience.{Bounded, Unspent}
+use Rattle.cc_run.specs.Planned.{asked}
+use Rattle.cc_run.specs.Printing.{IsPrinted}
+use Rattle.cc_run.specs.Run.{gone}
+use Rattle.cc_run.specs.Solo.{IsSolo}
+use Rattle.cc_run.specs.Whole.{IsRun}
+use Rattle.cc_run.specs.declared.error.RunError.{RunError}
+use Rattle.cc_run.specs.declared.error.RunError.TheVariants.{TurnsSpent, JobFault}
+use Rattle.cc_run.specs.declared.planned.Planned.{Planned}
+use Rattle.cc_jobs.specs.Seats.{Rose}
+use Rattle.cc_tool.specs.Asked.{question_event, question_events}
+use Rattle.cc_build.specs.Error.{ErrorSeen, no_memory}
+use Rattle.cc_build.specs.RunErrors.{run_error}
+use Rattle.cc_build.specs.Stage.{Stage, calls, in_turn}
+use Rattle.cc_build.specs.Stage.Stage.{Calls, RunsOne, RunsAll}
+use Rattle.cc_build.specs.Went.{Terms, Means, RanOne, RanAll, Went, Halted}
+use Rattle.cc_build.proofs.Going.{went_then, went_one, halted_at, halted_more, halted_then, part_is}
+use Rattle.cc_build.proofs.Lines.{next_line, around_line}
+
+-- ---- a run asks nothing
+
+own_event : (event : Event) → is_of_run event ≡ true → question_event event ≡ []
+own_event (Answered question files outcome) is = absurd (cc)
+own_event (Reused question verdict) is = absurd (cc)
+own_event (Unasked question) is = absurd (cc)
+own_event (Drawn word) is = absurd (cc)
+own_event (Opened path bytes) is = absurd (cc)
+own_event (Taken path) is = absurd (cc)
+own_event (Dropped path) is = absurd (cc)
+own_event (Made Build path) is = absurd (cc)
+own_event (Made ForProbes path) is = absurd (cc)
+own_event (Fault Starts why) is = refl
+own_event (Fault Turns why) is = refl
+own_event (Fault Printing why) is = refl
+own_event (Fault Output why) is = absurd (cc)
+own_event (Fault Probe why) is = absurd (cc)
+own_event (Fault (MakeDir scope) why) is = absurd (cc)
+own_event (Fault CreateProbe why) is = absurd (cc)
+own_event (Fault Remove why) is = absurd (cc)
+own_event (Fault Vars why) is = absurd (cc)
+own_event event is = refl
+
+pub own_asks_none : (part : List Event) → list_all is_of_run part ≡ true → question_events part ≡ []
+own_asks_none [] own = refl
+own_asks_none (event ∷ part) own = let p = and_parts _ _ own in ap (λ l. l ++ question_events part) (own_event event p.0) ∙ own_asks_none part p.1
+
+-- ---- a run only adds to the log
+
+pub solo_extends : {T : Type 0} (p : Planned) (t : Terms) (old new : List Event) (r : Result T RunError) → IsSolo (asked t.shows (p ∷ [])) old new r → new ≡ old ++ since old new
+solo_extends p t old new r s = since_extends old s.mid new s.work.extends (s.dropped ∙ ap (λ l. s.mid ++ l) (sym (part_is s.mid new (gone s.run.live) s.dropped)))
+
+-- ---- a command alone
+
+module _ (t : Terms) (p : Planned) (old new : List Event) (x y : Means) where
+  pub ran_one : (r : Result (Unit {0}) RunError) → IsSolo (asked t.shows (p ∷ [])) old new r → list_all is_of_run (since old new) ≡ true → y.left + turns (since old new) ≡ x.left → (r ≡ Err TurnsSpent → y.left ≡ 0) → Bounded t.patience 1 (since old new) → (r ≡ Err TurnsSpent → Unspent t.patience 1 (since old new)) → (y.faults ≡ x.faults) × (y.taken ≡ x.taken) × (y.load ≡ x.load) → IsPrinted t.shows false (p ∷ []) nothing_kept r (since old new) → RanOne t p (since old new) r x y
+  ran_one r solo own turned spent bound enough seat lines = record {
+    log = old;
+    run = subst (λ (l : List Event). IsSolo (asked t.shows (p ∷ [])) old l r) (solo_extends p t old new r solo) solo;
+    own = own;
+    turned = turned;
+    spent = spent;
+    bound = bound;
+    enough = enough;
+    lines = lines;
+    seat = seat;
+  }
+
+pub alone_done : (t : Terms) (p : Planned) (part : List Event) (x y : Means) → RanOne t p part (Ok tt) x y → Went t (RunsOne p ∷ []) part x y
+alone_done t p part x y ran = went_one t (RunsOne p) part x y ran
+
+pub alone_refused : (t : Terms) (p : Planned) (part : List Event) (x y : Means) (error : RunError) (e : ErrorSeen) → RanOne t p part (Err error) x y → (e ≡ run_error (p ∷ []) error) ⊎ (e ≡ no_memory) → Halted t None (RunsOne p ∷ []) part e x y
+alone_refused t p part x y error e ran (inl is) = halted_at t None (RunsOne p) [] part e x y (error, (ran, inr is))
+alone_refused t p part x y error e ran (inr memory) = halted_at t None (RunsOne p) [] part e x y (error, (ran, inl memory))
+
+-- ---- commands beside each other
+
+module _ (t : Terms) (ps : List Planned) (old new : List Event) (x y : Means) where
+  pub ran_all : (r : Result (Unit {0}) RunError) → IsRun t.total (asked t.shows ps) old new r x.taken x.load y.taken y.load → list_all is_of_run (since old new) ≡ true → y.left + turns (since old new) ≡ x.left → (r ≡ Err TurnsSpent → y.left ≡ 0) → IfSome t.total (λ _. Bounded t.patience (length ps) (since old new)) → (r ≡ Err TurnsSpent → IfSome t.total (λ _. Unspent t.patience (length ps) (since old new))) → x.faults ≤ y.faults → (r ≡ Err JobFault → Rose x.faults y.faults) → IsPrinted t.shows true ps nothing_kept r (since old new) → RanAll t ps (since old new) r x y
+  ran_all r run own turned spent bound enough later job_fault lines = record {
+    log = old;
+    run = subst (λ (l : List Event). IsRun t.total (asked t.shows ps) old l r x.taken x.load y.taken y.load) run.whole.extends run;
+    own = own;
+    turned = turned;
+    spent = spent;
+    bound = bound;
+    enough = enough;
+    lines = lines;
+    later = later;
+    job_fault = job_fault;
+  }
+
+pub together_done : (t : Terms) (ps : List Planned) (part : List Event) (x y : Means) → RanAll t ps part (Ok tt) x y → Went t (RunsAll ps ∷ []) part x y
+together_done t ps part x y ran = went_one t (RunsAll ps) part x y ran
+
+pub together_refused : (t : Terms) (ps : List Planned) (part : List Event) (x y : Means) (error : RunError) (e : ErrorSeen) → RanAll t ps part (Err error) x y → (e ≡ run_error ps error) ⊎ (e ≡ no_memory) → Halted t None (RunsAll ps ∷ []) part e x y
+together_refused t ps part x y error e ran (inl is) = halted_at t None (RunsAll ps) [] part e x y (error, (ran, inr is))
+together_refused t ps part x y error e ran (inr memory) = halted_at t None (RunsAll ps) [] part e x y (error, (ran, inl memory))
+
+-- ---- one after another
+
+module _ (t : Terms) (ps : List Planned) (i : ℕ) (p : Planned) (within : i < length ps) (is : p ≡ get_or ps i p) where
+  next_one : in_turn (take (i + 1) ps) ≡ in_turn (take i ps) ++ RunsOne p ∷ []
+  next_one =
+      let more : take (i + 1) ps ≡ take i ps ++ p ∷ [] = (take_at_read ps i p within).1 ∙ ap (λ s. take i ps ++ s ∷ []) (sym is) in
+      ap in_turn more ∙ map-append RunsOne (take i ps) (p ∷ [])
+
+  around_one : in_turn ps ≡ in_turn (take i ps) ++ ((RunsOne p ∷ []) ++ in_turn (drop (i + 1) ps))
+  around_one =
+      let rest : drop i ps ≡ p ∷ drop (i + 1) ps = drop-cons ps i p within ∙ ap (λ s. s ∷ drop (suc i) ps) (sym is) ∙ ap (λ n. p ∷ drop n ps) (sym (add-one i)) in
+      ap in_turn (sym (take-append-drop i ps)) ∙ map-append RunsOne (take i ps) (drop i ps) ∙ ap (λ l. in_turn (take i ps) ++ in_turn l) rest
+
+  -- the commands so far were run, and one more
+  pub turn_more : (a b : List Event) (x y z : Means) → Went t (in_turn (take i ps)) a x y → Went t (RunsOne p ∷ []) b y z → Went t (in_turn (take (i + 1) ps)) (a ++ b) x z
+  turn_more a b x y z w v = subst (λ (s : List Stage). Went t s (a ++ b) x z) (sym next_one) (went_then t (in_turn (take i ps)) (RunsOne p ∷ []) a b x y z w v)
+
+  -- the commands so far were run, and the next was refused
+  pub turn_refused : (a b : List Event) (e : ErrorSeen) (x y z : Means) → Went t (in_turn (take i ps)) a x y → Halted t None (RunsOne p ∷ []) b e y z → Halted t None (in_turn ps) (a ++ b) e x z
+  turn_refused a b e x y z w h =
+      subst (λ (s : List Stage). Halted t None s (a ++ b) e x z) (sym around_one)
+      (halted_then t None (in_turn (take i ps)) ((RunsOne p ∷ []) ++ in_turn (drop (i + 1) ps)) a b e x y z w (halted_more t None (RunsOne p ∷ []) (in_turn (drop (i + 1) ps)) b e y z h))
+
+-- ---- lines, one after another
+
+calls_both : (a b : List Step) → calls (a ++ b) ≡ calls a ++ calls b
+calls_both a b = map-append Calls a b
+
+module _ (t : Terms) (kind : LineKind) (lines : List (List ℕ)) (i : ℕ) (line : List ℕ) (within : i < length lines) (is : line ≡ get_or lines i line) where
+  -- the lines so far were printed, and one more
+  pub line_more : (a b : List Event) (x : Means) → Went t (calls (prints kind (take i lines))) a x x → Went t (calls (Prints kind (printed_line line) ∷ [])) b x x → Went t (calls (prints kind (take (i + 1) lines))) (a ++ b) x x
+  line_more a b x w v =
+      subst (λ (s : List Stage). Went t s (a ++ b) x x) (sym (ap calls (next_line kind lines i line within is) ∙ calls_both (prints kind (take i lines)) (Prints kind (printed_line line) ∷ [])))
+      (went_then t (calls (prints kind (take i lines))) (calls (Prints kind (printed_line line) ∷ [])) a b x x x w v)
+
+  -- the lines so far were printed, and the next was refused
+  pub line_refused : (a b : List Event) (e : ErrorSeen) (x : Means) → Went t (calls (prints kind (take i lines))) a x x → Halted t None (calls (Prints kind (printed_line line) ∷ [])) b e x x → Halted t None (calls (prints kind lines)) (a ++ b) e x x
+  line_refused a b e x w h =
+      subst (λ (s : List Stage). Halted t None s (a ++ b) e x x)
+      (sym (ap calls (around_line kind lines i line within is) ∙ calls_both (prints kind (take i lines)) ((Prints kind (printed_line line) ∷ []) ++ prints kind (drop (i + 1) lines)) ∙ ap (λ l. calls (prints kind (take i lines)) ++ l) (calls_both (Prints kind (printed_line line) ∷ []) (prints kind (drop (i + 1) lines)))))
+      (halted_then t None (calls (prints kind (take i lines))) (calls (Prints kind (printed_line line) ∷ []) ++ calls (prints kind (drop (i + 1) lines))) a b e x x x w
+      (halted_more t None (calls (Prints kind (printed_line line) ∷ [])) (calls (prints kind (drop (i + 1) lines))) b e x x h))
+
+-- no line is printed
+pub lines_none : (t : Terms) (kind : LineKind) (part : List Event) (x : Means) → part ≡ [] → Went t (calls (prints kind [])) part x x
+unfolding prints
+lines_none t kind part x none = (none, refl)

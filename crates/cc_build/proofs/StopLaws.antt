@@ -1,0 +1,471 @@
+-- What stands behind a fault, and for what cause a run stopped.
+use Rattle.std.proofs.Common.{◌≡◌, ◌≢◌, ◌⊎◌, inl, inr, ℕ, zero, suc, ◌+◌, ◌<◌, ◌≤◌, List, [], ◌∷◌, ◌++◌, length, map, take, drop, Bool, true, false, not, ◌||◌, if◌then◌else◌, is_some, Option, Some, None, option_map, Result, Ok, Err, IfErr, OnOk, refl, sym, ◌∙◌, ap, subst, zero-add, add-zero, arith, append_assoc, append-nil}
+use Rattle.std.proofs.lemmas.Bool.{and_parts, true≢false}
+use Rattle.std.proofs.lemmas.Grind.{flat_map-append}
+use Rattle.std.proofs.lemmas.List.{length-append}
+use Rattle.std.proofs.lemmas.List.Folds.{list_any-append}
+use Rattle.std.specs.List.{list_all, list_any}
+use Rattle.cc_env.specs.Env.{EnvSeen}
+use Rattle.cc_host.specs.Command.{CommandSeen}
+use Rattle.cc_host.specs.Part.{Step, since, step_of, Refuses, is_probing}
+use Rattle.cc_host.specs.Part.Step.{Runs, Makes, Removes, Prints, Lists}
+use Rattle.cc_host.specs.Question.{Look}
+use Rattle.cc_host.specs.declared.event.Event.{Event}
+use Rattle.cc_host.specs.declared.event.Event.TheVariants.{Abandoned, Fault}
+use Rattle.cc_host.specs.declared.event.HostCall.{HostCall}
+use Rattle.cc_host.specs.declared.event.HostCall.TheVariants.{Start, Turn as Turning}
+use Rattle.cc_host.specs.declared.event.LineKind.{LineKind}
+use Rattle.cc_host.specs.declared.event.LineKind.TheVariants.{Warning, Link}
+use Rattle.cc_host.specs.declared.event.Role.{Role}
+use Rattle.cc_host.specs.declared.event.Role.TheVariants.{Compile, Archive, Index}
+use Rattle.cc_host.specs.declared.event.Scope.TheVariants.{Build, Probe as ForProbes}
+use Rattle.cc_host.specs.declared.event.Status.{Status}
+use Rattle.cc_host.specs.declared.event.Why.{Why}
+use Rattle.cc_host.proofs.Parts.{since_append}
+use Rattle.cc_jobs.specs.Seats.{Rose}
+use Rattle.cc_plan.specs.Given.{is_disabled}
+use Rattle.cc_plan.specs.Plan.{dir_of, link_lines, warning_lines, compiles_of, archives_of, indexes_of, prints, folder_steps, removal_steps, link_steps}
+use Rattle.cc_plan.specs.Refusal.{early_refusal, late_refusal, is_empty}
+use Rattle.cc_plan.specs.declared.settings.BuildConfig.{BuildConfig}
+use Rattle.cc_run.specs.Outcome.{missing_by, faults_by, IsDone, IsRunError, EndsAt}
+use Rattle.cc_run.specs.Own.{is_of_run}
+use Rattle.cc_run.specs.Part.{started, missing, missing_of, faults, fault_of, abandoned, abandoned_of}
+use Rattle.cc_run.specs.Planned.{Asked, asked}
+use Rattle.cc_run.specs.Run.{Run, nothing, run_from, ids, gone}
+use Rattle.cc_run.specs.declared.error.RunError.{RunError}
+use Rattle.cc_run.specs.declared.error.RunError.TheVariants.{ToolNotFound, Failed as Fails, StartFault, WaitFault, HostFault, JobFault, TurnsSpent, NoMemory}
+use Rattle.cc_run.specs.declared.planned.Planned.{Planned}
+use Rattle.cc_run.proofs.Runs.{run_from-append}
+use Rattle.cc_tool.specs.Probing.{is_asked}
+use Rattle.cc_build.specs.Built.{ended_well}
+use Rattle.cc_build.specs.Error.{ErrorSeen, no_memory}
+use Rattle.cc_build.specs.Failed.{Failed, is_fault, HasFault}
+use Rattle.cc_build.specs.RunErrors.{run_error}
+use Rattle.cc_build.specs.Stage.{Stage, commands_in, calls, planned, beside, in_turn, folder_stages, compile_stages, removal_stages, archive_stages, link_stages, run_stages, late_stages, planned_stages}
+use Rattle.cc_build.specs.Stage.Stage.{Calls, Asks, RunsOne, RunsAll}
+use Rattle.cc_build.specs.Went.{Terms, Means, RanAll, RanOne, Did, Went, IsOf, Stops, Halts, Halted}
+use Rattle.cc_build.specs.declared.error.ErrorKind.TheVariants.{TurnsSpent as SpendsTurns}
+use Rattle.cc_build.proofs.RunLaws.{shift, shifted, went_run, went_missing}
+use Rattle.cc_build.proofs.TurnLaws.{went_faults}
+
+-- ---- faults
+
+or_none : (x y : Bool) → x ≡ false → y ≡ false → (x || y) ≡ false
+or_none true y p q = absurd (true≢false p)
+or_none false y p q = q
+
+or_right : (x y : Bool) → y ≡ true → (x || y) ≡ true
+or_right true y h = refl
+or_right false y h = h
+
+asked_faultless : (event : Event) → is_asked event ≡ true → is_fault event ≡ false
+asked_faultless (Fault call why) h = ap not h
+asked_faultless _ h = refl
+
+asked_kept : (event : Event) → is_asked event ≡ true → abandoned_of event ≡ []
+asked_kept (Abandoned id) h = absurd (cc)
+asked_kept _ h = refl
+
+all_faultless : (part : List Event) → list_all is_asked part ≡ true → list_any is_fault part ≡ false
+all_faultless [] h = refl
+all_faultless (event ∷ part) h =
+    let k = and_parts (is_asked event) (list_all is_asked part) h in
+    or_none (is_fault event) (list_any is_fault part) (asked_faultless event k.0) (all_faultless part k.1)
+
+all_kept : (part : List Event) → list_all is_asked part ≡ true → abandoned part ≡ []
+all_kept [] h = refl
+all_kept (event ∷ part) h =
+    let k = and_parts (is_asked event) (list_all is_asked part) h in
+    flat_map-append abandoned_of (event ∷ []) part ∙ ap (λ l. l ++ abandoned part) (append-nil (abandoned_of event) ∙ asked_kept event k.0) ∙ all_kept part k.1
+
+step_faultless : (step : Step) (event : Event) → step_of event ≡ step ∷ [] → list_any is_fault (event ∷ []) ≡ false
+step_faultless step (Fault call why) h = absurd (cc)
+step_faultless step _ h = refl
+
+step_kept : (step : Step) (event : Event) → step_of event ≡ step ∷ [] → abandoned (event ∷ []) ≡ []
+step_kept step (Abandoned id) h = absurd (cc)
+step_kept step _ h = refl
+
+no_fault : (part : List Event) → faults part ≡ [] → list_any is_fault part ≡ false
+no_fault [] h = refl
+no_fault (Fault call why ∷ part) h = absurd (cc)
+no_fault (_ ∷ part) h = no_fault part h
+
+-- a fault of this call, but of none of what a question wants
+some_fault : (part : List Event) (call : HostCall) (more : List HostCall) → faults part ≡ call ∷ more → is_probing call ≡ false → HasFault part
+some_fault [] call more h k = absurd (cc)
+some_fault (Fault c why ∷ part) call more h k =
+    let same : c ≡ call = cc in
+    ap (λ b. b || list_any is_fault part) (ap (λ o. not (is_probing o)) same ∙ ap not k)
+some_fault (_ ∷ part) call more h k = some_fault part call more h k
+
+-- how many faults a part has
+count : List Event → ℕ
+count part = length (faults part)
+
+-- ---- runs
+
+-- what a run of one command or more says of its part
+pub record Said (cmds : List Asked) (part : List Event) (result : Result (Unit {0}) RunError) : Type 0 where
+  pub log : List Event
+  pub mid : List Event
+  pub run : Run
+  pub work : List Event
+  pub dropped : log ++ part ≡ mid ++ gone run.live
+  pub extends : mid ≡ log ++ work
+  pub cut : part ≡ work ++ gone run.live
+  pub own : list_all is_of_run part ≡ true
+  pub is : run_from nothing work ≡ run
+  pub begun : started work ≡ take run.begun cmds
+  pub kept : abandoned work ≡ []
+  pub missing_is : missing part ≡ missing_by cmds result
+  pub faults_are : faults part ≡ faults_by result
+  pub done : OnOk result (IsDone (length cmds) run × (run.failed ≡ None))
+  pub cause : IfErr result (IsRunError (length cmds) run)
+  pub ends : IfErr result (EndsAt mid)
+
+cut_of : (log part mid : List Event) (live : List (ℕ × ℕ)) → mid ≡ log ++ since log mid → log ++ part ≡ mid ++ gone live → part ≡ since log mid ++ gone live
+cut_of log part mid live e f =
+    sym (since_append log part) ∙ ap (since log) (f ∙ ap (λ m. m ++ gone live) e ∙ append_assoc log (since log mid) (gone live)) ∙ since_append log (since log mid ++ gone live)
+
+pub said_all : (t : Terms) (ps : List Planned) (part : List Event) (result : Result (Unit {0}) RunError) (x y : Means) → RanAll t ps part result x y → Said (asked t.shows ps) part result
+said_all t ps part result x y r = record {
+  log = r.log;
+  mid = r.run.mid;
+  run = r.run.run;
+  work = since r.log r.run.mid;
+  dropped = r.run.dropped;
+  extends = r.run.work.extends;
+  cut = cut_of r.log part r.run.mid r.run.run.live r.run.work.extends r.run.dropped;
+  own = r.own;
+  is = r.run.work.steps.run;
+  begun = r.run.work.steps.asked;
+  kept = r.run.kept;
+  missing_is = ap missing (sym (since_append r.log part)) ∙ r.run.missing_is;
+  faults_are = ap faults (sym (since_append r.log part)) ∙ r.run.faults_are;
+  done = r.run.done;
+  cause = r.run.cause;
+  ends = r.run.ends;
+}
+
+pub said_one : (t : Terms) (p : Planned) (part : List Event) (result : Result (Unit {0}) RunError) (x y : Means) → RanOne t p part result x y → Said (asked t.shows (p ∷ [])) part result
+said_one t p part result x y r = record {
+  log = r.log;
+  mid = r.run.mid;
+  run = r.run.run;
+  work = since r.log r.run.mid;
+  dropped = r.run.dropped;
+  extends = r.run.work.extends;
+  cut = cut_of r.log part r.run.mid r.run.run.live r.run.work.extends r.run.dropped;
+  own = r.own;
+  is = r.run.work.run;
+  begun = r.run.work.begun;
+  kept = r.run.kept;
+  missing_is = ap missing (sym (since_append r.log part)) ∙ r.run.missing_is;
+  faults_are = ap faults (sym (since_append r.log part)) ∙ r.run.faults_are;
+  done = r.run.done;
+  cause = r.run.cause;
+  ends = r.run.ends;
+}
+
+-- where no child runs at the end, nothing was abandoned
+whole_work : (part work : List Event) (live : List (ℕ × ℕ)) → part ≡ work ++ gone live → live ≡ [] → part ≡ work
+whole_work part work live cut none = cut ∙ ap (λ l. work ++ gone l) none ∙ append-nil work
+
+run_kept : (cmds : List Asked) (part : List Event) → Said cmds part (Ok tt) → abandoned part ≡ []
+run_kept cmds part s = ap abandoned (whole_work part s.work s.run.live s.cut s.done.0.1) ∙ s.kept
+
+did_faultless : (t : Terms) (s : Stage) (part : List Event) (x y : Means) → Did t s part x y → list_any is_fault part ≡ false
+did_faultless t (Calls step) part x y d = ap (list_any is_fault) d.1.0 ∙ step_faultless step d.0 d.1.1
+did_faultless t Asks part x y d = all_faultless part d.0
+did_faultless t (RunsOne p) part x y d = no_fault part (said_one t p part (Ok tt) x y d).faults_are
+did_faultless t (RunsAll ps) part x y d = no_fault part (said_all t ps part (Ok tt) x y d).faults_are
+
+-- stages that were done have no fault, but those of what questions want
+pub went_faultless : (t : Terms) (stages : List Stage) (part : List Event) (x y : Means) → Went t stages part x y → list_any is_fault part ≡ false
+went_faultless t [] part x y w = ap (list_any is_fault) w.0
+went_faultless t (s ∷ ss) part x y w =
+    ap (list_any is_fault) w.3.0 ∙ list_any-append is_fault w.0 w.1 ∙ or_none (list_any is_fault w.0) (list_any is_fault w.1) (did_faultless t s w.0 x w.2 w.3.1) (went_faultless t ss w.1 w.2 y w.3.2)
+
+did_kept : (t : Terms) (s : Stage) (part : List Event) (x y : Means) → Did t s part x y → abandoned part ≡ []
+did_kept t (Calls step) part x y d = ap abandoned d.1.0 ∙ step_kept step d.0 d.1.1
+did_kept t Asks part x y d = all_kept part d.0
+did_kept t (RunsOne p) part x y d = run_kept (asked t.shows (p ∷ [])) part (said_one t p part (Ok tt) x y d)
+did_kept t (RunsAll ps) part x y d = run_kept (asked t.shows ps) part (said_all t ps part (Ok tt) x y d)
+
+-- and no child was abandoned in them
+pub went_kept : (t : Terms) (stages : List Stage) (part : List Event) (x y : Means) → Went t stages part x y → abandoned part ≡ []
+went_kept t [] part x y w = ap abandoned w.0
+went_kept t (s ∷ ss) part x y w =
+    ap abandoned w.3.0 ∙ flat_map-append abandoned_of w.0 w.1 ∙ ap (λ l. l ++ abandoned w.1) (did_kept t s w.0 x w.2 w.3.1) ∙ went_kept t ss w.1 w.2 y w.3.2
+
+-- ---- behind a fault
+
+count_append : (a b : List Event) → count (a ++ b) ≡ count a + count b
+unfolding count
+count_append a b = ap length (flat_map-append fault_of a b) ∙ length-append (faults a) (faults b)
+
+count_fault : (call : HostCall) (why : Why) (a b : List Event) → count (a ++ Fault call why ∷ b) ≡ count a + (1 + count b)
+unfolding count
+count_fault call why a b =
+    let one : count (Fault call why ∷ b) ≡ 1 + count b = length-append (call ∷ []) (faults b) in
+    let both : count (a ++ Fault call why ∷ b) ≡ count a + count (Fault call why ∷ b) = count_append a (Fault call why ∷ b) in
+    omega arith
+
+-- where there is one fault, and what follows it has none, this is what follows it
+module _ (call c : HostCall) (why w : Why) (after q : List Event) (none : count q ≡ 0) where
+  one_behind : (before b : List Event) → count (before ++ Fault call why ∷ after) ≤ 1 → before ++ Fault call why ∷ after ≡ b ++ Fault c w ∷ q → after ≡ q
+  one_behind [] [] few e = cc
+  one_behind [] (y ∷ b) few e =
+      let tail : after ≡ b ++ Fault c w ∷ q = cc in
+      let more : count after ≡ count b + (1 + count q) = ap count tail ∙ count_fault c w b q in
+      let all : count (Fault call why ∷ after) ≡ count [] + (1 + count after) = count_fault call why [] after in
+      absurd (omega arith)
+  one_behind (x ∷ before) [] few e =
+      let tail : before ++ Fault call why ∷ after ≡ q = cc in
+      let some : count (before ++ Fault call why ∷ after) ≡ count before + (1 + count after) = count_fault call why before after in
+      let same : count (before ++ Fault call why ∷ after) ≡ count q = ap count tail in
+      absurd (omega arith)
+  one_behind (x ∷ before) (y ∷ b) few e =
+      let tail : before ++ Fault call why ∷ after ≡ b ++ Fault c w ∷ q = cc in
+      let all : count ((x ∷ before) ++ Fault call why ∷ after) ≡ count (x ∷ []) + count (before ++ Fault call why ∷ after) = count_append (x ∷ []) (before ++ Fault call why ∷ after) in
+      one_behind before b (omega arith) tail
+
+  -- the same of the end of a log
+  last_behind : (log before b : List Event) → count (before ++ Fault call why ∷ after) ≤ 1 → log ++ (before ++ Fault call why ∷ after) ≡ b ++ Fault c w ∷ q → after ≡ q
+  last_behind [] before b few e = one_behind before b few e
+  last_behind (x ∷ log) before [] few e =
+      let tail : log ++ (before ++ Fault call why ∷ after) ≡ q = cc in
+      let all : count (log ++ (before ++ Fault call why ∷ after)) ≡ count log + count (before ++ Fault call why ∷ after) = count_append log (before ++ Fault call why ∷ after) in
+      let some : count (before ++ Fault call why ∷ after) ≡ count before + (1 + count after) = count_fault call why before after in
+      let same : count (log ++ (before ++ Fault call why ∷ after)) ≡ count q = ap count tail in
+      absurd (omega arith)
+  last_behind (x ∷ log) before (y ∷ b) few e = last_behind log before b few (cc)
+
+gone_ids : (live : List (ℕ × ℕ)) → gone live ≡ map Abandoned (ids live)
+gone_ids [] = refl
+gone_ids (c ∷ cs) = ap (λ l. Abandoned c.0 ∷ l) (gone_ids cs)
+
+gone_count : (live : List (ℕ × ℕ)) → count (gone live) ≡ 0
+unfolding count
+gone_count [] = refl
+gone_count (c ∷ cs) = gone_count cs
+
+module _ (cmds : List Asked) (part : List Event) (before after : List Event) (call : HostCall) (why : Why) (here : part ≡ before ++ Fault call why ∷ after) where
+  -- a run whose answer tells no fault has none
+  no_fault_told : faults part ≡ [] → ⊥
+  unfolding count
+  no_fault_told none =
+      let a : count part ≡ 0 = ap length none in
+      let b : count part ≡ count before + (1 + count after) = ap count here ∙ count_fault call why before after in
+      omega arith
+
+  -- behind the one that it tells children are abandoned
+  fault_told : (result : Result (Unit {0}) RunError) (s : Said cmds part result) (c : HostCall) (w : Why) (b : List Event) → faults part ≡ c ∷ [] → s.mid ≡ b ++ Fault c w ∷ [] → (ids : List ℕ) × (after ≡ map Abandoned ids)
+  unfolding count
+  fault_told result s c w b one last =
+      let few : count part ≡ 1 = ap length one in
+      let same : count part ≡ count (before ++ Fault call why ∷ after) = ap count here in
+      let whole : s.log ++ (before ++ Fault call why ∷ after) ≡ b ++ Fault c w ∷ gone s.run.live =
+      ap (λ p. s.log ++ p) (sym here) ∙ s.dropped ∙ ap (λ m. m ++ gone s.run.live) last ∙ append_assoc b (Fault c w ∷ []) (gone s.run.live) in
+      (ids s.run.live, last_behind call c why w after (gone s.run.live) (gone_count s.run.live) s.log before b (omega arith) whole ∙ gone_ids s.run.live)
+
+  run_faults : (error : RunError) → Said cmds part (Err error) → (ids : List ℕ) × (after ≡ map Abandoned ids)
+  run_faults (StartFault place) s = fault_told (Err (StartFault place)) s Start s.ends.1.0 s.ends.0 s.faults_are s.ends.1.1
+  run_faults WaitFault s = fault_told (Err WaitFault) s Turning s.ends.1.0 s.ends.0 s.faults_are s.ends.1.1
+  run_faults (HostFault c w) s = fault_told (Err (HostFault c w)) s c w s.ends.0 s.faults_are s.ends.1
+  run_faults (ToolNotFound place) s = absurd (no_fault_told s.faults_are)
+  run_faults (Fails place status) s = absurd (no_fault_told s.faults_are)
+  run_faults JobFault s = absurd (no_fault_told s.faults_are)
+  run_faults TurnsSpent s = absurd (no_fault_told s.faults_are)
+  run_faults NoMemory s = absurd (no_fault_told s.faults_are)
+
+alone_after : (before after : List Event) (e f : Event) → e ∷ [] ≡ before ++ f ∷ after → after ≡ []
+alone_after [] after e f h = cc
+alone_after (x ∷ []) after e f h = absurd (cc)
+alone_after (x ∷ y ∷ before) after e f h = absurd (cc)
+
+-- behind a fault of a stage that was refused, but one of what a question wants, children are abandoned
+pub stop_faults : (t : Terms) (s : Stage) (part : List Event) (e : ErrorSeen) (x y : Means) → Stops t s part e x y → (before after : List Event) (call : HostCall) (why : Why) → is_probing call ≡ false → part ≡ before ++ Fault call why ∷ after → (ids : List ℕ) × (after ≡ map Abandoned ids)
+stop_faults t (Calls step) part e x y d before after call why p here = ([], alone_after before after d.0 (Fault call why) (sym d.1.0 ∙ here))
+stop_faults t Asks part e x y d before after call why p here = absurd d
+stop_faults t (RunsOne c) part e x y d before after call why p here = run_faults (asked t.shows (c ∷ [])) part before after call why here d.0 (said_one t c part (Err d.0) x y d.1.0)
+stop_faults t (RunsAll ps) part e x y d before after call why p here = run_faults (asked t.shows ps) part before after call why here d.0 (said_all t ps part (Err d.0) x y d.1.0)
+
+-- ---- the causes
+
+-- what refuses a stage of a run is a missing program, a command that failed or a fault that no question made
+abbrev pub IsPlain : Stage → Type 0
+IsPlain (Calls (Runs role cmd)) = ⊥
+IsPlain (Calls (Makes ForProbes path)) = ⊥
+IsPlain _ = Unit {0}
+
+abbrev pub ArePlain : List Stage → Type 0
+ArePlain [] = Unit {0}
+ArePlain (s ∷ ss) = IsPlain s × ArePlain ss
+
+-- for what cause a stage was refused, where so many commands were run before it
+abbrev pub IsCause : ℕ → List Event → ErrorSeen → Means → Means → Type 0
+IsCause k part e x y = (e ≡ no_memory) ⊎ (HasFault part ⊎ ((missing part ≢ []) ⊎ (((run_from (ended_well k) part).failed ≢ None) ⊎ (Rose x.faults y.faults ⊎ ((e.kind ≡ SpendsTurns) × (y.left ≡ 0))))))
+
+some_missing : (cmds : List Asked) (place : ℕ) → place < length cmds → map {B = Role × CommandSeen} (λ a. (a.role, a.cmd)) (take 1 (drop place cmds)) ≢ []
+some_missing [] place lt h = absurd (omega arith)
+some_missing (c ∷ cs) zero lt h = cc
+some_missing (c ∷ cs) (suc place) lt h = some_missing cs place (omega arith) h
+
+some_failed : (k : ℕ) (work : List Event) (r : Run) (place : ℕ) (status : Status) → run_from nothing work ≡ r → r.failed ≡ Some (place, status) → (run_from (ended_well k) work).failed ≢ None
+some_failed k work r place status is failed none =
+    let same : run_from (ended_well k) work ≡ shift k r = ap (λ n. run_from (ended_well n) work) (sym (add-zero k)) ∙ shifted k nothing work ∙ ap (shift k) is in
+    let gone : (shift k r).failed ≡ None = sym (ap (λ s. s.failed) same) ∙ none in
+    let here : (shift k r).failed ≡ Some (k + place, status) = ap (option_map (λ f. (k + f.0, f.1))) failed in
+    cc
+
+module _ (cmds : List Asked) (ps : List Planned) (part : List Event) (e : ErrorSeen) (k : ℕ) (x y : Means) where
+  run_cause : (error : RunError) → Said cmds part (Err error) → IsOf (run_error ps error) e → (error ≡ JobFault → Rose x.faults y.faults) → (error ≡ TurnsSpent → y.left ≡ 0) → IsCause k part e x y
+  run_cause error s (inl memory) job spent = inl memory
+  run_cause (ToolNotFound place) s (inr is) job spent = inr (inr (inl (λ none. some_missing cmds place s.cause.1 (sym s.missing_is ∙ none))))
+  run_cause (Fails place status) s (inr is) job spent =
+      let all : part ≡ s.work = whole_work part s.work s.run.live s.cut s.cause.1.1 in
+      inr (inr (inr (inl (λ none. some_failed k s.work s.run place status s.is s.cause.0 (ap (λ p. (run_from (ended_well k) p).failed) (sym all) ∙ none)))))
+  run_cause (StartFault place) s (inr is) job spent = inr (inl (some_fault part Start [] s.faults_are refl))
+  run_cause WaitFault s (inr is) job spent = inr (inl (some_fault part Turning [] s.faults_are refl))
+  run_cause (HostFault call why) s (inr is) job spent = inr (inl (some_fault part call [] s.faults_are (ap is_probing s.cause)))
+  run_cause JobFault s (inr is) job spent = inr (inr (inr (inr (inl (job refl)))))
+  run_cause TurnsSpent s (inr is) job spent = inr (inr (inr (inr (inr (ap (λ o. o.kind) is, spent refl)))))
+  run_cause NoMemory s (inr is) job spent = inl is
+
+-- a call that was refused
+call_cause : (step : Step) (event : Event) → IsPlain (Calls step) → Refuses step event → HasFault (event ∷ [])
+call_cause (Runs role cmd) event plain r = absurd plain
+call_cause (Makes ForProbes path) event plain r = absurd plain
+call_cause (Makes Build path) (Fault call why) plain r = some_fault (Fault call why ∷ []) call [] refl (ap is_probing r)
+call_cause (Removes path) (Fault call why) plain r = some_fault (Fault call why ∷ []) call [] refl (ap is_probing r)
+call_cause (Prints kind bytes) (Fault call why) plain r = some_fault (Fault call why ∷ []) call [] refl (ap is_probing r)
+call_cause Lists (Fault call why) plain r = some_fault (Fault call why ∷ []) call [] refl (ap is_probing r)
+call_cause _ _ plain r = absurd r
+
+-- a stage is refused for one of these causes, wherever in the run it stands
+pub stop_cause : (t : Terms) (s : Stage) (part : List Event) (e : ErrorSeen) (x y : Means) (k : ℕ) → IsPlain s → Stops t s part e x y → (e ≡ no_memory) ⊎ (HasFault part ⊎ ((missing part ≢ []) ⊎ (((run_from (ended_well k) part).failed ≢ None) ⊎ (Rose x.faults y.faults ⊎ ((e.kind ≡ SpendsTurns) × (y.left ≡ 0))))))
+stop_cause t (Calls step) part e x y k plain d = inr (inl (subst HasFault (sym d.1.0) (call_cause step d.0 plain d.1.1)))
+stop_cause t Asks part e x y k plain d = absurd d
+stop_cause t (RunsOne p) part e x y k plain d =
+    let r = d.1.0 in
+    run_cause (asked t.shows (p ∷ [])) (p ∷ []) part e k x y d.0 (said_one t p part (Err d.0) x y r) d.1.1
+    (λ is. absurd (r.run.tokenless (ap Err is))) (λ is. r.spent (ap Err is))
+stop_cause t (RunsAll ps) part e x y k plain d =
+    let r = d.1.0 in
+    run_cause (asked t.shows ps) ps part e k x y d.0 (said_all t ps part (Err d.0) x y r) d.1.1 (λ is. r.job_fault (ap Err is)) (λ is. r.spent (ap Err is))
+
+-- ---- the stages of a plan
+
+plain_then : (a b : List Stage) → ArePlain a → ArePlain b → ArePlain (a ++ b)
+plain_then [] b p q = q
+plain_then (s ∷ a) b p q = (p.0, plain_then a b p.1 q)
+
+-- so are those that are left
+pub plain_behind : (a b : List Stage) → ArePlain (a ++ b) → ArePlain b
+plain_behind [] b p = p
+plain_behind (s ∷ a) b p = plain_behind a b p.1
+
+plain_lines : (kind : LineKind) (lines : List (List ℕ)) → ArePlain (calls (prints kind lines))
+unfolding prints
+plain_lines kind [] = tt
+plain_lines kind (line ∷ lines) = (tt, plain_lines kind lines)
+
+plain_beside : (ps : List Planned) → ArePlain (beside ps)
+plain_beside [] = tt
+plain_beside (p ∷ []) = (tt, tt)
+plain_beside (p ∷ q ∷ ps) = (tt, tt)
+
+plain_in_turn : (ps : List Planned) → ArePlain (in_turn ps)
+plain_in_turn [] = tt
+plain_in_turn (p ∷ ps) = (tt, plain_in_turn ps)
+
+plain_unless : (b : Bool) (stages : List Stage) → ArePlain stages → ArePlain (if b then [] else stages)
+plain_unless true stages p = tt
+plain_unless false stages p = p
+
+module _ (set : BuildConfig) (env : EnvSeen) where
+  plain_folder : ArePlain (folder_stages set env)
+  unfolding folder_stages folder_steps
+  plain_folder = by_files (is_empty set.files)
+    where
+      by_files : (empty : Bool) → ArePlain (calls (if empty then [] else Makes Build (dir_of set env) ∷ []))
+      by_files true = tt
+      by_files false = (tt, tt)
+
+  plain_compile : (told : Bool) (look : Look) → ArePlain (compile_stages set env told look)
+  unfolding compile_stages
+  plain_compile told look =
+      plain_then (calls (prints Warning (warning_lines set env told look))) (beside (planned Compile (compiles_of set env look)))
+      (plain_lines Warning (warning_lines set env told look)) (plain_beside (planned Compile (compiles_of set env look)))
+
+  plain_removal : (output : List ℕ) → ArePlain (removal_stages set env output)
+  unfolding removal_stages removal_steps
+  plain_removal output = (tt, tt)
+
+  plain_archive : (output : List ℕ) → ArePlain (archive_stages set env output)
+  unfolding archive_stages
+  plain_archive output =
+      plain_then (in_turn (planned Archive (archives_of set env output))) (in_turn (planned Index (indexes_of set env output)))
+      (plain_in_turn (planned Archive (archives_of set env output))) (plain_in_turn (planned Index (indexes_of set env output)))
+
+  plain_link : (output : List ℕ) → ArePlain (link_stages set env output)
+  unfolding link_stages link_steps
+  plain_link output = plain_lines Link (link_lines set env output)
+
+  plain_run : (told : Bool) (look : Look) (output : List ℕ) → ArePlain (run_stages set env told look output)
+  plain_run told look output =
+      plain_then (compile_stages set env told look) (removal_stages set env output ++ (archive_stages set env output ++ link_stages set env output)) (plain_compile told look) (
+      plain_then (removal_stages set env output) (archive_stages set env output ++ link_stages set env output) (plain_removal output) (
+      plain_then (archive_stages set env output) (link_stages set env output) (plain_archive output) (plain_link output)
+      )
+      )
+
+  plain_late : (told : Bool) (look : Look) (output : List ℕ) → ArePlain (late_stages set env told look output)
+  unfolding late_stages
+  plain_late told look output =
+      plain_unless (is_disabled env) (Asks ∷ (if is_some (late_refusal set env look) then [] else run_stages set env told look output))
+      (tt, plain_unless (is_some (late_refusal set env look)) (run_stages set env told look output) (plain_run told look output))
+
+  -- the stages of a compile run are so
+  pub planned_plain : (told : Bool) (look : Look) (output : List ℕ) → ArePlain (planned_stages set env told look output)
+  unfolding planned_stages
+  planned_plain told look output =
+      plain_unless (is_some (early_refusal set env output)) (folder_stages set env ++ late_stages set env told look output)
+      (plain_then (folder_stages set env) (late_stages set env told look output) plain_folder (plain_late told look output))
+
+-- ---- the causes of a whole run
+
+-- for what cause a run ended before all of its stages were done
+abbrev pub HasCause : Option ErrorSeen → List Event → ErrorSeen → Means → Means → Type 0
+HasCause refusal part e x y = (e ≡ no_memory) ⊎ ((refusal ≡ Some e) ⊎ (HasFault part ⊎ (Failed part ⊎ (Rose x.faults y.faults ⊎ ((e.kind ≡ SpendsTurns) × (y.left ≡ 0))))))
+
+module _ (t : Terms) (refusal : Option ErrorSeen) (before : List Stage) (front rest part : List Event) (e : ErrorSeen) (x y z : Means) (cut : part ≡ front ++ rest) (w : Went t before front x y) where
+  behind_cause : IsCause (length (commands_in before)) rest e y z → HasCause refusal part e x z
+  behind_cause (inl memory) = inl memory
+  behind_cause (inr (inl fault)) = inr (inr (inl (ap (list_any is_fault) cut ∙ list_any-append is_fault front rest ∙ or_right (list_any is_fault front) (list_any is_fault rest) fault)))
+  behind_cause (inr (inr (inl absent))) =
+      let same : missing part ≡ missing rest = ap missing cut ∙ flat_map-append missing_of front rest ∙ ap (λ l. l ++ missing rest) (went_missing t before front x y w) in
+      inr (inr (inr (inl (inl (λ none. absent (sym same ∙ none))))))
+  behind_cause (inr (inr (inr (inl failed)))) =
+      let count = length (commands_in before) in
+      let begun : run_from nothing front ≡ ended_well count = went_run t before front x y 0 w ∙ ap ended_well (zero-add count) in
+      let same : run_from nothing part ≡ run_from (ended_well count) rest = ap (run_from nothing) cut ∙ run_from-append nothing front rest ∙ ap (λ r. run_from r rest) begun in
+      inr (inr (inr (inl (inr (λ none. failed (sym (ap (λ r. r.failed) same) ∙ none))))))
+  behind_cause (inr (inr (inr (inr (inl rose))))) = let first : x.faults ≤ y.faults = went_faults t before front x y w in inr (inr (inr (inr (inl (λ below. let more : y.faults < z.faults = rose below in omega arith)))))
+  behind_cause (inr (inr (inr (inr (inr spent))))) = inr (inr (inr (inr (inr spent))))
+
+  unbegun_cause : (e ≡ no_memory) ⊎ (refusal ≡ Some e) → HasCause refusal part e x z
+  unbegun_cause (inl memory) = inl memory
+  unbegun_cause (inr refused) = inr (inl refused)
+
+  halts_cause : (after : List Stage) → ArePlain after → Halts t refusal after rest e y z → HasCause refusal part e x z
+  halts_cause [] plain h = unbegun_cause h.0
+  halts_cause (s ∷ ss) plain (inl h) = unbegun_cause h.0
+  halts_cause (s ∷ ss) plain (inr stop) = behind_cause (stop_cause t s rest e y z (length (commands_in before)) plain.0 stop)
+
+-- a run that ended before its stages were done has one of these causes
+pub halted_cause : (t : Terms) (refusal : Option ErrorSeen) (stages : List Stage) (part : List Event) (e : ErrorSeen) (x z : Means) → ArePlain stages → Halted t refusal stages part e x z → HasCause refusal part e x z
+halted_cause t refusal stages part e x z plain h =
+    halts_cause t refusal h.before h.front h.rest part e x h.y z h.cut h.went h.after (plain_behind h.before h.after (subst ArePlain h.stages_are plain)) h.halts

@@ -1,0 +1,122 @@
+-- What a part says of the stages of a run.
+use Rattle.std.specs.Prelude.{◌≡◌, ◌⊎◌, ◌≤◌, ◌+◌, ℕ, true, false, List, [], ◌∷◌, ◌++◌, Option, Some, None, IfSome, length, Result, Ok, Err}
+use Rattle.std.specs.List.{list_all}
+use Rattle.cc_host.specs.Part.{step_of, Refuses}
+use Rattle.cc_host.specs.declared.event.Event.{Event}
+use Rattle.cc_jobs.specs.Seats.{Rose}
+use Rattle.cc_run.specs.Children.{nothing_kept}
+use Rattle.cc_run.specs.Own.{is_of_run}
+use Rattle.cc_run.specs.Part.{turns}
+use Rattle.cc_run.specs.Patience.{Bounded, Unspent}
+use Rattle.cc_run.specs.Planned.{asked}
+use Rattle.cc_run.specs.Printing.{IsPrinted}
+use Rattle.cc_run.specs.Solo.{IsSolo}
+use Rattle.cc_run.specs.Whole.{IsRun}
+use Rattle.cc_run.specs.declared.error.RunError.{RunError}
+use Rattle.cc_run.specs.declared.error.RunError.TheVariants.{TurnsSpent, JobFault}
+use Rattle.cc_run.specs.declared.planned.Planned.{Planned}
+use Rattle.cc_run.specs.declared.planned.Shows.{Shows}
+use Rattle.cc_tool.specs.Probing.{is_asked}
+use Rattle.cc_build.specs.Error.{ErrorSeen, no_memory}
+use Rattle.cc_build.specs.RunErrors.{run_error}
+use Rattle.cc_build.specs.Stage.{Stage}
+use Rattle.cc_build.specs.Stage.Stage.{Calls, Asks, RunsOne, RunsAll}
+use Rattle.cc_build.specs.Stop.{stop_error}
+
+-- what a run is given: what it shows, the total of its pool where one caller owns it, and the patience of its host where it is told
+pub record Terms : Type 0 where
+  pub shows : Shows
+  pub total : Option ℕ
+  pub patience : Option ℕ
+
+-- what a run uses up: the turns that are left, and the counts of its seat
+pub record Means : Type 0 where
+  pub left : ℕ
+  pub faults : ℕ
+  pub taken : ℕ
+  pub load : ℕ
+
+abbrev pub terms : Shows → Option ℕ → Option ℕ → Terms
+terms shows total patience = record { shows = shows; total = total; patience = patience }
+
+abbrev pub means : ℕ → ℕ → ℕ → ℕ → Means
+means left faults taken load = record { left = left; faults = faults; taken = taken; load = load }
+
+-- these commands were run beside each other: each start is paid for, the turns are counted, and the lines are those that its events give
+pub record RanAll (t : Terms) (ps : List Planned) (part : List Event) (result : Result (Unit {0}) RunError) (x y : Means) : Type 0 where
+  pub log : List Event
+  pub run : IsRun t.total (asked t.shows ps) log (log ++ part) result x.taken x.load y.taken y.load
+  pub own : list_all is_of_run part ≡ true
+  pub turned : y.left + turns part ≡ x.left
+  pub spent : result ≡ Err TurnsSpent → y.left ≡ 0
+  pub bound : IfSome t.total (λ _. Bounded t.patience (length ps) part)
+  pub enough : result ≡ Err TurnsSpent → IfSome t.total (λ _. Unspent t.patience (length ps) part)
+  pub lines : IsPrinted t.shows true ps nothing_kept result part
+  pub later : x.faults ≤ y.faults
+  pub job_fault : result ≡ Err JobFault → Rose x.faults y.faults
+
+-- this command was run alone: it takes no token, and a failure is no warning
+pub record RanOne (t : Terms) (p : Planned) (part : List Event) (result : Result (Unit {0}) RunError) (x y : Means) : Type 0 where
+  pub log : List Event
+  pub run : IsSolo (asked t.shows (p ∷ [])) log (log ++ part) result
+  pub own : list_all is_of_run part ≡ true
+  pub turned : y.left + turns part ≡ x.left
+  pub spent : result ≡ Err TurnsSpent → y.left ≡ 0
+  pub bound : Bounded t.patience 1 part
+  pub enough : result ≡ Err TurnsSpent → Unspent t.patience 1 part
+  pub lines : IsPrinted t.shows false (p ∷ []) nothing_kept result part
+  pub seat : (y.faults ≡ x.faults) × (y.taken ≡ x.taken) × (y.load ≡ x.load)
+
+-- the part did this stage
+abbrev pub Did : Terms → Stage → List Event → Means → Means → Type 0
+Did t (Calls step) part x y = (event : Event) × ((part ≡ event ∷ []) × (step_of event ≡ step ∷ []) × (y ≡ x))
+Did t Asks part x y = (list_all is_asked part ≡ true) × (y ≡ x)
+Did t (RunsOne p) part x y = RanOne t p part (Ok tt) x y
+Did t (RunsAll ps) part x y = RanAll t ps part (Ok tt) x y
+
+-- the part did these stages, one after another
+abbrev pub Went : Terms → List Stage → List Event → Means → Means → Type 0
+Went t [] part x y = (part ≡ []) × (y ≡ x)
+Went t (s ∷ ss) part x z = (front rest : List Event) × (y : Means) × ((part ≡ front ++ rest) × Did t s front x y × Went t ss rest y z)
+
+-- this is the error, or memory for its texts was wanted
+abbrev pub IsOf : ErrorSeen → ErrorSeen → Type 0
+IsOf is e = (e ≡ no_memory) ⊎ (e ≡ is)
+
+-- the part refused this stage
+abbrev pub Stops : Terms → Stage → List Event → ErrorSeen → Means → Means → Type 0
+Stops t (Calls step) part e x y = (event : Event) × ((part ≡ event ∷ []) × Refuses step event × IsOf (stop_error step event) e × (y ≡ x))
+Stops t Asks part e x y = ⊥
+Stops t (RunsOne p) part e x y = (error : RunError) × (RanOne t p part (Err error) x y × IsOf (run_error (p ∷ []) error) e)
+Stops t (RunsAll ps) part e x y = (error : RunError) × (RanAll t ps part (Err error) x y × IsOf (run_error ps error) e)
+
+-- The run ended before these stages: the settings are refused or memory was wanted, and nothing was done; or the first of them was refused.
+abbrev pub Halts : Terms → Option ErrorSeen → List Stage → List Event → ErrorSeen → Means → Means → Type 0
+Halts t refusal [] part e x y = ((e ≡ no_memory) ⊎ (refusal ≡ Some e)) × (part ≡ []) × (y ≡ x)
+Halts t refusal (s ∷ ss) part e x y = (((e ≡ no_memory) ⊎ (refusal ≡ Some e)) × (part ≡ []) × (y ≡ x)) ⊎ Stops t s part e x y
+
+-- the first stages were done, and there the run ended
+pub record Halted (t : Terms) (refusal : Option ErrorSeen) (stages : List Stage) (part : List Event) (e : ErrorSeen) (x z : Means) : Type 0 where
+  pub before : List Stage
+  pub after : List Stage
+  pub front : List Event
+  pub rest : List Event
+  pub y : Means
+  pub stages_are : stages ≡ before ++ after
+  pub cut : part ≡ front ++ rest
+  pub went : Went t before front x y
+  pub halts : Halts t refusal after rest e y z
+
+-- Ok: nothing is refused, and all stages were done. Else the first ones were, and the error has its cause.
+abbrev pub Ends : {T : Type 0} → Terms → Option ErrorSeen → List Stage → List Event → Result T ErrorSeen → Means → Means → Type 0
+Ends t refusal stages part (Ok _) x y = (refusal ≡ None) × Went t stages part x y
+Ends t refusal stages part (Err e) x y = Halted t refusal stages part e x y
+
+-- the first of these stages were done, and the next one was refused, or not begun
+abbrev pub Partly : Terms → List Stage → List Event → Means → Means → Type 0
+Partly t [] part x z = (part ≡ []) × (z ≡ x)
+Partly t (s ∷ ss) part x z = ((part ≡ []) × (z ≡ x)) ⊎ (((e : ErrorSeen) × Stops t s part e x z) ⊎ ((front rest : List Event) × (y : Means) × ((part ≡ front ++ rest) × Did t s front x y × Partly t ss rest y z)))
+
+-- the same, from and to whatever is left
+abbrev pub Goes : Terms → List Stage → List Event → Type 0
+Goes t stages part = (x y : Means) × Went t stages part x y
