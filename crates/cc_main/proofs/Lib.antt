@@ -1,9 +1,11 @@
 pub mod AnswerLaws
 pub mod AskLaws
+pub mod EnoughLaws
 pub mod FlagLaws
 pub mod KeyLaws
 pub mod NumberLaws
 pub mod PromiseLaws
 pub mod RepeatLaws
 pub mod SettingLaws
+pub mod SettledPromises
 pub mod WordLaws

@@ -51,13 +51,13 @@ is_item_key key = is key "file" || is key "include" || is key "asm_flag" || is k
 unfoldable pub is_choice_key : List ℕ → Bool
 is_choice_key key =
     is key "shared_flag" || is key "static_flag" || is key "warnings" || is key "extra_warnings" || is key "pic" || is key "use_plt"
-    || is key "static_crt" || is key "shell_escaped_flags" || is key "force_frame_pointer"
+    || is key "static_crt" || is key "shell_escaped_flags" || is key "force_frame_pointer" || is key "cargo_debug"
 
 -- a key of a setting that is on or off
 unfoldable pub is_switch_key : List ℕ → Bool
 is_switch_key key =
     is key "no_default_flags" || is key "reproducible_codeview" || is key "cpp" || is key "warnings_into_errors" || is key "cargo_warnings"
-    || is key "emit_rerun_if_env_changed" || is key "prefer_clang_cl_over_msvc" || is key "inherit_rustflags" || is key "inherit_trim_paths"
+    || is key "cargo_output" || is key "emit_rerun_if_env_changed" || is key "prefer_clang_cl_over_msvc" || is key "inherit_rustflags" || is key "inherit_trim_paths"
 
 abbrev pub cause_unless : Bool → Option WordCause
 cause_unless fine = if fine then None else Some BadValue
@@ -185,6 +185,7 @@ settings_of words = record {
     warnings = latest_choice None (values (by "warnings") words);
     extra_warnings = latest_choice None (values (by_either "extra_warnings" "warnings") words);
     force_frame_pointer = latest_choice None (values (by "force_frame_pointer") words);
+    cargo_debug = latest_choice None (values (by "cargo_debug") words);
     pic = latest_choice None (values (by "pic") words);
     use_plt = latest_choice None (values (by "use_plt") words);
     static_crt = latest_choice None (values (by "static_crt") words);
@@ -194,6 +195,7 @@ settings_of words = record {
     cpp = latest_truth false (values (by "cpp") words);
     warnings_into_errors = latest_truth false (values (by "warnings_into_errors") words);
     cargo_warnings = latest_truth true (values (by "cargo_warnings") words);
+    cargo_output = latest_truth true (values (by "cargo_output") words);
     emit_rerun_if_env_changed = latest_truth true (values (by "emit_rerun_if_env_changed") words);
     inherit_rustflags = latest_truth true (values (by "inherit_rustflags") words);
     inherit_trim_paths = latest_truth true (values (by "inherit_trim_paths") words);

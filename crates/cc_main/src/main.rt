@@ -10,7 +10,14 @@ mod tests;
 mod top;
 mod words;
 
+ghost use Rattle.std.specs.Prelude.{◌≤◌, IfOk};
+
+use cc_env::EnvSnapshot;
+use cc_host::{Host, HostError, World};
 use cc_hosts::ProcessHost;
+use cc_jobs::{OneCaller, pool_size};
+use cc_text::{Mem, NoMemory};
+use std::alloc::Global;
 use std::process::ExitCode;
 use std::{env, io};
 use top::drive;
@@ -47,8 +54,8 @@ keys of which the last counts:
 
 keys of true or false:
   cpp  pic  use_plt  static_crt  static_flag  shared_flag  warnings  extra_warnings  warnings_into_errors
-  no_default_flags  reproducible_codeview  shell_escaped_flags  cargo_warnings  emit_rerun_if_env_changed
-  prefer_clang_cl_over_msvc  force_frame_pointer  inherit_rustflags  inherit_trim_paths
+  no_default_flags  reproducible_codeview  shell_escaped_flags  cargo_warnings  cargo_output  cargo_debug
+  emit_rerun_if_env_changed  prefer_clang_cl_over_msvc  force_frame_pointer  inherit_rustflags  inherit_trim_paths
 
 options:
   --help      print this text
@@ -70,6 +77,17 @@ fn words_of(rt: &HostRuntime) -> io::Result<Vec<String>> {
         first = false;
     }
     Ok(words)
+}
+
+// How many commands may run beside each other: what the host's variables ask for. Where the host can't list them, there are none.
+fn tokens<W: World, H: Host<W>>(alloc: Global, host: &mut H) -> Mem<u32>
+    ensures { IfOk result (λ total. 1 ≤ total) }
+{
+    match host.vars() {
+        Ok(vars) => Ok(pool_size(&EnvSnapshot::from_vars(alloc, &vars)?)),
+        Err(HostError::Fault(_, _)) => Ok(pool_size(&EnvSnapshot::empty(alloc))),
+        Err(HostError::NoMemory) => Err(NoMemory),
+    }
 }
 
 fn main(rt: HostRuntime) -> io::Result<ExitCode> {
@@ -95,6 +113,10 @@ fn main(rt: HostRuntime) -> io::Result<ExitCode> {
     let Ok(mut host) = ProcessHost::new(rt) else {
         return Ok(ExitCode::from(3));
     };
-    let ended = drive(&rt, alloc, &words, &mut host);
+    let Ok(total) = tokens(alloc, &mut host) else {
+        return Ok(ExitCode::from(3));
+    };
+    let (jobs, mut seat) = OneCaller::new(total);
+    let ended = drive(&rt, alloc, &words, u64::MAX, &mut host, &jobs, &mut seat);
     Ok(ExitCode::from(ended.status))
 }

@@ -131,6 +131,7 @@ fn is_choice_key(key: &str) -> bool
             | "static_crt"
             | "shell_escaped_flags"
             | "force_frame_pointer"
+            | "cargo_debug"
     )
 }
 
@@ -145,6 +146,7 @@ fn is_switch_key(key: &str) -> bool
             | "cpp"
             | "warnings_into_errors"
             | "cargo_warnings"
+            | "cargo_output"
             | "emit_rerun_if_env_changed"
             | "prefer_clang_cl_over_msvc"
             | "inherit_rustflags"
@@ -195,6 +197,10 @@ fn set_choice<W: World>(build: &mut Build<W>, key: &str, on: bool) -> bool
             build.force_frame_pointer(on);
             true
         }
+        "cargo_debug" => {
+            build.cargo_debug(on);
+            true
+        }
         _ => false,
     }
 }
@@ -224,6 +230,10 @@ fn set_switch<W: World>(build: &mut Build<W>, key: &str, on: bool) -> bool
         }
         "cargo_warnings" => {
             build.cargo_warnings(on);
+            true
+        }
+        "cargo_output" => {
+            build.cargo_output(on);
             true
         }
         "emit_rerun_if_env_changed" => {

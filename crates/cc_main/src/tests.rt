@@ -2,17 +2,24 @@
 ghost use Rattle.std.specs.Prelude.{◌≢◌, IfOk};
 ghost use Rattle.cc_host.specs.declared.question.Outcome.TheVariants.{Unanswered};
 
+mod course;
+mod log;
 mod machine;
 mod plans;
+mod pools;
 mod questions;
+mod runner;
+mod shown;
 mod support;
 mod verdicts;
 
 use crate::top::{Ended, drive};
 use crate::words::{BadWord, WordCause};
 use cc_build::ErrorKind;
-use cc_host::{BenchHost, Event, Host, HostCall, Outcome, Scope, Status, command_line};
+use cc_host::{BenchHost, HostCall, Outcome, Status};
+use cc_jobs::OneCaller;
 use cc_text::{Bytes, Mem, Text, Vars};
+use log::log_text;
 use std::alloc::{AllocGlobal, Global};
 use std::process::Abort;
 use std::sync::Wait;
@@ -22,64 +29,27 @@ use std::test::Fail;
 const SETTINGS: &str =
     "target=x86_64-unknown-linux-gnu host=x86_64-unknown-linux-gnu opt_level=0 out_dir=/o compiler=cc archiver=ar emit_rerun_if_env_changed=false";
 
-// Drives the words of a line, which stand between spaces.
-fn drive_line(rt: &(impl Wait + AllocGlobal), line: &str, host: &mut BenchHost) -> Mem<Ended> {
-    let alloc = rt.alloc();
+// The words of a line, which stand between spaces.
+fn words_in(alloc: Global, line: &str) -> Mem<Vec<String>> {
     let mut words = Vec::new(alloc);
     for word in line.split_whitespace() {
         words.push(String::from_str(alloc, word)?)?;
     }
-    Ok(drive(rt, alloc, &words, host))
+    Ok(words)
+}
+
+// Drives the words of a line with two tokens and fifty turns.
+fn drive_line(rt: &(impl Wait + AllocGlobal), line: &str, host: &mut BenchHost) -> Mem<Ended> {
+    let alloc = rt.alloc();
+    let words = words_in(alloc, line)?;
+    let (jobs, mut seat) = OneCaller::new(2);
+    Ok(drive(rt, alloc, &words, 50, host, &jobs, &mut seat))
 }
 
 // Drives the words of a line, and then the settings.
 fn drive_set(rt: &(impl Wait + AllocGlobal), line: &str, host: &mut BenchHost) -> Mem<Ended> {
     let line = format!(in rt.alloc(); "{line} {SETTINGS}")?;
     drive_line(rt, line.as_str(), host)
-}
-
-// What a question leaves is told nowhere in these texts.
-fn push_event(alloc: Global, text: &mut Text, event: &Event) -> Mem<()> {
-    match event {
-        Event::Ran { cmd, .. } => {
-            for (name, value) in cmd.get_envs().as_slice() {
-                text.push_str(name.as_str())?;
-                text.push_str("=")?;
-                text.push_str(value.as_str())?;
-                text.push_str(" ")?;
-            }
-            text.push_str(command_line(alloc, cmd)?.as_str())?;
-        }
-        Event::Missing { .. } => text.push_str("missing")?,
-        Event::Made { scope, path } => {
-            if *scope == Scope::Probe {
-                return Ok(());
-            }
-            text.push_str("made ")?;
-            text.push_str(path.as_str())?;
-        }
-        Event::Removed { path, .. } => {
-            text.push_str("removed ")?;
-            text.push_str(path.as_str())?;
-        }
-        Event::Printed { bytes, .. } => match str::from_utf8(bytes.as_slice()) {
-            Ok(line) => text.push_str(line.trim_end())?,
-            Err(_) => text.push_str("not text")?,
-        },
-        Event::Fault { .. } => text.push_str("fault")?,
-        Event::Listed { .. } => text.push_str("listed")?,
-        _ => return Ok(()),
-    }
-    text.push_str("\n")
-}
-
-// The log, a line an event.
-fn log_text(alloc: Global, host: &BenchHost) -> Mem<Text> {
-    let mut text = Text::new(alloc);
-    for event in host.log() {
-        push_event(alloc, &mut text, event)?;
-    }
-    Ok(text)
 }
 
 // What a run leaves in the log that ends with status 0.
@@ -161,6 +131,12 @@ fn bad_words_are_told_by_place_and_cause(rt: HostRuntime) -> Result<(), Fail> {
             "word 2: bad value\n",
         ),
         (
+            "compile f cargo_output=false cargo_debug=1",
+            3,
+            WordCause::BadValue,
+            "word 3: bad value\n",
+        ),
+        (
             "compile f env=A",
             2,
             WordCause::BadValue,
@@ -202,41 +178,6 @@ fn refused_settings_are_told_by_kind_and_message(rt: HostRuntime) -> Result<(), 
         assert_eq!(rt; ended.error.map(|e| e.kind()), Some(kind), "{line}");
         assert_eq!(rt; log_text(alloc, &host)?.as_str(), told, "{line}");
     }
-    Ok(())
-}
-
-#[test]
-fn an_old_library_that_stays_ends_the_run(rt: HostRuntime) -> Result<(), Fail> {
-    let alloc = rt.alloc();
-    let mut host = BenchHost::new(alloc)?;
-    host.fail(HostCall::Remove, 1)?;
-    let ended = drive_set(&rt, "compile foo file=a.c", &mut host)?;
-    assert_eq!(rt; ended.status, 1);
-    assert_eq!(rt; ended.error.map(|e| e.kind()), Some(ErrorKind::IOError));
-    let log = log_text(alloc, &host)?;
-    assert!(rt;
-        log.as_str()
-            .ends_with("fault\nerror occurred in cc-rs: remove failed: other\n")
-    );
-    assert!(rt; !log.as_str().contains("cqD"));
-    Ok(())
-}
-
-#[test]
-fn a_missing_compiler_is_named(rt: HostRuntime) -> Result<(), Fail> {
-    let alloc = rt.alloc();
-    let mut host = BenchHost::new(alloc)?;
-    host.missing("cc")?;
-    let ended = drive_set(&rt, "compile foo file=a.c file=b.c", &mut host)?;
-    assert_eq!(rt; ended.status, 1);
-    assert_eq!(rt;
-        ended.error.map(|e| e.kind()),
-        Some(ErrorKind::ToolNotFound)
-    );
-    assert_eq!(rt;
-        log_text(alloc, &host)?.as_str(),
-        "listed\nmade /o\nmissing\nerror occurred in cc-rs: failed to find tool \"cc\"\n"
-    );
     Ok(())
 }
 

@@ -4,7 +4,7 @@ use Rattle.cc_main.proofs.KeyLaws.{known_key, no_choice_key}
 use Rattle.cc_main.proofs.reading.set_choice.Goals as goal
 
 pub returns-in_default-clause-known : goal.returns-in_default-clause-known
-returns-in_default-clause-known g c = sym (no_choice_key c.args.key.now c.in_default.not-shared_flag c.in_default.not-static_flag c.in_default.not-warnings c.in_default.not-extra_warnings c.in_default.not-pic c.in_default.not-use_plt c.in_default.not-static_crt c.in_default.not-shell_escaped_flags c.in_default.not-force_frame_pointer)
+returns-in_default-clause-known g c = sym (no_choice_key c.args.key.now c.in_default.not-shared_flag c.in_default.not-static_flag c.in_default.not-warnings c.in_default.not-extra_warnings c.in_default.not-pic c.in_default.not-use_plt c.in_default.not-static_crt c.in_default.not-shell_escaped_flags c.in_default.not-force_frame_pointer c.in_default.not-cargo_debug)
 
 pub returns-in-shared_flag-clause-known : goal.returns-in-shared_flag-clause-known
 unfolding is_choice_key
@@ -41,3 +41,7 @@ returns-in-shell_escaped_flags-clause-known g c = known_key is_choice_key c.args
 pub returns-in-force_frame_pointer-clause-known : goal.returns-in-force_frame_pointer-clause-known
 unfolding is_choice_key
 returns-in-force_frame_pointer-clause-known g c = known_key is_choice_key c.args.key.now (codes "force_frame_pointer") c.in-force_frame_pointer.is refl
+
+pub returns-in-cargo_debug-clause-known : goal.returns-in-cargo_debug-clause-known
+unfolding is_choice_key
+returns-in-cargo_debug-clause-known g c = known_key is_choice_key c.args.key.now (codes "cargo_debug") c.in-cargo_debug.is refl

@@ -4,7 +4,7 @@ use Rattle.cc_main.proofs.KeyLaws.{known_key, no_switch_key}
 use Rattle.cc_main.proofs.reading.set_switch.Goals as goal
 
 pub returns-in_default-clause-known : goal.returns-in_default-clause-known
-returns-in_default-clause-known g c = sym (no_switch_key c.args.key.now c.in_default.not-no_default_flags c.in_default.not-reproducible_codeview c.in_default.not-cpp c.in_default.not-warnings_into_errors c.in_default.not-cargo_warnings c.in_default.not-emit_rerun_if_env_changed c.in_default.not-prefer_clang_cl_over_msvc c.in_default.not-inherit_rustflags c.in_default.not-inherit_trim_paths)
+returns-in_default-clause-known g c = sym (no_switch_key c.args.key.now c.in_default.not-no_default_flags c.in_default.not-reproducible_codeview c.in_default.not-cpp c.in_default.not-warnings_into_errors c.in_default.not-cargo_warnings c.in_default.not-cargo_output c.in_default.not-emit_rerun_if_env_changed c.in_default.not-prefer_clang_cl_over_msvc c.in_default.not-inherit_rustflags c.in_default.not-inherit_trim_paths)
 
 pub returns-in-no_default_flags-clause-known : goal.returns-in-no_default_flags-clause-known
 unfolding is_switch_key
@@ -25,6 +25,10 @@ returns-in-warnings_into_errors-clause-known g c = known_key is_switch_key c.arg
 pub returns-in-cargo_warnings-clause-known : goal.returns-in-cargo_warnings-clause-known
 unfolding is_switch_key
 returns-in-cargo_warnings-clause-known g c = known_key is_switch_key c.args.key.now (codes "cargo_warnings") c.in-cargo_warnings.is refl
+
+pub returns-in-cargo_output-clause-known : goal.returns-in-cargo_output-clause-known
+unfolding is_switch_key
+returns-in-cargo_output-clause-known g c = known_key is_switch_key c.args.key.now (codes "cargo_output") c.in-cargo_output.is refl
 
 pub returns-in-emit_rerun_if_env_changed-clause-known : goal.returns-in-emit_rerun_if_env_changed-clause-known
 unfolding is_switch_key

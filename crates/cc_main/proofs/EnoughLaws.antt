@@ -1,0 +1,142 @@
+-- How many commands a request has at most, and that refused settings spend no turns.
+use Rattle.std.proofs.Common.{◌≡◌, ℕ, ◌+◌, List, [], ◌∷◌, ◌++◌, length, Bool, true, false, Option, Some, None, if◌then◌else◌, is_some, ◌∙◌, ap, zero-add, arith}
+use Rattle.std.specs.Prelude.{◌≤◌}
+use Rattle.std.specs.Option.{option_map}
+use Rattle.std.proofs.lemmas.List.{length-append, length-map}
+use Rattle.cc_env.specs.Env.{EnvSeen}
+use Rattle.cc_host.specs.Part.{Step}
+use Rattle.cc_host.specs.Question.{Look}
+use Rattle.cc_host.specs.declared.event.LineKind.TheVariants.{Warning}
+use Rattle.cc_host.specs.declared.event.Role.TheVariants.{Compile, Archive, Index}
+use Rattle.cc_plan.specs.Archive as archive
+use Rattle.cc_plan.specs.Given.{is_disabled}
+use Rattle.cc_plan.specs.Plan.{objects_of, library_of, compiles_of, archives_of, indexes_of, warning_lines, prints, folder_steps, removal_steps, link_steps}
+use Rattle.cc_plan.specs.Refusal.{first_of, early_refusal, late_refusal}
+use Rattle.cc_plan.specs.declared.error.ArgumentCause.TheVariants.{Output, OutDir, NoFileName, SameObject}
+use Rattle.cc_plan.specs.declared.error.PlanError.{PlanError}
+use Rattle.cc_plan.specs.declared.error.PlanError.TheVariants.{Argument, NotSet, UnknownTarget, QnxArch, Flag, Host, NoMemory as WantsMemory}
+use Rattle.cc_plan.specs.declared.object.Object.{Object}
+use Rattle.cc_plan.specs.declared.settings.BuildConfig.{BuildConfig}
+use Rattle.cc_build.specs.Error.{ErrorSeen}
+use Rattle.cc_build.specs.Refusal.{plan_error, disabled_error, early_error, late_error, refusal_error}
+use Rattle.cc_build.specs.Stage.{Stage, commands_in, calls, planned, beside, in_turn, folder_stages, compile_stages, removal_stages, archive_stages, link_stages, run_stages, late_stages, planned_stages}
+use Rattle.cc_build.specs.Stage.Stage.{Asks}
+use Rattle.cc_build.specs.Stop.{fault_error}
+use Rattle.cc_build.specs.declared.error.ErrorKind.TheVariants.{TurnsSpent}
+use Rattle.cc_build.proofs.RunLaws.{commands_then, commands_calls, commands_beside, commands_in_turn}
+
+-- how many commands stages have
+abbrev pub count : List Stage → ℕ
+count stages = length (commands_in stages)
+
+-- ---- the commands of stages
+
+both : (a b : List Stage) → count (a ++ b) ≡ count a + count b
+both a b = ap length (commands_then a b) ∙ length-append (commands_in a) (commands_in b)
+
+calls_none : (steps : List Step) → count (calls steps) ≡ 0
+calls_none steps = ap length (commands_calls steps)
+
+-- one compile command a source
+compile_count : (set : BuildConfig) (env : EnvSeen) (told : Bool) (look : Look) → count (compile_stages set env told look) ≡ length set.files
+unfolding compile_stages
+compile_count set env told look =
+    let a = both (calls (prints Warning (warning_lines set env told look))) (beside (planned Compile (compiles_of set env look))) in
+    let b : count (calls (prints Warning (warning_lines set env told look))) ≡ 0 = calls_none (prints Warning (warning_lines set env told look)) in
+    let d : count (beside (planned Compile (compiles_of set env look))) ≡ length (planned Compile (compiles_of set env look)) = ap length (commands_beside (planned Compile (compiles_of set env look))) in
+    let e : length (planned Compile (compiles_of set env look)) ≡ length set.files = length-map (compiles_of set env look) _ ∙ length-map (objects_of set env) _ ∙ length-map set.files _ in
+    a ∙ ap (λ n. n + count (beside (planned Compile (compiles_of set env look)))) b ∙ zero-add (count (beside (planned Compile (compiles_of set env look)))) ∙ d ∙ e
+
+one_archive : (set : BuildConfig) (env : EnvSeen) (library : List ℕ) (objects : List Object) → length (archive.archives_of set env library objects) ≤ 1
+one_archive set env library [] = omega arith
+one_archive set env library (object ∷ objects) = omega arith
+
+-- an archive command or none, and one of the index
+archive_count : (set : BuildConfig) (env : EnvSeen) (output : List ℕ) → count (archive_stages set env output) ≤ 2
+unfolding archive_stages
+archive_count set env output =
+    let a : count (in_turn (planned Archive (archives_of set env output)) ++ in_turn (planned Index (indexes_of set env output))) ≡ count (in_turn (planned Archive (archives_of set env output))) + count (in_turn (planned Index (indexes_of set env output))) =
+    both (in_turn (planned Archive (archives_of set env output))) (in_turn (planned Index (indexes_of set env output))) in
+    let b : count (in_turn (planned Archive (archives_of set env output))) ≡ length (archives_of set env output) = ap length (commands_in_turn (planned Archive (archives_of set env output))) ∙ length-map (archives_of set env output) _ in
+    let d : count (in_turn (planned Index (indexes_of set env output))) ≡ 1 = ap length (commands_in_turn (planned Index (indexes_of set env output))) in
+    let e : length (archives_of set env output) ≤ 1 = one_archive set env (library_of set env output) (objects_of set env) in
+    omega arith
+
+folder_count : (set : BuildConfig) (env : EnvSeen) → count (folder_stages set env) ≡ 0
+unfolding folder_stages
+folder_count set env = calls_none (folder_steps set env)
+
+removal_count : (set : BuildConfig) (env : EnvSeen) (output : List ℕ) → count (removal_stages set env output) ≡ 0
+unfolding removal_stages
+removal_count set env output = calls_none (removal_steps set env output)
+
+link_count : (set : BuildConfig) (env : EnvSeen) (output : List ℕ) → count (link_stages set env output) ≡ 0
+unfolding link_stages
+link_count set env output = calls_none (link_steps set env output)
+
+four : (a b d e : List Stage) (n : ℕ) → count a ≡ n → count b ≡ 0 → count d ≤ 2 → count e ≡ 0 → count (a ++ (b ++ (d ++ e))) ≤ n + 2
+four a b d e n p q r s =
+    let x : count (a ++ (b ++ (d ++ e))) ≡ count a + count (b ++ (d ++ e)) = both a (b ++ (d ++ e)) in
+    let y : count (b ++ (d ++ e)) ≡ count b + count (d ++ e) = both b (d ++ e) in
+    let z : count (d ++ e) ≡ count d + count e = both d e in
+    omega arith
+
+run_count : (set : BuildConfig) (env : EnvSeen) (told : Bool) (look : Look) (output : List ℕ) → count (run_stages set env told look output) ≤ length set.files + 2
+run_count set env told look output =
+    four (compile_stages set env told look) (removal_stages set env output) (archive_stages set env output) (link_stages set env output) (length set.files)
+    (compile_count set env told look) (removal_count set env output) (archive_count set env output) (link_count set env output)
+
+by_checks : (early disabled late : Bool) (folder run : List Stage) (n : ℕ) → count folder ≡ 0 → count run ≤ n → count (if early then [] else folder ++ (if disabled then [] else Asks ∷ (if late then [] else run))) ≤ n
+by_checks true disabled late folder run n f r = omega arith
+by_checks false true late folder run n f r = let x : count (folder ++ []) ≡ count folder + 0 = both folder [] in omega arith
+by_checks false false true folder run n f r = let x : count (folder ++ Asks ∷ []) ≡ count folder + 0 = both folder (Asks ∷ []) in omega arith
+by_checks false false false folder run n f r = let x : count (folder ++ Asks ∷ run) ≡ count folder + count run = both folder (Asks ∷ run) in omega arith
+
+-- no more commands than the sources and two
+pub planned_count : (set : BuildConfig) (env : EnvSeen) (told : Bool) (look : Look) (output : List ℕ) → count (planned_stages set env told look output) ≤ length set.files + 2
+unfolding planned_stages late_stages
+planned_count set env told look output =
+    by_checks (is_some (early_refusal set env output)) (is_disabled env) (is_some (late_refusal set env look)) (folder_stages set env) (run_stages set env told look output) (length set.files + 2)
+    (folder_count set env) (run_count set env told look output)
+
+-- ---- the error of refused settings
+
+-- no error says that the turns are spent
+abbrev pub NeverSpent : Option ErrorSeen → Type 0
+NeverSpent refusal = (e : ErrorSeen) → refusal ≡ Some e → e.kind ≡ TurnsSpent → ⊥
+
+plan_kind : (set : BuildConfig) (env : EnvSeen) (output : List ℕ) (error : PlanError) → (plan_error set env output error).kind ≡ TurnsSpent → ⊥
+unfolding plan_error fault_error
+plan_kind set env output (Argument Output) spent = cc
+plan_kind set env output (Argument OutDir) spent = cc
+plan_kind set env output (Argument (NoFileName place)) spent = cc
+plan_kind set env output (Argument (SameObject first second)) spent = cc
+plan_kind set env output (NotSet name) spent = cc
+plan_kind set env output (UnknownTarget target) spent = cc
+plan_kind set env output (QnxArch arch) spent = cc
+plan_kind set env output (Flag flag) spent = cc
+plan_kind set env output (Host call why) spent = cc
+plan_kind set env output WantsMemory spent = cc
+
+mapped : (set : BuildConfig) (env : EnvSeen) (output : List ℕ) (refusal : Option PlanError) → NeverSpent (option_map (plan_error set env output) refusal)
+mapped set env output None e is spent = cc
+mapped set env output (Some error) e is spent =
+    let same : plan_error set env output error ≡ e = cc in
+    plan_kind set env output error (ap (λ (x : ErrorSeen). x.kind) same ∙ spent)
+
+disabled_or : (b : Bool) (refusal : Option ErrorSeen) → NeverSpent refusal → NeverSpent (if b then Some disabled_error else refusal)
+disabled_or true refusal h e is spent =
+    let same : disabled_error ≡ e = cc in
+    let kind : disabled_error.kind ≡ TurnsSpent = ap (λ (x : ErrorSeen). x.kind) same ∙ spent in
+    cc
+disabled_or false refusal h e is spent = h e is spent
+
+first_never : (a b : Option ErrorSeen) → NeverSpent a → NeverSpent b → NeverSpent (first_of a b)
+first_never None b f g e is spent = g e is spent
+first_never (Some x) b f g e is spent = f e is spent
+
+pub never_spent : (set : BuildConfig) (env : EnvSeen) (look : Look) (output : List ℕ) → NeverSpent (refusal_error set env look output)
+never_spent set env look output =
+    first_never (early_error set env output) (late_error set env look output)
+    (mapped set env output (early_refusal set env output))
+    (disabled_or (is_disabled env) _ (mapped set env output (late_refusal set env look)))
