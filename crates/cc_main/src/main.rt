@@ -10,13 +10,17 @@ mod tests;
 mod top;
 mod words;
 
-ghost use Rattle.std.specs.Prelude.{◌≤◌, IfOk};
+ghost use Rattle.std.specs.Prelude.{◌≡◌, ◌≤◌, IfOk};
+ghost use Rattle.cc_env.specs.Snapshot.{snapshot_of};
+ghost use Rattle.cc_host.specs.Part.{since};
+ghost use Rattle.cc_jobs.specs.Size.{pool_size as size_for};
+ghost use Rattle.cc_main.specs.Answer.{heard};
 
 use cc_env::EnvSnapshot;
 use cc_host::{Host, HostError, World};
 use cc_hosts::ProcessHost;
 use cc_jobs::{OneCaller, pool_size};
-use cc_text::{Mem, NoMemory};
+use cc_text::{Mem, NoMemory, Vars};
 use std::alloc::Global;
 use std::process::ExitCode;
 use std::{env, io};
@@ -80,14 +84,17 @@ fn words_of(rt: &HostRuntime) -> io::Result<Vec<String>> {
 }
 
 // How many commands may run beside each other: what the host's variables ask for. Where the host can't list them, there are none.
+#[tactic(auto, using(cc_host::proofs::Parts::since_append))]
 fn tokens<W: World, H: Host<W>>(alloc: Global, host: &mut H) -> Mem<u32>
-    ensures { IfOk result (λ total. 1 ≤ total) }
+    ensures some { IfOk result (λ total. 1 ≤ total) }
+    ensures size { IfOk result (λ total. total ≡ size_for (snapshot_of (heard (since (H.log host.old) (H.log host.new))))) }
 {
-    match host.vars() {
-        Ok(vars) => Ok(pool_size(&EnvSnapshot::from_vars(alloc, &vars)?)),
-        Err(HostError::Fault(_, _)) => Ok(pool_size(&EnvSnapshot::empty(alloc))),
-        Err(HostError::NoMemory) => Err(NoMemory),
-    }
+    let vars = match host.vars() {
+        Ok(vars) => vars,
+        Err(HostError::Fault(_, _)) => Vars::new(alloc),
+        Err(HostError::NoMemory) => return Err(NoMemory),
+    };
+    Ok(pool_size(&EnvSnapshot::from_vars(alloc, &vars)?))
 }
 
 fn main(rt: HostRuntime) -> io::Result<ExitCode> {
