@@ -1,5 +1,5 @@
 -- The script that counts, as the scripts are gone through.
-use Rattle.std.proofs.Common.{◌≡◌, ℕ, zero, suc, ◌+◌, ◌<◌, Bool, true, false, List, [], ◌∷◌, ◌++◌, length, get_or, take, drop, reverse, Option, Some, slice_get, refl, sym, ◌∙◌, ap, arith, append-nil, append_assoc, map, set, subst, replicate, ◌||◌, is_some, max}
+use Rattle.std.proofs.Common.{◌≡◌, ℕ, zero, suc, ◌+◌, ◌<◌, ◌≤◌, IfSome, None, if◌then◌else◌, Bool, true, false, List, [], ◌∷◌, ◌++◌, length, get_or, take, drop, reverse, Option, Some, slice_get, refl, sym, ◌∙◌, ap, arith, append-nil, append_assoc, map, set, subst, replicate, ◌||◌, is_some, max}
 use Rattle.std.specs.List.{concat, flat_map, list_any}
 use Rattle.std.proofs.lemmas.List.{reverse-append, take_more, length-map, length-take-le, map-append, set_at, at_drop_more}
 use Rattle.std.proofs.lemmas.List.Folds.{concat-append}
@@ -83,3 +83,15 @@ longest_same cmd (s ∷ scripts) = ap (max (turns_of s)) (longest_same cmd scrip
 -- a start changes nothing of the patience
 pub patience_same : (cmd : CommandSeen) (scripts : List Scripted) → patience_of (map (met_after cmd) scripts) ≡ patience_of scripts
 patience_same cmd scripts = rw (waits_same cmd scripts, longest_same cmd scripts) refl
+
+-- where a host in memory tells its patience, it is at least 1
+pub patience_least : (scripts : List Scripted) → IfSome (patience_of scripts) (λ most. 1 ≤ most)
+patience_least scripts = at (list_any (λ s. is_some s.script.after) scripts)
+  where
+    least : (scripts : List Scripted) → 1 ≤ longest scripts
+    least [] = omega arith
+    least (s ∷ scripts) = let k : 1 ≤ longest scripts = least scripts in omega arith
+
+    at : (b : Bool) → IfSome (if b then None else Some (longest scripts)) (λ most. 1 ≤ most)
+    at true = tt
+    at false = least scripts

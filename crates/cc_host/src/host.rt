@@ -1,5 +1,5 @@
 // A host: what runs commands, keeps files and prints. Each call appends to the host's log what it did.
-ghost use Rattle.std.specs.Prelude.{◌≡◌, ◌≢◌, ◌≤◌, ◌∷◌, [], ◌++◌, List, ℕ, Option, true, IfOk, OnOk, IfErr, MatchResult};
+ghost use Rattle.std.specs.Prelude.{◌≡◌, ◌≢◌, ◌≤◌, ◌∷◌, [], ◌++◌, List, ℕ, Option, true, IfOk, OnOk, IfErr, IfSome, MatchResult};
 ghost use Rattle.std.specs.List.{flat_map, Contains};
 ghost use Rattle.cc_host.specs.Children.{running, IsFresh, IsNews, Waits};
 ghost use Rattle.cc_host.specs.declared.event.Event.{Event};
@@ -157,8 +157,9 @@ pub trait Host<W: World> {
         ensures cause { IfErr result (IsCaused ListsVars (faults self.old) (faults self.new)) };
 
     /// The events so far, oldest first, lent. Turns one after another stand as one event with their sum. No probe file was dropped more
-    /// often than it was made.
+    /// often than it was made. Where the host tells its patience, it is at least 1.
     fn log(&self) -> &[Event]
         ensures events { flat_map apart result.now ≡ log self.now }
-        ensures tidy { IsTidy (log self.now) };
+        ensures tidy { IsTidy (log self.now) }
+        ensures least { IfSome (patience self.now) (λ most. 1 ≤ most) };
 }
