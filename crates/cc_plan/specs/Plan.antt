@@ -3,10 +3,9 @@ use Rattle.std.specs.Prelude.{ℕ, Bool, List, [], ◌∷◌, ◌++◌, map, unw
 use Rattle.std.specs.Path.{path_parent, path_join}
 use Rattle.cc_env.specs.Env.{EnvSeen}
 use Rattle.cc_host.specs.Command.{CommandSeen}
-use Rattle.cc_host.specs.Part.{Step, runs}
+use Rattle.cc_host.specs.Part.{Step}
 use Rattle.cc_host.specs.Question.{Look}
 use Rattle.cc_host.specs.Part.Step.{Makes, Removes, Prints}
-use Rattle.cc_host.specs.declared.event.Role.TheVariants.{Compile, Archive, Index}
 use Rattle.cc_host.specs.declared.event.Scope.TheVariants.{Build}
 use Rattle.cc_host.specs.declared.event.LineKind.{LineKind}
 use Rattle.cc_host.specs.declared.event.LineKind.TheVariants.{Link, Warning}
@@ -14,11 +13,11 @@ use Rattle.cc_plan.specs.declared.object.Object.{Object}
 use Rattle.cc_plan.specs.declared.settings.BuildConfig.{BuildConfig}
 use Rattle.cc_plan.specs.Archive as archive
 use Rattle.cc_plan.specs.Compile as compile
-use Rattle.cc_plan.specs.Given.{out_dir_of, is_disabled}
+use Rattle.cc_plan.specs.Given.{out_dir_of}
 use Rattle.cc_plan.specs.Link.{printed_line, link_lines as lines_of}
 use Rattle.cc_plan.specs.Names.{library_name, library_file}
 use Rattle.cc_plan.specs.Object as object
-use Rattle.cc_plan.specs.Refusal.{early_refusal, late_refusal, is_empty}
+use Rattle.cc_plan.specs.Refusal.{is_empty}
 use Rattle.cc_plan.specs.Target.{target_info}
 use Rattle.cc_plan.specs.Planned.{tool_of, warnings_of}
 
@@ -68,32 +67,9 @@ folder_steps set env = if is_empty set.files then [] else Makes Build (dir_of se
 unfoldable pub prints : LineKind → List (List ℕ) → List Step
 prints kind lines = map (λ line. Prints kind (printed_line line)) lines
 
--- the warnings of the plan are printed, then each source is compiled
-unfoldable pub compile_steps : BuildConfig → EnvSeen → Bool → Look → List Step
-compile_steps set env told look = prints Warning (warning_lines set env told look) ++ runs Compile (compiles_of set env look)
-
 -- the old library is removed
 unfoldable pub removal_steps : BuildConfig → EnvSeen → List ℕ → List Step
 removal_steps set env output = Removes (library_of set env output) ∷ []
 
-unfoldable pub archive_steps : BuildConfig → EnvSeen → List ℕ → List Step
-archive_steps set env output = runs Archive (archives_of set env output)
-
-unfoldable pub index_steps : BuildConfig → EnvSeen → List ℕ → List Step
-index_steps set env output = runs Index (indexes_of set env output)
-
 unfoldable pub link_steps : BuildConfig → EnvSeen → List ℕ → List Step
 link_steps set env output = prints Link (link_lines set env output)
-
--- the steps behind the folder
-abbrev pub run_steps : BuildConfig → EnvSeen → Bool → Look → List ℕ → List Step
-run_steps set env told look output =
-    compile_steps set env told look ++ (removal_steps set env output ++ (archive_steps set env output ++ (index_steps set env output ++ link_steps set env output)))
-
--- the same, where commands may run and the settings are not refused behind the folder
-unfoldable pub late_steps : BuildConfig → EnvSeen → Bool → Look → List ℕ → List Step
-late_steps set env told look output = if is_disabled env then [] else (if is_some (late_refusal set env look) then [] else run_steps set env told look output)
-
--- The steps of a compile run. Settings that are refused before the folder is made plan none, and those that are refused behind it the folder alone.
-unfoldable pub planned_steps : BuildConfig → EnvSeen → Bool → Look → List ℕ → List Step
-planned_steps set env told look output = if is_some (early_refusal set env output) then [] else folder_steps set env ++ late_steps set env told look output
