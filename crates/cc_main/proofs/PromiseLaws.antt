@@ -335,19 +335,19 @@ too_few p n files most turned few count enough same =
     let more : p * n ≤ p * (2 * files + 2) = mul-le-mul_left p (omega (arith, count)) in
     omega arith
 
-enough_of : (look : Look) (q : Request) (part : List Event) (ended : Ended) (c : Course) → Answers look q part ended c → (total p : ℕ) → c.total ≡ Some total → c.patience ≡ Some p → 1 ≤ p → p * (2 * length q.1.config.files + 2) ≤ c.before.left → EndsSpent c.before.left part ended → ⊥
-enough_of look q part ended c (inl well) total p one told some enough spent =
+enough_of : (look : Look) (q : Request) (part : List Event) (ended : Ended) (c : Course) → Answers look q part ended c → (total p : ℕ) → c.total ≡ Some total → c.patience ≡ Some p → p * (2 * length q.1.config.files + 2) ≤ c.before.left → EndsSpent c.before.left part ended → ⊥
+enough_of look q part ended c (inl well) total p one told enough spent =
     let s : ended.status ≡ 0 = ap (λ (x : Ended). x.status) well.0 in
     let r : ended.status ≡ 1 = ap (λ (x : Ended). x.status) spent.1.0 in
     cc
-enough_of look q part ended c (inr (inr wanting)) total p one told some enough spent =
+enough_of look q part ended c (inr (inr wanting)) total p one told enough spent =
     let s : ended.status ≡ 3 = ap (λ (x : Ended). x.status) wanting.0 in
     let r : ended.status ≡ 1 = ap (λ (x : Ended). x.status) spent.1.0 in
     cc
-enough_of look q part ended c (inr (inl r)) total p one told some enough spent =
+enough_of look q part ended c (inr (inl r)) total p one told enough spent =
     let same : r.error ≡ spent.0 = same_error r.error spent.0 ended r.is spent.1.0 in
     let few : turns r.run < p * length (commands_in (stages_of look q r.run)) =
-    halted_bound (terms_in q r.run c) (error_of look q r.run) (stages_of look q r.run) r.run r.error c.before c.after total p one told some
+    halted_bound (terms_in q r.run c) (error_of look q r.run) (stages_of look q r.run) r.run r.error c.before c.after total p one told
     (never_spent q.1.config (env_in q r.run) look q.0) r.refused (ap (λ (x : ErrorSeen). x.kind) same ∙ spent.1.1) in
     too_few p (length (commands_in (stages_of look q r.run))) (length q.1.config.files) c.before.left (turns r.run) few (planned_count q.1.config (env_in q r.run) true look q.0) enough
     (sym (turns_same part r.run r.line r.cut (line_of (error_line r.error) r.line r.told)) ∙ spent.1.2)

@@ -105,4 +105,4 @@ IsComplete look words part ended c = IfOk words (λ request. Valid request.1.con
 
 -- The turns are enough where one caller owns the pool, the host tells its patience, and there are as many times that as twice the sources and two.
 abbrev pub IsEnough : Look → Result Request BadWord → List Event → Ended → Course → Type 0
-IsEnough look words part ended c = IfOk words (λ request. (total p : ℕ) → c.total ≡ Some total → c.patience ≡ Some p → 1 ≤ p → p * (2 * length request.1.config.files + 2) ≤ c.before.left → EndsSpent c.before.left part ended → ⊥)
+IsEnough look words part ended c = IfOk words (λ request. (total p : ℕ) → c.total ≡ Some total → c.patience ≡ Some p → p * (2 * length request.1.config.files + 2) ≤ c.before.left → EndsSpent c.before.left part ended → ⊥)

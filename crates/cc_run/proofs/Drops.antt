@@ -15,6 +15,8 @@ use Rattle.cc_run.specs.declared.running.Child.{Child}
 use Rattle.cc_run.specs.Planned.{Asked}
 use Rattle.cc_run.specs.Run.{Run, nothing, run_after, run_from, without, ids, gone, Along}
 use Rattle.cc_run.specs.Part.{started_of, missing, missing_of, faults, fault_of, turns, turns_of, Fits, IsBusy, Greedy, Goes}
+use Rattle.cc_run.specs.Life.{LivesOn}
+use Rattle.cc_run.proofs.LifeLemmas.{lives_then, lives_others, lives_abandoned}
 use Rattle.cc_run.proofs.Runs.{goes_by, goes_then}
 
 ids_of : List Live → List ℕ
@@ -140,15 +142,31 @@ pub gone_turns : (cs : List (ℕ × ℕ)) → turns (gone cs) ≡ 0
 gone_turns [] = refl
 gone_turns (c ∷ cs) = grind (arith, common_steps, gone_turns cs)
 
-pub goes_gone : {t : Option ℕ} {cmds : List Asked} {old mid new : List Event} {r r' : Run} → Goes t cmds old r mid r' → new ≡ mid ++ gone r'.live → Goes t cmds old r new (record { live = []; begun = r'.begun; failed = r'.failed })
-goes_gone {t} {cmds} {old} {mid} {new} {r} {r'} g e =
+in_order_has : (x : ℕ) (xs ys : List ℕ) → InOrder (x ∷ xs) ys → Contains ys x
+in_order_has x xs [] h = absurd h
+in_order_has x xs (y ∷ ys) (inl h) = (0, omega arith, sym h.0)
+in_order_has x xs (y ∷ ys) (inr h) = let k = in_order_has x xs ys h in (suc k.0, (let l : k.0 < length ys = k.1 in omega arith), k.2)
+
+-- and takes each child on
+pub lives_gone : (mid new : List Event) (cs : List (ℕ × ℕ)) → new ≡ mid ++ gone cs → InOrder (ids cs) (running mid) → LivesOn mid new
+lives_gone mid new [] e h = lives_others mid new [] e (λ _. tt)
+lives_gone mid new (c ∷ cs) e h =
+    let one = mid ++ Abandoned c.0 ∷ [] in
+    let f : new ≡ one ++ gone cs = e ∙ sym (append_assoc mid (Abandoned c.0 ∷ []) (gone cs)) in
+    lives_then mid one new (grown mid one (Abandoned c.0 ∷ []) refl) (grown one new (gone cs) f) (lives_abandoned mid one c.0 refl (in_order_has c.0 (ids cs) (running mid) h)) (lives_gone one new cs f (runs_abandoned mid one c cs refl h))
+  where
+    grown : (old new part : List Event) → new ≡ old ++ part → new ≡ old ++ since old new
+    grown old new part e = e ∙ ap (λ p. old ++ p) (sym (since_append old part) ∙ ap (since old) (sym e))
+
+pub goes_gone : {t : Option ℕ} {cmds : List Asked} {old mid new : List Event} {r r' : Run} → Goes t cmds old r mid r' → new ≡ mid ++ gone r'.live → InOrder (ids r.live) (running old) → Goes t cmds old r new (record { live = []; begun = r'.begun; failed = r'.failed })
+goes_gone {t} {cmds} {old} {mid} {new} {r} {r'} g e h =
     goes_then t cmds old mid new r r' (record { live = []; begun = r'.begun; failed = r'.failed }) g
     (goes_by t cmds mid new (gone r'.live) r' (record { live = []; begun = r'.begun; failed = r'.failed }) e (record {
       run = gone_run r'.live r'.begun r'.failed;
       asked = ap (λ l. take r'.begun cmds ++ l) (gone_silent started_of (λ id. refl) r'.live) ∙ append-nil (take r'.begun cmds);
       within = along_gone (Fits t) (λ _ _. tt) r' r'.live;
       greedy = greedy_gone t (length cmds) r' r'.live;
-    }))
+    }) (lives_gone mid new r'.live e (goes_runs g h)))
 
 since_gone : {t : Option ℕ} {cmds : List Asked} {old mid new : List Event} {r r' : Run} (l : List (ℕ × ℕ)) → Goes t cmds old r mid r' → new ≡ mid ++ gone l → since old new ≡ since old mid ++ gone l
 since_gone {t} {cmds} {old} {mid} {new} l g e =
@@ -167,11 +185,6 @@ missing_gone {t} {cmds} {old} {mid} {new} l g e =
 pub faults_gone : {t : Option ℕ} {cmds : List Asked} {old mid new : List Event} {r r' : Run} (l : List (ℕ × ℕ)) → Goes t cmds old r mid r' → new ≡ mid ++ gone l → faults (since old new) ≡ faults (since old mid)
 faults_gone {t} {cmds} {old} {mid} {new} l g e =
     ap faults (since_gone l g e) ∙ flat_map-append fault_of (since old mid) (gone l) ∙ ap (λ x. faults (since old mid) ++ x) (gone_faults l) ∙ append-nil (faults (since old mid))
-
-in_order_has : (x : ℕ) (xs ys : List ℕ) → InOrder (x ∷ xs) ys → Contains ys x
-in_order_has x xs [] h = absurd h
-in_order_has x xs (y ∷ ys) (inl h) = (0, omega arith, sym h.0)
-in_order_has x xs (y ∷ ys) (inr h) = let k = in_order_has x xs ys h in (suc k.0, (let l : k.0 < length ys = k.1 in omega arith), k.2)
 
 -- the child at i runs on the host
 pub has_child : (items : List Child) (i : ℕ) (c : Child) (log : List Event) → i < length items → c ≡ get_or items i c → InOrder (ids (map seat (drop i items))) (running log) → Contains (running log) c.id

@@ -2,7 +2,7 @@ pub mod ChildLemmas
 pub mod DebugLemmas
 pub mod Drops
 pub mod HearingLemmas
-pub mod KindLemmas
+pub mod LifeLemmas
 pub mod LineLemmas
 pub mod OutputLemmas
 pub mod OwnLemmas

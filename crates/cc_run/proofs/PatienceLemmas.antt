@@ -464,13 +464,13 @@ module _ (count : ℕ) (old s mid new : List Event) (r r' : Run) (e : s ≡ old 
   whole_starts : starts (since old mid) ≤ count
   whole_starts = let k : starts (since old mid) ≡ r'.begun = begun_in r' (since old mid) whole_run in omega arith
 
-  pub whole_bound : (p : Option ℕ) → Lasts p s r mid → Bounded p count (since old new)
-  whole_bound None l = tt
-  whole_bound (Some most) l = λ m. let k : turns (since old mid) ≤ most * count = patient_bound most count (since old mid) (whole_patient most m l) whole_starts in let t : turns (since old new) ≡ turns (since old mid) = whole_turns in omega arith
+  pub whole_bound : (p : Option ℕ) → IfSome p (λ most. 1 ≤ most) → Lasts p s r mid → Bounded p count (since old new)
+  whole_bound None m l = tt
+  whole_bound (Some most) m l = let k : turns (since old mid) ≤ most * count = patient_bound most count (since old mid) (whole_patient most m l) whole_starts in let t : turns (since old new) ≡ turns (since old mid) = whole_turns in omega arith
 
-  pub whole_unspent : (p : Option ℕ) → Lasts p s r mid → IsOpen count r' → Unspent p count (since old new)
-  whole_unspent None l o = tt
-  whole_unspent (Some most) l o = λ m. let k : turns (since old mid) < most * count = patient_open most count (since old mid) r' m whole_run b o (whole_patient most m l) in let t : turns (since old new) ≡ turns (since old mid) = whole_turns in omega arith
+  pub whole_unspent : (p : Option ℕ) → IfSome p (λ most. 1 ≤ most) → Lasts p s r mid → IsOpen count r' → Unspent p count (since old new)
+  whole_unspent None m l o = tt
+  whole_unspent (Some most) m l o = let k : turns (since old mid) < most * count = patient_open most count (since old mid) r' m whole_run b o (whole_patient most m l) in let t : turns (since old new) ≡ turns (since old mid) = whole_turns in omega arith
 
 -- the want of turns leaves something open
 pub open_at : {T : Type 0} (count : ℕ) (r : Run) (result : Result T RunError) → result ≡ Err TurnsSpent → IfErr result (IsRunError count r) → IsOpen count r
@@ -487,13 +487,13 @@ module _ (shows : Shows) (cmds : List Planned) (old mid new : List Event) (k : K
   kept_first : old ≡ old ++ since old old
   kept_first = sym (append-nil old) ∙ ap (λ l. old ++ l) (sym (since_none old))
 
-  pub all_bound : (t p : Option ℕ) → Goes t (asked shows cmds) old (run_of k) mid r' → IfSome t (λ _. Lasts p old (run_of k) mid) → IfSome t (λ _. Bounded p (length cmds) (since old new))
-  all_bound None p g l = tt
-  all_bound (Some t) p g l = whole_bound (length cmds) old old mid new (run_of k) r' kept_first first calm_first g.extends g.steps.run b dropped p l
+  pub all_bound : (t p : Option ℕ) → IfSome p (λ most. 1 ≤ most) → Goes t (asked shows cmds) old (run_of k) mid r' → IfSome t (λ _. Lasts p old (run_of k) mid) → IfSome t (λ _. Bounded p (length cmds) (since old new))
+  all_bound None p m g l = tt
+  all_bound (Some t) p m g l = whole_bound (length cmds) old old mid new (run_of k) r' kept_first first calm_first g.extends g.steps.run b dropped p m l
 
-  pub all_unspent : {T : Type 0} (t p : Option ℕ) (result : Result T RunError) → Goes t (asked shows cmds) old (run_of k) mid r' → IfSome t (λ _. Lasts p old (run_of k) mid) → IfErr result (IsRunError (length (asked shows cmds)) r') → result ≡ Err TurnsSpent → IfSome t (λ _. Unspent p (length cmds) (since old new))
-  all_unspent None p result g l c e = tt
-  all_unspent (Some t) p result g l c e = whole_unspent (length cmds) old old mid new (run_of k) r' kept_first first calm_first g.extends g.steps.run b dropped p l (subst (λ n. IsOpen n r') (length-map cmds (asked_by shows)) (open_at (length (asked shows cmds)) r' result e c))
+  pub all_unspent : {T : Type 0} (t p : Option ℕ) (result : Result T RunError) → IfSome p (λ most. 1 ≤ most) → Goes t (asked shows cmds) old (run_of k) mid r' → IfSome t (λ _. Lasts p old (run_of k) mid) → IfErr result (IsRunError (length (asked shows cmds)) r') → result ≡ Err TurnsSpent → IfSome t (λ _. Unspent p (length cmds) (since old new))
+  all_unspent None p result m g l c e = tt
+  all_unspent (Some t) p result m g l c e = whole_unspent (length cmds) old old mid new (run_of k) r' kept_first first calm_first g.extends g.steps.run b dropped p m l (subst (λ n. IsOpen n r') (length-map cmds (asked_by shows)) (open_at (length (asked shows cmds)) r' result e c))
 
 -- what was printed behind a turn polls no child
 still_prints : (ls : List Line) (cs : List Live) → live_from cs (prints ls) ≡ cs
@@ -535,8 +535,8 @@ unturned_calm old new JobFault h = absurd h
 
 pub calm_bound : (p : Option ℕ) (part : List Event) → turns part ≡ 0 → Bounded p 1 part
 calm_bound None part z = tt
-calm_bound (Some most) part z = λ m. omega arith
+calm_bound (Some most) part z = omega (arith, z)
 
-pub calm_unspent : (p : Option ℕ) (part : List Event) → turns part ≡ 0 → Unspent p 1 part
-calm_unspent None part z = tt
-calm_unspent (Some most) part z = λ m. omega arith
+pub calm_unspent : (p : Option ℕ) (part : List Event) → IfSome p (λ most. 1 ≤ most) → turns part ≡ 0 → Unspent p 1 part
+calm_unspent None part m z = tt
+calm_unspent (Some most) part m z = omega (arith, m, z)

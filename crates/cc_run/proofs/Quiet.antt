@@ -7,12 +7,15 @@ use Rattle.std.proofs.lemmas.List.Sums.{sum_by-append}
 use Rattle.cc_host.specs.declared.event.Event.{Event}
 use Rattle.cc_host.specs.declared.event.Event.TheVariants.{Printed}
 use Rattle.cc_host.specs.declared.event.LineKind.{LineKind}
+use Rattle.cc_host.specs.Children.{id_of, started_ids}
+use Rattle.cc_run.specs.Life.{LivesOn}
 use Rattle.cc_run.specs.Paid.{starts, starts_of, loads, held_of}
 use Rattle.cc_run.specs.Part.{started, missing, missing_of, faults, fault_of, abandoned, abandoned_of, turns, turns_of, Fits, IsBusy, Greedy, Goes}
 use Rattle.cc_run.specs.Planned.{Asked}
 use Rattle.cc_run.specs.Run.{Run, run_from, Along}
 use Rattle.cc_run.specs.Shown.{prints}
 use Rattle.cc_run.specs.declared.print.Line.{Line}
+use Rattle.cc_run.proofs.LifeLemmas.{Others, lives_others}
 use Rattle.cc_run.proofs.Runs.{goes_by}
 
 pub prints_run : (r : Run) (ls : List Line) → run_from r (prints ls) ≡ r
@@ -22,6 +25,14 @@ prints_run r (l ∷ ls) = prints_run r ls
 pub prints_started : (ls : List Line) → started (prints ls) ≡ []
 prints_started [] = refl
 prints_started (l ∷ ls) = prints_started ls
+
+-- they start no child
+pub prints_ids : (log : List Event) (ls : List Line) → started_ids (log ++ prints ls) ≡ started_ids log
+prints_ids log ls = flat_map-append id_of log (prints ls) ∙ ap (λ l. started_ids log ++ l) (none ls) ∙ append-nil (started_ids log)
+  where
+    none : (ls : List Line) → started_ids (prints ls) ≡ []
+    none [] = refl
+    none (l ∷ ls) = none ls
 
 pub prints_missing : (ls : List Line) → missing (prints ls) ≡ []
 prints_missing [] = refl
@@ -55,6 +66,14 @@ greedy_prints : (t : Option ℕ) (n : ℕ) (r : Run) (ls : List Line) → Greedy
 greedy_prints None n r ls = tt
 greedy_prints (Some t) n r ls = along_prints (IsBusy t n) (λ _ _ _. tt) r ls
 
+prints_others : (id : ℕ) (ls : List Line) → Others id (prints ls)
+prints_others id [] = tt
+prints_others id (l ∷ ls) = (refl, prints_others id ls)
+
+-- and no child
+pub lives_prints : (old new : List Event) (ls : List Line) → new ≡ old ++ prints ls → LivesOn old new
+lives_prints old new ls e = lives_others old new (prints ls) e (λ id. prints_others id ls)
+
 -- lines that were printed change no run
 pub goes_prints : (t : Option ℕ) (cmds : List Asked) (old new : List Event) (r : Run) (ls : List Line) → new ≡ old ++ prints ls → Goes t cmds old r new r
 goes_prints t cmds old new r ls e =
@@ -63,7 +82,7 @@ goes_prints t cmds old new r ls e =
       asked = ap (λ l. take r.begun cmds ++ l) (prints_started ls) ∙ append-nil (take r.begun cmds);
       within = along_prints (Fits t) (λ _ _ _. tt) r ls;
       greedy = greedy_prints t (length cmds) r ls;
-    })
+    }) (lives_prints old new ls e)
 
 module _ (ls : List Line) (es : List Event) where
   -- behind such lines

@@ -8,7 +8,10 @@ use Rattle.std.specs.List.{flat_map}
 use Rattle.cc_host.specs.Command.{CommandSeen}
 use Rattle.cc_host.specs.Part.{since}
 use Rattle.cc_host.proofs.Parts.{since_append, since_since}
+use Rattle.cc_host.specs.Children.{IsNews}
+use Rattle.cc_run.specs.Life.{LivesOn, IsNewcomer}
 use Rattle.cc_run.specs.Planned.{Asked}
+use Rattle.cc_run.proofs.LifeLemmas.{lives_then, lives_others, lives_start, lives_turn}
 use Rattle.cc_host.specs.declared.event.Role.{Role}
 use Rattle.cc_host.specs.declared.event.Status.{Status}
 use Rattle.cc_host.specs.declared.event.Pipes.{Pipes}
@@ -22,8 +25,9 @@ use Rattle.cc_host.specs.declared.event.HostCall.TheVariants.{Start as Starting,
 use Rattle.cc_run.specs.Paid.{starts, starts_of, loads, held_of}
 use Rattle.cc_run.specs.Printing.{printed, printed_of}
 use Rattle.cc_run.specs.Run.{Run, run_after, run_from, ended_run, Along}
-use Rattle.cc_run.specs.Outcome.{IsTold, IsOpen, EndsAt, start_error, turn_error}
+use Rattle.cc_run.specs.Outcome.{IsTold, IsOpen, IsUnturned, EndsAt, start_error, turn_error}
 use Rattle.cc_run.specs.declared.error.RunError.{RunError}
+use Rattle.cc_run.specs.declared.error.RunError.TheVariants.{ToolNotFound, Failed as EndedBadly, StartFault, WaitFault, HostFault, JobFault, TurnsSpent, NoMemory}
 use Rattle.cc_run.specs.declared.error.Step.{Step}
 use Rattle.cc_run.specs.declared.error.Step.TheVariants.{Ready, Pending}
 use Rattle.cc_run.specs.Part.{started, started_of, missing, missing_of, faults, fault_of, abandoned, abandoned_of, turns, turns_of, Fits, IsBusy, BusyHere, Within, Greedy, Steps, Goes}
@@ -53,13 +57,15 @@ pub goes_then : (t : Option ℕ) (cmds : List Asked) (old mid new : List Event) 
 goes_then t cmds old mid new r r' r'' x y = record {
   extends = y.extends ∙ ap (λ l. l ++ since mid new) x.extends ∙ append_assoc old (since old mid) (since mid new) ∙ ap (λ l. old ++ l) (sym (since_since old mid new x.extends y.extends));
   steps = subst (λ p. Steps t cmds r p r'') (sym (since_since old mid new x.extends y.extends)) (steps_then t cmds r r' r'' (since old mid) (since mid new) x.steps y.steps);
+  lives = lives_then old mid new x.extends y.extends x.lives y.lives;
 }
 
 -- a call that adds these events
-pub goes_by : (t : Option ℕ) (cmds : List Asked) (old new part : List Event) (r r' : Run) → new ≡ old ++ part → Steps t cmds r part r' → Goes t cmds old r new r'
-goes_by t cmds old new part r r' e s = record {
+pub goes_by : (t : Option ℕ) (cmds : List Asked) (old new part : List Event) (r r' : Run) → new ≡ old ++ part → Steps t cmds r part r' → LivesOn old new → Goes t cmds old r new r'
+goes_by t cmds old new part r r' e s l = record {
   extends = e ∙ ap (λ p. old ++ p) (sym (since_append old part) ∙ ap (since old) (sym e));
   steps = subst (λ p. Steps t cmds r p r') (sym (since_append old part) ∙ ap (since old) (sym e)) s;
+  lives = l;
 }
 
 greedy_none : (t : Option ℕ) (n : ℕ) (r : Run) → Greedy t n r []
@@ -68,7 +74,7 @@ greedy_none (Some t) n r = tt
 
 -- no call
 pub goes_none : (t : Option ℕ) (cmds : List Asked) (log : List Event) (r : Run) → Goes t cmds log r log r
-goes_none t cmds log r = goes_by t cmds log log [] r r (sym (append-nil log)) (record { run = refl; asked = append-nil (take r.begun cmds); within = tt; greedy = greedy_none t (length cmds) r })
+goes_none t cmds log r = goes_by t cmds log log [] r r (sym (append-nil log)) (record { run = refl; asked = append-nil (take r.begun cmds); within = tt; greedy = greedy_none t (length cmds) r }) (lives_others log log [] (sym (append-nil log)) (λ _. tt))
 
 greedy_start : (t : Option ℕ) (n : ℕ) (r : Run) (id : ℕ) (role : Role) (cmd : CommandSeen) (pipes : Pipes) (held : ℕ) → Greedy t n r (Started id role cmd pipes held ∷ [])
 greedy_start None n r id role cmd pipes held = tt
@@ -78,14 +84,14 @@ abbrev pub asking : Role → CommandSeen → Pipes → Asked
 asking role cmd pipes = record { role = role; cmd = cmd; pipes = pipes }
 
 -- a start of the next command
-pub goes_start : (t : Option ℕ) (cmds : List Asked) (old new : List Event) (r : Run) (id : ℕ) (role : Role) (cmd : CommandSeen) (pipes : Pipes) (held : ℕ) → new ≡ old ++ Started id role cmd pipes held ∷ [] → r.begun < length cmds → asking role cmd pipes ≡ get_or cmds r.begun (asking role cmd pipes) → held ≡ length r.live + 1 → IfSome t (λ k. held ≤ k) → Goes t cmds old r new (run_after r (Started id role cmd pipes held))
-goes_start t cmds old new r id role cmd pipes held e lt is h most =
+pub goes_start : (t : Option ℕ) (cmds : List Asked) (old new : List Event) (r : Run) (id : ℕ) (role : Role) (cmd : CommandSeen) (pipes : Pipes) (held : ℕ) → new ≡ old ++ Started id role cmd pipes held ∷ [] → r.begun < length cmds → asking role cmd pipes ≡ get_or cmds r.begun (asking role cmd pipes) → held ≡ length r.live + 1 → IfSome t (λ k. held ≤ k) → IsNewcomer old id → Goes t cmds old r new (run_after r (Started id role cmd pipes held))
+goes_start t cmds old new r id role cmd pipes held e lt is h most fresh =
     goes_by t cmds old new (Started id role cmd pipes held ∷ []) r (run_after r (Started id role cmd pipes held)) e (record {
       run = refl;
       asked = ap (λ c. take r.begun cmds ++ c ∷ []) is ∙ sym (take_more cmds r.begun (asking role cmd pipes) lt);
       within = ((h, most), tt);
       greedy = greedy_start t (length cmds) r id role cmd pipes held;
-    })
+    }) (lives_start old new id role cmd pipes held e fresh)
 
 greedy_one : (t : Option ℕ) (n : ℕ) (r : Run) (e : Event) → ((total : ℕ) → IsBusy total n r e) → Greedy t n r (e ∷ [])
 greedy_one None n r e h = tt
@@ -94,12 +100,23 @@ greedy_one (Some t) n r e h = (h t, tt)
 -- an event that changes nothing
 pub goes_missing : (t : Option ℕ) (cmds : List Asked) (old new : List Event) (r : Run) (role : Role) (cmd : CommandSeen) → new ≡ old ++ Missing role cmd ∷ [] → Goes t cmds old r new r
 goes_missing t cmds old new r role cmd e =
-    goes_by t cmds old new (Missing role cmd ∷ []) r r e (record { run = refl; asked = append-nil (take r.begun cmds); within = (tt, tt); greedy = greedy_one t (length cmds) r (Missing role cmd) (λ _. tt) })
+    goes_by t cmds old new (Missing role cmd ∷ []) r r e (record { run = refl; asked = append-nil (take r.begun cmds); within = (tt, tt); greedy = greedy_one t (length cmds) r (Missing role cmd) (λ _. tt) }) (lives_others old new (Missing role cmd ∷ []) e (λ _. (refl, tt)))
 
 pub goes_refused : (t : Option ℕ) (cmds : List Asked) (old new : List Event) (r : Run) (e : HostError) → new ≡ old ++ refused e → Goes t cmds old r new r
 goes_refused t cmds old new r (Failed call why) e =
-    goes_by t cmds old new (Fault call why ∷ []) r r e (record { run = refl; asked = append-nil (take r.begun cmds); within = (tt, tt); greedy = greedy_one t (length cmds) r (Fault call why) (λ _. tt) })
-goes_refused t cmds old new r WantsMemory e = goes_by t cmds old new [] r r e (record { run = refl; asked = append-nil (take r.begun cmds); within = tt; greedy = greedy_none t (length cmds) r })
+    goes_by t cmds old new (Fault call why ∷ []) r r e (record { run = refl; asked = append-nil (take r.begun cmds); within = (tt, tt); greedy = greedy_one t (length cmds) r (Fault call why) (λ _. tt) }) (lives_others old new (Fault call why ∷ []) e (λ _. (refl, tt)))
+goes_refused t cmds old new r WantsMemory e = goes_by t cmds old new [] r r e (record { run = refl; asked = append-nil (take r.begun cmds); within = tt; greedy = greedy_none t (length cmds) r }) (lives_others old new [] e (λ _. tt))
+
+-- where no turn was made
+pub goes_unturned : (t : Option ℕ) (cmds : List Asked) (old new : List Event) (r : Run) (e : RunError) → IsUnturned old new e → Goes t cmds old r new r
+goes_unturned t cmds old new r TurnsSpent h = goes_refused t cmds old new r WantsMemory (h ∙ sym (append-nil old))
+goes_unturned t cmds old new r NoMemory h = goes_refused t cmds old new r WantsMemory (h ∙ sym (append-nil old))
+goes_unturned t cmds old new r WaitFault (why, h) = goes_refused t cmds old new r (Failed Turning why) h
+goes_unturned t cmds old new r (ToolNotFound n) h = absurd h
+goes_unturned t cmds old new r (EndedBadly n s) h = absurd h
+goes_unturned t cmds old new r (StartFault n) h = absurd h
+goes_unturned t cmds old new r (HostFault call why) h = absurd h
+goes_unturned t cmds old new r JobFault h = absurd h
 
 -- an event of a kind that no projection here reads, and that changes no run but by an end
 told_run : (r : Run) (n : News) → run_from r (told n) ≡ ended_run r n.id n.ended
@@ -195,14 +212,14 @@ greedy_turn None n r ns h = tt
 greedy_turn (Some t) n r ns h = (h, along_news (IsBusy t n) (λ _ _ _. tt) (λ _ _. tt) (λ _ _ _. tt) r ns)
 
 -- a turn
-pub goes_turn : (t : Option ℕ) (cmds : List Asked) (old new : List Event) (r r' : Run) (ns : List News) → new ≡ old ++ Turn 1 ∷ flat_map told ns → run_from r (flat_map told ns) ≡ r' → r'.begun ≡ r.begun → BusyHere t (length cmds) r → Goes t cmds old r new r'
-goes_turn t cmds old new r r' ns e is same busy =
+pub goes_turn : (t : Option ℕ) (cmds : List Asked) (old new : List Event) (r r' : Run) (ns : List News) → new ≡ old ++ Turn 1 ∷ flat_map told ns → run_from r (flat_map told ns) ≡ r' → r'.begun ≡ r.begun → BusyHere t (length cmds) r → IsNews old ns → Goes t cmds old r new r'
+goes_turn t cmds old new r r' ns e is same busy news =
     goes_by t cmds old new (Turn 1 ∷ flat_map told ns) r r' e (record {
       run = is;
       asked = ap (λ l. take r.begun cmds ++ l) (news_started ns) ∙ append-nil (take r.begun cmds) ∙ ap (λ k. take k cmds) (sym same);
       within = (tt, along_news (Fits t) (λ _ _ _. tt) (λ _ _. tt) (λ _ _ _. tt) r ns);
       greedy = greedy_turn t (length cmds) r ns busy;
-    })
+    }) (lives_turn old new ns e news)
 
 pub turns_turn : (old new : List Event) (ns : List News) → new ≡ old ++ Turn 1 ∷ flat_map told ns → turns (since old new) ≡ 1
 turns_turn old new ns e =

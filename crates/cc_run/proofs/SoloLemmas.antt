@@ -1,5 +1,5 @@
 -- Laws on a run of one command.
-use Rattle.std.proofs.Common.{◌≡◌, ◌≢◌, inr, ℕ, ◌+◌, ◌<◌, List, [], ◌∷◌, ◌++◌, length, take, get_or, sym, ◌∙◌, ap, subst, append_assoc, arith}
+use Rattle.std.proofs.Common.{◌≡◌, ◌≢◌, inr, ℕ, ◌+◌, ◌<◌, List, [], ◌∷◌, ◌++◌, length, take, get_or, refl, sym, ◌∙◌, ap, subst, append_assoc, arith}
 use Rattle.std.specs.Prelude.{Result, Ok, Err, Option, None, Some, OnOk, IfErr}
 use Rattle.std.proofs.lemmas.List.{append-nil, length-map}
 use Rattle.std.proofs.lemmas.Grind.{flat_map-append}
@@ -24,9 +24,11 @@ use Rattle.cc_run.specs.declared.error.Step.{Step}
 use Rattle.cc_run.specs.declared.error.Step.TheVariants.{Ready}
 use Rattle.cc_run.specs.declared.planned.Planned.{Planned}
 use Rattle.cc_run.specs.declared.planned.Shows.{Shows}
-use Rattle.cc_run.proofs.Quiet.{prints_run, prints_started, behind_loads}
+use Rattle.cc_run.specs.Life.{IsNewcomer, LivesOn}
+use Rattle.cc_run.proofs.LifeLemmas.{lives_then, lives_start, newcomer_behind}
+use Rattle.cc_run.proofs.Quiet.{prints_run, prints_started, prints_ids, lives_prints, behind_loads}
 use Rattle.cc_run.proofs.Runs.{run_from-append}
-use Rattle.cc_run.proofs.Drops.{gone_turns, gone_missing, gone_faults}
+use Rattle.cc_run.proofs.Drops.{begun_runs, lives_gone, gone_turns, gone_missing, gone_faults}
 use Rattle.cc_run.proofs.StartLemmas.{unstarted_same, unstarted_goes, unstarted_told, unstarted_counts, unstarted_ends}
 
 -- where every command was started and a child runs, a turn may be made
@@ -43,15 +45,16 @@ alone_then cmds old mid new r r' a g f =
       run = ap (run_from nothing) cut ∙ run_from-append nothing (since old mid) (since mid new) ∙ ap (λ s. run_from s (since mid new)) a.run ∙ g.steps.run;
       begun = ap started cut ∙ flat_map-append started_of (since old mid) (since mid new) ∙ ap (λ l. l ++ started (since mid new)) a.begun ∙ g.steps.asked;
       free = let both : loads (since old new) ≡ loads (since old mid) + loads (since mid new) = ap loads cut ∙ sum_by-append held_of (since old mid) (since mid new) in let z : loads (since old mid) ≡ 0 = a.free in omega arith;
+      lives = lives_then old mid new a.extends g.extends a.lives g.lives;
     }
 
 -- where nothing was started
 pub alone_none : {t : Option ℕ} (cmds : List Asked) (old new : List Event) (r : Run) → Goes t cmds old nothing new r → loads (since old new) ≡ 0 → Alone cmds old new r
-alone_none cmds old new r g f = record { extends = g.extends; run = g.steps.run; begun = g.steps.asked; free = f }
+alone_none cmds old new r g f = record { extends = g.extends; run = g.steps.run; begun = g.steps.asked; free = f; lives = g.lives }
 
 -- the start of the one command
-pub alone_start : (shows : Shows) (p : Planned) (id : ℕ) (old new : Kept) (log log' : List Event) → log' ≡ log ++ since log log' → old ≡ nothing_kept → IsStart shows p 0 old (Ok id) new (since log log') → Alone (asked shows (p ∷ [])) log log' (run_of new)
-alone_start shows p id old new log log' x none s =
+pub alone_start : (shows : Shows) (p : Planned) (id : ℕ) (old new : Kept) (log log' : List Event) → log' ≡ log ++ since log log' → old ≡ nothing_kept → IsStart shows p 0 old (Ok id) new (since log log') → IsNewcomer log id → Alone (asked shows (p ∷ [])) log log' (run_of new)
+alone_start shows p id old new log log' x none s fresh =
     let ann = announced shows p.cmd in
     let e = Started id p.role p.cmd (pipes_of shows) 0 in
     let one : run_of new ≡ run_after nothing e = ap run_of s.1 ∙ ap (λ k. run_of (record k { children = k.children ++ record { id = id; place = k.begun; rest = [] } ∷ []; begun = k.begun + 1 })) none in
@@ -60,6 +63,12 @@ alone_start shows p id old new log log' x none s =
       run = ap (run_from nothing) s.0 ∙ run_from-append nothing (prints ann) (e ∷ []) ∙ ap (λ r. run_after r e) (prints_run nothing ann) ∙ sym one;
       begun = ap started s.0 ∙ flat_map-append started_of (prints ann) (e ∷ []) ∙ ap (λ l. l ++ started (e ∷ [])) (prints_started ann) ∙ sym (ap (λ r. take r.begun (asked shows (p ∷ []))) one);
       free = ap loads s.0 ∙ behind_loads ann (e ∷ []);
+      lives =
+          let mid = log ++ prints ann in
+          let f : log' ≡ mid ++ e ∷ [] = x ∙ ap (λ l. log ++ l) s.0 ∙ sym (append_assoc log (prints ann) (e ∷ [])) in
+          lives_then log mid log' (ap (λ l. log ++ l) (sym (since_append log (prints ann)))) (f ∙ ap (λ l. mid ++ l) (sym (since_append mid (e ∷ [])) ∙ ap (since mid) (sym f)))
+          (lives_prints log mid ann refl)
+          (lives_start mid log' id p.role p.cmd (pipes_of shows) 0 f (newcomer_behind mid log id (sym (prints_ids log ann)) fresh));
     }
 
 -- a part that went well, and then another
@@ -143,3 +152,9 @@ solo_whole cmds st fin log s w d result a g z k m f done cause ends tokenless =
       ends = ends;
       tokenless = tokenless;
     }
+
+-- a run of one command takes each child on
+pub solo_lives : {T : Type 0} (cmds : List Asked) (log new : List Event) (result : Result T RunError) → IsSolo cmds log new result → LivesOn log new
+solo_lives cmds log new result w =
+    let runs = begun_runs log w.mid w.run w.work.extends w.work.run in
+    lives_then log w.mid new w.work.extends (w.dropped ∙ ap (λ p. w.mid ++ p) (sym (since_append w.mid (gone w.run.live)) ∙ ap (since w.mid) (sym w.dropped))) w.work.lives (lives_gone w.mid new w.run.live w.dropped runs)

@@ -29,7 +29,9 @@ use Rattle.cc_run.specs.declared.error.RunError.TheVariants.{ToolNotFound, Faile
 use Rattle.cc_run.specs.declared.planned.Planned.{Planned}
 use Rattle.cc_run.specs.declared.planned.Shows.{Shows}
 use Rattle.cc_run.specs.declared.print.Line.{Line}
-use Rattle.cc_run.proofs.Quiet.{goes_prints, prints_missing, prints_faults, prints_abandoned, prints_turns, prints_starts, prints_loads, behind_missing, behind_faults, behind_abandoned, behind_turns, behind_starts, behind_loads}
+use Rattle.cc_run.specs.Life.{IsNewcomer}
+use Rattle.cc_run.proofs.LifeLemmas.{newcomer_behind}
+use Rattle.cc_run.proofs.Quiet.{goes_prints, prints_ids, prints_missing, prints_faults, prints_abandoned, prints_turns, prints_starts, prints_loads, behind_missing, behind_faults, behind_abandoned, behind_turns, behind_starts, behind_loads}
 use Rattle.cc_run.proofs.Runs.{goes_start, goes_then, goes_missing, goes_refused}
 
 run_with : List (ℕ × ℕ) → ℕ → Option (ℕ × Status) → Run
@@ -78,11 +80,11 @@ module _ (t : Option ℕ) (shows : Shows) (cmds : List Planned) (p : Planned) (h
   with_run id role cmd pipes e = ap (λ l. run_with l (old.begun + 1) old.failed) (sym (map-append seat old.children (record { id = id; place = old.begun; rest = [] } ∷ []))) ∙ ap run_of (sym e)
 
   -- a start goes on with the run
-  pub start_goes : (id : ℕ) → log' ≡ log ++ since log log' → IsStart shows p held old (Ok id) new (since log log') → old.begun < length cmds → p ≡ get_or cmds old.begun p → held ≡ length old.children + 1 → IfSome t (λ n. held ≤ n) → Goes t (asked shows cmds) log (run_of old) log' (run_of new)
-  start_goes id e s lt at h most =
+  pub start_goes : (id : ℕ) → log' ≡ log ++ since log log' → IsStart shows p held old (Ok id) new (since log log') → old.begun < length cmds → p ≡ get_or cmds old.begun p → held ≡ length old.children + 1 → IfSome t (λ n. held ≤ n) → IsNewcomer log id → Goes t (asked shows cmds) log (run_of old) log' (run_of new)
+  start_goes id e s lt at h most fresh =
       let all = asked shows cmds in
       let mid = log ++ prints (announced shows p.cmd) in
-      let go = goes_start t all mid log' (run_of old) id p.role p.cmd (pipes_of shows) held (cut (prints (announced shows p.cmd)) _ e s.0) (within_asked lt) (as_asked lt at) (h ∙ ap (λ n. n + 1) (sym (length-map old.children seat))) most in
+      let go = goes_start t all mid log' (run_of old) id p.role p.cmd (pipes_of shows) held (cut (prints (announced shows p.cmd)) _ e s.0) (within_asked lt) (as_asked lt at) (h ∙ ap (λ n. n + 1) (sym (length-map old.children seat))) most (newcomer_behind mid log id (sym (prints_ids log (announced shows p.cmd))) fresh) in
       subst (λ r. Goes t all log (run_of old) log' r) (with_run id p.role p.cmd (pipes_of shows) s.1) (goes_then t all log mid log' (run_of old) (run_of old) _ announce go)
 
   -- one that was refused leaves it

@@ -1,25 +1,29 @@
 -- Laws on the lines of the standard error of one child.
-use Rattle.std.proofs.Common.{◌≡◌, ℕ, ◌+◌, ◌<◌, ◌≤◌, zero, suc, Bool, true, false, cond, List, [], ◌∷◌, ◌++◌, ◌==◌, ◌&&◌, not, length, map, take, drop, refl, sym, ◌∙◌, ap, subst, append_assoc, arith, if◌then◌else◌}
+use Rattle.std.proofs.Common.{◌≡◌, ℕ, ◌+◌, ◌<◌, ◌≤◌, zero, suc, Bool, true, false, cond, List, [], ◌∷◌, ◌++◌, ◌==◌, ◌&&◌, ◌||◌, not, length, map, take, drop, refl, sym, ◌∙◌, ap, subst, append_assoc, arith, if◌then◌else◌}
 use Rattle.std.specs.Prelude.{Result, Option, filter, option_to_list}
-use Rattle.std.specs.List.{flat_map}
+use Rattle.std.specs.List.{flat_map, list_any, Contains}
 use Rattle.std.proofs.lemmas.Bool.{eqb-true, eq-eqb}
 use Rattle.std.proofs.lemmas.List.{append-nil, map-append, length-map}
 use Rattle.std.proofs.lemmas.List.Elements.{filter-append}
 use Rattle.cc_text.specs.Words.{when}
+use Rattle.cc_host.specs.Children.{started_ids}
 use Rattle.cc_host.specs.Command.{CommandSeen}
 use Rattle.cc_host.specs.Status.{is_success}
 use Rattle.cc_host.specs.declared.event.Event.{Event}
 use Rattle.cc_host.specs.declared.event.Event.TheVariants.{Started, Ended, Abandoned, Heard, Unread, Turn, Answered, Reused, Unasked, Drawn, Opened, Taken, Dropped as DroppedFiles, Ran, Missing, Made, Removed, Printed, Listed, Fault}
+use Rattle.cc_host.specs.declared.event.Pipes.{Pipes}
+use Rattle.cc_host.specs.declared.event.Role.{Role}
 use Rattle.cc_host.specs.declared.event.Status.{Status}
 use Rattle.cc_host.specs.declared.event.LineKind.TheVariants.{Warning}
-use Rattle.cc_run.specs.Children.{Kept, without_child}
+use Rattle.cc_run.specs.Children.{Kept, nothing_kept, without_child}
 use Rattle.cc_run.specs.Forwarded.{fed, emptied, heard_lines, rest_lines, unread_lines, ended_lines}
 use Rattle.cc_run.specs.Hearing.{at_child, of_child, end_lines}
 use Rattle.cc_run.specs.Lines.{IsUncut, lines, whole_lines, rest_of, last_line}
 use Rattle.cc_run.specs.Part.{started, started_of}
 use Rattle.cc_run.specs.Printing.{kept_after, due, due_from, IsPrinted}
-use Rattle.cc_run.specs.Stderr.{is_of, events_of, Close, closing, IsChild, joined, forwarded, is_stderr, stderr_printed, stderr_given, IsForwarded}
-use Rattle.cc_run.specs.Stderr.Close.{AtEnd, UnreadAtEnd, Dropped, UnreadDropped}
+use Rattle.cc_run.specs.Life.{Life, life_after, life_from, LivesOn}
+use Rattle.cc_run.specs.Life.Life.{Unstarted, Runs, Unreadable, Closed, Amiss}
+use Rattle.cc_run.specs.Stderr.{is_of, heard_of, heard, is_over, lines_by, is_stderr, stderr_printed, stderr_given, IsForwarded}
 use Rattle.cc_run.specs.Texts.{announced, cargo_line, stderr_line, debug_line, ended_text, failed_line, unread_text}
 use Rattle.cc_run.specs.declared.error.RunError.{RunError}
 use Rattle.cc_run.specs.declared.planned.Planned.{Planned}
@@ -34,6 +38,7 @@ use Rattle.cc_run.specs.Run.{gone}
 use Rattle.cc_run.specs.Solo.{IsSolo}
 use Rattle.cc_run.specs.Whole.{IsRun}
 use Rattle.cc_run.proofs.SiftLemmas.{filter_when, when_none, filter_flat, begun_after, sifted}
+use Rattle.cc_run.proofs.LifeLemmas.{own_by, own_if, skips, amiss_from, part_sound}
 use Rattle.cc_run.proofs.LineLemmas.{rest_uncut, whole_both, lines_both, uncut_whole, uncut_lines}
 
 -- the children of that id
@@ -44,11 +49,9 @@ when_both : (b : Bool) (xs ys : List Line) → when b xs ++ when b ys ≡ when b
 when_both true xs ys = refl
 when_both false xs ys = refl
 
-forwarded_both : (close : Close) (x q : List ℕ) → forwarded close (x ++ q) ≡ whole_lines x ++ forwarded close (rest_of x ++ q)
-forwarded_both (AtEnd s) x q = lines_both x q
-forwarded_both (UnreadAtEnd s) x q = lines_both x q
-forwarded_both Dropped x q = whole_both x q
-forwarded_both UnreadDropped x q = lines_both x q
+lines_by_both : (b : Bool) (x q : List ℕ) → lines_by b (x ++ q) ≡ whole_lines x ++ lines_by b (rest_of x ++ q)
+lines_by_both true x q = lines_both x q
+lines_by_both false x q = whole_both x q
 
 module _ (id : ℕ) where
   own_is : (n : ℕ) → n ≡ id → (n == id) ≡ true
@@ -196,113 +199,217 @@ module _ (shows : Shows) (tells : Bool) (cmds : List Planned) (id : ℕ) where
   given_skip : (k : Kept) (e : Event) (es : List Event) → is_of id e ≡ false → given k (e ∷ es) ≡ given (kept_after k e) es
   given_skip k e es ne = given_more k e es ∙ ap (λ l. l ++ given (kept_after k e) es) (other_event id shows tells cmds k e ne).1
 
-  -- a place where the next event of the child stands
-  record Reaches (k : Kept) (es : List Event) (e : Event) (more : List Event) : Type 0 where
-    now : Kept
-    rest : List Event
-    gives : given k es ≡ filter (is_stderr id) (due shows tells cmds now e) ++ given (kept_after now e) rest
-    own : mine id now.children ≡ mine id k.children
-    events : events_of id rest ≡ more
-    many : now.begun + length (started (e ∷ rest)) ≡ k.begun + length (started es)
+  as_lines : List (List ℕ) → List Line
+  as_lines ls = when shows.warnings (map (stderr_line id) ls)
 
-  reach : (k : Kept) (es : List Event) (e : Event) (more : List Event) → events_of id es ≡ e ∷ more → Reaches k es e more
-  reach k [] e more h = absurd (cc)
-  reach k (x ∷ es) e more h = at (is_of id x) refl h (reach (kept_after k x) es e more)
-    where
-      at : (b : Bool) → is_of id x ≡ b → cond b (x ∷ events_of id es) (events_of id es) ≡ e ∷ more → (events_of id es ≡ e ∷ more → Reaches (kept_after k x) es e more) → Reaches k (x ∷ es) e more
-      at true is h further =
-          let one : x ≡ e = cc in
-          record {
-            now = k;
-            rest = es;
-            gives = given_more k x es ∙ ap (λ y. filter (is_stderr id) (due shows tells cmds k y) ++ given (kept_after k y) es) one;
-            own = refl;
-            events = cc;
-            many = ap (λ y. k.begun + length (started (y ∷ es))) (sym one);
-          }
-      at false is h further =
-          let r = further h in
-          record {
-            now = r.now;
-            rest = r.rest;
-            gives = given_skip k x es is ∙ r.gives;
-            own = r.own ∙ (other_event id shows tells cmds k x is).0;
-            events = r.events;
-            many = r.many ∙ begun_after k x es;
-          }
+  no_lines : as_lines [] ≡ []
+  unfolding as_lines
+  no_lines = when_none shows.warnings
 
-  -- no child of that id runs or is started
-  absent : (k : Kept) (es : List Event) → events_of id es ≡ [] → given k es ≡ []
+  -- an event of another child is none of its standard error
+  reads_other : (e : Event) → is_of id e ≡ false → (heard_of id e ≡ []) × (is_over id e ≡ false)
+  reads_other (Started n role cmd pipes held) ne = (refl, refl)
+  reads_other (Heard n p) ne = (ap (λ b. if b then p else []) ne, refl)
+  reads_other (Unread n) ne = (refl, ne)
+  reads_other (Ended n s) ne = (refl, ne)
+  reads_other (Abandoned n) ne = (refl, refl)
+  reads_other (Turn n) ne = (refl, refl)
+  reads_other (Answered q f o) ne = (refl, refl)
+  reads_other (Reused q v) ne = (refl, refl)
+  reads_other (Unasked q) ne = (refl, refl)
+  reads_other (Drawn w) ne = (refl, refl)
+  reads_other (Opened p b) ne = (refl, refl)
+  reads_other (Taken p) ne = (refl, refl)
+  reads_other (DroppedFiles p) ne = (refl, refl)
+  reads_other (Ran role cmd pipes status out err) ne = (refl, refl)
+  reads_other (Missing role cmd) ne = (refl, refl)
+  reads_other (Made scope p) ne = (refl, refl)
+  reads_other (Removed p how) ne = (refl, refl)
+  reads_other (Printed kind b) ne = (refl, refl)
+  reads_other (Listed vars) ne = (refl, refl)
+  reads_other (Fault call why) ne = (refl, refl)
+
+  -- these events aren't amiss for a child that is there
+  abbrev Sound : Life → List Event → Type 0
+  Sound l es = life_from id l es ≡ Amiss → ⊥
+
+  sound_on : (l m : Life) (e : Event) (es : List Event) → life_after id l e ≡ m → Sound l (e ∷ es) → Sound m es
+  sound_on l m e es x h = λ y. h (ap (λ k. life_from id k es) x ∙ y)
+
+  unsound : (l : Life) (e : Event) (es : List Event) → life_after id l e ≡ Amiss → Sound l (e ∷ es) → ⊥
+  unsound l e es x h = h (ap (λ k. life_from id k es) x ∙ amiss_from id es)
+
+  abbrev over : List Event → Bool
+  over = list_any (is_over id)
+
+  -- behind the close of the child nothing comes
+  record IsSilent (k : Kept) (es : List Event) : Type 0 where
+    none_given : given k es ≡ []
+    none_heard : heard id es ≡ []
+    none_over : over es ≡ false
+
+  behind_close : (k : Kept) (es : List Event) → Sound Closed es → mine id k.children ≡ [] → IsSilent k es
   unfolding given
-  absent k [] h = refl
-  absent k (x ∷ es) h = at (is_of id x) refl h (absent (kept_after k x) es)
+  behind_close k [] h none = record { none_given = refl; none_heard = refl; none_over = refl }
+  behind_close k (e ∷ es) h none = at (is_of id e) refl (behind_close (kept_after k e) es)
     where
-      at : (b : Bool) → is_of id x ≡ b → cond b (x ∷ events_of id es) (events_of id es) ≡ [] → (events_of id es ≡ [] → given (kept_after k x) es ≡ []) → given k (x ∷ es) ≡ []
-      at true is h further = absurd (cc)
-      at false is h further = given_skip k x es is ∙ further h
+      at : (b : Bool) → is_of id e ≡ b → (Sound Closed es → mine id (kept_after k e).children ≡ [] → IsSilent (kept_after k e) es) → IsSilent k (e ∷ es)
+      at true is further = absurd (unsound Closed e es (own_by id (λ x. life_after id Closed x ≡ Amiss) (λ _ _ _ _. own_if id Amiss Closed) (λ _. own_if id Amiss Closed) (own_if id Amiss Closed) (λ _. own_if id Amiss Closed) (own_if id Amiss Closed) e is) h)
+      at false is further =
+          let s = further (sound_on Closed Closed e es ((skips id e is).life Closed) h) ((other_event id shows tells cmds k e is).0 ∙ none) in
+          let r = reads_other e is in
+          record {
+            none_given = given_skip k e es is ∙ s.none_given;
+            none_heard = ap (λ x. x ++ heard id es) r.0 ∙ s.none_heard;
+            none_over = ap (λ b. b || over es) r.1 ∙ s.none_over;
+          }
 
-  -- the end of the child
-  ends : (k : Kept) (es : List Event) (c : Child) (s : Status) → mine id k.children ≡ c ∷ [] → c.id ≡ id → c.place < length cmds → events_of id es ≡ Ended id s ∷ [] → given k es ≡ when shows.warnings (map (stderr_line id) (option_to_list (last_line c.rest)))
-  ends k es c s one is lt h =
-      let r = reach k es (Ended id s) [] h in
-      r.gives
-      ∙ ap (λ l. filter (is_stderr id) l ++ given (kept_after r.now (Ended id s)) r.rest) (own_of id (end_lines shows tells cmds s) r.now.children c (r.own ∙ one))
-      ∙ ap (λ l. filter (is_stderr id) (end_lines shows tells cmds s c) ++ l) (absent (kept_after r.now (Ended id s)) r.rest r.events)
+  ended_child : (k : Kept) (es : List Event) (c : Child) (s : Status) → mine id k.children ≡ c ∷ [] → c.id ≡ id → c.place < length cmds → given (kept_after k (Ended id s)) es ≡ [] → given k (Ended id s ∷ es) ≡ as_lines (option_to_list (last_line c.rest))
+  unfolding as_lines
+  ended_child k es c s one is lt none =
+      given_more k (Ended id s) es
+      ∙ ap (λ l. filter (is_stderr id) l ++ given (kept_after k (Ended id s)) es) (own_of id (end_lines shows tells cmds s) k.children c one)
+      ∙ ap (λ l. filter (is_stderr id) (end_lines shows tells cmds s c) ++ l) none
       ∙ append-nil _ ∙ end_own id shows tells cmds s c lt ∙ rest_own id shows c is
 
-  drops : (k : Kept) (es : List Event) → events_of id es ≡ Abandoned id ∷ [] → given k es ≡ []
-  drops k es h =
-      let r = reach k es (Abandoned id) [] h in
-      r.gives ∙ absent (kept_after r.now (Abandoned id)) r.rest r.events
-
-  -- the rest where no more can be read
-  unreads : (k : Kept) (es more : List Event) (c : Child) → mine id k.children ≡ c ∷ [] → c.id ≡ id → events_of id es ≡ Unread id ∷ more → ((now : Kept) (rest : List Event) → mine id now.children ≡ emptied c ∷ [] → events_of id rest ≡ more → given now rest ≡ []) → given k es ≡ when shows.warnings (map (stderr_line id) (option_to_list (last_line c.rest)))
-  unreads k es more c one is h behind =
-      let r = reach k es (Unread id) more h in
-      r.gives
-      ∙ ap (λ l. filter (is_stderr id) l ++ given (kept_after r.now (Unread id)) r.rest) (own_of id (unread_lines shows) r.now.children c (r.own ∙ one))
-      ∙ ap (λ l. filter (is_stderr id) (unread_lines shows c) ++ l) (behind (kept_after r.now (Unread id)) r.rest (own_at id emptied (λ x. refl) r.now.children c (r.own ∙ one)) r.events)
+  unread_child : (k : Kept) (es : List Event) (c : Child) → mine id k.children ≡ c ∷ [] → c.id ≡ id → given (kept_after k (Unread id)) es ≡ [] → given k (Unread id ∷ es) ≡ as_lines (option_to_list (last_line c.rest))
+  unfolding as_lines
+  unread_child k es c one is none =
+      given_more k (Unread id) es
+      ∙ ap (λ l. filter (is_stderr id) l ++ given (kept_after k (Unread id)) es) (own_of id (unread_lines shows) k.children c one)
+      ∙ ap (λ l. filter (is_stderr id) (unread_lines shows c) ++ l) none
       ∙ append-nil _ ∙ unread_rest id shows c ∙ rest_own id shows c is
 
-  as_rest : (r : List ℕ) → IsUncut r → when shows.warnings (map (stderr_line id) (option_to_list (last_line r))) ≡ when shows.warnings (map (stderr_line id) (lines r))
-  as_rest r u = ap (λ l. when shows.warnings (map (stderr_line id) l)) (sym (uncut_lines r u))
+  gone_child : (k : Kept) (es : List Event) → given (kept_after k (Abandoned id)) es ≡ [] → given k (Abandoned id ∷ es) ≡ []
+  gone_child k es none = given_more k (Abandoned id) es ∙ none
 
-  closes : (close : Close) (k : Kept) (es : List Event) (c : Child) → mine id k.children ≡ c ∷ [] → c.id ≡ id → c.place < length cmds → IsUncut c.rest → events_of id es ≡ closing id close → given k es ≡ when shows.warnings (map (stderr_line id) (forwarded close c.rest))
-  closes (AtEnd s) k es c one is lt u h = ends k es c s one is lt h ∙ as_rest c.rest u
-  closes (UnreadAtEnd s) k es c one is lt u h = unreads k es (Ended id s ∷ []) c one is h (λ now rest own ev. ends now rest (emptied c) s own is lt ev ∙ when_none shows.warnings) ∙ as_rest c.rest u
-  closes Dropped k es c one is lt u h = drops k es h ∙ sym (ap (λ l. when shows.warnings (map (stderr_line id) l)) (uncut_whole c.rest u) ∙ when_none shows.warnings)
-  closes UnreadDropped k es c one is lt u h = unreads k es (Abandoned id ∷ []) c one is h (λ now rest own ev. drops now rest ev) ∙ as_rest c.rest u
+  without_one : (k : Kept) (c : Child) → mine id k.children ≡ c ∷ [] → mine id (without_child id k.children) ≡ []
+  without_one k c one = own_without id k.children c one
 
-  -- the pieces that a child gave
-  hears : (ps : List (List ℕ)) (close : Close) (k : Kept) (es : List Event) (c : Child) → mine id k.children ≡ c ∷ [] → c.id ≡ id → c.place < length cmds → IsUncut c.rest → events_of id es ≡ map (Heard id) ps ++ closing id close → given k es ≡ when shows.warnings (map (stderr_line id) (forwarded close (c.rest ++ joined ps)))
-  hears [] close k es c one is lt u h = closes close k es c one is lt u h ∙ ap (λ r. when shows.warnings (map (stderr_line id) (forwarded close r))) (sym (append-nil c.rest))
-  hears (p ∷ ps) close k es c one is lt u h =
-      let r = reach k es (Heard id p) (map (Heard id) ps ++ closing id close) h in
-      let x = c.rest ++ p in
-      r.gives
-      ∙ ap (λ l. filter (is_stderr id) l ++ given (kept_after r.now (Heard id p)) r.rest) (own_of id (λ d. heard_lines shows d p) r.now.children c (r.own ∙ one))
-      ∙ ap (λ l. l ++ given (kept_after r.now (Heard id p)) r.rest) (heard_own id shows c p is)
-      ∙ ap (λ l. when shows.warnings (map (stderr_line id) (whole_lines x)) ++ l) (hears ps close (kept_after r.now (Heard id p)) r.rest (fed p c) (own_at id (fed p) (λ d. refl) r.now.children c (r.own ∙ one)) is lt (rest_uncut x) r.events)
-      ∙ when_both shows.warnings _ _
-      ∙ ap (when shows.warnings) (sym (map-append (stderr_line id) (whole_lines x) (forwarded close (rest_of x ++ joined ps))))
-      ∙ ap (λ l. when shows.warnings (map (stderr_line id) l)) (sym (forwarded_both close x (joined ps)) ∙ ap (forwarded close) (append_assoc c.rest p (joined ps)))
+  -- where no more of its standard error can be read, nothing is left
+  unreadable : (k : Kept) (es : List Event) (c : Child) → Sound Unreadable es → mine id k.children ≡ c ∷ [] → c.id ≡ id → c.place < length cmds → c.rest ≡ [] → (given k es ≡ []) × (heard id es ≡ [])
+  unfolding given
+  unreadable k [] c h one is lt z = (refl, refl)
+  unreadable k (e ∷ es) c h one is lt z = at (is_of id e) refl (unreadable (kept_after k e) es)
+    where
+      empty : as_lines (option_to_list (last_line c.rest)) ≡ []
+      empty = ap (λ r. as_lines (option_to_list (last_line r))) z ∙ no_lines
+
+      by : (x : Event) → ((d : Child) → Sound Unreadable es → mine id (kept_after k x).children ≡ d ∷ [] → d.id ≡ id → d.place < length cmds → d.rest ≡ [] → (given (kept_after k x) es ≡ []) × (heard id es ≡ [])) → is_of id x ≡ true → Sound Unreadable (x ∷ es) → (given k (x ∷ es) ≡ []) × (heard id (x ∷ es) ≡ [])
+      by x further own = own_by id (λ x. ((d : Child) → Sound Unreadable es → mine id (kept_after k x).children ≡ d ∷ [] → d.id ≡ id → d.place < length cmds → d.rest ≡ [] → (given (kept_after k x) es ≡ []) × (heard id es ≡ [])) → Sound Unreadable (x ∷ es) → (given k (x ∷ es) ≡ []) × (heard id (x ∷ es) ≡ []))
+          (λ role cmd pipes held f s. absurd (unsound Unreadable (Started id role cmd pipes held) es (own_if id Amiss Unreadable) s))
+          (λ p f s. absurd (unsound Unreadable (Heard id p) es (own_if id Amiss Unreadable) s))
+          (λ f s.
+          let r = f (emptied c) (sound_on Unreadable Unreadable (Unread id) es (own_if id Unreadable Unreadable) s) (own_at id emptied (λ x. refl) k.children c one) is lt refl in
+          (unread_child k es c one is r.0 ∙ empty, r.1))
+          (λ st f s.
+          let r = behind_close (kept_after k (Ended id st)) es (sound_on Unreadable Closed (Ended id st) es (own_if id Closed Unreadable) s) (without_one k c one) in
+          (ended_child k es c st one is lt r.none_given ∙ empty, r.none_heard))
+          (λ f s.
+          let r = behind_close (kept_after k (Abandoned id)) es (sound_on Unreadable Closed (Abandoned id) es (own_if id Closed Unreadable) s) (without_one k c one) in
+          (gone_child k es r.none_given, r.none_heard))
+          x own further
+
+      at : (b : Bool) → is_of id e ≡ b → ((d : Child) → Sound Unreadable es → mine id (kept_after k e).children ≡ d ∷ [] → d.id ≡ id → d.place < length cmds → d.rest ≡ [] → (given (kept_after k e) es ≡ []) × (heard id es ≡ [])) → (given k (e ∷ es) ≡ []) × (heard id (e ∷ es) ≡ [])
+      at true own further = by e further own h
+      at false other further =
+          let r = further c (sound_on Unreadable Unreadable e es ((skips id e other).life Unreadable) h) ((other_event id shows tells cmds k e other).0 ∙ one) is lt z in
+          (given_skip k e es other ∙ r.0, ap (λ x. x ++ heard id es) (reads_other e other).0 ∙ r.1)
+
+  as_rest : (r : List ℕ) → IsUncut r → as_lines (option_to_list (last_line r)) ≡ as_lines (lines r)
+  as_rest r u = ap as_lines (sym (uncut_lines r u))
+
+  -- the lines of a child that runs
+  abbrev Gives : Kept → Child → List Event → Type 0
+  Gives k c es = given k es ≡ as_lines (lines_by (over es) (c.rest ++ heard id es))
+
+  runs : (k : Kept) (es : List Event) (c : Child) → Sound Runs es → mine id k.children ≡ c ∷ [] → c.id ≡ id → c.place < length cmds → IsUncut c.rest → Gives k c es
+  unfolding given as_lines
+  runs k [] c h one is lt u = sym (ap (λ r. as_lines (whole_lines r)) (append-nil c.rest) ∙ ap as_lines (uncut_whole c.rest u) ∙ no_lines)
+  runs k (e ∷ es) c h one is lt u = at (is_of id e) refl (runs (kept_after k e) es)
+    where
+      on_heard : (p : List ℕ) → given (kept_after k (Heard id p)) es ≡ as_lines (lines_by (over es) (rest_of (c.rest ++ p) ++ heard id es)) → Gives k c (Heard id p ∷ es)
+      on_heard p rest =
+          let x = c.rest ++ p in
+          given_more k (Heard id p) es
+          ∙ ap (λ l. filter (is_stderr id) l ++ given (kept_after k (Heard id p)) es) (own_of id (λ d. heard_lines shows d p) k.children c one)
+          ∙ ap (λ l. l ++ given (kept_after k (Heard id p)) es) (heard_own id shows c p is)
+          ∙ ap (λ l. as_lines (whole_lines x) ++ l) rest
+          ∙ when_both shows.warnings _ _
+          ∙ ap (when shows.warnings) (sym (map-append (stderr_line id) (whole_lines x) (lines_by (over es) (rest_of x ++ heard id es))))
+          ∙ ap as_lines (sym (lines_by_both (over es) x (heard id es)) ∙ ap (lines_by (over es)) (append_assoc c.rest p (heard id es)) ∙ ap (λ q. lines_by (over es) (c.rest ++ (q ++ heard id es))) (sym (own_if id p [])))
+
+      on_end : (x : Event) → is_over id x ≡ true → heard_of id x ≡ [] → given k (x ∷ es) ≡ as_lines (option_to_list (last_line c.rest)) → heard id es ≡ [] → Gives k c (x ∷ es)
+      on_end x ends quiet g none =
+          g ∙ as_rest c.rest u
+          ∙ ap (λ r. as_lines (lines r)) (sym (ap (λ q. c.rest ++ (q ++ heard id es)) quiet ∙ ap (λ q. c.rest ++ q) none ∙ append-nil c.rest))
+          ∙ ap (λ b. as_lines (lines_by (b || over es) (c.rest ++ heard id (x ∷ es)))) (sym ends)
+
+      on_gone : given k (Abandoned id ∷ es) ≡ [] → heard id es ≡ [] → over es ≡ false → Gives k c (Abandoned id ∷ es)
+      on_gone g none still =
+          g ∙ sym no_lines ∙ ap as_lines (sym (uncut_whole c.rest u))
+          ∙ ap (λ r. as_lines (whole_lines r)) (sym (ap (λ q. c.rest ++ q) none ∙ append-nil c.rest))
+          ∙ ap (λ b. as_lines (lines_by b (c.rest ++ heard id es))) (sym still)
+
+      by : (x : Event) → ((d : Child) → Sound Runs es → mine id (kept_after k x).children ≡ d ∷ [] → d.id ≡ id → d.place < length cmds → IsUncut d.rest → Gives (kept_after k x) d es) → is_of id x ≡ true → Sound Runs (x ∷ es) → Gives k c (x ∷ es)
+      by x further own = own_by id (λ x. ((d : Child) → Sound Runs es → mine id (kept_after k x).children ≡ d ∷ [] → d.id ≡ id → d.place < length cmds → IsUncut d.rest → Gives (kept_after k x) d es) → Sound Runs (x ∷ es) → Gives k c (x ∷ es))
+          (λ role cmd pipes held f s. absurd (unsound Runs (Started id role cmd pipes held) es (own_if id Amiss Runs) s))
+          (λ p f s. on_heard p (f (fed p c) (sound_on Runs Runs (Heard id p) es (own_if id Runs Runs) s) (own_at id (fed p) (λ d. refl) k.children c one) is lt (rest_uncut (c.rest ++ p))))
+          (λ f s.
+          let r = unreadable (kept_after k (Unread id)) es (emptied c) (sound_on Runs Unreadable (Unread id) es (own_if id Unreadable Runs) s) (own_at id emptied (λ x. refl) k.children c one) is lt refl in
+          on_end (Unread id) (eq-eqb id id refl) refl (unread_child k es c one is r.0) r.1)
+          (λ st f s.
+          let r = behind_close (kept_after k (Ended id st)) es (sound_on Runs Closed (Ended id st) es (own_if id Closed Runs) s) (without_one k c one) in
+          on_end (Ended id st) (eq-eqb id id refl) refl (ended_child k es c st one is lt r.none_given) r.none_heard)
+          (λ f s.
+          let r = behind_close (kept_after k (Abandoned id)) es (sound_on Runs Closed (Abandoned id) es (own_if id Closed Runs) s) (without_one k c one) in
+          on_gone (gone_child k es r.none_given) r.none_heard r.none_over)
+          x own further
+
+      at : (b : Bool) → is_of id e ≡ b → ((d : Child) → Sound Runs es → mine id (kept_after k e).children ≡ d ∷ [] → d.id ≡ id → d.place < length cmds → IsUncut d.rest → Gives (kept_after k e) d es) → Gives k c (e ∷ es)
+      at true own further = by e further own h
+      at false other further =
+          let r = reads_other e other in
+          given_skip k e es other ∙ further c (sound_on Runs Runs e es ((skips id e other).life Runs) h) ((other_event id shows tells cmds k e other).0 ∙ one) is lt u
+          ∙ ap (λ q. as_lines (lines_by (over es) (c.rest ++ (q ++ heard id es)))) (sym r.0)
+          ∙ ap (λ b. as_lines (lines_by (b || over es) (c.rest ++ heard id (e ∷ es)))) (sym r.1)
 
   -- The lines of a child that a part starts.
-  pub child_given : (pieces : List (List ℕ)) (close : Close) (k : Kept) (part : List Event) → IsChild id pieces close part → mine id k.children ≡ [] → k.begun + length (started part) ≤ length cmds → filter (is_stderr id) (due_from shows tells cmds k part) ≡ stderr_given shows id pieces close
+  starts : (k : Kept) (es : List Event) → Sound Unstarted es → mine id k.children ≡ [] → k.begun + length (started es) ≤ length cmds → given k es ≡ as_lines (lines_by (over es) (heard id es))
   unfolding given
-  child_given pieces close k part ch none few =
-      let e = Started id ch.role ch.cmd ch.pipes ch.held in
-      let r = reach k part e (map (Heard id) pieces ++ closing id close) ch.is in
-      let c : Child = record { id = id; place = r.now.begun; rest = [] } in
-      let own : mine id (kept_after r.now e).children ≡ c ∷ [] = filter-append (λ x. x.id == id) r.now.children (c ∷ []) ∙ ap (λ l. l ++ mine id (c ∷ [])) (r.own ∙ none) ∙ keep id c [] (eq-eqb id id refl) in
-      let lt : r.now.begun < length cmds = let m : r.now.begun + length (started (e ∷ r.rest)) ≡ k.begun + length (started part) = r.many in omega arith in
-      r.gives ∙ ap (λ l. l ++ given (kept_after r.now e) r.rest) (announced_other id shows ch.cmd)
-      ∙ hears pieces close (kept_after r.now e) r.rest c own refl lt tt r.events
+  starts k [] h none few = sym (ap as_lines (uncut_whole [] tt) ∙ no_lines)
+  starts k (e ∷ es) h none few = at (is_of id e) refl (starts (kept_after k e) es)
+    where
+      begins : (role : Role) (cmd : CommandSeen) (pipes : Pipes) (held : ℕ) → Sound Unstarted (Started id role cmd pipes held ∷ es) → k.begun + length (started (Started id role cmd pipes held ∷ es)) ≤ length cmds → given k (Started id role cmd pipes held ∷ es) ≡ as_lines (lines_by (over es) (heard id es))
+      begins role cmd pipes held s few =
+          let x = Started id role cmd pipes held in
+          let c : Child = record { id = id; place = k.begun; rest = [] } in
+          let own : mine id (kept_after k x).children ≡ c ∷ [] = filter-append (λ x. x.id == id) k.children (c ∷ []) ∙ ap (λ l. l ++ mine id (c ∷ [])) none ∙ keep id c [] (eq-eqb id id refl) in
+          given_more k x es ∙ ap (λ l. l ++ given (kept_after k x) es) (announced_other id shows cmd)
+          ∙ runs (kept_after k x) es c (sound_on Unstarted Runs x es (own_if id Runs Unstarted) s) own refl (omega (arith, few)) tt
 
--- What was printed of a child, by the answer.
-pub child_printed : {T : Type 0} (shows : Shows) (tells : Bool) (cmds : List Planned) (id : ℕ) (pieces : List (List ℕ)) (close : Close) (k : Kept) (part : List Event) (result : Result T RunError) → IsPrinted shows tells cmds k result part → IsChild id pieces close part → k.children ≡ [] → k.begun + length (started part) ≤ length cmds → IsForwarded result (stderr_printed id part) (stderr_given shows id pieces close)
-child_printed shows tells cmds id pieces close k part result q ch none few =
-    sifted (is_stderr id) shows tells cmds k part (stderr_given shows id pieces close) (announced_other id shows) (child_given shows tells cmds id pieces close k part ch (ap (mine id) none) few) result q
+      at : (b : Bool) → is_of id e ≡ b → (Sound Unstarted es → mine id (kept_after k e).children ≡ [] → (kept_after k e).begun + length (started es) ≤ length cmds → given (kept_after k e) es ≡ as_lines (lines_by (over es) (heard id es))) → given k (e ∷ es) ≡ as_lines (lines_by (over (e ∷ es)) (heard id (e ∷ es)))
+      at true own further = own_by id (λ x. Sound Unstarted (x ∷ es) → k.begun + length (started (x ∷ es)) ≤ length cmds → given k (x ∷ es) ≡ as_lines (lines_by (over (x ∷ es)) (heard id (x ∷ es))))
+          begins
+          (λ p s f. absurd (unsound Unstarted (Heard id p) es (own_if id Amiss Unstarted) s))
+          (λ s f. absurd (unsound Unstarted (Unread id) es (own_if id Amiss Unstarted) s))
+          (λ st s f. absurd (unsound Unstarted (Ended id st) es (own_if id Amiss Unstarted) s))
+          (λ s f. absurd (unsound Unstarted (Abandoned id) es (own_if id Amiss Unstarted) s))
+          e own h few
+      at false other further =
+          let r = reads_other e other in
+          given_skip k e es other ∙ further (sound_on Unstarted Unstarted e es ((skips id e other).life Unstarted) h) ((other_event id shows tells cmds k e other).0 ∙ none) (subst (λ n. n ≤ length cmds) (sym (begun_after k e es)) few)
+          ∙ ap (λ q. as_lines (lines_by (over es) (q ++ heard id es))) (sym r.0)
+          ∙ ap (λ b. as_lines (lines_by (b || over es) (heard id (e ∷ es)))) (sym r.1)
+
+  pub child_given : (k : Kept) (part : List Event) → (life_from id Unstarted part ≡ Amiss → ⊥) → k.children ≡ [] → k.begun + length (started part) ≤ length cmds → filter (is_stderr id) (due_from shows tells cmds k part) ≡ stderr_given shows id part
+  unfolding given as_lines
+  child_given k part h none few = starts k part h (ap (mine id) none) few
+
+-- What was printed of a child that was started, by the answer.
+pub child_printed : {T : Type 0} (shows : Shows) (tells : Bool) (cmds : List Planned) (id : ℕ) (old new : List Event) (result : Result T RunError) → LivesOn old new → Contains (started_ids (since old new)) id → IsPrinted shows tells cmds nothing_kept result (since old new) → 0 + length (started (since old new)) ≤ length cmds → IsForwarded result (stderr_printed id (since old new)) (stderr_given shows id (since old new))
+child_printed shows tells cmds id old new result lives has q few =
+    sifted (is_stderr id) shows tells cmds nothing_kept (since old new) (stderr_given shows id (since old new)) (announced_other id shows) (child_given shows tells cmds id nothing_kept (since old new) (part_sound id old new lives has) refl few) result q
 
 take_short : {X : Type 0} (n : ℕ) (xs : List X) → length (take n xs) ≤ length xs
 take_short zero xs = omega arith

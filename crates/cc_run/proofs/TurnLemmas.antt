@@ -5,7 +5,7 @@ use Rattle.std.specs.List.{flat_map}
 use Rattle.std.proofs.lemmas.List.{append-nil}
 use Rattle.std.proofs.lemmas.Grind.{flat_map-append}
 use Rattle.std.proofs.lemmas.List.Sums.{sum_by-append}
-use Rattle.cc_host.specs.Children.{Live, live_from}
+use Rattle.cc_host.specs.Children.{Live, live_from, IsNews}
 use Rattle.cc_host.specs.Event.{told}
 use Rattle.cc_host.specs.Part.{since}
 use Rattle.cc_host.proofs.Parts.{since_append}
@@ -122,9 +122,9 @@ goes_fault t cmds old new r (Err TurnsSpent) e = goes_prints t cmds old new r []
 goes_fault t cmds old new r (Err NoMemory) e = goes_prints t cmds old new r [] e
 
 -- a turn and what was printed behind it
-pub goes_news : (t : Option ℕ) (cmds : List Asked) (old mid new : List Event) (r r' : Run) (ns : List News) {T : Type 0} (result : Result T RunError) → mid ≡ old ++ Turn 1 ∷ flat_map told ns → new ≡ mid ++ since mid new → Spoken (fault_of_answer result) (since mid new) → r' ≡ run_from r (flat_map told ns) → r'.begun ≡ r.begun → BusyHere t (length cmds) r → Goes t cmds old r new r'
-goes_news t cmds old mid new r r' ns result a b s is same busy =
-    goes_then t cmds old mid new r r' r' (goes_turn t cmds old mid r r' ns a (sym is) same busy)
+pub goes_news : (t : Option ℕ) (cmds : List Asked) (old mid new : List Event) (r r' : Run) (ns : List News) {T : Type 0} (result : Result T RunError) → mid ≡ old ++ Turn 1 ∷ flat_map told ns → new ≡ mid ++ since mid new → Spoken (fault_of_answer result) (since mid new) → r' ≡ run_from r (flat_map told ns) → r'.begun ≡ r.begun → BusyHere t (length cmds) r → IsNews old ns → Goes t cmds old r new r'
+goes_news t cmds old mid new r r' ns result a b s is same busy news =
+    goes_then t cmds old mid new r r' r' (goes_turn t cmds old mid r r' ns a (sym is) same busy news)
     (goes_then t cmds mid (mid ++ prints s.lines) new r' r' r' (goes_prints t cmds mid (mid ++ prints s.lines) r' s.lines refl)
     (goes_fault t cmds (mid ++ prints s.lines) new r' result (b ∙ ap (λ l. mid ++ l) s.is ∙ sym (append_assoc mid _ _))))
 

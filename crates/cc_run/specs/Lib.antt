@@ -2,6 +2,7 @@ pub mod Children
 pub mod Debugging
 pub mod Forwarded
 pub mod Hearing
+pub mod Life
 pub mod Lines
 pub mod Outcome
 pub mod Output

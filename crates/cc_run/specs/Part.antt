@@ -7,6 +7,7 @@ use Rattle.cc_host.specs.declared.event.Role.{Role}
 use Rattle.cc_host.specs.declared.event.HostCall.{HostCall}
 use Rattle.cc_host.specs.declared.event.Event.{Event}
 use Rattle.cc_host.specs.declared.event.Event.TheVariants.{Started, Missing, Turn, Fault, Abandoned}
+use Rattle.cc_run.specs.Life.{LivesOn}
 use Rattle.cc_run.specs.Planned.{Asked}
 use Rattle.cc_run.specs.Run.{Run, run_from, Along}
 
@@ -79,7 +80,8 @@ pub record Steps (total : Option ℕ) (cmds : List Asked) (r : Run) (part : List
   pub within : Within total r part
   pub greedy : Greedy total (length cmds) r part
 
--- A log grew by such a part.
+-- A log grew by such a part, which takes each child on.
 pub record Goes (total : Option ℕ) (cmds : List Asked) (old : List Event) (r : Run) (new : List Event) (r' : Run) : Type 0 where
   pub extends : new ≡ old ++ since old new
   pub steps : Steps total cmds r (since old new) r'
+  pub lives : LivesOn old new

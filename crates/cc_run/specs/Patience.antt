@@ -10,12 +10,12 @@ use Rattle.cc_run.specs.Run.{Run, nothing, run_from}
 -- where patience is told, no more turns were made than that, for each command
 abbrev pub Bounded : Option ℕ → ℕ → List Event → Type 0
 Bounded None count part = Unit {0}
-Bounded (Some most) count part = 1 ≤ most → turns part ≤ most * count
+Bounded (Some most) count part = turns part ≤ most * count
 
 -- where patience is told, fewer turns were made than that, for each command
 abbrev pub Unspent : Option ℕ → ℕ → List Event → Type 0
 Unspent None count part = Unit {0}
-Unspent (Some most) count part = 1 ≤ most → turns part < most * count
+Unspent (Some most) count part = turns part < most * count
 
 -- no turn was made, or one, after which each child that runs was polled fewer times than the patience
 abbrev pub Waited : Option ℕ → List Event → List Event → Type 0

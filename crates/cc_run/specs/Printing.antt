@@ -1,10 +1,8 @@
 -- The lines that a run prints, read from its part.
-use Rattle.std.specs.Prelude.{◌≡◌, ℕ, Bool, true, false, List, [], ◌∷◌, ◌++◌, drop, take, map, Result, Ok, Err}
+use Rattle.std.specs.Prelude.{◌≡◌, ℕ, Bool, List, [], ◌∷◌, ◌++◌, drop, take, map, Result, Ok, Err}
 use Rattle.std.specs.List.{flat_map}
 use Rattle.cc_host.specs.declared.event.Event.{Event}
 use Rattle.cc_host.specs.declared.event.Event.TheVariants.{Started, Heard, Unread, Ended, Abandoned, Printed}
-use Rattle.cc_host.specs.declared.event.LineKind.{LineKind}
-use Rattle.cc_host.specs.declared.event.LineKind.TheVariants.{Warning, Stderr, Debug}
 use Rattle.cc_run.specs.Children.{Kept, seat, without_child}
 use Rattle.cc_run.specs.Forwarded.{fed, emptied}
 use Rattle.cc_run.specs.Hearing.{at_child, owed}
@@ -70,13 +68,3 @@ IsPrinted shows tells cmds kept (Err (StartFault place)) part = printed part ≡
 IsPrinted shows tells cmds kept (Err (HostFault call why)) part = (count : ℕ) × (printed part ≡ take count (due_next shows tells cmds kept part))
 IsPrinted shows tells cmds kept (Err NoMemory) part = (count : ℕ) × (printed part ≡ take count (due_next shows tells cmds kept part))
 IsPrinted shows tells cmds kept (Err _) part = printed part ≡ due_from shows tells cmds kept part
-
--- a run prints no line of such a kind
-abbrev pub is_foreign_kind : LineKind → Bool
-is_foreign_kind Warning = false
-is_foreign_kind (Stderr id) = false
-is_foreign_kind Debug = false
-is_foreign_kind _ = true
-
-abbrev pub is_foreign : Line → Bool
-is_foreign line = is_foreign_kind line.kind

@@ -2,6 +2,7 @@
 use Rattle.std.specs.Prelude.{◌≡◌, ◌≢◌, ◌++◌, List, [], take, length, None, Result, Err, OnOk, IfErr}
 use Rattle.cc_host.specs.Part.{since}
 use Rattle.cc_host.specs.declared.event.Event.{Event}
+use Rattle.cc_run.specs.Life.{LivesOn}
 use Rattle.cc_run.specs.Outcome.{missing_by, faults_by, IsDone, IsRunError, EndsAt}
 use Rattle.cc_run.specs.Paid.{loads}
 use Rattle.cc_run.specs.Part.{started, missing, faults, abandoned}
@@ -16,6 +17,7 @@ pub record Alone (cmds : List Asked) (old new : List Event) (r : Run) : Type 0 w
   pub run : run_from nothing (since old new) ≡ r
   pub begun : started (since old new) ≡ take r.begun cmds
   pub free : loads (since old new) ≡ 0
+  pub lives : LivesOn old new
 
 -- The log grew to a place where the run came to its end, and from there on only by a child that was abandoned.
 pub record IsSolo {T : Type 0} (cmds : List Asked) (old new : List Event) (result : Result T RunError) : Type 0 where

@@ -1,7 +1,7 @@
 // Runs a list of commands to their ends.
-ghost use Rattle.std.specs.Prelude.{◌≡◌, ◌++◌, ◌+◌, ◌≤◌, ◌<◌, ◌^◌, ◌⊎◌, length, true, false, OnOk, IfErr, IfSome, None, ◌*◌, ℕ, List, [], filter};
-ghost use Rattle.std.specs.List.{All, list_all};
-ghost use Rattle.cc_host.specs.Children.{InOrder, running as running_on};
+ghost use Rattle.std.specs.Prelude.{◌≡◌, ◌++◌, ◌+◌, ◌≤◌, ◌<◌, ◌^◌, ◌⊎◌, length, true, false, OnOk, IfErr, IfSome, None, ◌*◌, ℕ};
+ghost use Rattle.std.specs.List.{All, Contains, list_all};
+ghost use Rattle.cc_host.specs.Children.{InOrder, running as running_on, started_ids};
 ghost use Rattle.cc_host.specs.Part.{since};
 ghost use Rattle.cc_host.specs.declared.event.Role.TheVariants.{Compile};
 ghost use Rattle.cc_jobs.specs.Seats.{Rose};
@@ -13,9 +13,9 @@ ghost use Rattle.cc_run.specs.Paid.{Paid};
 ghost use Rattle.cc_run.specs.Part.{Goes, turns as turns_in};
 ghost use Rattle.cc_run.specs.Patience.{Bounded, Unspent, Waited, Lasts};
 ghost use Rattle.cc_run.specs.Planned.{asked};
-ghost use Rattle.cc_run.specs.Printing.{IsPrinted, kept_from, printed, is_foreign};
+ghost use Rattle.cc_run.specs.Printing.{IsPrinted, kept_from};
 ghost use Rattle.cc_run.specs.Run.{nothing, ids, gone};
-ghost use Rattle.cc_run.specs.Stderr.{Close, IsChild, IsForwarded, stderr_printed, stderr_given};
+ghost use Rattle.cc_run.specs.Stderr.{IsForwarded, stderr_printed, stderr_given};
 ghost use Rattle.cc_run.specs.Warned.{warnings_printed, warnings_from};
 ghost use Rattle.cc_run.specs.Whole.{IsRun};
 
@@ -200,12 +200,12 @@ pub fn run_all<W: World, H: Host<W>, J: Jobs>(
     ensures job_fault { result ≡ Err RunError.JobFault → Rose (J.faults seat.old) (J.faults seat.new) }
     ensures own { list_all is_of_run (since (H.log host.old) (H.log host.new)) ≡ true }
     ensures lines { IsPrinted shows.now true cmds.now nothing_kept result (since (H.log host.old) (H.log host.new)) }
-    ensures kinds { filter is_foreign (printed (since (H.log host.old) (H.log host.new))) ≡ [] }
-    ensures stderr { (id : ℕ) (pieces : List (List ℕ)) (close : Close) → IsChild id pieces close (since (H.log host.old) (H.log host.new)) → IsForwarded result (stderr_printed id (since (H.log host.old) (H.log host.new))) (stderr_given shows.now id pieces close) }
+    ensures stderr { (id : ℕ) → Contains (started_ids (since (H.log host.old) (H.log host.new))) id → IsForwarded result (stderr_printed id (since (H.log host.old) (H.log host.new))) (stderr_given shows.now id (since (H.log host.old) (H.log host.new))) }
     ensures debug { OnOk result (debug_printed (since (H.log host.old) (H.log host.new)) ≡ debug_from shows.now nothing (since (H.log host.old) (H.log host.new))) }
     ensures twice { shows.now.debug ≡ true → OnOk result (length (debug_printed (since (H.log host.old) (H.log host.new))) ≡ 2 * length cmds.now) }
     ensures warnings { IsForwarded result (warnings_printed (since (H.log host.old) (H.log host.new))) (warnings_from shows.now true cmds.now nothing (since (H.log host.old) (H.log host.new))) }
 {
+    let _least = host.log();
     let mut running = Running::new(alloc);
     let result = run_passes(alloc, host, jobs, seat, turns, cmds, &mut running, shows);
     drop_all(host, jobs, seat, &running);

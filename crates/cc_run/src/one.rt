@@ -1,6 +1,7 @@
 // Runs one command to its end, without a token.
-ghost use Rattle.std.specs.Prelude.{◌≡◌, ◌≢◌, ◌++◌, ◌+◌, ◌≤◌, ◌<◌, ◌^◌, ◌∷◌, [], length, OnOk, IfErr, IfSome, None, true, ℕ, List, filter, false};
-ghost use Rattle.std.specs.List.{list_all};
+ghost use Rattle.std.specs.Prelude.{◌≡◌, ◌≢◌, ◌++◌, ◌+◌, ◌≤◌, ◌<◌, ◌^◌, ◌∷◌, [], length, OnOk, IfErr, IfSome, None, true, ℕ, false};
+ghost use Rattle.std.specs.List.{Contains, list_all};
+ghost use Rattle.cc_host.specs.Children.{started_ids};
 ghost use Rattle.cc_host.specs.Part.{since};
 ghost use Rattle.cc_run.specs.Children.{ArePlaced, nothing_kept, run_of};
 ghost use Rattle.cc_run.specs.Debugging.{debug_printed, debug_from};
@@ -10,10 +11,10 @@ ghost use Rattle.cc_run.specs.Paid.{loads};
 ghost use Rattle.cc_run.specs.Part.{Goes, turns as turns_in};
 ghost use Rattle.cc_run.specs.Patience.{Bounded, Unspent, Lasts};
 ghost use Rattle.cc_run.specs.Planned.{asked};
-ghost use Rattle.cc_run.specs.Printing.{IsPrinted, printed, is_foreign};
+ghost use Rattle.cc_run.specs.Printing.{IsPrinted};
 ghost use Rattle.cc_run.specs.Run.{nothing};
 ghost use Rattle.cc_run.specs.Solo.{IsSolo};
-ghost use Rattle.cc_run.specs.Stderr.{Close, IsChild, IsForwarded, stderr_printed, stderr_given};
+ghost use Rattle.cc_run.specs.Stderr.{IsForwarded, stderr_printed, stderr_given};
 ghost use Rattle.cc_run.specs.Warned.{warnings_printed, warnings_from};
 
 use crate::all::{drop_all, outcome_of};
@@ -88,12 +89,12 @@ pub fn run_one<W: World, H: Host<W>>(
     ensures spent { result ≡ Err RunError.TurnsSpent → turns.new.left ≡ 0 }
     ensures own { list_all is_of_run (since (H.log host.old) (H.log host.new)) ≡ true }
     ensures lines { IsPrinted shows.now false (cmd.now ∷ []) nothing_kept result (since (H.log host.old) (H.log host.new)) }
-    ensures kinds { filter is_foreign (printed (since (H.log host.old) (H.log host.new))) ≡ [] }
-    ensures stderr { (id : ℕ) (pieces : List (List ℕ)) (close : Close) → IsChild id pieces close (since (H.log host.old) (H.log host.new)) → IsForwarded result (stderr_printed id (since (H.log host.old) (H.log host.new))) (stderr_given shows.now id pieces close) }
+    ensures stderr { (id : ℕ) → Contains (started_ids (since (H.log host.old) (H.log host.new))) id → IsForwarded result (stderr_printed id (since (H.log host.old) (H.log host.new))) (stderr_given shows.now id (since (H.log host.old) (H.log host.new))) }
     ensures debug { OnOk result (debug_printed (since (H.log host.old) (H.log host.new)) ≡ debug_from shows.now nothing (since (H.log host.old) (H.log host.new))) }
     ensures twice { shows.now.debug ≡ true → OnOk result (length (debug_printed (since (H.log host.old) (H.log host.new))) ≡ 2) }
     ensures warnings { IsForwarded result (warnings_printed (since (H.log host.old) (H.log host.new))) (warnings_from shows.now false (cmd.now ∷ []) nothing (since (H.log host.old) (H.log host.new))) }
 {
+    let _least = host.log();
     let mut running = Running::new(alloc);
     let (jobs, mut seat) = OneCaller::new(1);
     let Ok(Take::Token) = jobs.take(&mut seat) else {

@@ -4,6 +4,7 @@ ghost use Rattle.std.specs.List.{list_all};
 ghost use Rattle.cc_host.specs.Part.{since};
 ghost use Rattle.cc_jobs.specs.Seats.{Rose};
 ghost use Rattle.cc_run.specs.Children.{ArePlaced, run_of};
+ghost use Rattle.cc_run.specs.Life.{IsNewcomer};
 ghost use Rattle.cc_run.specs.Outcome.{IsTold, IsSpawnError, EndsAt};
 ghost use Rattle.cc_run.specs.Own.{is_of_run};
 ghost use Rattle.cc_run.specs.Paid.{Paid};
@@ -36,6 +37,7 @@ pub(crate) fn start<W: World, H: Host<W>>(
     ensures extends { H.log host.new ≡ H.log host.old ++ since (H.log host.old) (H.log host.new) }
     ensures patient { H.patience host.new ≡ H.patience host.old }
     ensures part { IsStart shows.now planned.now held running.old result running.new (since (H.log host.old) (H.log host.new)) }
+    ensures fresh { IfOk result (λ id. IsNewcomer (H.log host.old) id) }
     ensures placed { (bound : ℕ) → running.old.begun < bound → ArePlaced bound running.old → ArePlaced bound running.new }
 {
     running.children.reserve(1)?;

@@ -7,7 +7,7 @@ ghost use Rattle.cc_host.specs.Part.{since};
 ghost use Rattle.cc_host.specs.declared.event.Event.TheVariants.{Turn as OneTurn};
 ghost use Rattle.cc_run.specs.Children.{ArePlaced, run_of};
 ghost use Rattle.cc_run.specs.Hearing.{children_from, owed_from};
-ghost use Rattle.cc_run.specs.Outcome.{IsTold, IsWaitError, EndsAt, IsUnturned};
+ghost use Rattle.cc_run.specs.Outcome.{IsTold, IsWaitError, IsOpen, EndsAt, IsUnturned};
 ghost use Rattle.cc_run.specs.Own.{is_of_run, AreRunLines};
 ghost use Rattle.cc_run.specs.Paid.{starts, loads};
 ghost use Rattle.cc_run.specs.Part.{BusyHere, Goes, turns as turns_in};
@@ -192,6 +192,14 @@ fn step_of(running: &Running) -> Step
     }
 }
 
+// Whether every command was started and has ended.
+fn is_done(running: &Running, count: usize) -> bool
+    ensures yes { result ≡ true → IsOpen count (run_of running.now) → ⊥ }
+    ensures no { result ≡ false → IsOpen count (run_of running.now) }
+{
+    running.len() == 0 && running.started >= count
+}
+
 impl WaitState {
     /// The poll of a run that begins, where a failed command is told as a warning. It takes no memory.
     pub fn new() -> WaitState
@@ -227,10 +235,9 @@ impl WaitState {
         self.started = started;
     }
 
-    /// Makes one turn, forwards what it gives, and gives back the token of each child that ended. It is ready exactly
-    /// where no child of the run is left.
+    // Makes one turn, forwards what it gives, and gives back the token of each child that ended.
     #[tactic(auto, using(cc_host::proofs::Parts::since_append))]
-    pub fn poll<W: World, H: Host<W>, J: Jobs>(
+    fn wait<W: World, H: Host<W>, J: Jobs>(
         &mut self,
         alloc: Global,
         host: &mut H,
@@ -284,5 +291,55 @@ impl WaitState {
             Ok(()) => Ok(step_of(running)),
             Err(e) => Err(e),
         }
+    }
+
+    /// Makes one turn, forwards what it gives, and gives back the token of each child that ended. It is ready exactly
+    /// where no child of the run is left. Where every command was started and has ended, it makes no turn.
+    pub fn poll<W: World, H: Host<W>, J: Jobs>(
+        &mut self,
+        alloc: Global,
+        host: &mut H,
+        jobs: &J,
+        seat: &mut J::Seat,
+        turns: &mut Turns,
+        cmds: &[Planned],
+        running: &mut Running,
+        shows: &Shows,
+    ) -> Result<Step, RunError>
+        requires fits { J.fits jobs.now seat.old }
+        requires one_run { J.held seat.old ≡ length running.old.children }
+        requires placed { ArePlaced (length cmds.now) running.old }
+        requires few { turns.old.left + turns.old.used < 2 ^ 64 }
+        ensures fits { J.fits jobs.now seat.new }
+        ensures one_run { J.held seat.new ≡ length running.new.children }
+        ensures placed { ArePlaced (length cmds.now) running.new }
+        ensures total { J.total seat.new ≡ J.total seat.old }
+        ensures later { J.faults seat.old ≤ J.faults seat.new }
+        ensures counts { (J.taken seat.new ≡ J.taken seat.old) × (J.load seat.new ≡ J.load seat.old) }
+        ensures patient { H.patience host.new ≡ H.patience host.old }
+        ensures extends { H.log host.new ≡ H.log host.old ++ since (H.log host.old) (H.log host.new) }
+        ensures goes { BusyHere (J.total seat.old) (length (asked shows.now cmds.now)) (run_of running.old) → Goes (J.total seat.old) (asked shows.now cmds.now) (H.log host.old) (run_of running.old) (H.log host.new) (run_of running.new) }
+        ensures told { IsTold (asked shows.now cmds.now) result (since (H.log host.old) (H.log host.new)) }
+        ensures begun { running.new.begun ≡ running.old.begun }
+        ensures turns { turns.new.left + turns_in (since (H.log host.old) (H.log host.new)) ≡ turns.old.left }
+        ensures used { turns.new.used ≡ turns.old.used + turns_in (since (H.log host.old) (H.log host.new)) }
+        ensures one_turn { IsOpen (length cmds.now) (run_of running.old) → OnOk result (turns.new.left + 1 ≡ turns.old.left) }
+        ensures done { (IsOpen (length cmds.now) (run_of running.old) → ⊥) → (result ≡ Ok Step.Ready) × (H.log host.new ≡ H.log host.old) }
+        ensures waited { Waited (H.patience host.new) (H.log host.old) (H.log host.new) }
+        ensures starts { (starts (since (H.log host.old) (H.log host.new)) ≡ 0) × (loads (since (H.log host.old) (H.log host.new)) ≡ 0) }
+        ensures ends { IfErr result (EndsAt (H.log host.new)) }
+        ensures kind { IfErr result IsWaitError }
+        ensures spent { result ≡ Err RunError.TurnsSpent → (turns.old.left ≡ 0) × (running.new ≡ running.old) × IsOpen (length cmds.now) (run_of running.old) }
+        ensures ready { result ≡ Ok Step.Ready → (run_of running.new).live ≡ [] }
+        ensures pending { result ≡ Ok Step.Pending → 0 < length (run_of running.new).live }
+        ensures own { list_all is_of_run (since (H.log host.old) (H.log host.new)) ≡ true }
+        ensures tells { self.new.tells ≡ self.old.tells }
+        ensures kept { OnOk result (kept_from running.old (since (H.log host.old) (H.log host.new)) ≡ running.new) }
+        ensures lines { IsPrinted shows.now self.old.tells cmds.now running.old result (since (H.log host.old) (H.log host.new)) }
+    {
+        if is_done(running, cmds.len()) {
+            return Ok(Step::Ready);
+        }
+        self.wait(alloc, host, jobs, seat, turns, cmds, running, shows)
     }
 }

@@ -1,4 +1,11 @@
-use Rattle.std.proofs.Common.{Ok, ap, inl, Err, Bool}
+use Rattle.std.proofs.Common.{◌≡◌, Ok, ap, arith, inl, length, subst, sym, Err, Bool}
+use Rattle.std.proofs.lemmas.List.{length-map}
+use Rattle.cc_run.specs.Children.{run_of}
+use Rattle.cc_run.specs.Outcome.{IsOpen}
+use Rattle.cc_run.specs.Planned.{asked_by}
+use Rattle.cc_run.specs.declared.error.RunError.{RunError}
+use Rattle.cc_run.specs.declared.error.RunError.TheVariants.{TurnsSpent}
+use Rattle.cc_run.proofs.Payments.{paid_turn}
 use Rattle.cc_run.proofs.PassLemmas.{pass_goes}
 use Rattle.cc_run.proofs.PatienceLemmas.{waited_pass}
 use Rattle.cc_run.proofs.OwnLemmas.{own_then}
@@ -34,3 +41,15 @@ returns-in-Ok-poll-clause-lines g c = printed_then c.args.shows.now c.args.polls
 
 pub returns-in-Err-poll-clause-lines : goal.returns-in-Err-poll-clause-lines
 returns-in-Err-poll-clause-lines g c = printed_then {T = Bool} c.args.shows.now c.args.polls.now.1.tells c.args.cmds.now c.args.running.now c.poll.new.running (g.H.Host.log c.args.host.now) (g.H.Host.log c.poll.new.host) (g.H.Host.log c.poll-2.new.host) (Err c.in-Err-poll.e) c.poll.ensures.goes.extends c.poll-2.ensures.extends c.in-Ok.ensures.kept (c.in-Ok.ensures.lines c.args.polls.now.1.tells) c.in-Err-poll.ensures.lines
+
+pub returns-in-Ok-poll-clause-paid : goal.returns-in-Ok-poll-clause-paid
+returns-in-Ok-poll-clause-paid g c = paid_turn {T = Bool} {E = RunError} (g.H.Host.log c.args.host.now) (g.H.Host.log c.poll.new.host) (g.H.Host.log c.poll-2.new.host) (Ok c.both_ready.result) (length c.poll-2.new.running.children) (g.J.Jobs.taken c.args.seat.now) (g.J.Jobs.load c.args.seat.now) (g.J.Jobs.taken c.poll.new.seat) (g.J.Jobs.load c.poll.new.seat) (g.J.Jobs.taken c.poll-2.new.seat) (g.J.Jobs.load c.poll-2.new.seat) c.poll.ensures.goes.extends c.poll-2.ensures.extends c.in-Ok.ensures.paid c.poll-2.ensures.starts c.poll-2.ensures.counts
+
+pub returns-in-Err-poll-clause-paid : goal.returns-in-Err-poll-clause-paid
+returns-in-Err-poll-clause-paid g c = paid_turn {T = Bool} {E = RunError} (g.H.Host.log c.args.host.now) (g.H.Host.log c.poll.new.host) (g.H.Host.log c.poll-2.new.host) (Err c.in-Err-poll.e) (length c.poll-2.new.running.children) (g.J.Jobs.taken c.args.seat.now) (g.J.Jobs.load c.args.seat.now) (g.J.Jobs.taken c.poll.new.seat) (g.J.Jobs.load c.poll.new.seat) (g.J.Jobs.taken c.poll-2.new.seat) (g.J.Jobs.load c.poll-2.new.seat) c.poll.ensures.goes.extends c.poll-2.ensures.extends c.in-Ok.ensures.paid c.poll-2.ensures.starts c.poll-2.ensures.counts
+
+pub returns-in-Err-poll-clause-spent : goal.returns-in-Err-poll-clause-spent
+returns-in-Err-poll-clause-spent g c = λ e.
+    let is : c.in-Err-poll.e ≡ TurnsSpent = cc in
+    let s = c.in-Err-poll.ensures.spent (ap Err is) in
+    (omega (arith, s.0, c.poll-2.ensures.turns), subst (λ n. IsOpen n (run_of c.poll-2.new.running)) (sym (length-map c.args.cmds.now (asked_by c.args.shows.now))) (subst (λ k. IsOpen (length c.args.cmds.now) (run_of k)) (sym s.1) s.2))

@@ -1,4 +1,4 @@
-use Rattle.std.proofs.Common.{◌≡◌, arith, ◌∙◌, subst, sym, refl, length, true}
+use Rattle.std.proofs.Common.{◌≡◌, arith, ◌∙◌, subst, sym, length, true}
 use Rattle.std.proofs.lemmas.Grind.{common_steps}
 use Rattle.cc_host.specs.Part.{since}
 use Rattle.cc_run.specs.Children.{run_of, nothing_kept}
@@ -7,7 +7,6 @@ use Rattle.cc_run.specs.Planned.{asked}
 use Rattle.cc_run.specs.Run.{nothing}
 use Rattle.cc_run.specs.Part.{Goes, turns}
 use Rattle.cc_run.proofs.Drops.{goes_runs, goes_gone, turns_gone, missing_gone, faults_gone}
-use Rattle.cc_run.proofs.KindLemmas.{kinds_all}
 use Rattle.cc_run.proofs.PassLemmas.{as_many}
 use Rattle.cc_run.proofs.PatienceLemmas.{all_bound, all_unspent}
 use Rattle.cc_run.proofs.OwnLemmas.{own_dropped}
@@ -42,7 +41,7 @@ returns-clause-outcome g c =
       work = w;
       kept = c.run_passes-result.ensures.told.2;
       dropped = c.drop_all.ensures.adds;
-      whole = goes_gone w c.drop_all.ensures.adds;
+      whole = goes_gone w c.drop_all.ensures.adds tt;
       missing_is = missing_gone live w c.drop_all.ensures.adds ∙ c.run_passes-result.ensures.told.0;
       faults_are = faults_gone live w c.drop_all.ensures.adds ∙ c.run_passes-result.ensures.told.1;
       done = c.run_passes-result.ensures.done;
@@ -52,10 +51,10 @@ returns-clause-outcome g c =
     }
 
 pub returns-clause-bound : goal.returns-clause-bound
-returns-clause-bound g c = all_bound c.args.shows.now c.args.cmds.now (g.H.Host.log c.args.host.now) (g.H.Host.log c.run_passes-result.new.host) (g.H.Host.log c.drop_all.new.host) c.new-running.result (run_of c.run_passes-result.new.running) c.new-running.ensures c.run_passes-result.ensures.within c.drop_all.ensures.adds (g.J.Jobs.total c.args.seat.now) (g.H.Host.patience c.args.host.now) c.run_passes-result.ensures.goes c.run_passes-result.ensures.lasts
+returns-clause-bound g c = all_bound c.args.shows.now c.args.cmds.now (g.H.Host.log c.args.host.now) (g.H.Host.log c.run_passes-result.new.host) (g.H.Host.log c.drop_all.new.host) c.new-running.result (run_of c.run_passes-result.new.running) c.new-running.ensures c.run_passes-result.ensures.within c.drop_all.ensures.adds (g.J.Jobs.total c.args.seat.now) (g.H.Host.patience c.args.host.now) c.log-least.ensures.least c.run_passes-result.ensures.goes c.run_passes-result.ensures.lasts
 
 pub returns-clause-enough : goal.returns-clause-enough
-returns-clause-enough g c = λ e. all_unspent c.args.shows.now c.args.cmds.now (g.H.Host.log c.args.host.now) (g.H.Host.log c.run_passes-result.new.host) (g.H.Host.log c.drop_all.new.host) c.new-running.result (run_of c.run_passes-result.new.running) c.new-running.ensures c.run_passes-result.ensures.within c.drop_all.ensures.adds (g.J.Jobs.total c.args.seat.now) (g.H.Host.patience c.args.host.now) c.run_passes-result.result c.run_passes-result.ensures.goes c.run_passes-result.ensures.lasts c.run_passes-result.ensures.cause e
+returns-clause-enough g c = λ e. all_unspent c.args.shows.now c.args.cmds.now (g.H.Host.log c.args.host.now) (g.H.Host.log c.run_passes-result.new.host) (g.H.Host.log c.drop_all.new.host) c.new-running.result (run_of c.run_passes-result.new.running) c.new-running.ensures c.run_passes-result.ensures.within c.drop_all.ensures.adds (g.J.Jobs.total c.args.seat.now) (g.H.Host.patience c.args.host.now) c.run_passes-result.result c.log-least.ensures.least c.run_passes-result.ensures.goes c.run_passes-result.ensures.lasts c.run_passes-result.ensures.cause e
 
 pub returns-clause-own : goal.returns-clause-own
 returns-clause-own g c = own_dropped (g.H.Host.log c.args.host.now) (g.H.Host.log c.run_passes-result.new.host) (g.H.Host.log c.drop_all.new.host) (run_of c.run_passes-result.new.running).live c.run_passes-result.ensures.goes.extends c.drop_all.ensures.adds c.run_passes-result.ensures.own
@@ -69,7 +68,7 @@ returns-clause-lines g c =
 pub returns-clause-stderr : goal.returns-clause-stderr
 returns-clause-stderr g c =
     let few = few_run (g.J.Jobs.total c.args.seat.now) c.args.shows.now c.args.cmds.now (g.H.Host.log c.args.host.now) (g.H.Host.log c.drop_all.new.host) c.run_passes-result.result (g.J.Jobs.taken c.args.seat.now) (g.J.Jobs.load c.args.seat.now) (g.J.Jobs.taken c.drop_all.new.seat) (g.J.Jobs.load c.drop_all.new.seat) (returns-clause-outcome g c) in
-    λ id pieces close ch. child_printed c.args.shows.now true c.args.cmds.now id pieces close nothing_kept (since (g.H.Host.log c.args.host.now) (g.H.Host.log c.drop_all.new.host)) c.run_passes-result.result (returns-clause-lines g c) ch refl few
+    λ id has. child_printed c.args.shows.now true c.args.cmds.now id (g.H.Host.log c.args.host.now) (g.H.Host.log c.drop_all.new.host) c.run_passes-result.result (returns-clause-outcome g c).whole.lives has (returns-clause-lines g c) few
 
 pub returns-clause-debug : goal.returns-clause-debug
 returns-clause-debug g c =
@@ -85,6 +84,3 @@ pub returns-clause-twice : goal.returns-clause-twice
 returns-clause-twice g c =
     let w : Goes (g.J.Jobs.total c.args.seat.now) (asked c.args.shows.now c.args.cmds.now) (g.H.Host.log c.args.host.now) nothing (g.H.Host.log c.run_passes-result.new.host) (run_of c.run_passes-result.new.running) = subst (λ k. Goes (g.J.Jobs.total c.args.seat.now) (asked c.args.shows.now c.args.cmds.now) (g.H.Host.log c.args.host.now) (run_of k) (g.H.Host.log c.run_passes-result.new.host) (run_of c.run_passes-result.new.running)) c.new-running.ensures c.run_passes-result.ensures.goes in
     debug_twice c.args.shows.now c.args.cmds.now (g.H.Host.log c.args.host.now) (g.H.Host.log c.run_passes-result.new.host) (g.H.Host.log c.drop_all.new.host) (run_of c.run_passes-result.new.running) c.run_passes-result.result (returns-clause-debug g c) c.drop_all.ensures.adds w.steps.run w.steps.asked c.run_passes-result.ensures.done c.run_passes-result.ensures.told.2
-
-pub returns-clause-kinds : goal.returns-clause-kinds
-returns-clause-kinds g c = kinds_all c.args.shows.now true c.args.cmds.now nothing_kept (since (g.H.Host.log c.args.host.now) (g.H.Host.log c.drop_all.new.host)) c.run_passes-result.result (returns-clause-lines g c)

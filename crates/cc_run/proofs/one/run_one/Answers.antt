@@ -1,21 +1,20 @@
-use Rattle.std.proofs.Common.{◌≡◌, ◌≤◌, ◌+◌, [], ◌∷◌, Ok, Err, subst, ap, arith, get_or, refl, false, sym}
+use Rattle.std.proofs.Common.{◌≡◌, ◌≤◌, ◌+◌, [], ◌∷◌, Ok, Err, subst, ap, arith, get_or, false, sym}
 use Rattle.std.specs.Prelude.{Some, None, OnOk, IfErr, length}
 use Rattle.cc_host.specs.Part.{since}
 use Rattle.cc_host.proofs.Parts.{since_extends}
-use Rattle.cc_run.specs.Children.{nothing_kept, run_of}
+use Rattle.cc_run.specs.Children.{run_of}
 use Rattle.cc_run.specs.Outcome.{IsTold, IsDone, IsRunError}
 use Rattle.cc_run.specs.Part.{Goes, turns}
 use Rattle.cc_run.specs.Planned.{asked}
 use Rattle.cc_run.proofs.Drops.{goes_runs, begun_runs}
 use Rattle.cc_run.specs.Patience.{Lasts}
 use Rattle.cc_run.proofs.PatienceLemmas.{whole_bound, whole_unspent, open_at, calm_bound, calm_unspent}
-use Rattle.cc_run.proofs.SoloLemmas.{alone_start, solo_unstarted, solo_whole, solo_turns, turns_pair, alone_then, told_pair}
+use Rattle.cc_run.proofs.SoloLemmas.{alone_start, solo_lives, solo_unstarted, solo_whole, solo_turns, turns_pair, alone_then, told_pair}
 use Rattle.cc_run.proofs.StartLemmas.{start_told, start_turns}
 use Rattle.cc_run.proofs.OwnLemmas.{own_start, own_then, own_dropped}
 use Rattle.cc_run.specs.Printing.{IsPrinted}
 use Rattle.cc_run.proofs.DebugLemmas.{debug_all, debug_twice}
 use Rattle.cc_run.proofs.PrintingLemmas.{start_kept, unstarted_printed, printed_then, printed_dropped}
-use Rattle.cc_run.proofs.KindLemmas.{kinds_all}
 use Rattle.cc_run.proofs.StderrLemmas.{child_printed, few_solo}
 use Rattle.cc_run.proofs.WarnedLemmas.{warned_all}
 use Rattle.cc_run.specs.declared.error.Step.TheVariants.{Ready}
@@ -31,13 +30,13 @@ pub returns-in-Err-clause-used : goal.returns-in-Err-clause-used
 returns-in-Err-clause-used g c = let none : turns (since (g.H.Host.log c.args.host.now) (g.H.Host.log c.start.new.host)) ≡ 0 = start_turns c.args.shows.now c.args.cmd.now 0 c.new-running.result c.start.new.running (since (g.H.Host.log c.args.host.now) (g.H.Host.log c.start.new.host)) (Err c.in-Err.e) c.in-Err.ensures.part in omega (arith, none)
 
 pub drop_all-requires-clause-own : goal.drop_all-requires-clause-own
-drop_all-requires-clause-own g c = λ _ _. goes_runs c.wait_out-result.ensures.goes (begun_runs (g.H.Host.log c.args.host.now) (g.H.Host.log c.start.new.host) (run_of c.start.new.running) c.start.ensures.extends (alone_start c.args.shows.now c.args.cmd.now c.in-Ok.field-0 c.new-running.result c.start.new.running (g.H.Host.log c.args.host.now) (g.H.Host.log c.start.new.host) c.start.ensures.extends c.new-running.ensures c.in-Ok.ensures.part).run)
+drop_all-requires-clause-own g c = λ _ _. goes_runs c.wait_out-result.ensures.goes (begun_runs (g.H.Host.log c.args.host.now) (g.H.Host.log c.start.new.host) (run_of c.start.new.running) c.start.ensures.extends (alone_start c.args.shows.now c.args.cmd.now c.in-Ok.field-0 c.new-running.result c.start.new.running (g.H.Host.log c.args.host.now) (g.H.Host.log c.start.new.host) c.start.ensures.extends c.new-running.ensures c.in-Ok.ensures.part c.in-Ok.ensures.fresh).run)
 
 pub returns-clause-outcome : goal.returns-clause-outcome
 returns-clause-outcome g c =
     let r = c.wait_out-result.result in
     let fin = run_of c.wait_out-result.new.running in
-    solo_whole (asked c.args.shows.now (c.args.cmd.now ∷ [])) (run_of c.start.new.running) fin (g.H.Host.log c.args.host.now) (g.H.Host.log c.start.new.host) (g.H.Host.log c.wait_out-result.new.host) (g.H.Host.log c.drop_all.new.host) r (alone_start c.args.shows.now c.args.cmd.now c.in-Ok.field-0 c.new-running.result c.start.new.running (g.H.Host.log c.args.host.now) (g.H.Host.log c.start.new.host) c.start.ensures.extends c.new-running.ensures c.in-Ok.ensures.part)
+    solo_whole (asked c.args.shows.now (c.args.cmd.now ∷ [])) (run_of c.start.new.running) fin (g.H.Host.log c.args.host.now) (g.H.Host.log c.start.new.host) (g.H.Host.log c.wait_out-result.new.host) (g.H.Host.log c.drop_all.new.host) r (alone_start c.args.shows.now c.args.cmd.now c.in-Ok.field-0 c.new-running.result c.start.new.running (g.H.Host.log c.args.host.now) (g.H.Host.log c.start.new.host) c.start.ensures.extends c.new-running.ensures c.in-Ok.ensures.part c.in-Ok.ensures.fresh)
     (subst (λ l. Goes (Some c.take.new.seat.total) (asked c.args.shows.now l) (g.H.Host.log c.start.new.host) (run_of c.start.new.running) (g.H.Host.log c.wait_out-result.new.host) fin) c.from_ref-cmds.ensures.value c.wait_out-result.ensures.goes)
     c.wait_out-result.ensures.free
     (start_told c.args.shows.now c.args.cmd.now 0 c.new-running.result c.start.new.running (since (g.H.Host.log c.args.host.now) (g.H.Host.log c.start.new.host)) (c.args.cmd.now ∷ []) c.in-Ok.field-0 c.in-Ok.ensures.part)
@@ -50,7 +49,7 @@ returns-clause-outcome g c =
 
 pub returns-clause-turns : goal.returns-clause-turns
 returns-clause-turns g c =
-    let st = alone_start c.args.shows.now c.args.cmd.now c.in-Ok.field-0 c.new-running.result c.start.new.running (g.H.Host.log c.args.host.now) (g.H.Host.log c.start.new.host) c.start.ensures.extends c.new-running.ensures c.in-Ok.ensures.part in
+    let st = alone_start c.args.shows.now c.args.cmd.now c.in-Ok.field-0 c.new-running.result c.start.new.running (g.H.Host.log c.args.host.now) (g.H.Host.log c.start.new.host) c.start.ensures.extends c.new-running.ensures c.in-Ok.ensures.part c.in-Ok.ensures.fresh in
     let total : turns (since (g.H.Host.log c.args.host.now) (g.H.Host.log c.wait_out-result.new.host)) ≡ turns (since (g.H.Host.log c.args.host.now) (g.H.Host.log c.start.new.host)) + turns (since (g.H.Host.log c.start.new.host) (g.H.Host.log c.wait_out-result.new.host)) = turns_pair (g.H.Host.log c.args.host.now) (g.H.Host.log c.start.new.host) (g.H.Host.log c.wait_out-result.new.host) st.extends c.wait_out-result.ensures.goes.extends in
     let none : turns (since (g.H.Host.log c.args.host.now) (g.H.Host.log c.start.new.host)) ≡ 0 = start_turns c.args.shows.now c.args.cmd.now 0 c.new-running.result c.start.new.running (since (g.H.Host.log c.args.host.now) (g.H.Host.log c.start.new.host)) (Ok c.in-Ok.field-0) c.in-Ok.ensures.part in
     let dropped : turns (since (g.H.Host.log c.args.host.now) (g.H.Host.log c.drop_all.new.host)) ≡ turns (since (g.H.Host.log c.args.host.now) (g.H.Host.log c.wait_out-result.new.host)) = solo_turns (g.H.Host.log c.args.host.now) (g.H.Host.log c.wait_out-result.new.host) (g.H.Host.log c.drop_all.new.host) (run_of c.wait_out-result.new.running).live (since_extends (g.H.Host.log c.args.host.now) (g.H.Host.log c.start.new.host) (g.H.Host.log c.wait_out-result.new.host) st.extends c.wait_out-result.ensures.goes.extends) c.drop_all.ensures.adds in
@@ -58,7 +57,7 @@ returns-clause-turns g c =
 
 pub returns-clause-used : goal.returns-clause-used
 returns-clause-used g c =
-    let st = alone_start c.args.shows.now c.args.cmd.now c.in-Ok.field-0 c.new-running.result c.start.new.running (g.H.Host.log c.args.host.now) (g.H.Host.log c.start.new.host) c.start.ensures.extends c.new-running.ensures c.in-Ok.ensures.part in
+    let st = alone_start c.args.shows.now c.args.cmd.now c.in-Ok.field-0 c.new-running.result c.start.new.running (g.H.Host.log c.args.host.now) (g.H.Host.log c.start.new.host) c.start.ensures.extends c.new-running.ensures c.in-Ok.ensures.part c.in-Ok.ensures.fresh in
     let total : turns (since (g.H.Host.log c.args.host.now) (g.H.Host.log c.wait_out-result.new.host)) ≡ turns (since (g.H.Host.log c.args.host.now) (g.H.Host.log c.start.new.host)) + turns (since (g.H.Host.log c.start.new.host) (g.H.Host.log c.wait_out-result.new.host)) = turns_pair (g.H.Host.log c.args.host.now) (g.H.Host.log c.start.new.host) (g.H.Host.log c.wait_out-result.new.host) st.extends c.wait_out-result.ensures.goes.extends in
     let none : turns (since (g.H.Host.log c.args.host.now) (g.H.Host.log c.start.new.host)) ≡ 0 = start_turns c.args.shows.now c.args.cmd.now 0 c.new-running.result c.start.new.running (since (g.H.Host.log c.args.host.now) (g.H.Host.log c.start.new.host)) (Ok c.in-Ok.field-0) c.in-Ok.ensures.part in
     let dropped : turns (since (g.H.Host.log c.args.host.now) (g.H.Host.log c.drop_all.new.host)) ≡ turns (since (g.H.Host.log c.args.host.now) (g.H.Host.log c.wait_out-result.new.host)) = solo_turns (g.H.Host.log c.args.host.now) (g.H.Host.log c.wait_out-result.new.host) (g.H.Host.log c.drop_all.new.host) (run_of c.wait_out-result.new.running).live (since_extends (g.H.Host.log c.args.host.now) (g.H.Host.log c.start.new.host) (g.H.Host.log c.wait_out-result.new.host) st.extends c.wait_out-result.ensures.goes.extends) c.drop_all.ensures.adds in
@@ -68,25 +67,25 @@ pub returns-in-Err-clause-bound : goal.returns-in-Err-clause-bound
 returns-in-Err-clause-bound g c = let none : turns (since (g.H.Host.log c.args.host.now) (g.H.Host.log c.start.new.host)) ≡ 0 = start_turns c.args.shows.now c.args.cmd.now 0 c.new-running.result c.start.new.running (since (g.H.Host.log c.args.host.now) (g.H.Host.log c.start.new.host)) (Err c.in-Err.e) c.in-Err.ensures.part in calm_bound (g.H.Host.patience c.args.host.now) (since (g.H.Host.log c.args.host.now) (g.H.Host.log c.start.new.host)) none
 
 pub returns-in-Err-clause-enough : goal.returns-in-Err-clause-enough
-returns-in-Err-clause-enough g c = λ e. let none : turns (since (g.H.Host.log c.args.host.now) (g.H.Host.log c.start.new.host)) ≡ 0 = start_turns c.args.shows.now c.args.cmd.now 0 c.new-running.result c.start.new.running (since (g.H.Host.log c.args.host.now) (g.H.Host.log c.start.new.host)) (Err c.in-Err.e) c.in-Err.ensures.part in calm_unspent (g.H.Host.patience c.args.host.now) (since (g.H.Host.log c.args.host.now) (g.H.Host.log c.start.new.host)) none
+returns-in-Err-clause-enough g c = λ e. let none : turns (since (g.H.Host.log c.args.host.now) (g.H.Host.log c.start.new.host)) ≡ 0 = start_turns c.args.shows.now c.args.cmd.now 0 c.new-running.result c.start.new.running (since (g.H.Host.log c.args.host.now) (g.H.Host.log c.start.new.host)) (Err c.in-Err.e) c.in-Err.ensures.part in calm_unspent (g.H.Host.patience c.args.host.now) (since (g.H.Host.log c.args.host.now) (g.H.Host.log c.start.new.host)) c.log-least.ensures.least none
 
 pub returns-clause-bound : goal.returns-clause-bound
 returns-clause-bound g c =
-    let st = alone_start c.args.shows.now c.args.cmd.now c.in-Ok.field-0 c.new-running.result c.start.new.running (g.H.Host.log c.args.host.now) (g.H.Host.log c.start.new.host) c.start.ensures.extends c.new-running.ensures c.in-Ok.ensures.part in
+    let st = alone_start c.args.shows.now c.args.cmd.now c.in-Ok.field-0 c.new-running.result c.start.new.running (g.H.Host.log c.args.host.now) (g.H.Host.log c.start.new.host) c.start.ensures.extends c.new-running.ensures c.in-Ok.ensures.part c.in-Ok.ensures.fresh in
     let none : turns (since (g.H.Host.log c.args.host.now) (g.H.Host.log c.start.new.host)) ≡ 0 = start_turns c.args.shows.now c.args.cmd.now 0 c.new-running.result c.start.new.running (since (g.H.Host.log c.args.host.now) (g.H.Host.log c.start.new.host)) (Ok c.in-Ok.field-0) c.in-Ok.ensures.part in
     let fin = run_of c.wait_out-result.new.running in
     let one : c.wait_out-result.new.running.begun ≤ 1 = omega (arith, c.wait_out-result.ensures.one_run.1, ap length c.from_ref-cmds.ensures.value) in
     let lasts = subst (λ p. Lasts p (g.H.Host.log c.start.new.host) (run_of c.start.new.running) (g.H.Host.log c.wait_out-result.new.host)) c.start.ensures.patient c.wait_out-result.ensures.lasts in
-    whole_bound 1 (g.H.Host.log c.args.host.now) (g.H.Host.log c.start.new.host) (g.H.Host.log c.wait_out-result.new.host) (g.H.Host.log c.drop_all.new.host) (run_of c.start.new.running) fin c.start.ensures.extends st.run none c.wait_out-result.ensures.goes.extends c.wait_out-result.ensures.goes.steps.run one c.drop_all.ensures.adds (g.H.Host.patience c.args.host.now) lasts
+    whole_bound 1 (g.H.Host.log c.args.host.now) (g.H.Host.log c.start.new.host) (g.H.Host.log c.wait_out-result.new.host) (g.H.Host.log c.drop_all.new.host) (run_of c.start.new.running) fin c.start.ensures.extends st.run none c.wait_out-result.ensures.goes.extends c.wait_out-result.ensures.goes.steps.run one c.drop_all.ensures.adds (g.H.Host.patience c.args.host.now) c.log-least.ensures.least lasts
 
 pub returns-clause-enough : goal.returns-clause-enough
 returns-clause-enough g c =
-    let st = alone_start c.args.shows.now c.args.cmd.now c.in-Ok.field-0 c.new-running.result c.start.new.running (g.H.Host.log c.args.host.now) (g.H.Host.log c.start.new.host) c.start.ensures.extends c.new-running.ensures c.in-Ok.ensures.part in
+    let st = alone_start c.args.shows.now c.args.cmd.now c.in-Ok.field-0 c.new-running.result c.start.new.running (g.H.Host.log c.args.host.now) (g.H.Host.log c.start.new.host) c.start.ensures.extends c.new-running.ensures c.in-Ok.ensures.part c.in-Ok.ensures.fresh in
     let none : turns (since (g.H.Host.log c.args.host.now) (g.H.Host.log c.start.new.host)) ≡ 0 = start_turns c.args.shows.now c.args.cmd.now 0 c.new-running.result c.start.new.running (since (g.H.Host.log c.args.host.now) (g.H.Host.log c.start.new.host)) (Ok c.in-Ok.field-0) c.in-Ok.ensures.part in
     let fin = run_of c.wait_out-result.new.running in
     let one : c.wait_out-result.new.running.begun ≤ 1 = omega (arith, c.wait_out-result.ensures.one_run.1, ap length c.from_ref-cmds.ensures.value) in
     let lasts = subst (λ p. Lasts p (g.H.Host.log c.start.new.host) (run_of c.start.new.running) (g.H.Host.log c.wait_out-result.new.host)) c.start.ensures.patient c.wait_out-result.ensures.lasts in
-    λ e. whole_unspent 1 (g.H.Host.log c.args.host.now) (g.H.Host.log c.start.new.host) (g.H.Host.log c.wait_out-result.new.host) (g.H.Host.log c.drop_all.new.host) (run_of c.start.new.running) fin c.start.ensures.extends st.run none c.wait_out-result.ensures.goes.extends c.wait_out-result.ensures.goes.steps.run one c.drop_all.ensures.adds (g.H.Host.patience c.args.host.now) lasts (open_at 1 fin c.wait_out-result.result e (subst (λ l. IfErr c.wait_out-result.result (IsRunError (length (asked c.args.shows.now l)) fin)) c.from_ref-cmds.ensures.value c.wait_out-result.ensures.cause))
+    λ e. whole_unspent 1 (g.H.Host.log c.args.host.now) (g.H.Host.log c.start.new.host) (g.H.Host.log c.wait_out-result.new.host) (g.H.Host.log c.drop_all.new.host) (run_of c.start.new.running) fin c.start.ensures.extends st.run none c.wait_out-result.ensures.goes.extends c.wait_out-result.ensures.goes.steps.run one c.drop_all.ensures.adds (g.H.Host.patience c.args.host.now) c.log-least.ensures.least lasts (open_at 1 fin c.wait_out-result.result e (subst (λ l. IfErr c.wait_out-result.result (IsRunError (length (asked c.args.shows.now l)) fin)) c.from_ref-cmds.ensures.value c.wait_out-result.ensures.cause))
 
 pub returns-in-Err-clause-own : goal.returns-in-Err-clause-own
 returns-in-Err-clause-own g c = own_start c.args.shows.now c.args.cmd.now 0 c.new-running.result c.start.new.running (since (g.H.Host.log c.args.host.now) (g.H.Host.log c.start.new.host)) (Err c.in-Err.e) c.in-Err.ensures.part
@@ -120,13 +119,15 @@ returns-clause-lines g c =
 
 pub returns-in-Err-clause-stderr : goal.returns-in-Err-clause-stderr
 returns-in-Err-clause-stderr g c =
-    let few = few_solo {T = Unit {0}} c.args.shows.now (c.args.cmd.now ∷ []) (g.H.Host.log c.args.host.now) (g.H.Host.log c.start.new.host) (Err c.in-Err.e) (returns-in-Err-clause-outcome g c) in
-    λ id pieces close ch. child_printed {T = Unit {0}} c.args.shows.now false (c.args.cmd.now ∷ []) id pieces close nothing_kept (since (g.H.Host.log c.args.host.now) (g.H.Host.log c.start.new.host)) (Err c.in-Err.e) (returns-in-Err-clause-lines g c) ch refl few
+    let w = returns-in-Err-clause-outcome g c in
+    let few = few_solo {T = Unit {0}} c.args.shows.now (c.args.cmd.now ∷ []) (g.H.Host.log c.args.host.now) (g.H.Host.log c.start.new.host) (Err c.in-Err.e) w in
+    λ id has. child_printed {T = Unit {0}} c.args.shows.now false (c.args.cmd.now ∷ []) id (g.H.Host.log c.args.host.now) (g.H.Host.log c.start.new.host) (Err c.in-Err.e) (solo_lives (asked c.args.shows.now (c.args.cmd.now ∷ [])) (g.H.Host.log c.args.host.now) (g.H.Host.log c.start.new.host) (Err c.in-Err.e) w) has (returns-in-Err-clause-lines g c) few
 
 pub returns-clause-stderr : goal.returns-clause-stderr
 returns-clause-stderr g c =
-    let few = few_solo c.args.shows.now (c.args.cmd.now ∷ []) (g.H.Host.log c.args.host.now) (g.H.Host.log c.drop_all.new.host) c.wait_out-result.result (returns-clause-outcome g c) in
-    λ id pieces close ch. child_printed c.args.shows.now false (c.args.cmd.now ∷ []) id pieces close nothing_kept (since (g.H.Host.log c.args.host.now) (g.H.Host.log c.drop_all.new.host)) c.wait_out-result.result (returns-clause-lines g c) ch refl few
+    let w = returns-clause-outcome g c in
+    let few = few_solo c.args.shows.now (c.args.cmd.now ∷ []) (g.H.Host.log c.args.host.now) (g.H.Host.log c.drop_all.new.host) c.wait_out-result.result w in
+    λ id has. child_printed c.args.shows.now false (c.args.cmd.now ∷ []) id (g.H.Host.log c.args.host.now) (g.H.Host.log c.drop_all.new.host) c.wait_out-result.result (solo_lives (asked c.args.shows.now (c.args.cmd.now ∷ [])) (g.H.Host.log c.args.host.now) (g.H.Host.log c.drop_all.new.host) c.wait_out-result.result w) has (returns-clause-lines g c) few
 
 pub returns-clause-debug : goal.returns-clause-debug
 returns-clause-debug g c =
@@ -152,14 +153,8 @@ returns-clause-twice g c =
     let log = g.H.Host.log c.args.host.now in
     let s = g.H.Host.log c.start.new.host in
     let w = g.H.Host.log c.wait_out-result.new.host in
-    let st = alone_start c.args.shows.now c.args.cmd.now c.in-Ok.field-0 c.new-running.result c.start.new.running log s c.start.ensures.extends c.new-running.ensures c.in-Ok.ensures.part in
+    let st = alone_start c.args.shows.now c.args.cmd.now c.in-Ok.field-0 c.new-running.result c.start.new.running log s c.start.ensures.extends c.new-running.ensures c.in-Ok.ensures.part c.in-Ok.ensures.fresh in
     let go = subst (λ l. Goes (Some c.take.new.seat.total) (asked c.args.shows.now l) s (run_of c.start.new.running) w fin) c.from_ref-cmds.ensures.value c.wait_out-result.ensures.goes in
     let a = alone_then all log s w (run_of c.start.new.running) fin st go c.wait_out-result.ensures.free in
     let told = told_pair all log s w Ready r st.extends go.extends (start_told c.args.shows.now c.args.cmd.now 0 c.new-running.result c.start.new.running (since log s) cmds c.in-Ok.field-0 c.in-Ok.ensures.part) (subst (λ l. IsTold (asked c.args.shows.now l) r (since s w)) c.from_ref-cmds.ensures.value c.wait_out-result.ensures.told) in
     debug_twice c.args.shows.now cmds log w (g.H.Host.log c.drop_all.new.host) fin r (returns-clause-debug g c) c.drop_all.ensures.adds a.run a.begun (subst (λ l. OnOk r (IsDone (length (asked c.args.shows.now l)) fin × (fin.failed ≡ None))) c.from_ref-cmds.ensures.value c.wait_out-result.ensures.done) told.2
-
-pub returns-in-Err-clause-kinds : goal.returns-in-Err-clause-kinds
-returns-in-Err-clause-kinds g c = kinds_all {T = Unit {0}} c.args.shows.now false (c.args.cmd.now ∷ []) nothing_kept (since (g.H.Host.log c.args.host.now) (g.H.Host.log c.start.new.host)) (Err c.in-Err.e) (returns-in-Err-clause-lines g c)
-
-pub returns-clause-kinds : goal.returns-clause-kinds
-returns-clause-kinds g c = kinds_all c.args.shows.now false (c.args.cmd.now ∷ []) nothing_kept (since (g.H.Host.log c.args.host.now) (g.H.Host.log c.drop_all.new.host)) c.wait_out-result.result (returns-clause-lines g c)

@@ -16,7 +16,7 @@ pub returns-in-Ok-clause-goes : goal.returns-in-Ok-clause-goes
 returns-in-Ok-clause-goes g c =
     let at : c.index-cmds-running.result ≡ get_or c.args.cmds.now c.args.running.now.begun c.index-cmds-running.result = grind (arith, common_steps) in
     let held : c.held-held.result ≡ length c.args.running.now.children + 1 = c.held-held.ensures.held ∙ (c.in-Ok-Token.ensures.token (ap Ok c.in-Ok-Token.field-0-is)).0 ∙ ap (λ n. n + 1) c.requires.one_run in
-    start_goes (g.J.Jobs.total c.args.seat.now) c.args.shows.now c.args.cmds.now c.index-cmds-running.result c.held-held.result c.args.running.now c.start.new.running (g.H.Host.log c.args.host.now) (g.H.Host.log c.start.new.host) c.in-Ok.field-0 c.start.ensures.extends c.in-Ok.ensures.part c.requires.next at held (most_of (g.J.Jobs.total c.args.seat.now) _ _ c.held-held.result c.take.ensures.total c.held-held.ensures.held c.take.ensures.bounded.1)
+    start_goes (g.J.Jobs.total c.args.seat.now) c.args.shows.now c.args.cmds.now c.index-cmds-running.result c.held-held.result c.args.running.now c.start.new.running (g.H.Host.log c.args.host.now) (g.H.Host.log c.start.new.host) c.in-Ok.field-0 c.start.ensures.extends c.in-Ok.ensures.part c.requires.next at held (most_of (g.J.Jobs.total c.args.seat.now) _ _ c.held-held.result c.take.ensures.total c.held-held.ensures.held c.take.ensures.bounded.1) c.in-Ok.ensures.fresh
 
 pub returns-in-Ok-clause-told : goal.returns-in-Ok-clause-told
 returns-in-Ok-clause-told g c = start_told c.args.shows.now c.index-cmds-running.result c.held-held.result c.args.running.now c.start.new.running (since (g.H.Host.log c.args.host.now) (g.H.Host.log c.start.new.host)) c.args.cmds.now c.in-Ok.field-0 c.in-Ok.ensures.part

@@ -13,12 +13,13 @@ use Rattle.cc_run.specs.Shown.{IsShown}
 use Rattle.cc_run.proofs.PrintingLemmas.{turn_kept, turn_some, unturned_printed}
 use Rattle.cc_run.proofs.TurnLemmas.{spoken, goes_news, turn_turns, turn_starts, turn_loads, fault_counts, news_told, spoken_well, spoken_told, spoken_ends}
 use Rattle.cc_run.proofs.OwnLemmas.{own_news, own_unturned}
-use Rattle.cc_run.proofs.wait.WaitState.poll.Goals as goal
+use Rattle.cc_run.proofs.Runs.{goes_unturned}
+use Rattle.cc_run.proofs.wait.WaitState.wait.Goals as goal
 
 pub returns-in-Ok-taken-clause-goes : goal.returns-in-Ok-taken-clause-goes
 returns-in-Ok-taken-clause-goes g c =
     let s = spoken c.take_news-taken.ensures.shown.0 c.take_news-taken.result (since (g.H.Host.log c.turn_once.new.host) (g.H.Host.log c.take_news-taken.new.host)) c.take_news-taken.ensures.shown.1 in
-    λ busy. goes_news (g.J.Jobs.total c.args.seat.now) (asked c.args.shows.now c.args.cmds.now) (g.H.Host.log c.args.host.now) (g.H.Host.log c.turn_once.new.host) (g.H.Host.log c.take_news-taken.new.host) (run_of c.args.running.now) (run_of c.take_news-taken.new.running) c.in-Ok.news.items c.take_news-taken.result c.in-Ok.ensures.ok c.take_news-taken.ensures.extends s (c.take_news-taken.ensures.run ∙ ap (λ l. run_from (run_of c.args.running.now) (flat_map told l)) c.deref.ensures.value) c.take_news-taken.ensures.begun busy
+    λ busy. goes_news (g.J.Jobs.total c.args.seat.now) (asked c.args.shows.now c.args.cmds.now) (g.H.Host.log c.args.host.now) (g.H.Host.log c.turn_once.new.host) (g.H.Host.log c.take_news-taken.new.host) (run_of c.args.running.now) (run_of c.take_news-taken.new.running) c.in-Ok.news.items c.take_news-taken.result c.in-Ok.ensures.ok c.take_news-taken.ensures.extends s (c.take_news-taken.ensures.run ∙ ap (λ l. run_from (run_of c.args.running.now) (flat_map told l)) c.deref.ensures.value) c.take_news-taken.ensures.begun busy c.in-Ok.ensures.news
 
 pub returns-in-Ok-taken-clause-turns : goal.returns-in-Ok-taken-clause-turns
 returns-in-Ok-taken-clause-turns g c =
@@ -45,7 +46,7 @@ returns-in-Ok-taken-clause-told g c =
 pub returns-clause-goes : goal.returns-clause-goes
 returns-clause-goes g c =
     let s = spoken c.take_news-taken.ensures.shown.0 c.take_news-taken.result (since (g.H.Host.log c.turn_once.new.host) (g.H.Host.log c.take_news-taken.new.host)) c.take_news-taken.ensures.shown.1 in
-    λ busy. goes_news (g.J.Jobs.total c.args.seat.now) (asked c.args.shows.now c.args.cmds.now) (g.H.Host.log c.args.host.now) (g.H.Host.log c.turn_once.new.host) (g.H.Host.log c.take_news-taken.new.host) (run_of c.args.running.now) (run_of c.take_news-taken.new.running) c.in-Ok.news.items c.take_news-taken.result c.in-Ok.ensures.ok c.take_news-taken.ensures.extends s (c.take_news-taken.ensures.run ∙ ap (λ l. run_from (run_of c.args.running.now) (flat_map told l)) c.deref.ensures.value) c.take_news-taken.ensures.begun busy
+    λ busy. goes_news (g.J.Jobs.total c.args.seat.now) (asked c.args.shows.now c.args.cmds.now) (g.H.Host.log c.args.host.now) (g.H.Host.log c.turn_once.new.host) (g.H.Host.log c.take_news-taken.new.host) (run_of c.args.running.now) (run_of c.take_news-taken.new.running) c.in-Ok.news.items c.take_news-taken.result c.in-Ok.ensures.ok c.take_news-taken.ensures.extends s (c.take_news-taken.ensures.run ∙ ap (λ l. run_from (run_of c.args.running.now) (flat_map told l)) c.deref.ensures.value) c.take_news-taken.ensures.begun busy c.in-Ok.ensures.news
 
 pub returns-clause-turns : goal.returns-clause-turns
 returns-clause-turns g c =
@@ -115,3 +116,6 @@ returns-clause-lines g c =
 
 pub returns-in-Err-clause-lines : goal.returns-in-Err-clause-lines
 returns-in-Err-clause-lines g c = unturned_printed Step c.args.shows.now c.args.self.now.tells c.args.cmds.now c.args.running.now (g.H.Host.log c.args.host.now) (g.H.Host.log c.turn_once.new.host) c.in-Err.e c.in-Err.ensures.err
+
+pub returns-in-Err-clause-goes : goal.returns-in-Err-clause-goes
+returns-in-Err-clause-goes g c = λ _. goes_unturned (g.J.Jobs.total c.args.seat.now) (asked c.args.shows.now c.args.cmds.now) (g.H.Host.log c.args.host.now) (g.H.Host.log c.turn_once.new.host) (run_of c.args.running.now) c.in-Err.e c.in-Err.ensures.err
