@@ -17,8 +17,6 @@ mod refusal;
 mod run;
 mod shows;
 mod support;
-#[cfg(test)]
-mod tests;
 mod texts;
 
 pub use build::Build;

@@ -22,8 +22,6 @@ mod line;
 mod probe;
 mod question;
 mod script;
-#[cfg(test)]
-mod tests;
 mod verdicts;
 
 pub use bench::BenchHost;

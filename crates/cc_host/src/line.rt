@@ -18,26 +18,3 @@ pub fn command_line(alloc: Global, cmd: &Command) -> Mem<Text>
     }
     Ok(line)
 }
-
-#[cfg(test)]
-mod tests {
-    use super::*;
-    use cc_text::Words;
-    use std::test::Fail;
-
-    #[test]
-    fn each_word_is_quoted(rt: HostRuntime) -> Result<(), Fail> {
-        let alloc = rt.alloc();
-        let mut words = Words::new(alloc);
-        words.push("-DNAME=\"a b\"")?;
-        words.push("")?;
-        let mut cmd = Command::new(alloc, "/usr/bin/cc")?;
-        cmd.args(&words)?;
-        let line = command_line(alloc, &cmd)?;
-        assert_eq!(rt;
-            line.as_str(),
-            "\"/usr/bin/cc\" \"-DNAME=\\\"a b\\\"\" \"\""
-        );
-        Ok(())
-    }
-}

@@ -13,8 +13,6 @@ mod fixed_host;
 mod look_up;
 mod process_host;
 mod reason;
-#[cfg(test)]
-mod tests;
 
 pub use fixed_host::{Fixed, FixedHost};
 pub use process_host::{ProcessHost, Real};

@@ -4,14 +4,10 @@ ghost use Rattle.cc_host.specs.declared.question.Outcome.TheVariants.{Unanswered
 
 mod course;
 mod log;
-mod machine;
-mod plans;
-mod pools;
 mod questions;
 mod runner;
 mod shown;
 mod support;
-mod verdicts;
 
 use crate::top::{Ended, drive};
 use crate::words::{BadWord, WordCause};

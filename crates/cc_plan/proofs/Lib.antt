@@ -1,6 +1,5 @@
 pub mod BeforeLemmas
 pub mod CutTextLemmas
-pub mod DashLemmas
 pub mod FindLemmas
 pub mod LineLemmas
 pub mod OwnLemmas

@@ -10,14 +10,14 @@ use Rattle.cc_flags.specs.declared.error.FlagError.TheVariants.{InvalidFlag, NoM
 use Rattle.cc_plan.specs.Inherited.{inherited_refusal, inherited_text, plan_refusal}
 use Rattle.cc_plan.specs.Asking.{IsOwn}
 use Rattle.cc_env.specs.Snapshot.{last_value}
-use Rattle.cc_plan.specs.DefaultWords.{qnx_refusal, lacks_qnx_variant, sysroot_refusal, is_wasm_linux, is_told_target}
+use Rattle.cc_words.specs.DefaultWords.{lacks_qnx_variant, is_wasm_linux, is_told_target}
 use Rattle.cc_plan.specs.Given.{target_of, host_of, level_of, is_cargos_target, has_no_defaults}
 use Rattle.cc_plan.specs.Target.{target_name, target_info}
 use Rattle.cc_plan.specs.Refusal.{first_of, unset, target_refusal, given_refusal, refusal_by}
 use Rattle.cc_plan.specs.FlagSupport.{is_for_linker, verdict_refusal}
 use Rattle.cc_plan.specs.Support.{flag_settings, flag_compiler}
 use Rattle.cc_plan.specs.Tool.{words_refusal_by}
-use Rattle.cc_plan.specs.ToolWords.{first_refusal, clang_refusal, default_refusal, words_refusal}
+use Rattle.cc_plan.specs.ToolWords.{qnx_refusal, sysroot_refusal, first_refusal, clang_refusal, default_refusal, words_refusal}
 use Rattle.cc_plan.specs.declared.compiler.Compiler.{Compiler}
 use Rattle.cc_plan.specs.declared.error.PlanError.{PlanError}
 use Rattle.cc_plan.specs.declared.error.PlanError.TheVariants.{NotSet, UnknownTarget, QnxArch, NoMemory as WantsMemory}

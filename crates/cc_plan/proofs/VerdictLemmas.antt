@@ -1,7 +1,7 @@
 -- What is settled of a question on a flag, once the compiler is found.
 use Rattle.std.proofs.Common.{◌≡◌, ◌⊎◌, inl, inr, ℕ, List, Option, Some, None, ap, ◌∙◌}
 use Rattle.cc_env.specs.Env.{EnvSeen}
-use Rattle.cc_host.specs.Question.{Look, Answer, Settles}
+use Rattle.cc_host.specs.Question.{Answer, Settles}
 use Rattle.cc_host.specs.declared.question.Verdict.{Verdict}
 use Rattle.cc_text.specs.declared.family.ToolFamily.{ToolFamily}
 use Rattle.cc_tool.proofs.SettleLemmas.{settles_so, settles_two}

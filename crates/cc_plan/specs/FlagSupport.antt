@@ -7,9 +7,8 @@ use Rattle.cc_host.specs.declared.question.Verdict.TheVariants.{No}
 use Rattle.cc_text.specs.Quoted.{quoted}
 use Rattle.cc_text.specs.declared.family.ToolFamily.{ToolFamily}
 use Rattle.cc_tool.specs.Family.{detection_warnings}
-use Rattle.cc_plan.specs.Choice.{choice_of}
 use Rattle.cc_plan.specs.Compiler.{compiler_of}
-use Rattle.cc_plan.specs.Families.{is_visual_studio}
+use Rattle.cc_words.specs.Families.{is_visual_studio}
 use Rattle.cc_plan.specs.Given.{target_of}
 use Rattle.cc_plan.specs.Plan.{wanted_lines}
 use Rattle.cc_plan.specs.Refusal.{first_of, target_refusal, refusal_by}

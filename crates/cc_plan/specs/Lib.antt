@@ -6,18 +6,13 @@ pub mod Choice
 pub mod Compile
 pub mod CompileWords
 pub mod Compiler
-pub mod DebugWords
-pub mod DefaultWords
 pub mod EnvTool
-pub mod Families
 pub mod FlagSupport
 pub mod Flags
 pub mod Given
-pub mod GnuWords
 pub mod Inherited
 pub mod Languages
 pub mod Link
-pub mod MapWords
 pub mod Names
 pub mod Object
 pub mod Plan
@@ -29,8 +24,6 @@ pub mod SettingWords
 pub mod Settings
 pub mod Support
 pub mod Target
-pub mod Texts
 pub mod Tool
 pub mod ToolWords
 pub mod Valid
-pub mod VisualStudioWords

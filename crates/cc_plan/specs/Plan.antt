@@ -1,5 +1,5 @@
 -- The steps of a compile run, as a function of the settings, the environment and the output.
-use Rattle.std.specs.Prelude.{ℕ, Bool, List, [], ◌∷◌, ◌++◌, map, unwrap_or, is_some, codes, if◌then◌else◌}
+use Rattle.std.specs.Prelude.{ℕ, Bool, List, [], ◌∷◌, ◌++◌, map, unwrap_or, codes, if◌then◌else◌}
 use Rattle.std.specs.Path.{path_parent, path_join}
 use Rattle.cc_env.specs.Env.{EnvSeen}
 use Rattle.cc_host.specs.Command.{CommandSeen}
@@ -8,7 +8,7 @@ use Rattle.cc_host.specs.Question.{Look}
 use Rattle.cc_host.specs.Part.Step.{Makes, Removes, Prints}
 use Rattle.cc_host.specs.declared.event.Scope.TheVariants.{Build}
 use Rattle.cc_host.specs.declared.event.LineKind.{LineKind}
-use Rattle.cc_host.specs.declared.event.LineKind.TheVariants.{Link, Warning}
+use Rattle.cc_host.specs.declared.event.LineKind.TheVariants.{Link}
 use Rattle.cc_plan.specs.declared.object.Object.{Object}
 use Rattle.cc_plan.specs.declared.settings.BuildConfig.{BuildConfig}
 use Rattle.cc_plan.specs.Archive as archive

@@ -1,13 +1,13 @@
 -- The words that settings bring, whatever the target: a definition a group.
-use Rattle.std.specs.Prelude.{ℕ, Bool, true, ◌&&◌, ◌||◌, bytes_eq, List, [], ◌∷◌, ◌++◌, Option, Some, None, unwrap_or, is_none, map, codes, if◌then◌else◌}
+use Rattle.std.specs.Prelude.{ℕ, Bool, true, ◌&&◌, ◌||◌, List, [], ◌∷◌, ◌++◌, Option, Some, None, unwrap_or, is_none, map, codes, if◌then◌else◌}
 use Rattle.std.specs.List.{flat_map, list_any, before_first}
 use Rattle.cc_text.specs.Words.{when}
 use Rattle.cc_text.specs.declared.family.ToolFamily.{ToolFamily}
 use Rattle.cc_plan.specs.declared.flags.BuildFlag.{BuildFlag}
 use Rattle.cc_plan.specs.declared.flags.BuildFlag.TheVariants.{Always, IfSupported}
 use Rattle.cc_plan.specs.declared.flags.Definition.{Definition}
-use Rattle.cc_plan.specs.Families.{is_visual_studio, is_gnu_like}
-use Rattle.cc_plan.specs.Texts.{is, word}
+use Rattle.cc_words.specs.Families.{is_visual_studio, is_gnu_like}
+use Rattle.cc_words.specs.Texts.{is, word, is_among}
 
 abbrev pub standard_flag : ToolFamily → List ℕ
 standard_flag family = if is_visual_studio family then codes "-std:" else codes "-std="
@@ -61,10 +61,6 @@ compiler_flags family flags = if is_visual_studio family then before is_link_fla
 -- the same of words
 unfoldable pub compiler_words : ToolFamily → List (List ℕ) → List (List ℕ)
 compiler_words family words = if is_visual_studio family then before is_link words else words
-
--- the word stands among these
-abbrev pub is_among : List (List ℕ) → List ℕ → Bool
-is_among words text = list_any (bytes_eq text) words
 
 -- a flag that is always given, or one that stands among the supported ones
 abbrev pub flag_word : List (List ℕ) → BuildFlag → List (List ℕ)

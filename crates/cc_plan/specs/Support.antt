@@ -1,6 +1,5 @@
 -- Words that a compiler is given only where it takes them.
-use Rattle.std.specs.Prelude.{ℕ, Bool, true, false, not, ◌&&◌, ◌||◌, List, [], ◌∷◌, ◌++◌, Option, Some, None, is_none, bytes_eq, codes, filter, if◌then◌else◌}
-use Rattle.std.specs.List.{list_any}
+use Rattle.std.specs.Prelude.{ℕ, Bool, false, not, ◌&&◌, List, [], ◌∷◌, ◌++◌, Some, is_none, bytes_eq, codes, filter}
 use Rattle.cc_env.specs.Env.{EnvSeen}
 use Rattle.cc_env.specs.Snapshot.{child_of}
 use Rattle.cc_host.specs.Question.{Look, is_yes}
@@ -11,10 +10,10 @@ use Rattle.cc_text.specs.declared.family.ToolFamily.{ToolFamily}
 use Rattle.cc_tool.specs.Family.{family_of}
 use Rattle.cc_tool.specs.declared.family.Detected.TheVariants.{Marks as ByMarks}
 use Rattle.cc_plan.specs.Choice.{bare}
-use Rattle.cc_plan.specs.Families.{is_clang, is_visual_studio}
+use Rattle.cc_words.specs.Families.{is_clang, is_visual_studio}
 use Rattle.cc_plan.specs.SettingWords.{is_link}
 use Rattle.cc_plan.specs.Settings.{unset_settings}
-use Rattle.cc_plan.specs.Texts.{word}
+use Rattle.cc_words.specs.Texts.{word}
 use Rattle.cc_plan.specs.Tool.{words_by, asks_by, words_refusal_by, language_variable}
 use Rattle.cc_plan.specs.declared.compiler.Compiler.{Compiler}
 use Rattle.cc_plan.specs.declared.flags.BuildFlag.TheVariants.{Always}

@@ -1,20 +1,21 @@
 -- The words of a tool: those that a target and a level bring, unless they are left out, and those of the settings.
-use Rattle.std.specs.Prelude.{ℕ, Bool, not, ◌&&◌, List, [], ◌∷◌, ◌++◌, Option, Some, None, unwrap_or, is_some, map, codes, if◌then◌else◌}
+use Rattle.std.specs.Prelude.{ℕ, Bool, not, ◌&&◌, List, [], ◌∷◌, ◌++◌, Option, Some, None, unwrap_or, is_none, is_some, map, codes, if◌then◌else◌}
 use Rattle.cc_env.specs.Snapshot.{last_value}
 use Rattle.cc_text.specs.Words.{when}
 use Rattle.cc_text.specs.declared.family.ToolFamily.{ToolFamily}
 use Rattle.cc_target.specs.Targets.{Info, llvm_of}
 use Rattle.cc_plan.specs.declared.error.PlanError.{PlanError}
+use Rattle.cc_plan.specs.declared.error.PlanError.TheVariants.{NotSet, QnxArch}
 use Rattle.cc_plan.specs.declared.settings.BuildConfig.{BuildConfig}
-use Rattle.cc_plan.specs.DefaultWords.{optimisation_words, position_independence_words, wasi_words, qnx_words, qnx_refusal, width_words, is_told_target, clang_target_words, sysroot_refusal, linkage_words, standard_library_words, sanitizer_words, value_or_empty}
-use Rattle.cc_plan.specs.Families.{is_gnu, is_gnu_like, is_visual_studio}
-use Rattle.cc_plan.specs.GnuWords.{gnu_words, processor_words, bare_and_arm_words, riscv_words}
-use Rattle.cc_plan.specs.SettingWords.{is_among, standard_words, include_words, error_words, warning_words, extra_warning_words, flag_words, flag_asks, definition_words, environment_words}
-use Rattle.cc_plan.specs.DebugWords.{debug_words, frame_pointer_words, keeps_frame_pointers, leaf_word}
+use Rattle.cc_words.specs.DefaultWords.{optimisation_words, position_independence_words, wasi_words, qnx_words, width_words, is_told_target, clang_target_words, linkage_words, standard_library_words, sanitizer_words, value_or_empty, lacks_qnx_variant, is_wasm_linux}
+use Rattle.cc_words.specs.Families.{is_gnu, is_gnu_like, is_visual_studio}
+use Rattle.cc_words.specs.GnuWords.{gnu_words, processor_words, bare_and_arm_words, riscv_words}
+use Rattle.cc_plan.specs.SettingWords.{standard_words, include_words, error_words, warning_words, extra_warning_words, flag_words, flag_asks, definition_words, environment_words}
+use Rattle.cc_words.specs.DebugWords.{debug_words, frame_pointer_words, keeps_frame_pointers, leaf_word}
 use Rattle.cc_plan.specs.Inherited.{inherited_cpu, inherited_words, inherited_refusal, taken_words}
-use Rattle.cc_plan.specs.MapWords.{cargo_maps, set_maps, taken_maps, map_asks, pairs_words, trim_pairs, remap_pair}
-use Rattle.cc_plan.specs.Texts.{has}
-use Rattle.cc_plan.specs.VisualStudioWords.{visual_studio_words, visual_studio_target_words}
+use Rattle.cc_words.specs.MapWords.{cargo_maps, set_maps, taken_maps, map_asks, pairs_words, trim_pairs, remap_pair}
+use Rattle.cc_words.specs.Texts.{has, is_among}
+use Rattle.cc_words.specs.VisualStudioWords.{visual_studio_words, visual_studio_target_words}
 
 -- the level that is set, else Cargo's
 abbrev pub level_of : Option (List ℕ) → List (List ℕ × List ℕ) → List ℕ
@@ -134,6 +135,14 @@ asked_words no_defaults set env target family =
 abbrev pub first_refusal : Option PlanError → Option PlanError → Option PlanError
 first_refusal None second = second
 first_refusal (Some refusal) second = Some refusal
+
+-- QNX on an architecture for which its compiler has no variant is refused
+unfoldable pub qnx_refusal : ToolFamily → Info → Option PlanError
+qnx_refusal family target = if lacks_qnx_variant family target then Some (QnxArch target.full_arch) else None
+
+-- the sysroot of musl for WebAssembly isn't set
+unfoldable pub sysroot_refusal : Info → Option (List ℕ) → Option PlanError
+sysroot_refusal target musl_sysroot = if is_wasm_linux target && is_none musl_sysroot then Some (NotSet (codes "WASM_MUSL_SYSROOT")) else None
 
 -- Clang is told a target whose sysroot isn't set
 unfoldable pub clang_refusal : BuildConfig → List (List ℕ × List ℕ) → Info → ToolFamily → List ℕ → Option PlanError

@@ -18,12 +18,12 @@ use crate::languages::{
 };
 use crate::prefix::{is_cross, prefix_for};
 use crate::search::{path_folders, which};
-use crate::words::is_qnx;
 use crate::{BuildConfig, Sight};
 use cc_env::BuildEnv;
 use cc_host::{Host, World};
 use cc_target::TargetInfo;
 use cc_text::{Mem, Text, Words, join};
+use cc_words::is_qnx;
 use std::alloc::Global;
 use std::sync::Wait;
 

@@ -19,13 +19,14 @@ use crate::given::probe_folder;
 use crate::printing::{print_warnings, wanted_lines};
 use crate::support::{bare_family, flag_compiler, flag_question, flag_settings};
 use crate::tool::{check_compiler, detection_warnings, known_target, push_gnu_warning};
-use crate::words::{is_link, is_visual_studio};
+use crate::words::is_link;
 use crate::{BuildConfig, PlanError, Sight};
 use cc_env::BuildEnv;
 use cc_host::{Host, Question, Verdict, World};
 use cc_target::TargetInfo;
 use cc_text::{Mem, ToolFamily, Words};
 use cc_tool::ask_flag;
+use cc_words::is_visual_studio;
 use std::alloc::Global;
 use std::sync::Wait;
 

@@ -6,12 +6,13 @@ ghost use Rattle.cc_plan.specs.Given.{environment_flags};
 ghost use Rattle.cc_plan.specs.SettingWords as spec;
 
 use crate::given::environment_flags;
-use crate::words::{is_link, is_link_flag, is_visual_studio};
+use crate::words::{is_link, is_link_flag};
 use crate::{BuildConfig, BuildFlag};
 use cc_env::BuildEnv;
 use cc_host::World;
 use cc_text::{Mem, Text, ToolFamily, Words};
 use cc_tool::Caches;
+use cc_words::is_visual_studio;
 use std::alloc::Global;
 use std::sync::Wait;
 

@@ -15,13 +15,14 @@ use crate::compiler::Compiler;
 use crate::given::{has_no_defaults, probe_folder};
 use crate::sight::is_yes;
 use crate::tool::{check_words_by, language_variable, words_by};
-use crate::words::{asked_words, is_clang, is_link, is_visual_studio};
+use crate::words::{asked_words, is_link};
 use crate::{BuildConfig, BuildFlag, Choice, Flags, PlanError, Sight};
 use cc_env::BuildEnv;
 use cc_host::{Ask, Host, Question, World};
 use cc_target::TargetInfo;
 use cc_text::{Mem, NoMemory, Text, ToolFamily, Vars, Words};
 use cc_tool::{Detected, ask_family, ask_flag};
+use cc_words::{is_clang, is_visual_studio};
 use std::alloc::Global;
 use std::sync::Wait;
 

@@ -26,15 +26,14 @@ use crate::inherited::{inherited_words, push_lost};
 use crate::link_warning::{is_told, leaves_off};
 use crate::printing::{print_warnings, wanted_lines};
 use crate::support::supported_words;
-use crate::words::{
-    cargo_maps, check_words, is_cl, is_gnu, push_map_lacks, set_maps, tool_warnings, tool_words,
-};
+use crate::words::{check_words, tool_warnings, tool_words};
 use crate::{BuildConfig, PlanError, Sight};
 use cc_env::BuildEnv;
 use cc_host::{Host, World};
 use cc_target::TargetInfo;
 use cc_text::{Mem, Text, ToolFamily, Words, quoted};
 use cc_tool::{Caches, Detected, Tool};
+use cc_words::{cargo_maps, is_cl, is_gnu, push_map_lacks, set_maps};
 use std::alloc::Global;
 use std::sync::Wait;
 

@@ -14,8 +14,6 @@ mod files;
 mod kinds;
 mod known;
 mod probes;
-#[cfg(test)]
-mod tests;
 mod tool;
 
 pub use answers::Answers;

@@ -4,9 +4,11 @@ ghost use Rattle.std.specs.Prelude.{◌≤◌};
 use super::course::course_of;
 use super::questions::host_with;
 use super::runner::{COMPILES_A, COMPILES_B, SOURCES, drive_by};
-use cc_host::{BenchHost, Event, Host, OutputKind, Pipes, Role};
+use super::words_in;
+use crate::reading::read_words;
+use cc_host::{Bench, BenchHost, Event, Host, OutputKind, Pipes, Role};
 use cc_text::{Mem, Text};
-use std::alloc::AllocGlobal;
+use std::alloc::{AllocGlobal, Global};
 use std::process::Abort;
 use std::sync::Wait;
 use std::test::Fail;
@@ -159,4 +161,35 @@ fn as_many_commands_run_at_a_time_as_there_are_tokens(rt: HostRuntime) -> Result
     check_most(&rt, 2, 2)?;
     check_most(&rt, 4, 4)?;
     check_most(&rt, 8, 5)
+}
+
+// Whether the output of the commands and lines for debugging are wanted, by the words of a line.
+fn shown_by(alloc: Global, line: &str) -> Mem<Option<(bool, Option<bool>)>> {
+    let words = words_in(alloc, line)?;
+    match read_words::<Bench>(alloc, &words) {
+        Ok(request) => {
+            let set = request.build.settings();
+            Ok(Some((set.cargo_output, set.cargo_debug)))
+        }
+        Err(_) => Ok(None),
+    }
+}
+
+#[test]
+fn words_say_what_of_a_run_is_shown(rt: HostRuntime) -> Result<(), Fail> {
+    let alloc = rt.alloc();
+    for (line, want) in [
+        ("compile f", Some((true, None))),
+        ("compile f cargo_output=false", Some((false, None))),
+        ("compile f cargo_debug=true", Some((true, Some(true)))),
+        (
+            "compile f cargo_debug=true cargo_debug=false",
+            Some((true, Some(false))),
+        ),
+        ("compile f cargo_output=no", None),
+        ("compile f cargo_debug=1", None),
+    ] {
+        assert_eq!(rt; shown_by(alloc, line)?, want, "{line}");
+    }
+    Ok(())
 }

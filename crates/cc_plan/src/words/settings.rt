@@ -4,9 +4,9 @@ ghost use Rattle.std.specs.List.{position};
 ghost use Rattle.std.specs.Option.{option_copied};
 ghost use Rattle.cc_plan.specs.SettingWords as spec;
 
-use crate::words::family::{is_gnu_like, is_visual_studio};
 use crate::{BuildFlag, Definition};
 use cc_text::{Mem, Text, ToolFamily, Words};
+use cc_words::{is_among, is_gnu_like, is_visual_studio};
 use std::alloc::Global;
 
 fn standard_flag(family: ToolFamily) -> &'static str
@@ -130,13 +130,6 @@ pub(crate) fn is_link_flag(flag: &BuildFlag) -> bool
         BuildFlag::Always(text) => is_link(text.as_str()),
         BuildFlag::IfSupported(text) => is_link(text.as_str()),
     }
-}
-
-// The word stands among these.
-pub(crate) fn is_among(words: &[Text], text: &str) -> bool
-    ensures { result ≡ spec.is_among words.now text.now }
-{
-    words.iter().any(|word| text == word.as_str())
 }
 
 // A flag that is always given, or one that stands among the supported ones.

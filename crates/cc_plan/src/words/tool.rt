@@ -2,39 +2,31 @@
 ghost use Rattle.std.specs.Prelude.{◌≡◌, ◌++◌, ◌⊎◌, IfOk, IfErr, OnOk, None, Some, codes};
 ghost use Rattle.std.specs.Option.{option_copied};
 ghost use Rattle.cc_target.specs.Targets.{info_seen};
-ghost use Rattle.cc_plan.specs.DefaultWords.{qnx_refusal};
-ghost use Rattle.cc_plan.specs.GnuWords.{processor_words};
+ghost use Rattle.cc_words.specs.GnuWords.{processor_words};
 ghost use Rattle.cc_plan.specs.Inherited.{inherited_cpu};
 ghost use Rattle.cc_plan.specs.ToolWords as spec;
+ghost use Rattle.cc_plan.specs.ToolWords.{qnx_refusal};
 ghost use Rattle.cc_plan.specs.declared.error.PlanError.TheVariants.{NoMemory as WantsMemory};
 
 use crate::inherited::{check_inherited, inherited_flags, inherited_words, push_taken};
-use crate::words::debug::{
-    keeps_frame_pointers, push_debug_words, push_frame_pointer_words, push_leaf_word,
-};
-use crate::words::defaults::{
-    is_told_target, is_wasm_linux, lacks_qnx_variant, push_clang_target_words, push_linkage_words,
-    push_optimisation_words, push_position_independence_words, push_qnx_words,
-    push_sanitizer_words, push_standard_library_words, push_wasi_words, push_width_words,
-};
-use crate::words::family::{is_gnu, is_gnu_like, is_visual_studio};
-use crate::words::gnu::{
-    push_bare_and_arm_words, push_gnu_words, push_processor_words, push_riscv_words,
-};
-use crate::words::maps::{
-    cargo_maps, push_map_asks, push_pairs_words, remap_pairs, set_maps, taken_maps, trim_pairs,
-};
 use crate::words::settings::{
-    is_among, push_definition_words, push_environment_words, push_error_words,
-    push_extra_warning_words, push_flag_asks, push_flag_words, push_include_words,
-    push_standard_words, push_warning_words,
+    push_definition_words, push_environment_words, push_error_words, push_extra_warning_words,
+    push_flag_asks, push_flag_words, push_include_words, push_standard_words, push_warning_words,
 };
-use crate::words::texts::{has, lent, value_or_empty};
-use crate::words::visual_studio::{push_visual_studio_target_words, push_visual_studio_words};
 use crate::{BuildConfig, PlanError};
 use cc_env::EnvSnapshot;
 use cc_target::{TargetInfo, llvm_target};
 use cc_text::{Mem, Text, ToolFamily, Words};
+use cc_words::{
+    cargo_maps, has, is_among, is_gnu, is_gnu_like, is_told_target, is_visual_studio,
+    is_wasm_linux, keeps_frame_pointers, lacks_qnx_variant, lent, push_bare_and_arm_words,
+    push_clang_target_words, push_debug_words, push_frame_pointer_words, push_gnu_words,
+    push_leaf_word, push_linkage_words, push_map_asks, push_optimisation_words, push_pairs_words,
+    push_position_independence_words, push_processor_words, push_qnx_words, push_riscv_words,
+    push_sanitizer_words, push_standard_library_words, push_visual_studio_target_words,
+    push_visual_studio_words, push_wasi_words, push_width_words, remap_pairs, set_maps, taken_maps,
+    trim_pairs, value_or_empty,
+};
 use std::alloc::Global;
 
 // The level that is set, else Cargo's.
@@ -374,7 +366,7 @@ pub(crate) fn asked_words(
 }
 
 // QNX is refused on an architecture for which its compiler has no variant.
-#[tactic(auto, unfolding(crate::specs::DefaultWords::qnx_refusal))]
+#[tactic(auto, unfolding(crate::specs::ToolWords::qnx_refusal))]
 fn check_qnx(alloc: Global, target: &TargetInfo, family: ToolFamily) -> Result<(), PlanError>
     ensures allowed { OnOk result (qnx_refusal family (info_seen target.now) ≡ None) }
     ensures refused { IfErr result (λ e. (e ≡ WantsMemory) ⊎ (qnx_refusal family (info_seen target.now) ≡ Some e)) }
@@ -386,7 +378,7 @@ fn check_qnx(alloc: Global, target: &TargetInfo, family: ToolFamily) -> Result<(
 }
 
 // Clang is refused a target whose sysroot isn't set.
-#[tactic(auto, unfolding(crate::specs::ToolWords::clang_refusal, crate::specs::DefaultWords::sysroot_refusal))]
+#[tactic(auto, unfolding(crate::specs::ToolWords::clang_refusal, crate::specs::ToolWords::sysroot_refusal))]
 fn check_sysroot(
     alloc: Global,
     set: &BuildConfig,

@@ -2,9 +2,9 @@ use Rattle.std.proofs.Common.{rules, ◌≡◌, ◌⊎◌, Err, Some, None, sym,
 use Rattle.cc_host.specs.Question.{Settles}
 use Rattle.cc_tool.proofs.AskLemmas.{asks_then, asks_grows}
 use Rattle.cc_tool.proofs.SettleLemmas.{settles_on, settles_so}
-use Rattle.cc_plan.specs.FlagSupport.{found_warnings, verdict_on, verdict_refusal, support_refusal}
+use Rattle.cc_plan.specs.FlagSupport.{found_warnings, verdict_on, verdict_refusal}
 use Rattle.cc_plan.specs.declared.error.PlanError.TheVariants.{NoMemory as WantsMemory}
-use Rattle.cc_plan.proofs.OwnLemmas.{target_is_own, verdict_is_own}
+use Rattle.cc_plan.proofs.OwnLemmas.{verdict_is_own}
 use Rattle.cc_plan.proofs.VerdictLemmas.{verdict_settled, support_settled, support_refused}
 use Rattle.cc_plan.proofs.flag_verdict.plan_support.Goals as goal
 
