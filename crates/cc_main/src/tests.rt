@@ -11,11 +11,12 @@ mod support;
 
 use crate::top::{Ended, drive};
 use crate::words::{BadWord, WordCause};
-use cc_build::ErrorKind;
+use cc_build::{Error, ErrorKind};
 use cc_host::{BenchHost, HostCall, Outcome, Status};
 use cc_jobs::OneCaller;
 use cc_text::{Bytes, Mem, Text, Vars};
 use log::log_text;
+use questions::host_with;
 use std::alloc::{AllocGlobal, Global};
 use std::process::Abort;
 use std::sync::Wait;
@@ -89,9 +90,34 @@ cargo:rustc-link-search=native=/o
     Ok(())
 }
 
+// What a run answers and leaves in the log. Tests hold few values at a `?`, since each exit that drops them makes a proof dearer.
+fn check_log(
+    rt: &(impl AllocGlobal + Abort),
+    host: &BenchHost,
+    line: &str,
+    told: &str,
+) -> Result<(), Fail> {
+    let log = log_text(rt.alloc(), host)?;
+    assert_eq!(rt; log.as_str(), told, "{line}");
+    Ok(())
+}
+
+// A run of a line is refused for its first bad word, and tells of it.
+fn check_bad(
+    rt: &(impl Wait + AllocGlobal + Abort),
+    line: &str,
+    word: BadWord,
+    told: &str,
+) -> Result<(), Fail> {
+    let mut host = BenchHost::new(rt.alloc())?;
+    let ended = drive_line(rt, line, &mut host)?;
+    assert_eq!(rt; ended.status, 2, "{line}");
+    assert_eq!(rt; ended.word, Some(word), "{line}");
+    check_log(rt, &host, line, told)
+}
+
 #[test]
 fn bad_words_are_told_by_place_and_cause(rt: HostRuntime) -> Result<(), Fail> {
-    let alloc = rt.alloc();
     for (line, place, cause, told) in [
         ("", 0, WordCause::NoCommand, "word 0: no command\n"),
         (
@@ -139,18 +165,34 @@ fn bad_words_are_told_by_place_and_cause(rt: HostRuntime) -> Result<(), Fail> {
             "word 2: bad value\n",
         ),
     ] {
-        let mut host = BenchHost::new(alloc)?;
-        let ended = drive_line(&rt, line, &mut host)?;
-        assert_eq!(rt; ended.status, 2, "{line}");
-        assert_eq!(rt; ended.word, Some(BadWord { place, cause }), "{line}");
-        assert_eq!(rt; log_text(alloc, &host)?.as_str(), told, "{line}");
+        check_bad(&rt, line, BadWord { place, cause }, told)?;
     }
     Ok(())
 }
 
+fn kind_of(ended: &Ended) -> Option<ErrorKind> {
+    match &ended.error {
+        Some(error) => Some(error.kind()),
+        None => None,
+    }
+}
+
+// A run of a line with the settings is refused by an error of this kind, and tells of it.
+fn check_refused(
+    rt: &(impl Wait + AllocGlobal + Abort),
+    line: &str,
+    kind: ErrorKind,
+    told: &str,
+) -> Result<(), Fail> {
+    let mut host = BenchHost::new(rt.alloc())?;
+    let ended = drive_set(rt, line, &mut host)?;
+    assert_eq!(rt; ended.status, 1, "{line}");
+    assert_eq!(rt; kind_of(&ended), Some(kind), "{line}");
+    check_log(rt, &host, line, told)
+}
+
 #[test]
 fn refused_settings_are_told_by_kind_and_message(rt: HostRuntime) -> Result<(), Fail> {
-    let alloc = rt.alloc();
     for (line, kind, told) in [
         (
             "compile a/b file=a.c",
@@ -168,11 +210,7 @@ fn refused_settings_are_told_by_kind_and_message(rt: HostRuntime) -> Result<(), 
             "listed\nerror occurred in cc-rs: No file_name for object file path!\n",
         ),
     ] {
-        let mut host = BenchHost::new(alloc)?;
-        let ended = drive_set(&rt, line, &mut host)?;
-        assert_eq!(rt; ended.status, 1, "{line}");
-        assert_eq!(rt; ended.error.map(|e| e.kind()), Some(kind), "{line}");
-        assert_eq!(rt; log_text(alloc, &host)?.as_str(), told, "{line}");
+        check_refused(&rt, line, kind, told)?;
     }
     Ok(())
 }
@@ -191,46 +229,59 @@ fn drive_with(
     drive_set(rt, line, host)
 }
 
+// Drives a line with the settings where `CC_FORCE_DISABLE` has this value.
+fn drive_disabled(
+    rt: &(impl Wait + AllocGlobal),
+    value: &str,
+    line: &str,
+    host: &mut BenchHost,
+) -> Mem<Ended> {
+    drive_with(rt, "CC_FORCE_DISABLE", value, line, host)
+}
+
+// Such a run is refused by an error of this kind, and tells of it.
+fn check_disabled(
+    rt: &(impl Wait + AllocGlobal + Abort),
+    line: &str,
+    kind: ErrorKind,
+    told: &str,
+) -> Result<(), Fail> {
+    let mut host = BenchHost::new(rt.alloc())?;
+    let ended = drive_disabled(rt, "1", line, &mut host)?;
+    assert_eq!(rt; ended.status, 1, "{line}");
+    assert_eq!(rt; kind_of(&ended), Some(kind), "{line}");
+    check_log(rt, &host, line, told)
+}
+
 #[test]
 fn a_disabled_build_runs_no_command(rt: HostRuntime) -> Result<(), Fail> {
-    let alloc = rt.alloc();
-    for (value, line, status, kind, told) in [
-        (
-            "1",
-            "compile foo file=a.c",
-            1,
-            Some(ErrorKind::Disabled),
-            "listed\nmade /o\nerror occurred in cc-rs: cc has been disabled by CC_FORCE_DISABLE\n",
-        ),
-        (
-            "1",
-            "compile a/b file=a.c",
-            1,
-            Some(ErrorKind::InvalidArgument),
-            "listed\nerror occurred in cc-rs: argument must be a single normal path component\n",
-        ),
-    ] {
-        let mut host = BenchHost::new(alloc)?;
-        let ended = drive_with(&rt, "CC_FORCE_DISABLE", value, line, &mut host)?;
-        assert_eq!(rt; ended.status, status, "{line}");
-        assert_eq!(rt; ended.error.map(|e| e.kind()), kind, "{line}");
-        assert_eq!(rt; log_text(alloc, &host)?.as_str(), told, "{line}");
-    }
-    let mut host = BenchHost::new(alloc)?;
-    let ended = drive_with(
+    check_disabled(
         &rt,
-        "CC_FORCE_DISABLE",
-        "no",
         "compile foo file=a.c",
-        &mut host,
+        ErrorKind::Disabled,
+        "listed\nmade /o\nerror occurred in cc-rs: cc has been disabled by CC_FORCE_DISABLE\n",
     )?;
+    check_disabled(
+        &rt,
+        "compile a/b file=a.c",
+        ErrorKind::InvalidArgument,
+        "listed\nerror occurred in cc-rs: argument must be a single normal path component\n",
+    )?;
+    let mut host = BenchHost::new(rt.alloc())?;
+    let ended = drive_disabled(&rt, "no", "compile foo file=a.c", &mut host)?;
     assert_eq!(rt; ended.status, 0);
     Ok(())
 }
 
+// Why the run of a line is refused.
+fn error_of(rt: &(impl Wait + AllocGlobal), line: &str) -> Mem<Option<Error>> {
+    let mut host = BenchHost::new(rt.alloc())?;
+    let ended = drive_line(rt, line, &mut host)?;
+    Ok(ended.error)
+}
+
 #[test]
 fn what_is_set_nowhere_is_told_by_its_name(rt: HostRuntime) -> Result<(), Fail> {
-    let alloc = rt.alloc();
     for (line, kind, subject) in [
         ("compile foo file=a.c", ErrorKind::EnvVarNotFound, "OUT_DIR"),
         (
@@ -254,9 +305,7 @@ fn what_is_set_nowhere_is_told_by_its_name(rt: HostRuntime) -> Result<(), Fail> 
             "i686",
         ),
     ] {
-        let mut host = BenchHost::new(alloc)?;
-        let ended = drive_line(&rt, line, &mut host)?;
-        let error = ended.error.expect(&rt, "an error");
+        let error = error_of(&rt, line)?.expect(&rt, "an error");
         assert_eq!(rt; error.kind(), kind, "{line}");
         assert_eq!(rt; error.subject(), subject, "{line}");
     }
@@ -265,41 +314,35 @@ fn what_is_set_nowhere_is_told_by_its_name(rt: HostRuntime) -> Result<(), Fail> 
 
 #[test]
 fn variables_that_are_not_listed_end_the_run(rt: HostRuntime) -> Result<(), Fail> {
-    let alloc = rt.alloc();
-    let mut host = BenchHost::new(alloc)?;
+    let line = "compile foo file=a.c";
+    let mut host = BenchHost::new(rt.alloc())?;
     host.fail(HostCall::Vars, 1)?;
-    let ended = drive_set(&rt, "compile foo file=a.c", &mut host)?;
-    assert_eq!(rt; ended.error.map(|e| e.kind()), Some(ErrorKind::IOError));
-    assert_eq!(rt;
-        log_text(alloc, &host)?.as_str(),
-        "fault\nerror occurred in cc-rs: vars failed: other\n"
-    );
-    Ok(())
+    let ended = drive_set(&rt, line, &mut host)?;
+    assert_eq!(rt; kind_of(&ended), Some(ErrorKind::IOError));
+    check_log(
+        &rt,
+        &host,
+        line,
+        "fault\nerror occurred in cc-rs: vars failed: other\n",
+    )
 }
 
 #[test]
 fn cargos_variables_stand_in_for_words(rt: HostRuntime) -> Result<(), Fail> {
-    let alloc = rt.alloc();
-    let mut vars = Vars::new(alloc);
-    for (name, value) in [
-        ("OUT_DIR", "/b"),
-        ("TARGET", "aarch64-unknown-linux-gnu"),
-        ("HOST", "x86_64-unknown-linux-gnu"),
-        ("OPT_LEVEL", "3"),
-        ("CFLAGS", "-a 'b c'"),
-        ("CC_SHELL_ESCAPED_FLAGS", "1"),
-    ] {
-        vars.push(name, value)?;
-    }
-    let mut host = BenchHost::new(alloc)?;
-    host.set_vars(vars);
-    let ended = drive_line(
-        &rt,
-        "compile foo file=/b/x/a.c define=K define=L=1 include=inc std=c11 flag=-x flag=-y remove_flag=-x env=LC_ALL=de",
-        &mut host,
+    let mut host = host_with(
+        rt.alloc(),
+        &[
+            ("OUT_DIR", "/b"),
+            ("TARGET", "aarch64-unknown-linux-gnu"),
+            ("HOST", "x86_64-unknown-linux-gnu"),
+            ("OPT_LEVEL", "3"),
+            ("CFLAGS", "-a 'b c'"),
+            ("CC_SHELL_ESCAPED_FLAGS", "1"),
+        ],
     )?;
-    assert_eq!(rt; ended.status, 0);
-    let log = log_text(alloc, &host)?;
+    let line =
+        "compile foo file=/b/x/a.c define=K define=L=1 include=inc std=c11 flag=-x flag=-y remove_flag=-x env=LC_ALL=de";
+    let log = log_of(&rt, line, &mut host)?;
     assert!(rt;
         log.as_str().contains(
             " LC_ALL=de \"aarch64-linux-gnu-gcc\" \"-O3\" \"-ffunction-sections\" \"-fdata-sections\" \"-fPIC\" \"-std=c11\" \"-I\" \"inc\" \"-y\" \"-DK\" \"-DL=1\" \"-a\" \"b c\" \"-o\" \"/b/",
@@ -310,13 +353,10 @@ fn cargos_variables_stand_in_for_words(rt: HostRuntime) -> Result<(), Fail> {
 
 #[test]
 fn an_arm_compiler_is_told_its_processor(rt: HostRuntime) -> Result<(), Fail> {
-    let alloc = rt.alloc();
-    let mut host = BenchHost::new(alloc)?;
+    let mut host = BenchHost::new(rt.alloc())?;
     let line =
         "compile foo file=a.c target=armv7-unknown-linux-gnueabihf host=x86_64-unknown-linux-gnu opt_level=0 out_dir=/o compiler=cc archiver=ar";
-    let ended = drive_line(&rt, line, &mut host)?;
-    assert_eq!(rt; ended.status, 0);
-    let log = log_text(alloc, &host)?;
+    let log = log_of(&rt, line, &mut host)?;
     assert!(rt;
         log.as_str().contains(
             "\"cc\" \"-O0\" \"-ffunction-sections\" \"-fdata-sections\" \"-fPIC\" \"-march=armv7-a\" \"-mfpu=vfpv3-d16\" \"-mfloat-abi=hard\" \"-Wall\" \"-Wextra\" \"-o\" \"/o/",

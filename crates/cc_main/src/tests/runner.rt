@@ -80,6 +80,18 @@ fn push_piece(pieces: &mut Vec<Bytes>, alloc: Global, piece: &str) -> Mem<()> {
     Ok(())
 }
 
+fn pieces_of(alloc: Global, written: &[&str]) -> Mem<Vec<Bytes>> {
+    let mut pieces = Vec::new(alloc);
+    for piece in written {
+        push_piece(&mut pieces, alloc, piece)?;
+    }
+    Ok(pieces)
+}
+
+fn set_script(host: &mut BenchHost, source: &str, script: Script) -> Mem<()> {
+    host.script(Role::Compile, source, script)
+}
+
 // Scripts the compile command of a source: how it ends, at which turn at the earliest, and what it writes before.
 fn script_source(
     host: &mut BenchHost,
@@ -90,12 +102,9 @@ fn script_source(
     written: &[&str],
     unread: bool,
 ) -> Mem<()> {
-    let mut pieces = Vec::new(alloc);
-    for piece in written {
-        push_piece(&mut pieces, alloc, piece)?;
-    }
-    host.script(
-        Role::Compile,
+    let pieces = pieces_of(alloc, written)?;
+    set_script(
+        host,
         source,
         Script {
             status,
@@ -107,11 +116,15 @@ fn script_source(
     )
 }
 
+fn fail_sources(host: &mut BenchHost, alloc: Global) -> Mem<()> {
+    script_source(host, alloc, "src/a.c", Status::Code(2), 1, &[], false)?;
+    script_source(host, alloc, "src/b.c", Status::Code(3), 3, &[], false)
+}
+
 // A host on which both sources fail, the second one later.
 fn failing_host(alloc: Global) -> Mem<BenchHost> {
     let mut host = BenchHost::new(alloc)?;
-    script_source(&mut host, alloc, "src/a.c", Status::Code(2), 1, &[], false)?;
-    script_source(&mut host, alloc, "src/b.c", Status::Code(3), 3, &[], false)?;
+    fail_sources(&mut host, alloc)?;
     Ok(host)
 }
 
@@ -149,17 +162,25 @@ fault: error occurred in cc-rs: command did not execute successfully (status cod
     Ok(())
 }
 
+fn wait_for_second(host: &mut BenchHost, alloc: Global) -> Mem<()> {
+    let after = Text::of(alloc, "src/b.c")?;
+    set_script(
+        host,
+        "src/a.c",
+        Script {
+            status: Status::Code(0),
+            pieces: Vec::new(alloc),
+            unread: false,
+            turns: 1,
+            after: Some(after),
+        },
+    )
+}
+
 // A host on which the first source ends only after the second was started.
 fn waiting_host(alloc: Global) -> Mem<BenchHost> {
     let mut host = BenchHost::new(alloc)?;
-    let script = Script {
-        status: Status::Code(0),
-        pieces: Vec::new(alloc),
-        unread: false,
-        turns: 1,
-        after: Some(Text::of(alloc, "src/b.c")?),
-    };
-    host.script(Role::Compile, "src/a.c", script)?;
+    wait_for_second(&mut host, alloc)?;
     Ok(host)
 }
 
@@ -227,21 +248,17 @@ warning: cargo:warning=Failed to read from child stderr{WRITES}"
     check_run(&rt, 2, &mut host, 0, None, course.as_str())
 }
 
-// A host on which the nth call of a kind faults, and the sources write and end at the third turn.
+// Has the nth call of a kind fault, and the sources write and end at the third turn.
+fn set_fault(host: &mut BenchHost, alloc: Global, call: HostCall, nth: u64) -> Mem<()> {
+    let ends = Status::Code(0);
+    script_source(host, alloc, "src/a.c", ends, 3, &["w\n"], false)?;
+    script_source(host, alloc, "src/b.c", ends, 3, &["w\n"], false)?;
+    host.fail(call, nth)
+}
+
 fn faulty_host(alloc: Global, call: HostCall, nth: u64) -> Mem<BenchHost> {
     let mut host = BenchHost::new(alloc)?;
-    for source in ["src/a.c", "src/b.c"] {
-        script_source(
-            &mut host,
-            alloc,
-            source,
-            Status::Code(0),
-            3,
-            &["w\n"],
-            false,
-        )?;
-    }
-    host.fail(call, nth)?;
+    set_fault(&mut host, alloc, call, nth)?;
     Ok(host)
 }
 
@@ -293,6 +310,12 @@ fault: error occurred in cc-rs: print failed: other"
     Ok(())
 }
 
+fn staying_host(alloc: Global) -> Mem<BenchHost> {
+    let mut host = BenchHost::new(alloc)?;
+    host.fail(HostCall::Remove, 1)?;
+    Ok(host)
+}
+
 #[test]
 fn a_library_that_stays_is_not_written(rt: HostRuntime) -> Result<(), Fail> {
     let alloc = rt.alloc();
@@ -304,8 +327,7 @@ turns 1
 faults
 fault: error occurred in cc-rs: remove failed: other"
     )?;
-    let mut host = BenchHost::new(alloc)?;
-    host.fail(HostCall::Remove, 1)?;
+    let mut host = staying_host(alloc)?;
     let kind = Some(ErrorKind::IOError);
     check_run(&rt, 2, &mut host, 1, kind, course.as_str())
 }
