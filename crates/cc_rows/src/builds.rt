@@ -198,15 +198,24 @@ fn a_run_ends_at_its_first_trouble_and_names_it(rt: HostRuntime) -> Result<(), F
     Ok(())
 }
 
-// A build that captured one variable of its host.
-fn captured(alloc: Global, name: &str, value: &str) -> Result<Build<Bench>, Error> {
+fn host_with(alloc: Global, name: &str, value: &str) -> Mem<BenchHost> {
     let mut vars = Vars::new(alloc);
     vars.push(name, value)?;
     let mut host = BenchHost::new(alloc)?;
     host.set_vars(vars);
+    Ok(host)
+}
+
+fn captured_on(alloc: Global, host: &mut BenchHost) -> Result<Build<Bench>, Error> {
     let mut build = Build::new(alloc)?;
-    build.capture(&mut host)?;
+    build.capture(host)?;
     Ok(build)
+}
+
+// A build that captured one variable of its host.
+fn captured(alloc: Global, name: &str, value: &str) -> Result<Build<Bench>, Error> {
+    let mut host = host_with(alloc, name, value)?;
+    captured_on(alloc, &mut host)
 }
 
 // A variable of its own counts before the one that was captured.
@@ -316,9 +325,7 @@ fn add_flags(build: &mut Build<Bench>) -> Result<(), Error> {
     Ok(())
 }
 
-// A clone has the flags that are left, and none of the sources that come later.
-fn check_clone(rt: &impl Abort, build: &mut Build<Bench>) -> Result<(), Fail> {
-    let copy = build.try_clone()?;
+fn check_copy(rt: &impl Abort, build: &mut Build<Bench>, copy: &Build<Bench>) -> Result<(), Fail> {
     assert_eq!(rt; copy.settings().flags.len(), 1);
     build.file("a.c")?;
     assert_eq!(rt; build.get_files().len(), 1);
@@ -326,12 +333,22 @@ fn check_clone(rt: &impl Abort, build: &mut Build<Bench>) -> Result<(), Fail> {
     Ok(())
 }
 
+// A clone has the flags that are left, and none of the sources that come later.
+fn check_clone(rt: &impl Abort, build: &mut Build<Bench>) -> Result<(), Fail> {
+    let copy = build.try_clone()?;
+    check_copy(rt, build, &copy)
+}
+
+fn check_removed(rt: &impl Abort, build: &mut Build<Bench>) -> Result<(), Fail> {
+    add_flags(build)?;
+    build.remove_flag("-a");
+    check_clone(rt, build)
+}
+
 #[test]
 fn removed_flags_are_those_that_are_always_given(rt: HostRuntime) -> Result<(), Fail> {
     let mut build: Build<Bench> = Build::new(rt.alloc())?;
-    add_flags(&mut build)?;
-    build.remove_flag("-a");
-    check_clone(&rt, &mut build)
+    check_removed(&rt, &mut build)
 }
 
 #[test]

@@ -1,6 +1,7 @@
 // Compilers of the machine, asked what they are.
 use cc_build::{Build, Error};
 use cc_hosts::{ProcessHost, Real};
+use cc_tool::Tool;
 use std::alloc::{AllocGlobal, Global};
 use std::sync::Wait;
 use std::test::Fail;
@@ -17,6 +18,17 @@ fn set_tool(build: &mut Build<Real>, compiler: &str) -> Result<(), Error> {
     build.compiler(compiler)
 }
 
+fn set_all(
+    build: &mut Build<Real>,
+    host: &mut ProcessHost<HostRuntime>,
+    dir: &str,
+    compiler: &str,
+) -> Result<(), Error> {
+    set_places(build, dir)?;
+    set_tool(build, compiler)?;
+    build.capture(host)
+}
+
 // A build with the variables of the process.
 fn build_in(
     host: &mut ProcessHost<HostRuntime>,
@@ -25,10 +37,25 @@ fn build_in(
     compiler: &str,
 ) -> Result<Build<Real>, Error> {
     let mut build = Build::new(alloc)?;
-    set_places(&mut build, dir)?;
-    set_tool(&mut build, compiler)?;
-    build.capture(host)?;
+    set_all(&mut build, host, dir, compiler)?;
     Ok(build)
+}
+
+fn compiler_of(
+    rt: &impl Wait,
+    build: &Build<Real>,
+    host: &mut ProcessHost<HostRuntime>,
+) -> Result<Tool, Error> {
+    build.try_get_compiler(rt, host)
+}
+
+fn is_gnu_tool(
+    rt: &impl Wait,
+    build: &Build<Real>,
+    host: &mut ProcessHost<HostRuntime>,
+) -> Result<bool, Error> {
+    let tool = compiler_of(rt, build, host)?;
+    Ok(tool.is_like_gnu())
 }
 
 // Whether the compiler is known for GCC or the like, and not for Clang.
@@ -39,8 +66,7 @@ fn is_gnu(
     compiler: &str,
 ) -> Result<bool, Error> {
     let build = build_in(host, rt.alloc(), dir, compiler)?;
-    let tool = build.try_get_compiler(rt, host)?;
-    Ok(tool.is_like_gnu())
+    is_gnu_tool(rt, &build, host)
 }
 
 // A folder of this test's own, where nothing is yet.

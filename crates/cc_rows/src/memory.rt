@@ -8,7 +8,8 @@ use cc_host::{
     Verdict, Why, command_line, verdict,
 };
 use cc_text::{Bytes, Mem, Text, Vars, Words};
-use std::alloc::Global;
+use std::alloc::{AllocGlobal, Global};
+use std::process::Abort;
 use std::test::Fail;
 
 const KEPT: Pipes = Pipes {
@@ -108,13 +109,17 @@ fn codes_in(alloc: Global, host: &mut BenchHost) -> Result<String, Fail> {
     Ok(text)
 }
 
-#[test]
-fn commands_end_as_the_last_script_that_fits_says(rt: HostRuntime) -> Result<(), Fail> {
-    let alloc = rt.alloc();
-    let mut host = scripted_host(alloc)?;
-    assert_eq!(rt; codes_in(alloc, &mut host)?.as_str(), "2 0 -1 ");
+fn check_codes(rt: &(impl AllocGlobal + Abort), host: &mut BenchHost) -> Result<(), Fail> {
+    let codes = codes_in(rt.alloc(), host)?;
+    assert_eq!(rt; codes.as_str(), "2 0 -1 ");
     assert_eq!(rt; host.log().len(), 3);
     Ok(())
+}
+
+#[test]
+fn commands_end_as_the_last_script_that_fits_says(rt: HostRuntime) -> Result<(), Fail> {
+    let mut host = scripted_host(rt.alloc())?;
+    check_codes(&rt, &mut host)
 }
 
 fn print(host: &mut BenchHost, line: &[u8]) -> Result<(), HostError> {
@@ -129,18 +134,22 @@ fn remove(host: &mut BenchHost, path: &str) -> Result<Removal, HostError> {
     host.remove_file(path)
 }
 
+fn check_prints(rt: &impl Abort, host: &mut BenchHost) -> Result<(), Fail> {
+    let fault = HostError::Fault(HostCall::Print, Why::Other);
+    host.fail(HostCall::Print, 2)?;
+    assert_eq!(rt; print(host, b"one\n"), Ok(()));
+    assert_eq!(rt; make_out(host), Ok(()));
+    assert_eq!(rt; print(host, b"two\n"), Err(fault));
+    assert_eq!(rt; print(host, b"two\n"), Ok(()));
+    assert_eq!(rt; remove(host, "out/a.o"), Ok(Removal::Absent));
+    assert_eq!(rt; host.log().len(), 5);
+    Ok(())
+}
+
 #[test]
 fn only_the_call_that_is_to_fail_faults(rt: HostRuntime) -> Result<(), Fail> {
     let mut host = BenchHost::new(rt.alloc())?;
-    let fault = HostError::Fault(HostCall::Print, Why::Other);
-    host.fail(HostCall::Print, 2)?;
-    assert_eq!(rt; print(&mut host, b"one\n"), Ok(()));
-    assert_eq!(rt; make_out(&mut host), Ok(()));
-    assert_eq!(rt; print(&mut host, b"two\n"), Err(fault));
-    assert_eq!(rt; print(&mut host, b"two\n"), Ok(()));
-    assert_eq!(rt; remove(&mut host, "out/a.o"), Ok(Removal::Absent));
-    assert_eq!(rt; host.log().len(), 5);
-    Ok(())
+    check_prints(&rt, &mut host)
 }
 
 fn push_pair(text: &mut Text, name: &str, value: &str) -> Mem<()> {
@@ -181,19 +190,29 @@ fn set_vars(host: &mut BenchHost, alloc: Global) -> Mem<()> {
     host.fail(HostCall::Vars, 3)
 }
 
-#[test]
-fn variables_that_are_set_are_listed(rt: HostRuntime) -> Result<(), Fail> {
-    let alloc = rt.alloc();
-    let mut host = BenchHost::new(alloc)?;
-    assert_eq!(rt; listed(alloc, &mut host)?.as_str(), "");
-    set_vars(&mut host, alloc)?;
-    assert_eq!(rt;
-        listed(alloc, &mut host)?.as_str(),
-        "CC=clang;CFLAGS=-O2 -é;"
-    );
-    assert!(rt; listed(alloc, &mut host).is_err());
+fn check_listed(
+    rt: &(impl AllocGlobal + Abort),
+    host: &mut BenchHost,
+    want: &str,
+) -> Result<(), Fail> {
+    let text = listed(rt.alloc(), host)?;
+    assert_eq!(rt; text.as_str(), want);
+    Ok(())
+}
+
+fn check_listings(rt: &(impl AllocGlobal + Abort), host: &mut BenchHost) -> Result<(), Fail> {
+    check_listed(rt, host, "")?;
+    set_vars(host, rt.alloc())?;
+    check_listed(rt, host, "CC=clang;CFLAGS=-O2 -é;")?;
+    assert!(rt; listing(host).is_err());
     assert_eq!(rt; host.log().len(), 3);
     Ok(())
+}
+
+#[test]
+fn variables_that_are_set_are_listed(rt: HostRuntime) -> Result<(), Fail> {
+    let mut host = BenchHost::new(rt.alloc())?;
+    check_listings(&rt, &mut host)
 }
 
 // What each child told in the next turns, as `id:piece` and `id=code`, turn by turn.
@@ -234,18 +253,43 @@ fn started(host: &mut BenchHost, alloc: Global, name: &str) -> Result<Start, Hos
     start(host, &cmd)
 }
 
-#[test]
-fn children_give_their_pieces_one_a_turn_and_wait_for_another(rt: HostRuntime) -> Result<(), Fail> {
-    let alloc = rt.alloc();
-    let mut host = waiting_host(alloc)?;
-    assert_eq!(rt; started(&mut host, alloc, "a"), Ok(Start::Child(0)));
-    assert_eq!(rt; started(&mut host, alloc, "b"), Ok(Start::Child(1)));
-    assert_eq!(rt; told(alloc, &mut host, 4)?.as_str(), "0:x |1=3 |0:y ||");
-    assert_eq!(rt; started(&mut host, alloc, "c"), Ok(Start::Child(2)));
-    assert_eq!(rt; told(alloc, &mut host, 3)?.as_str(), "0=0 2=0 |||");
-    let last = host.log().last().expect(&rt, "an event");
+fn check_told(
+    rt: &(impl AllocGlobal + Abort),
+    host: &mut BenchHost,
+    turns: u64,
+    want: &str,
+) -> Result<(), Fail> {
+    let text = told(rt.alloc(), host, turns)?;
+    assert_eq!(rt; text.as_str(), want);
+    Ok(())
+}
+
+fn check_started(
+    rt: &(impl AllocGlobal + Abort),
+    host: &mut BenchHost,
+    name: &str,
+    want: Start,
+) -> Result<(), Fail> {
+    let start = started(host, rt.alloc(), name)?;
+    assert_eq!(rt; start, want);
+    Ok(())
+}
+
+fn check_children(rt: &(impl AllocGlobal + Abort), host: &mut BenchHost) -> Result<(), Fail> {
+    check_started(rt, host, "a", Start::Child(0))?;
+    check_started(rt, host, "b", Start::Child(1))?;
+    check_told(rt, host, 4, "0:x |1=3 |0:y ||")?;
+    check_started(rt, host, "c", Start::Child(2))?;
+    check_told(rt, host, 3, "0=0 2=0 |||")?;
+    let last = host.log().last().expect(rt, "an event");
     assert!(rt; matches!(last, Event::Turn { count: 2 }));
     Ok(())
+}
+
+#[test]
+fn children_give_their_pieces_one_a_turn_and_wait_for_another(rt: HostRuntime) -> Result<(), Fail> {
+    let mut host = waiting_host(rt.alloc())?;
+    check_children(&rt, &mut host)
 }
 
 // Starts a child, and leaves it alone.
@@ -259,17 +303,26 @@ fn left_alone(host: &mut BenchHost, cmd: &Command) -> Result<Option<u64>, HostEr
     }
 }
 
-#[test]
-fn a_child_that_is_left_alone_tells_nothing_more(rt: HostRuntime) -> Result<(), Fail> {
-    let alloc = rt.alloc();
-    let mut host = BenchHost::new(alloc)?;
-    host.missing("none")?;
-    assert_eq!(rt; started(&mut host, alloc, "none"), Ok(Start::Missing));
-    let id = left_alone(&mut host, &Command::new(alloc, "a")?)?;
+fn check_abandoned(rt: &(impl AllocGlobal + Abort), host: &mut BenchHost) -> Result<(), Fail> {
+    let cmd = Command::new(rt.alloc(), "a")?;
+    let id = left_alone(host, &cmd)?;
     assert_eq!(rt; id, Some(0));
-    assert_eq!(rt; told(alloc, &mut host, 1)?.as_str(), "|");
+    Ok(())
+}
+
+fn check_left_alone(rt: &(impl AllocGlobal + Abort), host: &mut BenchHost) -> Result<(), Fail> {
+    host.missing("none")?;
+    check_started(rt, host, "none", Start::Missing)?;
+    check_abandoned(rt, host)?;
+    check_told(rt, host, 1, "|")?;
     assert_eq!(rt; host.log().len(), 4);
     Ok(())
+}
+
+#[test]
+fn a_child_that_is_left_alone_tells_nothing_more(rt: HostRuntime) -> Result<(), Fail> {
+    let mut host = BenchHost::new(rt.alloc())?;
+    check_left_alone(&rt, &mut host)
 }
 
 fn expanded(host: &mut BenchHost, cmd: &Command, pipes: Pipes) -> Result<Ran, HostError> {
@@ -301,21 +354,34 @@ fn output_told(
     Ok(told_of(alloc, &ran)?)
 }
 
+fn script_output(host: &mut BenchHost, alloc: Global) -> Mem<()> {
+    let writes = script(alloc, 0, &["source", "a warning", "!"], 1, None)?;
+    set_script(host, Role::Expand, "cc", writes)
+}
+
+fn check_output(
+    rt: &(impl AllocGlobal + Abort),
+    host: &mut BenchHost,
+    out: OutputKind,
+    hear: bool,
+    want: &str,
+) -> Result<(), Fail> {
+    let told = output_told(host, rt.alloc(), out, hear)?;
+    assert_eq!(rt; told.as_str(), want);
+    Ok(())
+}
+
+fn check_outputs(rt: &(impl AllocGlobal + Abort), host: &mut BenchHost) -> Result<(), Fail> {
+    script_output(host, rt.alloc())?;
+    check_output(rt, host, OutputKind::Capture, true, "source|a warning!")?;
+    check_output(rt, host, OutputKind::Discard, true, "|sourcea warning!")?;
+    check_output(rt, host, OutputKind::Capture, false, "source|")
+}
+
 #[test]
 fn captured_output_is_the_first_piece(rt: HostRuntime) -> Result<(), Fail> {
-    let alloc = rt.alloc();
-    let mut host = BenchHost::new(alloc)?;
-    let writes = script(alloc, 0, &["source", "a warning", "!"], 1, None)?;
-    set_script(&mut host, Role::Expand, "cc", writes)?;
-    for (out, hear, want) in [
-        (OutputKind::Capture, true, "source|a warning!"),
-        (OutputKind::Discard, true, "|sourcea warning!"),
-        (OutputKind::Capture, false, "source|"),
-    ] {
-        let told = output_told(&mut host, alloc, out, hear)?;
-        assert_eq!(rt; told.as_str(), want);
-    }
-    Ok(())
+    let mut host = BenchHost::new(rt.alloc())?;
+    check_outputs(&rt, &mut host)
 }
 
 fn question(alloc: Global, ask: Ask, program: &str) -> Result<Question, Fail>
@@ -357,23 +423,45 @@ fn verdict_on(alloc: Global, host: &mut BenchHost, ask: Ask, program: &str) -> R
     Ok(verdict_of(alloc, &q, &outcome)?)
 }
 
-#[test]
-fn questions_come_to_the_last_outcome_that_was_given(rt: HostRuntime) -> Result<(), Fail> {
-    let alloc = rt.alloc();
-    let mut host = BenchHost::new(alloc)?;
+fn answer_twice(host: &mut BenchHost) -> Mem<()> {
     host.answer(Ask::Starts, "nvcc", Outcome::Exists(true))?;
     host.answer(Ask::Starts, "nvcc", Outcome::Missing)?;
-    host.fail(HostCall::Probe, 3)?;
-    let first = verdict_on(alloc, &mut host, Ask::Starts, "nvcc")?;
-    assert!(rt; matches!(first, Verdict::Missing));
-    match verdict_on(alloc, &mut host, Ask::Preprocess, "nvcc")? {
+    host.fail(HostCall::Probe, 3)
+}
+
+fn check_missing(rt: &(impl AllocGlobal + Abort), host: &mut BenchHost) -> Result<(), Fail> {
+    let verdict = verdict_on(rt.alloc(), host, Ask::Starts, "nvcc")?;
+    assert!(rt; matches!(verdict, Verdict::Missing));
+    Ok(())
+}
+
+fn check_marks(rt: &(impl AllocGlobal + Abort), host: &mut BenchHost) -> Result<(), Fail> {
+    match verdict_on(rt.alloc(), host, Ask::Preprocess, "nvcc")? {
         Verdict::Marks(marks) => assert!(rt; marks.gcc && !marks.clang && !marks.slash_u),
         _ => assert!(rt; false),
     }
-    let third = verdict_on(alloc, &mut host, Ask::Preprocess, "nvcc")?;
-    assert!(rt; matches!(third, Verdict::Unanswered));
+    Ok(())
+}
+
+fn check_unanswered(rt: &(impl AllocGlobal + Abort), host: &mut BenchHost) -> Result<(), Fail> {
+    let verdict = verdict_on(rt.alloc(), host, Ask::Preprocess, "nvcc")?;
+    assert!(rt; matches!(verdict, Verdict::Unanswered));
+    Ok(())
+}
+
+fn check_questions(rt: &(impl AllocGlobal + Abort), host: &mut BenchHost) -> Result<(), Fail> {
+    answer_twice(host)?;
+    check_missing(rt, host)?;
+    check_marks(rt, host)?;
+    check_unanswered(rt, host)?;
     assert_eq!(rt; host.log().len(), 4);
     Ok(())
+}
+
+#[test]
+fn questions_come_to_the_last_outcome_that_was_given(rt: HostRuntime) -> Result<(), Fail> {
+    let mut host = BenchHost::new(rt.alloc())?;
+    check_questions(&rt, &mut host)
 }
 
 // What comes of it where a probe file that was made is made again, before it is dropped.
@@ -389,18 +477,29 @@ fn made_again(host: &mut BenchHost, path: &str) -> Result<Option<Created>, HostE
     }
 }
 
+fn stands(host: &mut BenchHost, path: &str) -> Mem<bool> {
+    host.exists(path)
+}
+
+fn made(host: &mut BenchHost, path: &str) -> Result<Created, HostError> {
+    host.create_probe(path, b"")
+}
+
+fn check_files(rt: &impl Abort, host: &mut BenchHost) -> Result<(), Fail> {
+    host.file("/w/libfoo.a")?;
+    assert_eq!(rt; stands(host, "/w/libfoo.a"), Ok(true));
+    assert_eq!(rt; made(host, "/w/libfoo.a"), Ok(Created::Exists));
+    assert_eq!(rt; remove(host, "/w/libfoo.a"), Ok(Removal::Gone));
+    assert_eq!(rt; remove(host, "/w/libfoo.a"), Ok(Removal::Absent));
+    assert_eq!(rt; made_again(host, "/w/a.c"), Ok(Some(Created::Exists)));
+    assert_eq!(rt; stands(host, "/w/a.c"), Ok(false));
+    Ok(())
+}
+
 #[test]
 fn files_stand_until_they_are_removed_or_dropped(rt: HostRuntime) -> Result<(), Fail> {
-    let alloc = rt.alloc();
-    let mut host = BenchHost::new(alloc)?;
-    host.file("/w/libfoo.a")?;
-    assert!(rt; host.exists("/w/libfoo.a")?);
-    assert_eq!(rt; host.create_probe("/w/libfoo.a", b""), Ok(Created::Exists));
-    assert_eq!(rt; remove(&mut host, "/w/libfoo.a"), Ok(Removal::Gone));
-    assert_eq!(rt; remove(&mut host, "/w/libfoo.a"), Ok(Removal::Absent));
-    assert_eq!(rt; made_again(&mut host, "/w/a.c"), Ok(Some(Created::Exists)));
-    assert!(rt; !host.exists("/w/a.c")?);
-    Ok(())
+    let mut host = BenchHost::new(rt.alloc())?;
+    check_files(&rt, &mut host)
 }
 
 #[test]

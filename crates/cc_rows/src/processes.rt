@@ -8,7 +8,8 @@ use cc_host::{
 };
 use cc_hosts::ProcessHost;
 use cc_text::{Mem, Text, Vars, Words};
-use std::alloc::Global;
+use std::alloc::{AllocGlobal, Global};
+use std::process::Abort;
 use std::test::Fail;
 use std::{env, fs, process};
 
@@ -39,8 +40,8 @@ fn told(rt: &HostRuntime, cmd: &Command) -> Result<String, Fail> {
     Ok(ran_text(rt.alloc(), &ran)?)
 }
 
-fn shell(rt: &HostRuntime, line: &str) -> Result<Command, Fail> {
-    let mut cmd = Command::new(rt.alloc(), "sh")?;
+fn shell(alloc: Global, line: &str) -> Mem<Command> {
+    let mut cmd = Command::new(alloc, "sh")?;
     cmd.arg("-c")?;
     cmd.arg(line)?;
     Ok(cmd)
@@ -67,7 +68,7 @@ fn commands_end_as_their_programs_do(rt: HostRuntime) -> Result<(), Fail> {
         ),
     ];
     for (line, want) in rows {
-        assert_eq!(rt; told(&rt, &shell(&rt, line)?)?.as_str(), want);
+        assert_eq!(rt; told(&rt, &shell(rt.alloc(), line)?)?.as_str(), want);
     }
     Ok(())
 }
@@ -87,10 +88,23 @@ fn a_child_has_exactly_its_variables(rt: HostRuntime) -> Result<(), Fail> {
 
 #[test]
 fn a_command_runs_in_its_folder(rt: HostRuntime) -> Result<(), Fail> {
-    let mut cmd = shell(&rt, "pwd")?;
+    let mut cmd = shell(rt.alloc(), "pwd")?;
     cmd.current_dir("/")?;
     let want = "Code(0) Bytes { bytes: [47, 10] } Bytes { bytes: [] }";
     assert_eq!(rt; told(&rt, &cmd)?.as_str(), want);
+    Ok(())
+}
+
+// A command that was missing, in a folder that isn't there.
+fn check_folder(
+    rt: &(impl AllocGlobal + Abort),
+    host: &mut ProcessHost<HostRuntime>,
+    cmd: &mut Command,
+) -> Result<(), Fail> {
+    cmd.current_dir("/no such folder")?;
+    let refused = HostError::Fault(HostCall::Output, Why::NotFound);
+    assert_eq!(rt; output(host, cmd).err(), Some(refused));
+    assert_eq!(rt; host.log().len(), 1);
     Ok(())
 }
 
@@ -99,11 +113,7 @@ fn a_missing_folder_is_no_missing_program(rt: HostRuntime) -> Result<(), Fail> {
     let mut host = ProcessHost::new(rt)?;
     let mut cmd = Command::new(rt.alloc(), "no such program é")?;
     assert_eq!(rt; told(&rt, &cmd)?.as_str(), "missing");
-    cmd.current_dir("/no such folder")?;
-    let refused = HostError::Fault(HostCall::Output, Why::NotFound);
-    assert_eq!(rt; output(&mut host, &cmd).err(), Some(refused));
-    assert_eq!(rt; host.log().len(), 1);
-    Ok(())
+    check_folder(&rt, &mut host, &mut cmd)
 }
 
 fn make(host: &mut ProcessHost<HostRuntime>, scope: Scope, folder: &str) -> Result<(), HostError> {
@@ -263,8 +273,8 @@ fn push_news(text: &mut String, news: &News) -> Result<(), Fail> {
 }
 
 // What each child told in a turn.
-fn told_in_turn(rt: &HostRuntime, host: &mut ProcessHost<HostRuntime>) -> Result<String, Fail> {
-    let mut text = String::new(rt.alloc());
+fn told_in_turn(alloc: Global, host: &mut ProcessHost<HostRuntime>) -> Result<String, Fail> {
+    let mut text = String::new(alloc);
     for news in &news_of(host)? {
         push_news(&mut text, news)?;
     }
@@ -275,17 +285,52 @@ fn start(host: &mut ProcessHost<HostRuntime>, cmd: &Command) -> Result<Start, Ho
     host.start(Role::Compile, cmd, KEPT, 1)
 }
 
+fn check_started(
+    rt: &(impl AllocGlobal + Abort),
+    host: &mut ProcessHost<HostRuntime>,
+    line: &str,
+    id: u64,
+) -> Result<(), Fail> {
+    let cmd = shell(rt.alloc(), line)?;
+    let start = start(host, &cmd)?;
+    assert_eq!(rt; start, Start::Child(id));
+    Ok(())
+}
+
+fn check_left_alone(
+    rt: &(impl AllocGlobal + Abort),
+    host: &mut ProcessHost<HostRuntime>,
+) -> Result<(), Fail> {
+    let sleep = shell(rt.alloc(), "sleep 60")?;
+    let id = left_alone(host, &sleep)?;
+    assert_eq!(rt; id, Some(2));
+    Ok(())
+}
+
+fn check_told(
+    rt: &(impl AllocGlobal + Abort),
+    host: &mut ProcessHost<HostRuntime>,
+    want: &str,
+) -> Result<(), Fail> {
+    let text = told_in_turn(rt.alloc(), host)?;
+    assert_eq!(rt; text.as_str(), want);
+    Ok(())
+}
+
+fn check_children(
+    rt: &(impl AllocGlobal + Abort),
+    host: &mut ProcessHost<HostRuntime>,
+) -> Result<(), Fail> {
+    check_started(rt, host, "echo A >&2; exit 3", 0)?;
+    check_started(rt, host, "exit 0", 1)?;
+    check_left_alone(rt, host)?;
+    check_told(rt, host, "0:A\n0=3")?;
+    check_told(rt, host, "1=0")?;
+    check_told(rt, host, "")
+}
+
 #[test]
 fn the_oldest_child_is_waited_for(rt: HostRuntime) -> Result<(), Fail> {
     let mut host = ProcessHost::new(rt)?;
-    for (line, id) in [("echo A >&2; exit 3", 0), ("exit 0", 1)] {
-        let cmd = shell(&rt, line)?;
-        assert_eq!(rt; start(&mut host, &cmd), Ok(Start::Child(id)));
-    }
-    let sleep = shell(&rt, "sleep 60")?;
-    assert_eq!(rt; left_alone(&mut host, &sleep)?, Some(2));
-    for want in ["0:A\n0=3", "1=0", ""] {
-        assert_eq!(rt; told_in_turn(&rt, &mut host)?.as_str(), want);
-    }
-    Ok(())
+    check_children(&rt, &mut host)
 }

@@ -7,6 +7,7 @@ use cc_build::{Build, Error, ErrorKind};
 use cc_host::{Ask, Bench, BenchHost, Event, Host, Outcome, Status};
 use cc_text::{Bytes, Mem, Text, ToolFamily};
 use std::alloc::{AllocGlobal, Global};
+use std::process::Abort;
 use std::sync::Wait;
 use std::test::Fail;
 
@@ -83,14 +84,18 @@ fn answers_and_events(
     Ok((first, second, flag_events(rt.alloc(), host.log())?))
 }
 
-#[test]
-fn a_flag_is_tried_once_for_a_build_and_its_clones(rt: HostRuntime) -> Result<(), Fail> {
-    let build = build_with(rt.alloc(), "cc")?;
-    let (first, second, events) = answers_and_events(&rt, &build)?;
+fn check_flag(rt: &(impl Wait + AllocGlobal + Abort), build: &Build<Bench>) -> Result<(), Fail> {
+    let (first, second, events) = answers_and_events(rt, build)?;
     assert_eq!(rt; first, "yes");
     assert_eq!(rt; second, "yes");
     assert_eq!(rt; events.as_str(), "asked known ");
     Ok(())
+}
+
+#[test]
+fn a_flag_is_tried_once_for_a_build_and_its_clones(rt: HostRuntime) -> Result<(), Fail> {
+    let build = build_with(rt.alloc(), "cc")?;
+    check_flag(&rt, &build)
 }
 
 // A command that ended well, and said something.
