@@ -9,28 +9,3 @@ pub fn env_value_is_true(value: &str) -> bool
 {
     !(value == "" || value == "0" || value == "no" || value == "false")
 }
-
-#[cfg(test)]
-mod tests {
-    use super::*;
-
-    #[test]
-    fn a_value_turns_on_unless_it_says_no(rt: HostRuntime) {
-        let cases = [
-            ("", false),
-            ("0", false),
-            ("no", false),
-            ("false", false),
-            ("1", true),
-            ("00", true),
-            ("No", true),
-            ("FALSE", true),
-            (" ", true),
-            ("n", true),
-            ("é\u{1f600}", true),
-        ];
-        for (value, want) in cases {
-            assert_eq!(rt; env_value_is_true(value), want, "{value}");
-        }
-    }
-}

@@ -20,13 +20,3 @@ impl From<NoMemory> for FlagError {
         FlagError::NoMemory
     }
 }
-
-#[cfg(test)]
-mod tests {
-    use super::*;
-
-    #[test]
-    fn a_refusal_of_memory_is_want_of_memory(rt: HostRuntime) {
-        assert!(rt; FlagError::from(NoMemory) == FlagError::NoMemory);
-    }
-}

@@ -11,8 +11,6 @@ mod features;
 mod fields;
 mod flags;
 mod pairs;
-#[cfg(test)]
-mod tests;
 mod wanted;
 
 pub use error::FlagError;

@@ -1,21 +1,16 @@
 //! The command: its words ask for a compile run, which it drives on the machine.
 //!
-//! Stands on `cc_build` and the crates below it. `drive` reads the words and runs what they ask for; its contract is the
-//! theorem of the repository. `main` alone knows the process: it takes the words, and makes the host that runs processes.
+//! Stands on `cc_command`, whose `drive` reads the words and runs what they ask for: that call carries the theorem of the repository. Here is what
+//! knows the process: its words, the host that runs processes, and a pool of the size that its variables ask for.
 #![tactic(auto)]
-
-mod reading;
-#[cfg(test)]
-mod tests;
-mod top;
-mod words;
 
 ghost use Rattle.std.specs.Prelude.{◌≡◌, ◌≤◌, IfOk};
 ghost use Rattle.cc_env.specs.Snapshot.{snapshot_of};
 ghost use Rattle.cc_host.specs.Part.{since};
 ghost use Rattle.cc_jobs.specs.Size.{pool_size as size_for};
-ghost use Rattle.cc_main.specs.Answer.{heard};
+ghost use Rattle.cc_command.specs.Answer.{heard};
 
+use cc_command::drive;
 use cc_env::EnvSnapshot;
 use cc_host::{Host, HostError, World};
 use cc_hosts::ProcessHost;
@@ -23,8 +18,8 @@ use cc_jobs::{OneCaller, pool_size};
 use cc_text::{Mem, NoMemory, Vars};
 use std::alloc::Global;
 use std::process::ExitCode;
+use std::sync::Wait;
 use std::{env, io};
-use top::drive;
 
 static HELP: &str = "\
 Compiles C, C++ and assembly into a static library, and prints how Cargo links it.
@@ -97,6 +92,28 @@ fn tokens<W: World, H: Host<W>>(alloc: Global, host: &mut H) -> Mem<u32>
     Ok(pool_size(&EnvSnapshot::from_vars(alloc, &vars)?))
 }
 
+// Runs what the words ask for on a host, and answers the status.
+fn run<W: World, H: Host<W>>(
+    rt: &impl Wait,
+    alloc: Global,
+    host: &mut H,
+    words: &[String],
+) -> Mem<u8> {
+    let total = tokens(alloc, host)?;
+    let (jobs, mut seat) = OneCaller::new(total);
+    let ended = drive(rt, alloc, words, u64::MAX, host, &jobs, &mut seat);
+    Ok(ended.status)
+}
+
+// What the program answers on standard output where its first word asks for that.
+fn told_of(words: &[String]) -> Option<&'static str> {
+    match words.first()?.as_str() {
+        "--help" => Some(HELP),
+        "--version" => Some(VERSION),
+        _ => None,
+    }
+}
+
 fn main(rt: HostRuntime) -> io::Result<ExitCode> {
     let words = match words_of(&rt) {
         Ok(words) => words,
@@ -106,24 +123,15 @@ fn main(rt: HostRuntime) -> io::Result<ExitCode> {
         }
         Err(error) => return Err(error),
     };
-    if let Some(first) = words.first() {
-        if first.as_str() == "--help" {
-            print!(rt; "{HELP}")?;
-            return Ok(ExitCode::from(0));
-        }
-        if first.as_str() == "--version" {
-            print!(rt; "{VERSION}")?;
-            return Ok(ExitCode::from(0));
-        }
+    if let Some(text) = told_of(&words) {
+        print!(rt; "{text}")?;
+        return Ok(ExitCode::from(0));
     }
-    let alloc = rt.alloc();
     let Ok(mut host) = ProcessHost::new(rt) else {
         return Ok(ExitCode::from(3));
     };
-    let Ok(total) = tokens(alloc, &mut host) else {
-        return Ok(ExitCode::from(3));
-    };
-    let (jobs, mut seat) = OneCaller::new(total);
-    let ended = drive(&rt, alloc, &words, u64::MAX, &mut host, &jobs, &mut seat);
-    Ok(ExitCode::from(ended.status))
+    match run(&rt, rt.alloc(), &mut host, &words) {
+        Ok(status) => Ok(ExitCode::from(status)),
+        Err(NoMemory) => Ok(ExitCode::from(3)),
+    }
 }

@@ -11,13 +11,13 @@ use Rattle.cc_plan.specs.Inherited.{inherited_refusal, inherited_text, plan_refu
 use Rattle.cc_plan.specs.Asking.{IsOwn}
 use Rattle.cc_env.specs.Snapshot.{last_value}
 use Rattle.cc_words.specs.DefaultWords.{lacks_qnx_variant, is_wasm_linux, is_told_target}
-use Rattle.cc_plan.specs.Given.{target_of, host_of, level_of, is_cargos_target, has_no_defaults}
-use Rattle.cc_plan.specs.Target.{target_name, target_info}
+use Rattle.cc_plan.specs.Given.{target_of, host_of, level_of, has_no_defaults}
+use Rattle.cc_plan.specs.Target.{target_info}
 use Rattle.cc_plan.specs.Refusal.{first_of, unset, target_refusal, given_refusal, refusal_by}
-use Rattle.cc_plan.specs.FlagSupport.{is_for_linker, verdict_refusal}
-use Rattle.cc_plan.specs.Support.{flag_settings, flag_compiler}
-use Rattle.cc_plan.specs.Tool.{words_refusal_by}
-use Rattle.cc_plan.specs.ToolWords.{qnx_refusal, sysroot_refusal, first_refusal, clang_refusal, default_refusal, words_refusal}
+use Rattle.cc_plan.specs.FlagSupport.{verdict_refusal}
+use Rattle.cc_plan.specs.Support.{flag_settings, flag_compiler, is_for_linker}
+use Rattle.cc_plan.specs.Tool.{defaults_refusal_by}
+use Rattle.cc_plan.specs.ToolWords.{qnx_refusal, sysroot_refusal, first_refusal, clang_refusal, defaults_refusal}
 use Rattle.cc_plan.specs.declared.compiler.Compiler.{Compiler}
 use Rattle.cc_plan.specs.declared.error.PlanError.{PlanError}
 use Rattle.cc_plan.specs.declared.error.PlanError.TheVariants.{NotSet, UnknownTarget, QnxArch, NoMemory as WantsMemory}
@@ -68,28 +68,24 @@ inherited_own : (inherits : Bool) (env : List (List ℕ × List ℕ)) → AreOwn
 unfolding inherited_refusal
 inherited_own inherits env = flag_own (option_and_then flags_refusal (inherited_text inherits env))
 
-defaults_own : (no_defaults : Bool) (set : BuildConfig) (env : List (List ℕ × List ℕ)) (cargos : Bool) (name : List ℕ) (target : Info) (family : ToolFamily) (program : List ℕ) → AreOwn (if no_defaults then None else default_refusal set env cargos name target family program)
-unfolding default_refusal clang_refusal
-defaults_own no_defaults set env cargos name target family program =
+defaults_own : (no_defaults : Bool) (set : BuildConfig) (env : List (List ℕ × List ℕ)) (target : Info) (family : ToolFamily) (program : List ℕ) → AreOwn (defaults_refusal no_defaults set env target family program)
+unfolding defaults_refusal clang_refusal
+defaults_own no_defaults set env target family program =
     let sysroot = sysroot_refusal target (last_value env (codes "WASM_MUSL_SYSROOT")) in
     let told = is_told_target family set.compiler target program in
     choice_own no_defaults None (first_refusal (qnx_refusal family target) (if told then sysroot else None)) tt
     (first_words_own (qnx_refusal family target) (if told then sysroot else None) (qnx_own family target) (choice_own told sysroot None (sysroot_own target (last_value env (codes "WASM_MUSL_SYSROOT"))) tt))
 
-words_own : (no_defaults : Bool) (set : BuildConfig) (env : List (List ℕ × List ℕ)) (cargos : Bool) (name : List ℕ) (target : Info) (family : ToolFamily) (program : List ℕ) → AreOwn (words_refusal no_defaults set env cargos name target family program)
-unfolding words_refusal
-words_own no_defaults set env cargos name target family program =
-    first_words_own (if no_defaults then None else default_refusal set env cargos name target family program) (inherited_refusal set.inherit_rustflags env)
-    (defaults_own no_defaults set env cargos name target family program) (inherited_own set.inherit_rustflags env)
-
 by_own : (set : BuildConfig) (env : EnvSeen) (compiler : Compiler) → AreOwn (refusal_by set env compiler)
-unfolding refusal_by words_refusal_by
+unfolding refusal_by defaults_refusal_by
 by_own set env compiler =
+    let host = unset (codes "HOST") (host_of set env) in
+    let inherited = inherited_refusal set.inherit_rustflags env.inherited in
     first_own
-    (words_refusal (has_no_defaults set env) set env.inherited (is_cargos_target set env) (target_name set env) (target_info set env) compiler.family compiler.choice.path)
-    (unset (codes "HOST") (host_of set env))
-    (words_own (has_no_defaults set env) set env.inherited (is_cargos_target set env) (target_name set env) (target_info set env) compiler.family compiler.choice.path)
-    (unset_own (codes "HOST") (host_of set env))
+    (defaults_refusal (has_no_defaults set env) set env.inherited (target_info set env) compiler.family compiler.choice.path)
+    (first_of host inherited)
+    (defaults_own (has_no_defaults set env) set env.inherited (target_info set env) compiler.family compiler.choice.path)
+    (first_own host inherited (unset_own (codes "HOST") (host_of set env)) (inherited_own set.inherit_rustflags env.inherited))
 
 own : (refusal : Option PlanError) (e : PlanError) → AreOwn refusal → (e ≡ WantsMemory) ⊎ (refusal ≡ Some e) → IsOwn e
 own refusal e all (inl memory) = subst IsOwn (sym memory) tt

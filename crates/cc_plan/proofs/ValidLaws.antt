@@ -6,7 +6,8 @@ use Rattle.std.proofs.lemmas.Slice.Eq.{bytes_eq-Decides}
 use Rattle.cc_env.specs.Env.{EnvSeen}
 use Rattle.cc_host.specs.Question.{Look}
 use Rattle.cc_plan.specs.Given.{out_dir_of, target_of, host_of, level_of}
-use Rattle.cc_plan.specs.Planned.{words_refusal_of}
+use Rattle.cc_plan.specs.Inherited.{inherited_refusal}
+use Rattle.cc_plan.specs.Planned.{defaults_refusal_of}
 use Rattle.cc_plan.specs.Refusal.{place_from, earlier_place, source_refusal, sources_after, out_dir_refusal, unset, target_refusal, platform_refusal, given_refusal, refusal_by, tool_refusal, early_refusal, late_refusal, object_in, is_empty}
 use Rattle.cc_plan.specs.Valid.{IsNoneOf, AreApart, IsKnown, IsSetNonempty, Valid}
 use Rattle.cc_plan.specs.declared.settings.BuildConfig.{BuildConfig}
@@ -61,10 +62,11 @@ is_known : (target : Option (List ℕ)) → IsKnown target → target_refusal ta
 is_known None h = absurd h
 is_known (Some target) h = rw h refl
 
-late_valid : (set : BuildConfig) (env : EnvSeen) (look : Look) (empty : Bool) → IsKnown (target_of set env) → IsSome (host_of set env) → (empty ≡ false → IsSome (level_of set env)) → (empty ≡ false → words_refusal_of set env look ≡ None) → (if empty then platform_refusal set env else tool_refusal set env look) ≡ None
+late_valid : (set : BuildConfig) (env : EnvSeen) (look : Look) (empty : Bool) → IsKnown (target_of set env) → IsSome (host_of set env) → (empty ≡ false → IsSome (level_of set env)) → (empty ≡ false → defaults_refusal_of set env look ≡ None) → (empty ≡ false → inherited_refusal set.inherit_rustflags env.inherited ≡ None) → (if empty then platform_refusal set env else tool_refusal set env look) ≡ None
 unfolding platform_refusal given_refusal refusal_by
-late_valid set env look true target host level words = rw (is_known (target_of set env) target, is_set _ (host_of set env) host) refl
-late_valid set env look false target host level words = rw (is_set _ (level_of set env) (level refl), is_known (target_of set env) target, words refl, is_set _ (host_of set env) host) refl
+late_valid set env look true target host level words rustflags = rw (is_known (target_of set env) target, is_set _ (host_of set env) host) refl
+late_valid set env look false target host level words rustflags =
+    rw (is_set _ (level_of set env) (level refl), is_known (target_of set env) target, words refl, is_set _ (host_of set env) host, rustflags refl) refl
 
 -- valid settings pass the checks before the folder is made
 pub early_accepted : (set : BuildConfig) (env : EnvSeen) (look : Look) (output : List ℕ) → Valid set env look output → early_refusal set env output ≡ None
@@ -77,4 +79,4 @@ early_accepted set env look output v =
 -- and those behind it
 pub late_accepted : (set : BuildConfig) (env : EnvSeen) (look : Look) (output : List ℕ) → Valid set env look output → late_refusal set env look ≡ None
 unfolding late_refusal
-late_accepted set env look output v = late_valid set env look (is_empty set.files) v.target v.host v.level v.words
+late_accepted set env look output v = late_valid set env look (is_empty set.files) v.target v.host v.level v.words v.rustflags

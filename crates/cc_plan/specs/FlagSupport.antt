@@ -1,5 +1,5 @@
 -- Whether the compiler of these settings takes a flag.
-use Rattle.std.specs.Prelude.{ℕ, Bool, List, ◌++◌, ◌&&◌, Option, None, if◌then◌else◌}
+use Rattle.std.specs.Prelude.{ℕ, List, ◌++◌, Option, None, if◌then◌else◌}
 use Rattle.cc_env.specs.Env.{EnvSeen}
 use Rattle.cc_host.specs.Question.{Look}
 use Rattle.cc_host.specs.declared.question.Verdict.{Verdict}
@@ -8,21 +8,15 @@ use Rattle.cc_text.specs.Quoted.{quoted}
 use Rattle.cc_text.specs.declared.family.ToolFamily.{ToolFamily}
 use Rattle.cc_tool.specs.Family.{detection_warnings}
 use Rattle.cc_plan.specs.Compiler.{compiler_of}
-use Rattle.cc_words.specs.Families.{is_visual_studio}
 use Rattle.cc_plan.specs.Given.{target_of}
 use Rattle.cc_plan.specs.Plan.{wanted_lines}
 use Rattle.cc_plan.specs.Refusal.{first_of, target_refusal, refusal_by}
-use Rattle.cc_plan.specs.SettingWords.{is_link}
-use Rattle.cc_plan.specs.Support.{bare_family, flag_settings, flag_compiler, flag_question}
+use Rattle.cc_plan.specs.Support.{bare_family, flag_settings, flag_compiler, flag_question, is_for_linker}
 use Rattle.cc_plan.specs.Target.{target_info}
 use Rattle.cc_plan.specs.Tool.{gnu_warnings}
 use Rattle.cc_plan.specs.declared.compiler.Compiler.{Compiler}
 use Rattle.cc_plan.specs.declared.error.PlanError.{PlanError}
 use Rattle.cc_plan.specs.declared.settings.BuildConfig.{BuildConfig}
-
--- the flag is for the linker of Visual Studio
-abbrev pub is_for_linker : ToolFamily → List ℕ → Bool
-is_for_linker family flag = is_visual_studio family && is_link flag
 
 -- the verdict on a flag for the compiler of a family at a path. What the linker is told isn't asked about.
 unfoldable pub verdict_on : BuildConfig → EnvSeen → ToolFamily → List ℕ → List ℕ → Look → Verdict

@@ -5,13 +5,13 @@ use Rattle.cc_host.specs.Question.{Look}
 use Rattle.cc_tool.specs.Tool.{ToolSeen}
 use Rattle.cc_plan.specs.Compiler.{compiler_of}
 use Rattle.cc_plan.specs.Support.{supported_by}
-use Rattle.cc_plan.specs.Tool.{tool_by, warnings_by, words_refusal_by}
+use Rattle.cc_plan.specs.Tool.{tool_by, warnings_by, defaults_refusal_by}
 use Rattle.cc_plan.specs.declared.error.PlanError.{PlanError}
 use Rattle.cc_plan.specs.declared.settings.BuildConfig.{BuildConfig}
 
--- what single words are refused for, with the compiler of these verdicts
-abbrev pub words_refusal_of : BuildConfig → EnvSeen → Look → Option PlanError
-words_refusal_of set env look = words_refusal_by set env (compiler_of set env look)
+-- what the words of the target and the level are refused for, with the compiler of these verdicts
+abbrev pub defaults_refusal_of : BuildConfig → EnvSeen → Look → Option PlanError
+defaults_refusal_of set env look = defaults_refusal_by set env (compiler_of set env look)
 
 -- the words that its compiler takes of those that it is asked about
 abbrev pub supported_of : BuildConfig → EnvSeen → Look → List (List ℕ)

@@ -9,7 +9,8 @@ use Rattle.cc_target.specs.Targets.{is_known}
 use Rattle.cc_plan.specs.Given.{out_dir_of, target_of, host_of, level_of}
 use Rattle.cc_plan.specs.Object.{object_path}
 use Rattle.cc_plan.specs.Compiler.{compiler_of}
-use Rattle.cc_plan.specs.Tool.{words_refusal_by}
+use Rattle.cc_plan.specs.Inherited.{inherited_refusal}
+use Rattle.cc_plan.specs.Tool.{defaults_refusal_by}
 use Rattle.cc_plan.specs.declared.compiler.Compiler.{Compiler}
 use Rattle.cc_plan.specs.declared.error.ArgumentCause.{ArgumentCause}
 use Rattle.cc_plan.specs.declared.error.ArgumentCause.TheVariants.{Output, OutDir, NoFileName, SameObject}
@@ -69,9 +70,11 @@ platform_refusal set env = first_of (target_refusal (target_of set env)) (unset 
 unfoldable pub given_refusal : BuildConfig → EnvSeen → Option PlanError
 given_refusal set env = first_of (unset (codes "OPT_LEVEL") (level_of set env)) (target_refusal (target_of set env))
 
--- what it wants then: what single words want, and the host, which flags of the environment are looked up by
+-- what it wants then, in the order of its words: what those of the target and the level want; the host, which flags of the environment are looked
+-- up by; and flags of Rust code without a wrong one
 unfoldable pub refusal_by : BuildConfig → EnvSeen → Compiler → Option PlanError
-refusal_by set env compiler = first_of (words_refusal_by set env compiler) (unset (codes "HOST") (host_of set env))
+refusal_by set env compiler =
+    first_of (defaults_refusal_by set env compiler) (first_of (unset (codes "HOST") (host_of set env)) (inherited_refusal set.inherit_rustflags env.inherited))
 
 -- what the compiler wants
 abbrev pub tool_refusal : BuildConfig → EnvSeen → Look → Option PlanError

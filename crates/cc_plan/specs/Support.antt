@@ -1,20 +1,20 @@
 -- Words that a compiler is given only where it takes them.
-use Rattle.std.specs.Prelude.{ℕ, Bool, false, not, ◌&&◌, List, [], ◌∷◌, ◌++◌, Some, is_none, bytes_eq, codes, filter}
+use Rattle.std.specs.Prelude.{ℕ, Bool, false, not, ◌&&◌, List, [], ◌∷◌, ◌++◌, Some, is_none, bytes_eq, codes, filter, if◌then◌else◌}
 use Rattle.cc_env.specs.Env.{EnvSeen}
 use Rattle.cc_env.specs.Snapshot.{child_of}
 use Rattle.cc_host.specs.Question.{Look, is_yes}
 use Rattle.cc_host.specs.declared.question.Ask.TheVariants.{Flag}
 use Rattle.cc_host.specs.declared.question.Question.{Question}
-use Rattle.cc_text.specs.Words.{when}
 use Rattle.cc_text.specs.declared.family.ToolFamily.{ToolFamily}
 use Rattle.cc_tool.specs.Family.{family_of}
 use Rattle.cc_tool.specs.declared.family.Detected.TheVariants.{Marks as ByMarks}
 use Rattle.cc_plan.specs.Choice.{bare}
 use Rattle.cc_words.specs.Families.{is_clang, is_visual_studio}
+use Rattle.cc_plan.specs.Refusal.{refusal_by}
 use Rattle.cc_plan.specs.SettingWords.{is_link}
 use Rattle.cc_plan.specs.Settings.{unset_settings}
 use Rattle.cc_words.specs.Texts.{word}
-use Rattle.cc_plan.specs.Tool.{words_by, asks_by, words_refusal_by, language_variable}
+use Rattle.cc_plan.specs.Tool.{words_by, asks_by, language_variable}
 use Rattle.cc_plan.specs.declared.compiler.Compiler.{Compiler}
 use Rattle.cc_plan.specs.declared.flags.BuildFlag.TheVariants.{Always}
 use Rattle.cc_plan.specs.declared.settings.BuildConfig.{BuildConfig}
@@ -37,17 +37,18 @@ flag_settings set path flag = record unset_settings {
 abbrev pub flag_compiler : List ℕ → ToolFamily → Compiler
 flag_compiler path family = record { choice = bare path; family = family; detected = ByMarks }
 
--- Clang doesn't complain of a word that it has no use for
-abbrev pub unused_words : ToolFamily → List (List ℕ)
-unused_words family = when (is_clang family) (word "-Wno-unused-command-line-argument")
-
--- the words, less `-v`, of which a compiler would write an error
+-- the words, less `-v`
 unfoldable pub quiet_words : List (List ℕ) → List (List ℕ)
 quiet_words words = filter (λ w. not (bytes_eq w (codes "-v"))) words
 
+-- The words that a compiler is asked with. Clang is asked without `-v`, at which it would write on standard error, and doesn't complain of a word
+-- that it has no use for.
+abbrev pub asking_words : ToolFamily → List (List ℕ) → List (List ℕ)
+asking_words family words = if is_clang family then quiet_words words ++ word "-Wno-unused-command-line-argument" else words
+
 -- the words of a question on a flag, by its settings
 unfoldable pub question_words : BuildConfig → EnvSeen → Compiler → List (List ℕ)
-question_words plain env compiler = quiet_words (words_by plain env compiler []) ++ unused_words compiler.family
+question_words plain env compiler = asking_words compiler.family (words_by plain env compiler [])
 
 -- the question by its settings
 abbrev pub plain_question : BuildConfig → EnvSeen → Compiler → Question
@@ -62,10 +63,14 @@ plain_question plain env compiler = record {
 abbrev pub flag_question : BuildConfig → EnvSeen → ToolFamily → List ℕ → List ℕ → Question
 flag_question set env family path flag = plain_question (flag_settings set path flag) env (flag_compiler path family)
 
+-- the flag is for the linker of Visual Studio
+abbrev pub is_for_linker : ToolFamily → List ℕ → Bool
+is_for_linker family flag = is_visual_studio family && is_link flag
+
 -- what the linker is told isn't asked about, and neither is a flag for which there is no command
 unfoldable pub is_asked_of : BuildConfig → EnvSeen → ToolFamily → List ℕ → List ℕ → Bool
 is_asked_of set env family path flag =
-    not (is_visual_studio family && is_link flag) && is_none (words_refusal_by (flag_settings set path flag) env (flag_compiler path family))
+    not (is_for_linker family flag) && is_none (refusal_by (flag_settings set path flag) env (flag_compiler path family))
 
 -- the compiler of a family at a path takes the flag
 unfoldable pub takes : BuildConfig → EnvSeen → ToolFamily → List ℕ → Look → List ℕ → Bool

@@ -14,7 +14,7 @@ use Rattle.cc_words.specs.Texts.{is}
 use Rattle.cc_plan.specs.Inherited.{inherited_words, lost_words}
 use Rattle.cc_words.specs.MapWords.{cargo_maps, set_maps, map_lacks}
 use Rattle.cc_plan.specs.SettingWords.{leaves_off}
-use Rattle.cc_plan.specs.ToolWords.{asked_words, tool_words, tool_warnings, words_refusal}
+use Rattle.cc_plan.specs.ToolWords.{asked_words, tool_words, tool_warnings, defaults_refusal}
 use Rattle.cc_plan.specs.declared.compiler.Compiler.{Compiler}
 use Rattle.cc_plan.specs.declared.error.PlanError.{PlanError}
 use Rattle.cc_plan.specs.declared.settings.BuildConfig.{BuildConfig}
@@ -32,10 +32,9 @@ words_by set env compiler supported =
 abbrev pub asks_by : BuildConfig → EnvSeen → Compiler → List (List ℕ)
 asks_by set env compiler = asked_words (has_no_defaults set env) set env.inherited (target_info set env) compiler.family
 
--- what single words are refused for
-unfoldable pub words_refusal_by : BuildConfig → EnvSeen → Compiler → Option PlanError
-words_refusal_by set env compiler =
-    words_refusal (has_no_defaults set env) set env.inherited (is_cargos_target set env) (target_name set env) (target_info set env) compiler.family compiler.choice.path
+-- what the words of the target and the level are refused for
+unfoldable pub defaults_refusal_by : BuildConfig → EnvSeen → Compiler → Option PlanError
+defaults_refusal_by set env compiler = defaults_refusal (has_no_defaults set env) set env.inherited (target_info set env) compiler.family compiler.choice.path
 
 -- GCC was found for a target of the Visual Studio tools
 unfoldable pub gnu_warnings : BuildConfig → Info → ToolFamily → List (List ℕ)

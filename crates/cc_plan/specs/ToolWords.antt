@@ -12,7 +12,7 @@ use Rattle.cc_words.specs.Families.{is_gnu, is_gnu_like, is_visual_studio}
 use Rattle.cc_words.specs.GnuWords.{gnu_words, processor_words, bare_and_arm_words, riscv_words}
 use Rattle.cc_plan.specs.SettingWords.{standard_words, include_words, error_words, warning_words, extra_warning_words, flag_words, flag_asks, definition_words, environment_words}
 use Rattle.cc_words.specs.DebugWords.{debug_words, frame_pointer_words, keeps_frame_pointers, leaf_word}
-use Rattle.cc_plan.specs.Inherited.{inherited_cpu, inherited_words, inherited_refusal, taken_words}
+use Rattle.cc_plan.specs.Inherited.{inherited_cpu, inherited_words, taken_words}
 use Rattle.cc_words.specs.MapWords.{cargo_maps, set_maps, taken_maps, map_asks, pairs_words, trim_pairs, remap_pair}
 use Rattle.cc_words.specs.Texts.{has, is_among}
 use Rattle.cc_words.specs.VisualStudioWords.{visual_studio_words, visual_studio_target_words}
@@ -149,14 +149,10 @@ unfoldable pub clang_refusal : BuildConfig → List (List ℕ × List ℕ) → I
 clang_refusal set env target family program =
     if is_told_target family set.compiler target program then sysroot_refusal target (last_value env (codes "WASM_MUSL_SYSROOT")) else None
 
--- why there are no such words
-unfoldable pub default_refusal : BuildConfig → List (List ℕ × List ℕ) → Bool → List ℕ → Info → ToolFamily → List ℕ → Option PlanError
-default_refusal set env cargos name target family program = first_refusal (qnx_refusal family target) (clang_refusal set env target family program)
-
--- why there are no words of a tool
-unfoldable pub words_refusal : Bool → BuildConfig → List (List ℕ × List ℕ) → Bool → List ℕ → Info → ToolFamily → List ℕ → Option PlanError
-words_refusal no_defaults set env cargos name target family program =
-    first_refusal (if no_defaults then None else default_refusal set env cargos name target family program) (inherited_refusal set.inherit_rustflags env)
+-- why there are no words of the target and the level, where they aren't left out
+unfoldable pub defaults_refusal : Bool → BuildConfig → List (List ℕ × List ℕ) → Info → ToolFamily → List ℕ → Option PlanError
+defaults_refusal no_defaults set env target family program =
+    if no_defaults then None else first_refusal (qnx_refusal family target) (clang_refusal set env target family program)
 
 -- what a user is warned of: a C++ library is set, and the compiler can't be told
 unfoldable pub tool_warnings : Bool → BuildConfig → ToolFamily → List (List ℕ)

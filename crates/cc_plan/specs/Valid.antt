@@ -8,7 +8,8 @@ use Rattle.cc_host.specs.Question.{Look}
 use Rattle.cc_target.specs.Targets.{is_known}
 use Rattle.cc_plan.specs.Given.{out_dir_of, target_of, host_of, level_of, is_disabled}
 use Rattle.cc_plan.specs.Refusal.{is_empty, object_in}
-use Rattle.cc_plan.specs.Planned.{words_refusal_of}
+use Rattle.cc_plan.specs.Inherited.{inherited_refusal}
+use Rattle.cc_plan.specs.Planned.{defaults_refusal_of}
 use Rattle.cc_plan.specs.declared.settings.BuildConfig.{BuildConfig}
 
 -- a text is none of these
@@ -40,5 +41,7 @@ pub record Valid (set : BuildConfig) (env : EnvSeen) (look : Look) (output : Lis
   pub target : IsKnown (target_of set env)
   pub host : IsSome (host_of set env)
   pub level : is_empty set.files ≡ false → IsSome (level_of set env)
-  -- no word is refused: the QNX compilers have a name for the architecture, and the demanded sysroot is set
-  pub words : is_empty set.files ≡ false → words_refusal_of set env look ≡ None
+  -- no word of the target is refused: the QNX compilers have a name for the architecture, and the demanded sysroot is set
+  pub words : is_empty set.files ≡ false → defaults_refusal_of set env look ≡ None
+  -- none of the flags of Rust code is wrong
+  pub rustflags : is_empty set.files ≡ false → inherited_refusal set.inherit_rustflags env.inherited ≡ None

@@ -17,16 +17,14 @@ ghost use Rattle.cc_tool.specs.Asks.{Asks};
 use crate::compiler::{Compiler, compiler_of};
 use crate::given::probe_folder;
 use crate::printing::{print_warnings, wanted_lines};
-use crate::support::{bare_family, flag_compiler, flag_question, flag_settings};
+use crate::support::{bare_family, flag_compiler, flag_question, flag_settings, is_for_linker};
 use crate::tool::{check_compiler, detection_warnings, known_target, push_gnu_warning};
-use crate::words::is_link;
 use crate::{BuildConfig, PlanError, Sight};
 use cc_env::BuildEnv;
 use cc_host::{Host, Question, Verdict, World};
 use cc_target::TargetInfo;
 use cc_text::{Mem, ToolFamily, Words};
 use cc_tool::ask_flag;
-use cc_words::is_visual_studio;
 use std::alloc::Global;
 use std::sync::Wait;
 
@@ -50,13 +48,6 @@ fn checked_question(
     check_compiler(alloc, &plain, env, target, &compiler)?;
     let question = flag_question(alloc, env, target, &plain, &compiler)?;
     Ok(question)
-}
-
-// The flag is for the linker of Visual Studio.
-fn is_for_linker(family: ToolFamily, flag: &str) -> bool
-    ensures { result ≡ spec.is_for_linker family flag.now }
-{
-    is_visual_studio(family) && is_link(flag)
 }
 
 // The verdict on a flag for the compiler of a family at a path.

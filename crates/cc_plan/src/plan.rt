@@ -174,8 +174,8 @@ fn plan_compiles<W: World, H: Host<W>>(
 
 /// The warnings, commands and lines of a compile run with these sources. It asks, and prints nothing.
 ///
-/// Refused where the target or the host is set nowhere, the target isn't known or, with sources, the optimisation level is set nowhere or
-/// a word of the target is refused.
+/// Refused where the target or the host is set nowhere, the target isn't known or, with sources, the optimisation level is set nowhere, a
+/// word of the target is refused or a flag of Rust code is wrong.
 pub fn plan_commands<W: World, H: Host<W>>(
     rt: &impl Wait,
     alloc: Global,

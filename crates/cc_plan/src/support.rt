@@ -6,7 +6,8 @@ ghost use Rattle.cc_target.specs.Targets.{info_seen};
 ghost use Rattle.cc_tool.specs.Asks.{Asks};
 ghost use Rattle.cc_plan.specs.Given.{probe_folder};
 ghost use Rattle.cc_plan.specs.Target.{target_info};
-ghost use Rattle.cc_plan.specs.Tool.{language_variable, words_refusal_by};
+ghost use Rattle.cc_plan.specs.Refusal.{refusal_by};
+ghost use Rattle.cc_plan.specs.Tool.{language_variable};
 ghost use Rattle.cc_plan.specs.Support.{supported_by};
 ghost use Rattle.cc_plan.specs.Support as spec;
 ghost use Rattle.cc_text.specs.Words.{when};
@@ -14,7 +15,7 @@ ghost use Rattle.cc_text.specs.Words.{when};
 use crate::compiler::Compiler;
 use crate::given::{has_no_defaults, probe_folder};
 use crate::sight::is_yes;
-use crate::tool::{check_words_by, language_variable, words_by};
+use crate::tool::{check_compiler, language_variable, words_by};
 use crate::words::{asked_words, is_link};
 use crate::{BuildConfig, BuildFlag, Choice, Flags, PlanError, Sight};
 use cc_env::BuildEnv;
@@ -98,14 +99,17 @@ fn flag_vars(alloc: Global, env: &BuildEnv, family: ToolFamily) -> Mem<Vars>
     env.inherited().child_vars(alloc, &entries)
 }
 
-// Adds that Clang doesn't complain of a word that it has no use for.
-fn push_unused(words: &mut Words, family: ToolFamily) -> Mem<()>
-    ensures { OnOk result (words.new ≡ words.old ++ spec.unused_words family) }
+// The words that a compiler is asked with.
+fn asking_words(alloc: Global, family: ToolFamily, words: Words) -> Mem<Words>
+    ensures { IfOk result (λ asking. asking ≡ spec.asking_words family words) }
 {
     if is_clang(family) {
-        words.push("-Wno-unused-command-line-argument")?;
+        let mut quiet = quiet_words(alloc, &words)?;
+        quiet.push("-Wno-unused-command-line-argument")?;
+        Ok(quiet)
+    } else {
+        Ok(words)
     }
-    Ok(())
 }
 
 // The words of a question on a flag, by its settings.
@@ -121,9 +125,7 @@ fn question_words(
     ensures { IfOk result (λ words. words ≡ spec.question_words plain.now env.now compiler.now) }
 {
     let words = words_by(alloc, plain, env, target, compiler, &[])?;
-    let mut quiet = quiet_words(alloc, &words)?;
-    push_unused(&mut quiet, compiler.family)?;
-    Ok(quiet)
+    asking_words(alloc, compiler.family, words)
 }
 
 // The question whether the compiler at a path takes a flag.
@@ -160,16 +162,23 @@ fn can_ask(
     compiler: &Compiler,
 ) -> Mem<bool>
     requires { info_seen target.now ≡ target_info plain.now env.now }
-    ensures { IfOk result (λ b. b ≡ is_none (words_refusal_by plain.now env.now compiler.now)) }
+    ensures { IfOk result (λ b. b ≡ is_none (refusal_by plain.now env.now compiler.now)) }
 {
-    match check_words_by(alloc, plain, env, target, compiler) {
+    match check_compiler(alloc, plain, env, target, compiler) {
         Ok(()) => Ok(true),
         Err(PlanError::NoMemory) => Err(NoMemory),
         Err(_) => Ok(false),
     }
 }
 
-// Whether a flag is asked about.
+/// The flag is for the linker of Visual Studio.
+pub(crate) fn is_for_linker(family: ToolFamily, flag: &str) -> bool
+    ensures { result ≡ spec.is_for_linker family flag.now }
+{
+    is_visual_studio(family) && is_link(flag)
+}
+
+// The question on a flag, where it is asked about.
 #[tactic(auto, unfolding(crate::specs::Support::is_asked_of))]
 fn question_of(
     alloc: Global,
@@ -183,7 +192,7 @@ fn question_of(
     requires { info_seen target.now ≡ target_info set.now env.now }
     ensures { IfOk result (λ q. q ≡ (if spec.is_asked_of set.now env.now family path.now flag.now then Some (spec.flag_question set.now env.now family path.now flag.now) else None)) }
 {
-    if is_visual_studio(family) && is_link(flag) {
+    if is_for_linker(family, flag) {
         return Ok(None);
     }
     let plain = flag_settings(alloc, set, path, flag)?;

@@ -13,7 +13,7 @@ ghost use Rattle.cc_plan.specs.Plan.{tool_lines, wanted_lines as lines_of};
 ghost use Rattle.cc_plan.specs.Refusal.{unset, target_refusal, platform_refusal, given_refusal, refusal_by, tool_refusal};
 ghost use Rattle.cc_plan.specs.Target.{target_name, target_info};
 ghost use Rattle.cc_plan.specs.Planned.{warnings_of, tool_of};
-ghost use Rattle.cc_plan.specs.Tool.{language_variable, gnu_warnings, lacks_by, other_warnings, words_by, words_refusal_by, warnings_by, wrapped_tool, tool_by};
+ghost use Rattle.cc_plan.specs.Tool.{language_variable, gnu_warnings, lacks_by, other_warnings, words_by, defaults_refusal_by, warnings_by, wrapped_tool, tool_by};
 ghost use Rattle.cc_text.specs.Quoted.{quoted as quoted_path};
 ghost use Rattle.cc_tool.specs.Family.{detection_warnings};
 ghost use Rattle.cc_plan.specs.declared.error.PlanError.TheVariants.{NoMemory as WantsMemory, NotSet, Host as HostFault};
@@ -22,11 +22,11 @@ use crate::compiler::{Compiler, compiler_of};
 use crate::given::{
     environment_flags, has_no_defaults, host_of, is_cargos_target, level_of, target_of,
 };
-use crate::inherited::{inherited_words, push_lost};
+use crate::inherited::{check_inherited, inherited_words, push_lost};
 use crate::link_warning::{is_told, leaves_off};
 use crate::printing::{print_warnings, wanted_lines};
 use crate::support::supported_words;
-use crate::words::{check_words, tool_warnings, tool_words};
+use crate::words::{check_defaults, tool_warnings, tool_words};
 use crate::{BuildConfig, PlanError, Sight};
 use cc_env::BuildEnv;
 use cc_host::{Host, World};
@@ -159,9 +159,9 @@ pub(crate) fn words_by(
     )
 }
 
-// Whether a compiler has words for a target.
-#[tactic(auto, unfolding(crate::specs::Tool::words_refusal_by))]
-pub(crate) fn check_words_by(
+// Whether a compiler has the words of the target and the level.
+#[tactic(auto, unfolding(crate::specs::Tool::defaults_refusal_by))]
+fn check_defaults_by(
     alloc: Global,
     set: &BuildConfig,
     env: &BuildEnv,
@@ -169,23 +169,21 @@ pub(crate) fn check_words_by(
     compiler: &Compiler,
 ) -> Result<(), PlanError>
     requires { info_seen target.now ≡ target_info set.now env.now }
-    ensures allowed { OnOk result (words_refusal_by set.now env.now compiler.now ≡ None) }
-    ensures refused { IfErr result (λ e. (e ≡ WantsMemory) ⊎ (words_refusal_by set.now env.now compiler.now ≡ Some e)) }
+    ensures allowed { OnOk result (defaults_refusal_by set.now env.now compiler.now ≡ None) }
+    ensures refused { IfErr result (λ e. (e ≡ WantsMemory) ⊎ (defaults_refusal_by set.now env.now compiler.now ≡ Some e)) }
 {
-    check_words(
+    check_defaults(
         alloc,
         has_no_defaults(set, env),
         set,
         env.inherited(),
-        is_cargos_target(set, env),
-        target_of(set, env).unwrap_or(""),
         target,
         compiler.family,
         compiler.choice.path.as_str(),
     )
 }
 
-// Whether a compiler has words, and the host is set too.
+// Whether a compiler has words. Flags of the environment, which are looked up by the host too, come before those of Rust code.
 #[tactic(auto, unfolding(crate::specs::Refusal::refusal_by))]
 pub(crate) fn check_compiler(
     alloc: Global,
@@ -198,8 +196,9 @@ pub(crate) fn check_compiler(
     ensures allowed { OnOk result (refusal_by set.now env.now compiler.now ≡ None) }
     ensures refused { IfErr result (λ e. (e ≡ WantsMemory) ⊎ (refusal_by set.now env.now compiler.now ≡ Some e)) }
 {
-    check_words_by(alloc, set, env, target, compiler)?;
+    check_defaults_by(alloc, set, env, target, compiler)?;
     demand(alloc, "HOST", host_of(set, env))?;
+    check_inherited(alloc, set.inherit_rustflags, env.inherited())?;
     Ok(())
 }
 
@@ -425,8 +424,8 @@ pub(crate) fn plan_tool<W: World, H: Host<W>>(
 
 /// The tool of these settings in this environment. Its warnings are printed last, where they are wanted.
 ///
-/// Refused where the optimisation level, the target or the host is set nowhere, the target isn't known, or a word of the target is
-/// refused; and by a fault of the host that prints.
+/// Refused where the optimisation level, the target or the host is set nowhere, the target isn't known, a word of the target is refused, or
+/// a flag of Rust code is wrong; and by a fault of the host that prints.
 pub fn tool_of<W: World, H: Host<W>>(
     rt: &impl Wait,
     alloc: Global,

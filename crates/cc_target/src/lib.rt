@@ -6,8 +6,6 @@
 
 mod info;
 mod rows;
-#[cfg(test)]
-mod tests;
 mod tools;
 
 pub use info::{TargetInfo, UnknownTarget};

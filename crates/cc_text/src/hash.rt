@@ -63,27 +63,3 @@ pub fn hex16(alloc: Global, n: u64) -> Mem<Text>
     push_digits(&mut text, 16, n)?;
     Ok(text)
 }
-
-#[cfg(test)]
-mod tests {
-    use super::*;
-    use std::test::Fail;
-
-    #[test]
-    fn gives_the_published_hashes_and_their_digits(rt: HostRuntime) -> Result<(), Fail> {
-        let cases: [(&[u8], u64); 3] = [
-            (b"", 0xcbf2_9ce4_8422_2325),
-            (b"a", 0xaf63_dc4c_8601_ec8c),
-            (b"foobar", 0x8594_4171_f739_67e8),
-        ];
-        for (bytes, hash) in cases {
-            assert_eq!(rt; fnv1a(bytes), hash);
-        }
-        assert_eq!(rt; hex16(rt.alloc(), 10)?.as_str(), "000000000000000a");
-        assert_eq!(rt;
-            hex16(rt.alloc(), 0xaf63_dc4c_8601_ec8c)?.as_str(),
-            "af63dc4c8601ec8c"
-        );
-        Ok(())
-    }
-}

@@ -102,27 +102,3 @@ impl<K: PartialEq + Drop, V: Drop> VecMap<K, V> {
         }
     }
 }
-
-#[cfg(test)]
-mod tests {
-    use super::*;
-    use std::test::Fail;
-
-    #[test]
-    fn a_key_has_its_last_value_in_its_first_place(rt: HostRuntime) -> Result<(), Fail> {
-        let mut map: VecMap<u32, u32> = VecMap::new(rt.alloc());
-        map.insert(7, 1)?;
-        map.insert(7, 2)?;
-        assert_eq!(rt; map.as_slice().len(), 1);
-        assert_eq!(rt; map.get(&7), Some(&2));
-        map.insert(8, 3)?;
-        map.insert(7, 4)?;
-        if let Some(value) = map.get_mut(&8) {
-            *value += 10;
-        }
-        assert!(rt; map.get_mut(&9).is_none());
-        assert!(rt; map.get(&9).is_none());
-        assert!(rt; map.as_slice() == [(7, 4), (8, 13)].as_slice());
-        Ok(())
-    }
-}

@@ -32,19 +32,3 @@ impl<T: Drop> From<AllocFailed<T>> for NoMemory {
         NoMemory
     }
 }
-
-#[cfg(test)]
-mod tests {
-    use super::*;
-    use std::test::Fail;
-
-    #[test]
-    fn each_refusal_of_an_allocator_is_want_of_memory(rt: HostRuntime) -> Result<(), Fail> {
-        assert_eq!(rt; NoMemory::from(AllocError), NoMemory);
-        assert_eq!(rt; NoMemory::from(AllocFailed { value: 7u32 }), NoMemory);
-        let mut text = String::new(rt.alloc());
-        write!(text, "{NoMemory}")?;
-        assert_eq!(rt; text.as_str(), "out of memory");
-        Ok(())
-    }
-}

@@ -42,36 +42,3 @@ pub fn join_texts(alloc: Global, words: &Words, delimiter: char) -> Mem<Text>
         }
     }
 }
-
-#[cfg(test)]
-mod tests {
-    use super::*;
-    use std::test::Fail;
-
-    #[test]
-    fn words_between_blanks_are_joined_by_a_delimiter(rt: HostRuntime) -> Result<(), Fail> {
-        let cases = [
-            ("", ""),
-            (" \t\n\u{c}\r", ""),
-            ("+a b", "+a,b"),
-            (
-                " é\t'\u{1f600}\nx'\u{c}y\rz\u{b}w ",
-                "é,'\u{1f600},x',y,z\u{b}w",
-            ),
-        ];
-        for (text, want) in cases {
-            let words = ascii_words(rt.alloc(), text)?;
-            assert_eq!(rt;
-                join_texts(rt.alloc(), &words, ',')?.as_str(),
-                want,
-                "{text}"
-            );
-        }
-        let words = ascii_words(rt.alloc(), "a b")?;
-        assert_eq!(rt;
-            join_texts(rt.alloc(), &words, '\u{1f600}')?.as_str(),
-            "a\u{1f600}b"
-        );
-        Ok(())
-    }
-}

@@ -71,27 +71,3 @@ pub fn strip_prefix<'a>(path: &'a str, base: &str) -> Option<&'a str>
     }
     Some(rest)
 }
-
-#[cfg(test)]
-mod tests {
-    use super::*;
-
-    #[test]
-    fn the_rest_runs_from_component_to_component(rt: HostRuntime) {
-        let cases = [
-            ("/a/b/c", "/a", Some("b/c")),
-            ("/a//./b/./c/.", "/a/", Some("b/./c")),
-            ("/a", "/", Some("a")),
-            ("a/b/", "a//b", Some("")),
-            ("./a/", "", Some("./a")),
-            ("./a", ".", Some("a")),
-            ("é/\u{1f600}/b", "é", Some("\u{1f600}/b")),
-            ("ab", "a", None),
-            ("/a", "a", None),
-            ("a", "a/b", None),
-        ];
-        for (path, base, want) in cases {
-            assert_eq!(rt; strip_prefix(path, base), want, "{path} {base}");
-        }
-    }
-}

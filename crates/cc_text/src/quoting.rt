@@ -52,27 +52,3 @@ pub fn quoted(alloc: Global, s: &str) -> Mem<Text>
     text.push_str("\"")?;
     Ok(text)
 }
-
-#[cfg(test)]
-mod tests {
-    use super::*;
-    use std::test::Fail;
-
-    #[test]
-    fn escapes_what_a_reader_would_not_see(rt: HostRuntime) -> Result<(), Fail> {
-        let cases = [
-            ("", "\"\""),
-            ("a\"b", "\"a\\\"b\""),
-            ("\0", "\"\\0\""),
-            ("\u{1f}", "\"\\u{1f}\""),
-            ("\u{1}", "\"\\u{1}\""),
-            ("\u{7f}", "\"\\u{7f}\""),
-            ("é \u{1f600}", "\"é \u{1f600}\""),
-            ("\\\n\r\t", "\"\\\\\\n\\r\\t\""),
-        ];
-        for (text, want) in cases {
-            assert_eq!(rt; quoted(rt.alloc(), text)?.as_str(), want);
-        }
-        Ok(())
-    }
-}

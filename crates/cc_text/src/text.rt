@@ -193,27 +193,3 @@ impl PartialEq for Bytes {
 impl Eq for Bytes {
     ghost laws = { nat_list_eq_equiv };
 }
-
-#[cfg(test)]
-mod tests {
-    use super::*;
-    use std::collections::BTreeSet;
-    use std::test::Fail;
-
-    #[test]
-    fn texts_are_ordered_by_their_bytes(rt: HostRuntime) -> Result<(), Fail> {
-        let alloc = rt.alloc();
-        let mut set = BTreeSet::new(alloc);
-        for text in ["b", "\u{1f600}", "é", "a", "b", "B", ""] {
-            set.insert(Text::of(alloc, text)?)?;
-        }
-        let want = ["", "B", "a", "b", "é", "\u{1f600}"];
-        assert_eq!(rt; set.len(), want.len());
-        for (text, want) in set.iter().zip(want) {
-            assert_eq!(rt; text.as_str(), want);
-        }
-        assert!(rt; Bytes::of(alloc, b"a")? == Bytes::of(alloc, b"a")?);
-        assert!(rt; Bytes::of(alloc, b"a")? != Bytes::of(alloc, b"ab")?);
-        Ok(())
-    }
-}

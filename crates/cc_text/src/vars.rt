@@ -139,26 +139,3 @@ impl PartialEq for Vars {
 impl Eq for Vars {
     ghost laws = { same_vars-equiv };
 }
-
-#[cfg(test)]
-mod tests {
-    use super::*;
-    use std::test::Fail;
-
-    #[test]
-    fn a_set_value_stands_in_the_place_of_the_first(rt: HostRuntime) -> Result<(), Fail> {
-        let mut vars = Vars::new(rt.alloc());
-        for (name, value) in [("A", "1"), ("B", "2"), ("A", "3"), ("C", "é")] {
-            vars.push(name, value)?;
-        }
-        vars.set("A", "4")?;
-        vars.set("D", "5")?;
-        assert_eq!(rt; vars.len(), 5);
-        for (place, name, value) in [(0, "A", "4"), (1, "B", "2"), (2, "A", "3"), (4, "D", "5")] {
-            let pair = vars.get(place).expect(&rt, "a pair");
-            assert_eq!(rt; pair.0.as_str(), name);
-            assert_eq!(rt; pair.1.as_str(), value);
-        }
-        Ok(())
-    }
-}

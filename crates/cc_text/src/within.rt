@@ -26,26 +26,3 @@ pub fn ends_with(text: &str, suffix: &str) -> bool
 {
     text.ends_with(suffix)
 }
-
-#[cfg(test)]
-mod tests {
-    use super::*;
-
-    #[test]
-    fn a_text_stands_at_the_front_at_the_end_or_between(rt: HostRuntime) {
-        let cases = [
-            ("clang-cl", "clang", true, true, false),
-            ("clang-cl", "cl", true, true, true),
-            ("clang-cl", "g-", true, false, false),
-            ("clang-cl", "CL", false, false, false),
-            ("aé\u{1f600}", "é\u{1f600}", true, false, true),
-            ("", "", true, true, true),
-            ("a", "aa", false, false, false),
-        ];
-        for (text, part, within, first, last) in cases {
-            assert_eq!(rt; contains(text, part), within, "{text} {part}");
-            assert_eq!(rt; begins_with(text, part), first, "{text} {part}");
-            assert_eq!(rt; ends_with(text, part), last, "{text} {part}");
-        }
-    }
-}

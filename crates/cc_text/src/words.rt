@@ -173,29 +173,3 @@ impl PartialEq for Words {
 impl Eq for Words {
     ghost laws = { same_words-equiv };
 }
-
-#[cfg(test)]
-mod tests {
-    use super::*;
-    use std::test::Fail;
-
-    #[test]
-    fn words_are_added_in_order(rt: HostRuntime) -> Result<(), Fail> {
-        let alloc = rt.alloc();
-        let mut words = Words::new(alloc);
-        words.push_all(&["é", "b"])?;
-        words.push_joined("-O", "\u{1f600}")?;
-        words.push_chosen(&[(true, &["c", "d"]), (false, &["x"]), (true, &["e"])])?;
-        let mut all = Words::new(alloc);
-        all.push("a")?;
-        all.extend(&words)?;
-        assert!(rt; words != all);
-        let want = ["a", "é", "b", "-O\u{1f600}", "c", "d", "e"];
-        assert_eq!(rt; all.len(), want.len());
-        for (word, want) in all.as_slice().iter().zip(want) {
-            assert_eq!(rt; word.as_str(), want);
-        }
-        assert!(rt; all == all.try_clone()?);
-        Ok(())
-    }
-}

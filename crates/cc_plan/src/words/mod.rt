@@ -5,4 +5,4 @@ mod tool;
 
 pub(crate) use compile::{compile_words, is_masm};
 pub(crate) use settings::{is_link, is_link_flag};
-pub(crate) use tool::{asked_words, check_words, tool_warnings, tool_words};
+pub(crate) use tool::{asked_words, check_defaults, tool_warnings, tool_words};

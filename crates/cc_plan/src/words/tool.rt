@@ -8,7 +8,7 @@ ghost use Rattle.cc_plan.specs.ToolWords as spec;
 ghost use Rattle.cc_plan.specs.ToolWords.{qnx_refusal};
 ghost use Rattle.cc_plan.specs.declared.error.PlanError.TheVariants.{NoMemory as WantsMemory};
 
-use crate::inherited::{check_inherited, inherited_flags, inherited_words, push_taken};
+use crate::inherited::{inherited_flags, inherited_words, push_taken};
 use crate::words::settings::{
     push_definition_words, push_environment_words, push_error_words, push_extra_warning_words,
     push_flag_asks, push_flag_words, push_include_words, push_standard_words, push_warning_words,
@@ -398,54 +398,32 @@ fn check_sysroot(
     Ok(())
 }
 
-// The words that a target and a level bring, where there are such.
-#[tactic(auto, unfolding(crate::specs::ToolWords::default_refusal))]
-fn check_defaults(
-    alloc: Global,
-    set: &BuildConfig,
-    env: &EnvSnapshot,
-    cargos: bool,
-    name: &str,
-    target: &TargetInfo,
-    family: ToolFamily,
-    program: &str,
-) -> Result<(), PlanError>
-    ensures allowed { OnOk result (spec.default_refusal set.now env.now cargos name.now (info_seen target.now) family program.now ≡ None) }
-    ensures refused { IfErr result (λ e. (e ≡ WantsMemory) ⊎ (spec.default_refusal set.now env.now cargos name.now (info_seen target.now) family program.now ≡ Some e)) }
-{
-    check_qnx(alloc, target, family)?;
-    check_sysroot(alloc, set, env, target, family, program)?;
-    Ok(())
-}
-
-/// Whether a tool has words.
-#[tactic(auto, unfolding(crate::specs::ToolWords::words_refusal))]
-pub(crate) fn check_words(
+/// Whether there are the words that a target and a level bring, or they are left out.
+///
+/// Refused where QNX has no compiler for the architecture, or the sysroot of WebAssembly's threads isn't set.
+#[tactic(auto, unfolding(crate::specs::ToolWords::defaults_refusal))]
+pub(crate) fn check_defaults(
     alloc: Global,
     no_defaults: bool,
     set: &BuildConfig,
     env: &EnvSnapshot,
-    cargos: bool,
-    name: &str,
     target: &TargetInfo,
     family: ToolFamily,
     program: &str,
 ) -> Result<(), PlanError>
-    ensures allowed { OnOk result (spec.words_refusal no_defaults set.now env.now cargos name.now (info_seen target.now) family program.now ≡ None) }
-    ensures refused { IfErr result (λ e. (e ≡ WantsMemory) ⊎ (spec.words_refusal no_defaults set.now env.now cargos name.now (info_seen target.now) family program.now ≡ Some e)) }
+    ensures allowed { OnOk result (spec.defaults_refusal no_defaults set.now env.now (info_seen target.now) family program.now ≡ None) }
+    ensures refused { IfErr result (λ e. (e ≡ WantsMemory) ⊎ (spec.defaults_refusal no_defaults set.now env.now (info_seen target.now) family program.now ≡ Some e)) }
 {
     if !no_defaults {
-        check_defaults(alloc, set, env, cargos, name, target, family, program)?;
+        check_qnx(alloc, target, family)?;
+        check_sysroot(alloc, set, env, target, family, program)?;
     }
-    check_inherited(alloc, set.inherit_rustflags, env)
+    Ok(())
 }
 
 /// The words of a tool, for a compiler of a family at the path `program`, where `supported` are those that it takes of the words
 /// it is asked about, and `environment` has the flags of the environment. Those that a target and a level bring are left out by
 /// `no_defaults`; `cargos` tells whether the target is Cargo's.
-///
-/// Refused where the defaults aren't left out, and QNX has no compiler for the architecture or the sysroot of
-/// WebAssembly's threads isn't set; and where the flags that Cargo hands down have a wrong one.
 pub(crate) fn tool_words(
     alloc: Global,
     no_defaults: bool,

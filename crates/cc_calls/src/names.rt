@@ -1,0 +1,136 @@
+// The names of libraries and objects, and macros.
+use crate::CallError;
+use crate::answer::{Answer, none, one, push, push_number, refused, strs};
+use crate::given::{Read, one_text, snapshot_in, words_of};
+use cc_env::EnvSnapshot;
+use cc_plan::{ArgumentCause, Definition, Object, PlanError};
+use cc_text::{Mem, Text};
+use std::alloc::Global;
+
+// `refused`, the kind and its places.
+fn refused_at(alloc: Global, kind: &str, places: &[u64]) -> Answer {
+    let mut texts = refused(alloc, kind)?;
+    for place in places {
+        push_number(&mut texts, *place)?;
+    }
+    Ok(texts)
+}
+
+fn refused_argument(alloc: Global, cause: ArgumentCause) -> Answer {
+    match cause {
+        ArgumentCause::Output => refused_at(alloc, "Output", &[]),
+        ArgumentCause::OutDir => refused_at(alloc, "OutDir", &[]),
+        ArgumentCause::NoFileName(place) => refused_at(alloc, "NoFileName", &[place]),
+        ArgumentCause::SameObject(first, second) => {
+            refused_at(alloc, "SameObject", &[first, second])
+        }
+    }
+}
+
+fn refused_plan(alloc: Global, error: PlanError) -> Answer {
+    match error {
+        PlanError::Argument(cause) => refused_argument(alloc, cause),
+        PlanError::NoMemory => Err(CallError::NoMemory),
+        _ => refused(alloc, "other"),
+    }
+}
+
+// An output; the library's name and its file's.
+fn lib_and_archive_names(alloc: Global, given: &[String]) -> Answer {
+    match cc_plan::lib_and_archive_names(alloc, one_text(given)?) {
+        Ok((name, file)) => strs(alloc, &[name.as_str(), file.as_str()]),
+        Err(error) => refused_plan(alloc, error),
+    }
+}
+
+// The root that a text names; an empty one names none.
+fn root_of(root: &str) -> Option<&str> {
+    if root.is_empty() { None } else { Some(root) }
+}
+
+// The out dir, the source root or an empty text, the variables between blanks, and a source.
+fn object_path(alloc: Global, given: &[String]) -> Answer {
+    let [dst, root, vars, source] = given else {
+        return Err(CallError::Given);
+    };
+    let env = snapshot_in(alloc, vars.as_str())?;
+    let root = root_of(root.as_str());
+    one(
+        alloc,
+        cc_plan::object_path(alloc, &env, root, dst.as_str(), source.as_str())?.as_str(),
+    )
+}
+
+fn push_object(texts: &mut Vec<String>, object: &Object) -> Mem<()> {
+    let alloc = *texts.allocator();
+    let (src, dst) = (object.src.as_str(), object.dst.as_str());
+    texts.push(format!(in alloc; "{src} {dst}")?)?;
+    Ok(())
+}
+
+fn told(alloc: Global, objects: &[Object]) -> Answer {
+    let mut texts = Vec::new(alloc);
+    for object in objects {
+        push_object(&mut texts, object)?;
+    }
+    Ok(texts)
+}
+
+fn objects_in(
+    alloc: Global,
+    env: &EnvSnapshot,
+    root: &str,
+    dst: &str,
+    sources: &[String],
+) -> Answer {
+    let sources = words_of(alloc, sources)?;
+    match cc_plan::objects_from_files(alloc, &sources, dst, env, root_of(root)) {
+        Ok(objects) => told(alloc, &objects),
+        Err(error) => refused_plan(alloc, error),
+    }
+}
+
+// The out dir, the source root or an empty text, the variables between blanks, and the sources; each source and its
+// object, with a blank between.
+fn objects_from_files(alloc: Global, given: &[String]) -> Answer {
+    let [dst, root, vars, sources @ ..] = given else {
+        return Err(CallError::Given);
+    };
+    let env = snapshot_in(alloc, vars.as_str())?;
+    objects_in(alloc, &env, root.as_str(), dst.as_str(), sources)
+}
+
+fn definition(alloc: Global, name: &str, value: Option<&str>) -> Mem<Definition> {
+    let value = match value {
+        Some(value) => Some(Text::of(alloc, value)?),
+        None => None,
+    };
+    Ok(Definition {
+        name: Text::of(alloc, name)?,
+        value,
+    })
+}
+
+// The name of a macro, and its value where it has one; the same of a second macro.
+fn definition_clone(alloc: Global, given: &[String]) -> Answer {
+    let first = match given {
+        [name] => definition(alloc, name.as_str(), None)?,
+        [name, value] => definition(alloc, name.as_str(), Some(value.as_str()))?,
+        _ => return Err(CallError::Given),
+    };
+    let second = first.try_clone()?;
+    match &second.value {
+        Some(value) => strs(alloc, &[second.name.as_str(), value.as_str()]),
+        None => one(alloc, second.name.as_str()),
+    }
+}
+
+pub fn call(alloc: Global, name: &str, given: &[String]) -> Option<Answer> {
+    match name {
+        "lib_and_archive_names" => Some(lib_and_archive_names(alloc, given)),
+        "object_path" => Some(object_path(alloc, given)),
+        "objects_from_files" => Some(objects_from_files(alloc, given)),
+        "definition_clone" => Some(definition_clone(alloc, given)),
+        _ => None,
+    }
+}

@@ -1,0 +1,357 @@
+-- What follows from an answer.
+use Rattle.std.proofs.Common.{◌≡◌, ◌⊎◌, inl, inr, ℕ, ◌+◌, ◌<◌, List, [], ◌∷◌, ◌++◌, length, map, Bool, true, false, not, ◌||◌, None, Some, Result, Ok, Err, refl, sym, ◌∙◌, ap, subst, append-nil, arith}
+use Rattle.std.specs.Prelude.{◌≤◌, ◌*◌}
+use Rattle.std.specs.List.{list_any}
+use Rattle.std.proofs.Math.Nat.{mul-le-mul_left}
+use Rattle.std.proofs.lemmas.Grind.{flat_map-append}
+use Rattle.std.proofs.lemmas.List.Sums.{sum_by-append}
+use Rattle.cc_env.specs.Env.{EnvSeen}
+use Rattle.cc_host.specs.Question.{Look}
+use Rattle.cc_host.specs.Part.{is_probing, listings}
+use Rattle.cc_host.specs.Part.Step.{Lists}
+use Rattle.cc_host.proofs.Parts.{listings_then}
+use Rattle.cc_host.specs.declared.event.Event.{Event}
+use Rattle.cc_host.specs.declared.event.Event.TheVariants.{Printed, Fault, Abandoned}
+use Rattle.cc_host.specs.declared.event.HostCall.{HostCall}
+use Rattle.cc_host.specs.declared.event.HostCall.TheVariants.{Print}
+use Rattle.cc_host.specs.declared.event.LineKind.TheVariants.{Fault as FaultLine}
+use Rattle.cc_host.specs.declared.event.Why.{Why}
+use Rattle.cc_jobs.specs.Seats.{Rose}
+use Rattle.cc_plan.specs.declared.settings.BuildConfig.{BuildConfig}
+use Rattle.cc_plan.specs.Valid.{Valid}
+use Rattle.cc_plan.proofs.ValidLaws.{early_accepted, late_accepted}
+use Rattle.cc_run.specs.Part.{missing, missing_of, turns, turns_of}
+use Rattle.cc_run.specs.Run.{Run, run_from, nothing}
+use Rattle.cc_run.proofs.Runs.{run_from-append}
+use Rattle.cc_build.specs.Captured.{with_vars}
+use Rattle.cc_build.specs.Error.{ErrorSeen, no_memory}
+use Rattle.cc_build.specs.Failed.{Failed, HasFault, is_fault}
+use Rattle.cc_build.specs.Order.{is_archive_event}
+use Rattle.cc_build.specs.Refusal.{refusal_error}
+use Rattle.cc_build.specs.Stage.{Stage, commands_in, folder_stages, compile_stages, planned_stages}
+use Rattle.cc_build.specs.Stage.Stage.{Asks, Calls}
+use Rattle.cc_build.specs.Went.{Terms, Means, Partly, Goes}
+use Rattle.cc_build.specs.declared.error.ErrorKind.TheVariants.{TurnsSpent}
+use Rattle.cc_build.proofs.Going.{went_one}
+use Rattle.cc_build.proofs.OrderLaws.{NoArchive, planned, archives_behind, no_source_archives, went_partly, halted_partly}
+use Rattle.cc_build.proofs.StopLaws.{HasCause, went_faultless, stop_faults, planned_plain, halted_cause}
+use Rattle.cc_build.proofs.TurnLaws.{halted_turns, halted_bound}
+use Rattle.cc_command.specs.Answer.{Answers, AnswersWords, BuiltBy, Refused, Course, Tells, first_listing, heard, env_in, terms_of, terms_in, stages_of, error_of, error_line, word_line, is_wanting, ended_well, ended_refused, ended_wanting}
+use Rattle.cc_command.specs.Promises.{Headline, TellsLast, IsLine, Begun, IsBegun, ArchivesBehind, CompilesFirst, EndsAlone, FaultsLast, EndsSpent, IsComplete, IsEnough}
+use Rattle.cc_command.specs.Read.{Request}
+use Rattle.cc_command.specs.declared.top.Ended.{Ended}
+use Rattle.cc_command.specs.declared.words.BadWord.{BadWord}
+use Rattle.cc_command.proofs.EnoughLaws.{planned_count, never_spent}
+
+-- ---- the headline
+
+built_of : (look : Look) (q : Request) (part : List Event) (ended : Ended) (c : Course) → Answers look q part ended c → ended.status ≡ 0 → BuiltBy look q part c
+built_of look q part ended c (inl well) zero_is = well.1.0
+built_of look q part ended c (inr (inl r)) zero_is = let s : ended.status ≡ 1 = ap (λ (x : Ended). x.status) r.is in absurd (cc)
+built_of look q part ended c (inr (inr wanting)) zero_is = let s : ended.status ≡ 3 = ap (λ (x : Ended). x.status) wanting.0 in absurd (cc)
+
+pub headline : (look : Look) (words : Result Request BadWord) (part : List Event) (ended : Ended) (c : Course) → AnswersWords look words part ended c → Headline look words part ended c
+headline look (Ok q) part ended c a = built_of look q part ended c a
+headline look (Err bad) part ended c a = tt
+
+-- ---- the line that tells it is last
+
+pub tells_last : (look : Look) (words : Result Request BadWord) (part : List Event) (ended : Ended) (c : Course) → AnswersWords look words part ended c → TellsLast part ended
+tells_last look (Ok q) part ended c (inl well) = inl well.0
+tells_last look (Ok q) part ended c (inr (inl r)) = inr (inl (r.error, (r.is, record { before = r.run; end = r.line; cut = r.cut; told = r.told })))
+tells_last look (Ok q) part ended c (inr (inr wanting)) = inr (inr (inr wanting.0))
+tells_last look (Err bad) part ended c (inl told, same) = inr (inr (inl (bad, (told.0, record { before = []; end = part; cut = refl; told = told.1 }))))
+tells_last look (Err bad) part ended c (inr wanting, same) = inr (inr (inr wanting.0))
+
+pub line_of : (line : List ℕ) (part : List Event) → Tells line part → IsLine part
+line_of line part (inl printed) = inr (inl (line, printed))
+line_of line part (inr faulted) = inr (inr faulted)
+
+-- ---- the first stages were done
+
+begun_of : (look : Look) (q : Request) (part : List Event) (ended : Ended) (c : Course) → Answers look q part ended c → Begun look q part c
+begun_of look q part ended c (inl well) = record { run = part; line = []; cut = sym (append-nil part); partly = went_partly (terms_in q part c) (stages_of look q part) part c.before c.after well.1.1; told = inl refl }
+begun_of look q part ended c (inr (inl r)) = record {
+  run = r.run;
+  line = r.line;
+  cut = r.cut;
+  partly = halted_partly (terms_in q r.run c) (error_of look q r.run) (stages_of look q r.run) r.run r.error c.before c.after r.refused;
+  told = line_of (error_line r.error) r.line r.told;
+}
+begun_of look q part ended c (inr (inr wanting)) = record { run = part; line = []; cut = sym (append-nil part); partly = wanting.1; told = inl refl }
+
+pub is_begun : (look : Look) (words : Result Request BadWord) (part : List Event) (ended : Ended) (c : Course) → AnswersWords look words part ended c → IsBegun look words part c
+is_begun look (Ok q) part ended c a = begun_of look q part ended c a
+is_begun look (Err bad) part ended c a = tt
+
+-- ---- the line behind a run
+
+none_inside : (before after : List Event) (event : Event) → [] ≡ before ++ event ∷ after → ⊥
+none_inside [] after event h = cc
+none_inside (b ∷ before) after event h = cc
+
+-- an event of a list with one more behind it is the last one, or stands before it
+module _ (event x : Event) (after : List Event) where
+  last_or_before : (before run : List Event) → run ++ x ∷ [] ≡ before ++ event ∷ after → ((after ≡ []) × (event ≡ x)) ⊎ ((rest : List Event) × ((run ≡ before ++ event ∷ rest) × (after ≡ rest ++ x ∷ [])))
+  last_or_before [] [] e = inl (cc, cc)
+  last_or_before [] (r ∷ run) e =
+      let same : r ≡ event = cc in
+      inr (run, (ap (λ h. h ∷ run) same, cc))
+  last_or_before (b ∷ before) [] e = let none : [] ≡ before ++ event ∷ after = cc in absurd (none_inside before after event none)
+  last_or_before (b ∷ before) (r ∷ run) e =
+      let same : r ≡ b = cc in
+      let rest : run ++ x ∷ [] ≡ before ++ event ∷ after = cc in
+      longer same (last_or_before before run rest)
+    where
+      longer : r ≡ b → ((after ≡ []) × (event ≡ x)) ⊎ ((rest : List Event) × ((run ≡ before ++ event ∷ rest) × (after ≡ rest ++ x ∷ []))) → ((after ≡ []) × (event ≡ x)) ⊎ ((rest : List Event) × ((r ∷ run ≡ b ∷ (before ++ event ∷ rest)) × (after ≡ rest ++ x ∷ [])))
+      longer same (inl last) = inl last
+      longer same (inr found) = inr (found.0, (ap (λ l. r ∷ l) found.1.0 ∙ ap (λ h. h ∷ (before ++ event ∷ found.0)) same, found.1.1))
+
+-- an event of a run with a line behind it, which is no such line, stands in the run
+in_run : (before after run : List Event) (event x : Event) → run ++ x ∷ [] ≡ before ++ event ∷ after → (event ≡ x → ⊥) → (rest : List Event) × ((run ≡ before ++ event ∷ rest) × (after ≡ rest ++ x ∷ []))
+in_run before after run event x e other = decide (last_or_before event x after before run e)
+  where
+    decide : ((after ≡ []) × (event ≡ x)) ⊎ ((rest : List Event) × ((run ≡ before ++ event ∷ rest) × (after ≡ rest ++ x ∷ []))) → (rest : List Event) × ((run ≡ before ++ event ∷ rest) × (after ≡ rest ++ x ∷ []))
+    decide (inl last) = absurd (other last.1)
+    decide (inr found) = found
+
+no_listing : (line : List Event) → IsLine line → listings line ≡ []
+no_listing line (inl none) = ap listings none
+no_listing line (inr (inl printed)) = ap listings printed.1
+no_listing line (inr (inr faulted)) = ap listings faulted.1
+
+-- a line behind a run lists no variables
+pub heard_same : (part run line : List Event) → part ≡ run ++ line → IsLine line → heard part ≡ heard run
+heard_same part run line cut told =
+    ap first_listing (ap listings cut ∙ listings_then run line ∙ ap (λ l. listings run ++ l) (no_listing line told) ∙ append-nil (listings run))
+
+no_turn : (line : List Event) → IsLine line → turns line ≡ 0
+no_turn line (inl none) = ap turns none
+no_turn line (inr (inl printed)) = ap turns printed.1
+no_turn line (inr (inr faulted)) = ap turns faulted.1
+
+-- nor is a turn made
+turns_same : (part run line : List Event) → part ≡ run ++ line → IsLine line → turns part ≡ turns run
+turns_same part run line cut told =
+    let all : turns part ≡ turns run + turns line = ap turns cut ∙ sum_by-append turns_of run line in
+    let none : turns line ≡ 0 = no_turn line told in
+    omega arith
+
+pub no_child : (r : Run) (line : List Event) → IsLine line → run_from r line ≡ r
+no_child r line (inl none) = ap (run_from r) none
+no_child r line (inr (inl printed)) = ap (run_from r) printed.1
+no_child r line (inr (inr faulted)) = ap (run_from r) faulted.1
+
+-- nor does it change what became of the commands
+pub run_same : (part run line : List Event) → part ≡ run ++ line → IsLine line → run_from nothing part ≡ run_from nothing run
+run_same part run line cut told = ap (run_from nothing) cut ∙ run_from-append nothing run line ∙ no_child (run_from nothing run) line told
+
+-- ---- the sources are compiled first
+
+-- behind these stages alone a part archives
+abbrev Behind : Terms → List Stage → List Event → Type 0
+Behind t first part = (before after : List Event) (event : Event) → part ≡ before ++ event ∷ after → is_archive_event event ≡ true → (runs rest : List Event) × ((before ≡ runs ++ rest) × Goes t first runs)
+
+-- a line behind a run adds no archive command
+still_behind : (t : Terms) (first : List Stage) (part run line : List Event) → part ≡ run ++ line → IsLine line → Behind t first run → Behind t first part
+still_behind t first part run line cut (inl none) order before after event is archive =
+    order before after event (sym (cut ∙ ap (λ l. run ++ l) none ∙ append-nil run) ∙ is) archive
+still_behind t first part run line cut (inr (inl printed)) order before after event is archive =
+    let e : run ++ Printed FaultLine printed.0 ∷ [] ≡ before ++ event ∷ after = sym (cut ∙ ap (λ l. run ++ l) printed.1) ∙ is in
+    let found = in_run before after run event (Printed FaultLine printed.0) e (λ same. let t : false ≡ true = sym (ap is_archive_event same) ∙ archive in cc) in
+    order before found.0 event found.1.0 archive
+still_behind t first part run line cut (inr (inr faulted)) order before after event is archive =
+    let e : run ++ Fault Print faulted.0 ∷ [] ≡ before ++ event ∷ after = sym (cut ∙ ap (λ l. run ++ l) faulted.1) ∙ is in
+    let found = in_run before after run event (Fault Print faulted.0) e (λ same. let t : false ≡ true = sym (ap is_archive_event same) ∙ archive in cc) in
+    order before found.0 event found.1.0 archive
+
+-- the variables are listed, the folder is made and the sources are compiled
+abbrev first_stages : Look → Request → List (List ℕ × List ℕ) → List Stage
+first_stages look q vars = Calls Lists ∷ (folder_stages q.1.config (with_vars q.1.env vars) ++ Asks ∷ compile_stages q.1.config (with_vars q.1.env vars) true look)
+
+-- the stages of a request begin with these, or none of them archives
+listed_first : (first stages : List Stage) → ((rest : List Stage) × (stages ≡ first ++ rest)) ⊎ NoArchive stages → ((rest : List Stage) × (Calls Lists ∷ stages ≡ (Calls Lists ∷ first) ++ rest)) ⊎ NoArchive (Calls Lists ∷ stages)
+listed_first first stages (inl k) = inl (k.0, ap (λ l. Calls Lists ∷ l) k.1)
+listed_first first stages (inr none) = inr none
+
+order_in : (look : Look) (q : Request) (run : List Event) (c : Course) → Partly (terms_in q run c) (stages_of look q run) run c.before c.after → Behind (terms_in q run c) (first_stages look q (heard run)) run
+order_in look q run c p =
+    archives_behind (terms_in q run c) (first_stages look q (heard run)) (stages_of look q run) run c.before c.after (no_source_archives q.1.config (env_in q run) true look) p
+    (listed_first (folder_stages q.1.config (env_in q run) ++ Asks ∷ compile_stages q.1.config (env_in q run) true look) (planned_stages q.1.config (env_in q run) true look q.0) (planned q.1.config (env_in q run) true look q.0))
+
+order_of : (look : Look) (q : Request) (part : List Event) (c : Course) → Begun look q part c → ArchivesBehind look q part c
+order_of look q part c b before after event is archive =
+    let order : Behind (terms_in q part c) (first_stages look q (heard part)) part =
+    subst (λ (vars : List (List ℕ × List ℕ)). Behind (terms_of q.1.config (with_vars q.1.env vars) c) (first_stages look q vars) part) (sym (heard_same part b.run b.line b.cut b.told))
+    (still_behind (terms_in q b.run c) (first_stages look q (heard b.run)) part b.run b.line b.cut b.told (order_in look q b.run c b.partly)) in
+    let found = order before after event is archive in
+    record { runs = found.0; rest = found.1; cut = found.2.0; compiled = found.2.1 }
+
+pub compiles_first : (look : Look) (words : Result Request BadWord) (part : List Event) (ended : Ended) (c : Course) → AnswersWords look words part ended c → CompilesFirst look words part c
+compiles_first look (Ok q) part ended c a = order_of look q part c (begun_of look q part ended c a)
+compiles_first look (Err bad) part ended c a = tt
+
+-- ---- a fault is last
+
+no_clash : (a b : Bool) → (a || b) ≡ false → a ≡ true → ⊥
+no_clash true b none is = cc
+no_clash false b none is = cc
+
+or_second : (a b : Bool) → (a || b) ≡ false → b ≡ false
+or_second true b none = absurd (cc)
+or_second false b none = none
+
+-- a fault of a list stands behind its first events, of which none is one
+beyond : (front rest before after : List Event) (event : Event) → list_any is_fault front ≡ false → is_fault event ≡ true → front ++ rest ≡ before ++ event ∷ after → (more : List Event) × (rest ≡ more ++ event ∷ after)
+beyond [] rest before after event none fault e = (before, e)
+beyond (x ∷ front) rest [] after event none fault e =
+    let same : x ≡ event = cc in
+    absurd (no_clash (is_fault x) (list_any is_fault front) none (ap is_fault same ∙ fault))
+beyond (x ∷ front) rest (b ∷ before) after event none fault e =
+    let others : front ++ rest ≡ before ++ event ∷ after = cc in
+    beyond front rest before after event (or_second (is_fault x) (list_any is_fault front) none) fault others
+
+-- behind a fault of a run children are abandoned, and nothing else is done
+fault_ends : (t : Terms) (stages : List Stage) (run : List Event) (x z : Means) (before after : List Event) (call : HostCall) (why : Why) → is_probing call ≡ false → run ≡ before ++ Fault call why ∷ after → Partly t stages run x z → (ids : List ℕ) × (after ≡ map Abandoned ids)
+fault_ends t [] run x z before after call why real is p = absurd (none_inside before after (Fault call why) (sym p.0 ∙ is))
+fault_ends t (s ∷ stages) run x z before after call why real is (inl p) = absurd (none_inside before after (Fault call why) (sym p.0 ∙ is))
+fault_ends t (s ∷ stages) run x z before after call why real is (inr (inl stop)) = stop_faults t s run stop.0 x z stop.1 before after call why real is
+fault_ends t (s ∷ stages) run x z before after call why real is (inr (inr d)) =
+    let found = beyond d.0 d.1 before after (Fault call why) (went_faultless t (s ∷ []) d.0 x d.2 (went_one t s d.0 x d.2 d.3.1)) (ap not real) (sym d.3.0 ∙ is) in
+    fault_ends t stages d.1 d.2 z found.0 after call why real found.1 d.3.2
+
+-- children that were abandoned behind a fault, and then a line
+line_behind : (ids : List ℕ) (rest after : List Event) (x : Event) → rest ≡ map Abandoned ids → after ≡ rest ++ x ∷ [] → IsLine (x ∷ []) → EndsAlone after
+line_behind ids rest after x ends is line = (ids, x ∷ [], (is ∙ ap (λ l. l ++ x ∷ []) ends, line))
+
+faults_behind : (look : Look) (q : Request) (part : List Event) (c : Course) → Begun look q part c → FaultsLast part
+faults_behind look q part c b before after call why real is = by_line b.told
+  where
+    in_it : (rest : List Event) → b.run ≡ before ++ Fault call why ∷ rest → (ids : List ℕ) × (rest ≡ map Abandoned ids)
+    in_it rest e = fault_ends (terms_in q b.run c) (stages_of look q b.run) b.run c.before c.after before rest call why real e b.partly
+
+    by_line : IsLine b.line → EndsAlone after
+    by_line (inl none) =
+        let ends = in_it after (sym (b.cut ∙ ap (λ l. b.run ++ l) none ∙ append-nil b.run) ∙ is) in
+        (ends.0, [], (ends.1 ∙ sym (append-nil (map Abandoned ends.0)), inl refl))
+    by_line (inr (inl printed)) =
+        let found = in_run before after b.run (Fault call why) (Printed FaultLine printed.0) (sym (b.cut ∙ ap (λ l. b.run ++ l) printed.1) ∙ is) (λ same. cc) in
+        let ends = in_it found.0 found.1.0 in
+        line_behind ends.0 found.0 after (Printed FaultLine printed.0) ends.1 found.1.1 (inr (inl (printed.0, refl)))
+    by_line (inr (inr faulted)) =
+        either_way (last_or_before (Fault call why) (Fault Print faulted.0) after before b.run (sym (b.cut ∙ ap (λ l. b.run ++ l) faulted.1) ∙ is))
+      where
+        either_way : ((after ≡ []) × (Fault call why ≡ Fault Print faulted.0)) ⊎ ((rest : List Event) × ((b.run ≡ before ++ Fault call why ∷ rest) × (after ≡ rest ++ Fault Print faulted.0 ∷ []))) → EndsAlone after
+        either_way (inl last) = ([], [], (last.0, inl refl))
+        either_way (inr found) =
+            let ends = in_it found.0 found.1.0 in
+            line_behind ends.0 found.0 after (Fault Print faulted.0) ends.1 found.1.1 (inr (inr (faulted.0, refl)))
+
+alone_last : (x : Event) (before after : List Event) (event : Event) → x ∷ [] ≡ before ++ event ∷ after → after ≡ []
+alone_last x [] after event e = cc
+alone_last x (b ∷ before) after event e = let none : [] ≡ before ++ event ∷ after = cc in absurd (none_inside before after event none)
+
+pub faults_last : (look : Look) (words : Result Request BadWord) (part : List Event) (ended : Ended) (c : Course) → AnswersWords look words part ended c → FaultsLast part
+faults_last look (Ok q) part ended c a = faults_behind look q part c (begun_of look q part ended c a)
+faults_last look (Err bad) part ended c (inl (is, inl printed), same) = λ before after call why _real e. ([], [], (alone_last (Printed FaultLine (word_line bad)) before after (Fault call why) (sym printed ∙ e), inl refl))
+faults_last look (Err bad) part ended c (inl (is, inr faulted), same) = λ before after call why _real e. ([], [], (alone_last (Fault Print faulted.0) before after (Fault call why) (sym faulted.1 ∙ e), inl refl))
+faults_last look (Err bad) part ended c (inr (is, none), same) = λ before after call why _real e. absurd (none_inside before after (Fault call why) (sym none ∙ e))
+
+-- ---- a refused request of valid settings has its cause in the part
+
+no_refusal : (look : Look) (set : BuildConfig) (env : EnvSeen) (name : List ℕ) (e : ErrorSeen) → Valid set env look name → refusal_error set env look name ≡ Some e → ⊥
+no_refusal look set env name e valid refused =
+    let none : refusal_error set env look name ≡ None = rw (early_accepted set env look name valid, valid.enabled, late_accepted set env look name valid) refl in cc
+
+front_empty : {X : Type 0} (a b : List X) → a ++ b ≡ [] → a ≡ []
+front_empty [] b h = refl
+front_empty (x ∷ a) b h = absurd (cc)
+
+or_first : (a b d : Bool) → (b ≡ true → d ≡ true) → (a || b) ≡ true → (a || d) ≡ true
+or_first true b d h is = refl
+or_first false b d h is = h is
+
+-- a fault of a list is one of a longer list
+fault_before : (a b : List Event) → list_any is_fault a ≡ true → list_any is_fault (a ++ b) ≡ true
+fault_before [] b h = absurd (cc)
+fault_before (x ∷ a) b h = or_first (is_fault x) (list_any is_fault a) (list_any is_fault (a ++ b)) (fault_before a b) h
+
+valid_in : (look : Look) (q : Request) (part : List Event) (ended : Ended) (c : Course) (r : Refused look q part ended c) → Valid q.1.config (env_in q part) look q.0 → Valid q.1.config (env_in q r.run) look q.0
+valid_in look q part ended c r valid =
+    subst (λ (vars : List (List ℕ × List ℕ)). Valid q.1.config (with_vars q.1.env vars) look q.0) (heard_same part r.run r.line r.cut (line_of (error_line r.error) r.line r.told)) valid
+
+known_memory : (e : ErrorSeen) → is_wanting e.kind ≡ false → e ≡ no_memory → ⊥
+known_memory e known memory = let t : true ≡ false = sym (ap (λ (x : ErrorSeen). is_wanting x.kind) memory) ∙ known in cc
+
+module _ (look : Look) (q : Request) (part : List Event) (ended : Ended) (c : Course) (r : Refused look q part ended c) (valid : Valid q.1.config (env_in q r.run) look q.0) (nothing_failed : Failed part → ⊥) (no_fault : HasFault part → ⊥) (none_rose : Rose c.before.faults c.after.faults → ⊥) where
+  told : IsLine r.line
+  told = line_of (error_line r.error) r.line r.told
+
+  -- what the run has, the part with its line has
+  fault_in : HasFault r.run → HasFault part
+  fault_in h = ap (list_any is_fault) r.cut ∙ fault_before r.run r.line h
+
+  failed_in : Failed r.run → Failed part
+  failed_in (inl some) = inl (λ none. some (front_empty (missing r.run) (missing r.line) (sym (flat_map-append missing_of r.run r.line) ∙ sym (ap missing r.cut) ∙ none)))
+  failed_in (inr some) = inr (λ none. some (sym (ap (λ (s : Run). s.failed) (run_same part r.run r.line r.cut told)) ∙ none))
+
+  spent_of : (r.error.kind ≡ TurnsSpent) × (c.after.left ≡ 0) → EndsSpent c.before.left part ended
+  spent_of spent =
+      let sum : c.after.left + turns r.run ≡ c.before.left = halted_turns (terms_in q r.run c) (error_of look q r.run) (stages_of look q r.run) r.run r.error c.before c.after r.refused in
+      let all : turns part ≡ turns r.run = turns_same part r.run r.line r.cut told in
+      let none : c.after.left ≡ 0 = spent.1 in
+      (r.error, (r.is, spent.0, omega arith))
+
+  by_cause : HasCause (error_of look q r.run) r.run r.error c.before c.after → EndsSpent c.before.left part ended
+  by_cause (inl memory) = absurd (known_memory r.error r.known memory)
+  by_cause (inr (inl refused)) = absurd (no_refusal look q.1.config (env_in q r.run) q.0 r.error valid refused)
+  by_cause (inr (inr (inl fault))) = absurd (no_fault (fault_in fault))
+  by_cause (inr (inr (inr (inl failed)))) = absurd (nothing_failed (failed_in failed))
+  by_cause (inr (inr (inr (inr (inl rose))))) = absurd (none_rose rose)
+  by_cause (inr (inr (inr (inr (inr spent))))) = spent_of spent
+
+  -- then the turns are spent
+  spends : EndsSpent c.before.left part ended
+  spends =
+      by_cause (halted_cause (terms_in q r.run c) (error_of look q r.run) (stages_of look q r.run) r.run r.error c.before c.after (tt, planned_plain q.1.config (env_in q r.run) true look q.0) r.refused)
+
+complete_of : (look : Look) (q : Request) (part : List Event) (ended : Ended) (c : Course) → Answers look q part ended c → Valid q.1.config (env_in q part) look q.0 → (Failed part → ⊥) → (HasFault part → ⊥) → (Rose c.before.faults c.after.faults → ⊥) → (ended ≡ ended_well) ⊎ (EndsSpent c.before.left part ended ⊎ (ended ≡ ended_wanting))
+complete_of look q part ended c (inl well) valid failed fault rose = inl well.0
+complete_of look q part ended c (inr (inl r)) valid failed fault rose = inr (inl (spends look q part ended c r (valid_in look q part ended c r valid) failed fault rose))
+complete_of look q part ended c (inr (inr wanting)) valid failed fault rose = inr (inr wanting.0)
+
+pub complete : (look : Look) (words : Result Request BadWord) (part : List Event) (ended : Ended) (c : Course) → AnswersWords look words part ended c → IsComplete look words part ended c
+complete look (Ok q) part ended c a = λ valid failed fault rose. complete_of look q part ended c a valid failed fault rose
+complete look (Err bad) part ended c a = tt
+
+-- ---- the turns are enough
+
+same_error : (e f : ErrorSeen) (ended : Ended) → ended ≡ ended_refused e → ended ≡ ended_refused f → e ≡ f
+same_error e f ended a b = let s : Some e ≡ Some f = ap (λ (x : Ended). x.error) (sym a ∙ b) in cc
+
+-- fewer turns than the patience with each command, of which there are at most twice the sources and two
+too_few : (p n files most turned : ℕ) → turned < p * n → n ≤ files + 2 → p * (2 * files + 2) ≤ most → turned ≡ most → ⊥
+too_few p n files most turned few count enough same =
+    let more : p * n ≤ p * (2 * files + 2) = mul-le-mul_left p (omega (arith, count)) in
+    omega arith
+
+enough_of : (look : Look) (q : Request) (part : List Event) (ended : Ended) (c : Course) → Answers look q part ended c → (total p : ℕ) → c.total ≡ Some total → c.patience ≡ Some p → p * (2 * length q.1.config.files + 2) ≤ c.before.left → EndsSpent c.before.left part ended → ⊥
+enough_of look q part ended c (inl well) total p one told enough spent =
+    let s : ended.status ≡ 0 = ap (λ (x : Ended). x.status) well.0 in
+    let r : ended.status ≡ 1 = ap (λ (x : Ended). x.status) spent.1.0 in
+    cc
+enough_of look q part ended c (inr (inr wanting)) total p one told enough spent =
+    let s : ended.status ≡ 3 = ap (λ (x : Ended). x.status) wanting.0 in
+    let r : ended.status ≡ 1 = ap (λ (x : Ended). x.status) spent.1.0 in
+    cc
+enough_of look q part ended c (inr (inl r)) total p one told enough spent =
+    let same : r.error ≡ spent.0 = same_error r.error spent.0 ended r.is spent.1.0 in
+    let few : turns r.run < p * length (commands_in (stages_of look q r.run)) =
+    halted_bound (terms_in q r.run c) (error_of look q r.run) (stages_of look q r.run) r.run r.error c.before c.after total p one told
+    (never_spent q.1.config (env_in q r.run) look q.0) r.refused (ap (λ (x : ErrorSeen). x.kind) same ∙ spent.1.1) in
+    too_few p (length (commands_in (stages_of look q r.run))) (length q.1.config.files) c.before.left (turns r.run) few (planned_count q.1.config (env_in q r.run) true look q.0) enough
+    (sym (turns_same part r.run r.line r.cut (line_of (error_line r.error) r.line r.told)) ∙ spent.1.2)
+
+pub enough : (look : Look) (words : Result Request BadWord) (part : List Event) (ended : Ended) (c : Course) → AnswersWords look words part ended c → IsEnough look words part ended c
+enough look (Ok q) part ended c a = enough_of look q part ended c a
+enough look (Err bad) part ended c a = tt

@@ -1,0 +1,59 @@
+-- The settings of words repeat their lines: a run of them is told of flags for the linker whenever it leaves some off.
+use Rattle.std.proofs.Common.{◌≡◌, ℕ, List, [], ◌∷◌, ◌++◌, Bool, true, false, Option, Some, None, Ok, Err, if◌then◌else◌, refl, sym, ap, subst}
+use Rattle.cc_env.specs.Env.{EnvSeen}
+use Rattle.cc_host.specs.Question.{Look}
+use Rattle.cc_host.specs.declared.event.Event.{Event}
+use Rattle.cc_text.specs.declared.family.ToolFamily.{ToolFamily}
+use Rattle.cc_plan.specs.Compiler.{compiler_of}
+use Rattle.cc_plan.specs.Planned.{warnings_of, supported_of}
+use Rattle.cc_plan.specs.Tool.{link_warnings, other_warnings}
+use Rattle.cc_plan.specs.declared.settings.BuildConfig.{BuildConfig}
+use Rattle.cc_build.specs.Error.{ErrorSeen}
+use Rattle.cc_build.specs.Stage.{Stage, compile_stages, late_stages, planned_stages}
+use Rattle.cc_build.specs.Went.{Terms, Means, Went, Halted}
+use Rattle.cc_command.specs.Read.{Request, is, read, read_settings, settings_of, first_bad}
+use Rattle.cc_command.specs.declared.words.BadWord.{BadWord}
+
+-- ---- the settings of words
+
+settings_repeat : (name : List ℕ) (words : List (List ℕ)) (bad : Option BadWord) (request : Request) → read_settings name words bad ≡ Ok request → request.1.config.repeat_lines ≡ true
+settings_repeat name words None request e = let same : (name, settings_of words) ≡ request = cc in rw (sym same) refl
+settings_repeat name words (Some bad) request e = absurd (cc)
+
+one_word : (b : Bool) (x y : BadWord) (request : Request) → (if b then Err x else Err y) ≡ Ok request → request.1.config.repeat_lines ≡ true
+one_word true x y request e = absurd (cc)
+one_word false x y request e = absurd (cc)
+
+more_words : (b : Bool) (name : List ℕ) (words : List (List ℕ)) (bad : Option BadWord) (x : BadWord) (request : Request) → (if b then read_settings name words bad else Err x) ≡ Ok request → request.1.config.repeat_lines ≡ true
+more_words true name words bad x request e = settings_repeat name words bad request e
+more_words false name words bad x request e = absurd (cc)
+
+pub reads_repeating : (words : List (List ℕ)) (request : Request) → read words ≡ Ok request → request.1.config.repeat_lines ≡ true
+reads_repeating [] request e = absurd (cc)
+reads_repeating (command ∷ []) request e = one_word (is command "compile") _ _ request e
+reads_repeating (command ∷ name ∷ words) request e = more_words (is command "compile") name words (first_bad 2 words) _ request e
+
+-- ---- the stages of such settings
+
+link_same : (set : BuildConfig) (env : EnvSeen) (family : ToolFamily) (told : Bool) → set.repeat_lines ≡ true → link_warnings set env family told ≡ link_warnings set env family true
+unfolding link_warnings
+link_same set env family told repeats = rw repeats refl
+
+warnings_same : (set : BuildConfig) (env : EnvSeen) (told : Bool) (look : Look) → set.repeat_lines ≡ true → warnings_of set env told look ≡ warnings_of set env true look
+warnings_same set env told look repeats =
+    ap (λ w. other_warnings set env (compiler_of set env look) (supported_of set env look) ++ w) (link_same set env (compiler_of set env look).family told repeats)
+
+compile_same : (set : BuildConfig) (env : EnvSeen) (told : Bool) (look : Look) → set.repeat_lines ≡ true → compile_stages set env told look ≡ compile_stages set env true look
+unfolding compile_stages
+compile_same set env told look repeats = let same = warnings_same set env told look repeats in rw same refl
+
+pub stages_same : (set : BuildConfig) (env : EnvSeen) (told : Bool) (look : Look) (output : List ℕ) → set.repeat_lines ≡ true → planned_stages set env told look output ≡ planned_stages set env true look output
+unfolding planned_stages late_stages
+stages_same set env told look output repeats = let same = compile_same set env told look repeats in rw same refl
+
+-- a run of such settings, whatever it is told
+pub went_same : (set : BuildConfig) (env : EnvSeen) (told : Bool) (look : Look) (output : List ℕ) (t : Terms) (part : List Event) (x y : Means) → set.repeat_lines ≡ true → Went t (planned_stages set env told look output) part x y → Went t (planned_stages set env true look output) part x y
+went_same set env told look output t part x y repeats w = subst (λ (stages : List Stage). Went t stages part x y) (stages_same set env told look output repeats) w
+
+pub halted_same : (set : BuildConfig) (env : EnvSeen) (told : Bool) (look : Look) (output : List ℕ) (t : Terms) (refusal : Option ErrorSeen) (part : List Event) (e : ErrorSeen) (x y : Means) → set.repeat_lines ≡ true → Halted t refusal (planned_stages set env told look output) part e x y → Halted t refusal (planned_stages set env true look output) part e x y
+halted_same set env told look output t refusal part e x y repeats h = subst (λ (stages : List Stage). Halted t refusal stages part e x y) (stages_same set env told look output repeats) h

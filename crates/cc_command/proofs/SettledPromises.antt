@@ -1,0 +1,58 @@
+-- No child runs behind a request, and its commands are the first of the planned ones.
+use Rattle.std.proofs.Common.{◌≡◌, inl, inr, ℕ, List, [], ◌∷◌, ◌++◌, map, true, Result, Ok, Err, sym, ◌∙◌, ap, append-nil}
+use Rattle.std.proofs.lemmas.Grind.{flat_map-append}
+use Rattle.cc_host.specs.Part.Step.{Lists}
+use Rattle.cc_host.specs.Question.{Look}
+use Rattle.cc_host.specs.declared.event.Event.{Event}
+use Rattle.cc_run.specs.Run.{Run, nothing}
+use Rattle.cc_build.specs.Attempts.{attempt_of, attempts, to_attempt}
+use Rattle.cc_build.specs.Captured.{with_vars}
+use Rattle.cc_build.specs.Stage.{commands_in, planned_stages}
+use Rattle.cc_build.specs.Stage.Stage.{Calls}
+use Rattle.cc_build.proofs.SettledLaws.{partly_settled, partly_first}
+use Rattle.cc_build.proofs.StopLaws.{planned_plain}
+use Rattle.cc_command.specs.Answer.{AnswersWords, Course, env_in, terms_in, stages_of, word_line}
+use Rattle.cc_command.specs.Promises.{Begun, IsLine, NothingRuns, IsPrefix}
+use Rattle.cc_command.specs.Read.{Request}
+use Rattle.cc_command.specs.declared.top.Ended.{Ended}
+use Rattle.cc_command.specs.declared.words.BadWord.{BadWord}
+use Rattle.cc_command.proofs.PromiseLaws.{is_begun, line_of, heard_same, run_same, no_child}
+
+-- ---- no child runs
+
+settled_of : (look : Look) (q : Request) (part : List Event) (c : Course) → Begun look q part c → NothingRuns part
+settled_of look q part c b =
+    ap (λ (r : Run). r.live) (run_same part b.run b.line b.cut b.told)
+    ∙ partly_settled (terms_in q b.run c) (stages_of look q b.run) b.run c.before c.after 0 b.partly
+
+line_settled : (part : List Event) → IsLine part → NothingRuns part
+line_settled part line = ap (λ (r : Run). r.live) (no_child nothing part line)
+
+pub settled : (look : Look) (words : Result Request BadWord) (part : List Event) (ended : Ended) (c : Course) → AnswersWords look words part ended c → NothingRuns part
+settled look (Ok q) part ended c a = settled_of look q part c (is_begun look (Ok q) part ended c a)
+settled look (Err bad) part ended c (inl told, same) = line_settled part (line_of (word_line bad) part told.1)
+settled look (Err bad) part ended c (inr wanting, same) = line_settled part (inl wanting.1)
+
+-- ---- one attempt for each command
+
+no_attempt : (line : List Event) → IsLine line → attempts line ≡ []
+no_attempt line (inl none) = ap attempts none
+no_attempt line (inr (inl printed)) = ap attempts printed.1
+no_attempt line (inr (inr faulted)) = ap attempts faulted.1
+
+-- a line behind a run tries no command
+attempts_same : (part run line : List Event) → part ≡ run ++ line → IsLine line → attempts part ≡ attempts run
+attempts_same part run line cut told =
+    ap attempts cut ∙ flat_map-append attempt_of run line ∙ ap (λ l. attempts run ++ l) (no_attempt line told) ∙ append-nil (attempts run)
+
+pub first : (look : Look) (words : Result Request BadWord) (part : List Event) (ended : Ended) (c : Course) → AnswersWords look words part ended c → IsPrefix look words part
+first look (Ok q) part ended c a =
+    let b : Begun look q part c = is_begun look (Ok q) part ended c a in
+    let p = partly_first (terms_in q b.run c) (stages_of look q b.run) b.run c.before c.after (tt, planned_plain q.1.config (env_in q b.run) true look q.0) b.partly in
+    let same = attempts_same part b.run b.line b.cut b.told in (
+      p.0,
+      ap (λ (vars : List (List ℕ × List ℕ)). map to_attempt (commands_in (Calls Lists ∷ planned_stages q.1.config (with_vars q.1.env vars) true look q.0))) (heard_same part b.run b.line b.cut b.told)
+          ∙ p.1
+          ∙ ap (λ l. l ++ p.0) (sym same),
+    )
+first look (Err bad) part ended c a = tt

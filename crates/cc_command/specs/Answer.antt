@@ -1,0 +1,165 @@
+-- What the program answers to its words, and what it did for them.
+use Rattle.std.specs.Prelude.{◌≡◌, ◌⊎◌, ℕ, List, [], ◌∷◌, ◌++◌, Bool, true, false, Option, Some, None, Result, Ok, Err, codes}
+use Rattle.std.specs.Fmt.{decimal}
+use Rattle.cc_env.specs.Env.{EnvSeen}
+use Rattle.cc_host.specs.Question.{Look}
+use Rattle.cc_host.specs.Part.{listings}
+use Rattle.cc_host.specs.Part.Step.{Lists}
+use Rattle.cc_host.specs.declared.event.Event.{Event}
+use Rattle.cc_host.specs.declared.event.Event.TheVariants.{Printed, Fault, Listed}
+use Rattle.cc_host.specs.declared.event.HostCall.TheVariants.{Print}
+use Rattle.cc_host.specs.declared.event.LineKind.TheVariants.{Fault as FaultLine}
+use Rattle.cc_host.specs.declared.event.Why.{Why}
+use Rattle.cc_plan.specs.declared.settings.BuildConfig.{BuildConfig}
+use Rattle.cc_build.specs.Built.{Built}
+use Rattle.cc_build.specs.Captured.{with_vars}
+use Rattle.cc_build.specs.Error.{ErrorSeen}
+use Rattle.cc_build.specs.Shows.{shows_of}
+use Rattle.cc_build.specs.Stage.{Stage, planned_stages}
+use Rattle.cc_build.specs.Stage.Stage.{Calls}
+use Rattle.cc_build.specs.Went.{Terms, Means, terms, Went, Halted, Partly}
+use Rattle.cc_build.specs.declared.error.ErrorKind.{ErrorKind}
+use Rattle.cc_build.specs.declared.error.ErrorKind.TheVariants.{NoMemory}
+use Rattle.cc_build.specs.Refusal.{refusal_error}
+use Rattle.cc_command.specs.Read.{Request}
+use Rattle.cc_command.specs.declared.words.BadWord.{BadWord}
+use Rattle.cc_command.specs.declared.words.WordCause.{WordCause}
+use Rattle.cc_command.specs.declared.words.WordCause.TheVariants.{NoCommand, UnknownCommand, NoName, NoValue, UnknownKey, BadValue}
+use Rattle.cc_command.specs.declared.top.Ended.{Ended}
+
+abbrev pub cause_text : WordCause → List ℕ
+cause_text NoCommand = codes "no command"
+cause_text UnknownCommand = codes "unknown command"
+cause_text NoName = codes "no name"
+cause_text NoValue = codes "no value"
+cause_text UnknownKey = codes "unknown key"
+cause_text BadValue = codes "bad value"
+
+-- the line for a bad word
+abbrev pub word_line : BadWord → List ℕ
+word_line bad = codes "word " ++ decimal bad.place ++ codes ": " ++ cause_text bad.cause ++ 10 ∷ []
+
+-- the line for an error
+abbrev pub error_line : ErrorSeen → List ℕ
+error_line e = codes "error occurred in cc-rs: " ++ e.message ++ 10 ∷ []
+
+-- the line was printed, or its print faulted
+abbrev pub Tells : List ℕ → List Event → Type 0
+Tells line part = (part ≡ Printed FaultLine line ∷ []) ⊎ ((why : Why) × (part ≡ Fault Print why ∷ []))
+
+-- status 0: neither an error nor a word
+abbrev pub ended_well : Ended
+ended_well = record { status = 0; error = None; word = None }
+
+-- status 1: the error
+abbrev pub ended_refused : ErrorSeen → Ended
+ended_refused e = record { status = 1; error = Some e; word = None }
+
+-- status 2: the bad word
+abbrev pub ended_bad : BadWord → Ended
+ended_bad bad = record { status = 2; error = None; word = Some bad }
+
+-- status 3: neither
+abbrev pub ended_wanting : Ended
+ended_wanting = record { status = 3; error = None; word = None }
+
+-- want of memory tells no more
+abbrev pub is_wanting : ErrorKind → Bool
+is_wanting NoMemory = true
+is_wanting _ = false
+
+-- the line of an error was printed last, or memory for it was wanted
+abbrev pub AnswersError : ErrorSeen → List Event → Ended → Type 0
+AnswersError e part ended =
+    ((ended ≡ ended_refused e) × (is_wanting e.kind ≡ false) × Tells (error_line e) part) ⊎ ((ended ≡ ended_wanting) × (part ≡ []))
+
+-- how a run went: the total of its pool and the patience of its host, where they are told, and what was left of its means before and after
+pub record Course : Type 0 where
+  pub total : Option ℕ
+  pub patience : Option ℕ
+  pub before : Means
+  pub after : Means
+
+abbrev pub course : Option ℕ → Option ℕ → Means → Means → Course
+course total patience before after = record { total = total; patience = patience; before = before; after = after }
+
+-- the terms of a compile run with these settings
+abbrev pub terms_of : BuildConfig → EnvSeen → Course → Terms
+terms_of set env c = terms (shows_of set env) c.total c.patience
+
+-- a compile run that was refused: its first stages were done, and the line of its error was printed last
+pub record RunRefused (set : BuildConfig) (env : EnvSeen) (look : Look) (name : List ℕ) (part : List Event) (ended : Ended) (c : Course) : Type 0 where
+  pub error : ErrorSeen
+  pub run : List Event
+  pub line : List Event
+  pub cut : part ≡ run ++ line
+  pub told : Tells (error_line error) line
+  pub refused : Halted (terms_of set env c) (refusal_error set env look name) (planned_stages set env true look name) run error c.before c.after
+  pub known : is_wanting error.kind ≡ false
+  pub is : ended ≡ ended_refused error
+
+-- a compile run: it is built by its stages, or refused, or memory was wanted behind its first stages
+abbrev pub RunAnswers : BuildConfig → EnvSeen → Look → List ℕ → List Event → Ended → Course → Type 0
+RunAnswers set env look name part ended c =
+    ((ended ≡ ended_well) × (Built (terms_of set env c) set env look name part × Went (terms_of set env c) (planned_stages set env true look name) part c.before c.after))
+    ⊎ (RunRefused set env look name part ended c
+    ⊎ ((ended ≡ ended_wanting) × Partly (terms_of set env c) (planned_stages set env true look name) part c.before c.after))
+
+abbrev pub first_listing : List (List (List ℕ × List ℕ)) → List (List ℕ × List ℕ)
+first_listing [] = []
+first_listing (vars ∷ more) = vars
+
+-- the variables that the host listed first in a part, or none
+abbrev pub heard : List Event → List (List ℕ × List ℕ)
+heard part = first_listing (listings part)
+
+-- the environment of a request with the snapshot of the variables that were listed
+abbrev pub env_in : Request → List Event → EnvSeen
+env_in request part = with_vars request.1.env (heard part)
+
+-- The stages of a request: the host lists its variables, then come those of the compile run. The settings of words repeat their lines, so a
+-- run is told of flags for the linker whenever it leaves some off.
+abbrev pub stages_of : Look → Request → List Event → List Stage
+stages_of look request part = Calls Lists ∷ planned_stages request.1.config (env_in request part) true look request.0
+
+-- the terms of a request's run
+abbrev pub terms_in : Request → List Event → Course → Terms
+terms_in request part c = terms_of request.1.config (env_in request part) c
+
+-- the error of a request's settings
+abbrev pub error_of : Look → Request → List Event → Option ErrorSeen
+error_of look request part = refusal_error request.1.config (env_in request part) look request.0
+
+-- The host listed its variables, and then the library was built with their snapshot.
+pub record BuiltBy (look : Look) (request : Request) (part : List Event) (c : Course) : Type 0 where
+  pub vars : List (List ℕ × List ℕ)
+  pub run : List Event
+  pub cut : part ≡ Listed vars ∷ run
+  pub built : Built (terms_of request.1.config (with_vars request.1.env vars) c) request.1.config (with_vars request.1.env vars) look request.0 run
+
+-- a request that was refused: its first stages were done, and the line of its error was printed last
+pub record Refused (look : Look) (request : Request) (part : List Event) (ended : Ended) (c : Course) : Type 0 where
+  pub error : ErrorSeen
+  pub run : List Event
+  pub line : List Event
+  pub cut : part ≡ run ++ line
+  pub told : Tells (error_line error) line
+  pub refused : Halted (terms_in request run c) (error_of look request run) (stages_of look request run) run error c.before c.after
+  pub known : is_wanting error.kind ≡ false
+  pub is : ended ≡ ended_refused error
+
+-- a request: it is built by its stages, or refused, or memory was wanted behind its first stages
+abbrev pub Answers : Look → Request → List Event → Ended → Course → Type 0
+Answers look request part ended c =
+    ((ended ≡ ended_well) × (BuiltBy look request part c × Went (terms_in request part c) (stages_of look request part) part c.before c.after))
+    ⊎ (Refused look request part ended c
+    ⊎ ((ended ≡ ended_wanting) × Partly (terms_in request part c) (stages_of look request part) part c.before c.after))
+
+-- bad words: their line alone was printed, or memory for it was wanted
+abbrev pub AnswersBad : BadWord → List Event → Ended → Type 0
+AnswersBad bad part ended = ((ended ≡ ended_bad bad) × Tells (word_line bad) part) ⊎ ((ended ≡ ended_wanting) × (part ≡ []))
+
+-- What the words ask for was answered. Words that can't be read for want of memory ask for nothing.
+abbrev pub AnswersWords : Look → Result Request BadWord → List Event → Ended → Course → Type 0
+AnswersWords look (Ok request) part ended c = Answers look request part ended c
+AnswersWords look (Err bad) part ended c = AnswersBad bad part ended × (c.after ≡ c.before)

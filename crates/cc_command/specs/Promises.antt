@@ -1,0 +1,108 @@
+-- What follows from an answer, each in one sentence.
+use Rattle.std.specs.Prelude.{◌≡◌, ◌⊎◌, ◌≤◌, ◌*◌, ◌+◌, ℕ, List, [], ◌∷◌, ◌++◌, length, map, Some, true, false, Result, IfOk}
+use Rattle.cc_host.specs.Command.{CommandSeen}
+use Rattle.cc_host.specs.Question.{Look}
+use Rattle.cc_host.specs.Part.{is_probing}
+use Rattle.cc_host.specs.Part.Step.{Lists}
+use Rattle.cc_host.specs.declared.event.Event.{Event}
+use Rattle.cc_host.specs.declared.event.Event.TheVariants.{Printed, Fault, Abandoned}
+use Rattle.cc_host.specs.declared.event.HostCall.{HostCall}
+use Rattle.cc_host.specs.declared.event.HostCall.TheVariants.{Print}
+use Rattle.cc_host.specs.declared.event.LineKind.TheVariants.{Fault as FaultLine}
+use Rattle.cc_host.specs.declared.event.Role.{Role}
+use Rattle.cc_host.specs.declared.event.Why.{Why}
+use Rattle.cc_jobs.specs.Seats.{Rose}
+use Rattle.cc_plan.specs.Valid.{Valid}
+use Rattle.cc_run.specs.Part.{turns}
+use Rattle.cc_run.specs.Run.{run_from, nothing}
+use Rattle.cc_build.specs.Attempts.{attempts, to_attempt}
+use Rattle.cc_build.specs.Error.{ErrorSeen}
+use Rattle.cc_build.specs.Failed.{Failed, HasFault}
+use Rattle.cc_build.specs.Order.{is_archive_event}
+use Rattle.cc_build.specs.Stage.{commands_in, folder_stages, compile_stages}
+use Rattle.cc_build.specs.Stage.Stage.{Asks, Calls}
+use Rattle.cc_build.specs.Went.{Goes, Partly}
+use Rattle.cc_build.specs.declared.error.ErrorKind.TheVariants.{TurnsSpent}
+use Rattle.cc_command.specs.Answer.{Tells, BuiltBy, Course, env_in, terms_in, stages_of, error_line, word_line, ended_well, ended_refused, ended_bad, ended_wanting}
+use Rattle.cc_command.specs.Read.{Request}
+use Rattle.cc_command.specs.declared.top.Ended.{Ended}
+use Rattle.cc_command.specs.declared.words.BadWord.{BadWord}
+
+-- Status 0 means that the host listed its variables, and that the library of the words is built with their snapshot.
+abbrev pub Headline : Look → Result Request BadWord → List Event → Ended → Course → Type 0
+Headline look words part ended c = IfOk words (λ request. ended.status ≡ 0 → BuiltBy look request part c)
+
+-- the part ends with this line of kind Fault, or with the fault of its print
+pub record EndsWith (line : List ℕ) (part : List Event) : Type 0 where
+  pub before : List Event
+  pub end : List Event
+  pub cut : part ≡ before ++ end
+  pub told : Tells line end
+
+-- With status 1 there is the error and no word, with 2 the word and no error, and the part ends with the line that tells it. Else there is neither.
+abbrev pub TellsLast : List Event → Ended → Type 0
+TellsLast part ended =
+    (ended ≡ ended_well)
+    ⊎ (((e : ErrorSeen) × ((ended ≡ ended_refused e) × EndsWith (error_line e) part))
+    ⊎ (((bad : BadWord) × ((ended ≡ ended_bad bad) × EndsWith (word_line bad) part))
+    ⊎ (ended ≡ ended_wanting)))
+
+-- nothing, or a line of kind Fault, or the fault of its print
+abbrev pub IsLine : List Event → Type 0
+IsLine line =
+    (line ≡ [])
+    ⊎ (((bytes : List ℕ) × (line ≡ Printed FaultLine bytes ∷ []))
+    ⊎ ((why : Why) × (line ≡ Fault Print why ∷ [])))
+
+-- On every exit the first stages of the request were done, each once and in order, and behind them stands at most a line of kind Fault.
+pub record Begun (look : Look) (request : Request) (part : List Event) (c : Course) : Type 0 where
+  pub run : List Event
+  pub line : List Event
+  pub cut : part ≡ run ++ line
+  pub partly : Partly (terms_in request run c) (stages_of look request run) run c.before c.after
+  pub told : IsLine line
+
+abbrev pub IsBegun : Look → Result Request BadWord → List Event → Course → Type 0
+IsBegun look words part c = IfOk words (λ request. Begun look request part c)
+
+-- before an archive command the variables were listed, the folder was made, and every source's compile command ended with 0
+pub record CompiledBefore (look : Look) (request : Request) (part before : List Event) (c : Course) : Type 0 where
+  pub runs : List Event
+  pub rest : List Event
+  pub cut : before ≡ runs ++ rest
+  pub compiled : Goes (terms_in request part c) (Calls Lists ∷ (folder_stages request.1.config (env_in request part) ++ Asks ∷ compile_stages request.1.config (env_in request part) true look)) runs
+
+-- No archive command stands in the part unless that stands before it.
+abbrev pub ArchivesBehind : Look → Request → List Event → Course → Type 0
+ArchivesBehind look request part c = (before after : List Event) (event : Event) → part ≡ before ++ event ∷ after → is_archive_event event ≡ true → CompiledBefore look request part before c
+
+abbrev pub CompilesFirst : Look → Result Request BadWord → List Event → Course → Type 0
+CompilesFirst look words part c = IfOk words (λ request. ArchivesBehind look request part c)
+
+-- children that were abandoned, and then a line of kind Fault, or the fault of its print
+abbrev pub EndsAlone : List Event → Type 0
+EndsAlone part = (ids : List ℕ) × (line : List Event) × ((part ≡ map Abandoned ids ++ line) × IsLine line)
+
+-- Behind a fault, but one of what a question wants, children are abandoned, and then stands nothing but a line of kind Fault, or the fault of its print.
+abbrev pub FaultsLast : List Event → Type 0
+FaultsLast part = (before after : List Event) (call : HostCall) (why : Why) → is_probing call ≡ false → part ≡ before ++ Fault call why ∷ after → EndsAlone after
+
+-- On every exit each command that was started has ended or was left alone.
+abbrev pub NothingRuns : List Event → Type 0
+NothingRuns part = (run_from nothing part).live ≡ []
+
+-- The commands of the part, those that are missing among them, are the first of the planned ones: one attempt for each, and no other command.
+abbrev pub IsPrefix : Look → Result Request BadWord → List Event → Type 0
+IsPrefix look words part = IfOk words (λ request. (rest : List (Role × CommandSeen)) × (map to_attempt (commands_in (stages_of look request part)) ≡ attempts part ++ rest))
+
+-- the turns are spent: as many were made as there are
+abbrev pub EndsSpent : ℕ → List Event → Ended → Type 0
+EndsSpent most part ended = (e : ErrorSeen) × ((ended ≡ ended_refused e) × (e.kind ≡ TurnsSpent) × (turns part ≡ most))
+
+-- Valid settings, no failed command, no fault of the host and none of the pool: it is done, or the turns are spent, or memory was wanted.
+abbrev pub IsComplete : Look → Result Request BadWord → List Event → Ended → Course → Type 0
+IsComplete look words part ended c = IfOk words (λ request. Valid request.1.config (env_in request part) look request.0 → (Failed part → ⊥) → (HasFault part → ⊥) → (Rose c.before.faults c.after.faults → ⊥) → (ended ≡ ended_well) ⊎ (EndsSpent c.before.left part ended ⊎ (ended ≡ ended_wanting)))
+
+-- The turns are enough where one caller owns the pool, the host tells its patience, and there are as many times that as twice the sources and two.
+abbrev pub IsEnough : Look → Result Request BadWord → List Event → Ended → Course → Type 0
+IsEnough look words part ended c = IfOk words (λ request. (total p : ℕ) → c.total ≡ Some total → c.patience ≡ Some p → p * (2 * length request.1.config.files + 2) ≤ c.before.left → EndsSpent c.before.left part ended → ⊥)

@@ -1,0 +1,230 @@
+-- What the words of the program ask for: `compile NAME key=value ...`.
+use Rattle.std.specs.Prelude.{◌≡◌, ℕ, ◌+◌, ◌^◌, List, [], ◌∷◌, ◌++◌, Bool, true, false, ◌&&◌, ◌||◌, fold, map, Option, Some, None, Result, Ok, Err, is_some, nat_lt, codes, bytes_eq, unwrap_or, if◌then◌else◌}
+use Prim.Native.String.{String}
+use Rattle.std.specs.Fmt.{decimal}
+use Rattle.std.specs.List.{flat_map, list_any}
+use Rattle.std.specs.Str.Parse.{digits_value}
+use Rattle.cc_text.specs.Cuts.{key_and_value}
+use Rattle.cc_plan.specs.declared.flags.BuildFlag.{BuildFlag}
+use Rattle.cc_plan.specs.declared.flags.BuildFlag.TheVariants.{Always, IfSupported}
+use Rattle.cc_plan.specs.declared.flags.Definition.{Definition}
+use Rattle.cc_build.specs.Build.{BuildSeen}
+use Rattle.cc_command.specs.declared.words.BadWord.{BadWord}
+use Rattle.cc_command.specs.declared.words.WordCause.{WordCause}
+use Rattle.cc_command.specs.declared.words.WordCause.TheVariants.{NoCommand, UnknownCommand, NoName, NoValue, UnknownKey, BadValue}
+use Rattle.cc_command.specs.declared.words.Job.{Job}
+use Rattle.cc_command.specs.declared.words.Job.TheVariants.{Compile}
+use Rattle.cc_command.specs.declared.words.ReadError.{ReadError}
+use Rattle.cc_command.specs.declared.words.ReadError.TheVariants.{Bad}
+
+abbrev pub is : List ℕ → String → Bool
+is text literal = bytes_eq text (codes literal)
+
+-- the decimal form of a number below 2^32, which has no sign and no leading zero
+unfoldable pub is_number : List ℕ → Bool
+is_number text = nat_lt (digits_value 10 text) (2 ^ 32) && bytes_eq text (decimal (digits_value 10 text))
+
+-- the text is the decimal form of this number, or of none
+abbrev pub IsNumberOf : List ℕ → Option ℕ → Type 0
+IsNumberOf text None = is_number text ≡ false
+IsNumberOf text (Some n) = (is_number text ≡ true) × (decimal n ≡ text)
+
+abbrev pub is_truth : List ℕ → Bool
+is_truth text = is text "true" || is text "false"
+
+-- the text is this truth value, or none
+abbrev pub IsTruthOf : List ℕ → Option Bool → Type 0
+IsTruthOf text None = is_truth text ≡ false
+IsTruthOf text (Some on) = (is_truth text ≡ true) × (on ≡ is text "true")
+
+-- a key whose value is one text
+unfoldable pub is_text_key : List ℕ → Bool
+is_text_key key =
+    is key "source_root" || is key "std" || is key "target" || is key "host" || is key "opt_level_str" || is key "debug_str" || is key "out_dir"
+    || is key "compiler" || is key "archiver" || is key "cpp_set_stdlib"
+
+-- a key whose values are kept one after another
+unfoldable pub is_item_key : List ℕ → Bool
+is_item_key key = is key "file" || is key "include" || is key "asm_flag" || is key "flag" || is key "flag_if_supported" || is key "remove_flag" || is key "define"
+
+-- a key of a setting that is on or off, or unset
+unfoldable pub is_choice_key : List ℕ → Bool
+is_choice_key key =
+    is key "shared_flag" || is key "static_flag" || is key "warnings" || is key "extra_warnings" || is key "pic" || is key "use_plt"
+    || is key "static_crt" || is key "shell_escaped_flags" || is key "force_frame_pointer" || is key "cargo_debug"
+
+-- a key of a setting that is on or off
+unfoldable pub is_switch_key : List ℕ → Bool
+is_switch_key key =
+    is key "no_default_flags" || is key "reproducible_codeview" || is key "cpp" || is key "warnings_into_errors" || is key "cargo_warnings"
+    || is key "cargo_output" || is key "emit_rerun_if_env_changed" || is key "prefer_clang_cl_over_msvc" || is key "inherit_rustflags" || is key "inherit_trim_paths"
+
+abbrev pub cause_unless : Bool → Option WordCause
+cause_unless fine = if fine then None else Some BadValue
+
+-- what is wrong with a value, or with its key
+unfoldable pub key_cause : List ℕ → List ℕ → Option WordCause
+key_cause key value =
+    if is_text_key key || is_item_key key then None
+    else (if is_choice_key key || is_switch_key key then cause_unless (is_truth value)
+    else (if is key "opt_level" then cause_unless (is_number value)
+    else (if is key "debug" then cause_unless (is_truth value)
+    else (if is key "env" || is key "remap_source_path" then cause_unless (is_some (key_and_value value))
+    else Some UnknownKey))))
+
+abbrev pub pair_cause : Option (List ℕ × List ℕ) → Option WordCause
+pair_cause None = Some NoValue
+pair_cause (Some pair) = key_cause pair.0 pair.1
+
+-- what is wrong with a word behind the name
+abbrev pub word_cause : List ℕ → Option WordCause
+word_cause word = pair_cause (key_and_value word)
+
+abbrev pub bad_at : ℕ → WordCause → BadWord
+bad_at place cause = record { place = place; cause = cause }
+
+abbrev pub bad_or : ℕ → Option WordCause → Option BadWord → Option BadWord
+bad_or n None rest = rest
+bad_or n (Some cause) rest = Some (bad_at n cause)
+
+-- the first bad word, where the first of these words counts as n
+abbrev pub first_bad : ℕ → List (List ℕ) → Option BadWord
+first_bad n [] = None
+first_bad n (word ∷ words) = bad_or n (word_cause word) (first_bad (n + 1) words)
+
+-- the value of a pair, where its key passes the test
+abbrev pub value_of : (List ℕ → Bool) → List ℕ → List ℕ → List (List ℕ)
+value_of test key value = if test key then value ∷ [] else []
+
+abbrev pub pair_value : (List ℕ → Bool) → Option (List ℕ × List ℕ) → List (List ℕ)
+pair_value test None = []
+pair_value test (Some pair) = value_of test pair.0 pair.1
+
+-- the values of the keys that pass the test, in the order of the words
+unfoldable pub values : (List ℕ → Bool) → List (List ℕ) → List (List ℕ)
+values test words = flat_map (λ word. pair_value test (key_and_value word)) words
+
+-- this key
+abbrev pub by : String → List ℕ → Bool
+by name key = is key name
+
+-- one of these two keys
+abbrev pub by_either : String → String → List ℕ → Bool
+by_either first second key = is key first || is key second
+
+-- the last of these, or what was before them
+abbrev pub latest : Option (List ℕ) → List (List ℕ) → Option (List ℕ)
+latest before values = fold (λ old value. Some value) before values
+
+-- the last truth value, or what was before them
+abbrev pub latest_truth : Bool → List (List ℕ) → Bool
+latest_truth before values = fold (λ old value. is value "true") before values
+
+abbrev pub latest_choice : Option Bool → List (List ℕ) → Option Bool
+latest_choice before values = fold (λ old value. Some (is value "true")) before values
+
+-- a text, or none where it is empty
+abbrev pub unless_empty : List ℕ → Option (List ℕ)
+unless_empty [] = None
+unless_empty (b ∷ text) = Some (b ∷ text)
+
+-- the last text, or none where that is empty
+abbrev pub latest_nonempty : Option (List ℕ) → List (List ℕ) → Option (List ℕ)
+latest_nonempty before values = fold (λ old value. unless_empty value) before values
+
+-- a macro of `K` or `K=V`
+abbrev pub definition_parts : List ℕ → Option (List ℕ × List ℕ) → Definition
+definition_parts value None = record { name = value; value = None }
+definition_parts value (Some pair) = record { name = pair.0; value = Some pair.1 }
+
+abbrev pub definition_of : List ℕ → Definition
+definition_of value = definition_parts value (key_and_value value)
+
+-- a variable of `K=V`
+abbrev pub variable_of : List ℕ → List ℕ × List ℕ
+variable_of value = unwrap_or (key_and_value value) (value, [])
+
+-- one of these is the text
+abbrev pub is_among : List (List ℕ) → List ℕ → Bool
+is_among texts text = list_any (λ t. bytes_eq text t) texts
+
+-- the flag of a word, unless one of the words behind it takes it out
+abbrev pub flag_of : Option (List ℕ × List ℕ) → List (List ℕ) → List BuildFlag
+flag_of None removed = []
+flag_of (Some pair) removed =
+    if is pair.0 "flag" then (if is_among removed pair.1 then [] else Always pair.1 ∷ [])
+    else (if is pair.0 "flag_if_supported" then IfSupported pair.1 ∷ [] else [])
+
+-- the flags, in order: each stands where no later word takes it out
+abbrev pub flags_of : List (List ℕ) → List BuildFlag
+flags_of [] = []
+flags_of (word ∷ words) = flag_of (key_and_value word) (values (by "remove_flag") words) ++ flags_of words
+
+-- a list setting has the values of its key in order, a single one the last
+abbrev pub settings_of : List (List ℕ) → BuildSeen
+settings_of words = record {
+  config = record {
+    files = values (by "file") words;
+    includes = values (by "include") words;
+    asm_flags = values (by "asm_flag") words;
+    flags = flags_of words;
+    definitions = map definition_of (values (by "define") words);
+    remap_source_paths = map variable_of (values (by "remap_source_path") words);
+    source_root = latest None (values (by "source_root") words);
+    std = latest None (values (by "std") words);
+    target = latest None (values (by "target") words);
+    host = latest None (values (by "host") words);
+    opt_level = latest None (values (by_either "opt_level" "opt_level_str") words);
+    debug = latest None (values (by_either "debug" "debug_str") words);
+    out_dir = latest None (values (by "out_dir") words);
+    compiler = latest None (values (by "compiler") words);
+    archiver = latest None (values (by "archiver") words);
+    cpp_set_stdlib = latest_nonempty None (values (by "cpp_set_stdlib") words);
+    shared_flag = latest_choice None (values (by "shared_flag") words);
+    static_flag = latest_choice None (values (by "static_flag") words);
+    warnings = latest_choice None (values (by "warnings") words);
+    extra_warnings = latest_choice None (values (by_either "extra_warnings" "warnings") words);
+    force_frame_pointer = latest_choice None (values (by "force_frame_pointer") words);
+    cargo_debug = latest_choice None (values (by "cargo_debug") words);
+    pic = latest_choice None (values (by "pic") words);
+    use_plt = latest_choice None (values (by "use_plt") words);
+    static_crt = latest_choice None (values (by "static_crt") words);
+    shell_escaped_flags = latest_choice None (values (by "shell_escaped_flags") words);
+    no_default_flags = latest_truth false (values (by "no_default_flags") words);
+    reproducible_codeview = latest_truth false (values (by "reproducible_codeview") words);
+    cpp = latest_truth false (values (by "cpp") words);
+    warnings_into_errors = latest_truth false (values (by "warnings_into_errors") words);
+    cargo_warnings = latest_truth true (values (by "cargo_warnings") words);
+    cargo_output = latest_truth true (values (by "cargo_output") words);
+    emit_rerun_if_env_changed = latest_truth true (values (by "emit_rerun_if_env_changed") words);
+    inherit_rustflags = latest_truth true (values (by "inherit_rustflags") words);
+    inherit_trim_paths = latest_truth true (values (by "inherit_trim_paths") words);
+    prefer_clang_cl_over_msvc = latest_truth false (values (by "prefer_clang_cl_over_msvc") words);
+    repeat_lines = true;
+  };
+  env = record { inherited = []; explicit = map variable_of (values (by "env") words) };
+}
+
+abbrev pub Request : Type 0
+Request = List ℕ × BuildSeen
+
+abbrev pub read_settings : List ℕ → List (List ℕ) → Option BadWord → Result Request BadWord
+read_settings name words (Some bad) = Err bad
+read_settings name words None = Ok (name, settings_of words)
+
+-- the name and the settings of a compile run, or the first bad word
+abbrev pub read : List (List ℕ) → Result Request BadWord
+read [] = Err (bad_at 0 NoCommand)
+read (command ∷ []) = if is command "compile" then Err (bad_at 1 NoName) else Err (bad_at 0 UnknownCommand)
+read (command ∷ name ∷ words) = if is command "compile" then read_settings name words (first_bad 2 words) else Err (bad_at 0 UnknownCommand)
+
+abbrev pub bad_word : Option BadWord → Option ReadError
+bad_word None = None
+bad_word (Some bad) = Some (Bad bad)
+
+abbrev pub name_of : Job → List ℕ
+name_of (Compile name) = name
+
+abbrev pub refusal_of : Result Request BadWord → Option ReadError
+refusal_of (Ok request) = None
+refusal_of (Err bad) = Some (Bad bad)

@@ -1,0 +1,387 @@
+// Reads the words of the program.
+ghost use Rattle.std.specs.Prelude.{◌≡◌, ◌⊎◌, ◌++◌, [], ◌∷◌, List, ℕ, Ok, Err, Some, None, map, true, false, IfOk, IfErr, OnOk, MatchResult, IsErr, string_bytes, codes};
+ghost use Rattle.std.specs.Option.{option_copied};
+ghost use Rattle.cc_command.specs.Read.{bad_at, is, IsNumberOf, IsTruthOf, is_truth, is_text_key, is_item_key, is_choice_key, is_switch_key, is_number, cause_unless, definition_of, unless_empty, key_cause, word_cause, first_bad, bad_word, read, name_of, refusal_of, settings_of};
+ghost use Rattle.cc_command.specs.Step.{with_key, with_word};
+ghost use Rattle.cc_command.specs.Sets.{Sets};
+ghost use Rattle.cc_command.specs.declared.words.ReadError.TheVariants.{Bad, NoMemory as WantsMemory};
+
+use crate::words::{BadWord, Job, ReadError, Request, WordCause};
+use cc_build::{Build, Error};
+use cc_host::World;
+use cc_text::{Mem, NoMemory, Text, key_and_value};
+use std::alloc::Global;
+
+// The number of a text, where the text is its decimal form.
+fn number_of(alloc: Global, text: &str) -> Mem<Option<u32>>
+    ensures { IfOk result (λ n. IsNumberOf text.now n) }
+{
+    match text.parse::<u32>() {
+        Ok(n) => {
+            let digits = format!(in alloc; "{n}")?;
+            if digits.as_str() == text {
+                Ok(Some(n))
+            } else {
+                Ok(None)
+            }
+        }
+        Err(_) => Ok(None),
+    }
+}
+
+fn truth_of(text: &str) -> Option<bool>
+    ensures { IsTruthOf text.now result }
+{
+    match text {
+        "true" => Some(true),
+        "false" => Some(false),
+        _ => None,
+    }
+}
+
+// A setter's answer, of which want of memory is the one refusal.
+fn set(answer: Result<(), Error>) -> Mem<Option<WordCause>>
+    ensures { MatchResult answer (λ _. result ≡ Ok None) (λ _. IsErr result) }
+{
+    match answer {
+        Ok(()) => Ok(None),
+        Err(_) => Err(NoMemory),
+    }
+}
+
+fn unless_empty(text: &str) -> Option<&str>
+    ensures { option_copied result ≡ unless_empty text.now }
+{
+    match text {
+        "" => None,
+        text => Some(text),
+    }
+}
+
+// Calls the setter of a key whose value is one text, or of another key.
+fn set_key<W: World>(
+    alloc: Global,
+    build: &mut Build<W>,
+    key: &str,
+    value: &str,
+) -> Mem<Option<WordCause>>
+    ensures { IfOk result (Sets build.old build.new key.now value.now) }
+{
+    match key {
+        "source_root" => set(build.source_root(value)),
+        "std" => set(build.std(value)),
+        "target" => set(build.target(value)),
+        "host" => set(build.host(value)),
+        "opt_level_str" => set(build.opt_level_str(value)),
+        "debug_str" => set(build.debug_str(value)),
+        "out_dir" => set(build.out_dir(value)),
+        "compiler" => set(build.compiler(value)),
+        "archiver" => set(build.archiver(value)),
+        "cpp_set_stdlib" => set(build.cpp_set_stdlib(unless_empty(value))),
+        _ => set_item(alloc, build, key, value),
+    }
+}
+
+// Adds the macro of `K` or `K=V`.
+fn define<W: World>(build: &mut Build<W>, value: &str) -> Result<(), Error>
+    ensures { OnOk result (build.new ≡ record build.old { config = record build.old.config { definitions = build.old.config.definitions ++ definition_of value.now ∷ [] } }) }
+{
+    match key_and_value(value) {
+        Some((name, value)) => build.define(name, Some(value)),
+        None => build.define(value, None),
+    }
+}
+
+// Calls the setter of a key whose values are kept one after another, or of another key.
+fn set_item<W: World>(
+    alloc: Global,
+    build: &mut Build<W>,
+    key: &str,
+    value: &str,
+) -> Mem<Option<WordCause>>
+    ensures { is_text_key key.now ≡ false → IfOk result (Sets build.old build.new key.now value.now) }
+{
+    match key {
+        "file" => set(build.file(value)),
+        "include" => set(build.include(value)),
+        "asm_flag" => set(build.asm_flag(value)),
+        "flag" => set(build.flag(value)),
+        "flag_if_supported" => set(build.flag_if_supported(value)),
+        "define" => set(define(build, value)),
+        "remove_flag" => {
+            build.remove_flag(value);
+            Ok(None)
+        }
+        _ => set_other(alloc, build, key, value),
+    }
+}
+
+#[tactic(auto, unfolding(crate::specs::Read::is_choice_key))]
+fn is_choice_key(key: &str) -> bool
+    ensures { result ≡ is_choice_key key.now }
+{
+    matches!(
+        key,
+        "shared_flag"
+            | "static_flag"
+            | "warnings"
+            | "extra_warnings"
+            | "pic"
+            | "use_plt"
+            | "static_crt"
+            | "shell_escaped_flags"
+            | "force_frame_pointer"
+            | "cargo_debug"
+    )
+}
+
+#[tactic(auto, unfolding(crate::specs::Read::is_switch_key))]
+fn is_switch_key(key: &str) -> bool
+    ensures { result ≡ is_switch_key key.now }
+{
+    matches!(
+        key,
+        "no_default_flags"
+            | "reproducible_codeview"
+            | "cpp"
+            | "warnings_into_errors"
+            | "cargo_warnings"
+            | "cargo_output"
+            | "emit_rerun_if_env_changed"
+            | "prefer_clang_cl_over_msvc"
+            | "inherit_rustflags"
+            | "inherit_trim_paths"
+    )
+}
+
+// Sets what is on or off, or unset, where this is such a key.
+fn set_choice<W: World>(build: &mut Build<W>, key: &str, on: bool) -> bool
+    ensures known { result ≡ is_choice_key key.now }
+    ensures set { result ≡ true → (value : List ℕ) → is value "true" ≡ on → build.new ≡ with_key build.old key.now value }
+    ensures other { result ≡ false → build.new ≡ build.old }
+{
+    match key {
+        "shared_flag" => {
+            build.shared_flag(on);
+            true
+        }
+        "static_flag" => {
+            build.static_flag(on);
+            true
+        }
+        "warnings" => {
+            build.warnings(on);
+            true
+        }
+        "extra_warnings" => {
+            build.extra_warnings(on);
+            true
+        }
+        "pic" => {
+            build.pic(on);
+            true
+        }
+        "use_plt" => {
+            build.use_plt(on);
+            true
+        }
+        "static_crt" => {
+            build.static_crt(on);
+            true
+        }
+        "shell_escaped_flags" => {
+            build.shell_escaped_flags(on);
+            true
+        }
+        "force_frame_pointer" => {
+            build.force_frame_pointer(on);
+            true
+        }
+        "cargo_debug" => {
+            build.cargo_debug(on);
+            true
+        }
+        _ => false,
+    }
+}
+
+// Sets what is on or off, where this is such a key.
+fn set_switch<W: World>(build: &mut Build<W>, key: &str, on: bool) -> bool
+    ensures known { result ≡ is_switch_key key.now }
+    ensures set { result ≡ true → (value : List ℕ) → is value "true" ≡ on → build.new ≡ with_key build.old key.now value }
+    ensures other { result ≡ false → build.new ≡ build.old }
+{
+    match key {
+        "no_default_flags" => {
+            build.no_default_flags(on);
+            true
+        }
+        "reproducible_codeview" => {
+            build.reproducible_codeview(on);
+            true
+        }
+        "cpp" => {
+            build.cpp(on);
+            true
+        }
+        "warnings_into_errors" => {
+            build.warnings_into_errors(on);
+            true
+        }
+        "cargo_warnings" => {
+            build.cargo_warnings(on);
+            true
+        }
+        "cargo_output" => {
+            build.cargo_output(on);
+            true
+        }
+        "emit_rerun_if_env_changed" => {
+            build.emit_rerun_if_env_changed(on);
+            true
+        }
+        "prefer_clang_cl_over_msvc" => {
+            build.prefer_clang_cl_over_msvc(on);
+            true
+        }
+        "inherit_rustflags" => {
+            build.inherit_rustflags(on);
+            true
+        }
+        "inherit_trim_paths" => {
+            build.inherit_trim_paths(on);
+            true
+        }
+        _ => false,
+    }
+}
+
+fn set_level<W: World>(alloc: Global, build: &mut Build<W>, value: &str) -> Mem<Option<WordCause>>
+    ensures { IfOk result (λ cause. (cause ≡ cause_unless (is_number value.now)) × (cause ≡ None → build.new ≡ record build.old { config = record build.old.config { opt_level = Some value.now } })) }
+{
+    match number_of(alloc, value)? {
+        Some(n) => set(build.opt_level(n)),
+        None => Ok(Some(WordCause::BadValue)),
+    }
+}
+
+// Sets the variable of `K=V`.
+fn set_variable<W: World>(build: &mut Build<W>, value: &str) -> Mem<Option<WordCause>>
+    ensures { IfOk result (Sets build.old build.new (codes "env") value.now) }
+{
+    match key_and_value(value) {
+        Some((name, value)) => set(build.env(name, value)),
+        None => Ok(Some(WordCause::BadValue)),
+    }
+}
+
+fn set_debug<W: World>(build: &mut Build<W>, value: &str) -> Mem<Option<WordCause>>
+    ensures { IfOk result (Sets build.old build.new (codes "debug") value.now) }
+{
+    match truth_of(value) {
+        Some(on) => set(build.debug(on)),
+        None => Ok(Some(WordCause::BadValue)),
+    }
+}
+
+// Tells the folder of `FROM=TO` as another.
+fn set_remap<W: World>(build: &mut Build<W>, value: &str) -> Mem<Option<WordCause>>
+    ensures { IfOk result (Sets build.old build.new (codes "remap_source_path") value.now) }
+{
+    match key_and_value(value) {
+        Some((from, to)) => set(build.remap_source_path(from, to)),
+        None => Ok(Some(WordCause::BadValue)),
+    }
+}
+
+// Calls the setter of a key of another kind, if there is one.
+fn set_other<W: World>(
+    alloc: Global,
+    build: &mut Build<W>,
+    key: &str,
+    value: &str,
+) -> Mem<Option<WordCause>>
+    ensures { is_text_key key.now ≡ false → is_item_key key.now ≡ false → IfOk result (Sets build.old build.new key.now value.now) }
+{
+    if is_choice_key(key) || is_switch_key(key) {
+        return Ok(set_truth(build, key, value));
+    }
+    match key {
+        "opt_level" => set_level(alloc, build, value),
+        "debug" => set_debug(build, value),
+        "env" => set_variable(build, value),
+        "remap_source_path" => set_remap(build, value),
+        _ => Ok(Some(WordCause::UnknownKey)),
+    }
+}
+
+// Sets what is on or off by a truth value.
+fn set_truth<W: World>(build: &mut Build<W>, key: &str, value: &str) -> Option<WordCause>
+    requires { (is_choice_key key.now ≡ true) ⊎ (is_switch_key key.now ≡ true) }
+    ensures cause { result ≡ cause_unless (is_truth value.now) }
+    ensures set { result ≡ None → build.new ≡ with_key build.old key.now value.now }
+{
+    match truth_of(value) {
+        Some(on) => {
+            if !set_choice(build, key, on) {
+                set_switch(build, key, on);
+            }
+            None
+        }
+        None => Some(WordCause::BadValue),
+    }
+}
+
+// Calls the setter of a word behind the name.
+fn set_word<W: World>(alloc: Global, build: &mut Build<W>, word: &str) -> Mem<Option<WordCause>>
+    ensures { IfOk result (λ cause. (cause ≡ word_cause word.now) × (cause ≡ None → build.new ≡ with_word build.old word.now)) }
+{
+    match key_and_value(word) {
+        Some((key, value)) => set_key(alloc, build, key, value),
+        None => Ok(Some(WordCause::NoValue)),
+    }
+}
+
+fn bad(place: u64, cause: WordCause) -> ReadError
+    ensures { result ≡ Bad (bad_at place cause) }
+{
+    ReadError::Bad(BadWord { place, cause })
+}
+
+// Calls the setters of the words behind the name, in their order, up to the first bad word.
+fn read_settings<W: World>(alloc: Global, words: &[String]) -> Result<Build<W>, ReadError>
+    ensures ok { IfOk result (λ build. (first_bad 2 (map string_bytes words.now) ≡ None) × (build ≡ settings_of (map string_bytes words.now))) }
+    ensures refused { IfErr result (λ e. (e ≡ WantsMemory) ⊎ (bad_word (first_bad 2 (map string_bytes words.now)) ≡ Some e)) }
+{
+    let mut build = match Build::new(alloc) {
+        Ok(build) => build,
+        Err(_) => return Err(ReadError::NoMemory),
+    };
+    build.repeat_lines(true);
+    for (place, word) in words.iter().enumerate() {
+        if let Some(cause) = set_word(alloc, &mut build, word.as_str())? {
+            return Err(bad(place as u64 + 2, cause));
+        }
+    }
+    Ok(build)
+}
+
+/// Reads the words behind the program's own name: `compile NAME key=value ...`.
+///
+/// Refused at the first bad word, with its place from 0 and the first cause that holds. A list setting takes the values of its key in
+/// order, a single one the last.
+pub fn read_words<W: World>(alloc: Global, words: &[String]) -> Result<Request<W>, ReadError>
+    ensures ok { IfOk result (λ request. read (map string_bytes words.now) ≡ Ok (name_of request.job, request.build)) }
+    ensures refused { IfErr result (λ e. (e ≡ WantsMemory) ⊎ (refusal_of (read (map string_bytes words.now)) ≡ Some e)) }
+{
+    match words {
+        [] => Err(bad(0, WordCause::NoCommand)),
+        [command, ..] if command.as_str() != "compile" => Err(bad(0, WordCause::UnknownCommand)),
+        [_] => Err(bad(1, WordCause::NoName)),
+        [_, name, rest @ ..] => {
+            let job = Job::Compile(Text::of(alloc, name.as_str())?);
+            let build = read_settings(alloc, rest)?;
+            Ok(Request { job, build })
+        }
+    }
+}

@@ -1,0 +1,301 @@
+// The top call of the program.
+ghost use Rattle.std.specs.Prelude.{◌≡◌, ◌++◌, ℕ, [], true, map, string_bytes, IfOk, OnOk, OnErr};
+ghost use Rattle.std.specs.Fmt.{decimal};
+ghost use Rattle.cc_tool.specs.Asked.{question_events, Asked};
+ghost use Rattle.cc_host.specs.Part.{since};
+ghost use Rattle.cc_host.specs.Question.{answers, Holds};
+ghost use Rattle.cc_plan.specs.Given.{probe_folder};
+ghost use Rattle.cc_command.specs.Asks.{AsksFor, AsksWords};
+ghost use Rattle.cc_build.specs.Went.{means};
+ghost use Rattle.cc_command.specs.Answer.{Tells, course, RunAnswers, Answers, AnswersError, AnswersBad, AnswersWords, is_wanting, ended_wanting as wanting, cause_text as text_of, word_line as line_of_word, error_line as line_of_error};
+ghost use Rattle.cc_command.specs.Promises.{Headline, TellsLast, IsBegun, CompilesFirst, FaultsLast, NothingRuns, IsPrefix, IsComplete, IsEnough};
+ghost use Rattle.cc_command.specs.Read.{name_of, read};
+
+use crate::reading::read_words;
+use crate::words::{BadWord, Job, ReadError, Request, WordCause};
+use cc_build::{Build, Error, ErrorKind};
+use cc_host::{Host, HostError, LineKind, World};
+use cc_jobs::Jobs;
+use cc_text::{Mem, NoMemory, Text};
+use std::alloc::{AllocError, Global};
+use std::sync::Wait;
+
+/// What a run answers: its status, and with 1 the error, with 2 the bad word.
+///
+/// The statuses are 0 done, 1 refused by the build, 2 words refused, and 3 want of memory.
+#[derive(Drop, Debug)]
+pub struct Ended {
+    pub status: u8,
+    pub error: Option<Error>,
+    pub word: Option<BadWord>,
+}
+
+fn ended_wanting() -> Ended
+    ensures { result ≡ wanting }
+{
+    Ended {
+        status: 3,
+        error: None,
+        word: None,
+    }
+}
+
+/// What a bad word is told as: its cause in words, as standard error has it behind the place.
+pub fn cause_text(cause: WordCause) -> &'static str
+    ensures { result.now ≡ text_of cause }
+{
+    match cause {
+        WordCause::NoCommand => "no command",
+        WordCause::UnknownCommand => "unknown command",
+        WordCause::NoName => "no name",
+        WordCause::NoValue => "no value",
+        WordCause::UnknownKey => "unknown key",
+        WordCause::BadValue => "bad value",
+    }
+}
+
+fn decimal(alloc: Global, n: u64) -> Result<String, AllocError>
+    ensures { IfOk result (λ s. string_bytes s ≡ decimal n) }
+{
+    format!(in alloc; "{n}")
+}
+
+fn word_line(alloc: Global, bad: BadWord) -> Mem<Text>
+    ensures { IfOk result (λ line. line ≡ line_of_word bad) }
+{
+    let place = decimal(alloc, bad.place)?;
+    let mut line = Text::of(alloc, "word ")?;
+    line.push_str(place.as_str())?;
+    line.push_str(": ")?;
+    line.push_str(cause_text(bad.cause))?;
+    line.push_str("\n")?;
+    Ok(line)
+}
+
+fn error_line(alloc: Global, error: &Error) -> Mem<Text>
+    ensures { IfOk result (λ line. line ≡ line_of_error error.now) }
+{
+    let mut line = Text::of(alloc, "error occurred in cc-rs: ")?;
+    line.push_str(error.message())?;
+    line.push_str("\n")?;
+    Ok(line)
+}
+
+// Prints a line of kind Fault. A fault of the print changes nothing.
+#[tactic(auto, using(cc_host::proofs::Parts::since_append))]
+fn tell<W: World, H: Host<W>>(host: &mut H, line: &Text) -> Mem<()>
+    ensures extends { H.log host.new ≡ H.log host.old ++ since (H.log host.old) (H.log host.new) }
+    ensures asks_none { question_events (since (H.log host.old) (H.log host.new)) ≡ [] }
+    ensures told { OnOk result (Tells line.now (since (H.log host.old) (H.log host.new))) }
+    ensures wanting { OnErr result (since (H.log host.old) (H.log host.new) ≡ []) }
+{
+    match host.print(LineKind::Fault, line.as_str().as_bytes()) {
+        Ok(()) => Ok(()),
+        Err(HostError::Fault(_, _)) => Ok(()),
+        Err(HostError::NoMemory) => Err(NoMemory),
+    }
+}
+
+// The end of a run with a bad word.
+#[tactic(auto, using(cc_host::proofs::Parts::since_append))]
+fn refuse_word<W: World, H: Host<W>>(alloc: Global, host: &mut H, bad: BadWord) -> Ended
+    ensures extends { H.log host.new ≡ H.log host.old ++ since (H.log host.old) (H.log host.new) }
+    ensures asks_none { question_events (since (H.log host.old) (H.log host.new)) ≡ [] }
+    ensures answer { AnswersBad bad (since (H.log host.old) (H.log host.new)) result }
+{
+    let Ok(line) = word_line(alloc, bad) else {
+        return ended_wanting();
+    };
+    match tell(host, &line) {
+        Ok(()) => Ended {
+            status: 2,
+            error: None,
+            word: Some(bad),
+        },
+        Err(_) => ended_wanting(),
+    }
+}
+
+fn is_wanting(kind: ErrorKind) -> bool
+    ensures { result ≡ is_wanting kind }
+{
+    matches!(kind, ErrorKind::NoMemory)
+}
+
+// The end of a run that was refused.
+#[tactic(auto, using(cc_host::proofs::Parts::since_append))]
+fn refuse<W: World, H: Host<W>>(alloc: Global, host: &mut H, error: Error) -> Ended
+    ensures extends { H.log host.new ≡ H.log host.old ++ since (H.log host.old) (H.log host.new) }
+    ensures asks_none { question_events (since (H.log host.old) (H.log host.new)) ≡ [] }
+    ensures answer { AnswersError error (since (H.log host.old) (H.log host.new)) result }
+{
+    if is_wanting(error.kind()) {
+        return ended_wanting();
+    }
+    let Ok(line) = error_line(alloc, &error) else {
+        return ended_wanting();
+    };
+    match tell(host, &line) {
+        Ok(()) => Ended {
+            status: 1,
+            error: Some(error),
+            word: None,
+        },
+        Err(_) => ended_wanting(),
+    }
+}
+
+// Compiles the sources of the build, whose environment was captured, into the library of this name.
+#[tactic(auto, using(cc_host::proofs::Parts::since_append))]
+fn compile<W: World, H: Host<W>, J: Jobs>(
+    rt: &impl Wait,
+    alloc: Global,
+    build: &Build<W>,
+    name: &str,
+    turns: u64,
+    host: &mut H,
+    jobs: &J,
+    seat: &mut J::Seat,
+) -> Ended
+    requires fits { J.fits jobs.now seat.old }
+    requires empty { J.held seat.old ≡ 0 }
+    requires repeats { build.now.config.repeat_lines ≡ true }
+    ensures fits { J.fits jobs.now seat.new }
+    ensures empty { J.held seat.new ≡ 0 }
+    ensures extends { H.log host.new ≡ H.log host.old ++ since (H.log host.old) (H.log host.new) }
+    ensures asked { Asked W.steady W.answer (probe_folder build.now.config build.now.env) (since (H.log host.old) (H.log host.new)) }
+    ensures answer { Holds (answers (since (H.log host.old) (H.log host.new))) (λ look. (left : ℕ) × RunAnswers build.now.config build.now.env look name.now (since (H.log host.old) (H.log host.new)) result (course (J.total seat.old) (H.patience host.old) (means turns (J.faults seat.old) (J.taken seat.old) (J.load seat.old)) (means left (J.faults seat.new) (J.taken seat.new) (J.load seat.new)))) }
+{
+    match build.try_compile(rt, host, jobs, seat, turns, name) {
+        Ok(()) => Ended {
+            status: 0,
+            error: None,
+            word: None,
+        },
+        Err(error) => refuse(alloc, host, error),
+    }
+}
+
+// Takes the host's variables, and compiles.
+#[tactic(auto, using(cc_host::proofs::Parts::since_append))]
+fn capture_and_compile<W: World, H: Host<W>, J: Jobs>(
+    rt: &impl Wait,
+    alloc: Global,
+    build: &mut Build<W>,
+    name: &str,
+    turns: u64,
+    host: &mut H,
+    jobs: &J,
+    seat: &mut J::Seat,
+) -> Ended
+    requires fits { J.fits jobs.now seat.old }
+    requires empty { J.held seat.old ≡ 0 }
+    requires repeats { build.old.config.repeat_lines ≡ true }
+    ensures fits { J.fits jobs.now seat.new }
+    ensures empty { J.held seat.new ≡ 0 }
+    ensures extends { H.log host.new ≡ H.log host.old ++ since (H.log host.old) (H.log host.new) }
+    ensures asked { AsksFor W.steady W.answer (name.now, build.old) (since (H.log host.old) (H.log host.new)) }
+    ensures answer { Holds (answers (since (H.log host.old) (H.log host.new))) (λ look. (left : ℕ) × Answers look (name.now, build.old) (since (H.log host.old) (H.log host.new)) result (course (J.total seat.old) (H.patience host.old) (means turns (J.faults seat.old) (J.taken seat.old) (J.load seat.old)) (means left (J.faults seat.new) (J.taken seat.new) (J.load seat.new)))) }
+{
+    match build.capture(host) {
+        Ok(()) => compile(rt, alloc, build, name, turns, host, jobs, seat),
+        Err(error) => refuse(alloc, host, error),
+    }
+}
+
+// Does what was asked for.
+fn serve<W: World, H: Host<W>, J: Jobs>(
+    rt: &impl Wait,
+    alloc: Global,
+    request: &mut Request<W>,
+    turns: u64,
+    host: &mut H,
+    jobs: &J,
+    seat: &mut J::Seat,
+) -> Ended
+    requires fits { J.fits jobs.now seat.old }
+    requires empty { J.held seat.old ≡ 0 }
+    requires repeats { request.old.build.config.repeat_lines ≡ true }
+    ensures fits { J.fits jobs.now seat.new }
+    ensures empty { J.held seat.new ≡ 0 }
+    ensures extends { H.log host.new ≡ H.log host.old ++ since (H.log host.old) (H.log host.new) }
+    ensures asked { AsksFor W.steady W.answer (name_of request.old.job, request.old.build) (since (H.log host.old) (H.log host.new)) }
+    ensures answer { Holds (answers (since (H.log host.old) (H.log host.new))) (λ look. (left : ℕ) × Answers look (name_of request.old.job, request.old.build) (since (H.log host.old) (H.log host.new)) result (course (J.total seat.old) (H.patience host.old) (means turns (J.faults seat.old) (J.taken seat.old) (J.load seat.old)) (means left (J.faults seat.new) (J.taken seat.new) (J.load seat.new)))) }
+{
+    match &request.job {
+        Job::Compile(name) => {
+            let build = &mut request.build;
+            capture_and_compile(rt, alloc, build, name.as_str(), turns, host, jobs, seat)
+        }
+    }
+}
+
+// Reads the words, and does what they ask for.
+#[tactic(auto, using(cc_host::proofs::Parts::since_append, crate::proofs::RepeatLaws::reads_repeating))]
+fn run<W: World, H: Host<W>, J: Jobs>(
+    rt: &impl Wait,
+    alloc: Global,
+    words: &[String],
+    turns: u64,
+    host: &mut H,
+    jobs: &J,
+    seat: &mut J::Seat,
+) -> Ended
+    requires fits { J.fits jobs.now seat.old }
+    requires empty { J.held seat.old ≡ 0 }
+    ensures fits { J.fits jobs.now seat.new }
+    ensures empty { J.held seat.new ≡ 0 }
+    ensures extends { H.log host.new ≡ H.log host.old ++ since (H.log host.old) (H.log host.new) }
+    ensures asked { AsksWords W.steady W.answer (read (map string_bytes words.now)) (since (H.log host.old) (H.log host.new)) }
+    ensures answer { Holds (answers (since (H.log host.old) (H.log host.new))) (λ look. (left : ℕ) × AnswersWords look (read (map string_bytes words.now)) (since (H.log host.old) (H.log host.new)) result (course (J.total seat.old) (H.patience host.old) (means turns (J.faults seat.old) (J.taken seat.old) (J.load seat.old)) (means left (J.faults seat.new) (J.taken seat.new) (J.load seat.new)))) }
+{
+    match read_words::<W>(alloc, words) {
+        Ok(mut request) => serve(rt, alloc, &mut request, turns, host, jobs, seat),
+        Err(ReadError::Bad(bad)) => refuse_word(alloc, host, bad),
+        Err(ReadError::NoMemory) => ended_wanting(),
+    }
+}
+
+/// Reads the words, runs what they ask for on the host, and prints. The seat is one of the pool and holds no token, before and after; no more than so
+/// many turns are made.
+///
+/// Status 0 of `compile NAME ..` means: in the part of the log that this call added the host listed its variables; then it starts one
+/// planned compile command per source, in the order added, each ended with 0; then the old library is removed; then the planned archive and index
+/// commands ended with 0; then exactly the link lines were printed.
+#[tactic(auto, using(cc_host::proofs::Parts::since_append))]
+pub fn drive<W: World, H: Host<W>, J: Jobs>(
+    rt: &impl Wait,
+    alloc: Global,
+    words: &[String],
+    turns: u64,
+    host: &mut H,
+    jobs: &J,
+    seat: &mut J::Seat,
+) -> Ended
+    requires fits { J.fits jobs.now seat.old }
+    requires empty { J.held seat.old ≡ 0 }
+    ensures fits { J.fits jobs.now seat.new }
+    ensures empty { J.held seat.new ≡ 0 }
+    ensures extends { H.log host.new ≡ H.log host.old ++ since (H.log host.old) (H.log host.new) }
+
+    // The headline.
+    ensures built { Holds (answers (since (H.log host.old) (H.log host.new))) (λ look. (left : ℕ) × Headline look (read (map string_bytes words.now)) (since (H.log host.old) (H.log host.new)) result (course (J.total seat.old) (H.patience host.old) (means turns (J.faults seat.old) (J.taken seat.old) (J.load seat.old)) (means left (J.faults seat.new) (J.taken seat.new) (J.load seat.new)))) }
+
+    // The whole answer: each status with its cause.
+    ensures answer { Holds (answers (since (H.log host.old) (H.log host.new))) (λ look. (left : ℕ) × AnswersWords look (read (map string_bytes words.now)) (since (H.log host.old) (H.log host.new)) result (course (J.total seat.old) (H.patience host.old) (means turns (J.faults seat.old) (J.taken seat.old) (J.load seat.old)) (means left (J.faults seat.new) (J.taken seat.new) (J.load seat.new)))) }
+
+    // What questions leave in the log: each is told once, and no probe file stays.
+    ensures asked { AsksWords W.steady W.answer (read (map string_bytes words.now)) (since (H.log host.old) (H.log host.new)) }
+
+    // What follows from the answer, sentence by sentence.
+    ensures told { TellsLast (since (H.log host.old) (H.log host.new)) result }
+    ensures begun { Holds (answers (since (H.log host.old) (H.log host.new))) (λ look. (left : ℕ) × IsBegun look (read (map string_bytes words.now)) (since (H.log host.old) (H.log host.new)) (course (J.total seat.old) (H.patience host.old) (means turns (J.faults seat.old) (J.taken seat.old) (J.load seat.old)) (means left (J.faults seat.new) (J.taken seat.new) (J.load seat.new)))) }
+    ensures order { Holds (answers (since (H.log host.old) (H.log host.new))) (λ look. (left : ℕ) × CompilesFirst look (read (map string_bytes words.now)) (since (H.log host.old) (H.log host.new)) (course (J.total seat.old) (H.patience host.old) (means turns (J.faults seat.old) (J.taken seat.old) (J.load seat.old)) (means left (J.faults seat.new) (J.taken seat.new) (J.load seat.new)))) }
+    ensures faults_last { FaultsLast (since (H.log host.old) (H.log host.new)) }
+    ensures settled { NothingRuns (since (H.log host.old) (H.log host.new)) }
+    ensures prefix { Holds (answers (since (H.log host.old) (H.log host.new))) (λ look. IsPrefix look (read (map string_bytes words.now)) (since (H.log host.old) (H.log host.new))) }
+    ensures complete { Holds (answers (since (H.log host.old) (H.log host.new))) (λ look. (left : ℕ) × IsComplete look (read (map string_bytes words.now)) (since (H.log host.old) (H.log host.new)) result (course (J.total seat.old) (H.patience host.old) (means turns (J.faults seat.old) (J.taken seat.old) (J.load seat.old)) (means left (J.faults seat.new) (J.taken seat.new) (J.load seat.new)))) }
+    ensures enough { Holds (answers (since (H.log host.old) (H.log host.new))) (λ look. (left : ℕ) × IsEnough look (read (map string_bytes words.now)) (since (H.log host.old) (H.log host.new)) result (course (J.total seat.old) (H.patience host.old) (means turns (J.faults seat.old) (J.taken seat.old) (J.load seat.old)) (means left (J.faults seat.new) (J.taken seat.new) (J.load seat.new)))) }
+{
+    run(rt, alloc, words, turns, host, jobs, seat)
+}

@@ -1,0 +1,106 @@
+// The host of a row.
+ghost use Rattle.std.specs.Prelude.{◌≢◌, IfOk};
+ghost use Rattle.cc_host.specs.declared.question.Outcome.TheVariants.{Unanswered};
+
+use crate::row::{Answer, Commands, Failure, Given, Knobs, ScriptOf, Surroundings};
+use cc_host::{BenchHost, Outcome, Script};
+use cc_text::{Bytes, Mem, Text};
+use std::alloc::Global;
+
+fn pieces_of(alloc: Global, texts: &[String]) -> Mem<Vec<Bytes>> {
+    let mut pieces = Vec::new(alloc);
+    for text in texts {
+        pieces.push(Bytes::of(alloc, text.as_bytes())?)?;
+    }
+    Ok(pieces)
+}
+
+fn word_of(alloc: Global, word: &Option<String>) -> Mem<Option<Text>> {
+    match word {
+        Some(word) => Ok(Some(Text::of(alloc, word.as_str())?)),
+        None => Ok(None),
+    }
+}
+
+impl ScriptOf {
+    fn script(&self, alloc: Global) -> Mem<Script> {
+        Ok(Script {
+            status: self.status,
+            pieces: pieces_of(alloc, &self.pieces)?,
+            unread: self.unread,
+            turns: self.turns,
+            after: word_of(alloc, &self.after)?,
+        })
+    }
+}
+
+impl Given {
+    fn outcome(&self, alloc: Global) -> Mem<Outcome>
+        ensures { IfOk result (λ o. o ≢ Unanswered) }
+    {
+        Ok(match self {
+            Given::Missing => Outcome::Missing,
+            Given::There(there) => Outcome::Exists(*there),
+            Given::Done { status, out, err } => Outcome::Done {
+                status: *status,
+                out: Bytes::of(alloc, out.as_bytes())?,
+                err: Bytes::of(alloc, err.as_bytes())?,
+            },
+        })
+    }
+}
+
+impl Surroundings {
+    fn apply(&self, host: &mut BenchHost) -> Mem<()> {
+        for file in &self.files {
+            host.file(file.as_str())?;
+        }
+        host.set_vars(self.vars.try_clone()?);
+        host.set_random(self.random.clone()?);
+        Ok(())
+    }
+}
+
+impl Commands {
+    fn apply(&self, alloc: Global, host: &mut BenchHost) -> Mem<()> {
+        for script in &self.scripts {
+            host.script(script.role, script.word.as_str(), script.script(alloc)?)?;
+        }
+        for program in &self.missing {
+            host.missing(program.as_str())?;
+        }
+        Ok(())
+    }
+}
+
+fn apply_answers(alloc: Global, answers: &[Answer], host: &mut BenchHost) -> Mem<()> {
+    for answer in answers {
+        host.answer(
+            answer.ask,
+            answer.program.as_str(),
+            answer.given.outcome(alloc)?,
+        )?;
+    }
+    Ok(())
+}
+
+fn apply_failures(failures: &[Failure], host: &mut BenchHost) -> Mem<()> {
+    for failure in failures {
+        host.fail(failure.call, failure.nth)?;
+    }
+    Ok(())
+}
+
+fn apply(alloc: Global, knobs: &Knobs, host: &mut BenchHost) -> Mem<()> {
+    knobs.around.apply(host)?;
+    knobs.commands.apply(alloc, host)?;
+    apply_answers(alloc, &knobs.answers, host)?;
+    apply_failures(&knobs.failures, host)
+}
+
+/// A host that differs by these knobs from one at which all goes well.
+pub fn host_of(alloc: Global, knobs: &Knobs) -> Mem<BenchHost> {
+    let mut host = BenchHost::new(alloc)?;
+    apply(alloc, knobs, &mut host)?;
+    Ok(host)
+}

@@ -1,0 +1,52 @@
+// A row played on a host of its own.
+use crate::compare::{Compared, Difference, compare_end, compare_lines};
+use cc_command::{Ended, drive};
+use cc_host::{BenchHost, Event, Host};
+use cc_jobs::{Jobs, OneCaller};
+use cc_row::{Pool, Row, host_of, left_over, log_lines};
+use cc_text::Mem;
+use std::alloc::Global;
+use std::sync::Wait;
+
+/// How a run ended, and how many tokens its seat holds after it.
+#[derive(Drop)]
+struct Found {
+    ended: Ended,
+    held: u64,
+}
+
+// The one call of `drive`. A pool has at least one token, and `max` says so.
+fn run(rt: &impl Wait, alloc: Global, words: &[String], pool: Pool, host: &mut BenchHost) -> Found {
+    let (jobs, mut seat) = OneCaller::new(pool.tokens.max(1));
+    let ended = drive(rt, alloc, words, pool.turns, host, &jobs, &mut seat);
+    let held = jobs.held(&seat);
+    Found { ended, held }
+}
+
+// Compares what no row has to ask for: that nothing is held, runs, stands or is unused.
+fn compare_rest(alloc: Global, to: &mut Compared, row: &Row, held: u64, log: &[Event]) -> Mem<()> {
+    if held != 0 {
+        let found = format!(in alloc; "{held} tokens held")?;
+        to.differ("no token held", found.as_str())?;
+    }
+    match left_over(alloc, &row.knobs, log)?.first() {
+        Some(left) => to.differ("nothing left over", left.as_str()),
+        None => Ok(()),
+    }
+}
+
+fn compare(alloc: Global, to: &mut Compared, row: &Row, found: &Found, log: &[Event]) -> Mem<()> {
+    let lines = log_lines(alloc, &row.knobs.around.vars, log)?;
+    compare_lines(alloc, to, &row.expected.log, &lines)?;
+    compare_end(alloc, to, &row.expected, &found.ended)?;
+    compare_rest(alloc, to, row, found.held, log)
+}
+
+/// Plays the row. `None` says that all is as expected.
+pub fn play(rt: &impl Wait, alloc: Global, row: &Row) -> Mem<Option<Difference>> {
+    let mut host = host_of(alloc, &row.knobs)?;
+    let found = run(rt, alloc, &row.words, row.knobs.pool, &mut host);
+    let mut to = Compared::new(alloc);
+    compare(alloc, &mut to, row, &found, host.log())?;
+    Ok(to.first)
+}

@@ -1,0 +1,62 @@
+// A whole run on the host of fixed outcomes.
+use crate::log::check_log;
+use crate::setup::set_all;
+use cc_build::{Build, Error};
+use cc_hosts::{Fixed, FixedHost};
+use cc_jobs::OneCaller;
+use std::alloc::AllocGlobal;
+use std::process::Abort;
+use std::sync::Wait;
+use std::test::Fail;
+
+fn add_sources(build: &mut Build<Fixed>) -> Result<(), Error> {
+    build.archiver("ar")?;
+    build.file("src/a.c")?;
+    build.file("src/b.c")
+}
+
+fn compile(rt: &impl Wait, build: &Build<Fixed>, host: &mut FixedHost) -> Result<(), Error> {
+    let (jobs, mut seat) = OneCaller::new(2);
+    build.try_compile(rt, host, &jobs, &mut seat, 50, "foo")
+}
+
+const DONE: &str = "makes /o
+makes /o
+draws
+opens /o/0detect_compiler_family.c
+asks macros
+drops
+asks help
+starts cc
+starts cc
+turns
+ends
+ends
+removes nothing at /o/libfoo.a
+starts ar
+turns
+ends
+starts ar
+turns
+ends
+prints cargo:rustc-link-lib=static=foo
+prints cargo:rustc-link-search=native=/o
+";
+
+fn check_library(
+    rt: &(impl Wait + AllocGlobal + Abort),
+    build: &mut Build<Fixed>,
+    host: &mut FixedHost,
+) -> Result<(), Fail> {
+    set_all(build, "/o", "cc")?;
+    add_sources(build)?;
+    compile(rt, build, host)?;
+    check_log(rt, host, DONE)
+}
+
+#[test]
+fn two_sources_become_a_library_on_the_host_of_fixed_outcomes(rt: HostRuntime) -> Result<(), Fail> {
+    let mut build = Build::new(rt.alloc()).expect(&rt, "a build");
+    let mut host = FixedHost::new(rt.alloc()).expect(&rt, "a host");
+    check_library(&rt, &mut build, &mut host)
+}

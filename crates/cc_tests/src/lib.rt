@@ -1,0 +1,27 @@
+//! Tests of the library that no row of data can say: the processes and the files of the machine, a caller that goes between the turns of a host, and several
+//! calls on one build or its clones.
+//!
+//! The crate has tests alone. They stand here, and not in the crates that they test, since a crate with tests is proved twice. A helper has no promise, and
+//! holds few values where it may end early, so that it is proved soon.
+#![tactic(auto)]
+
+#[cfg(test)]
+mod calls;
+#[cfg(test)]
+mod environment;
+#[cfg(test)]
+mod fixed;
+#[cfg(test)]
+mod log;
+#[cfg(test)]
+mod machine;
+#[cfg(test)]
+mod memory;
+#[cfg(test)]
+mod processes;
+#[cfg(test)]
+mod settings;
+#[cfg(test)]
+mod setup;
+#[cfg(test)]
+mod verdicts;

@@ -1,0 +1,235 @@
+// What a build and its clone are answered of their compiler: whether it takes a flag, what it is, and the words for the linker, of which they tell once.
+ghost use Rattle.std.specs.Prelude.{◌≢◌, IfOk};
+ghost use Rattle.cc_host.specs.declared.question.Outcome.TheVariants.{Unanswered};
+
+use crate::log::check_log;
+use crate::setup::set_all;
+use cc_build::{Build, Error, ErrorKind};
+use cc_host::{Ask, Bench, BenchHost, Outcome, Status};
+use cc_text::{Bytes, Mem, ToolFamily};
+use std::alloc::{AllocGlobal, Global};
+use std::process::Abort;
+use std::sync::Wait;
+use std::test::Fail;
+
+// A command that ended well, and wrote this.
+fn done(alloc: Global, out: &str, err: &str) -> Mem<Outcome>
+    ensures { IfOk result (λ o. o ≢ Unanswered) }
+{
+    Ok(Outcome::Done {
+        status: Status::Code(0),
+        out: Bytes::of(alloc, out.as_bytes())?,
+        err: Bytes::of(alloc, err.as_bytes())?,
+    })
+}
+
+// What the question answers whether a flag is taken.
+fn answer(rt: &impl Wait, build: &Build<Bench>, host: &mut BenchHost) -> &'static str {
+    match build.is_flag_supported(rt, host, "-fx") {
+        Ok(true) => "yes",
+        Ok(false) => "no",
+        Err(error) => match error.kind() {
+            ErrorKind::IOError => "not tried",
+            _ => "refused",
+        },
+    }
+}
+
+fn clones_answer(
+    rt: &impl Wait,
+    build: &Build<Bench>,
+    host: &mut BenchHost,
+) -> Result<&'static str, Error> {
+    let clone = build.try_clone()?;
+    Ok(answer(rt, &clone, host))
+}
+
+const TRIED_ONCE: &str = "makes /o
+draws
+opens /o/0detect_compiler_family.c
+asks macros
+drops
+asks help
+makes /o
+draws
+opens /o/0flag_check.c
+draws
+opens /o/0flag_check
+asks flag
+drops
+drops
+knows macros
+knows help
+knows flag
+";
+
+fn check_tried(
+    rt: &(impl Wait + AllocGlobal + Abort),
+    build: &mut Build<Bench>,
+    host: &mut BenchHost,
+) -> Result<(), Fail> {
+    set_all(build, "/o", "cc")?;
+    assert_eq!(rt; answer(rt, build, host), "yes");
+    assert_eq!(rt; clones_answer(rt, build, host)?, "yes");
+    check_log(rt, host, TRIED_ONCE)
+}
+
+#[test]
+fn a_flag_is_tried_once_for_a_build_and_its_clones(rt: HostRuntime) -> Result<(), Fail> {
+    let mut build = Build::new(rt.alloc()).expect(&rt, "a build");
+    let mut host = BenchHost::new(rt.alloc()).expect(&rt, "a host");
+    check_tried(&rt, &mut build, &mut host)
+}
+
+const FLAG: Ask = Ask::Flag {
+    cpp: false,
+    family: ToolFamily::Gnu,
+};
+
+// A compiler that warns of a flag doesn't take it. Where it is missing then, the flag isn't tried: what is known of another build's questions isn't known of
+// these.
+fn check_untried(
+    rt: &(impl Wait + AllocGlobal + Abort),
+    build: &mut Build<Bench>,
+    host: &mut BenchHost,
+) -> Result<(), Fail> {
+    set_all(build, "/o", "cc")?;
+    host.answer(FLAG, "cc", Outcome::Missing)?;
+    assert_eq!(rt; answer(rt, build, host), "not tried");
+    host.answer(FLAG, "cc", done(rt.alloc(), "", "!")?)?;
+    assert_eq!(rt; answer(rt, build, host), "no");
+    Ok(())
+}
+
+#[test]
+fn a_noisy_compiler_takes_no_flag_and_a_missing_one_is_not_tried(
+    rt: HostRuntime,
+) -> Result<(), Fail> {
+    let mut build = Build::new(rt.alloc()).expect(&rt, "a build");
+    let mut host = BenchHost::new(rt.alloc()).expect(&rt, "a host");
+    check_untried(&rt, &mut build, &mut host)
+}
+
+// The compiler says of itself that it is Clang, and where it is asked so, that it takes `-?`.
+fn answer_as_clang(host: &mut BenchHost, alloc: Global, compiler: &str) -> Mem<()> {
+    host.answer(Ask::Preprocess, compiler, done(alloc, "\"clang\"", "")?)
+}
+
+fn answer_as_clang_cl(host: &mut BenchHost, alloc: Global) -> Mem<()> {
+    answer_as_clang(host, alloc, "clang-cl")?;
+    host.answer(Ask::HelpFlag, "clang-cl", done(alloc, "", "")?)
+}
+
+// The family and the path of the compiler.
+fn told(
+    rt: &(impl Wait + AllocGlobal),
+    build: &Build<Bench>,
+    host: &mut BenchHost,
+) -> Result<String, Fail> {
+    let tool = build.try_get_compiler(rt, host)?;
+    let (family, path) = (tool.family(), tool.path());
+    Ok(format!(in rt.alloc(); "{family:?} {path}")?)
+}
+
+fn told_of_clone(
+    rt: &(impl Wait + AllocGlobal),
+    build: &Build<Bench>,
+    host: &mut BenchHost,
+) -> Result<String, Fail> {
+    let clone = build.try_clone()?;
+    told(rt, &clone, host)
+}
+
+// A build and its clone have this compiler.
+fn check_compilers(
+    rt: &(impl Wait + AllocGlobal + Abort),
+    build: &Build<Bench>,
+    host: &mut BenchHost,
+    want: &str,
+) -> Result<(), Fail> {
+    assert_eq!(rt; told(rt, build, host)?.as_str(), want);
+    assert_eq!(rt; told_of_clone(rt, build, host)?.as_str(), want);
+    Ok(())
+}
+
+const ASKED_ONCE: &str = "makes /o
+draws
+opens /o/0detect_compiler_family.c
+asks macros
+drops
+asks help
+asks version
+knows macros
+knows help
+knows version
+";
+
+fn check_asked_once(
+    rt: &(impl Wait + AllocGlobal + Abort),
+    build: &mut Build<Bench>,
+    host: &mut BenchHost,
+) -> Result<(), Fail> {
+    set_all(build, "/o", "cc")?;
+    answer_as_clang(host, rt.alloc(), "cc")?;
+    check_compilers(rt, build, host, "Clang { zig_cc: false } cc")?;
+    check_log(rt, host, ASKED_ONCE)
+}
+
+#[test]
+fn a_compiler_is_asked_once_what_it_is(rt: HostRuntime) -> Result<(), Fail> {
+    let mut build = Build::new(rt.alloc()).expect(&rt, "a build");
+    let mut host = BenchHost::new(rt.alloc()).expect(&rt, "a host");
+    check_asked_once(&rt, &mut build, &mut host)
+}
+
+const TOLD_ONCE: &str = "makes /o
+draws
+opens /o/0detect_compiler_family.c
+asks macros
+drops
+asks help
+prints cargo:warning=Ignoring linker flags after /link
+knows macros
+knows help
+";
+
+const TOLD_TWICE: &str = "makes /o
+draws
+opens /o/0detect_compiler_family.c
+asks macros
+drops
+asks help
+prints cargo:warning=Ignoring linker flags after /link
+knows macros
+knows help
+prints cargo:warning=Ignoring linker flags after /link
+";
+
+// A build with a word for the linker, and its clone.
+fn check_link_words(
+    rt: &(impl Wait + AllocGlobal + Abort),
+    build: &mut Build<Bench>,
+    host: &mut BenchHost,
+    want: &str,
+) -> Result<(), Fail> {
+    set_all(build, "/o", "clang-cl")?;
+    build.flag("/link")?;
+    answer_as_clang_cl(host, rt.alloc())?;
+    check_compilers(rt, build, host, "Msvc { clang_cl: true } clang-cl")?;
+    check_log(rt, host, want)
+}
+
+#[test]
+fn words_for_the_linker_are_told_of_once(rt: HostRuntime) -> Result<(), Fail> {
+    let mut build = Build::new(rt.alloc()).expect(&rt, "a build");
+    let mut host = BenchHost::new(rt.alloc()).expect(&rt, "a host");
+    check_link_words(&rt, &mut build, &mut host, TOLD_ONCE)
+}
+
+#[test]
+fn words_for_the_linker_are_told_of_at_each_call(rt: HostRuntime) -> Result<(), Fail> {
+    let mut build = Build::new(rt.alloc()).expect(&rt, "a build");
+    let mut host = BenchHost::new(rt.alloc()).expect(&rt, "a host");
+    build.repeat_lines(true);
+    check_link_words(&rt, &mut build, &mut host, TOLD_TWICE)
+}
