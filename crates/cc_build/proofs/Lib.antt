@@ -1,6 +1,8 @@
 pub mod Asking
 pub mod BuiltLaws
+pub mod Doing
 pub mod Going
+pub mod Keeping
 pub mod Lines
 pub mod Looks
 pub mod OrderLaws

@@ -1,8 +1,6 @@
 -- Lines printed one after another.
-use Rattle.std.proofs.Common.{◌≡◌, ℕ, suc, ◌+◌, ◌<◌, List, [], ◌∷◌, ◌++◌, length, take, drop, get_or, refl, sym, ◌∙◌, ap, add-one}
-use Rattle.std.proofs.Math.Seq.{drop-cons}
+use Rattle.std.proofs.Common.{◌≡◌, ℕ, ◌+◌, ◌<◌, List, [], ◌∷◌, ◌++◌, length, take, get_or, refl, sym, ◌∙◌, ap}
 use Rattle.std.proofs.lemmas.Grind.{take_at_read}
-use Rattle.std.proofs.lemmas.List.{take-append-drop}
 use Rattle.cc_host.specs.Part.{since}
 use Rattle.cc_host.specs.Part.Step.{Prints}
 use Rattle.cc_host.proofs.Parts.{since_since, since_append}
@@ -39,10 +37,3 @@ pub next_line : (kind : LineKind) (lines : List (List ℕ)) (i : ℕ) (line : Li
 next_line kind lines i line within is =
     let more : take (i + 1) lines ≡ take i lines ++ line ∷ [] = (take_at_read lines i line within).1 ∙ ap (λ s. take i lines ++ s ∷ []) (sym is) in
     ap (prints kind) more ∙ prints_both kind (take i lines) (line ∷ []) ∙ ap (λ l. prints kind (take i lines) ++ l) (one_line kind line)
-
-pub around_line : (kind : LineKind) (lines : List (List ℕ)) (i : ℕ) (line : List ℕ) → i < length lines → line ≡ get_or lines i line → prints kind lines ≡ prints kind (take i lines) ++ ((Prints kind (printed_line line) ∷ []) ++ prints kind (drop (i + 1) lines))
-around_line kind lines i line within is =
-    let rest : drop i lines ≡ line ∷ drop (i + 1) lines = drop-cons lines i line within ∙ ap (λ s. s ∷ drop (suc i) lines) (sym is) ∙ ap (λ n. line ∷ drop n lines) (sym (add-one i)) in
-    ap (prints kind) (sym (take-append-drop i lines)) ∙ prints_both kind (take i lines) (drop i lines)
-    ∙ ap (λ l. prints kind (take i lines) ++ prints kind l) rest
-    ∙ ap (λ l. prints kind (take i lines) ++ l) (prints_both kind (line ∷ []) (drop (i + 1) lines) ∙ ap (λ l. l ++ prints kind (drop (i + 1) lines)) (one_line kind line))

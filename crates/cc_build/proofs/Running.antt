@@ -1,21 +1,14 @@
 -- Runs of commands as stages.
-use Rattle.std.proofs.Common.{◌≡◌, ◌⊎◌, ◌+◌, inl, inr, ℕ, List, [], ◌∷◌, ◌++◌, length, take, drop, get_or, ◌<◌, ◌≤◌, suc, add-one, true, false, None, Result, Ok, Err, refl, sym, ◌∙◌, ap, subst}
+use Rattle.std.proofs.Common.{◌≡◌, ◌⊎◌, ◌+◌, inl, inr, List, [], ◌∷◌, ◌++◌, length, ◌≤◌, true, false, None, Result, Ok, Err, refl, sym, ◌∙◌, ap, subst}
 use Rattle.std.specs.Prelude.{IfSome}
 use Rattle.std.specs.List.{list_all}
 use Rattle.std.proofs.lemmas.Bool.{and_parts}
-use Rattle.std.proofs.lemmas.Grind.{take_at_read}
-use Rattle.std.proofs.lemmas.List.{map-append, take-append-drop}
-use Rattle.std.proofs.Math.Seq.{drop-cons}
-use Rattle.cc_host.specs.Part.{Step, since}
-use Rattle.cc_host.specs.Part.Step.{Prints}
+use Rattle.cc_host.specs.Part.{since}
 use Rattle.cc_host.specs.declared.event.Event.{Event}
 use Rattle.cc_host.specs.declared.event.Event.TheVariants.{Answered, Reused, Unasked, Drawn, Opened, Taken, Dropped, Made, Fault}
 use Rattle.cc_host.specs.declared.event.HostCall.TheVariants.{Start as Starts, Turn as Turns, Print as Printing, Output, Probe, MakeDir, CreateProbe, Remove, Vars}
-use Rattle.cc_host.specs.declared.event.LineKind.{LineKind}
 use Rattle.cc_host.specs.declared.event.Scope.TheVariants.{Build, Probe as ForProbes}
 use Rattle.cc_host.proofs.Parts.{since_extends}
-use Rattle.cc_plan.specs.Link.{printed_line}
-use Rattle.cc_plan.specs.Plan.{prints}
 use Rattle.cc_run.specs.Children.{nothing_kept}
 use Rattle.cc_run.specs.Own.{is_of_run}
 use Rattle.cc_run.specs.Part.{turns}
@@ -32,11 +25,9 @@ use Rattle.cc_jobs.specs.Seats.{Rose}
 use Rattle.cc_tool.specs.Asked.{question_event, question_events}
 use Rattle.cc_build.specs.Error.{ErrorSeen, no_memory}
 use Rattle.cc_build.specs.RunErrors.{run_error}
-use Rattle.cc_build.specs.Stage.{Stage, calls, in_turn}
-use Rattle.cc_build.specs.Stage.Stage.{Calls, RunsOne, RunsAll}
+use Rattle.cc_build.specs.Stage.Stage.{RunsOne, RunsAll}
 use Rattle.cc_build.specs.Went.{Terms, Means, RanOne, RanAll, Went, Halted}
-use Rattle.cc_build.proofs.Going.{went_then, went_one, halted_at, halted_more, halted_then, part_is}
-use Rattle.cc_build.proofs.Lines.{next_line, around_line}
+use Rattle.cc_build.proofs.Going.{went_one, halted_at, part_is}
 
 -- ---- a run asks nothing
 
@@ -116,51 +107,3 @@ together_done t ps part x y ran = went_one t (RunsAll ps) part x y ran
 pub together_refused : (t : Terms) (ps : List Planned) (part : List Event) (x y : Means) (error : RunError) (e : ErrorSeen) → RanAll t ps part (Err error) x y → (e ≡ run_error ps error) ⊎ (e ≡ no_memory) → Halted t None (RunsAll ps ∷ []) part e x y
 together_refused t ps part x y error e ran (inl is) = halted_at t None (RunsAll ps) [] part e x y (error, (ran, inr is))
 together_refused t ps part x y error e ran (inr memory) = halted_at t None (RunsAll ps) [] part e x y (error, (ran, inl memory))
-
--- ---- one after another
-
-module _ (t : Terms) (ps : List Planned) (i : ℕ) (p : Planned) (within : i < length ps) (is : p ≡ get_or ps i p) where
-  next_one : in_turn (take (i + 1) ps) ≡ in_turn (take i ps) ++ RunsOne p ∷ []
-  next_one =
-      let more : take (i + 1) ps ≡ take i ps ++ p ∷ [] = (take_at_read ps i p within).1 ∙ ap (λ s. take i ps ++ s ∷ []) (sym is) in
-      ap in_turn more ∙ map-append RunsOne (take i ps) (p ∷ [])
-
-  around_one : in_turn ps ≡ in_turn (take i ps) ++ ((RunsOne p ∷ []) ++ in_turn (drop (i + 1) ps))
-  around_one =
-      let rest : drop i ps ≡ p ∷ drop (i + 1) ps = drop-cons ps i p within ∙ ap (λ s. s ∷ drop (suc i) ps) (sym is) ∙ ap (λ n. p ∷ drop n ps) (sym (add-one i)) in
-      ap in_turn (sym (take-append-drop i ps)) ∙ map-append RunsOne (take i ps) (drop i ps) ∙ ap (λ l. in_turn (take i ps) ++ in_turn l) rest
-
-  -- the commands so far were run, and one more
-  pub turn_more : (a b : List Event) (x y z : Means) → Went t (in_turn (take i ps)) a x y → Went t (RunsOne p ∷ []) b y z → Went t (in_turn (take (i + 1) ps)) (a ++ b) x z
-  turn_more a b x y z w v = subst (λ (s : List Stage). Went t s (a ++ b) x z) (sym next_one) (went_then t (in_turn (take i ps)) (RunsOne p ∷ []) a b x y z w v)
-
-  -- the commands so far were run, and the next was refused
-  pub turn_refused : (a b : List Event) (e : ErrorSeen) (x y z : Means) → Went t (in_turn (take i ps)) a x y → Halted t None (RunsOne p ∷ []) b e y z → Halted t None (in_turn ps) (a ++ b) e x z
-  turn_refused a b e x y z w h =
-      subst (λ (s : List Stage). Halted t None s (a ++ b) e x z) (sym around_one)
-      (halted_then t None (in_turn (take i ps)) ((RunsOne p ∷ []) ++ in_turn (drop (i + 1) ps)) a b e x y z w (halted_more t None (RunsOne p ∷ []) (in_turn (drop (i + 1) ps)) b e y z h))
-
--- ---- lines, one after another
-
-calls_both : (a b : List Step) → calls (a ++ b) ≡ calls a ++ calls b
-calls_both a b = map-append Calls a b
-
-module _ (t : Terms) (kind : LineKind) (lines : List (List ℕ)) (i : ℕ) (line : List ℕ) (within : i < length lines) (is : line ≡ get_or lines i line) where
-  -- the lines so far were printed, and one more
-  pub line_more : (a b : List Event) (x : Means) → Went t (calls (prints kind (take i lines))) a x x → Went t (calls (Prints kind (printed_line line) ∷ [])) b x x → Went t (calls (prints kind (take (i + 1) lines))) (a ++ b) x x
-  line_more a b x w v =
-      subst (λ (s : List Stage). Went t s (a ++ b) x x) (sym (ap calls (next_line kind lines i line within is) ∙ calls_both (prints kind (take i lines)) (Prints kind (printed_line line) ∷ [])))
-      (went_then t (calls (prints kind (take i lines))) (calls (Prints kind (printed_line line) ∷ [])) a b x x x w v)
-
-  -- the lines so far were printed, and the next was refused
-  pub line_refused : (a b : List Event) (e : ErrorSeen) (x : Means) → Went t (calls (prints kind (take i lines))) a x x → Halted t None (calls (Prints kind (printed_line line) ∷ [])) b e x x → Halted t None (calls (prints kind lines)) (a ++ b) e x x
-  line_refused a b e x w h =
-      subst (λ (s : List Stage). Halted t None s (a ++ b) e x x)
-      (sym (ap calls (around_line kind lines i line within is) ∙ calls_both (prints kind (take i lines)) ((Prints kind (printed_line line) ∷ []) ++ prints kind (drop (i + 1) lines)) ∙ ap (λ l. calls (prints kind (take i lines)) ++ l) (calls_both (Prints kind (printed_line line) ∷ []) (prints kind (drop (i + 1) lines)))))
-      (halted_then t None (calls (prints kind (take i lines))) (calls (Prints kind (printed_line line) ∷ []) ++ calls (prints kind (drop (i + 1) lines))) a b e x x x w
-      (halted_more t None (calls (Prints kind (printed_line line) ∷ [])) (calls (prints kind (drop (i + 1) lines))) b e x x h))
-
--- no line is printed
-pub lines_none : (t : Terms) (kind : LineKind) (part : List Event) (x : Means) → part ≡ [] → Went t (calls (prints kind [])) part x x
-unfolding prints
-lines_none t kind part x none = (none, refl)

@@ -1,27 +1,23 @@
 -- How the checks of settings and the stages of a plan make up a compile run.
 use Rattle.std.proofs.Common.{◌≡◌, ◌⊎◌, inl, inr, ℕ, List, [], ◌∷◌, ◌++◌, Option, Some, None, Bool, true, false, if◌then◌else◌, is_some, Result, refl, sym, ◌∙◌, ap, subst}
-use Rattle.std.specs.List.{All, list_all}
+use Rattle.std.specs.List.{list_all}
 use Rattle.std.specs.Option.{option_map}
-use Rattle.std.proofs.lemmas.List.Elements.{All-map}
 use Rattle.cc_env.specs.Env.{EnvSeen}
-use Rattle.cc_host.specs.Command.{CommandSeen}
-use Rattle.cc_host.specs.Part.Step.{Removes}
 use Rattle.cc_host.specs.Question.{Look}
 use Rattle.cc_host.specs.declared.event.Event.{Event}
-use Rattle.cc_host.specs.declared.event.LineKind.TheVariants.{Link, Warning}
-use Rattle.cc_host.specs.declared.event.Role.{Role}
-use Rattle.cc_host.specs.declared.event.Role.TheVariants.{Archive, Compile, Index}
 use Rattle.cc_plan.specs.Given.{is_disabled}
-use Rattle.cc_plan.specs.Plan.{warning_lines, library_of, compiles_of, archives_of, indexes_of, link_lines, prints, folder_steps, removal_steps, link_steps}
+use Rattle.cc_plan.specs.Plan.{library_of, folder_steps, removal_steps, link_steps}
 use Rattle.cc_plan.specs.Refusal.{first_of, early_refusal, late_refusal}
 use Rattle.cc_plan.specs.declared.error.PlanError.{PlanError}
 use Rattle.cc_plan.specs.declared.error.PlanError.TheVariants.{NoMemory as WantsMemory}
+use Rattle.cc_plan.specs.declared.plan.Plan.{Plan}
 use Rattle.cc_plan.specs.declared.settings.BuildConfig.{BuildConfig}
-use Rattle.cc_run.specs.declared.planned.Planned.{Planned}
 use Rattle.cc_tool.specs.Probing.{is_asked}
 use Rattle.cc_build.specs.Error.{ErrorSeen, no_memory}
+use Rattle.cc_build.specs.Questions.{Plans}
+use Rattle.cc_build.specs.Seen.{stages_of}
 use Rattle.cc_build.specs.Refusal.{plan_error, disabled_error, refusal_error, early_error, late_error}
-use Rattle.cc_build.specs.Stage.{Stage, calls, planned, beside, in_turn, folder_stages, compile_stages, removal_stages, archive_stages, link_stages, run_stages, late_stages, planned_stages}
+use Rattle.cc_build.specs.Stage.{Stage, calls, folder_stages, compile_stages, removal_stages, archive_stages, link_stages, run_stages, late_stages, planned_stages}
 use Rattle.cc_build.specs.Stage.Stage.{Asks}
 use Rattle.cc_build.specs.Went.{Terms, Means, Halted, Ends}
 use Rattle.cc_build.proofs.Going.{went_one, halted_among, ends_then}
@@ -86,13 +82,9 @@ pub asked_then : {T : Type 0} (t : Terms) (run : List Stage) (a b : List Event) 
 asked_then t run a b r x y asked o = ends_then t None (Asks ∷ []) run a b r x x y (went_one t Asks a x x (asked, refl)) o
 
 -- the stages of a plan are the planned ones
-pub stages : (set : BuildConfig) (env : EnvSeen) (told : Bool) (look : Look) (output : List ℕ) (warnings : List (List ℕ)) (compiles archives indexes : List Planned) (lines : List (List ℕ)) (library : List ℕ) → warnings ≡ warning_lines set env told look → compiles ≡ planned Compile (compiles_of set env look) → archives ≡ planned Archive (archives_of set env output) → indexes ≡ planned Index (indexes_of set env output) → lines ≡ link_lines set env output → library ≡ library_of set env output → (calls (prints Warning warnings) ++ beside compiles) ++ (calls (Removes library ∷ []) ++ ((in_turn archives ++ in_turn indexes) ++ calls (prints Link lines))) ≡ run_stages set env told look output
+pub stages : (set : BuildConfig) (env : EnvSeen) (look : Look) (output : List ℕ) (plan : Plan) (library : List ℕ) → Plans set env look output plan → library ≡ library_of set env output → stages_of plan library ≡ run_stages set env plan.told look output
 unfolding compile_stages removal_stages archive_stages link_stages removal_steps link_steps
-stages set env told look output warnings compiles archives indexes lines library e0 e1 e2 e3 e4 e5 = rw (e0, e1, e2, e3, e4, e5) refl
-
--- commands that are planned in a role have it
-pub have_role : (role : Role) (cmds : List CommandSeen) (ps : List Planned) → ps ≡ planned role cmds → All (λ (p : Planned). p.role ≡ role) ps
-have_role role cmds ps is = subst (λ (l : List Planned). All (λ (p : Planned). p.role ≡ role) l) (sym is) (All-map (λ (p : Planned). p.role ≡ role) (λ (cmd : CommandSeen). record { role = role; cmd = cmd; message = None }) cmds (λ _ _ _. refl))
+stages set env look output plan library h is = rw (h.warnings, h.compiles, h.archives, h.indexes, h.lines, is) refl
 
 -- an outcome by other names
 pub renamed : {T : Type 0} (t : Terms) (refusal refusal' : Option ErrorSeen) (these those : List Stage) (part : List Event) (r : Result T ErrorSeen) (x y : Means) → refusal ≡ refusal' → these ≡ those → Ends t refusal these part r x y → Ends t refusal' those part r x y

@@ -9,11 +9,13 @@ pub mod ErrorText
 pub mod Failed
 pub mod FlagSupport
 pub mod Flags
+pub mod Kept
 pub mod Order
 pub mod Outcome
 pub mod Questions
 pub mod Refusal
 pub mod RunErrors
+pub mod Seen
 pub mod Shows
 pub mod Stage
 pub mod Stop

@@ -15,7 +15,9 @@ mod marks;
 mod message;
 mod refusal;
 mod run;
+mod several;
 mod shows;
+mod stage;
 mod support;
 mod texts;
 

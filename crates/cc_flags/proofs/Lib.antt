@@ -1,4 +1,5 @@
 pub mod AmongLemmas
+pub mod DashLemmas
 pub mod FlagLemmas
 pub mod NumberLemmas
 pub mod PairLemmas

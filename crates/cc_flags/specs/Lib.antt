@@ -1,4 +1,11 @@
+pub mod DebugWords
+pub mod DefaultWords
+pub mod Families
 pub mod Features
 pub mod Fields
+pub mod GnuWords
+pub mod MapWords
 pub mod Pairs
+pub mod Texts
+pub mod VisualStudioWords
 pub mod Wanted

@@ -13,7 +13,7 @@ use crate::crew::Crew;
 use crate::given::GivenList;
 use crate::script::Scripted;
 use crate::{Ask, Event, HostCall, HostError, Outcome, Role, Script, Why};
-use cc_text::{Mem, Text, Vars, Words};
+use cc_text::{Mem, NoMemory, Text, Vars, Words};
 use std::alloc::Global;
 use std::marker::Model;
 
@@ -145,7 +145,10 @@ impl BenchHost {
         ensures ok { OnOk result (self.new ≡ record self.old { log = self.old.log ++ event ∷ [] }) }
         ensures err { OnErr result (self.new ≡ self.old) }
     {
-        self.crew.reserve(1)?;
+        if self.crew.reserve(1).is_err() {
+            drop(event);
+            return Err(NoMemory);
+        }
         self.crew.note(event);
         Ok(())
     }

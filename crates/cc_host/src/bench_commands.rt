@@ -2,6 +2,7 @@
 ghost use Rattle.std.specs.Prelude.{◌≡◌, ◌++◌, ◌∷◌, [], ℕ, Option, Ok, IfOk, OnOk, OnErr};
 ghost use Rattle.cc_host.specs.declared.event.Event.TheVariants.{Started, Opened};
 ghost use Rattle.cc_host.specs.declared.event.HostCall.TheVariants.{Start as Starts, Output, CreateProbe};
+ghost use Rattle.cc_host.specs.declared.event.Ran.TheVariants.{Done};
 ghost use Rattle.cc_host.specs.declared.event.Start.TheVariants.{Child};
 ghost use Rattle.cc_host.specs.Children.{IsFresh};
 ghost use Rattle.cc_host.specs.Calls.{counted};
@@ -9,7 +10,7 @@ ghost use Rattle.cc_host.specs.Event.{is_captured, ran};
 ghost use Rattle.cc_host.specs.Script.{script_for, script_at};
 ghost use Rattle.cc_host.specs.Bench.{start_after, ends_as};
 
-use crate::{BenchHost, Command, Event, HostCall, OutputKind, Pipes, Ran, Role, script};
+use crate::{BenchHost, Command, Event, HostCall, OutputKind, Pipes, Ran, Role, Status, script};
 use cc_text::{Bytes, Mem, Text};
 
 // Whether the standard output of a command is kept.
@@ -24,26 +25,51 @@ fn is_captured(out: OutputKind) -> bool
 }
 
 impl BenchHost {
+    // How a command ends whose program is there, with what is kept of its standard output and of its standard error.
+    fn script_end(&self, role: Role, cmd: &Command, pipes: Pipes) -> Mem<(Status, Bytes, Bytes)>
+        ensures { IfOk result (λ end. Done end.0 end.1 end.2 ≡ ends_as self.now role cmd.now pipes) }
+    {
+        let captured = is_captured(pipes.out);
+        let found = script::script_for(&self.scripts, role, cmd);
+        let out = script::out_of(self.alloc, captured, found)?;
+        let err = script::err_of(self.alloc, captured, pipes.hear, found)?;
+        Ok((script::status_of(found), out, err))
+    }
+
+    // Adds the event of a command that ended so, and counts the call.
+    fn note_ran(
+        &mut self,
+        role: Role,
+        cmd: Command,
+        pipes: Pipes,
+        status: Status,
+        out: &Bytes,
+        err: &Bytes,
+    ) -> Mem<()>
+        ensures ok { OnOk result (self.new ≡ record self.old { log = self.old.log ++ ran role cmd pipes (Ok (Done status out.now err.now)); made = counted Output self.old.made }) }
+        ensures err { OnErr result (self.new ≡ self.old) }
+    {
+        let out = out.try_clone()?;
+        let err = err.try_clone()?;
+        let event = Event::Ran {
+            role,
+            cmd,
+            pipes,
+            status,
+            out,
+            err,
+        };
+        self.add_call(HostCall::Output, event)
+    }
+
     // Runs a command to its end whose program is there.
     pub(crate) fn run_script(&mut self, role: Role, cmd: Command, pipes: Pipes) -> Mem<Ran>
         ensures is { IfOk result (λ r. r ≡ ends_as self.old role cmd pipes) }
         ensures ok { OnOk result (self.new ≡ record self.old { log = self.old.log ++ ran role cmd pipes (Ok (ends_as self.old role cmd pipes)); made = counted Output self.old.made }) }
         ensures err { OnErr result (self.new ≡ self.old) }
     {
-        let captured = is_captured(pipes.out);
-        let found = script::script_for(&self.scripts, role, &cmd);
-        let status = script::status_of(found);
-        let out = script::out_of(self.alloc, captured, found)?;
-        let err = script::err_of(self.alloc, captured, pipes.hear, found)?;
-        let event = Event::Ran {
-            role,
-            cmd,
-            pipes,
-            status,
-            out: out.try_clone()?,
-            err: err.try_clone()?,
-        };
-        self.add_call(HostCall::Output, event)?;
+        let (status, out, err) = self.script_end(role, &cmd, pipes)?;
+        self.note_ran(role, cmd, pipes, status, &out, &err)?;
         Ok(Ran::Done { status, out, err })
     }
 

@@ -49,12 +49,14 @@ impl BenchHost {
         ensures err { OnErr result (self.new ≡ self.old) }
         ensures later { self.old.faults ≤ self.new.faults }
     {
+        let question = q.try_clone()?;
+        let files = files.try_clone()?;
+        self.crew.reserve(2)?;
         let event = Event::Answered {
-            question: q.try_clone()?,
-            files: Some(files.try_clone()?),
+            question,
+            files: Some(files),
             outcome: Outcome::Unanswered,
         };
-        self.crew.reserve(2)?;
         self.crew.fault(HostCall::Probe, Why::Other);
         self.crew.note(event);
         self.made.count(HostCall::Probe);

@@ -1,3 +1,4 @@
+pub mod AskingLemmas
 pub mod BeforeLemmas
 pub mod CutTextLemmas
 pub mod FindLemmas

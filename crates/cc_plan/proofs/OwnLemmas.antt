@@ -10,7 +10,7 @@ use Rattle.cc_flags.specs.declared.error.FlagError.TheVariants.{InvalidFlag, NoM
 use Rattle.cc_plan.specs.Inherited.{inherited_refusal, inherited_text, plan_refusal}
 use Rattle.cc_plan.specs.Asking.{IsOwn}
 use Rattle.cc_env.specs.Snapshot.{last_value}
-use Rattle.cc_words.specs.DefaultWords.{lacks_qnx_variant, is_wasm_linux, is_told_target}
+use Rattle.cc_flags.specs.DefaultWords.{lacks_qnx_variant, is_wasm_linux, is_told_target}
 use Rattle.cc_plan.specs.Given.{target_of, host_of, level_of, has_no_defaults}
 use Rattle.cc_plan.specs.Target.{target_info}
 use Rattle.cc_plan.specs.Refusal.{first_of, unset, target_refusal, given_refusal, refusal_by}

@@ -6,7 +6,7 @@ use Rattle.cc_host.specs.Question.{Look, is_yes}
 use Rattle.cc_host.specs.declared.question.Ask.TheVariants.{Starts}
 use Rattle.cc_host.specs.declared.question.Question.{Question}
 use Rattle.cc_plan.specs.Languages.{gnu_name, clang_name}
-use Rattle.cc_words.specs.Texts.{is}
+use Rattle.cc_flags.specs.Texts.{is}
 
 -- whether a program can be run at all
 abbrev pub starts_question : EnvSeen → List ℕ → Question

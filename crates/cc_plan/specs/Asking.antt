@@ -1,11 +1,12 @@
--- Calls that ask, and then print.
-use Rattle.std.specs.Prelude.{◌≡◌, ◌⊎◌, ◌++◌, ℕ, Bool, List, [], ◌∷◌, Result, Ok, Err}
+-- Calls that ask, and calls that ask and then print.
+use Rattle.std.specs.Prelude.{◌≡◌, ◌⊎◌, ◌++◌, ℕ, Bool, List, [], ◌∷◌, Option, Result, Ok, Err}
 use Rattle.cc_host.specs.Part.{IsPartly, IsWhole, stops}
 use Rattle.cc_host.specs.Question.{Look, Answer, Settles}
 use Rattle.cc_host.specs.declared.event.Event.{Event}
 use Rattle.cc_host.specs.declared.event.Event.TheVariants.{Fault, Printed as Line}
 use Rattle.cc_host.specs.declared.event.HostCall.TheVariants.{Print}
 use Rattle.cc_host.specs.declared.event.LineKind.TheVariants.{Warning}
+use Rattle.cc_host.specs.declared.host.World.{Ghosts}
 use Rattle.cc_host.specs.declared.question.Outcome.{Outcome}
 use Rattle.cc_host.specs.declared.question.Question.{Question}
 use Rattle.cc_tool.specs.Asked.{question_events}
@@ -14,6 +15,15 @@ use Rattle.cc_plan.specs.Link.{printed_line}
 use Rattle.cc_plan.specs.Plan.{prints}
 use Rattle.cc_plan.specs.declared.error.PlanError.{PlanError}
 use Rattle.cc_plan.specs.declared.error.PlanError.TheVariants.{Host, NoMemory}
+use Rattle.cc_plan.specs.declared.sight.Sight.{Sight}
+
+-- A call asks, and does nothing else: its host and its answers are those that it was lent, log and answers went on by its questions, whose
+-- probe files are in the folder, and the host is as patient as before.
+pub record OnlyAsks {W H : Type 0} {ghosts : Ghosts W} (steady : Bool) (world : Question → Outcome) (log : H → List Event) (patience : H → Option ℕ) (dir : List ℕ) (old new : Sight W H ghosts) : Type 0 where
+  pub same_host : new.host.ghost_name ≡ old.host.ghost_name
+  pub same_answers : new.answers.ghost_name ≡ old.answers.ghost_name
+  pub asks : Asks steady world dir (log old.host.now) (log new.host.now) old.answers.now new.answers.now
+  pub patient : patience new.host.now ≡ patience old.host.now
 
 -- questions, and then a part of which something holds
 pub record AsksThen (steady : Bool) (world : Question → Outcome) (dir : List ℕ) (before after : List Event) (old new : List Answer) (P : List Event → Type 0) : Type 0 where

@@ -6,14 +6,14 @@ use Rattle.cc_env.specs.Env.{EnvSeen, overridable}
 use Rattle.cc_host.specs.Question.{Look}
 use Rattle.cc_target.specs.Targets.{Info}
 use Rattle.cc_plan.specs.Android.{android_compiler}
-use Rattle.cc_words.specs.DefaultWords.{is_qnx}
+use Rattle.cc_flags.specs.DefaultWords.{is_qnx}
 use Rattle.cc_plan.specs.EnvTool.{env_tool, in_rustc_wrapper}
 use Rattle.cc_plan.specs.Inherited.{inherited_flags}
 use Rattle.cc_plan.specs.Languages.{compiler_variable, gnu_name, traditional_name, clang_name, emscripten_name, vxworks_name, qnx_name}
 use Rattle.cc_plan.specs.Prefix.{is_cross, gnu_prefix}
 use Rattle.cc_plan.specs.Search.{which, path_folders}
 use Rattle.cc_plan.specs.Target.{target_name, target_info}
-use Rattle.cc_words.specs.Texts.{is}
+use Rattle.cc_flags.specs.Texts.{is}
 use Rattle.cc_plan.specs.declared.choice.Choice.{Choice}
 use Rattle.cc_plan.specs.declared.settings.BuildConfig.{BuildConfig}
 

@@ -9,11 +9,11 @@ use Rattle.cc_text.specs.declared.family.ToolFamily.{ToolFamily}
 use Rattle.cc_tool.specs.Family.{family_of}
 use Rattle.cc_tool.specs.declared.family.Detected.TheVariants.{Marks as ByMarks}
 use Rattle.cc_plan.specs.Choice.{bare}
-use Rattle.cc_words.specs.Families.{is_clang, is_visual_studio}
+use Rattle.cc_flags.specs.Families.{is_clang, is_visual_studio}
 use Rattle.cc_plan.specs.Refusal.{refusal_by}
 use Rattle.cc_plan.specs.SettingWords.{is_link}
 use Rattle.cc_plan.specs.Settings.{unset_settings}
-use Rattle.cc_words.specs.Texts.{word}
+use Rattle.cc_flags.specs.Texts.{word}
 use Rattle.cc_plan.specs.Tool.{words_by, asks_by, language_variable}
 use Rattle.cc_plan.specs.declared.compiler.Compiler.{Compiler}
 use Rattle.cc_plan.specs.declared.flags.BuildFlag.TheVariants.{Always}

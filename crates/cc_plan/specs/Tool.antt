@@ -7,12 +7,12 @@ use Rattle.cc_text.specs.Words.{when}
 use Rattle.cc_text.specs.declared.family.ToolFamily.{ToolFamily}
 use Rattle.cc_tool.specs.Family.{detection_warnings}
 use Rattle.cc_tool.specs.Tool.{ToolSeen, new_tool}
-use Rattle.cc_words.specs.Families.{is_cl, is_gnu}
+use Rattle.cc_flags.specs.Families.{is_cl, is_gnu}
 use Rattle.cc_plan.specs.Given.{is_cargos_target, has_no_defaults, environment_flags}
 use Rattle.cc_plan.specs.Target.{target_name, target_info}
-use Rattle.cc_words.specs.Texts.{is}
+use Rattle.cc_flags.specs.Texts.{is}
 use Rattle.cc_plan.specs.Inherited.{inherited_words, lost_words}
-use Rattle.cc_words.specs.MapWords.{cargo_maps, set_maps, map_lacks}
+use Rattle.cc_flags.specs.MapWords.{cargo_maps, set_maps, map_lacks}
 use Rattle.cc_plan.specs.SettingWords.{leaves_off}
 use Rattle.cc_plan.specs.ToolWords.{asked_words, tool_words, tool_warnings, defaults_refusal}
 use Rattle.cc_plan.specs.declared.compiler.Compiler.{Compiler}

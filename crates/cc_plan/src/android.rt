@@ -2,7 +2,7 @@
 ghost use Rattle.std.specs.Prelude.{◌≡◌, ◌≢◌, ◌++◌, [], IfOk, Some};
 ghost use Rattle.std.specs.Option.{option_copied};
 ghost use Rattle.cc_host.specs.Question.{Settles};
-ghost use Rattle.cc_tool.specs.Asks.{Asks};
+ghost use Rattle.cc_plan.specs.Asking.{OnlyAsks};
 ghost use Rattle.cc_plan.specs.Android as spec;
 ghost use Rattle.cc_plan.specs.Given.{probe_folder};
 
@@ -75,11 +75,8 @@ fn older_compiler<W: World, H: Host<W>>(
     name: &str,
     sight: &mut Sight<'_, W, H>,
 ) -> Mem<Text>
-    ensures same_host { sight.new.host.ghost_name ≡ sight.old.host.ghost_name }
-    ensures same_answers { sight.new.answers.ghost_name ≡ sight.old.answers.ghost_name }
-    ensures asks { Asks W.steady W.answer (probe_folder set.now env.now) (H.log sight.old.host.now) (H.log sight.new.host.now) sight.old.answers.now sight.new.answers.now }
+    ensures asks { OnlyAsks W.steady W.answer H.log H.patience (probe_folder set.now env.now) sight.old sight.new }
     ensures settles { IfOk result (Settles sight.new.answers.now (spec.older_compiler set.now.cpp env.now name.now)) }
-    ensures patient { H.patience sight.new.host.now ≡ H.patience sight.old.host.now }
 {
     let gnu = older_name(alloc, name, gnu_name(set.cpp))?;
     if can_start(rt, alloc, set, env, gnu.as_str(), sight)? {
@@ -89,7 +86,7 @@ fn older_compiler<W: World, H: Host<W>>(
 }
 
 // The compiler of the development kit where it can be run, else an older one.
-#[tactic(auto, using(cc_tool::proofs::AskLemmas::asks_then))]
+#[tactic(auto, using(crate::proofs::AskingLemmas::only_then))]
 fn kit_or_older<W: World, H: Host<W>>(
     rt: &impl Wait,
     alloc: Global,
@@ -99,11 +96,8 @@ fn kit_or_older<W: World, H: Host<W>>(
     kit: &str,
     sight: &mut Sight<'_, W, H>,
 ) -> Mem<Text>
-    ensures same_host { sight.new.host.ghost_name ≡ sight.old.host.ghost_name }
-    ensures same_answers { sight.new.answers.ghost_name ≡ sight.old.answers.ghost_name }
-    ensures asks { Asks W.steady W.answer (probe_folder set.now env.now) (H.log sight.old.host.now) (H.log sight.new.host.now) sight.old.answers.now sight.new.answers.now }
+    ensures asks { OnlyAsks W.steady W.answer H.log H.patience (probe_folder set.now env.now) sight.old sight.new }
     ensures settles { IfOk result (Settles sight.new.answers.now (λ look. spec.kit_or_older set.now.cpp env.now name.now look (Some kit.now))) }
-    ensures patient { H.patience sight.new.host.now ≡ H.patience sight.old.host.now }
 {
     if can_start(rt, alloc, set, env, kit, sight)? {
         let path = Text::of(alloc, kit)?;
@@ -122,11 +116,8 @@ pub(crate) fn android_compiler<W: World, H: Host<W>>(
     name: &str,
     sight: &mut Sight<'_, W, H>,
 ) -> Mem<Text>
-    ensures same_host { sight.new.host.ghost_name ≡ sight.old.host.ghost_name }
-    ensures same_answers { sight.new.answers.ghost_name ≡ sight.old.answers.ghost_name }
-    ensures asks { Asks W.steady W.answer (probe_folder set.now env.now) (H.log sight.old.host.now) (H.log sight.new.host.now) sight.old.answers.now sight.new.answers.now }
+    ensures asks { OnlyAsks W.steady W.answer H.log H.patience (probe_folder set.now env.now) sight.old sight.new }
     ensures settles { IfOk result (Settles sight.new.answers.now (spec.android_compiler set.now.cpp env.now name.now)) }
-    ensures patient { H.patience sight.new.host.now ≡ H.patience sight.old.host.now }
 {
     match kit_compiler(name) {
         Some(kit) => kit_or_older(rt, alloc, set, env, name, kit, sight),

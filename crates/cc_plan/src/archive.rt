@@ -1,5 +1,5 @@
 // The archive and index commands.
-ghost use Rattle.std.specs.Prelude.{◌≡◌, IfOk};
+ghost use Rattle.std.specs.Prelude.{◌≡◌, [], ◌∷◌, None, IfOk};
 ghost use Rattle.cc_plan.specs.Archive.{archiver_of, archive_env, archive_of, archives_of, index_of, indexes_of};
 
 use crate::{BuildConfig, Object};
@@ -27,6 +27,31 @@ fn archive_env(alloc: Global, env: &BuildEnv) -> Mem<Vars>
     env.inherited().child_vars(alloc, &entries)
 }
 
+// A command of the archiver with these variables, whose words begin with a form and the library.
+fn archiver_in(
+    alloc: Global,
+    set: &BuildConfig,
+    vars: &Vars,
+    form: &str,
+    library: &str,
+) -> Mem<Command>
+    ensures { IfOk result (λ cmd. cmd ≡ record { program = archiver_of set.now; args = form.now ∷ library.now ∷ []; env = vars.now; dir = None }) }
+{
+    let mut cmd = Command::new(alloc, archiver_of(set))?;
+    cmd.envs(vars)?;
+    cmd.arg(form)?;
+    cmd.arg(library)?;
+    Ok(cmd)
+}
+
+// The archive command up to the library.
+fn archive_start(alloc: Global, set: &BuildConfig, env: &BuildEnv, library: &str) -> Mem<Command>
+    ensures { IfOk result (λ cmd. cmd ≡ archive_of set.now env.now library.now []) }
+{
+    let vars = archive_env(alloc, env)?;
+    archiver_in(alloc, set, &vars, "cqD", library)
+}
+
 fn archive_command(
     alloc: Global,
     set: &BuildConfig,
@@ -36,11 +61,7 @@ fn archive_command(
 ) -> Mem<Command>
     ensures { IfOk result (λ cmd. cmd ≡ archive_of set.now env.now library.now objects.now) }
 {
-    let vars = archive_env(alloc, env)?;
-    let mut cmd = Command::new(alloc, archiver_of(set))?;
-    cmd.envs(&vars)?;
-    cmd.arg("cqD")?;
-    cmd.arg(library)?;
+    let mut cmd = archive_start(alloc, set, env, library)?;
     for object in objects {
         cmd.arg(object.dst.as_str())?;
     }
@@ -68,11 +89,7 @@ fn index_command(alloc: Global, set: &BuildConfig, env: &BuildEnv, library: &str
     ensures { IfOk result (λ cmd. cmd ≡ index_of set.now env.now library.now) }
 {
     let vars = env.child_vars(alloc)?;
-    let mut cmd = Command::new(alloc, archiver_of(set))?;
-    cmd.envs(&vars)?;
-    cmd.arg("sD")?;
-    cmd.arg(library)?;
-    Ok(cmd)
+    archiver_in(alloc, set, &vars, "sD", library)
 }
 
 /// The commands that write the index of the library.

@@ -3,7 +3,7 @@ ghost use Rattle.std.specs.Prelude.{◌≡◌, ◌++◌, IfOk};
 ghost use Rattle.std.specs.Option.{option_copied};
 ghost use Rattle.cc_host.specs.Question.{Settles};
 ghost use Rattle.cc_target.specs.Targets.{info_seen};
-ghost use Rattle.cc_tool.specs.Asks.{Asks};
+ghost use Rattle.cc_plan.specs.Asking.{OnlyAsks};
 ghost use Rattle.cc_plan.specs.Choice as spec;
 ghost use Rattle.cc_plan.specs.Given.{probe_folder};
 ghost use Rattle.cc_plan.specs.Target.{target_name, target_info};
@@ -23,7 +23,7 @@ use cc_env::BuildEnv;
 use cc_host::{Host, World};
 use cc_target::TargetInfo;
 use cc_text::{Mem, Text, Words, join};
-use cc_words::is_qnx;
+use cc_flags::is_qnx;
 use std::alloc::Global;
 use std::sync::Wait;
 
@@ -79,11 +79,8 @@ fn wasi_kit_compiler<W: World, H: Host<W>>(
     name: &str,
     sight: &mut Sight<'_, W, H>,
 ) -> Mem<Option<Text>>
-    ensures same_host { sight.new.host.ghost_name ≡ sight.old.host.ghost_name }
-    ensures same_answers { sight.new.answers.ghost_name ≡ sight.old.answers.ghost_name }
-    ensures asks { Asks W.steady W.answer (probe_folder set.now env.now) (H.log sight.old.host.now) (H.log sight.new.host.now) sight.old.answers.now sight.new.answers.now }
+    ensures asks { OnlyAsks W.steady W.answer H.log H.patience (probe_folder set.now env.now) sight.old sight.new }
     ensures settles { IfOk result (Settles sight.new.answers.now (spec.wasi_kit_compiler env.now name.now)) }
-    ensures patient { H.patience sight.new.host.now ≡ H.patience sight.old.host.now }
 {
     match env.overridable("WASI_SDK_PATH") {
         Some(kit) => {
@@ -112,11 +109,8 @@ fn wasi_compiler<W: World, H: Host<W>>(
     name: &str,
     sight: &mut Sight<'_, W, H>,
 ) -> Mem<Text>
-    ensures same_host { sight.new.host.ghost_name ≡ sight.old.host.ghost_name }
-    ensures same_answers { sight.new.answers.ghost_name ≡ sight.old.answers.ghost_name }
-    ensures asks { Asks W.steady W.answer (probe_folder set.now env.now) (H.log sight.old.host.now) (H.log sight.new.host.now) sight.old.answers.now sight.new.answers.now }
+    ensures asks { OnlyAsks W.steady W.answer H.log H.patience (probe_folder set.now env.now) sight.old sight.new }
     ensures settles { IfOk result (Settles sight.new.answers.now (spec.wasi_compiler set.now.cpp env.now name.now)) }
-    ensures patient { H.patience sight.new.host.now ≡ H.patience sight.old.host.now }
 {
     match wasi_kit_compiler(rt, alloc, set, env, name, sight)? {
         Some(path) => Ok(path),
@@ -167,11 +161,8 @@ fn plugin_compiler<W: World, H: Host<W>>(
     env: &BuildEnv,
     sight: &mut Sight<'_, W, H>,
 ) -> Mem<Option<Text>>
-    ensures same_host { sight.new.host.ghost_name ≡ sight.old.host.ghost_name }
-    ensures same_answers { sight.new.answers.ghost_name ≡ sight.old.answers.ghost_name }
-    ensures asks { Asks W.steady W.answer (probe_folder set.now env.now) (H.log sight.old.host.now) (H.log sight.new.host.now) sight.old.answers.now sight.new.answers.now }
+    ensures asks { OnlyAsks W.steady W.answer H.log H.patience (probe_folder set.now env.now) sight.old sight.new }
     ensures settles { IfOk result (Settles sight.new.answers.now (spec.plugin_compiler set.now.cpp env.now)) }
-    ensures patient { H.patience sight.new.host.now ≡ H.patience sight.old.host.now }
 {
     if links_by_plugin(alloc, env)? {
         let folders = path_folders(alloc, env)?;
@@ -190,11 +181,8 @@ fn default_compiler<W: World, H: Host<W>>(
     env: &BuildEnv,
     sight: &mut Sight<'_, W, H>,
 ) -> Mem<Text>
-    ensures same_host { sight.new.host.ghost_name ≡ sight.old.host.ghost_name }
-    ensures same_answers { sight.new.answers.ghost_name ≡ sight.old.answers.ghost_name }
-    ensures asks { Asks W.steady W.answer (probe_folder set.now env.now) (H.log sight.old.host.now) (H.log sight.new.host.now) sight.old.answers.now sight.new.answers.now }
+    ensures asks { OnlyAsks W.steady W.answer H.log H.patience (probe_folder set.now env.now) sight.old sight.new }
     ensures settles { IfOk result (Settles sight.new.answers.now (spec.default_compiler set.now.cpp env.now)) }
-    ensures patient { H.patience sight.new.host.now ≡ H.patience sight.old.host.now }
 {
     match plugin_compiler(rt, alloc, set, env, sight)? {
         Some(path) => Ok(path),
@@ -213,11 +201,8 @@ fn cross_prefix<W: World, H: Host<W>>(
     env: &BuildEnv,
     sight: &mut Sight<'_, W, H>,
 ) -> Mem<Option<Text>>
-    ensures same_host { sight.new.host.ghost_name ≡ sight.old.host.ghost_name }
-    ensures same_answers { sight.new.answers.ghost_name ≡ sight.old.answers.ghost_name }
-    ensures asks { Asks W.steady W.answer (probe_folder set.now env.now) (H.log sight.old.host.now) (H.log sight.new.host.now) sight.old.answers.now sight.new.answers.now }
+    ensures asks { OnlyAsks W.steady W.answer H.log H.patience (probe_folder set.now env.now) sight.old sight.new }
     ensures settles { IfOk result (Settles sight.new.answers.now (spec.cross_prefix set.now env.now)) }
-    ensures patient { H.patience sight.new.host.now ≡ H.patience sight.old.host.now }
 {
     if is_cross(set, env) {
         prefix_for(rt, alloc, set, env, target_name(set, env), sight)
@@ -227,7 +212,7 @@ fn cross_prefix<W: World, H: Host<W>>(
 }
 
 // The compiler for another target than the host, where it has a prefix; else that of the system.
-#[tactic(auto, using(cc_tool::proofs::AskLemmas::asks_then))]
+#[tactic(auto, using(crate::proofs::AskingLemmas::only_then))]
 fn cross_compiler<W: World, H: Host<W>>(
     rt: &impl Wait,
     alloc: Global,
@@ -237,11 +222,8 @@ fn cross_compiler<W: World, H: Host<W>>(
     sight: &mut Sight<'_, W, H>,
 ) -> Mem<Text>
     requires { info_seen target.now ≡ target_info set.now env.now }
-    ensures same_host { sight.new.host.ghost_name ≡ sight.old.host.ghost_name }
-    ensures same_answers { sight.new.answers.ghost_name ≡ sight.old.answers.ghost_name }
-    ensures asks { Asks W.steady W.answer (probe_folder set.now env.now) (H.log sight.old.host.now) (H.log sight.new.host.now) sight.old.answers.now sight.new.answers.now }
+    ensures asks { OnlyAsks W.steady W.answer H.log H.patience (probe_folder set.now env.now) sight.old sight.new }
     ensures settles { IfOk result (Settles sight.new.answers.now (spec.cross_compiler set.now env.now)) }
-    ensures patient { H.patience sight.new.host.now ≡ H.patience sight.old.host.now }
 {
     match cross_prefix(rt, alloc, set, env, sight)? {
         Some(prefix) => {
@@ -280,11 +262,8 @@ fn fixed_or_cross<W: World, H: Host<W>>(
     sight: &mut Sight<'_, W, H>,
 ) -> Mem<Text>
     requires { info_seen target.now ≡ target_info set.now env.now }
-    ensures same_host { sight.new.host.ghost_name ≡ sight.old.host.ghost_name }
-    ensures same_answers { sight.new.answers.ghost_name ≡ sight.old.answers.ghost_name }
-    ensures asks { Asks W.steady W.answer (probe_folder set.now env.now) (H.log sight.old.host.now) (H.log sight.new.host.now) sight.old.answers.now sight.new.answers.now }
+    ensures asks { OnlyAsks W.steady W.answer H.log H.patience (probe_folder set.now env.now) sight.old sight.new }
     ensures settles { IfOk result (Settles sight.new.answers.now (λ look. spec.fixed_or_cross set.now env.now look (spec.fixed_compiler set.now.cpp (target_info set.now env.now)))) }
-    ensures patient { H.patience sight.new.host.now ≡ H.patience sight.old.host.now }
 {
     match fixed_compiler(set.cpp, target) {
         Some(name) => Text::of(alloc, name),
@@ -302,11 +281,8 @@ fn target_compiler<W: World, H: Host<W>>(
     sight: &mut Sight<'_, W, H>,
 ) -> Mem<Text>
     requires { info_seen target.now ≡ target_info set.now env.now }
-    ensures same_host { sight.new.host.ghost_name ≡ sight.old.host.ghost_name }
-    ensures same_answers { sight.new.answers.ghost_name ≡ sight.old.answers.ghost_name }
-    ensures asks { Asks W.steady W.answer (probe_folder set.now env.now) (H.log sight.old.host.now) (H.log sight.new.host.now) sight.old.answers.now sight.new.answers.now }
+    ensures asks { OnlyAsks W.steady W.answer H.log H.patience (probe_folder set.now env.now) sight.old sight.new }
     ensures settles { IfOk result (Settles sight.new.answers.now (spec.target_compiler set.now env.now)) }
-    ensures patient { H.patience sight.new.host.now ≡ H.patience sight.old.host.now }
 {
     if target.os == "android" {
         android_compiler(rt, alloc, set, env, target_name(set, env), sight)
@@ -327,11 +303,8 @@ fn own_choice<W: World, H: Host<W>>(
     sight: &mut Sight<'_, W, H>,
 ) -> Mem<Choice>
     requires { info_seen target.now ≡ target_info set.now env.now }
-    ensures same_host { sight.new.host.ghost_name ≡ sight.old.host.ghost_name }
-    ensures same_answers { sight.new.answers.ghost_name ≡ sight.old.answers.ghost_name }
-    ensures asks { Asks W.steady W.answer (probe_folder set.now env.now) (H.log sight.old.host.now) (H.log sight.new.host.now) sight.old.answers.now sight.new.answers.now }
+    ensures asks { OnlyAsks W.steady W.answer H.log H.patience (probe_folder set.now env.now) sight.old sight.new }
     ensures settles { IfOk result (Settles sight.new.answers.now (spec.own_choice set.now env.now)) }
-    ensures patient { H.patience sight.new.host.now ≡ H.patience sight.old.host.now }
 {
     if target.os == "emscripten" {
         return bare(alloc, emscripten_name(set.cpp));
@@ -341,7 +314,7 @@ fn own_choice<W: World, H: Host<W>>(
 }
 
 // The compiler where the settings name none.
-#[tactic(auto, using(cc_tool::proofs::AskLemmas::asks_then))]
+#[tactic(auto, using(crate::proofs::AskingLemmas::only_then))]
 fn found_choice<W: World, H: Host<W>>(
     rt: &impl Wait,
     alloc: Global,
@@ -351,11 +324,8 @@ fn found_choice<W: World, H: Host<W>>(
     sight: &mut Sight<'_, W, H>,
 ) -> Mem<Choice>
     requires { info_seen target.now ≡ target_info set.now env.now }
-    ensures same_host { sight.new.host.ghost_name ≡ sight.old.host.ghost_name }
-    ensures same_answers { sight.new.answers.ghost_name ≡ sight.old.answers.ghost_name }
-    ensures asks { Asks W.steady W.answer (probe_folder set.now env.now) (H.log sight.old.host.now) (H.log sight.new.host.now) sight.old.answers.now sight.new.answers.now }
+    ensures asks { OnlyAsks W.steady W.answer H.log H.patience (probe_folder set.now env.now) sight.old sight.new }
     ensures settles { IfOk result (Settles sight.new.answers.now (spec.found_choice set.now env.now)) }
-    ensures patient { H.patience sight.new.host.now ≡ H.patience sight.old.host.now }
 {
     match env_tool(rt, alloc, set, env, compiler_variable(set.cpp), sight)? {
         Some(choice) => Ok(choice),
@@ -376,11 +346,8 @@ pub(crate) fn choose<W: World, H: Host<W>>(
     sight: &mut Sight<'_, W, H>,
 ) -> Mem<Choice>
     requires { info_seen target.now ≡ target_info set.now env.now }
-    ensures same_host { sight.new.host.ghost_name ≡ sight.old.host.ghost_name }
-    ensures same_answers { sight.new.answers.ghost_name ≡ sight.old.answers.ghost_name }
-    ensures asks { Asks W.steady W.answer (probe_folder set.now env.now) (H.log sight.old.host.now) (H.log sight.new.host.now) sight.old.answers.now sight.new.answers.now }
+    ensures asks { OnlyAsks W.steady W.answer H.log H.patience (probe_folder set.now env.now) sight.old sight.new }
     ensures settles { IfOk result (Settles sight.new.answers.now (spec.choice_of set.now env.now)) }
-    ensures patient { H.patience sight.new.host.now ≡ H.patience sight.old.host.now }
 {
     match &set.compiler {
         Some(path) => bare(alloc, path.as_str()),

@@ -3,8 +3,8 @@ ghost use Rattle.std.specs.Prelude.{◌≡◌, ◌++◌, IfOk};
 ghost use Rattle.cc_env.specs.Snapshot.{child_of};
 ghost use Rattle.cc_host.specs.Question.{Settles};
 ghost use Rattle.cc_target.specs.Targets.{info_seen};
-ghost use Rattle.cc_tool.specs.Asks.{Asks};
 ghost use Rattle.cc_tool.specs.Family.{family_of};
+ghost use Rattle.cc_plan.specs.Asking.{OnlyAsks};
 ghost use Rattle.cc_plan.specs.Compiler.{compiler_of};
 ghost use Rattle.cc_plan.specs.Given.{probe_folder};
 ghost use Rattle.cc_plan.specs.Target.{target_info};
@@ -37,11 +37,8 @@ fn family_in<W: World, H: Host<W>>(
     choice: &Choice,
     sight: &mut Sight<'_, W, H>,
 ) -> Mem<(ToolFamily, Detected)>
-    ensures same_host { sight.new.host.ghost_name ≡ sight.old.host.ghost_name }
-    ensures same_answers { sight.new.answers.ghost_name ≡ sight.old.answers.ghost_name }
-    ensures asks { Asks W.steady W.answer (probe_folder set.now env.now) (H.log sight.old.host.now) (H.log sight.new.host.now) sight.old.answers.now sight.new.answers.now }
+    ensures asks { OnlyAsks W.steady W.answer H.log H.patience (probe_folder set.now env.now) sight.old sight.new }
     ensures settles { IfOk result (Settles sight.new.answers.now (λ look. family_of look choice.now.path choice.now.words (child_of env.now.inherited env.now.explicit))) }
-    ensures patient { H.patience sight.new.host.now ≡ H.patience sight.old.host.now }
 {
     ask_family(
         rt,
@@ -57,7 +54,7 @@ fn family_in<W: World, H: Host<W>>(
 }
 
 /// The compiler of these settings in this environment, with its family.
-#[tactic(auto, using(cc_tool::proofs::AskLemmas::asks_then))]
+#[tactic(auto, using(crate::proofs::AskingLemmas::only_then))]
 pub(crate) fn compiler_of<W: World, H: Host<W>>(
     rt: &impl Wait,
     alloc: Global,
@@ -67,11 +64,8 @@ pub(crate) fn compiler_of<W: World, H: Host<W>>(
     sight: &mut Sight<'_, W, H>,
 ) -> Mem<Compiler>
     requires { info_seen target.now ≡ target_info set.now env.now }
-    ensures same_host { sight.new.host.ghost_name ≡ sight.old.host.ghost_name }
-    ensures same_answers { sight.new.answers.ghost_name ≡ sight.old.answers.ghost_name }
-    ensures asks { Asks W.steady W.answer (probe_folder set.now env.now) (H.log sight.old.host.now) (H.log sight.new.host.now) sight.old.answers.now sight.new.answers.now }
+    ensures asks { OnlyAsks W.steady W.answer H.log H.patience (probe_folder set.now env.now) sight.old sight.new }
     ensures settles { IfOk result (Settles sight.new.answers.now (compiler_of set.now env.now)) }
-    ensures patient { H.patience sight.new.host.now ≡ H.patience sight.old.host.now }
 {
     let choice = choose(rt, alloc, set, env, target, sight)?;
     let (family, detected) = family_in(rt, alloc, set, env, &choice, sight)?;

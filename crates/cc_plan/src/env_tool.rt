@@ -4,7 +4,7 @@ ghost use Rattle.std.specs.Option.{option_copied};
 ghost use Rattle.std.specs.List.{list_any};
 ghost use Rattle.cc_text.specs.Words.{texts};
 ghost use Rattle.cc_host.specs.Question.{Settles};
-ghost use Rattle.cc_tool.specs.Asks.{Asks};
+ghost use Rattle.cc_plan.specs.Asking.{OnlyAsks};
 ghost use Rattle.cc_plan.specs.EnvTool as spec;
 ghost use Rattle.cc_plan.specs.Given.{probe_folder};
 
@@ -187,11 +187,8 @@ fn tool_in_text<W: World, H: Host<W>>(
     text: &str,
     sight: &mut Sight<'_, W, H>,
 ) -> Mem<Option<Choice>>
-    ensures same_host { sight.new.host.ghost_name ≡ sight.old.host.ghost_name }
-    ensures same_answers { sight.new.answers.ghost_name ≡ sight.old.answers.ghost_name }
-    ensures asks { Asks W.steady W.answer (probe_folder set.now env.now) (H.log sight.old.host.now) (H.log sight.new.host.now) sight.old.answers.now sight.new.answers.now }
+    ensures asks { OnlyAsks W.steady W.answer H.log H.patience (probe_folder set.now env.now) sight.old sight.new }
     ensures settles { IfOk result (Settles sight.new.answers.now (λ look. spec.tool_in_text env.now look text.now)) }
-    ensures patient { H.patience sight.new.host.now ≡ H.patience sight.old.host.now }
 {
     if text.is_empty() {
         return Ok(None);
@@ -214,11 +211,8 @@ pub(crate) fn env_tool<W: World, H: Host<W>>(
     variable: &str,
     sight: &mut Sight<'_, W, H>,
 ) -> Mem<Option<Choice>>
-    ensures same_host { sight.new.host.ghost_name ≡ sight.old.host.ghost_name }
-    ensures same_answers { sight.new.answers.ghost_name ≡ sight.old.answers.ghost_name }
-    ensures asks { Asks W.steady W.answer (probe_folder set.now env.now) (H.log sight.old.host.now) (H.log sight.new.host.now) sight.old.answers.now sight.new.answers.now }
+    ensures asks { OnlyAsks W.steady W.answer H.log H.patience (probe_folder set.now env.now) sight.old sight.new }
     ensures settles { IfOk result (Settles sight.new.answers.now (spec.env_tool set.now env.now variable.now)) }
-    ensures patient { H.patience sight.new.host.now ≡ H.patience sight.old.host.now }
 {
     match prefixed_value(alloc, set, env, variable)? {
         Some(value) => tool_in_text(rt, alloc, set, env, value.as_str().trim(), sight),

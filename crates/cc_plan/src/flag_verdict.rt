@@ -3,7 +3,7 @@ ghost use Rattle.std.specs.Prelude.{◌≡◌, ◌⊎◌, None, Some, IfOk, IfEr
 ghost use Rattle.cc_host.specs.Question.{Settles};
 ghost use Rattle.cc_host.specs.declared.event.HostCall.TheVariants.{Print};
 ghost use Rattle.cc_host.specs.declared.event.Why.{Why};
-ghost use Rattle.cc_plan.specs.Asking.{AsksThen, Warns, IsOwn};
+ghost use Rattle.cc_plan.specs.Asking.{AsksThen, Warns, IsOwn, OnlyAsks};
 ghost use Rattle.cc_plan.specs.Compiler.{compiler_of};
 ghost use Rattle.cc_plan.specs.FlagSupport as spec;
 ghost use Rattle.cc_plan.specs.Given.{probe_folder};
@@ -12,7 +12,6 @@ ghost use Rattle.cc_plan.specs.Support.{flag_settings, flag_compiler, flag_quest
 ghost use Rattle.cc_plan.specs.Target.{target_info};
 ghost use Rattle.cc_plan.specs.declared.error.PlanError.TheVariants.{NoMemory as WantsMemory, Host as HostFault};
 ghost use Rattle.cc_target.specs.Targets.{info_seen};
-ghost use Rattle.cc_tool.specs.Asks.{Asks};
 
 use crate::compiler::{Compiler, compiler_of};
 use crate::given::probe_folder;
@@ -64,13 +63,10 @@ fn verdict_on<W: World, H: Host<W>>(
     sight: &mut Sight<'_, W, H>,
 ) -> Result<Verdict, PlanError>
     requires { info_seen target.now ≡ target_info set.now env.now }
-    ensures same_host { sight.new.host.ghost_name ≡ sight.old.host.ghost_name }
-    ensures same_answers { sight.new.answers.ghost_name ≡ sight.old.answers.ghost_name }
-    ensures asks { Asks W.steady W.answer (probe_folder set.now env.now) (H.log sight.old.host.now) (H.log sight.new.host.now) sight.old.answers.now sight.new.answers.now }
+    ensures asks { OnlyAsks W.steady W.answer H.log H.patience (probe_folder set.now env.now) sight.old sight.new }
     ensures verdict { IfOk result (Settles sight.new.answers.now (spec.verdict_on set.now env.now family path.now flag.now)) }
     ensures allowed { OnOk result (spec.verdict_refusal set.now env.now family path.now flag.now ≡ None) }
     ensures refused { IfErr result (λ e. (e ≡ WantsMemory) ⊎ (spec.verdict_refusal set.now env.now family path.now flag.now ≡ Some e)) }
-    ensures patient { H.patience sight.new.host.now ≡ H.patience sight.old.host.now }
 {
     if is_for_linker(family, flag) {
         return Ok(Verdict::No);
@@ -130,11 +126,8 @@ fn found_compiler<W: World, H: Host<W>>(
     sight: &mut Sight<'_, W, H>,
 ) -> Mem<(Compiler, ToolFamily)>
     requires { info_seen target.now ≡ target_info set.now env.now }
-    ensures same_host { sight.new.host.ghost_name ≡ sight.old.host.ghost_name }
-    ensures same_answers { sight.new.answers.ghost_name ≡ sight.old.answers.ghost_name }
-    ensures asks { Asks W.steady W.answer (probe_folder set.now env.now) (H.log sight.old.host.now) (H.log sight.new.host.now) sight.old.answers.now sight.new.answers.now }
+    ensures asks { OnlyAsks W.steady W.answer H.log H.patience (probe_folder set.now env.now) sight.old sight.new }
     ensures settles { IfOk result (λ found. Settles sight.new.answers.now (λ look. (compiler_of set.now env.now look, bare_family env.now (spec.path_of set.now env.now look) look)) found) }
-    ensures patient { H.patience sight.new.host.now ≡ H.patience sight.old.host.now }
 {
     let compiler = compiler_of(rt, alloc, set, env, target, sight)?;
     let family = bare_family(rt, alloc, set, env, compiler.choice.path.as_str(), sight)?;
@@ -150,16 +143,13 @@ fn plan_support<W: World, H: Host<W>>(
     flag: &str,
     sight: &mut Sight<'_, W, H>,
 ) -> Result<Support, PlanError>
-    ensures same_host { sight.new.host.ghost_name ≡ sight.old.host.ghost_name }
-    ensures same_answers { sight.new.answers.ghost_name ≡ sight.old.answers.ghost_name }
-    ensures asks { Asks W.steady W.answer (probe_folder set.now env.now) (H.log sight.old.host.now) (H.log sight.new.host.now) sight.old.answers.now sight.new.answers.now }
+    ensures asks { OnlyAsks W.steady W.answer H.log H.patience (probe_folder set.now env.now) sight.old sight.new }
     ensures verdict { IfOk result (λ support. Settles sight.new.answers.now (spec.flag_verdict set.now env.now flag.now) support.found.verdict) }
     ensures compiler { IfOk result (λ support. Settles sight.new.answers.now (compiler_of set.now env.now) support.found.compiler) }
     ensures warnings { IfOk result (λ support. Settles sight.new.answers.now (λ look. spec.found_warnings set.now env.now (compiler_of set.now env.now look)) support.warnings) }
     ensures allowed { OnOk result (Settles sight.new.answers.now (spec.support_refusal set.now env.now flag.now) None) }
     ensures refused { IfErr result (λ e. (e ≡ WantsMemory) ⊎ Settles sight.new.answers.now (spec.support_refusal set.now env.now flag.now) (Some e)) }
     ensures own { IfErr result IsOwn }
-    ensures patient { H.patience sight.new.host.now ≡ H.patience sight.old.host.now }
 {
     let target = known_target(alloc, set, env)?;
     let (compiler, family) = found_compiler(rt, alloc, set, env, &target, sight)?;

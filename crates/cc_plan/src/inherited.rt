@@ -7,10 +7,9 @@ ghost use Rattle.cc_plan.specs.Inherited as spec;
 
 use crate::PlanError;
 use cc_env::EnvSnapshot;
-use cc_flags::{FlagError, RustcCodegenFlags};
+use cc_flags::{FlagError, RustcCodegenFlags, is_among};
 use cc_target::TargetInfo;
 use cc_text::{Mem, NoMemory, Text, ToolFamily, Words, quoted};
-use cc_words::is_among;
 use std::alloc::Global;
 
 // The text of the flags, where they are taken.

@@ -12,7 +12,7 @@ use cc_env::BuildEnv;
 use cc_host::World;
 use cc_text::{Mem, Text, ToolFamily, Words};
 use cc_tool::Caches;
-use cc_words::is_visual_studio;
+use cc_flags::is_visual_studio;
 use std::alloc::Global;
 use std::sync::Wait;
 

@@ -1,8 +1,8 @@
 // The plan of a compile run, in two parts: what is known before the folder of the objects is made, and the rest, which asks.
 ghost use Rattle.std.specs.Prelude.{◌≡◌, ◌++◌, [], IfOk, IfErr, OnOk, ◌⊎◌, Some, None};
 ghost use Rattle.cc_host.specs.Question.{Settles};
-ghost use Rattle.cc_tool.specs.Asks.{Asks};
 ghost use Rattle.std.specs.Option.{option_copied};
+ghost use Rattle.cc_plan.specs.Asking.{OnlyAsks};
 ghost use Rattle.cc_plan.specs.Names.{library_name};
 ghost use Rattle.cc_plan.specs.Given.{out_dir_of, probe_folder};
 ghost use Rattle.cc_plan.specs.Plan.{objects_of, library_of, compiles_of, archives_of, indexes_of, tool_lines, warning_lines as lines_of_warnings, link_lines as lines_of};
@@ -127,14 +127,11 @@ fn tool_compiles<W: World, H: Host<W>>(
     sight: &mut Sight<'_, W, H>,
 ) -> Result<Compiles, PlanError>
     requires { objects.now ≡ objects_of set.now env.now }
-    ensures same_host { sight.new.host.ghost_name ≡ sight.old.host.ghost_name }
-    ensures same_answers { sight.new.answers.ghost_name ≡ sight.old.answers.ghost_name }
-    ensures asks { Asks W.steady W.answer (probe_folder set.now env.now) (H.log sight.old.host.now) (H.log sight.new.host.now) sight.old.answers.now sight.new.answers.now }
+    ensures asks { OnlyAsks W.steady W.answer H.log H.patience (probe_folder set.now env.now) sight.old sight.new }
     ensures warnings { IfOk result (λ plan. Settles sight.new.answers.now (tool_lines set.now env.now plan.told) plan.warnings) }
     ensures compiles { IfOk result (λ plan. Settles sight.new.answers.now (compiles_of set.now env.now) plan.cmds.items) }
     ensures allowed { OnOk result (Settles sight.new.answers.now (tool_refusal set.now env.now) None) }
     ensures refused { IfErr result (λ e. (e ≡ WantsMemory) ⊎ Settles sight.new.answers.now (tool_refusal set.now env.now) (Some e)) }
-    ensures patient { H.patience sight.new.host.now ≡ H.patience sight.old.host.now }
 {
     let plan = plan_tool(rt, alloc, set, env, sight)?;
     let warnings = wanted_lines(alloc, set, &plan.warned.warnings)?;
@@ -156,14 +153,11 @@ fn plan_compiles<W: World, H: Host<W>>(
     sight: &mut Sight<'_, W, H>,
 ) -> Result<Compiles, PlanError>
     requires { objects.now ≡ objects_of set.now env.now }
-    ensures same_host { sight.new.host.ghost_name ≡ sight.old.host.ghost_name }
-    ensures same_answers { sight.new.answers.ghost_name ≡ sight.old.answers.ghost_name }
-    ensures asks { Asks W.steady W.answer (probe_folder set.now env.now) (H.log sight.old.host.now) (H.log sight.new.host.now) sight.old.answers.now sight.new.answers.now }
+    ensures asks { OnlyAsks W.steady W.answer H.log H.patience (probe_folder set.now env.now) sight.old sight.new }
     ensures warnings { IfOk result (λ plan. Settles sight.new.answers.now (lines_of_warnings set.now env.now plan.told) plan.warnings) }
     ensures compiles { IfOk result (λ plan. Settles sight.new.answers.now (compiles_of set.now env.now) plan.cmds.items) }
     ensures allowed { OnOk result (Settles sight.new.answers.now (late_refusal set.now env.now) None) }
     ensures refused { IfErr result (λ e. (e ≡ WantsMemory) ⊎ Settles sight.new.answers.now (late_refusal set.now env.now) (Some e)) }
-    ensures patient { H.patience sight.new.host.now ≡ H.patience sight.old.host.now }
 {
     if set.files.is_empty() {
         no_compiles(alloc, set, env)
@@ -188,9 +182,7 @@ pub fn plan_commands<W: World, H: Host<W>>(
     requires name { sources.now.name ≡ library_name output.now }
     requires library { sources.now.library ≡ library_of set.now env.now output.now }
     requires objects { sources.now.objects.items ≡ objects_of set.now env.now }
-    ensures same_host { sight.new.host.ghost_name ≡ sight.old.host.ghost_name }
-    ensures same_answers { sight.new.answers.ghost_name ≡ sight.old.answers.ghost_name }
-    ensures asks { Asks W.steady W.answer (probe_folder set.now env.now) (H.log sight.old.host.now) (H.log sight.new.host.now) sight.old.answers.now sight.new.answers.now }
+    ensures asks { OnlyAsks W.steady W.answer H.log H.patience (probe_folder set.now env.now) sight.old sight.new }
     ensures warnings { IfOk result (λ plan. Settles sight.new.answers.now (lines_of_warnings set.now env.now plan.told) plan.warnings) }
     ensures compiles { IfOk result (λ plan. Settles sight.new.answers.now (compiles_of set.now env.now) plan.compiles.items) }
     ensures archives { IfOk result (λ plan. plan.archives.items ≡ archives_of set.now env.now output.now) }
@@ -198,7 +190,6 @@ pub fn plan_commands<W: World, H: Host<W>>(
     ensures lines { IfOk result (λ plan. plan.lines ≡ lines_of set.now env.now output.now) }
     ensures allowed { OnOk result (Settles sight.new.answers.now (late_refusal set.now env.now) None) }
     ensures refused { IfErr result (λ e. (e ≡ WantsMemory) ⊎ Settles sight.new.answers.now (late_refusal set.now env.now) (Some e)) }
-    ensures patient { H.patience sight.new.host.now ≡ H.patience sight.old.host.now }
 {
     let library = sources.library.as_str();
     let compiles = plan_compiles(rt, alloc, set, env, &sources.objects, sight)?;

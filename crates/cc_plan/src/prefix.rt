@@ -3,7 +3,7 @@ ghost use Rattle.std.specs.Prelude.{◌≡◌, ◌++◌, IfOk, OnOk, map};
 ghost use Rattle.std.specs.Option.{option_copied};
 ghost use Rattle.cc_text.specs.Words.{texts};
 ghost use Rattle.cc_host.specs.Question.{Settles};
-ghost use Rattle.cc_tool.specs.Asks.{Asks};
+ghost use Rattle.cc_plan.specs.Asking.{OnlyAsks};
 ghost use Rattle.cc_plan.specs.Given.{probe_folder};
 ghost use Rattle.cc_plan.specs.Prefix as spec;
 
@@ -124,11 +124,8 @@ fn shown_candidate<W: World, H: Host<W>>(
     tries: &[(Text, Text)],
     sight: &mut Sight<'_, W, H>,
 ) -> Mem<Option<Text>>
-    ensures same_host { sight.new.host.ghost_name ≡ sight.old.host.ghost_name }
-    ensures same_answers { sight.new.answers.ghost_name ≡ sight.old.answers.ghost_name }
-    ensures asks { Asks W.steady W.answer (probe_folder set.now env.now) (H.log sight.old.host.now) (H.log sight.new.host.now) sight.old.answers.now sight.new.answers.now }
+    ensures asks { OnlyAsks W.steady W.answer H.log H.patience (probe_folder set.now env.now) sight.old sight.new }
     ensures settles { IfOk result (Settles sight.new.answers.now (λ look. spec.shown_candidate look tries.now)) }
-    ensures patient { H.patience sight.new.host.now ≡ H.patience sight.old.host.now }
 {
     for pair in tries {
         if is_there(rt, alloc, set, env, pair.0.as_str(), sight)? {
@@ -156,11 +153,8 @@ fn candidate_prefix<W: World, H: Host<W>>(
     candidates: &[&str],
     sight: &mut Sight<'_, W, H>,
 ) -> Mem<Option<Text>>
-    ensures same_host { sight.new.host.ghost_name ≡ sight.old.host.ghost_name }
-    ensures same_answers { sight.new.answers.ghost_name ≡ sight.old.answers.ghost_name }
-    ensures asks { Asks W.steady W.answer (probe_folder set.now env.now) (H.log sight.old.host.now) (H.log sight.new.host.now) sight.old.answers.now sight.new.answers.now }
+    ensures asks { OnlyAsks W.steady W.answer H.log H.patience (probe_folder set.now env.now) sight.old sight.new }
     ensures settles { IfOk result (Settles sight.new.answers.now (spec.candidate_prefix set.now env.now (texts candidates.now))) }
-    ensures patient { H.patience sight.new.host.now ≡ H.patience sight.old.host.now }
 {
     let folders = path_folders(alloc, env)?;
     let tries = tried_compilers(alloc, set.cpp, folders.as_slice(), candidates)?;
@@ -179,11 +173,8 @@ pub(crate) fn prefix_for<W: World, H: Host<W>>(
     name: &str,
     sight: &mut Sight<'_, W, H>,
 ) -> Mem<Option<Text>>
-    ensures same_host { sight.new.host.ghost_name ≡ sight.old.host.ghost_name }
-    ensures same_answers { sight.new.answers.ghost_name ≡ sight.old.answers.ghost_name }
-    ensures asks { Asks W.steady W.answer (probe_folder set.now env.now) (H.log sight.old.host.now) (H.log sight.new.host.now) sight.old.answers.now sight.new.answers.now }
+    ensures asks { OnlyAsks W.steady W.answer H.log H.patience (probe_folder set.now env.now) sight.old sight.new }
     ensures settles { IfOk result (Settles sight.new.answers.now (spec.gnu_prefix set.now env.now name.now)) }
-    ensures patient { H.patience sight.new.host.now ≡ H.patience sight.old.host.now }
 {
     match known_prefix(env, name) {
         Some(prefix) => Ok(Some(Text::of(alloc, prefix)?)),

@@ -1,7 +1,7 @@
 // What a plan may ask, and single questions.
 ghost use Rattle.std.specs.Prelude.{◌≡◌, IfOk};
 ghost use Rattle.cc_host.specs.Question.{Settles, exists_question, is_yes as yes};
-ghost use Rattle.cc_tool.specs.Asks.{Asks};
+ghost use Rattle.cc_plan.specs.Asking.{OnlyAsks};
 ghost use Rattle.cc_plan.specs.Android.{starts_question, can_start};
 ghost use Rattle.cc_plan.specs.Given.{probe_folder};
 ghost use Rattle.cc_plan.specs.Search.{is_there};
@@ -60,11 +60,8 @@ pub(crate) fn is_there<W: World, H: Host<W>>(
     path: &str,
     sight: &mut Sight<'_, W, H>,
 ) -> Mem<bool>
-    ensures same_host { sight.new.host.ghost_name ≡ sight.old.host.ghost_name }
-    ensures same_answers { sight.new.answers.ghost_name ≡ sight.old.answers.ghost_name }
-    ensures asks { Asks W.steady W.answer (probe_folder set.now env.now) (H.log sight.old.host.now) (H.log sight.new.host.now) sight.old.answers.now sight.new.answers.now }
+    ensures asks { OnlyAsks W.steady W.answer H.log H.patience (probe_folder set.now env.now) sight.old sight.new }
     ensures settles { IfOk result (Settles sight.new.answers.now (λ look. is_there look path.now)) }
-    ensures patient { H.patience sight.new.host.now ≡ H.patience sight.old.host.now }
 {
     let dir = probe_folder(set, env);
     let question = exists_of(alloc, path)?;
@@ -89,11 +86,8 @@ pub(crate) fn can_start<W: World, H: Host<W>>(
     program: &str,
     sight: &mut Sight<'_, W, H>,
 ) -> Mem<bool>
-    ensures same_host { sight.new.host.ghost_name ≡ sight.old.host.ghost_name }
-    ensures same_answers { sight.new.answers.ghost_name ≡ sight.old.answers.ghost_name }
-    ensures asks { Asks W.steady W.answer (probe_folder set.now env.now) (H.log sight.old.host.now) (H.log sight.new.host.now) sight.old.answers.now sight.new.answers.now }
+    ensures asks { OnlyAsks W.steady W.answer H.log H.patience (probe_folder set.now env.now) sight.old sight.new }
     ensures settles { IfOk result (Settles sight.new.answers.now (λ look. can_start env.now look program.now)) }
-    ensures patient { H.patience sight.new.host.now ≡ H.patience sight.old.host.now }
 {
     let dir = probe_folder(set, env);
     let question = starts_of(alloc, env, program)?;

@@ -3,7 +3,7 @@ ghost use Rattle.std.specs.Prelude.{◌≡◌, ◌++◌, [], ◌∷◌, IfOk, On
 ghost use Rattle.cc_env.specs.Snapshot.{child_of};
 ghost use Rattle.cc_host.specs.Question.{Settles};
 ghost use Rattle.cc_target.specs.Targets.{info_seen};
-ghost use Rattle.cc_tool.specs.Asks.{Asks};
+ghost use Rattle.cc_plan.specs.Asking.{OnlyAsks};
 ghost use Rattle.cc_plan.specs.Given.{probe_folder};
 ghost use Rattle.cc_plan.specs.Target.{target_info};
 ghost use Rattle.cc_plan.specs.Refusal.{refusal_by};
@@ -23,7 +23,7 @@ use cc_host::{Ask, Host, Question, World};
 use cc_target::TargetInfo;
 use cc_text::{Mem, NoMemory, Text, ToolFamily, Vars, Words};
 use cc_tool::{Detected, ask_family, ask_flag};
-use cc_words::{is_clang, is_visual_studio};
+use cc_flags::{is_clang, is_visual_studio};
 use std::alloc::Global;
 use std::sync::Wait;
 
@@ -218,11 +218,8 @@ fn takes<W: World, H: Host<W>>(
     sight: &mut Sight<'_, W, H>,
 ) -> Mem<bool>
     requires { info_seen target.now ≡ target_info set.now env.now }
-    ensures same_host { sight.new.host.ghost_name ≡ sight.old.host.ghost_name }
-    ensures same_answers { sight.new.answers.ghost_name ≡ sight.old.answers.ghost_name }
-    ensures asks { Asks W.steady W.answer (probe_folder set.now env.now) (H.log sight.old.host.now) (H.log sight.new.host.now) sight.old.answers.now sight.new.answers.now }
+    ensures asks { OnlyAsks W.steady W.answer H.log H.patience (probe_folder set.now env.now) sight.old sight.new }
     ensures settles { IfOk result (Settles sight.new.answers.now (λ look. spec.takes set.now env.now family path.now look flag.now)) }
-    ensures patient { H.patience sight.new.host.now ≡ H.patience sight.old.host.now }
 {
     let dir = probe_folder(set, env);
     match question_of(alloc, set, env, target, family, path, flag)? {
@@ -264,11 +261,8 @@ fn taken_among<W: World, H: Host<W>>(
     sight: &mut Sight<'_, W, H>,
 ) -> Mem<Words>
     requires { info_seen target.now ≡ target_info set.now env.now }
-    ensures same_host { sight.new.host.ghost_name ≡ sight.old.host.ghost_name }
-    ensures same_answers { sight.new.answers.ghost_name ≡ sight.old.answers.ghost_name }
-    ensures asks { Asks W.steady W.answer (probe_folder set.now env.now) (H.log sight.old.host.now) (H.log sight.new.host.now) sight.old.answers.now sight.new.answers.now }
+    ensures asks { OnlyAsks W.steady W.answer H.log H.patience (probe_folder set.now env.now) sight.old sight.new }
     ensures settles { IfOk result (Settles sight.new.answers.now (λ look. filter (spec.takes set.now env.now family path.now look) words.now)) }
-    ensures patient { H.patience sight.new.host.now ≡ H.patience sight.old.host.now }
 {
     let mut taken = Words::new(alloc);
     for word in words.as_slice() {
@@ -297,11 +291,8 @@ pub(crate) fn bare_family<W: World, H: Host<W>>(
     path: &str,
     sight: &mut Sight<'_, W, H>,
 ) -> Mem<ToolFamily>
-    ensures same_host { sight.new.host.ghost_name ≡ sight.old.host.ghost_name }
-    ensures same_answers { sight.new.answers.ghost_name ≡ sight.old.answers.ghost_name }
-    ensures asks { Asks W.steady W.answer (probe_folder set.now env.now) (H.log sight.old.host.now) (H.log sight.new.host.now) sight.old.answers.now sight.new.answers.now }
+    ensures asks { OnlyAsks W.steady W.answer H.log H.patience (probe_folder set.now env.now) sight.old sight.new }
     ensures settles { IfOk result (Settles sight.new.answers.now (spec.bare_family env.now path.now)) }
-    ensures patient { H.patience sight.new.host.now ≡ H.patience sight.old.host.now }
 {
     let none = Words::new(alloc);
     let (family, _) = ask_family(
@@ -330,11 +321,8 @@ fn supported_among<W: World, H: Host<W>>(
     sight: &mut Sight<'_, W, H>,
 ) -> Mem<Words>
     requires { info_seen target.now ≡ target_info set.now env.now }
-    ensures same_host { sight.new.host.ghost_name ≡ sight.old.host.ghost_name }
-    ensures same_answers { sight.new.answers.ghost_name ≡ sight.old.answers.ghost_name }
-    ensures asks { Asks W.steady W.answer (probe_folder set.now env.now) (H.log sight.old.host.now) (H.log sight.new.host.now) sight.old.answers.now sight.new.answers.now }
+    ensures asks { OnlyAsks W.steady W.answer H.log H.patience (probe_folder set.now env.now) sight.old sight.new }
     ensures settles { IfOk result (Settles sight.new.answers.now (spec.supported_among set.now env.now path.now words.now)) }
-    ensures patient { H.patience sight.new.host.now ≡ H.patience sight.old.host.now }
 {
     let family = bare_family(rt, alloc, set, env, path, sight)?;
     let taken = taken_among(rt, alloc, set, env, target, family, path, words, sight)?;
@@ -352,11 +340,8 @@ pub(crate) fn supported_words<W: World, H: Host<W>>(
     sight: &mut Sight<'_, W, H>,
 ) -> Mem<Words>
     requires { info_seen target.now ≡ target_info set.now env.now }
-    ensures same_host { sight.new.host.ghost_name ≡ sight.old.host.ghost_name }
-    ensures same_answers { sight.new.answers.ghost_name ≡ sight.old.answers.ghost_name }
-    ensures asks { Asks W.steady W.answer (probe_folder set.now env.now) (H.log sight.old.host.now) (H.log sight.new.host.now) sight.old.answers.now sight.new.answers.now }
+    ensures asks { OnlyAsks W.steady W.answer H.log H.patience (probe_folder set.now env.now) sight.old sight.new }
     ensures settles { IfOk result (Settles sight.new.answers.now (supported_by set.now env.now compiler.now)) }
-    ensures patient { H.patience sight.new.host.now ≡ H.patience sight.old.host.now }
 {
     let words = asked_words(
         alloc,

@@ -6,8 +6,7 @@ ghost use Rattle.cc_host.specs.Question.{Settles};
 ghost use Rattle.cc_host.specs.declared.event.HostCall.TheVariants.{Print};
 ghost use Rattle.cc_host.specs.declared.event.Why.{Why};
 ghost use Rattle.cc_target.specs.Targets.{info_seen, info_of};
-ghost use Rattle.cc_tool.specs.Asks.{Asks};
-ghost use Rattle.cc_plan.specs.Asking.{AsksThen, Warns, IsOwn};
+ghost use Rattle.cc_plan.specs.Asking.{AsksThen, Warns, IsOwn, OnlyAsks};
 ghost use Rattle.cc_plan.specs.Given.{target_of, probe_folder};
 ghost use Rattle.cc_plan.specs.Plan.{tool_lines, wanted_lines as lines_of};
 ghost use Rattle.cc_plan.specs.Refusal.{unset, target_refusal, platform_refusal, given_refusal, refusal_by, tool_refusal};
@@ -33,7 +32,7 @@ use cc_host::{Host, World};
 use cc_target::TargetInfo;
 use cc_text::{Mem, Text, ToolFamily, Words, quoted};
 use cc_tool::{Caches, Detected, Tool};
-use cc_words::{cargo_maps, is_cl, is_gnu, push_map_lacks, set_maps};
+use cc_flags::{cargo_maps, is_cl, is_gnu, push_map_lacks, set_maps};
 use std::alloc::Global;
 use std::sync::Wait;
 
@@ -388,16 +387,13 @@ pub(crate) fn plan_tool<W: World, H: Host<W>>(
     env: &BuildEnv,
     sight: &mut Sight<'_, W, H>,
 ) -> Result<ToolPlan, PlanError>
-    ensures same_host { sight.new.host.ghost_name ≡ sight.old.host.ghost_name }
-    ensures same_answers { sight.new.answers.ghost_name ≡ sight.old.answers.ghost_name }
-    ensures asks { Asks W.steady W.answer (probe_folder set.now env.now) (H.log sight.old.host.now) (H.log sight.new.host.now) sight.old.answers.now sight.new.answers.now }
+    ensures asks { OnlyAsks W.steady W.answer H.log H.patience (probe_folder set.now env.now) sight.old sight.new }
     ensures info { IfOk result (λ plan. info_seen plan.target ≡ target_info set.now env.now) }
     ensures tool { IfOk result (λ plan. Settles sight.new.answers.now (tool_of set.now env.now) plan.tool) }
     ensures warnings { IfOk result (λ plan. Settles sight.new.answers.now (warnings_of set.now env.now plan.warned.told) plan.warned.warnings) }
     ensures allowed { OnOk result (Settles sight.new.answers.now (tool_refusal set.now env.now) None) }
     ensures refused { IfErr result (λ e. (e ≡ WantsMemory) ⊎ Settles sight.new.answers.now (tool_refusal set.now env.now) (Some e)) }
     ensures own { IfErr result IsOwn }
-    ensures patient { H.patience sight.new.host.now ≡ H.patience sight.old.host.now }
 {
     let target = given_target(alloc, set, env)?;
     let compiler = compiler_of(rt, alloc, set, env, &target, sight)?;

@@ -7,7 +7,7 @@ ghost use Rattle.cc_plan.specs.CompileWords as spec;
 use crate::Object;
 use cc_target::TargetInfo;
 use cc_text::{Mem, ToolFamily, Words, extension};
-use cc_words::{is_cl, is_clang_cl, is_visual_studio, name_of};
+use cc_flags::{is_cl, is_clang_cl, is_visual_studio, name_of};
 use std::alloc::Global;
 
 fn is_asm_extension(extension: &str) -> bool

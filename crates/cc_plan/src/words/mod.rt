@@ -1,4 +1,4 @@
-// The words of a tool and of a compile command, put together of the groups that `cc_words` has and of those that settings bring.
+// The words of a tool and of a compile command, put together of the groups that `cc_flags` has and of those that settings bring.
 mod compile;
 mod settings;
 mod tool;

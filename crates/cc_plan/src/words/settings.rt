@@ -6,7 +6,7 @@ ghost use Rattle.cc_plan.specs.SettingWords as spec;
 
 use crate::{BuildFlag, Definition};
 use cc_text::{Mem, Text, ToolFamily, Words};
-use cc_words::{is_among, is_gnu_like, is_visual_studio};
+use cc_flags::{is_among, is_gnu_like, is_visual_studio};
 use std::alloc::Global;
 
 fn standard_flag(family: ToolFamily) -> &'static str

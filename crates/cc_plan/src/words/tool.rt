@@ -2,7 +2,7 @@
 ghost use Rattle.std.specs.Prelude.{◌≡◌, ◌++◌, ◌⊎◌, IfOk, IfErr, OnOk, None, Some, codes};
 ghost use Rattle.std.specs.Option.{option_copied};
 ghost use Rattle.cc_target.specs.Targets.{info_seen};
-ghost use Rattle.cc_words.specs.GnuWords.{processor_words};
+ghost use Rattle.cc_flags.specs.GnuWords.{processor_words};
 ghost use Rattle.cc_plan.specs.Inherited.{inherited_cpu};
 ghost use Rattle.cc_plan.specs.ToolWords as spec;
 ghost use Rattle.cc_plan.specs.ToolWords.{qnx_refusal};
@@ -17,7 +17,7 @@ use crate::{BuildConfig, PlanError};
 use cc_env::EnvSnapshot;
 use cc_target::{TargetInfo, llvm_target};
 use cc_text::{Mem, Text, ToolFamily, Words};
-use cc_words::{
+use cc_flags::{
     cargo_maps, has, is_among, is_gnu, is_gnu_like, is_told_target, is_visual_studio,
     is_wasm_linux, keeps_frame_pointers, lacks_qnx_variant, lent, push_bare_and_arm_words,
     push_clang_target_words, push_debug_words, push_frame_pointer_words, push_gnu_words,

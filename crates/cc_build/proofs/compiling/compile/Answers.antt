@@ -43,19 +43,19 @@ returns-in_err-prepare_folder-clause-outcome g c =
 pub returns-clause-outcome : goal.returns-clause-outcome
 returns-clause-outcome g c = record {
   under = λ look agree.
-      let run = c.compile_sources.ensures.outcome.under look (agrees_since look (g.H.Host.log c.args.host.now) (g.H.Host.log c.prepare_folder.new.host) (g.H.Host.log c.compile_sources.new.host) c.prepare_folder.ensures.extends c.compile_sources.ensures.extends agree).1 in
+      let run = c.compile_sources.ensures.outcome.under look (agrees_since look (g.H.Host.log c.args.host.now) (g.H.Host.log c.prepare_folder.new.host) (g.H.Host.log c.compile_sources.new.host) c.prepare_folder.ensures.aside.extends c.compile_sources.ensures.extends agree).1 in
       let t = (terms (shows_of c.args.set.now c.args.env.now) (g.J.Jobs.total c.args.seat.now) (g.H.Host.patience c.args.host.now)) in
       let x = (means c.args.turns.now.left (g.J.Jobs.faults c.args.seat.now) (g.J.Jobs.taken c.args.seat.now) (g.J.Jobs.load c.args.seat.now)) in
       let z = means c.compile_sources.new.turns.left (g.J.Jobs.faults c.compile_sources.new.seat) (g.J.Jobs.taken c.compile_sources.new.seat) (g.J.Jobs.load c.compile_sources.new.seat) in
       let late = late_stages c.args.set.now c.args.env.now run.0 look c.args.output.now in
       let b = since (g.H.Host.log c.prepare_folder.new.host) (g.H.Host.log c.compile_sources.new.host) in
       let refusal = late_error c.args.set.now c.args.env.now look c.args.output.now in
-      let ran : Ends t refusal late b c.compile_sources.result x z = same_patience (shows_of c.args.set.now c.args.env.now) (g.J.Jobs.total c.args.seat.now) (g.H.Host.patience c.prepare_folder.new.host) (g.H.Host.patience c.args.host.now) refusal late b c.compile_sources.result x z c.prepare_folder.ensures.patient run.1 in (
+      let ran : Ends t refusal late b c.compile_sources.result x z = same_patience (shows_of c.args.set.now c.args.env.now) (g.J.Jobs.total c.args.seat.now) (g.H.Host.patience c.prepare_folder.new.host) (g.H.Host.patience c.args.host.now) refusal late b c.compile_sources.result x z c.prepare_folder.ensures.aside.patient run.1 in (
         run.0,
         renamed t refusal (refusal_error c.args.set.now c.args.env.now look c.args.output.now) (calls (folder_steps c.args.set.now c.args.env.now) ++ late) (planned_stages c.args.set.now c.args.env.now run.0 look c.args.output.now) (since (g.H.Host.log c.args.host.now) (g.H.Host.log c.compile_sources.new.host)) c.compile_sources.result x z
             (late_decides c.args.set.now c.args.env.now look c.args.output.now c.in-Ok.ensures.allowed) (ap (λ l. l ++ late) (sym (folder_is c.args.set.now c.args.env.now)) ∙ early_passed c.args.set.now c.args.env.now run.0 look c.args.output.now c.in-Ok.ensures.allowed)
             (ends_from t refusal (g.H.Host.log c.args.host.now) (g.H.Host.log c.prepare_folder.new.host) (g.H.Host.log c.compile_sources.new.host) (calls (folder_steps c.args.set.now c.args.env.now)) late c.compile_sources.result x x z
-            c.prepare_folder.ensures.extends c.compile_sources.ensures.extends (c.in_ok-prepare_folder.ensures.outcome t x).1 ran),
+            c.prepare_folder.ensures.aside.extends c.compile_sources.ensures.extends (c.in_ok-prepare_folder.ensures.outcome t x).1 ran),
       );
 }
 
@@ -63,8 +63,8 @@ pub returns-in-Err-clause-asked : goal.returns-in-Err-clause-asked
 returns-in-Err-clause-asked g c = asked_none _ _ _ (since (g.H.Host.log c.args.host.now) (g.H.Host.log c.args.host.now)) (ap question_events (since_none (g.H.Host.log c.args.host.now)))
 
 pub returns-in_err-prepare_folder-clause-asked : goal.returns-in_err-prepare_folder-clause-asked
-returns-in_err-prepare_folder-clause-asked g c = asked_none _ _ _ (since (g.H.Host.log c.args.host.now) (g.H.Host.log c.prepare_folder.new.host)) c.prepare_folder.ensures.asks_none
+returns-in_err-prepare_folder-clause-asked g c = asked_none _ _ _ (since (g.H.Host.log c.args.host.now) (g.H.Host.log c.prepare_folder.new.host)) c.prepare_folder.ensures.aside.asks_none
 
 pub returns-clause-asked : goal.returns-clause-asked
 returns-clause-asked g c =
-    asked_behind _ _ _ (g.H.Host.log c.args.host.now) (g.H.Host.log c.prepare_folder.new.host) (g.H.Host.log c.compile_sources.new.host) c.prepare_folder.ensures.extends c.compile_sources.ensures.extends c.prepare_folder.ensures.asks_none c.compile_sources.ensures.asked
+    asked_behind _ _ _ (g.H.Host.log c.args.host.now) (g.H.Host.log c.prepare_folder.new.host) (g.H.Host.log c.compile_sources.new.host) c.prepare_folder.ensures.aside.extends c.compile_sources.ensures.extends c.prepare_folder.ensures.aside.asks_none c.compile_sources.ensures.asked

@@ -1,11 +1,8 @@
 use Rattle.std.proofs.Common.{Ok, Err, refl}
 use Rattle.cc_host.specs.Part.{since}
 use Rattle.cc_build.specs.Went.{terms, means}
-use Rattle.cc_build.proofs.Running.{own_asks_none, ran_all, together_done, together_refused}
+use Rattle.cc_build.proofs.Running.{ran_all, together_done, together_refused}
 use Rattle.cc_build.proofs.run.run_together.Goals as goal
-
-pub returns-in-Ok-clause-asks_none : goal.returns-in-Ok-clause-asks_none
-returns-in-Ok-clause-asks_none g c = own_asks_none (since (g.H.Host.log c.args.host.now) (g.H.Host.log c.run_all.new.host)) c.run_all.ensures.own
 
 pub returns-in-Ok-clause-outcome : goal.returns-in-Ok-clause-outcome
 returns-in-Ok-clause-outcome g c =
@@ -16,9 +13,6 @@ returns-in-Ok-clause-outcome g c =
       together_done t c.args.cmds.now (since (g.H.Host.log c.args.host.now) (g.H.Host.log c.run_all.new.host)) x y
           (ran_all t c.args.cmds.now (g.H.Host.log c.args.host.now) (g.H.Host.log c.run_all.new.host) x y (Ok tt) c.in-Ok.ensures.outcome c.run_all.ensures.own c.run_all.ensures.turns c.in-Ok.ensures.spent c.run_all.ensures.bound c.in-Ok.ensures.enough c.run_all.ensures.later c.in-Ok.ensures.job_fault c.in-Ok.ensures.lines),
     )
-
-pub returns-in-Err-clause-asks_none : goal.returns-in-Err-clause-asks_none
-returns-in-Err-clause-asks_none g c = own_asks_none (since (g.H.Host.log c.args.host.now) (g.H.Host.log c.run_all.new.host)) c.run_all.ensures.own
 
 pub returns-in-Err-clause-outcome : goal.returns-in-Err-clause-outcome
 returns-in-Err-clause-outcome g c =

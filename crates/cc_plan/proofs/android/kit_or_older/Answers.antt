@@ -5,4 +5,4 @@ use Rattle.cc_tool.proofs.SettleLemmas.{settles_on, settles_two}
 use Rattle.cc_plan.proofs.android.kit_or_older.Goals as goal
 
 pub returns-clause-settles : goal.returns-clause-settles
-returns-clause-settles g c = settles_two (settles_on (asks_grows c.older_compiler.ensures.asks) c.in_ok-can_start.ensures.settles) c.in_ok-path-2.ensures.settles (λ look a b. grind (arith, common_steps, a, b))
+returns-clause-settles g c = settles_two (settles_on (asks_grows c.older_compiler.ensures.asks.asks) c.in_ok-can_start.ensures.settles) c.in_ok-path-2.ensures.settles (λ look a b. grind (arith, common_steps, a, b))

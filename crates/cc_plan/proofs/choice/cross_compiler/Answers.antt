@@ -6,4 +6,4 @@ use Rattle.cc_plan.proofs.choice.cross_compiler.Goals as goal
 
 pub returns-in_ok-path-in-None-clause-settles : goal.returns-in_ok-path-in-None-clause-settles
 returns-in_ok-path-in-None-clause-settles g c =
-    settles_two (settles_on (asks_grows c.default_compiler.ensures.asks) c.in_ok-prefix.ensures.settles) c.in_ok-path-in-None.ensures.settles (λ look a b. grind (arith, common_steps, a, b, c.in-None.is))
+    settles_two (settles_on (asks_grows c.default_compiler.ensures.asks.asks) c.in_ok-prefix.ensures.settles) c.in_ok-path-in-None.ensures.settles (λ look a b. grind (arith, common_steps, a, b, c.in-None.is))

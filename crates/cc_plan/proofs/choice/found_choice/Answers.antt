@@ -5,4 +5,4 @@ use Rattle.cc_tool.proofs.SettleLemmas.{settles_on, settles_two}
 use Rattle.cc_plan.proofs.choice.found_choice.Goals as goal
 
 pub returns-in_ok-choice-in-None-clause-settles : goal.returns-in_ok-choice-in-None-clause-settles
-returns-in_ok-choice-in-None-clause-settles g c = settles_two (settles_on (asks_grows c.own_choice.ensures.asks) c.in_ok-choice.ensures.settles) c.in_ok-choice-in-None.ensures.settles (λ look a b. grind (arith, common_steps, a, b))
+returns-in_ok-choice-in-None-clause-settles g c = settles_two (settles_on (asks_grows c.own_choice.ensures.asks.asks) c.in_ok-choice.ensures.settles) c.in_ok-choice-in-None.ensures.settles (λ look a b. grind (arith, common_steps, a, b))

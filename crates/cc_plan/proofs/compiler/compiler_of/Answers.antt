@@ -5,4 +5,4 @@ use Rattle.cc_tool.proofs.SettleLemmas.{settles_on, settles_two}
 use Rattle.cc_plan.proofs.compiler.compiler_of.Goals as goal
 
 pub returns-clause-settles : goal.returns-clause-settles
-returns-clause-settles g c = settles_two (settles_on (asks_grows c.family_in.ensures.asks) c.in_ok-choice.ensures.settles) c.in_ok-family.ensures.settles (λ look a b. grind (arith, common_steps, a, b))
+returns-clause-settles g c = settles_two (settles_on (asks_grows c.family_in.ensures.asks.asks) c.in_ok-choice.ensures.settles) c.in_ok-family.ensures.settles (λ look a b. grind (arith, common_steps, a, b))

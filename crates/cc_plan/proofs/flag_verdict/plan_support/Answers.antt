@@ -1,6 +1,7 @@
 use Rattle.std.proofs.Common.{rules, ◌≡◌, ◌⊎◌, Err, Some, None, sym, ap, subst, ◌∙◌}
 use Rattle.cc_host.specs.Question.{Settles}
-use Rattle.cc_tool.proofs.AskLemmas.{asks_then, asks_grows}
+use Rattle.cc_tool.proofs.AskLemmas.{asks_grows}
+use Rattle.cc_plan.proofs.AskingLemmas.{only_then}
 use Rattle.cc_tool.proofs.SettleLemmas.{settles_on, settles_so}
 use Rattle.cc_plan.specs.FlagSupport.{found_warnings, verdict_on, verdict_refusal}
 use Rattle.cc_plan.specs.declared.error.PlanError.TheVariants.{NoMemory as WantsMemory}
@@ -9,13 +10,13 @@ use Rattle.cc_plan.proofs.VerdictLemmas.{verdict_settled, support_settled, suppo
 use Rattle.cc_plan.proofs.flag_verdict.plan_support.Goals as goal
 
 pub returns-in_err-verdict-clause-asks : goal.returns-in_err-verdict-clause-asks
-returns-in_err-verdict-clause-asks g c = asks_then c.found_compiler.ensures.asks c.verdict_on.ensures.asks
+returns-in_err-verdict-clause-asks g c = only_then c.found_compiler.ensures.asks c.verdict_on.ensures.asks
 
 pub returns-in_err-verdict-clause-refused : goal.returns-in_err-verdict-clause-refused
 returns-in_err-verdict-clause-refused g c =
     let r : c.from_residual-in_err-verdict.result ≡ Err c.in_err-verdict.field-0.0 = search rules in
     let refused = subst (λ p. (c.in_err-verdict.field-0.0 ≡ WantsMemory) ⊎ (verdict_refusal c.args.set.now c.args.env.now c.in_ok-compiler.family p c.args.flag.now ≡ Some c.in_err-verdict.field-0.0)) c.as_str-path.ensures c.in_err-verdict.ensures.refused in
-    rw r (support_refused c.args.set.now c.args.env.now c.args.flag.now c.in_err-verdict.field-0.0 c.in_ok-target.ensures.allowed (settles_on (asks_grows c.verdict_on.ensures.asks) c.in_ok-compiler.ensures.settles) refused)
+    rw r (support_refused c.args.set.now c.args.env.now c.args.flag.now c.in_err-verdict.field-0.0 c.in_ok-target.ensures.allowed (settles_on (asks_grows c.verdict_on.ensures.asks.asks) c.in_ok-compiler.ensures.settles) refused)
 
 pub returns-in_err-verdict-clause-own : goal.returns-in_err-verdict-clause-own
 returns-in_err-verdict-clause-own g c =
@@ -23,24 +24,24 @@ returns-in_err-verdict-clause-own g c =
     rw r (verdict_is_own c.args.set.now c.args.env.now c.in_ok-compiler.family c.as_str-path.result.now c.args.flag.now c.in_err-verdict.field-0.0 c.in_err-verdict.ensures.refused)
 
 pub returns-in_err-warnings-clause-asks : goal.returns-in_err-warnings-clause-asks
-returns-in_err-warnings-clause-asks g c = asks_then c.found_compiler.ensures.asks c.verdict_on.ensures.asks
+returns-in_err-warnings-clause-asks g c = only_then c.found_compiler.ensures.asks c.verdict_on.ensures.asks
 
 pub returns-clause-asks : goal.returns-clause-asks
-returns-clause-asks g c = asks_then c.found_compiler.ensures.asks c.verdict_on.ensures.asks
+returns-clause-asks g c = only_then c.found_compiler.ensures.asks c.verdict_on.ensures.asks
 
 pub returns-clause-verdict : goal.returns-clause-verdict
 returns-clause-verdict g c =
-    verdict_settled c.args.set.now c.args.env.now c.args.flag.now (settles_on (asks_grows c.verdict_on.ensures.asks) c.in_ok-compiler.ensures.settles)
+    verdict_settled c.args.set.now c.args.env.now c.args.flag.now (settles_on (asks_grows c.verdict_on.ensures.asks.asks) c.in_ok-compiler.ensures.settles)
     (subst (λ p. Settles c.verdict_on.new.sight.answers.now (verdict_on c.args.set.now c.args.env.now c.in_ok-compiler.family p c.args.flag.now) c.in_ok-verdict.verdict) c.as_str-path.ensures c.in_ok-verdict.ensures.verdict)
 
 pub returns-clause-compiler : goal.returns-clause-compiler
-returns-clause-compiler g c = settles_so (settles_on (asks_grows c.verdict_on.ensures.asks) c.in_ok-compiler.ensures.settles) (λ look a. ap (λ f. f.0) a)
+returns-clause-compiler g c = settles_so (settles_on (asks_grows c.verdict_on.ensures.asks.asks) c.in_ok-compiler.ensures.settles) (λ look a. ap (λ f. f.0) a)
 
 pub returns-clause-warnings : goal.returns-clause-warnings
 returns-clause-warnings g c =
-    settles_so (settles_on (asks_grows c.verdict_on.ensures.asks) c.in_ok-compiler.ensures.settles) (λ look a. ap (λ f. found_warnings c.args.set.now c.args.env.now f.0) a ∙ sym c.in_ok-warnings.ensures)
+    settles_so (settles_on (asks_grows c.verdict_on.ensures.asks.asks) c.in_ok-compiler.ensures.settles) (λ look a. ap (λ f. found_warnings c.args.set.now c.args.env.now f.0) a ∙ sym c.in_ok-warnings.ensures)
 
 pub returns-clause-allowed : goal.returns-clause-allowed
 returns-clause-allowed g c =
-    support_settled c.args.set.now c.args.env.now c.args.flag.now c.in_ok-target.ensures.allowed (settles_on (asks_grows c.verdict_on.ensures.asks) c.in_ok-compiler.ensures.settles)
+    support_settled c.args.set.now c.args.env.now c.args.flag.now c.in_ok-target.ensures.allowed (settles_on (asks_grows c.verdict_on.ensures.asks.asks) c.in_ok-compiler.ensures.settles)
     (subst (λ p. verdict_refusal c.args.set.now c.args.env.now c.in_ok-compiler.family p c.args.flag.now ≡ None) c.as_str-path.ensures c.in_ok-verdict.ensures.allowed)

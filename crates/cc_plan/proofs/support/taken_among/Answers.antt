@@ -1,6 +1,7 @@
 use Rattle.std.proofs.Common.{◌++◌, [], ◌∷◌, sym, ap, ◌∙◌, refl, length, slice_index_or, arith}
 use Rattle.cc_text.specs.Words.{when}
-use Rattle.cc_tool.proofs.AskLemmas.{asks_none, asks_then, asks_grows}
+use Rattle.cc_tool.proofs.AskLemmas.{asks_grows}
+use Rattle.cc_plan.proofs.AskingLemmas.{only_none, only_then}
 use Rattle.cc_tool.proofs.SettleLemmas.{settles_on, settles_two}
 use Rattle.cc_plan.specs.Support.{takes}
 use Rattle.cc_plan.proofs.SupportLemmas.{keep_more}
@@ -8,27 +9,21 @@ use Rattle.cc_plan.proofs.support.taken_among.Goals as goal
 
 pub loop-word-init : goal.loop-word-init
 loop-word-init g c = record {
-  same_host = refl;
-  same_answers = refl;
-  asks = asks_none _ _;
+  asks = only_none _;
   taken = record { is = λ look a. sym c.new-taken.ensures };
-  patient = refl;
 }
 
 pub returns-in_err-is_taken-clause-asks : goal.returns-in_err-is_taken-clause-asks
-returns-in_err-is_taken-clause-asks g c = asks_then c.loop-word.invariant.asks c.takes.ensures.asks
+returns-in_err-is_taken-clause-asks g c = only_then c.loop-word.invariant.asks c.takes.ensures.asks
 
 pub returns-in_err-push_if-clause-asks : goal.returns-in_err-push_if-clause-asks
-returns-in_err-push_if-clause-asks g c = asks_then c.loop-word.invariant.asks c.takes.ensures.asks
+returns-in_err-push_if-clause-asks g c = only_then c.loop-word.invariant.asks c.takes.ensures.asks
 
 pub loop-word-preserved : goal.loop-word-preserved
 loop-word-preserved g c = record {
-  same_host = c.takes.ensures.same_host ∙ c.loop-word.invariant.same_host;
-  same_answers = c.takes.ensures.same_answers ∙ c.loop-word.invariant.same_answers;
-  asks = asks_then c.loop-word.invariant.asks c.takes.ensures.asks;
-  taken = settles_two (settles_on (asks_grows c.takes.ensures.asks) c.loop-word.invariant.taken) c.in_ok-is_taken.ensures.settles
+  asks = only_then c.loop-word.invariant.asks c.takes.ensures.asks;
+  taken = settles_two (settles_on (asks_grows c.takes.ensures.asks.asks) c.loop-word.invariant.taken) c.in_ok-is_taken.ensures.settles
       (λ look a b. keep_more (takes c.args.set.now c.args.env.now c.args.family c.args.path.now look) c.args.words.now c.loop-word.word-index c.word-item.result c.loop-word.taken _ c.in_ok-is_taken.is_taken (omega (arith, ap length c.as_slice-word-items.ensures)) (c.word-item.is ∙ ap (λ xs. slice_index_or xs c.loop-word.word-index c.word-item.result) c.as_slice-word-items.ensures) a
       (ap (takes c.args.set.now c.args.env.now c.args.family c.args.path.now look) (sym c.as_str.ensures) ∙ b)
       (c.in_ok-push_if.ensures ∙ ap (λ w. c.loop-word.taken ++ when c.in_ok-is_taken.is_taken (w ∷ [])) c.as_str-in-loop-word.ensures));
-  patient = c.takes.ensures.patient ∙ c.loop-word.invariant.patient;
 }

@@ -1,5 +1,6 @@
 use Rattle.std.proofs.Common.{rules, ◌≡◌, Err, sym, ap, ◌∙◌}
-use Rattle.cc_tool.proofs.AskLemmas.{asks_then, asks_grows}
+use Rattle.cc_tool.proofs.AskLemmas.{asks_grows}
+use Rattle.cc_plan.proofs.AskingLemmas.{only_then}
 use Rattle.cc_tool.proofs.SettleLemmas.{settles_on, settles_two}
 use Rattle.cc_plan.specs.Support.{supported_by}
 use Rattle.cc_plan.specs.Tool.{tool_by, warnings_by}
@@ -18,20 +19,20 @@ returns-in_err-check_compiler-clause-own g c =
     rw r (built_is_own c.args.set.now c.args.env.now c.in_ok-compiler.compiler c.in_err-check_compiler.field-0.0 c.in_err-check_compiler.ensures.refused)
 
 pub returns-in_err-supported-clause-asks : goal.returns-in_err-supported-clause-asks
-returns-in_err-supported-clause-asks g c = asks_then c.compiler_of.ensures.asks c.supported_words.ensures.asks
+returns-in_err-supported-clause-asks g c = only_then c.compiler_of.ensures.asks c.supported_words.ensures.asks
 
 pub returns-in_err-tool-clause-asks : goal.returns-in_err-tool-clause-asks
-returns-in_err-tool-clause-asks g c = asks_then c.compiler_of.ensures.asks c.supported_words.ensures.asks
+returns-in_err-tool-clause-asks g c = only_then c.compiler_of.ensures.asks c.supported_words.ensures.asks
 
 pub returns-in_err-warned-clause-asks : goal.returns-in_err-warned-clause-asks
-returns-in_err-warned-clause-asks g c = asks_then c.compiler_of.ensures.asks c.supported_words.ensures.asks
+returns-in_err-warned-clause-asks g c = only_then c.compiler_of.ensures.asks c.supported_words.ensures.asks
 
 pub returns-clause-asks : goal.returns-clause-asks
-returns-clause-asks g c = asks_then c.compiler_of.ensures.asks c.supported_words.ensures.asks
+returns-clause-asks g c = only_then c.compiler_of.ensures.asks c.supported_words.ensures.asks
 
 pub returns-clause-tool : goal.returns-clause-tool
 returns-clause-tool g c =
-    settles_two (settles_on (asks_grows c.supported_words.ensures.asks) c.in_ok-compiler.ensures.settles) c.in_ok-supported.ensures.settles
+    settles_two (settles_on (asks_grows c.supported_words.ensures.asks.asks) c.in_ok-compiler.ensures.settles) c.in_ok-supported.ensures.settles
     (λ look a b.
     ap (λ k. tool_by c.args.set.now c.args.env.now k (supported_by c.args.set.now c.args.env.now k look)) a
     ∙ ap (λ s. tool_by c.args.set.now c.args.env.now c.in_ok-compiler.compiler s) (b ∙ sym c.as_slice-supported.ensures)
@@ -39,7 +40,7 @@ returns-clause-tool g c =
 
 pub returns-clause-warnings : goal.returns-clause-warnings
 returns-clause-warnings g c =
-    settles_two (settles_on (asks_grows c.supported_words.ensures.asks) c.in_ok-compiler.ensures.settles) c.in_ok-supported.ensures.settles
+    settles_two (settles_on (asks_grows c.supported_words.ensures.asks.asks) c.in_ok-compiler.ensures.settles) c.in_ok-supported.ensures.settles
     (λ look a b.
     ap (λ k. warnings_by c.args.set.now c.args.env.now k (supported_by c.args.set.now c.args.env.now k look) c.in_ok-warned.warned.told) a
     ∙ ap (λ s. warnings_by c.args.set.now c.args.env.now c.in_ok-compiler.compiler s c.in_ok-warned.warned.told) (b ∙ sym c.as_slice-supported.ensures)
@@ -47,4 +48,4 @@ returns-clause-warnings g c =
 
 pub returns-clause-allowed : goal.returns-clause-allowed
 returns-clause-allowed g c =
-    allowed_by c.args.set.now c.args.env.now c.in_ok-target.ensures.allowed (settles_on (asks_grows c.supported_words.ensures.asks) c.in_ok-compiler.ensures.settles) c.in_ok-check_compiler.ensures.allowed
+    allowed_by c.args.set.now c.args.env.now c.in_ok-target.ensures.allowed (settles_on (asks_grows c.supported_words.ensures.asks.asks) c.in_ok-compiler.ensures.settles) c.in_ok-check_compiler.ensures.allowed

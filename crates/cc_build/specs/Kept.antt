@@ -1,0 +1,26 @@
+-- What a call that asks nothing leaves as it was.
+use Rattle.std.specs.Prelude.{ℕ, ◌≡◌, List, [], ◌++◌, Option}
+use Rattle.cc_host.specs.Part.{since}
+use Rattle.cc_host.specs.declared.event.Event.{Event}
+use Rattle.cc_run.specs.declared.planned.Turns.{Turns}
+use Rattle.cc_tool.specs.Asked.{question_events}
+use Rattle.cc_build.specs.Went.{Means, means}
+
+-- what a call appended to the log of its host
+abbrev pub part : {X : Type 0} → (X → List Event) → X → X → List Event
+part log old new = since (log old) (log new)
+
+-- the log only grew, by no question, and the patience of the host is the same
+pub record Aside {X : Type 0} (log : X → List Event) (patience : X → Option ℕ) (old new : X) : Type 0 where
+  pub patient : patience new ≡ patience old
+  pub extends : log new ≡ log old ++ part log old new
+  pub asks_none : question_events (part log old new) ≡ []
+
+-- the seat is one of these jobs, and holds no token
+pub record Idle {J S : Type 0} (fits : J → S → Type 0) (held : S → ℕ) (jobs : J) (seat : S) : Type 0 where
+  pub fits_in : fits jobs seat
+  pub empty : held seat ≡ 0
+
+-- what is left of the turns and of a seat
+abbrev pub left_at : {S : Type 0} → (S → ℕ) → (S → ℕ) → (S → ℕ) → Turns → S → Means
+left_at faults taken load turns seat = means turns.left (faults seat) (taken seat) (load seat)

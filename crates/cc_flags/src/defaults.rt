@@ -1,0 +1,365 @@
+// The words that a target and an optimisation level bring, a function a group.
+ghost use Rattle.std.specs.Prelude.{◌≡◌, ◌++◌, OnOk};
+ghost use Rattle.std.specs.Option.{option_copied};
+ghost use Rattle.cc_target.specs.Targets.{info_seen};
+ghost use Rattle.cc_flags.specs.DefaultWords as spec;
+
+use crate::family::{has_android_target, has_windows_target, is_cl, is_clang, is_gnu, is_gnu_like};
+use crate::texts::{has, value_or_empty};
+use cc_env::EnvSnapshot;
+use cc_target::TargetInfo;
+use cc_text::{Mem, ToolFamily, Words};
+
+// GCC spells the level `z` as `s`.
+fn level_text(family: ToolFamily, level: &str) -> &str
+    ensures { result.now ≡ spec.level_text family level.now }
+{
+    if is_gnu(family) && level == "z" {
+        "s"
+    } else {
+        level
+    }
+}
+
+/// Adds the optimisation level as the family spells it, and a section of its own for each function and datum.
+#[tactic(auto, unfolding(crate::specs::DefaultWords::optimisation_words))]
+pub fn push_optimisation_words(
+    words: &mut Words,
+    family: ToolFamily,
+    target: &TargetInfo,
+    level: &str,
+) -> Mem<()>
+    ensures { OnOk result (words.new ≡ words.old ++ spec.optimisation_words family (info_seen target.now) level.now) }
+{
+    words.push_joined("-O", level_text(family, level))?;
+    if is_clang(family) && target.os == "android" {
+        words.push("-DANDROID")?;
+    }
+    words.push("-ffunction-sections")?;
+    words.push("-fdata-sections")?;
+    Ok(())
+}
+
+// The target runs code wherever it is loaded.
+#[tactic(auto, unfolding(crate::specs::DefaultWords::is_position_independent))]
+fn is_position_independent(target: &TargetInfo) -> bool
+    ensures { result ≡ spec.is_position_independent (info_seen target.now) }
+{
+    target.os != "windows"
+        && target.os != "none"
+        && target.os != "uefi"
+        && target.os != "vita"
+        && target.arch != "wasm32"
+        && target.arch != "wasm64"
+}
+
+/// Adds what makes code that runs wherever it is loaded: as it is set, else as the target wants it; `-fno-plt` where calls go without a table.
+#[tactic(auto, unfolding(crate::specs::DefaultWords::position_independence_words))]
+pub fn push_position_independence_words(
+    words: &mut Words,
+    target: &TargetInfo,
+    pic: Option<bool>,
+    use_plt: Option<bool>,
+) -> Mem<()>
+    ensures { OnOk result (words.new ≡ words.old ++ spec.position_independence_words (info_seen target.now) pic use_plt) }
+{
+    if pic.unwrap_or(is_position_independent(target)) {
+        words.push("-fPIC")?;
+        if (target.os == "linux" || target.os == "android") && !use_plt.unwrap_or(true) {
+            words.push("-fno-plt")?;
+        }
+    }
+    Ok(())
+}
+
+// Where the headers and libraries of the system are.
+#[tactic(auto, unfolding(crate::specs::DefaultWords::sysroot_words))]
+fn push_sysroot_words(words: &mut Words, sysroot: Option<&str>) -> Mem<()>
+    ensures { OnOk result (words.new ≡ words.old ++ spec.sysroot_words (option_copied sysroot.entry)) }
+{
+    if let Some(sysroot) = sysroot {
+        words.push_joined("--sysroot=", sysroot)?;
+    }
+    Ok(())
+}
+
+// Threads, where the target's name has them.
+#[tactic(auto, unfolding(crate::specs::DefaultWords::thread_words))]
+fn push_thread_words(words: &mut Words, name: &str) -> Mem<()>
+    ensures { OnOk result (words.new ≡ words.old ++ spec.thread_words name.now) }
+{
+    if has(name, "threads") {
+        words.push("-pthread")?;
+    }
+    Ok(())
+}
+
+/// Adds, for WASI, the sysroot where it is set, and threads where the target's name has them.
+#[tactic(auto, unfolding(crate::specs::DefaultWords::wasi_words))]
+pub fn push_wasi_words(
+    words: &mut Words,
+    target: &TargetInfo,
+    name: &str,
+    sysroot: Option<&str>,
+) -> Mem<()>
+    ensures { OnOk result (words.new ≡ words.old ++ spec.wasi_words (info_seen target.now) name.now (option_copied sysroot.entry)) }
+{
+    if target.os == "wasi" {
+        push_sysroot_words(words, sysroot)?;
+        push_thread_words(words, name)?;
+    }
+    Ok(())
+}
+
+// The variant of QNX's compiler for a full architecture.
+#[tactic(auto, unfolding(crate::specs::DefaultWords::qnx_variant))]
+fn qnx_variant(full_arch: &str) -> Option<&'static str>
+    ensures { option_copied result ≡ spec.qnx_variant full_arch.now }
+{
+    match full_arch {
+        "x86" | "i586" => Some("-Vgcc_ntox86_cxx"),
+        "aarch64" => Some("-Vgcc_ntoaarch64le_cxx"),
+        "x86_64" => Some("-Vgcc_ntox86_64_cxx"),
+        _ => None,
+    }
+}
+
+/// The target runs QNX.
+#[tactic(auto, unfolding(crate::specs::DefaultWords::is_qnx))]
+pub fn is_qnx(target: &TargetInfo) -> bool
+    ensures { result ≡ spec.is_qnx (info_seen target.now) }
+{
+    target.os == "nto" || target.os == "qnx"
+}
+
+/// Adds the variant of QNX's compiler, where the target runs QNX and its architecture has one.
+#[tactic(auto, unfolding(crate::specs::DefaultWords::qnx_words))]
+pub fn push_qnx_words(words: &mut Words, target: &TargetInfo) -> Mem<()>
+    ensures { OnOk result (words.new ≡ words.old ++ spec.qnx_words (info_seen target.now)) }
+{
+    if is_qnx(target) {
+        if let Some(variant) = qnx_variant(target.full_arch) {
+            words.push(variant)?;
+        }
+    }
+    Ok(())
+}
+
+/// GCC or Clang is to compile for QNX on an architecture for which QNX's compiler has no variant.
+#[tactic(auto, unfolding(crate::specs::DefaultWords::lacks_qnx_variant))]
+pub fn lacks_qnx_variant(family: ToolFamily, target: &TargetInfo) -> bool
+    ensures { result ≡ spec.lacks_qnx_variant family (info_seen target.now) }
+{
+    is_gnu_like(family) && is_qnx(target) && qnx_variant(target.full_arch).is_none()
+}
+
+/// Adds the width of addresses for GCC and Clang: `-m32`, `-mx32`, `-m64` or nothing.
+#[tactic(auto, unfolding(crate::specs::DefaultWords::width_words))]
+pub fn push_width_words(words: &mut Words, family: ToolFamily, target: &TargetInfo) -> Mem<()>
+    ensures { OnOk result (words.new ≡ words.old ++ spec.width_words family (info_seen target.now)) }
+{
+    if is_gnu_like(family) {
+        if target.arch == "x86" {
+            words.push("-m32")?;
+        } else if target.abi == "x32" {
+            words.push("-mx32")?;
+        } else if target.arch == "x86_64" || target.arch == "powerpc64" {
+            words.push("-m64")?;
+        }
+    }
+    Ok(())
+}
+
+/// Clang is told its target, unless the name of `program` does that; `compiler` is the compiler that is set.
+#[tactic(auto, unfolding(crate::specs::DefaultWords::is_told_target))]
+pub fn is_told_target(
+    family: ToolFamily,
+    compiler: Option<&str>,
+    target: &TargetInfo,
+    program: &str,
+) -> bool
+    ensures { result ≡ spec.is_told_target family (option_copied compiler.entry) (info_seen target.now) program.now }
+{
+    is_clang(family)
+        && !has_windows_target(compiler, target, program)
+        && !has_android_target(target, program)
+}
+
+// The C++ library of FreeBSD, unless another is set.
+#[tactic(auto, unfolding(crate::specs::DefaultWords::freebsd_words))]
+fn push_freebsd_words(
+    words: &mut Words,
+    target: &TargetInfo,
+    cpp: bool,
+    set_stdlib: Option<&str>,
+) -> Mem<()>
+    ensures { OnOk result (words.new ≡ words.old ++ spec.freebsd_words (info_seen target.now) cpp (option_copied set_stdlib.entry)) }
+{
+    if target.os == "freebsd" && cpp && set_stdlib.is_none() {
+        words.push("-stdlib=libc++")?;
+    }
+    Ok(())
+}
+
+/// WebAssembly on Linux, the one kind that has threads and a C library to be found by its sysroot.
+#[tactic(auto, unfolding(crate::specs::DefaultWords::is_wasm_linux))]
+pub fn is_wasm_linux(target: &TargetInfo) -> bool
+    ensures { result ≡ spec.is_wasm_linux (info_seen target.now) }
+{
+    target.arch == "wasm32" && target.os == "linux"
+}
+
+// What its C library and its threads want.
+#[tactic(auto, unfolding(crate::specs::DefaultWords::wasm_feature_words))]
+fn push_wasm_feature_words(words: &mut Words) -> Mem<()>
+    ensures { OnOk result (words.new ≡ words.old ++ spec.wasm_feature_words) }
+{
+    words.push_all(&[
+        "-matomics",
+        "-mbulk-memory",
+        "-mmutable-globals",
+        "-msign-ext",
+        "-mexception-handling",
+        "-fwasm-exceptions",
+        "-fdeclspec",
+    ])?;
+    Ok(())
+}
+
+#[tactic(auto, unfolding(crate::specs::DefaultWords::wasm_linux_words))]
+fn push_wasm_linux_words(words: &mut Words, sysroot: Option<&str>) -> Mem<()>
+    ensures { OnOk result (words.new ≡ words.old ++ spec.wasm_linux_words (option_copied sysroot.entry)) }
+{
+    push_wasm_feature_words(words)?;
+    push_sysroot_words(words, sysroot)?;
+    words.push("-pthread")?;
+    Ok(())
+}
+
+// The target by LLVM's name.
+#[tactic(auto, unfolding(crate::specs::DefaultWords::target_words))]
+pub(crate) fn push_target_words(words: &mut Words, llvm: &str) -> Mem<()>
+    ensures { OnOk result (words.new ≡ words.old ++ spec.target_words llvm.now) }
+{
+    words.push_joined("--target=", llvm)?;
+    Ok(())
+}
+
+/// Adds what tells Clang its target by LLVM's name, and before it what the target's C and C++ libraries want.
+#[tactic(auto, unfolding(crate::specs::DefaultWords::clang_target_words))]
+pub fn push_clang_target_words(
+    words: &mut Words,
+    target: &TargetInfo,
+    llvm: &str,
+    cpp: bool,
+    set_stdlib: Option<&str>,
+    musl_sysroot: Option<&str>,
+) -> Mem<()>
+    ensures { OnOk result (words.new ≡ words.old ++ spec.clang_target_words (info_seen target.now) llvm.now cpp (option_copied set_stdlib.entry) (option_copied musl_sysroot.entry)) }
+{
+    push_freebsd_words(words, target, cpp, set_stdlib)?;
+    if is_wasm_linux(target) {
+        push_wasm_linux_words(words, musl_sysroot)?;
+    }
+    push_target_words(words, llvm)?;
+    Ok(())
+}
+
+/// Adds how the target or the settings want to be linked.
+#[tactic(auto, unfolding(crate::specs::DefaultWords::linkage_words))]
+pub fn push_linkage_words(
+    words: &mut Words,
+    target: &TargetInfo,
+    name: &str,
+    static_flag: Option<bool>,
+    shared_flag: Option<bool>,
+) -> Mem<()>
+    ensures { OnOk result (words.new ≡ words.old ++ spec.linkage_words (info_seen target.now) name.now static_flag shared_flag) }
+{
+    let bare_wasm = name == "wasm32v1-none";
+    let illumos = target.os == "illumos";
+    let is_static = static_flag.unwrap_or(false);
+    let is_shared = shared_flag.unwrap_or(false);
+    words.push_chosen(&[
+        (bare_wasm, &["-mcpu=mvp", "-mmutable-globals"]),
+        (illumos, &["-D_REENTRANT"]),
+        (is_static, &["-static"]),
+        (is_shared, &["-shared"]),
+    ])?;
+    Ok(())
+}
+
+/// Adds the C++ library that is set, for C++ and a compiler that can be told.
+#[tactic(auto, unfolding(crate::specs::DefaultWords::standard_library_words))]
+pub fn push_standard_library_words(
+    words: &mut Words,
+    family: ToolFamily,
+    cpp: bool,
+    set_stdlib: Option<&str>,
+) -> Mem<()>
+    ensures { OnOk result (words.new ≡ words.old ++ spec.standard_library_words family cpp (option_copied set_stdlib.entry)) }
+{
+    if is_gnu_like(family) && cpp {
+        if let Some(stdlib) = set_stdlib {
+            words.push_joined("-stdlib=lib", stdlib)?;
+        }
+    }
+    Ok(())
+}
+
+// One of the names between commas is that of the address sanitizer.
+#[tactic(auto, unfolding(crate::specs::DefaultWords::has_address_sanitizer))]
+fn has_address_sanitizer(sanitizers: &str) -> bool
+    ensures { result ≡ spec.has_address_sanitizer sanitizers.now }
+{
+    sanitizers.split(',').any(|name| name == "address")
+}
+
+#[tactic(auto, unfolding(crate::specs::DefaultWords::is_x86_64_glibc))]
+fn is_x86_64_glibc(target: &TargetInfo) -> bool
+    ensures { result ≡ spec.is_x86_64_glibc (info_seen target.now) }
+{
+    target.arch == "x86_64" && target.os == "linux" && target.env == "gnu" && target.abi == ""
+}
+
+#[tactic(auto, unfolding(crate::specs::DefaultWords::is_x86_64_visual_studio))]
+fn is_x86_64_visual_studio(target: &TargetInfo) -> bool
+    ensures { result ≡ spec.is_x86_64_visual_studio (info_seen target.now) }
+{
+    target.arch == "x86_64" && target.os == "windows" && target.env == "msvc" && target.abi == ""
+}
+
+// The targets on which the sanitizer of the Rust code is given to the compiler.
+fn is_sanitized(family: ToolFamily, target: &TargetInfo) -> bool
+    ensures { result ≡ spec.is_sanitized family (info_seen target.now) }
+{
+    is_gnu_like(family) && is_x86_64_glibc(target)
+        || is_cl(family) && is_x86_64_visual_studio(target)
+}
+
+// Cargo's target has the address sanitizer, and the compiler is given it.
+#[tactic(auto, unfolding(crate::specs::DefaultWords::wants_sanitizer))]
+fn wants_sanitizer(family: ToolFamily, target: &TargetInfo, cargos: bool, env: &EnvSnapshot) -> bool
+    ensures { result ≡ spec.wants_sanitizer family (info_seen target.now) cargos env.now }
+{
+    cargos
+        && has_address_sanitizer(value_or_empty(env, "CARGO_CFG_SANITIZE"))
+        && is_sanitized(family, target)
+}
+
+/// Adds the address sanitizer, where Cargo's target has it and the compiler is given it; `cargos` tells that the target is Cargo's.
+#[tactic(auto, unfolding(crate::specs::DefaultWords::sanitizer_words))]
+pub fn push_sanitizer_words(
+    words: &mut Words,
+    family: ToolFamily,
+    target: &TargetInfo,
+    cargos: bool,
+    env: &EnvSnapshot,
+) -> Mem<()>
+    ensures { OnOk result (words.new ≡ words.old ++ spec.sanitizer_words family (info_seen target.now) cargos env.now) }
+{
+    if wants_sanitizer(family, target, cargos, env) {
+        words.push("-fsanitize=address")?;
+    }
+    Ok(())
+}

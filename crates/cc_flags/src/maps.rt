@@ -1,0 +1,278 @@
+// The words that map the folders of sources to others, in what macros and debug information tell.
+ghost use Rattle.std.specs.Prelude.{◌≡◌, ◌++◌, map, IfOk, OnOk};
+ghost use Rattle.std.specs.List.{list_any};
+ghost use Rattle.std.specs.Option.{option_copied};
+ghost use Rattle.cc_text.specs.Words.{texts};
+ghost use Rattle.cc_flags.specs.MapWords as spec;
+
+use crate::family::{is_cl, is_clang_cl};
+use crate::texts::is_among;
+use cc_env::EnvSnapshot;
+use cc_text::{Mem, Text, ToolFamily, Vars, Words, quoted};
+use std::alloc::Global;
+
+/// What is mapped to other folders: the paths of macros, and those of debug information.
+#[derive(Clone, Copy, Debug)]
+pub struct Maps {
+    pub macros: bool,
+    pub debug: bool,
+}
+
+const NONE: Maps = Maps {
+    macros: false,
+    debug: false,
+};
+
+// The flag of Clang, or of Clang in the form of the Visual Studio compiler.
+fn driver_word(alloc: Global, family: ToolFamily, flag: &str) -> Mem<Text>
+    ensures { IfOk result (λ word. word ≡ spec.driver_word family flag.now) }
+{
+    let mut word = Text::new(alloc);
+    if is_clang_cl(family) {
+        word.push_str("/clang:")?;
+    }
+    word.push_str(flag)?;
+    Ok(word)
+}
+
+/// The flag that maps paths in macros.
+pub(crate) fn macro_map(alloc: Global, family: ToolFamily) -> Mem<Text>
+    ensures { IfOk result (λ word. word ≡ spec.macro_map family) }
+{
+    driver_word(alloc, family, "-fmacro-prefix-map")
+}
+
+/// The flag that maps paths in debug information.
+pub(crate) fn debug_map(alloc: Global, family: ToolFamily) -> Mem<Text>
+    ensures { IfOk result (λ word. word ≡ spec.debug_map family) }
+{
+    driver_word(alloc, family, "-fdebug-prefix-map")
+}
+
+/// The map of a pair.
+pub(crate) fn map_of(flag: Text, pair: &str) -> Mem<Text>
+    ensures { IfOk result (λ word. word ≡ spec.map_of flag pair.now) }
+{
+    let mut word = flag;
+    word.push('=')?;
+    word.push_str(pair)?;
+    Ok(word)
+}
+
+/// The word by which a compiler is asked whether it maps.
+pub(crate) fn probe_of(flag: Text) -> Mem<Text>
+    ensures { IfOk result (λ word. word ≡ spec.probe_of flag) }
+{
+    map_of(flag, "/probe=/probe")
+}
+
+// The maps of a pair.
+#[tactic(auto, unfolding(crate::specs::MapWords::pair_words))]
+fn push_pair_words(
+    words: &mut Words,
+    alloc: Global,
+    family: ToolFamily,
+    maps: Maps,
+    pair: &str,
+) -> Mem<()>
+    ensures { OnOk result (words.new ≡ words.old ++ spec.pair_words family maps pair.now) }
+{
+    if maps.macros {
+        words.push_text(map_of(macro_map(alloc, family)?, pair)?)?;
+    }
+    if maps.debug {
+        words.push_text(map_of(debug_map(alloc, family)?, pair)?)?;
+    }
+    Ok(())
+}
+
+/// Adds the maps of some pairs `FROM=TO`, as the family spells them.
+#[tactic(auto, unfolding(crate::specs::MapWords::pairs_words))]
+pub fn push_pairs_words(
+    words: &mut Words,
+    alloc: Global,
+    family: ToolFamily,
+    maps: Maps,
+    pairs: &Words,
+) -> Mem<()>
+    ensures { OnOk result (words.new ≡ words.old ++ spec.pairs_words family maps pairs.now) }
+{
+    for pair in pairs.as_slice() {
+        push_pair_words(words, alloc, family, maps, pair.as_str())?;
+    }
+    Ok(())
+}
+
+fn is_object_scope(scope: &str) -> bool
+    ensures { result ≡ spec.is_object_scope scope.now }
+{
+    scope == "all" || scope == "object"
+}
+
+fn is_macro_scope(scope: &str) -> bool
+    ensures { result ≡ spec.is_macro_scope scope.now }
+{
+    is_object_scope(scope) || scope == "macro"
+}
+
+// One of the scopes between commas has macros.
+fn has_macro_scope(scopes: &str) -> bool
+    ensures { result ≡ list_any spec.is_macro_scope (spec.scopes_of scopes.now) }
+{
+    scopes.split(',').any(|scope| is_macro_scope(scope))
+}
+
+// One of the scopes between commas has debug information.
+fn has_object_scope(scopes: &str) -> bool
+    ensures { result ≡ list_any spec.is_object_scope (spec.scopes_of scopes.now) }
+{
+    scopes.split(',').any(|scope| is_object_scope(scope))
+}
+
+// What these scopes want.
+#[tactic(auto, unfolding(crate::specs::MapWords::scope_maps))]
+fn scope_maps(scopes: &str) -> Maps
+    ensures { result ≡ spec.scope_maps scopes.now }
+{
+    Maps {
+        macros: has_macro_scope(scopes),
+        debug: has_object_scope(scopes),
+    }
+}
+
+/// What Cargo wants mapped: nothing unless it names scopes and pairs.
+#[tactic(auto, unfolding(crate::specs::MapWords::trim_maps))]
+pub(crate) fn trim_maps(
+    family: ToolFamily,
+    inherits: bool,
+    scopes: Option<&str>,
+    remap: Option<&str>,
+) -> Maps
+    ensures { result ≡ spec.trim_maps family inherits (option_copied scopes.entry) (option_copied remap.entry) }
+{
+    match scopes {
+        Some(scopes) if inherits && !is_cl(family) && remap.is_some() => scope_maps(scopes),
+        _ => NONE,
+    }
+}
+
+// The parts between colons.
+fn colon_parts(alloc: Global, remap: &str) -> Mem<Vec<&str>>
+    ensures { IfOk result (λ parts. texts parts.items ≡ spec.colon_parts remap.now) }
+{
+    let parts = remap.split(':').collect(alloc)?;
+    Ok(parts)
+}
+
+/// The pairs `FROM=TO` that Cargo trims paths by: the parts between colons, without empty ones.
+#[tactic(auto, unfolding(crate::specs::MapWords::trim_pairs))]
+pub fn trim_pairs(alloc: Global, remap: &str) -> Mem<Words>
+    ensures { IfOk result (λ pairs. pairs ≡ spec.trim_pairs remap.now) }
+{
+    let mut pairs = Words::new(alloc);
+    let parts = colon_parts(alloc, remap)?;
+    for pair in &parts {
+        if !pair.is_empty() {
+            pairs.push(pair)?;
+        }
+    }
+    Ok(pairs)
+}
+
+/// What Cargo wants mapped, by `CARGO_TRIM_PATHS_SCOPE` and `CARGO_TRIM_PATHS_REMAP`.
+pub fn cargo_maps(inherits: bool, env: &EnvSnapshot, family: ToolFamily) -> Maps
+    ensures { result ≡ spec.cargo_maps inherits env.now family }
+{
+    let scopes = env.get("CARGO_TRIM_PATHS_SCOPE");
+    trim_maps(family, inherits, scopes, env.get("CARGO_TRIM_PATHS_REMAP"))
+}
+
+/// What the settings want told as others: each path that is remapped, in macros and in debug information.
+#[tactic(auto, unfolding(crate::specs::MapWords::set_maps))]
+pub fn set_maps(family: ToolFamily, remaps: &Vars) -> Maps
+    ensures { result ≡ spec.set_maps family remaps.now }
+{
+    let wanted = !remaps.is_empty() && !is_cl(family);
+    Maps {
+        macros: wanted,
+        debug: wanted,
+    }
+}
+
+/// Adds the words by which a compiler is asked whether it maps what is wanted.
+#[tactic(auto, unfolding(crate::specs::MapWords::map_asks))]
+pub fn push_map_asks(words: &mut Words, alloc: Global, family: ToolFamily, maps: Maps) -> Mem<()>
+    ensures { OnOk result (words.new ≡ words.old ++ spec.map_asks family maps) }
+{
+    if maps.macros {
+        words.push_text(probe_of(macro_map(alloc, family)?)?)?;
+    }
+    if maps.debug {
+        words.push_text(probe_of(debug_map(alloc, family)?)?)?;
+    }
+    Ok(())
+}
+
+/// What is wanted, and stands among the supported words by which the compiler was asked.
+#[tactic(auto, unfolding(crate::specs::MapWords::taken_maps))]
+pub fn taken_maps(alloc: Global, family: ToolFamily, supported: &[Text], maps: Maps) -> Mem<Maps>
+    ensures { IfOk result (λ taken. taken ≡ spec.taken_maps family supported.now maps) }
+{
+    let macros = probe_of(macro_map(alloc, family)?)?;
+    let debug = probe_of(debug_map(alloc, family)?)?;
+    Ok(Maps {
+        macros: maps.macros && is_among(supported, macros.as_str()),
+        debug: maps.debug && is_among(supported, debug.as_str()),
+    })
+}
+
+/// The pairs `FROM=TO` of source paths that are to be told as others.
+pub fn remap_pairs(alloc: Global, remaps: &Vars) -> Mem<Words>
+    ensures { IfOk result (λ pairs. pairs ≡ map spec.remap_pair remaps.now) }
+{
+    let mut pairs = Words::new(alloc);
+    for entry in remaps.as_slice() {
+        pairs.push_text(map_of(Text::of(alloc, entry.0.as_str())?, entry.1.as_str())?)?;
+    }
+    Ok(pairs)
+}
+
+// Adds a warning where a flag is wanted, and isn't among the supported words.
+fn push_lack(
+    warnings: &mut Words,
+    alloc: Global,
+    path: &str,
+    supported: &[Text],
+    wanted: bool,
+    flag: Text,
+) -> Mem<()>
+    ensures { OnOk result (warnings.new ≡ warnings.old ++ spec.lack_of path.now supported.now wanted flag) }
+{
+    let probe = probe_of(flag.try_clone()?)?;
+    if wanted && !is_among(supported, probe.as_str()) {
+        let mut text = flag;
+        text.push_str(" is not supported by ")?;
+        text.push_str(quoted(alloc, path)?.as_str())?;
+        warnings.push_text(text)?;
+    }
+    Ok(())
+}
+
+/// Adds a warning of each flag that is wanted and isn't supported.
+#[tactic(auto, unfolding(crate::specs::MapWords::map_lacks))]
+pub fn push_map_lacks(
+    warnings: &mut Words,
+    alloc: Global,
+    path: &str,
+    family: ToolFamily,
+    supported: &[Text],
+    maps: Maps,
+) -> Mem<()>
+    ensures { OnOk result (warnings.new ≡ warnings.old ++ spec.map_lacks path.now family supported.now maps) }
+{
+    let macros = macro_map(alloc, family)?;
+    push_lack(warnings, alloc, path, supported, maps.macros, macros)?;
+    let debug = debug_map(alloc, family)?;
+    push_lack(warnings, alloc, path, supported, maps.debug, debug)?;
+    Ok(())
+}

@@ -1,6 +1,0 @@
-use Rattle.cc_words.specs.GnuWords.{bare_words}
-use Rattle.cc_words.proofs.gnu.push_bare_words.Goals as goal
-
-pub returns : goal.returns
-unfolding bare_words
-returns c = cc c.in_ok-push_chosen.ensures.ok
