@@ -1,5 +1,5 @@
 // The top call of the program.
-ghost use Rattle.std.specs.Prelude.{◌≡◌, ◌++◌, ℕ, [], true, map, string_bytes, IfOk, OnOk, OnErr};
+ghost use Rattle.std.specs.Prelude.{◌≡◌, ◌++◌, ℕ, [], true, false, map, string_bytes, IfOk, OnOk, OnErr};
 ghost use Rattle.std.specs.Fmt.{decimal};
 ghost use Rattle.cc_tool.specs.Asked.{question_events, Asked};
 ghost use Rattle.cc_host.specs.Part.{since};
@@ -122,6 +122,22 @@ fn is_wanting(kind: ErrorKind) -> bool
     matches!(kind, ErrorKind::NoMemory)
 }
 
+// Prints the line of an error, but for want of memory, which has none.
+#[tactic(auto, using(cc_host::proofs::Parts::since_append))]
+fn tell_error<W: World, H: Host<W>>(alloc: Global, host: &mut H, error: &Error) -> Mem<()>
+    ensures extends { H.log host.new ≡ H.log host.old ++ since (H.log host.old) (H.log host.new) }
+    ensures asks_none { question_events (since (H.log host.old) (H.log host.new)) ≡ [] }
+    ensures kind { OnOk result (is_wanting error.now.kind ≡ false) }
+    ensures told { OnOk result (Tells (line_of_error error.now) (since (H.log host.old) (H.log host.new))) }
+    ensures wanting { OnErr result (since (H.log host.old) (H.log host.new) ≡ []) }
+{
+    if is_wanting(error.kind()) {
+        return Err(NoMemory);
+    }
+    let line = error_line(alloc, error)?;
+    tell(host, &line)
+}
+
 // The end of a run that was refused.
 #[tactic(auto, using(cc_host::proofs::Parts::since_append))]
 fn refuse<W: World, H: Host<W>>(alloc: Global, host: &mut H, error: Error) -> Ended
@@ -129,19 +145,16 @@ fn refuse<W: World, H: Host<W>>(alloc: Global, host: &mut H, error: Error) -> En
     ensures asks_none { question_events (since (H.log host.old) (H.log host.new)) ≡ [] }
     ensures answer { AnswersError error (since (H.log host.old) (H.log host.new)) result }
 {
-    if is_wanting(error.kind()) {
-        return ended_wanting();
-    }
-    let Ok(line) = error_line(alloc, &error) else {
-        return ended_wanting();
-    };
-    match tell(host, &line) {
+    match tell_error(alloc, host, &error) {
         Ok(()) => Ended {
             status: 1,
             error: Some(error),
             word: None,
         },
-        Err(_) => ended_wanting(),
+        Err(_) => {
+            drop(error);
+            ended_wanting()
+        }
     }
 }
 

@@ -26,6 +26,22 @@ fn exists_question(alloc: Global, path: &str) -> Mem<Question>
 }
 
 impl BenchHost {
+    // Adds the event of an answer that a probe gave, and counts the call.
+    fn note_answer(&mut self, q: &Question, files: &ProbeFiles, answer: &Outcome) -> Mem<()>
+        ensures ok { OnOk result (self.new ≡ record self.old { log = self.old.log ++ Answered q.now (Some files.now) answer.now ∷ []; made = counted Probing self.old.made }) }
+        ensures err { OnErr result (self.new ≡ self.old) }
+    {
+        let question = q.try_clone()?;
+        let files = files.try_clone()?;
+        let outcome = answer.try_clone()?;
+        let event = Event::Answered {
+            question,
+            files: Some(files),
+            outcome,
+        };
+        self.add_call(HostCall::Probe, event)
+    }
+
     // Asks a question whose probe is not to fail.
     pub(crate) fn answer_probe(&mut self, q: &Question, files: &ProbeFiles) -> Mem<Outcome>
         ensures is { IfOk result (λ o. o ≡ outcome_of self.old.given q.now) }
@@ -34,12 +50,7 @@ impl BenchHost {
         ensures err { OnErr result (self.new ≡ self.old) }
     {
         let answer = self.given.outcome_of(q)?;
-        let event = Event::Answered {
-            question: q.try_clone()?,
-            files: Some(files.try_clone()?),
-            outcome: answer.try_clone()?,
-        };
-        self.add_call(HostCall::Probe, event)?;
+        self.note_answer(q, files, &answer)?;
         Ok(answer)
     }
 
