@@ -86,7 +86,6 @@ fn older_compiler<W: World, H: Host<W>>(
 }
 
 // The compiler of the development kit where it can be run, else an older one.
-#[tactic(auto, using(crate::proofs::AskingLemmas::only_then))]
 fn kit_or_older<W: World, H: Host<W>>(
     rt: &impl Wait,
     alloc: Global,

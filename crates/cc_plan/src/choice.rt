@@ -212,7 +212,6 @@ fn cross_prefix<W: World, H: Host<W>>(
 }
 
 // The compiler for another target than the host, where it has a prefix; else that of the system.
-#[tactic(auto, using(crate::proofs::AskingLemmas::only_then))]
 fn cross_compiler<W: World, H: Host<W>>(
     rt: &impl Wait,
     alloc: Global,
@@ -314,7 +313,6 @@ fn own_choice<W: World, H: Host<W>>(
 }
 
 // The compiler where the settings name none.
-#[tactic(auto, using(crate::proofs::AskingLemmas::only_then))]
 fn found_choice<W: World, H: Host<W>>(
     rt: &impl Wait,
     alloc: Global,

@@ -54,7 +54,6 @@ fn family_in<W: World, H: Host<W>>(
 }
 
 /// The compiler of these settings in this environment, with its family.
-#[tactic(auto, using(crate::proofs::AskingLemmas::only_then))]
 pub(crate) fn compiler_of<W: World, H: Host<W>>(
     rt: &impl Wait,
     alloc: Global,
