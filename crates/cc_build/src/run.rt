@@ -1,5 +1,5 @@
 // The stages of a run, asked of a host one after another up to the first that is refused.
-ghost use Rattle.std.specs.Prelude.{◌≡◌, ◌++◌, ◌+◌, ◌<◌, ◌≤◌, ◌^◌, ℕ, [], ◌∷◌, length, Option, None, IfOk};
+ghost use Rattle.std.specs.Prelude.{◌≡◌, ◌+◌, ◌<◌, ◌≤◌, ◌^◌, ℕ, [], ◌∷◌, length, Option, None, IfOk};
 ghost use Rattle.std.specs.List.{All};
 ghost use Rattle.cc_host.specs.Part.Step.{Makes, Removes, Prints, Lists};
 ghost use Rattle.cc_host.specs.declared.event.Event.TheVariants.{Listed};

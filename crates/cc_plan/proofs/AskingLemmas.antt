@@ -1,6 +1,5 @@
 -- Laws on calls that ask and do nothing else.
-use Rattle.std.proofs.Common.{◌≡◌, ◌++◌, ℕ, Bool, List, Option, refl, ◌∙◌}
-use Rattle.cc_host.specs.Question.{Answer}
+use Rattle.std.proofs.Common.{ℕ, Bool, List, Option, refl, ◌∙◌}
 use Rattle.cc_host.specs.declared.event.Event.{Event}
 use Rattle.cc_host.specs.declared.host.World.{Ghosts}
 use Rattle.cc_host.specs.declared.question.Outcome.{Outcome}

@@ -20,10 +20,10 @@ use crate::prefix::{is_cross, prefix_for};
 use crate::search::{path_folders, which};
 use crate::{BuildConfig, Sight};
 use cc_env::BuildEnv;
+use cc_flags::is_qnx;
 use cc_host::{Host, World};
 use cc_target::TargetInfo;
 use cc_text::{Mem, Text, Words, join};
-use cc_flags::is_qnx;
 use std::alloc::Global;
 use std::sync::Wait;
 

@@ -9,10 +9,10 @@ use crate::given::environment_flags;
 use crate::words::{is_link, is_link_flag};
 use crate::{BuildConfig, BuildFlag};
 use cc_env::BuildEnv;
+use cc_flags::is_visual_studio;
 use cc_host::World;
 use cc_text::{Mem, Text, ToolFamily, Words};
 use cc_tool::Caches;
-use cc_flags::is_visual_studio;
 use std::alloc::Global;
 use std::sync::Wait;
 

@@ -19,11 +19,11 @@ use crate::tool::{check_compiler, language_variable, words_by};
 use crate::words::{asked_words, is_link};
 use crate::{BuildConfig, BuildFlag, Choice, Flags, PlanError, Sight};
 use cc_env::BuildEnv;
+use cc_flags::{is_clang, is_visual_studio};
 use cc_host::{Ask, Host, Question, World};
 use cc_target::TargetInfo;
 use cc_text::{Mem, NoMemory, Text, ToolFamily, Vars, Words};
 use cc_tool::{Detected, ask_family, ask_flag};
-use cc_flags::{is_clang, is_visual_studio};
 use std::alloc::Global;
 use std::sync::Wait;
 

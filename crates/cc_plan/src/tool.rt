@@ -28,11 +28,11 @@ use crate::support::supported_words;
 use crate::words::{check_defaults, tool_warnings, tool_words};
 use crate::{BuildConfig, PlanError, Sight};
 use cc_env::BuildEnv;
+use cc_flags::{cargo_maps, is_cl, is_gnu, push_map_lacks, set_maps};
 use cc_host::{Host, World};
 use cc_target::TargetInfo;
 use cc_text::{Mem, Text, ToolFamily, Words, quoted};
 use cc_tool::{Caches, Detected, Tool};
-use cc_flags::{cargo_maps, is_cl, is_gnu, push_map_lacks, set_maps};
 use std::alloc::Global;
 use std::sync::Wait;
 

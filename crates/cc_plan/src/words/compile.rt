@@ -5,9 +5,9 @@ ghost use Rattle.cc_target.specs.Targets.{info_seen};
 ghost use Rattle.cc_plan.specs.CompileWords as spec;
 
 use crate::Object;
+use cc_flags::{is_cl, is_clang_cl, is_visual_studio, name_of};
 use cc_target::TargetInfo;
 use cc_text::{Mem, ToolFamily, Words, extension};
-use cc_flags::{is_cl, is_clang_cl, is_visual_studio, name_of};
 use std::alloc::Global;
 
 fn is_asm_extension(extension: &str) -> bool

@@ -5,8 +5,8 @@ ghost use Rattle.std.specs.Option.{option_copied};
 ghost use Rattle.cc_plan.specs.SettingWords as spec;
 
 use crate::{BuildFlag, Definition};
-use cc_text::{Mem, Text, ToolFamily, Words};
 use cc_flags::{is_among, is_gnu_like, is_visual_studio};
+use cc_text::{Mem, Text, ToolFamily, Words};
 use std::alloc::Global;
 
 fn standard_flag(family: ToolFamily) -> &'static str

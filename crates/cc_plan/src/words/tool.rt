@@ -15,8 +15,6 @@ use crate::words::settings::{
 };
 use crate::{BuildConfig, PlanError};
 use cc_env::EnvSnapshot;
-use cc_target::{TargetInfo, llvm_target};
-use cc_text::{Mem, Text, ToolFamily, Words};
 use cc_flags::{
     cargo_maps, has, is_among, is_gnu, is_gnu_like, is_told_target, is_visual_studio,
     is_wasm_linux, keeps_frame_pointers, lacks_qnx_variant, lent, push_bare_and_arm_words,
@@ -27,6 +25,8 @@ use cc_flags::{
     push_visual_studio_words, push_wasi_words, push_width_words, remap_pairs, set_maps, taken_maps,
     trim_pairs, value_or_empty,
 };
+use cc_target::{TargetInfo, llvm_target};
+use cc_text::{Mem, Text, ToolFamily, Words};
 use std::alloc::Global;
 
 // The level that is set, else Cargo's.

@@ -1,4 +1,4 @@
-use Rattle.std.proofs.Common.{◌≡◌, None, find, take}
+use Rattle.std.proofs.Common.{None, find, take}
 use Rattle.cc_host.specs.Question.{Settles}
 use Rattle.cc_plan.specs.Asking.{OnlyAsks}
 use Rattle.cc_plan.specs.Given.{probe_folder}

@@ -1,4 +1,4 @@
-use Rattle.std.proofs.Common.{◌≡◌, take}
+use Rattle.std.proofs.Common.{take}
 use Rattle.std.specs.List.{filter}
 use Rattle.cc_host.specs.Question.{Settles}
 use Rattle.cc_plan.specs.Asking.{OnlyAsks}
