@@ -1,4 +1,5 @@
 pub mod Bench
+pub mod Call
 pub mod Calls
 pub mod Children
 pub mod Command

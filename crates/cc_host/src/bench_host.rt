@@ -2,6 +2,7 @@
 ghost use Rattle.std.specs.Prelude.{◌≡◌, ◌≢◌, ◌≤◌, [], ◌∷◌, ◌++◌, true, false, drop, IfOk, OnOk, OnErr, IfErr, MatchResult};
 ghost use Rattle.std.specs.List.{flat_map, Contains};
 ghost use Rattle.std.specs.Result.{result_map_both};
+ghost use Rattle.cc_host.specs.Call.{Keeps};
 ghost use Rattle.cc_host.specs.Children.{running, IsFresh, IsNews, Waits};
 ghost use Rattle.cc_host.specs.declared.event.Event.TheVariants.{Abandoned, Dropped, Turn as OneTurn};
 ghost use Rattle.cc_host.specs.declared.event.HostCall.TheVariants.{Start as Starts, Turn as Turns, Output, MakeDir, CreateProbe, Remove as Removes, Print, Vars as ListsVars};
@@ -51,8 +52,7 @@ impl Host<Bench> for BenchHost {
     ) -> Result<Start, HostError>
         ensures adds { self.new.log ≡ self.old.log ++ started role cmd.now pipes held result }
         ensures fresh { IfOk result (IsFresh self.old.log) }
-        ensures later { self.old.faults ≤ self.new.faults }
-        ensures patient { patience_of self.new.scripts ≡ patience_of self.old.scripts }
+        ensures keeps { Keeps (λ h. h.faults) (λ h. patience_of h.scripts) self.old self.new }
         ensures cause { IfErr result (IsCaused Starts self.old.faults self.new.faults) }
         ensures answers { IsStart role cmd.now self.old self.new result }
         ensures plain { IsPlain self.old → IsPlain self.new × IsPlainStart result }
@@ -72,8 +72,7 @@ impl Host<Bench> for BenchHost {
     fn turn(&mut self, _rest_ms: u64) -> Result<Vec<News>, HostError>
         ensures adds { MatchResult result (λ news. self.new.log ≡ self.old.log ++ OneTurn 1 ∷ flat_map told news.items) (λ e. self.new.log ≡ self.old.log ++ refused e) }
         ensures news { IfOk result (λ news. IsNews self.old.log news.items) }
-        ensures later { self.old.faults ≤ self.new.faults }
-        ensures patient { patience_of self.new.scripts ≡ patience_of self.old.scripts }
+        ensures keeps { Keeps (λ h. h.faults) (λ h. patience_of h.scripts) self.old self.new }
         ensures waits { OnOk result (Waits (patience_of self.new.scripts) self.new.log) }
         ensures cause { IfErr result (IsCaused Turns self.old.faults self.new.faults) }
         ensures answers { IsTurn self.old self.new (result_map_both (λ news. news.items) (λ e. e) result) }
@@ -90,8 +89,8 @@ impl Host<Bench> for BenchHost {
     fn abandon(&mut self, id: u64)
         requires { Contains (running self.old.log) id }
         ensures adds { self.new.log ≡ self.old.log ++ Abandoned id ∷ [] }
-        ensures later { self.new.faults ≡ self.old.faults }
-        ensures patient { patience_of self.new.scripts ≡ patience_of self.old.scripts }
+        ensures faultless { self.new.faults ≡ self.old.faults }
+        ensures keeps { Keeps (λ h. h.faults) (λ h. patience_of h.scripts) self.old self.new }
         ensures after { self.new ≡ record self.old { log = self.new.log; kids = without_kid id self.old.kids } }
     {
         self.crew.abandon(id);
@@ -101,8 +100,7 @@ impl Host<Bench> for BenchHost {
         requires { q.now.ask ≢ AsksExists }
         ensures adds { (why : Why) × (self.new.log ≡ self.old.log ++ probed q.now files.now why result) }
         ensures steady { false ≡ true → IfOk result (λ outcome. outcome ≢ Unanswered → outcome ≡ default_outcome q.now.ask) }
-        ensures later { self.old.faults ≤ self.new.faults }
-        ensures patient { patience_of self.new.scripts ≡ patience_of self.old.scripts }
+        ensures keeps { Keeps (λ h. h.faults) (λ h. patience_of h.scripts) self.old self.new }
         ensures cause { IfOk result (λ outcome. outcome ≡ Unanswered → Rose self.old.faults self.new.faults) }
         ensures answers { Tells (probe_outcome self.old q.now) (probe_after self.old) self.old self.new result }
         ensures plain { IsPlain self.old → IsPlain self.new × IfOk result (λ outcome. outcome ≢ Unanswered) }
@@ -118,8 +116,7 @@ impl Host<Bench> for BenchHost {
 
     fn reused(&mut self, q: &Question, verdict: &Verdict) -> Mem<()>
         ensures adds { self.new.log ≡ self.old.log ++ reused q.now verdict.now result }
-        ensures later { self.old.faults ≤ self.new.faults }
-        ensures patient { patience_of self.new.scripts ≡ patience_of self.old.scripts }
+        ensures keeps { Keeps (λ h. h.faults) (λ h. patience_of h.scripts) self.old self.new }
         ensures answers { Tells tt self.old self.old self.new result }
     {
         let question = q.try_clone()?;
@@ -130,8 +127,7 @@ impl Host<Bench> for BenchHost {
 
     fn unasked(&mut self, q: &Question) -> Mem<()>
         ensures adds { self.new.log ≡ self.old.log ++ unasked q.now result }
-        ensures later { self.old.faults ≤ self.new.faults }
-        ensures patient { patience_of self.new.scripts ≡ patience_of self.old.scripts }
+        ensures keeps { Keeps (λ h. h.faults) (λ h. patience_of h.scripts) self.old self.new }
         ensures answers { Tells tt self.old self.old self.new result }
     {
         let question = q.try_clone()?;
@@ -141,8 +137,7 @@ impl Host<Bench> for BenchHost {
 
     fn exists(&mut self, path: &str) -> Mem<bool>
         ensures adds { self.new.log ≡ self.old.log ++ found path.now result }
-        ensures later { self.old.faults ≤ self.new.faults }
-        ensures patient { patience_of self.new.scripts ≡ patience_of self.old.scripts }
+        ensures keeps { Keeps (λ h. h.faults) (λ h. patience_of h.scripts) self.old self.new }
         ensures answers { Tells (has_file path.now self.old) self.old self.old self.new result }
     {
         let there = self.tell_file(path)?;
@@ -151,8 +146,7 @@ impl Host<Bench> for BenchHost {
 
     fn create_probe(&mut self, path: &str, contents: &[u8]) -> Result<Created, HostError>
         ensures adds { self.new.log ≡ self.old.log ++ created path.now contents.now result }
-        ensures later { self.old.faults ≤ self.new.faults }
-        ensures patient { patience_of self.new.scripts ≡ patience_of self.old.scripts }
+        ensures keeps { Keeps (λ h. h.faults) (λ h. patience_of h.scripts) self.old self.new }
         ensures cause { IfErr result (IsCaused CreateProbe self.old.faults self.new.faults) }
         ensures answers { Answers CreateProbe (created_at (has_file path.now self.old)) (record self.old { files = files_with path.now self.old }) self.old self.new result }
         ensures plain { IsPlain self.old → IsPlain self.new × Gives (created_at (has_file path.now self.old)) result }
@@ -172,8 +166,7 @@ impl Host<Bench> for BenchHost {
     fn drop_probe(&mut self, path: &str)
         requires { IsOpen path.now self.old.log }
         ensures adds { self.new.log ≡ self.old.log ++ Dropped path.now ∷ [] }
-        ensures later { self.old.faults ≤ self.new.faults }
-        ensures patient { patience_of self.new.scripts ≡ patience_of self.old.scripts }
+        ensures keeps { Keeps (λ h. h.faults) (λ h. patience_of h.scripts) self.old self.new }
         ensures after { self.new ≡ record self.old { log = self.new.log; files = without_file path.now self.old.files } }
     {
         self.crew.note_dropped(path);
@@ -182,8 +175,7 @@ impl Host<Bench> for BenchHost {
 
     fn random(&mut self) -> Mem<u64>
         ensures adds { self.new.log ≡ self.old.log ++ drawn result }
-        ensures later { self.old.faults ≤ self.new.faults }
-        ensures patient { patience_of self.new.scripts ≡ patience_of self.old.scripts }
+        ensures keeps { Keeps (λ h. h.faults) (λ h. patience_of h.scripts) self.old self.new }
         ensures answers { Tells (next_word self.old.words) (record self.old { words = drop 1 self.old.words }) self.old self.new result }
     {
         self.crew.reserve(1)?;
@@ -195,8 +187,7 @@ impl Host<Bench> for BenchHost {
     fn output(&mut self, role: Role, cmd: &Command, pipes: Pipes) -> Result<Ran, HostError>
         ensures adds { self.new.log ≡ self.old.log ++ ran role cmd.now pipes result }
         ensures silent { IfOk result (IsSilent pipes) }
-        ensures later { self.old.faults ≤ self.new.faults }
-        ensures patient { patience_of self.new.scripts ≡ patience_of self.old.scripts }
+        ensures keeps { Keeps (λ h. h.faults) (λ h. patience_of h.scripts) self.old self.new }
         ensures cause { IfErr result (IsCaused Output self.old.faults self.new.faults) }
         ensures answers { Answers Output (answer_to self.old role cmd.now pipes) self.old self.old self.new result }
         ensures plain { IsPlain self.old → IsPlain self.new × Gives plain_end result }
@@ -215,8 +206,7 @@ impl Host<Bench> for BenchHost {
 
     fn make_dir(&mut self, scope: Scope, path: &str) -> Result<(), HostError>
         ensures adds { self.new.log ≡ self.old.log ++ made scope path.now result }
-        ensures later { self.old.faults ≤ self.new.faults }
-        ensures patient { patience_of self.new.scripts ≡ patience_of self.old.scripts }
+        ensures keeps { Keeps (λ h. h.faults) (λ h. patience_of h.scripts) self.old self.new }
         ensures cause { IfErr result (IsCaused (MakeDir scope) self.old.faults self.new.faults) }
         ensures answers { Answers (MakeDir scope) tt self.old self.old self.new result }
         ensures plain { IsPlain self.old → IsPlain self.new × Gives tt result }
@@ -231,8 +221,7 @@ impl Host<Bench> for BenchHost {
 
     fn remove_file(&mut self, path: &str) -> Result<Removal, HostError>
         ensures adds { self.new.log ≡ self.old.log ++ removed path.now result }
-        ensures later { self.old.faults ≤ self.new.faults }
-        ensures patient { patience_of self.new.scripts ≡ patience_of self.old.scripts }
+        ensures keeps { Keeps (λ h. h.faults) (λ h. patience_of h.scripts) self.old self.new }
         ensures cause { IfErr result (IsCaused Removes self.old.faults self.new.faults) }
         ensures answers { Answers Removes (removed_at (has_file path.now self.old)) (record self.old { files = without_file path.now self.old.files }) self.old self.new result }
         ensures plain { IsPlain self.old → IsPlain self.new × Gives (removed_at (has_file path.now self.old)) result }
@@ -249,8 +238,7 @@ impl Host<Bench> for BenchHost {
 
     fn print(&mut self, kind: LineKind, bytes: &[u8]) -> Result<(), HostError>
         ensures adds { self.new.log ≡ self.old.log ++ printed kind bytes.now result }
-        ensures later { self.old.faults ≤ self.new.faults }
-        ensures patient { patience_of self.new.scripts ≡ patience_of self.old.scripts }
+        ensures keeps { Keeps (λ h. h.faults) (λ h. patience_of h.scripts) self.old self.new }
         ensures cause { IfErr result (IsCaused Print self.old.faults self.new.faults) }
         ensures answers { Answers Print tt self.old self.old self.new result }
         ensures plain { IsPlain self.old → IsPlain self.new × Gives tt result }
@@ -265,8 +253,7 @@ impl Host<Bench> for BenchHost {
 
     fn vars(&mut self) -> Result<Vars, HostError>
         ensures adds { self.new.log ≡ self.old.log ++ listed result }
-        ensures later { self.old.faults ≤ self.new.faults }
-        ensures patient { patience_of self.new.scripts ≡ patience_of self.old.scripts }
+        ensures keeps { Keeps (λ h. h.faults) (λ h. patience_of h.scripts) self.old self.new }
         ensures cause { IfErr result (IsCaused ListsVars self.old.faults self.new.faults) }
         ensures answers { Answers ListsVars self.old.vars self.old self.old self.new result }
         ensures plain { IsPlain self.old → IsPlain self.new × Gives self.old.vars result }

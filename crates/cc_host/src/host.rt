@@ -1,6 +1,7 @@
 // A host: what runs commands, keeps files and prints. Each call appends to the host's log what it did.
 ghost use Rattle.std.specs.Prelude.{◌≡◌, ◌≢◌, ◌≤◌, ◌∷◌, [], ◌++◌, List, ℕ, Option, true, IfOk, OnOk, IfErr, IfSome, MatchResult};
 ghost use Rattle.std.specs.List.{flat_map, Contains};
+ghost use Rattle.cc_host.specs.Call.{Keeps};
 ghost use Rattle.cc_host.specs.Children.{running, IsFresh, IsNews, Waits};
 ghost use Rattle.cc_host.specs.declared.event.Event.{Event};
 ghost use Rattle.cc_host.specs.declared.event.Event.TheVariants.{Abandoned, Dropped, Turn as OneTurn};
@@ -53,16 +54,14 @@ pub trait Host<W: World> {
     ) -> Result<Start, HostError>
         ensures adds { log self.new ≡ log self.old ++ started role cmd.now pipes held result }
         ensures fresh { IfOk result (IsFresh (log self.old)) }
-        ensures later { faults self.old ≤ faults self.new }
-        ensures patient { patience self.new ≡ patience self.old }
+        ensures keeps { Keeps faults patience self.old self.new }
         ensures cause { IfErr result (IsCaused Starts (faults self.old) (faults self.new)) };
 
     /// Polls every child that runs once, in start order, after a rest of at most so many milliseconds.
     fn turn(&mut self, rest_ms: u64) -> Result<Vec<News>, HostError>
         ensures adds { MatchResult result (λ news. log self.new ≡ log self.old ++ OneTurn 1 ∷ flat_map told news.items) (λ e. log self.new ≡ log self.old ++ refused e) }
         ensures news { IfOk result (λ news. IsNews (log self.old) news.items) }
-        ensures later { faults self.old ≤ faults self.new }
-        ensures patient { patience self.new ≡ patience self.old }
+        ensures keeps { Keeps faults patience self.old self.new }
         ensures waits { OnOk result (Waits (patience self.new) (log self.new)) }
         ensures cause { IfErr result (IsCaused Turns (faults self.old) (faults self.new)) };
 
@@ -70,90 +69,78 @@ pub trait Host<W: World> {
     fn abandon(&mut self, id: u64)
         requires { Contains (running (log self.old)) id }
         ensures adds { log self.new ≡ log self.old ++ Abandoned id ∷ [] }
-        ensures later { faults self.new ≡ faults self.old }
-        ensures patient { patience self.new ≡ patience self.old };
+        ensures faultless { faults self.new ≡ faults self.old }
+        ensures keeps { Keeps faults patience self.old self.new };
 
     /// Asks a question by its command. One that couldn't be run for another cause than absence is unanswered.
     fn probe(&mut self, q: &Question, files: &ProbeFiles) -> Mem<Outcome>
         requires { q.now.ask ≢ AsksExists }
         ensures adds { (why : Why) × (log self.new ≡ log self.old ++ probed q.now files.now why result) }
         ensures steady { W.steady ≡ true → IfOk result (λ outcome. outcome ≢ Unanswered → outcome ≡ W.answer q.now) }
-        ensures later { faults self.old ≤ faults self.new }
-        ensures patient { patience self.new ≡ patience self.old }
+        ensures keeps { Keeps faults patience self.old self.new }
         ensures cause { IfOk result (λ outcome. outcome ≡ Unanswered → Rose (faults self.old) (faults self.new)) };
 
     /// Notes that a question has a verdict from earlier.
     fn reused(&mut self, q: &Question, verdict: &Verdict) -> Mem<()>
         ensures adds { log self.new ≡ log self.old ++ reused q.now verdict.now result }
-        ensures later { faults self.old ≤ faults self.new }
-        ensures patient { patience self.new ≡ patience self.old };
+        ensures keeps { Keeps faults patience self.old self.new };
 
     /// Notes that a question couldn't be asked.
     fn unasked(&mut self, q: &Question) -> Mem<()>
         ensures adds { log self.new ≡ log self.old ++ unasked q.now result }
-        ensures later { faults self.old ≤ faults self.new }
-        ensures patient { patience self.new ≡ patience self.old };
+        ensures keeps { Keeps faults patience self.old self.new };
 
     /// Whether a file of this path is there. What can't be told is not.
     fn exists(&mut self, path: &str) -> Mem<bool>
         ensures adds { log self.new ≡ log self.old ++ found path.now result }
-        ensures later { faults self.old ≤ faults self.new }
-        ensures patient { patience self.new ≡ patience self.old };
+        ensures keeps { Keeps faults patience self.old self.new };
 
     /// Makes a probe file where none of that name stands, in one step.
     fn create_probe(&mut self, path: &str, contents: &[u8]) -> Result<Created, HostError>
         ensures adds { log self.new ≡ log self.old ++ created path.now contents.now result }
-        ensures later { faults self.old ≤ faults self.new }
-        ensures patient { patience self.new ≡ patience self.old }
+        ensures keeps { Keeps faults patience self.old self.new }
         ensures cause { IfErr result (IsCaused CreateProbe (faults self.old) (faults self.new)) };
 
     /// Drops a probe file that was made and not yet dropped. It takes no memory and ignores its own failure.
     fn drop_probe(&mut self, path: &str)
         requires { IsOpen path.now (log self.old) }
         ensures adds { log self.new ≡ log self.old ++ Dropped path.now ∷ [] }
-        ensures later { faults self.old ≤ faults self.new }
-        ensures patient { patience self.new ≡ patience self.old };
+        ensures keeps { Keeps faults patience self.old self.new };
 
     /// Draws a word at random.
     fn random(&mut self) -> Mem<u64>
         ensures adds { log self.new ≡ log self.old ++ drawn result }
-        ensures later { faults self.old ≤ faults self.new }
-        ensures patient { patience self.new ≡ patience self.old };
+        ensures keeps { Keeps faults patience self.old self.new };
 
     /// Runs a command to its end.
     fn output(&mut self, role: Role, cmd: &Command, pipes: Pipes) -> Result<Ran, HostError>
         ensures adds { log self.new ≡ log self.old ++ ran role cmd.now pipes result }
         ensures silent { IfOk result (IsSilent pipes) }
-        ensures later { faults self.old ≤ faults self.new }
-        ensures patient { patience self.new ≡ patience self.old }
+        ensures keeps { Keeps faults patience self.old self.new }
         ensures cause { IfErr result (IsCaused Output (faults self.old) (faults self.new)) };
 
     /// Makes a folder and those above it. One that is there already is made too.
     fn make_dir(&mut self, scope: Scope, path: &str) -> Result<(), HostError>
         ensures adds { log self.new ≡ log self.old ++ made scope path.now result }
-        ensures later { faults self.old ≤ faults self.new }
-        ensures patient { patience self.new ≡ patience self.old }
+        ensures keeps { Keeps faults patience self.old self.new }
         ensures cause { IfErr result (IsCaused (MakeDir scope) (faults self.old) (faults self.new)) };
 
     /// Removes a file. One that isn't there is absent, which is no fault.
     fn remove_file(&mut self, path: &str) -> Result<Removal, HostError>
         ensures adds { log self.new ≡ log self.old ++ removed path.now result }
-        ensures later { faults self.old ≤ faults self.new }
-        ensures patient { patience self.new ≡ patience self.old }
+        ensures keeps { Keeps faults patience self.old self.new }
         ensures cause { IfErr result (IsCaused Remove (faults self.old) (faults self.new)) };
 
     /// Prints bytes: a line with its line feed.
     fn print(&mut self, kind: LineKind, bytes: &[u8]) -> Result<(), HostError>
         ensures adds { log self.new ≡ log self.old ++ printed kind bytes.now result }
-        ensures later { faults self.old ≤ faults self.new }
-        ensures patient { patience self.new ≡ patience self.old }
+        ensures keeps { Keeps faults patience self.old self.new }
         ensures cause { IfErr result (IsCaused Print (faults self.old) (faults self.new)) };
 
     /// Lists the variables of the host's own environment.
     fn vars(&mut self) -> Result<Vars, HostError>
         ensures adds { log self.new ≡ log self.old ++ listed result }
-        ensures later { faults self.old ≤ faults self.new }
-        ensures patient { patience self.new ≡ patience self.old }
+        ensures keeps { Keeps faults patience self.old self.new }
         ensures cause { IfErr result (IsCaused ListsVars (faults self.old) (faults self.new)) };
 
     /// The events so far, oldest first, lent. Turns one after another stand as one event with their sum. No probe file was dropped more
