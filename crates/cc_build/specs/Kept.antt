@@ -1,14 +1,10 @@
 -- What a call that asks nothing leaves as it was.
 use Rattle.std.specs.Prelude.{ℕ, ◌≡◌, List, [], ◌++◌, Option}
-use Rattle.cc_host.specs.Part.{since}
+use Rattle.cc_host.specs.Call.{part}
 use Rattle.cc_host.specs.declared.event.Event.{Event}
 use Rattle.cc_run.specs.declared.planned.Turns.{Turns}
 use Rattle.cc_tool.specs.Asked.{question_events}
 use Rattle.cc_build.specs.Went.{Means, means}
-
--- what a call appended to the log of its host
-abbrev pub part : {X : Type 0} → (X → List Event) → X → X → List Event
-part log old new = since (log old) (log new)
 
 -- the log only grew, by no question, and the patience of the host is the same
 pub record Aside {X : Type 0} (log : X → List Event) (patience : X → Option ℕ) (old new : X) : Type 0 where

@@ -1,8 +1,8 @@
 // A build: its settings and its environment, and the compile run.
 ghost use Rattle.std.specs.Prelude.{◌≡◌, ◌++◌, ℕ, Bool, [], ◌∷◌, None, IfOk, IfErr, OnOk, OnErr, ◌⊎◌, Some, unwrap_or};
 ghost use Rattle.cc_env.specs.Snapshot.{snapshot_of};
-ghost use Rattle.cc_host.specs.Part.{since};
-ghost use Rattle.cc_host.specs.Question.{answers, is_yes, Holds};
+ghost use Rattle.cc_host.specs.Call.{part, ByAnswers};
+ghost use Rattle.cc_host.specs.Question.{answers, is_yes};
 ghost use Rattle.cc_host.specs.Part.Step.{Lists};
 ghost use Rattle.cc_plan.specs.FlagSupport.{flag_verdict};
 ghost use Rattle.cc_plan.specs.Given.{variable_flags};
@@ -120,12 +120,12 @@ impl<W: World> Build<W> {
 
     /// Takes the variables of the host as the environment that the build inherits. Refused, the build stays as it was.
     pub fn capture<H: Host<W>>(&mut self, host: &mut H) -> Result<(), Error>
-        ensures extends { H.log host.new ≡ H.log host.old ++ since (H.log host.old) (H.log host.new) }
-        ensures asks_none { question_events (since (H.log host.old) (H.log host.new)) ≡ [] }
-        ensures captured { OnOk result (Captures self.old self.new (since (H.log host.old) (H.log host.new))) }
+        ensures extends { H.log host.new ≡ H.log host.old ++ part H.log host.old host.new }
+        ensures asks_none { question_events (part H.log host.old host.new) ≡ [] }
+        ensures captured { OnOk result (Captures self.old self.new (part H.log host.old host.new)) }
         ensures err { OnErr result (self.new ≡ self.old) }
         ensures patient { H.patience host.new ≡ H.patience host.old }
-        ensures outcome { (t : Terms) (x : Means) → Ends t None (calls (Lists ∷ [])) (since (H.log host.old) (H.log host.new)) result x x }
+        ensures outcome { (t : Terms) (x : Means) → Ends t None (calls (Lists ∷ [])) (part H.log host.old host.new) result x x }
     {
         let vars = list_vars(self.alloc, host)?;
         self.set_envs_snapshot(&vars)
@@ -164,10 +164,10 @@ impl<W: World> Build<W> {
         host: &mut H,
         flag: &str,
     ) -> Result<bool, Error>
-        ensures extends { H.log host.new ≡ H.log host.old ++ since (H.log host.old) (H.log host.new) }
-        ensures asked { Asked W.steady W.answer (probe_folder self.now.config self.now.env) (since (H.log host.old) (H.log host.new)) }
-        ensures supported { IfOk result (λ b. Holds (answers (since (H.log host.old) (H.log host.new))) (λ look. b ≡ is_yes (flag_verdict self.now.config self.now.env flag.now look))) }
-        ensures outcome { Holds (answers (since (H.log host.old) (H.log host.new))) (λ look. Outcome (support_error self.now.config self.now.env flag.now look) (support_steps self.now.config self.now.env look) (since (H.log host.old) (H.log host.new)) result) }
+        ensures extends { H.log host.new ≡ H.log host.old ++ part H.log host.old host.new }
+        ensures asked { Asked W.steady W.answer (probe_folder self.now.config self.now.env) (part H.log host.old host.new) }
+        ensures supported { IfOk result (λ b. ByAnswers H.log host.old host.new (λ look. b ≡ is_yes (flag_verdict self.now.config self.now.env flag.now look))) }
+        ensures outcome { ByAnswers H.log host.old host.new (λ look. Outcome (support_error self.now.config self.now.env flag.now look) (support_steps self.now.config self.now.env look) (part H.log host.old host.new) result) }
     {
         is_flag_supported(
             rt,
@@ -186,10 +186,10 @@ impl<W: World> Build<W> {
     /// Refused where the optimisation level, the target or the host is set nowhere, the target isn't known, a word of the target is refused,
     /// or a warning couldn't be printed.
     pub fn try_get_compiler<H: Host<W>>(&self, rt: &impl Wait, host: &mut H) -> Result<Tool, Error>
-        ensures extends { H.log host.new ≡ H.log host.old ++ since (H.log host.old) (H.log host.new) }
-        ensures asked { Asked W.steady W.answer (probe_folder self.now.config self.now.env) (since (H.log host.old) (H.log host.new)) }
-        ensures tool { IfOk result (λ tool. Holds (answers (since (H.log host.old) (H.log host.new))) (λ look. tool ≡ tool_of self.now.config self.now.env look)) }
-        ensures outcome { Holds (answers (since (H.log host.old) (H.log host.new))) (λ look. (told : Bool) × Outcome (tool_error self.now.config self.now.env look) (tool_steps self.now.config self.now.env told look) (since (H.log host.old) (H.log host.new)) result) }
+        ensures extends { H.log host.new ≡ H.log host.old ++ part H.log host.old host.new }
+        ensures asked { Asked W.steady W.answer (probe_folder self.now.config self.now.env) (part H.log host.old host.new) }
+        ensures tool { IfOk result (λ tool. ByAnswers H.log host.old host.new (λ look. tool ≡ tool_of self.now.config self.now.env look)) }
+        ensures outcome { ByAnswers H.log host.old host.new (λ look. (told : Bool) × Outcome (tool_error self.now.config self.now.env look) (tool_steps self.now.config self.now.env told look) (part H.log host.old host.new) result) }
     {
         compiler(rt, self.alloc, host, &self.caches, &self.config, &self.env)
     }
@@ -217,11 +217,11 @@ impl<W: World> Build<W> {
         ensures empty { J.held seat.new ≡ 0 }
         ensures total { J.total seat.new ≡ J.total seat.old }
         ensures patient { H.patience host.new ≡ H.patience host.old }
-        ensures extends { H.log host.new ≡ H.log host.old ++ since (H.log host.old) (H.log host.new) }
-        ensures asked { Asked W.steady W.answer (probe_folder self.now.config self.now.env) (since (H.log host.old) (H.log host.new)) }
-        ensures built { OnOk result (Holds (answers (since (H.log host.old) (H.log host.new))) (λ look. Built (terms (shows_of self.now.config self.now.env) (J.total seat.old) (H.patience host.old)) self.now.config self.now.env look output.now (since (H.log host.old) (H.log host.new)))) }
-        ensures order { Holds (answers (since (H.log host.old) (H.log host.new))) (λ look. ArchivesLast (terms (shows_of self.now.config self.now.env) (J.total seat.old) (H.patience host.old)) self.now.config self.now.env look (since (H.log host.old) (H.log host.new))) }
-        ensures outcome { Holds (answers (since (H.log host.old) (H.log host.new))) (λ look. (told : Bool) × (left : ℕ) × Ends (terms (shows_of self.now.config self.now.env) (J.total seat.old) (H.patience host.old)) (refusal_error self.now.config self.now.env look output.now) (planned_stages self.now.config self.now.env told look output.now) (since (H.log host.old) (H.log host.new)) result (means turns (J.faults seat.old) (J.taken seat.old) (J.load seat.old)) (means left (J.faults seat.new) (J.taken seat.new) (J.load seat.new))) }
+        ensures extends { H.log host.new ≡ H.log host.old ++ part H.log host.old host.new }
+        ensures asked { Asked W.steady W.answer (probe_folder self.now.config self.now.env) (part H.log host.old host.new) }
+        ensures built { OnOk result (ByAnswers H.log host.old host.new (λ look. Built (terms (shows_of self.now.config self.now.env) (J.total seat.old) (H.patience host.old)) self.now.config self.now.env look output.now (part H.log host.old host.new))) }
+        ensures order { ByAnswers H.log host.old host.new (λ look. ArchivesLast (terms (shows_of self.now.config self.now.env) (J.total seat.old) (H.patience host.old)) self.now.config self.now.env look (part H.log host.old host.new)) }
+        ensures outcome { ByAnswers H.log host.old host.new (λ look. (told : Bool) × (left : ℕ) × Ends (terms (shows_of self.now.config self.now.env) (J.total seat.old) (H.patience host.old)) (refusal_error self.now.config self.now.env look output.now) (planned_stages self.now.config self.now.env told look output.now) (part H.log host.old host.new) result (means turns (J.faults seat.old) (J.taken seat.old) (J.load seat.old)) (means left (J.faults seat.new) (J.taken seat.new) (J.load seat.new))) }
     {
         let mut turns = Turns {
             left: turns,

@@ -1,7 +1,7 @@
 // The compiler of a build.
 ghost use Rattle.std.specs.Prelude.{◌≡◌, ◌++◌, Bool, IfOk};
-ghost use Rattle.cc_host.specs.Part.{since};
-ghost use Rattle.cc_host.specs.Question.{answers, Holds};
+ghost use Rattle.cc_host.specs.Call.{part, ByAnswers};
+ghost use Rattle.cc_host.specs.Question.{answers};
 ghost use Rattle.cc_plan.specs.Given.{probe_folder};
 ghost use Rattle.cc_plan.specs.Planned.{tool_of};
 ghost use Rattle.cc_build.specs.Compiler.{tool_error, tool_steps};
@@ -28,10 +28,10 @@ pub(crate) fn compiler<W: World, H: Host<W>>(
     set: &BuildConfig,
     env: &BuildEnv,
 ) -> Result<Tool, Error>
-    ensures extends { H.log host.new ≡ H.log host.old ++ since (H.log host.old) (H.log host.new) }
-    ensures asked { Asked W.steady W.answer (probe_folder set.now env.now) (since (H.log host.old) (H.log host.new)) }
-    ensures tool { IfOk result (λ tool. Holds (answers (since (H.log host.old) (H.log host.new))) (λ look. tool ≡ tool_of set.now env.now look)) }
-    ensures outcome { Holds (answers (since (H.log host.old) (H.log host.new))) (λ look. (told : Bool) × Outcome (tool_error set.now env.now look) (tool_steps set.now env.now told look) (since (H.log host.old) (H.log host.new)) result) }
+    ensures extends { H.log host.new ≡ H.log host.old ++ part H.log host.old host.new }
+    ensures asked { Asked W.steady W.answer (probe_folder set.now env.now) (part H.log host.old host.new) }
+    ensures tool { IfOk result (λ tool. ByAnswers H.log host.old host.new (λ look. tool ≡ tool_of set.now env.now look)) }
+    ensures outcome { ByAnswers H.log host.old host.new (λ look. (told : Bool) × Outcome (tool_error set.now env.now look) (tool_steps set.now env.now told look) (part H.log host.old host.new) result) }
 {
     let mut answers = Answers::new(alloc);
     let mut sight = Sight {

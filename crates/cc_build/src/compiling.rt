@@ -2,7 +2,8 @@
 ghost use Rattle.std.specs.Prelude.{◌≡◌, ◌⊎◌, ◌+◌, ◌<◌, ◌^◌, Bool, true, ◌++◌, Option, None, Some, IfOk, IfErr};
 ghost use Rattle.std.specs.List.{list_all};
 ghost use Rattle.std.specs.Option.{option_map};
-ghost use Rattle.cc_host.specs.Question.{answers, Holds};
+ghost use Rattle.cc_host.specs.Call.{part, ByAnswers};
+ghost use Rattle.cc_host.specs.Question.{answers};
 ghost use Rattle.cc_plan.specs.Names.{library_name};
 ghost use Rattle.cc_plan.specs.Plan.{objects_of, library_of, folder_steps};
 ghost use Rattle.cc_plan.specs.Refusal.{late_refusal};
@@ -10,7 +11,7 @@ ghost use Rattle.cc_plan.specs.Given.{probe_folder};
 ghost use Rattle.cc_tool.specs.Asked.{Asked};
 ghost use Rattle.cc_tool.specs.Probing.{is_asked};
 ghost use Rattle.cc_build.specs.Error.{no_memory};
-ghost use Rattle.cc_build.specs.Kept.{part, left_at, Aside, Idle};
+ghost use Rattle.cc_build.specs.Kept.{left_at, Aside, Idle};
 ghost use Rattle.cc_build.specs.Questions.{Plans};
 ghost use Rattle.cc_build.specs.Refusal.{late_error, refusal_error, plan_error};
 ghost use Rattle.cc_build.specs.Shows.{shows_of};
@@ -51,8 +52,8 @@ fn plan_run<W: World, H: Host<W>>(
     ensures patient { H.patience host.new ≡ H.patience host.old }
     ensures quiet { list_all is_asked (part H.log host.old host.new) ≡ true }
     ensures asked { Asked W.steady W.answer (probe_folder set.now env.now) (part H.log host.old host.new) }
-    ensures planned { IfOk result (λ plan. Holds (answers (part H.log host.old host.new)) (λ look. Plans set.now env.now look output.now plan)) }
-    ensures refused { IfErr result (λ e. Holds (answers (part H.log host.old host.new)) (λ look. (e ≡ no_memory) ⊎ (option_map (plan_error set.now env.now output.now) (late_refusal set.now env.now look) ≡ Some e))) }
+    ensures planned { IfOk result (λ plan. ByAnswers H.log host.old host.new (λ look. Plans set.now env.now look output.now plan)) }
+    ensures refused { IfErr result (λ e. ByAnswers H.log host.old host.new (λ look. (e ≡ no_memory) ⊎ (option_map (plan_error set.now env.now output.now) (late_refusal set.now env.now look) ≡ Some e))) }
 {
     let mut answers = Answers::new(alloc);
     let mut sight = Sight {
@@ -92,7 +93,7 @@ fn compile_sources<W: World, H: Host<W>, J: Jobs>(
     ensures sum { turns.new.left + turns.new.used ≡ turns.old.left + turns.old.used }
     ensures extends { H.log host.new ≡ H.log host.old ++ part H.log host.old host.new }
     ensures asked { Asked W.steady W.answer (probe_folder set.now env.now) (part H.log host.old host.new) }
-    ensures outcome { Holds (answers (part H.log host.old host.new)) (λ look. (told : Bool) × Ends (terms (shows_of set.now env.now) (J.total seat.old) (H.patience host.old)) (late_error set.now env.now look output.now) (late_stages set.now env.now told look output.now) (part H.log host.old host.new) result (left_at J.faults J.taken J.load turns.old seat.old) (left_at J.faults J.taken J.load turns.new seat.new)) }
+    ensures outcome { ByAnswers H.log host.old host.new (λ look. (told : Bool) × Ends (terms (shows_of set.now env.now) (J.total seat.old) (H.patience host.old)) (late_error set.now env.now look output.now) (late_stages set.now env.now told look output.now) (part H.log host.old host.new) result (left_at J.faults J.taken J.load turns.old seat.old) (left_at J.faults J.taken J.load turns.new seat.new)) }
 {
     if is_disabled(env) {
         return Err(or_no_memory(disabled(alloc)));
@@ -147,7 +148,7 @@ pub(crate) fn compile<W: World, H: Host<W>, J: Jobs>(
     ensures sum { turns.new.left + turns.new.used ≡ turns.old.left + turns.old.used }
     ensures extends { H.log host.new ≡ H.log host.old ++ part H.log host.old host.new }
     ensures asked { Asked W.steady W.answer (probe_folder set.now env.now) (part H.log host.old host.new) }
-    ensures outcome { Holds (answers (part H.log host.old host.new)) (λ look. (told : Bool) × Ends (terms (shows_of set.now env.now) (J.total seat.old) (H.patience host.old)) (refusal_error set.now env.now look output.now) (planned_stages set.now env.now told look output.now) (part H.log host.old host.new) result (left_at J.faults J.taken J.load turns.old seat.old) (left_at J.faults J.taken J.load turns.new seat.new)) }
+    ensures outcome { ByAnswers H.log host.old host.new (λ look. (told : Bool) × Ends (terms (shows_of set.now env.now) (J.total seat.old) (H.patience host.old)) (refusal_error set.now env.now look output.now) (planned_stages set.now env.now told look output.now) (part H.log host.old host.new) result (left_at J.faults J.taken J.load turns.old seat.old) (left_at J.faults J.taken J.load turns.new seat.new)) }
 {
     let sources = match plan_sources(alloc, set, env, output) {
         Ok(sources) => sources,

@@ -1,13 +1,14 @@
 // The stages of a run, asked of a host one after another up to the first that is refused.
 ghost use Rattle.std.specs.Prelude.{◌≡◌, ◌+◌, ◌<◌, ◌≤◌, ◌^◌, ℕ, [], ◌∷◌, length, Option, None, IfOk};
 ghost use Rattle.std.specs.List.{All};
+ghost use Rattle.cc_host.specs.Call.{part};
 ghost use Rattle.cc_host.specs.Part.Step.{Makes, Removes, Prints, Lists};
 ghost use Rattle.cc_host.specs.declared.event.Event.TheVariants.{Listed};
 ghost use Rattle.cc_host.specs.declared.event.Role.TheVariants.{Compile};
 ghost use Rattle.cc_host.specs.declared.event.Scope.TheVariants.{Build};
 ghost use Rattle.cc_plan.specs.Link.{printed_line as line_of};
 ghost use Rattle.cc_build.specs.Stage.{calls, planned};
-ghost use Rattle.cc_build.specs.Kept.{part, left_at, Aside, Idle};
+ghost use Rattle.cc_build.specs.Kept.{left_at, Aside, Idle};
 ghost use Rattle.cc_build.specs.Stage.Stage.{RunsOne, RunsAll};
 ghost use Rattle.cc_build.specs.Went.{Terms, Means, terms, means, Ends};
 

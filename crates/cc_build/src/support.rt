@@ -3,8 +3,8 @@ ghost use Rattle.std.specs.Prelude.{◌≡◌, ◌++◌, ◌⊎◌, [], Some, fa
 ghost use Rattle.cc_build.specs.Error.{no_memory};
 ghost use Rattle.cc_build.specs.FlagSupport as spec;
 ghost use Rattle.cc_build.specs.Outcome.{Outcome};
-ghost use Rattle.cc_host.specs.Part.{since};
-ghost use Rattle.cc_host.specs.Question.{answers, Holds, is_yes as yes};
+ghost use Rattle.cc_host.specs.Call.{part, ByAnswers};
+ghost use Rattle.cc_host.specs.Question.{answers, is_yes as yes};
 ghost use Rattle.cc_plan.specs.FlagSupport.{flag_verdict};
 ghost use Rattle.cc_plan.specs.Given.{probe_folder};
 ghost use Rattle.cc_tool.specs.Asked.{Asked};
@@ -69,10 +69,10 @@ pub(crate) fn is_flag_supported<W: World, H: Host<W>>(
     env: &BuildEnv,
     flag: &str,
 ) -> Result<bool, Error>
-    ensures extends { H.log host.new ≡ H.log host.old ++ since (H.log host.old) (H.log host.new) }
-    ensures asked { Asked W.steady W.answer (probe_folder set.now env.now) (since (H.log host.old) (H.log host.new)) }
-    ensures supported { IfOk result (λ b. Holds (answers (since (H.log host.old) (H.log host.new))) (λ look. b ≡ yes (flag_verdict set.now env.now flag.now look))) }
-    ensures outcome { Holds (answers (since (H.log host.old) (H.log host.new))) (λ look. Outcome (spec.support_error set.now env.now flag.now look) (spec.support_steps set.now env.now look) (since (H.log host.old) (H.log host.new)) result) }
+    ensures extends { H.log host.new ≡ H.log host.old ++ part H.log host.old host.new }
+    ensures asked { Asked W.steady W.answer (probe_folder set.now env.now) (part H.log host.old host.new) }
+    ensures supported { IfOk result (λ b. ByAnswers H.log host.old host.new (λ look. b ≡ yes (flag_verdict set.now env.now flag.now look))) }
+    ensures outcome { ByAnswers H.log host.old host.new (λ look. Outcome (spec.support_error set.now env.now flag.now look) (spec.support_steps set.now env.now look) (part H.log host.old host.new) result) }
 {
     let mut answers = Answers::new(alloc);
     let mut sight = Sight {

@@ -2,8 +2,8 @@
 ghost use Rattle.std.specs.Prelude.{◌≡◌, ◌++◌, ℕ, [], true, false, map, string_bytes, IfOk, OnOk, OnErr};
 ghost use Rattle.std.specs.Fmt.{decimal};
 ghost use Rattle.cc_tool.specs.Asked.{question_events, Asked};
-ghost use Rattle.cc_host.specs.Part.{since};
-ghost use Rattle.cc_host.specs.Question.{answers, Holds};
+ghost use Rattle.cc_host.specs.Call.{part, ByAnswers};
+ghost use Rattle.cc_host.specs.Question.{answers};
 ghost use Rattle.cc_plan.specs.Given.{probe_folder};
 ghost use Rattle.cc_command.specs.Asks.{AsksFor, AsksWords};
 ghost use Rattle.cc_build.specs.Went.{means};
@@ -84,10 +84,10 @@ fn error_line(alloc: Global, error: &Error) -> Mem<Text>
 // Prints a line of kind Fault. A fault of the print changes nothing.
 #[tactic(auto, using(cc_host::proofs::Parts::since_append))]
 fn tell<W: World, H: Host<W>>(host: &mut H, line: &Text) -> Mem<()>
-    ensures extends { H.log host.new ≡ H.log host.old ++ since (H.log host.old) (H.log host.new) }
-    ensures asks_none { question_events (since (H.log host.old) (H.log host.new)) ≡ [] }
-    ensures told { OnOk result (Tells line.now (since (H.log host.old) (H.log host.new))) }
-    ensures wanting { OnErr result (since (H.log host.old) (H.log host.new) ≡ []) }
+    ensures extends { H.log host.new ≡ H.log host.old ++ part H.log host.old host.new }
+    ensures asks_none { question_events (part H.log host.old host.new) ≡ [] }
+    ensures told { OnOk result (Tells line.now (part H.log host.old host.new)) }
+    ensures wanting { OnErr result (part H.log host.old host.new ≡ []) }
 {
     match host.print(LineKind::Fault, line.as_str().as_bytes()) {
         Ok(()) => Ok(()),
@@ -99,9 +99,9 @@ fn tell<W: World, H: Host<W>>(host: &mut H, line: &Text) -> Mem<()>
 // The end of a run with a bad word.
 #[tactic(auto, using(cc_host::proofs::Parts::since_append))]
 fn refuse_word<W: World, H: Host<W>>(alloc: Global, host: &mut H, bad: BadWord) -> Ended
-    ensures extends { H.log host.new ≡ H.log host.old ++ since (H.log host.old) (H.log host.new) }
-    ensures asks_none { question_events (since (H.log host.old) (H.log host.new)) ≡ [] }
-    ensures answer { AnswersBad bad (since (H.log host.old) (H.log host.new)) result }
+    ensures extends { H.log host.new ≡ H.log host.old ++ part H.log host.old host.new }
+    ensures asks_none { question_events (part H.log host.old host.new) ≡ [] }
+    ensures answer { AnswersBad bad (part H.log host.old host.new) result }
 {
     let Ok(line) = word_line(alloc, bad) else {
         return ended_wanting();
@@ -125,11 +125,11 @@ fn is_wanting(kind: ErrorKind) -> bool
 // Prints the line of an error, but for want of memory, which has none.
 #[tactic(auto, using(cc_host::proofs::Parts::since_append))]
 fn tell_error<W: World, H: Host<W>>(alloc: Global, host: &mut H, error: &Error) -> Mem<()>
-    ensures extends { H.log host.new ≡ H.log host.old ++ since (H.log host.old) (H.log host.new) }
-    ensures asks_none { question_events (since (H.log host.old) (H.log host.new)) ≡ [] }
+    ensures extends { H.log host.new ≡ H.log host.old ++ part H.log host.old host.new }
+    ensures asks_none { question_events (part H.log host.old host.new) ≡ [] }
     ensures kind { OnOk result (is_wanting error.now.kind ≡ false) }
-    ensures told { OnOk result (Tells (line_of_error error.now) (since (H.log host.old) (H.log host.new))) }
-    ensures wanting { OnErr result (since (H.log host.old) (H.log host.new) ≡ []) }
+    ensures told { OnOk result (Tells (line_of_error error.now) (part H.log host.old host.new)) }
+    ensures wanting { OnErr result (part H.log host.old host.new ≡ []) }
 {
     if is_wanting(error.kind()) {
         return Err(NoMemory);
@@ -141,9 +141,9 @@ fn tell_error<W: World, H: Host<W>>(alloc: Global, host: &mut H, error: &Error) 
 // The end of a run that was refused.
 #[tactic(auto, using(cc_host::proofs::Parts::since_append))]
 fn refuse<W: World, H: Host<W>>(alloc: Global, host: &mut H, error: Error) -> Ended
-    ensures extends { H.log host.new ≡ H.log host.old ++ since (H.log host.old) (H.log host.new) }
-    ensures asks_none { question_events (since (H.log host.old) (H.log host.new)) ≡ [] }
-    ensures answer { AnswersError error (since (H.log host.old) (H.log host.new)) result }
+    ensures extends { H.log host.new ≡ H.log host.old ++ part H.log host.old host.new }
+    ensures asks_none { question_events (part H.log host.old host.new) ≡ [] }
+    ensures answer { AnswersError error (part H.log host.old host.new) result }
 {
     match tell_error(alloc, host, &error) {
         Ok(()) => Ended {
@@ -175,9 +175,9 @@ fn compile<W: World, H: Host<W>, J: Jobs>(
     requires repeats { build.now.config.repeat_lines ≡ true }
     ensures fits { J.fits jobs.now seat.new }
     ensures empty { J.held seat.new ≡ 0 }
-    ensures extends { H.log host.new ≡ H.log host.old ++ since (H.log host.old) (H.log host.new) }
-    ensures asked { Asked W.steady W.answer (probe_folder build.now.config build.now.env) (since (H.log host.old) (H.log host.new)) }
-    ensures answer { Holds (answers (since (H.log host.old) (H.log host.new))) (λ look. (left : ℕ) × RunAnswers build.now.config build.now.env look name.now (since (H.log host.old) (H.log host.new)) result (course (J.total seat.old) (H.patience host.old) (means turns (J.faults seat.old) (J.taken seat.old) (J.load seat.old)) (means left (J.faults seat.new) (J.taken seat.new) (J.load seat.new)))) }
+    ensures extends { H.log host.new ≡ H.log host.old ++ part H.log host.old host.new }
+    ensures asked { Asked W.steady W.answer (probe_folder build.now.config build.now.env) (part H.log host.old host.new) }
+    ensures answer { ByAnswers H.log host.old host.new (λ look. (left : ℕ) × RunAnswers build.now.config build.now.env look name.now (part H.log host.old host.new) result (course (J.total seat.old) (H.patience host.old) (means turns (J.faults seat.old) (J.taken seat.old) (J.load seat.old)) (means left (J.faults seat.new) (J.taken seat.new) (J.load seat.new)))) }
 {
     match build.try_compile(rt, host, jobs, seat, turns, name) {
         Ok(()) => Ended {
@@ -206,9 +206,9 @@ fn capture_and_compile<W: World, H: Host<W>, J: Jobs>(
     requires repeats { build.old.config.repeat_lines ≡ true }
     ensures fits { J.fits jobs.now seat.new }
     ensures empty { J.held seat.new ≡ 0 }
-    ensures extends { H.log host.new ≡ H.log host.old ++ since (H.log host.old) (H.log host.new) }
-    ensures asked { AsksFor W.steady W.answer (name.now, build.old) (since (H.log host.old) (H.log host.new)) }
-    ensures answer { Holds (answers (since (H.log host.old) (H.log host.new))) (λ look. (left : ℕ) × Answers look (name.now, build.old) (since (H.log host.old) (H.log host.new)) result (course (J.total seat.old) (H.patience host.old) (means turns (J.faults seat.old) (J.taken seat.old) (J.load seat.old)) (means left (J.faults seat.new) (J.taken seat.new) (J.load seat.new)))) }
+    ensures extends { H.log host.new ≡ H.log host.old ++ part H.log host.old host.new }
+    ensures asked { AsksFor W.steady W.answer (name.now, build.old) (part H.log host.old host.new) }
+    ensures answer { ByAnswers H.log host.old host.new (λ look. (left : ℕ) × Answers look (name.now, build.old) (part H.log host.old host.new) result (course (J.total seat.old) (H.patience host.old) (means turns (J.faults seat.old) (J.taken seat.old) (J.load seat.old)) (means left (J.faults seat.new) (J.taken seat.new) (J.load seat.new)))) }
 {
     match build.capture(host) {
         Ok(()) => compile(rt, alloc, build, name, turns, host, jobs, seat),
@@ -231,9 +231,9 @@ fn serve<W: World, H: Host<W>, J: Jobs>(
     requires repeats { request.old.build.config.repeat_lines ≡ true }
     ensures fits { J.fits jobs.now seat.new }
     ensures empty { J.held seat.new ≡ 0 }
-    ensures extends { H.log host.new ≡ H.log host.old ++ since (H.log host.old) (H.log host.new) }
-    ensures asked { AsksFor W.steady W.answer (name_of request.old.job, request.old.build) (since (H.log host.old) (H.log host.new)) }
-    ensures answer { Holds (answers (since (H.log host.old) (H.log host.new))) (λ look. (left : ℕ) × Answers look (name_of request.old.job, request.old.build) (since (H.log host.old) (H.log host.new)) result (course (J.total seat.old) (H.patience host.old) (means turns (J.faults seat.old) (J.taken seat.old) (J.load seat.old)) (means left (J.faults seat.new) (J.taken seat.new) (J.load seat.new)))) }
+    ensures extends { H.log host.new ≡ H.log host.old ++ part H.log host.old host.new }
+    ensures asked { AsksFor W.steady W.answer (name_of request.old.job, request.old.build) (part H.log host.old host.new) }
+    ensures answer { ByAnswers H.log host.old host.new (λ look. (left : ℕ) × Answers look (name_of request.old.job, request.old.build) (part H.log host.old host.new) result (course (J.total seat.old) (H.patience host.old) (means turns (J.faults seat.old) (J.taken seat.old) (J.load seat.old)) (means left (J.faults seat.new) (J.taken seat.new) (J.load seat.new)))) }
 {
     match &request.job {
         Job::Compile(name) => {
@@ -258,9 +258,9 @@ fn run<W: World, H: Host<W>, J: Jobs>(
     requires empty { J.held seat.old ≡ 0 }
     ensures fits { J.fits jobs.now seat.new }
     ensures empty { J.held seat.new ≡ 0 }
-    ensures extends { H.log host.new ≡ H.log host.old ++ since (H.log host.old) (H.log host.new) }
-    ensures asked { AsksWords W.steady W.answer (read (map string_bytes words.now)) (since (H.log host.old) (H.log host.new)) }
-    ensures answer { Holds (answers (since (H.log host.old) (H.log host.new))) (λ look. (left : ℕ) × AnswersWords look (read (map string_bytes words.now)) (since (H.log host.old) (H.log host.new)) result (course (J.total seat.old) (H.patience host.old) (means turns (J.faults seat.old) (J.taken seat.old) (J.load seat.old)) (means left (J.faults seat.new) (J.taken seat.new) (J.load seat.new)))) }
+    ensures extends { H.log host.new ≡ H.log host.old ++ part H.log host.old host.new }
+    ensures asked { AsksWords W.steady W.answer (read (map string_bytes words.now)) (part H.log host.old host.new) }
+    ensures answer { ByAnswers H.log host.old host.new (λ look. (left : ℕ) × AnswersWords look (read (map string_bytes words.now)) (part H.log host.old host.new) result (course (J.total seat.old) (H.patience host.old) (means turns (J.faults seat.old) (J.taken seat.old) (J.load seat.old)) (means left (J.faults seat.new) (J.taken seat.new) (J.load seat.new)))) }
 {
     match read_words::<W>(alloc, words) {
         Ok(mut request) => serve(rt, alloc, &mut request, turns, host, jobs, seat),
@@ -289,26 +289,26 @@ pub fn drive<W: World, H: Host<W>, J: Jobs>(
     requires empty { J.held seat.old ≡ 0 }
     ensures fits { J.fits jobs.now seat.new }
     ensures empty { J.held seat.new ≡ 0 }
-    ensures extends { H.log host.new ≡ H.log host.old ++ since (H.log host.old) (H.log host.new) }
+    ensures extends { H.log host.new ≡ H.log host.old ++ part H.log host.old host.new }
 
     // The headline.
-    ensures built { Holds (answers (since (H.log host.old) (H.log host.new))) (λ look. (left : ℕ) × Headline look (read (map string_bytes words.now)) (since (H.log host.old) (H.log host.new)) result (course (J.total seat.old) (H.patience host.old) (means turns (J.faults seat.old) (J.taken seat.old) (J.load seat.old)) (means left (J.faults seat.new) (J.taken seat.new) (J.load seat.new)))) }
+    ensures built { ByAnswers H.log host.old host.new (λ look. (left : ℕ) × Headline look (read (map string_bytes words.now)) (part H.log host.old host.new) result (course (J.total seat.old) (H.patience host.old) (means turns (J.faults seat.old) (J.taken seat.old) (J.load seat.old)) (means left (J.faults seat.new) (J.taken seat.new) (J.load seat.new)))) }
 
     // The whole answer: each status with its cause.
-    ensures answer { Holds (answers (since (H.log host.old) (H.log host.new))) (λ look. (left : ℕ) × AnswersWords look (read (map string_bytes words.now)) (since (H.log host.old) (H.log host.new)) result (course (J.total seat.old) (H.patience host.old) (means turns (J.faults seat.old) (J.taken seat.old) (J.load seat.old)) (means left (J.faults seat.new) (J.taken seat.new) (J.load seat.new)))) }
+    ensures answer { ByAnswers H.log host.old host.new (λ look. (left : ℕ) × AnswersWords look (read (map string_bytes words.now)) (part H.log host.old host.new) result (course (J.total seat.old) (H.patience host.old) (means turns (J.faults seat.old) (J.taken seat.old) (J.load seat.old)) (means left (J.faults seat.new) (J.taken seat.new) (J.load seat.new)))) }
 
     // What questions leave in the log: each is told once, and no probe file stays.
-    ensures asked { AsksWords W.steady W.answer (read (map string_bytes words.now)) (since (H.log host.old) (H.log host.new)) }
+    ensures asked { AsksWords W.steady W.answer (read (map string_bytes words.now)) (part H.log host.old host.new) }
 
     // What follows from the answer, sentence by sentence.
-    ensures told { TellsLast (since (H.log host.old) (H.log host.new)) result }
-    ensures begun { Holds (answers (since (H.log host.old) (H.log host.new))) (λ look. (left : ℕ) × IsBegun look (read (map string_bytes words.now)) (since (H.log host.old) (H.log host.new)) (course (J.total seat.old) (H.patience host.old) (means turns (J.faults seat.old) (J.taken seat.old) (J.load seat.old)) (means left (J.faults seat.new) (J.taken seat.new) (J.load seat.new)))) }
-    ensures order { Holds (answers (since (H.log host.old) (H.log host.new))) (λ look. (left : ℕ) × CompilesFirst look (read (map string_bytes words.now)) (since (H.log host.old) (H.log host.new)) (course (J.total seat.old) (H.patience host.old) (means turns (J.faults seat.old) (J.taken seat.old) (J.load seat.old)) (means left (J.faults seat.new) (J.taken seat.new) (J.load seat.new)))) }
-    ensures faults_last { FaultsLast (since (H.log host.old) (H.log host.new)) }
-    ensures settled { NothingRuns (since (H.log host.old) (H.log host.new)) }
-    ensures prefix { Holds (answers (since (H.log host.old) (H.log host.new))) (λ look. IsPrefix look (read (map string_bytes words.now)) (since (H.log host.old) (H.log host.new))) }
-    ensures complete { Holds (answers (since (H.log host.old) (H.log host.new))) (λ look. (left : ℕ) × IsComplete look (read (map string_bytes words.now)) (since (H.log host.old) (H.log host.new)) result (course (J.total seat.old) (H.patience host.old) (means turns (J.faults seat.old) (J.taken seat.old) (J.load seat.old)) (means left (J.faults seat.new) (J.taken seat.new) (J.load seat.new)))) }
-    ensures enough { Holds (answers (since (H.log host.old) (H.log host.new))) (λ look. (left : ℕ) × IsEnough look (read (map string_bytes words.now)) (since (H.log host.old) (H.log host.new)) result (course (J.total seat.old) (H.patience host.old) (means turns (J.faults seat.old) (J.taken seat.old) (J.load seat.old)) (means left (J.faults seat.new) (J.taken seat.new) (J.load seat.new)))) }
+    ensures told { TellsLast (part H.log host.old host.new) result }
+    ensures begun { ByAnswers H.log host.old host.new (λ look. (left : ℕ) × IsBegun look (read (map string_bytes words.now)) (part H.log host.old host.new) (course (J.total seat.old) (H.patience host.old) (means turns (J.faults seat.old) (J.taken seat.old) (J.load seat.old)) (means left (J.faults seat.new) (J.taken seat.new) (J.load seat.new)))) }
+    ensures order { ByAnswers H.log host.old host.new (λ look. (left : ℕ) × CompilesFirst look (read (map string_bytes words.now)) (part H.log host.old host.new) (course (J.total seat.old) (H.patience host.old) (means turns (J.faults seat.old) (J.taken seat.old) (J.load seat.old)) (means left (J.faults seat.new) (J.taken seat.new) (J.load seat.new)))) }
+    ensures faults_last { FaultsLast (part H.log host.old host.new) }
+    ensures settled { NothingRuns (part H.log host.old host.new) }
+    ensures prefix { ByAnswers H.log host.old host.new (λ look. IsPrefix look (read (map string_bytes words.now)) (part H.log host.old host.new)) }
+    ensures complete { ByAnswers H.log host.old host.new (λ look. (left : ℕ) × IsComplete look (read (map string_bytes words.now)) (part H.log host.old host.new) result (course (J.total seat.old) (H.patience host.old) (means turns (J.faults seat.old) (J.taken seat.old) (J.load seat.old)) (means left (J.faults seat.new) (J.taken seat.new) (J.load seat.new)))) }
+    ensures enough { ByAnswers H.log host.old host.new (λ look. (left : ℕ) × IsEnough look (read (map string_bytes words.now)) (part H.log host.old host.new) result (course (J.total seat.old) (H.patience host.old) (means turns (J.faults seat.old) (J.taken seat.old) (J.load seat.old)) (means left (J.faults seat.new) (J.taken seat.new) (J.load seat.new)))) }
 {
     run(rt, alloc, words, turns, host, jobs, seat)
 }

@@ -5,8 +5,8 @@
 #![tactic(auto)]
 
 ghost use Rattle.std.specs.Prelude.{◌≡◌, ◌≤◌, IfOk};
+ghost use Rattle.cc_host.specs.Call.{part};
 ghost use Rattle.cc_env.specs.Snapshot.{snapshot_of};
-ghost use Rattle.cc_host.specs.Part.{since};
 ghost use Rattle.cc_jobs.specs.Size.{pool_size as size_for};
 ghost use Rattle.cc_command.specs.Answer.{heard};
 
@@ -82,7 +82,7 @@ fn words_of(rt: &HostRuntime) -> io::Result<Vec<String>> {
 #[tactic(auto, using(cc_host::proofs::Parts::since_append))]
 fn tokens<W: World, H: Host<W>>(alloc: Global, host: &mut H) -> Mem<u32>
     ensures some { IfOk result (λ total. 1 ≤ total) }
-    ensures size { IfOk result (λ total. total ≡ size_for (snapshot_of (heard (since (H.log host.old) (H.log host.new))))) }
+    ensures size { IfOk result (λ total. total ≡ size_for (snapshot_of (heard (part H.log host.old host.new)))) }
 {
     let vars = match host.vars() {
         Ok(vars) => vars,

@@ -1,9 +1,9 @@
 // Warnings that are printed as Cargo reads them.
 ghost use Rattle.std.specs.Prelude.{◌≡◌, ◌⊎◌, ◌++◌, ◌∷◌, [], IfOk, IfErr, map};
+ghost use Rattle.cc_host.specs.Call.{part};
 ghost use Rattle.cc_host.specs.declared.event.HostCall.TheVariants.{Print};
 ghost use Rattle.cc_host.specs.declared.event.Why.{Why};
 ghost use Rattle.cc_plan.specs.declared.error.PlanError.TheVariants.{NoMemory as WantsMemory, Host as HostFault};
-ghost use Rattle.cc_host.specs.Part.{since};
 ghost use Rattle.cc_tool.specs.Asked.{question_events};
 ghost use Rattle.cc_plan.specs.Asking.{Printed, PrintsLine};
 ghost use Rattle.cc_plan.specs.Link.{printed_line as line_of};
@@ -57,8 +57,8 @@ fn print_warning<W: World, H: Host<W>>(
     host: &mut H,
     line: &str,
 ) -> Result<(), PlanError>
-    ensures extends { H.log host.new ≡ H.log host.old ++ since (H.log host.old) (H.log host.new) }
-    ensures prints { PrintsLine line.now (since (H.log host.old) (H.log host.new)) result }
+    ensures extends { H.log host.new ≡ H.log host.old ++ part H.log host.old host.new }
+    ensures prints { PrintsLine line.now (part H.log host.old host.new) result }
     ensures refused { IfErr result (λ e. (e ≡ WantsMemory) ⊎ ((why : Why) × (e ≡ HostFault Print why))) }
     ensures patient { H.patience host.new ≡ H.patience host.old }
 {
@@ -77,9 +77,9 @@ pub(crate) fn print_warnings<W: World, H: Host<W>>(
     host: &mut H,
     lines: &Words,
 ) -> Result<(), PlanError>
-    ensures extends { H.log host.new ≡ H.log host.old ++ since (H.log host.old) (H.log host.new) }
-    ensures prints { Printed lines.now (since (H.log host.old) (H.log host.new)) result }
-    ensures silent { question_events (since (H.log host.old) (H.log host.new)) ≡ [] }
+    ensures extends { H.log host.new ≡ H.log host.old ++ part H.log host.old host.new }
+    ensures prints { Printed lines.now (part H.log host.old host.new) result }
+    ensures silent { question_events (part H.log host.old host.new) ≡ [] }
     ensures refused { IfErr result (λ e. (e ≡ WantsMemory) ⊎ ((why : Why) × (e ≡ HostFault Print why))) }
     ensures patient { H.patience host.new ≡ H.patience host.old }
 {

@@ -1,8 +1,8 @@
 // Runs a list of commands to their ends.
 ghost use Rattle.std.specs.Prelude.{◌≡◌, ◌++◌, ◌+◌, ◌≤◌, ◌<◌, ◌^◌, ◌⊎◌, length, true, false, OnOk, IfErr, IfSome, None, ◌*◌, ℕ};
 ghost use Rattle.std.specs.List.{All, Contains, list_all};
+ghost use Rattle.cc_host.specs.Call.{part};
 ghost use Rattle.cc_host.specs.Children.{InOrder, running as running_on, started_ids};
-ghost use Rattle.cc_host.specs.Part.{since};
 ghost use Rattle.cc_host.specs.declared.event.Role.TheVariants.{Compile};
 ghost use Rattle.cc_jobs.specs.Seats.{Rose};
 ghost use Rattle.cc_run.specs.Children.{ArePlaced, nothing_kept, run_of};
@@ -48,22 +48,22 @@ pub(crate) fn pass<W: World, H: Host<W>, J: Jobs>(
     ensures later { J.faults seat.old ≤ J.faults seat.new }
     ensures patient { H.patience host.new ≡ H.patience host.old }
     ensures goes { Goes (J.total seat.old) (asked shows.now cmds.now) (H.log host.old) (run_of running.old) (H.log host.new) (run_of running.new) }
-    ensures told { IsTold (asked shows.now cmds.now) result (since (H.log host.old) (H.log host.new)) }
-    ensures turns { turns.new.left + turns_in (since (H.log host.old) (H.log host.new)) ≡ turns.old.left }
-    ensures used { turns.new.used ≡ turns.old.used + turns_in (since (H.log host.old) (H.log host.new)) }
+    ensures told { IsTold (asked shows.now cmds.now) result (part H.log host.old host.new) }
+    ensures turns { turns.new.left + turns_in (part H.log host.old host.new) ≡ turns.old.left }
+    ensures used { turns.new.used ≡ turns.old.used + turns_in (part H.log host.old host.new) }
     ensures waited { Waited (H.patience host.new) (H.log host.old) (H.log host.new) }
     ensures one_turn { OnOk result (turns.new.left + 1 ≡ turns.old.left) }
     ensures unfinished { result ≡ Ok false → IsOpen (length (asked shows.now cmds.now)) (run_of running.new) }
     ensures done { result ≡ Ok true → IsDone (length (asked shows.now cmds.now)) (run_of running.new) }
     ensures next { IfErr result (IsPassError (length (asked shows.now cmds.now)) (run_of running.new)) }
     ensures spent { result ≡ Err RunError.TurnsSpent → (turns.new.left ≡ 0) × IsOpen (length (asked shows.now cmds.now)) (run_of running.new) }
-    ensures paid { Paid result (length running.new.children) (since (H.log host.old) (H.log host.new)) (J.taken seat.old) (J.load seat.old) (J.taken seat.new) (J.load seat.new) }
+    ensures paid { Paid result (length running.new.children) (part H.log host.old host.new) (J.taken seat.old) (J.load seat.old) (J.taken seat.new) (J.load seat.new) }
     ensures ends { IfErr result (EndsAt (H.log host.new)) }
     ensures job_fault { result ≡ Err RunError.JobFault → Rose (J.faults seat.old) (J.faults seat.new) }
-    ensures own { list_all is_of_run (since (H.log host.old) (H.log host.new)) ≡ true }
+    ensures own { list_all is_of_run (part H.log host.old host.new) ≡ true }
     ensures tells { polls.new.1.tells ≡ polls.old.1.tells }
-    ensures kept { OnOk result (kept_from running.old (since (H.log host.old) (H.log host.new)) ≡ running.new) }
-    ensures lines { IsPrinted shows.now polls.old.1.tells cmds.now running.old result (since (H.log host.old) (H.log host.new)) }
+    ensures kept { OnOk result (kept_from running.old (part H.log host.old host.new) ≡ running.new) }
+    ensures lines { IsPrinted shows.now polls.old.1.tells cmds.now running.old result (part H.log host.old host.new) }
 {
     let spawned = match polls.0.poll(alloc, host, jobs, seat, cmds, running, shows) {
         Ok(step) => step,
@@ -116,19 +116,19 @@ fn run_passes<W: World, H: Host<W>, J: Jobs>(
     ensures later { J.faults seat.old ≤ J.faults seat.new }
     ensures patient { H.patience host.new ≡ H.patience host.old }
     ensures goes { Goes (J.total seat.old) (asked shows.now cmds.now) (H.log host.old) (run_of running.old) (H.log host.new) (run_of running.new) }
-    ensures told { IsTold (asked shows.now cmds.now) result (since (H.log host.old) (H.log host.new)) }
-    ensures turns { turns.new.left + turns_in (since (H.log host.old) (H.log host.new)) ≡ turns.old.left }
-    ensures used { turns.new.used ≡ turns.old.used + turns_in (since (H.log host.old) (H.log host.new)) }
+    ensures told { IsTold (asked shows.now cmds.now) result (part H.log host.old host.new) }
+    ensures turns { turns.new.left + turns_in (part H.log host.old host.new) ≡ turns.old.left }
+    ensures used { turns.new.used ≡ turns.old.used + turns_in (part H.log host.old host.new) }
     ensures within { running.new.begun ≤ length cmds.now }
     ensures lasts { IfSome (J.total seat.old) (λ _. Lasts (H.patience host.old) (H.log host.old) (run_of running.old) (H.log host.new)) }
     ensures done { OnOk result (IsDone (length (asked shows.now cmds.now)) (run_of running.new) × (running.new.failed ≡ None)) }
     ensures cause { IfErr result (IsRunError (length (asked shows.now cmds.now)) (run_of running.new)) }
-    ensures paid { Paid result (length running.new.children) (since (H.log host.old) (H.log host.new)) (J.taken seat.old) (J.load seat.old) (J.taken seat.new) (J.load seat.new) }
+    ensures paid { Paid result (length running.new.children) (part H.log host.old host.new) (J.taken seat.old) (J.load seat.old) (J.taken seat.new) (J.load seat.new) }
     ensures ends { IfErr result (EndsAt (H.log host.new)) }
     ensures spent { result ≡ Err RunError.TurnsSpent → turns.new.left ≡ 0 }
     ensures job_fault { result ≡ Err RunError.JobFault → Rose (J.faults seat.old) (J.faults seat.new) }
-    ensures own { list_all is_of_run (since (H.log host.old) (H.log host.new)) ≡ true }
-    ensures lines { IsPrinted shows.now true cmds.now running.old result (since (H.log host.old) (H.log host.new)) }
+    ensures own { list_all is_of_run (part H.log host.old host.new) ≡ true }
+    ensures lines { IsPrinted shows.now true cmds.now running.old result (part H.log host.old host.new) }
 {
     let mut polls = (SpawnState::new(), WaitState::new());
     'passes: loop {
@@ -192,18 +192,18 @@ pub fn run_all<W: World, H: Host<W>, J: Jobs>(
     ensures later { J.faults seat.old ≤ J.faults seat.new }
     ensures patient { H.patience host.new ≡ H.patience host.old }
     ensures outcome { IsRun (J.total seat.old) (asked shows.now cmds.now) (H.log host.old) (H.log host.new) result (J.taken seat.old) (J.load seat.old) (J.taken seat.new) (J.load seat.new) }
-    ensures turns { turns.new.left + turns_in (since (H.log host.old) (H.log host.new)) ≡ turns.old.left }
-    ensures used { turns.new.used ≡ turns.old.used + turns_in (since (H.log host.old) (H.log host.new)) }
-    ensures bound { IfSome (J.total seat.old) (λ _. Bounded (H.patience host.old) (length cmds.now) (since (H.log host.old) (H.log host.new))) }
-    ensures enough { result ≡ Err RunError.TurnsSpent → IfSome (J.total seat.old) (λ _. Unspent (H.patience host.old) (length cmds.now) (since (H.log host.old) (H.log host.new))) }
+    ensures turns { turns.new.left + turns_in (part H.log host.old host.new) ≡ turns.old.left }
+    ensures used { turns.new.used ≡ turns.old.used + turns_in (part H.log host.old host.new) }
+    ensures bound { IfSome (J.total seat.old) (λ _. Bounded (H.patience host.old) (length cmds.now) (part H.log host.old host.new)) }
+    ensures enough { result ≡ Err RunError.TurnsSpent → IfSome (J.total seat.old) (λ _. Unspent (H.patience host.old) (length cmds.now) (part H.log host.old host.new)) }
     ensures spent { result ≡ Err RunError.TurnsSpent → turns.new.left ≡ 0 }
     ensures job_fault { result ≡ Err RunError.JobFault → Rose (J.faults seat.old) (J.faults seat.new) }
-    ensures own { list_all is_of_run (since (H.log host.old) (H.log host.new)) ≡ true }
-    ensures lines { IsPrinted shows.now true cmds.now nothing_kept result (since (H.log host.old) (H.log host.new)) }
-    ensures stderr { (id : ℕ) → Contains (started_ids (since (H.log host.old) (H.log host.new))) id → IsForwarded result (stderr_printed id (since (H.log host.old) (H.log host.new))) (stderr_given shows.now id (since (H.log host.old) (H.log host.new))) }
-    ensures debug { OnOk result (debug_printed (since (H.log host.old) (H.log host.new)) ≡ debug_from shows.now nothing (since (H.log host.old) (H.log host.new))) }
-    ensures twice { shows.now.debug ≡ true → OnOk result (length (debug_printed (since (H.log host.old) (H.log host.new))) ≡ 2 * length cmds.now) }
-    ensures warnings { IsForwarded result (warnings_printed (since (H.log host.old) (H.log host.new))) (warnings_from shows.now true cmds.now nothing (since (H.log host.old) (H.log host.new))) }
+    ensures own { list_all is_of_run (part H.log host.old host.new) ≡ true }
+    ensures lines { IsPrinted shows.now true cmds.now nothing_kept result (part H.log host.old host.new) }
+    ensures stderr { (id : ℕ) → Contains (started_ids (part H.log host.old host.new)) id → IsForwarded result (stderr_printed id (part H.log host.old host.new)) (stderr_given shows.now id (part H.log host.old host.new)) }
+    ensures debug { OnOk result (debug_printed (part H.log host.old host.new) ≡ debug_from shows.now nothing (part H.log host.old host.new)) }
+    ensures twice { shows.now.debug ≡ true → OnOk result (length (debug_printed (part H.log host.old host.new)) ≡ 2 * length cmds.now) }
+    ensures warnings { IsForwarded result (warnings_printed (part H.log host.old host.new)) (warnings_from shows.now true cmds.now nothing (part H.log host.old host.new)) }
 {
     let _least = host.log();
     let mut running = Running::new(alloc);

@@ -1,8 +1,8 @@
 // Runs one command to its end, without a token.
 ghost use Rattle.std.specs.Prelude.{◌≡◌, ◌≢◌, ◌++◌, ◌+◌, ◌≤◌, ◌<◌, ◌^◌, ◌∷◌, [], length, OnOk, IfErr, IfSome, None, true, ℕ, false};
 ghost use Rattle.std.specs.List.{Contains, list_all};
+ghost use Rattle.cc_host.specs.Call.{part};
 ghost use Rattle.cc_host.specs.Children.{started_ids};
-ghost use Rattle.cc_host.specs.Part.{since};
 ghost use Rattle.cc_run.specs.Children.{ArePlaced, nothing_kept, run_of};
 ghost use Rattle.cc_run.specs.Debugging.{debug_printed, debug_from};
 ghost use Rattle.cc_run.specs.Outcome.{IsTold, IsRunError, IsDone, EndsAt};
@@ -45,18 +45,18 @@ fn wait_out<W: World, H: Host<W>, J: Jobs>(
     ensures one_run { (J.held seat.new ≡ length running.new.children) × (running.new.begun ≡ length cmds.now) }
     ensures patient { H.patience host.new ≡ H.patience host.old }
     ensures goes { Goes (J.total seat.old) (asked shows.now cmds.now) (H.log host.old) (run_of running.old) (H.log host.new) (run_of running.new) }
-    ensures told { IsTold (asked shows.now cmds.now) result (since (H.log host.old) (H.log host.new)) }
-    ensures turns { turns.new.left + turns_in (since (H.log host.old) (H.log host.new)) ≡ turns.old.left }
-    ensures used { turns.new.used ≡ turns.old.used + turns_in (since (H.log host.old) (H.log host.new)) }
+    ensures told { IsTold (asked shows.now cmds.now) result (part H.log host.old host.new) }
+    ensures turns { turns.new.left + turns_in (part H.log host.old host.new) ≡ turns.old.left }
+    ensures used { turns.new.used ≡ turns.old.used + turns_in (part H.log host.old host.new) }
     ensures lasts { IfSome (J.total seat.old) (λ _. Lasts (H.patience host.old) (H.log host.old) (run_of running.old) (H.log host.new)) }
-    ensures free { loads (since (H.log host.old) (H.log host.new)) ≡ 0 }
+    ensures free { loads (part H.log host.old host.new) ≡ 0 }
     ensures done { OnOk result (IsDone (length (asked shows.now cmds.now)) (run_of running.new) × (running.new.failed ≡ None)) }
     ensures cause { IfErr result (IsRunError (length (asked shows.now cmds.now)) (run_of running.new)) }
     ensures ends { IfErr result (EndsAt (H.log host.new)) }
     ensures spent { result ≡ Err RunError.TurnsSpent → turns.new.left ≡ 0 }
     ensures tokenless { result ≢ Err RunError.JobFault }
-    ensures own { list_all is_of_run (since (H.log host.old) (H.log host.new)) ≡ true }
-    ensures lines { IsPrinted shows.now false cmds.now running.old result (since (H.log host.old) (H.log host.new)) }
+    ensures own { list_all is_of_run (part H.log host.old host.new) ≡ true }
+    ensures lines { IsPrinted shows.now false cmds.now running.old result (part H.log host.old host.new) }
 {
     let mut wait = WaitState::silent();
     'turns: loop {
@@ -82,17 +82,17 @@ pub fn run_one<W: World, H: Host<W>>(
     requires { turns.old.left + turns.old.used < 2 ^ 64 }
     ensures patient { H.patience host.new ≡ H.patience host.old }
     ensures outcome { IsSolo (asked shows.now (cmd.now ∷ [])) (H.log host.old) (H.log host.new) result }
-    ensures turns { turns.new.left + turns_in (since (H.log host.old) (H.log host.new)) ≡ turns.old.left }
-    ensures used { turns.new.used ≡ turns.old.used + turns_in (since (H.log host.old) (H.log host.new)) }
-    ensures bound { Bounded (H.patience host.old) 1 (since (H.log host.old) (H.log host.new)) }
-    ensures enough { result ≡ Err RunError.TurnsSpent → Unspent (H.patience host.old) 1 (since (H.log host.old) (H.log host.new)) }
+    ensures turns { turns.new.left + turns_in (part H.log host.old host.new) ≡ turns.old.left }
+    ensures used { turns.new.used ≡ turns.old.used + turns_in (part H.log host.old host.new) }
+    ensures bound { Bounded (H.patience host.old) 1 (part H.log host.old host.new) }
+    ensures enough { result ≡ Err RunError.TurnsSpent → Unspent (H.patience host.old) 1 (part H.log host.old host.new) }
     ensures spent { result ≡ Err RunError.TurnsSpent → turns.new.left ≡ 0 }
-    ensures own { list_all is_of_run (since (H.log host.old) (H.log host.new)) ≡ true }
-    ensures lines { IsPrinted shows.now false (cmd.now ∷ []) nothing_kept result (since (H.log host.old) (H.log host.new)) }
-    ensures stderr { (id : ℕ) → Contains (started_ids (since (H.log host.old) (H.log host.new))) id → IsForwarded result (stderr_printed id (since (H.log host.old) (H.log host.new))) (stderr_given shows.now id (since (H.log host.old) (H.log host.new))) }
-    ensures debug { OnOk result (debug_printed (since (H.log host.old) (H.log host.new)) ≡ debug_from shows.now nothing (since (H.log host.old) (H.log host.new))) }
-    ensures twice { shows.now.debug ≡ true → OnOk result (length (debug_printed (since (H.log host.old) (H.log host.new))) ≡ 2) }
-    ensures warnings { IsForwarded result (warnings_printed (since (H.log host.old) (H.log host.new))) (warnings_from shows.now false (cmd.now ∷ []) nothing (since (H.log host.old) (H.log host.new))) }
+    ensures own { list_all is_of_run (part H.log host.old host.new) ≡ true }
+    ensures lines { IsPrinted shows.now false (cmd.now ∷ []) nothing_kept result (part H.log host.old host.new) }
+    ensures stderr { (id : ℕ) → Contains (started_ids (part H.log host.old host.new)) id → IsForwarded result (stderr_printed id (part H.log host.old host.new)) (stderr_given shows.now id (part H.log host.old host.new)) }
+    ensures debug { OnOk result (debug_printed (part H.log host.old host.new) ≡ debug_from shows.now nothing (part H.log host.old host.new)) }
+    ensures twice { shows.now.debug ≡ true → OnOk result (length (debug_printed (part H.log host.old host.new)) ≡ 2) }
+    ensures warnings { IsForwarded result (warnings_printed (part H.log host.old host.new)) (warnings_from shows.now false (cmd.now ∷ []) nothing (part H.log host.old host.new)) }
 {
     let _least = host.log();
     let mut running = Running::new(alloc);

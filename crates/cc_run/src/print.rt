@@ -1,6 +1,6 @@
 // Lines, printed one after another.
 ghost use Rattle.std.specs.Prelude.{◌≡◌, ◌++◌, IfErr};
-ghost use Rattle.cc_host.specs.Part.{since};
+ghost use Rattle.cc_host.specs.Call.{part};
 ghost use Rattle.cc_run.specs.Shown.{IsShown, IsPrintError};
 
 use crate::RunError;
@@ -18,9 +18,9 @@ pub struct Line {
 /// Prints each of these lines, in order, until one is refused.
 #[tactic(auto, using(cc_host::proofs::Parts::since_append))]
 pub(crate) fn print_all<W: World, H: Host<W>>(host: &mut H, lines: &[Line]) -> Result<(), RunError>
-    ensures extends { H.log host.new ≡ H.log host.old ++ since (H.log host.old) (H.log host.new) }
+    ensures extends { H.log host.new ≡ H.log host.old ++ part H.log host.old host.new }
     ensures patient { H.patience host.new ≡ H.patience host.old }
-    ensures shown { IsShown lines.now result (since (H.log host.old) (H.log host.new)) }
+    ensures shown { IsShown lines.now result (part H.log host.old host.new) }
     ensures kind { IfErr result IsPrintError }
 {
     for line in lines {

@@ -1,7 +1,7 @@
 // Starts the commands of a run.
 ghost use Rattle.std.specs.Prelude.{◌≡◌, ◌++◌, ◌+◌, ◌-◌, ◌<◌, ◌≤◌, ◌^◌, ℕ, IfSome, IfErr, IfOk, OnErr, length, true, Bool, OnOk};
 ghost use Rattle.std.specs.List.{list_all};
-ghost use Rattle.cc_host.specs.Part.{since};
+ghost use Rattle.cc_host.specs.Call.{part};
 ghost use Rattle.cc_jobs.specs.Seats.{Rose};
 ghost use Rattle.cc_run.specs.Children.{ArePlaced, run_of};
 ghost use Rattle.cc_run.specs.Life.{IsNewcomer};
@@ -34,9 +34,9 @@ pub(crate) fn start<W: World, H: Host<W>>(
     held: u64,
 ) -> Result<u64, RunError>
     requires room { running.old.begun < 2 ^ 64 - 1 }
-    ensures extends { H.log host.new ≡ H.log host.old ++ since (H.log host.old) (H.log host.new) }
+    ensures extends { H.log host.new ≡ H.log host.old ++ part H.log host.old host.new }
     ensures patient { H.patience host.new ≡ H.patience host.old }
-    ensures part { IsStart shows.now planned.now held running.old result running.new (since (H.log host.old) (H.log host.new)) }
+    ensures part { IsStart shows.now planned.now held running.old result running.new (part H.log host.old host.new) }
     ensures fresh { IfOk result (λ id. IsNewcomer (H.log host.old) id) }
     ensures placed { (bound : ℕ) → running.old.begun < bound → ArePlaced bound running.old → ArePlaced bound running.new }
 {
@@ -85,18 +85,18 @@ fn start_next<W: World, H: Host<W>, J: Jobs>(
     ensures later { J.faults seat.old ≤ J.faults seat.new }
     ensures patient { H.patience host.new ≡ H.patience host.old }
     ensures goes { Goes (J.total seat.old) (asked shows.now cmds.now) (H.log host.old) (run_of running.old) (H.log host.new) (run_of running.new) }
-    ensures told { IsTold (asked shows.now cmds.now) result (since (H.log host.old) (H.log host.new)) }
-    ensures turns { turns (since (H.log host.old) (H.log host.new)) ≡ 0 }
+    ensures told { IsTold (asked shows.now cmds.now) result (part H.log host.old host.new) }
+    ensures turns { turns (part H.log host.old host.new) ≡ 0 }
     ensures failed { running.new.failed ≡ running.old.failed }
     ensures next { IfErr result (IsSpawnError (length cmds.now) (run_of running.new)) }
     ensures begun { IsBegun result running.old running.new }
     ensures pending { result ≡ Ok Step.Pending → IfSome (J.total seat.old) (λ t. (1 ≤ t) × (J.held seat.new ≡ t)) }
-    ensures paid { Paid result (length running.new.children) (since (H.log host.old) (H.log host.new)) (J.taken seat.old) (J.load seat.old) (J.taken seat.new) (J.load seat.new) }
+    ensures paid { Paid result (length running.new.children) (part H.log host.old host.new) (J.taken seat.old) (J.load seat.old) (J.taken seat.new) (J.load seat.new) }
     ensures ends { IfErr result (EndsAt (H.log host.new)) }
     ensures job_fault { result ≡ Err RunError.JobFault → Rose (J.faults seat.old) (J.faults seat.new) }
-    ensures own { list_all is_of_run (since (H.log host.old) (H.log host.new)) ≡ true }
-    ensures kept { OnOk result (kept_from running.old (since (H.log host.old) (H.log host.new)) ≡ running.new) }
-    ensures lines { (tells : Bool) → IsPrinted shows.now tells cmds.now running.old result (since (H.log host.old) (H.log host.new)) }
+    ensures own { list_all is_of_run (part H.log host.old host.new) ≡ true }
+    ensures kept { OnOk result (kept_from running.old (part H.log host.old host.new) ≡ running.new) }
+    ensures lines { (tells : Bool) → IsPrinted shows.now tells cmds.now running.old result (part H.log host.old host.new) }
 {
     let planned = &cmds[running.started];
     match jobs.take(seat) {
@@ -146,8 +146,8 @@ impl SpawnState {
         ensures later { J.faults seat.old ≤ J.faults seat.new }
         ensures patient { H.patience host.new ≡ H.patience host.old }
         ensures goes { Goes (J.total seat.old) (asked shows.now cmds.now) (H.log host.old) (run_of running.old) (H.log host.new) (run_of running.new) }
-        ensures told { IsTold (asked shows.now cmds.now) result (since (H.log host.old) (H.log host.new)) }
-        ensures turns { turns (since (H.log host.old) (H.log host.new)) ≡ 0 }
+        ensures told { IsTold (asked shows.now cmds.now) result (part H.log host.old host.new) }
+        ensures turns { turns (part H.log host.old host.new) ≡ 0 }
         ensures grew { length running.new.children + running.old.begun ≡ length running.old.children + running.new.begun }
         ensures more { running.old.begun ≤ running.new.begun }
         ensures failed { running.new.failed ≡ running.old.failed }
@@ -155,12 +155,12 @@ impl SpawnState {
         ensures ready { result ≡ Ok Step.Ready → running.new.begun ≡ length cmds.now }
         ensures unfinished { result ≡ Ok Step.Pending → running.new.begun < length cmds.now }
         ensures pending { result ≡ Ok Step.Pending → IfSome (J.total seat.old) (λ t. (1 ≤ t) × (J.held seat.new ≡ t)) }
-        ensures paid { Paid result (length running.new.children) (since (H.log host.old) (H.log host.new)) (J.taken seat.old) (J.load seat.old) (J.taken seat.new) (J.load seat.new) }
+        ensures paid { Paid result (length running.new.children) (part H.log host.old host.new) (J.taken seat.old) (J.load seat.old) (J.taken seat.new) (J.load seat.new) }
         ensures ends { IfErr result (EndsAt (H.log host.new)) }
         ensures job_fault { result ≡ Err RunError.JobFault → Rose (J.faults seat.old) (J.faults seat.new) }
-        ensures own { list_all is_of_run (since (H.log host.old) (H.log host.new)) ≡ true }
-        ensures kept { OnOk result (kept_from running.old (since (H.log host.old) (H.log host.new)) ≡ running.new) }
-        ensures lines { (tells : Bool) → IsPrinted shows.now tells cmds.now running.old result (since (H.log host.old) (H.log host.new)) }
+        ensures own { list_all is_of_run (part H.log host.old host.new) ≡ true }
+        ensures kept { OnOk result (kept_from running.old (part H.log host.old host.new) ≡ running.new) }
+        ensures lines { (tells : Bool) → IsPrinted shows.now tells cmds.now running.old result (part H.log host.old host.new) }
     {
         while running.started < cmds.len() {
             match start_next(alloc, host, jobs, seat, cmds, running, shows) {

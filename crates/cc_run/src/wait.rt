@@ -1,9 +1,9 @@
 // Waits for the children of a run.
 ghost use Rattle.std.specs.Prelude.{◌≡◌, ◌++◌, ◌∷◌, [], ◌+◌, ◌<◌, ◌≤◌, ◌^◌, ℕ, List, IfOk, IfErr, OnOk, MatchResult, length, true, false};
 ghost use Rattle.std.specs.List.{flat_map, list_all};
+ghost use Rattle.cc_host.specs.Call.{part};
 ghost use Rattle.cc_host.specs.Event.{told};
 ghost use Rattle.cc_host.specs.Children.{IsNews, Waits};
-ghost use Rattle.cc_host.specs.Part.{since};
 ghost use Rattle.cc_host.specs.declared.event.Event.TheVariants.{Turn as OneTurn};
 ghost use Rattle.cc_run.specs.Children.{ArePlaced, run_of};
 ghost use Rattle.cc_run.specs.Hearing.{children_from, owed_from};
@@ -163,12 +163,12 @@ fn take_news<W: World, H: Host<W>, J: Jobs>(
     ensures begun { running.new.begun ≡ running.old.begun }
     ensures placed { ArePlaced (length cmds.now) running.new }
     ensures patient { H.patience host.new ≡ H.patience host.old }
-    ensures extends { H.log host.new ≡ H.log host.old ++ since (H.log host.old) (H.log host.new) }
-    ensures shown { (lines : List LineSeen) × IsShown lines result (since (H.log host.old) (H.log host.new)) }
+    ensures extends { H.log host.new ≡ H.log host.old ++ part H.log host.old host.new }
+    ensures shown { (lines : List LineSeen) × IsShown lines result (part H.log host.old host.new) }
     ensures kind { IfErr result IsPrintError }
-    ensures own { list_all is_of_run (since (H.log host.old) (H.log host.new)) ≡ true }
+    ensures own { list_all is_of_run (part H.log host.old host.new) ≡ true }
     ensures children { OnOk result (running.new.children ≡ children_from running.old.children (flat_map told news.now)) }
-    ensures lines { IsShown (owed_from shows.now tells cmds.now running.old.children (flat_map told news.now)) result (since (H.log host.old) (H.log host.new)) }
+    ensures lines { IsShown (owed_from shows.now tells cmds.now running.old.children (flat_map told news.now)) result (part H.log host.old host.new) }
 {
     let mut lines = Vec::new(alloc);
     let settled = settle_all(
@@ -259,24 +259,24 @@ impl WaitState {
         ensures later { J.faults seat.old ≤ J.faults seat.new }
         ensures counts { (J.taken seat.new ≡ J.taken seat.old) × (J.load seat.new ≡ J.load seat.old) }
         ensures patient { H.patience host.new ≡ H.patience host.old }
-        ensures extends { H.log host.new ≡ H.log host.old ++ since (H.log host.old) (H.log host.new) }
+        ensures extends { H.log host.new ≡ H.log host.old ++ part H.log host.old host.new }
         ensures goes { BusyHere (J.total seat.old) (length (asked shows.now cmds.now)) (run_of running.old) → Goes (J.total seat.old) (asked shows.now cmds.now) (H.log host.old) (run_of running.old) (H.log host.new) (run_of running.new) }
-        ensures told { IsTold (asked shows.now cmds.now) result (since (H.log host.old) (H.log host.new)) }
+        ensures told { IsTold (asked shows.now cmds.now) result (part H.log host.old host.new) }
         ensures begun { running.new.begun ≡ running.old.begun }
-        ensures turns { turns.new.left + turns_in (since (H.log host.old) (H.log host.new)) ≡ turns.old.left }
-        ensures used { turns.new.used ≡ turns.old.used + turns_in (since (H.log host.old) (H.log host.new)) }
+        ensures turns { turns.new.left + turns_in (part H.log host.old host.new) ≡ turns.old.left }
+        ensures used { turns.new.used ≡ turns.old.used + turns_in (part H.log host.old host.new) }
         ensures one_turn { OnOk result (turns.new.left + 1 ≡ turns.old.left) }
         ensures waited { Waited (H.patience host.new) (H.log host.old) (H.log host.new) }
-        ensures starts { (starts (since (H.log host.old) (H.log host.new)) ≡ 0) × (loads (since (H.log host.old) (H.log host.new)) ≡ 0) }
+        ensures starts { (starts (part H.log host.old host.new) ≡ 0) × (loads (part H.log host.old host.new) ≡ 0) }
         ensures ends { IfErr result (EndsAt (H.log host.new)) }
         ensures kind { IfErr result IsWaitError }
         ensures spent { result ≡ Err RunError.TurnsSpent → (turns.old.left ≡ 0) × (running.new ≡ running.old) }
         ensures ready { result ≡ Ok Step.Ready → (run_of running.new).live ≡ [] }
         ensures pending { result ≡ Ok Step.Pending → 0 < length (run_of running.new).live }
-        ensures own { list_all is_of_run (since (H.log host.old) (H.log host.new)) ≡ true }
+        ensures own { list_all is_of_run (part H.log host.old host.new) ≡ true }
         ensures tells { self.new.tells ≡ self.old.tells }
-        ensures kept { OnOk result (kept_from running.old (since (H.log host.old) (H.log host.new)) ≡ running.new) }
-        ensures lines { IsPrinted shows.now self.old.tells cmds.now running.old result (since (H.log host.old) (H.log host.new)) }
+        ensures kept { OnOk result (kept_from running.old (part H.log host.old host.new) ≡ running.new) }
+        ensures lines { IsPrinted shows.now self.old.tells cmds.now running.old result (part H.log host.old host.new) }
     {
         let news = match turn_once(host, turns, self.idle) {
             Ok(news) => news,
@@ -317,25 +317,25 @@ impl WaitState {
         ensures later { J.faults seat.old ≤ J.faults seat.new }
         ensures counts { (J.taken seat.new ≡ J.taken seat.old) × (J.load seat.new ≡ J.load seat.old) }
         ensures patient { H.patience host.new ≡ H.patience host.old }
-        ensures extends { H.log host.new ≡ H.log host.old ++ since (H.log host.old) (H.log host.new) }
+        ensures extends { H.log host.new ≡ H.log host.old ++ part H.log host.old host.new }
         ensures goes { BusyHere (J.total seat.old) (length (asked shows.now cmds.now)) (run_of running.old) → Goes (J.total seat.old) (asked shows.now cmds.now) (H.log host.old) (run_of running.old) (H.log host.new) (run_of running.new) }
-        ensures told { IsTold (asked shows.now cmds.now) result (since (H.log host.old) (H.log host.new)) }
+        ensures told { IsTold (asked shows.now cmds.now) result (part H.log host.old host.new) }
         ensures begun { running.new.begun ≡ running.old.begun }
-        ensures turns { turns.new.left + turns_in (since (H.log host.old) (H.log host.new)) ≡ turns.old.left }
-        ensures used { turns.new.used ≡ turns.old.used + turns_in (since (H.log host.old) (H.log host.new)) }
+        ensures turns { turns.new.left + turns_in (part H.log host.old host.new) ≡ turns.old.left }
+        ensures used { turns.new.used ≡ turns.old.used + turns_in (part H.log host.old host.new) }
         ensures one_turn { IsOpen (length cmds.now) (run_of running.old) → OnOk result (turns.new.left + 1 ≡ turns.old.left) }
         ensures done { (IsOpen (length cmds.now) (run_of running.old) → ⊥) → (result ≡ Ok Step.Ready) × (H.log host.new ≡ H.log host.old) }
         ensures waited { Waited (H.patience host.new) (H.log host.old) (H.log host.new) }
-        ensures starts { (starts (since (H.log host.old) (H.log host.new)) ≡ 0) × (loads (since (H.log host.old) (H.log host.new)) ≡ 0) }
+        ensures starts { (starts (part H.log host.old host.new) ≡ 0) × (loads (part H.log host.old host.new) ≡ 0) }
         ensures ends { IfErr result (EndsAt (H.log host.new)) }
         ensures kind { IfErr result IsWaitError }
         ensures spent { result ≡ Err RunError.TurnsSpent → (turns.old.left ≡ 0) × (running.new ≡ running.old) × IsOpen (length cmds.now) (run_of running.old) }
         ensures ready { result ≡ Ok Step.Ready → (run_of running.new).live ≡ [] }
         ensures pending { result ≡ Ok Step.Pending → 0 < length (run_of running.new).live }
-        ensures own { list_all is_of_run (since (H.log host.old) (H.log host.new)) ≡ true }
+        ensures own { list_all is_of_run (part H.log host.old host.new) ≡ true }
         ensures tells { self.new.tells ≡ self.old.tells }
-        ensures kept { OnOk result (kept_from running.old (since (H.log host.old) (H.log host.new)) ≡ running.new) }
-        ensures lines { IsPrinted shows.now self.old.tells cmds.now running.old result (since (H.log host.old) (H.log host.new)) }
+        ensures kept { OnOk result (kept_from running.old (part H.log host.old host.new) ≡ running.new) }
+        ensures lines { IsPrinted shows.now self.old.tells cmds.now running.old result (part H.log host.old host.new) }
     {
         if is_done(running, cmds.len()) {
             return Ok(Step::Ready);

@@ -1,7 +1,7 @@
 // Runs one command to its end in one call of the host.
 ghost use Rattle.std.specs.Prelude.{◌≡◌, ◌++◌, IfOk, true};
 ghost use Rattle.std.specs.Option.{option_copied};
-ghost use Rattle.cc_host.specs.Part.{since};
+ghost use Rattle.cc_host.specs.Call.{part};
 ghost use Rattle.cc_host.specs.declared.event.OutputKind.TheVariants.{Capture};
 ghost use Rattle.cc_run.specs.Output.{IsOutput, IsSilentRun, behind};
 
@@ -47,9 +47,9 @@ fn run_whole<W: World, H: Host<W>>(
     always: bool,
     ignored: Option<&[u8]>,
 ) -> Result<Bytes, RunError>
-    ensures extends { H.log host.new ≡ H.log host.old ++ since (H.log host.old) (H.log host.new) }
+    ensures extends { H.log host.new ≡ H.log host.old ++ part H.log host.old host.new }
     ensures patient { H.patience host.new ≡ H.patience host.old }
-    ensures part { IsOutput shows.now planned.now out always (option_copied ignored.entry) result (since (H.log host.old) (H.log host.new)) }
+    ensures part { IsOutput shows.now planned.now out always (option_copied ignored.entry) result (part H.log host.old host.new) }
 {
     let pipes = Pipes {
         out,
@@ -89,9 +89,9 @@ pub fn run_silent<W: World, H: Host<W>>(
     cmd: &Planned,
     shows: &Shows,
 ) -> Result<(), RunError>
-    ensures extends { H.log host.new ≡ H.log host.old ++ since (H.log host.old) (H.log host.new) }
+    ensures extends { H.log host.new ≡ H.log host.old ++ part H.log host.old host.new }
     ensures patient { H.patience host.new ≡ H.patience host.old }
-    ensures part { IsSilentRun shows.now cmd.now result (since (H.log host.old) (H.log host.new)) }
+    ensures part { IsSilentRun shows.now cmd.now result (part H.log host.old host.new) }
 {
     match run_whole(alloc, host, cmd, OutputKind::Discard, shows, false, None) {
         Ok(_) => Ok(()),
@@ -108,9 +108,9 @@ pub fn run_output<W: World, H: Host<W>>(
     shows: &Shows,
     ignored: Option<&[u8]>,
 ) -> Result<Bytes, RunError>
-    ensures extends { H.log host.new ≡ H.log host.old ++ since (H.log host.old) (H.log host.new) }
+    ensures extends { H.log host.new ≡ H.log host.old ++ part H.log host.old host.new }
     ensures patient { H.patience host.new ≡ H.patience host.old }
-    ensures part { IsOutput shows.now cmd.now Capture true (option_copied ignored.entry) result (since (H.log host.old) (H.log host.new)) }
+    ensures part { IsOutput shows.now cmd.now Capture true (option_copied ignored.entry) result (part H.log host.old host.new) }
 {
     run_whole(alloc, host, cmd, OutputKind::Capture, shows, true, ignored)
 }

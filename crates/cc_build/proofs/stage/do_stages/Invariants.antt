@@ -1,5 +1,6 @@
 use Rattle.std.proofs.Common.{◌≡◌, ◌+◌, take}
-use Rattle.cc_build.specs.Kept.{part, left_at, Aside, Idle}
+use Rattle.cc_host.specs.Call.{part}
+use Rattle.cc_build.specs.Kept.{left_at, Aside, Idle}
 use Rattle.cc_build.specs.Seen.{stages_seen}
 use Rattle.cc_build.specs.Went.{terms, Went}
 use Rattle.cc_build.proofs.stage.do_stages.Given as goal
