@@ -11,6 +11,7 @@ mod family;
 mod hash;
 mod map;
 mod memory;
+mod pairs;
 mod parts;
 mod paths;
 mod pieces;

@@ -1,24 +1,32 @@
 // A list of pairs of texts.
 ghost use Rattle.std.specs.Prelude.{◌≡◌, ◌<◌, ◌++◌, [], ◌∷◌, List, ℕ, length, slice_get, IfOk, OnOk, OnErr, IsTrue, ◌↔◌};
-ghost use Rattle.std.specs.Option.{option_copied};
-ghost use Rattle.cc_text.specs.Map.{with_value_at};
-ghost use Rattle.cc_text.specs.Vars.{with_var, place_of, same_vars, same_vars-equiv};
+ghost use Rattle.std.specs.Arc.{arc_value};
+ghost use Rattle.std.specs.Option.{option_copied, option_map_or};
 ghost use Rattle.std.specs.Cmp.{partial_equiv_from_equiv};
+ghost use Rattle.cc_text.specs.Map.{with_value_at};
+ghost use Rattle.cc_text.specs.Vars.{with_var, same_vars, same_vars-equiv};
 
-use crate::{Mem, Text};
+use crate::pairs::Pairs;
+use crate::{Mem, NoMemory, Text};
 use std::alloc::Global;
+use std::fmt;
 use std::marker::Model;
+use std::sync::Arc;
 
 /// A list of pairs of texts: names and values.
-#[derive(Drop, Debug)]
+///
+/// A second list of the same pairs shares them by a count of its owners. A list that is changed while it shares
+/// its pairs gets its own first.
+#[derive(Drop)]
 pub struct Vars {
-    vars: Vec<(Text, Text)>,
+    alloc: Global,
+    shared: Option<Arc<Pairs, Global>>,
 }
 
 impl Model for Vars {
     ghost Value = { List (List ℕ × List ℕ) };
 
-    ghost view = { λ v. v.vars.items };
+    ghost view = { λ v. option_map_or arc_value v.shared [] };
 }
 
 impl Vars {
@@ -27,7 +35,8 @@ impl Vars {
         ensures { result ≡ [] }
     {
         Vars {
-            vars: Vec::new(alloc),
+            alloc,
+            shared: None,
         }
     }
 
@@ -36,18 +45,31 @@ impl Vars {
         ensures ok { OnOk result (self.new ≡ self.old ++ (name.now, value.now) ∷ []) }
         ensures err { OnErr result (self.new ≡ self.old) }
     {
-        let alloc = *self.vars.allocator();
-        let name = Text::of(alloc, name)?;
-        let value = Text::of(alloc, value)?;
-        self.vars.push((name, value))?;
-        Ok(())
+        self.own()?;
+        match &mut self.shared {
+            Some(shared) => match Arc::get_mut(shared) {
+                Some(pairs) => pairs.push(name, value),
+                None => Err(NoMemory),
+            },
+            None => Err(NoMemory),
+        }
     }
 
-    /// The place of the first pair of a name, or none. It takes no memory.
-    fn place_of(&self, name: &str) -> Option<usize>
-        ensures { result ≡ place_of self.now name.now }
+    // Gives the list pairs of its own, where another list shares them. Refused for memory, it stays as it was.
+    fn own(&mut self) -> Mem<()>
+        ensures { self.new ≡ self.old }
     {
-        self.vars.iter().position(|pair| pair.0.as_str() == name)
+        let pairs = match &self.shared {
+            Some(shared) => {
+                if Arc::strong_count(shared) == 1 {
+                    return Ok(());
+                }
+                shared.try_clone()?
+            }
+            None => Pairs::new(self.alloc),
+        };
+        self.shared = Some(Arc::new(self.alloc, pairs)?);
+        Ok(())
     }
 
     /// Gives a name a value: in the place of the first pair of that name, else in a pair that is added last.
@@ -56,12 +78,13 @@ impl Vars {
         ensures ok { OnOk result (self.new ≡ with_var self.old name.now value.now) }
         ensures err { OnErr result (self.new ≡ self.old) }
     {
-        match self.place_of(name) {
-            Some(place) => {
-                self.vars[place].1 = Text::of(*self.vars.allocator(), value)?;
-                Ok(())
-            }
-            None => self.push(name, value),
+        self.own()?;
+        match &mut self.shared {
+            Some(shared) => match Arc::get_mut(shared) {
+                Some(pairs) => pairs.set(name, value),
+                None => Err(NoMemory),
+            },
+            None => Err(NoMemory),
         }
     }
 
@@ -71,9 +94,14 @@ impl Vars {
         ensures ok { OnOk result (self.new ≡ with_value_at self.old place value.now) }
         ensures err { OnErr result (self.new ≡ self.old) }
     {
-        let value = Text::of(*self.vars.allocator(), value)?;
-        self.vars[place].1 = value;
-        Ok(())
+        self.own()?;
+        match &mut self.shared {
+            Some(shared) => match Arc::get_mut(shared) {
+                Some(pairs) => pairs.set_at(place, value),
+                None => Err(NoMemory),
+            },
+            None => Err(NoMemory),
+        }
     }
 
     /// Adds copies of other pairs last. Refused for memory, the list stays as it was.
@@ -81,48 +109,66 @@ impl Vars {
         ensures ok { OnOk result (self.new ≡ self.old ++ vars.now) }
         ensures err { OnErr result (self.new ≡ self.old) }
     {
-        let mut copies = vars.try_clone()?.vars;
-        self.vars.append(&mut copies)?;
-        Ok(())
+        let more = vars.as_slice();
+        self.own()?;
+        match &mut self.shared {
+            Some(shared) => match Arc::get_mut(shared) {
+                Some(pairs) => pairs.extend(more),
+                None => Err(NoMemory),
+            },
+            None => Err(NoMemory),
+        }
     }
 
     /// How many pairs there are.
     pub fn len(&self) -> usize
         ensures { result ≡ length self.now }
     {
-        self.vars.len()
+        self.as_slice().len()
     }
 
     /// Whether there is no pair.
     pub fn is_empty(&self) -> bool
         ensures { IsTrue result ↔ (self.now ≡ []) }
     {
-        self.vars.is_empty()
+        self.as_slice().is_empty()
     }
 
     /// The pair at a place, from 0, or none past the end.
     pub fn get(&self, place: usize) -> Option<&(Text, Text)>
         ensures { option_copied result ≡ slice_get self.now place }
     {
-        self.vars.get(place)
+        self.as_slice().get(place)
     }
 
     /// The pairs in order, lent.
     pub fn as_slice(&self) -> &[(Text, Text)]
         ensures { result.now ≡ self.now }
     {
-        self.vars.as_slice()
+        match &self.shared {
+            Some(shared) => shared.as_slice(),
+            None => &[],
+        }
     }
 
-    /// A second list of the same pairs.
+    /// A second list of the same pairs, which shares them.
     pub fn try_clone(&self) -> Mem<Vars>
         ensures { IfOk result (λ v. v ≡ self.now) }
     {
-        let mut vars = Vars::new(*self.vars.allocator());
-        for (name, value) in &self.vars {
-            vars.push(name.as_str(), value.as_str())?;
-        }
-        Ok(vars)
+        let shared = match &self.shared {
+            Some(shared) => Some(Arc::try_clone(shared)?),
+            None => None,
+        };
+        Ok(Vars {
+            alloc: self.alloc,
+            shared,
+        })
+    }
+}
+
+impl fmt::Debug for Vars {
+    fn fmt<W: fmt::Write>(&self, f: &mut fmt::Formatter<W>) -> fmt::Result {
+        self.as_slice().fmt(f)
     }
 }
 
@@ -132,7 +178,7 @@ impl PartialEq for Vars {
     ghost laws = { partial_equiv_from_equiv same_vars-equiv };
 
     fn eq(&self, other: &Vars) -> bool {
-        self.vars == other.vars
+        self.as_slice() == other.as_slice()
     }
 }
 
