@@ -69,7 +69,8 @@ impl BuildEnv {
 
     /// Adds an explicit entry last. Refused for memory, the environment stays as it was.
     pub fn add_explicit(&mut self, name: &str, value: &str) -> Mem<()>
-        ensures ok { OnOk result (self.new ≡ record self.old { explicit = self.old.explicit ++ (name.now, value.now) ∷ [] }) }
+        ensures ok { OnOk result (self.new
+            ≡ record self.old { explicit = self.old.explicit ++ (name.now, value.now) ∷ [] }) }
         ensures err { OnErr result (self.new ≡ self.old) }
     {
         self.explicit.push(name, value)
@@ -79,7 +80,8 @@ impl BuildEnv {
     #[tactic(auto, using(crate::proofs::EnvLemmas::overridable_is))]
     pub fn overridable(&self, name: &str) -> Option<&str>
         ensures value { option_copied result ≡ overridable self.now name.now }
-        ensures inherits { last_value self.now.explicit name.now ≡ None → option_copied result ≡ last_value self.now.inherited name.now }
+        ensures inherits { last_value self.now.explicit name.now ≡ None
+            → option_copied result ≡ last_value self.now.inherited name.now }
     {
         match last_of(&self.explicit, name) {
             Some(value) => Some(value.as_str()),
@@ -92,7 +94,8 @@ impl BuildEnv {
     #[tactic(auto, unfolding(crate::specs::Env::overridable))]
     pub fn child_vars(&self, alloc: Global) -> Mem<Vars>
         ensures child { IfOk result (λ vars. vars ≡ child_of self.now.inherited self.now.explicit) }
-        ensures last { IfOk result (λ vars. (name : List ℕ) → last_value vars name ≡ overridable self.now name) }
+        ensures last { IfOk result (λ vars. (name : List ℕ)
+            → last_value vars name ≡ overridable self.now name) }
     {
         self.inherited.child_vars(alloc, &self.explicit)
     }

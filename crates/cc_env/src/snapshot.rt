@@ -52,7 +52,8 @@ impl EnvSnapshot {
     /// The snapshot of some pairs: each name once, at the place of its first pair, with its last value.
     pub fn from_vars(alloc: Global, vars: &Vars) -> Mem<EnvSnapshot>
         ensures snapshot { IfOk result (λ env. env ≡ snapshot_of vars.now) }
-        ensures last { IfOk result (λ env. (name : List ℕ) → last_value env name ≡ last_value vars.now name) }
+        ensures last { IfOk result (λ env. (name : List ℕ)
+            → last_value env name ≡ last_value vars.now name) }
     {
         let mut kept = Vars::new(alloc);
         let mut places = BTreeMap::new(alloc);
@@ -96,8 +97,10 @@ impl EnvSnapshot {
     /// value of its name, or is added last.
     pub fn child_vars(&self, alloc: Global, entries: &Vars) -> Mem<Vars>
         ensures child { IfOk result (λ vars. vars ≡ child_of self.now entries.now) }
-        ensures last { IfOk result (λ vars. (name : List ℕ) → last_value vars name ≡ last_value (self.now ++ entries.now) name) }
-        ensures inherits { IfOk result (λ vars. (name : List ℕ) → last_value entries.now name ≡ None → last_value vars name ≡ last_value self.now name) }
+        ensures last { IfOk result (λ vars. (name : List ℕ)
+            → last_value vars name ≡ last_value (self.now ++ entries.now) name) }
+        ensures inherits { IfOk result (λ vars. (name : List ℕ) → last_value entries.now name ≡ None
+            → last_value vars name ≡ last_value self.now name) }
     {
         let mut vars = self.vars.try_clone()?;
         let mut more = BTreeMap::new(alloc);

@@ -3,7 +3,7 @@ use Rattle.std.proofs.Common.{◌≡◌, ℕ, suc, ◌<◌, Bool, true, false, �
 use Rattle.std.specs.Option.{option_map_or}
 use Rattle.std.specs.Str.Pattern.{RFindsChar, SplitsAroundMatch}
 use Rattle.std.proofs.lemmas.Str.Pattern.{NoCharPasses-char, drop_at_char}
-use Rattle.cc_flags.specs.Families.{has_dash, before_last_dash}
+use Rattle.cc_flags.specs.CompilerNames.{has_dash, before_last_dash}
 
 -- a text none of whose bytes is a `-`
 no_dash : (text : List ℕ) → ((i : ℕ) → i < length text → get_or text i 0 ≡ 45 → ⊥) → has_dash text ≡ false

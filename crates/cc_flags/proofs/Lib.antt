@@ -1,5 +1,3 @@
-pub mod AmongLemmas
 pub mod DashLemmas
 pub mod FlagLemmas
-pub mod NumberLemmas
 pub mod PairLemmas

@@ -3,7 +3,7 @@ use Rattle.std.specs.Prelude.{ℕ, Bool, false, not, ◌&&◌, ◌||◌, List, [
 use Rattle.cc_text.specs.Words.{when}
 use Rattle.cc_text.specs.declared.family.ToolFamily.{ToolFamily}
 use Rattle.cc_target.specs.Targets.{Info}
-use Rattle.cc_flags.specs.Families.{is_clang, is_gnu_like, is_visual_studio}
+use Rattle.cc_text.specs.Families.{is_clang, is_gnu_like, is_visual_studio}
 use Rattle.cc_flags.specs.Texts.{is, word}
 
 -- the text asks for debug information

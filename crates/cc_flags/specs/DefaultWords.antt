@@ -6,7 +6,8 @@ use Rattle.cc_env.specs.Snapshot.{last_value}
 use Rattle.cc_text.specs.Words.{when, choose, entry}
 use Rattle.cc_text.specs.declared.family.ToolFamily.{ToolFamily}
 use Rattle.cc_target.specs.Targets.{Info}
-use Rattle.cc_flags.specs.Families.{is_gnu, is_clang, is_gnu_like, is_cl, has_windows_target, has_android_target}
+use Rattle.cc_text.specs.Families.{is_gnu, is_clang, is_gnu_like, is_cl}
+use Rattle.cc_flags.specs.CompilerNames.{has_windows_target, has_android_target}
 use Rattle.cc_flags.specs.Texts.{is, has, word}
 
 -- the value of a variable, or nothing
@@ -142,7 +143,7 @@ is_sanitized family target = (is_gnu_like family && is_x86_64_glibc target) || (
 
 -- Cargo's target has the address sanitizer, and the compiler is given it
 unfoldable pub wants_sanitizer : ToolFamily → Info → Bool → List (List ℕ × List ℕ) → Bool
-wants_sanitizer family target cargos env = cargos && has_address_sanitizer (value_or_empty env (codes "CARGO_CFG_SANITIZE")) && is_sanitized family target
+wants_sanitizer family target is_cargos_target env = is_cargos_target && has_address_sanitizer (value_or_empty env (codes "CARGO_CFG_SANITIZE")) && is_sanitized family target
 
 unfoldable pub sanitizer_words : ToolFamily → Info → Bool → List (List ℕ × List ℕ) → List (List ℕ)
-sanitizer_words family target cargos env = when (wants_sanitizer family target cargos env) (word "-fsanitize=address")
+sanitizer_words family target is_cargos_target env = when (wants_sanitizer family target is_cargos_target env) (word "-fsanitize=address")

@@ -2,11 +2,10 @@
 use Rattle.std.specs.Prelude.{ℕ, Bool, true, false, List, [], ◌∷◌, ◌==◌, ◌^◌, Option, Some, None, map, find, reverse, flat_map, codes, length, nat_lt, is_none, is_some, unwrap_or, ◌&&◌, ◌||◌, if◌then◌else◌}
 use Rattle.std.specs.Option.{option_map, option_and_then}
 use Rattle.std.specs.List.{list_all, filter, slice_split}
-use Rattle.std.specs.Char.{digit_value}
-use Rattle.std.specs.Str.Parse.{digits_value, without_leading_plus}
+use Rattle.cc_text.specs.Numbers.{u32_of}
 use Prim.Native.String.{String}
-use Rattle.cc_text.specs.Words.{when}
-use Rattle.cc_flags.specs.Pairs.{is, is_among, pairs_of}
+use Rattle.cc_text.specs.Words.{when, is_one_of}
+use Rattle.cc_flags.specs.Pairs.{is, pairs_of}
 use Rattle.cc_flags.specs.declared.error.FlagError.{FlagError}
 use Rattle.cc_flags.specs.declared.error.FlagError.TheVariants.{InvalidFlag}
 use Rattle.cc_flags.specs.declared.flags.RustcCodegenFlags.{RustcCodegenFlags}
@@ -14,29 +13,19 @@ use Rattle.cc_flags.specs.declared.pairs.Pair.{Pair}
 
 -- a word that says yes
 unfoldable pub is_yes : List ℕ → Bool
-is_yes word = is_among (map codes ("y" ∷ "yes" ∷ "on" ∷ "true" ∷ [])) word
+is_yes word = is_one_of (map codes ("y" ∷ "yes" ∷ "on" ∷ "true" ∷ [])) word
 
 -- a word that says no
 unfoldable pub is_no : List ℕ → Bool
-is_no word = is_among (map codes ("n" ∷ "no" ∷ "off" ∷ "false" ∷ [])) word
+is_no word = is_one_of (map codes ("n" ∷ "no" ∷ "off" ∷ "false" ∷ [])) word
 
 -- what a word says: yes, no, or neither
 unfoldable pub truth_of : List ℕ → Option Bool
 truth_of word = if is_yes word then Some true else (if is_no word then Some false else None)
 
--- one decimal digit or more, and nothing else
-abbrev pub is_numeral : List ℕ → Bool
-is_numeral digits = nat_lt 0 (length digits) && list_all (λ c. nat_lt (digit_value c) 10) digits
-
--- the number of 32 bits that Rust reads from a text: digits, after one `+` at most
-unfoldable pub u32_of : List ℕ → Option ℕ
-u32_of text =
-    let digits = without_leading_plus text in
-    if is_numeral digits && nat_lt (digits_value 10 digits) (2 ^ 32) then Some (digits_value 10 digits) else None
-
 -- the last pair of some keys
 unfoldable pub last_of : List (List ℕ) → List Pair → Option Pair
-last_of keys pairs = find (λ p. is_among keys p.key) (reverse pairs)
+last_of keys pairs = find (λ p. is_one_of keys p.key) (reverse pairs)
 
 -- its value, where it has one
 unfoldable pub text_of : List (List ℕ) → List Pair → Option (List ℕ)
@@ -84,7 +73,7 @@ features_of pairs = flat_map features_in pairs
 -- the keys whose value is a text that has to be there
 unfoldable pub needs_text : List ℕ → Bool
 needs_text key =
-    is_among (map codes ("-Ccode-model" ∷ "-Crelocation-model" ∷ "-Zbranch-protection" ∷ "-Cbranch-protection" ∷ "-Zstack-protector" ∷ "-Cstack-protector" ∷ "-Ctarget-cpu" ∷ "-Ctarget-feature" ∷ [])) key
+    is_one_of (map codes ("-Ccode-model" ∷ "-Crelocation-model" ∷ "-Zbranch-protection" ∷ "-Cbranch-protection" ∷ "-Zstack-protector" ∷ "-Cstack-protector" ∷ "-Ctarget-cpu" ∷ "-Ctarget-feature" ∷ [])) key
 
 -- a pair without the value that it needs
 unfoldable pub is_invalid : Pair → Bool

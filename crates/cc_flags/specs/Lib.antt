@@ -1,6 +1,6 @@
+pub mod CompilerNames
 pub mod DebugWords
 pub mod DefaultWords
-pub mod Families
 pub mod Features
 pub mod Fields
 pub mod GnuWords

@@ -3,6 +3,7 @@ use Rattle.std.specs.Prelude.{ℕ, Bool, List, [], ◌∷◌, ◌++◌, ◌==◌
 use Rattle.std.specs.Option.{option_map_or}
 use Rattle.std.specs.List.{list_any, slice_split}
 use Prim.Native.String.{String}
+use Rattle.cc_text.specs.Words.{is_one_of}
 use Rattle.cc_text.specs.Cuts.{after_prefix, key_and_value}
 use Rattle.cc_flags.specs.declared.pairs.Pair.{Pair}
 
@@ -10,14 +11,10 @@ use Rattle.cc_flags.specs.declared.pairs.Pair.{Pair}
 abbrev pub is : List ℕ → String → Bool
 is text literal = bytes_eq text (codes literal)
 
--- the text is one of the names
-abbrev pub is_among : List (List ℕ) → List ℕ → Bool
-is_among names text = list_any (λ name. bytes_eq name text) names
-
 -- a part that stands before the part it belongs to
 unfoldable pub is_prefix : List ℕ → Bool
 is_prefix part =
-    is_among (map codes ("-Z" ∷ "-C" ∷ "--codegen" ∷ "-L" ∷ "-l" ∷ "-o" ∷ "-W" ∷ "--warn" ∷ "-A" ∷ "--allow" ∷ "-D" ∷ "--deny" ∷ "-F" ∷ "--forbid" ∷ [])) part
+    is_one_of (map codes ("-Z" ∷ "-C" ∷ "--codegen" ∷ "-L" ∷ "-l" ∷ "-o" ∷ "-W" ∷ "--warn" ∷ "-A" ∷ "--allow" ∷ "-D" ∷ "--deny" ∷ "-F" ∷ "--forbid" ∷ [])) part
 
 -- the short form of a prefix
 unfoldable pub short_form : List ℕ → List ℕ

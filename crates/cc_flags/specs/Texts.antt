@@ -23,7 +23,3 @@ has text literal = is_within (codes literal) text
 -- one word
 abbrev pub word : String → List (List ℕ)
 word literal = codes literal ∷ []
-
--- the word stands among these
-abbrev pub is_among : List (List ℕ) → List ℕ → Bool
-is_among words text = list_any (bytes_eq text) words

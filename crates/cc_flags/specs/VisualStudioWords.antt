@@ -4,7 +4,7 @@ use Rattle.cc_text.specs.Words.{when, choose, entry}
 use Rattle.cc_text.specs.declared.family.ToolFamily.{ToolFamily}
 use Rattle.cc_target.specs.Targets.{Info}
 use Rattle.cc_flags.specs.DefaultWords.{target_words}
-use Rattle.cc_flags.specs.Families.{is_visual_studio, is_clang_cl}
+use Rattle.cc_text.specs.Families.{is_visual_studio, is_clang_cl}
 use Rattle.cc_flags.specs.Texts.{is, word}
 
 -- a level that asks for small code

@@ -5,9 +5,8 @@ ghost use Rattle.cc_target.specs.Targets.{info_seen};
 ghost use Rattle.cc_text.specs.Words.{when};
 ghost use Rattle.cc_flags.specs.DebugWords as spec;
 
-use crate::family::{is_clang, is_gnu_like, is_visual_studio};
 use cc_target::TargetInfo;
-use cc_text::{Mem, ToolFamily, Words};
+use cc_text::{Mem, ToolFamily, Words, is_clang, is_gnu_like, is_visual_studio};
 
 // The text asks for debug information.
 #[tactic(auto, unfolding(crate::specs::DebugWords::asks_for_debug))]
@@ -84,7 +83,8 @@ fn push_wanted_debug_words(
     target: &TargetInfo,
     text: &str,
 ) -> Mem<()>
-    ensures { OnOk result (words.new ≡ words.old ++ spec.wanted_debug_words family (info_seen target.now) text.now) }
+    ensures { OnOk result (words.new
+        ≡ words.old ++ spec.wanted_debug_words family (info_seen target.now) text.now) }
 {
     if is_visual_studio(family) {
         words.push("-Z7")?;
@@ -103,7 +103,8 @@ pub fn push_debug_words(
     target: &TargetInfo,
     debug: Option<&str>,
 ) -> Mem<()>
-    ensures { OnOk result (words.new ≡ words.old ++ spec.debug_words family (info_seen target.now) (option_copied debug.entry)) }
+    ensures { OnOk result (words.new
+        ≡ words.old ++ spec.debug_words family (info_seen target.now) (option_copied debug.entry)) }
 {
     if let Some(text) = debug {
         if asks_for_debug(text) {
@@ -150,7 +151,8 @@ pub fn push_frame_pointer_words(
     debug: Option<&str>,
     takes_leaf: bool,
 ) -> Mem<()>
-    ensures { OnOk result (words.new ≡ words.old ++ spec.frame_pointer_words family force (option_copied debug.entry) takes_leaf) }
+    ensures { OnOk result (words.new
+        ≡ words.old ++ spec.frame_pointer_words family force (option_copied debug.entry) takes_leaf) }
 {
     if keeps_frame_pointers(family, force, debug) {
         push_kept_words(words, takes_leaf)?;

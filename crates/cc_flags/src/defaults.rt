@@ -4,11 +4,11 @@ ghost use Rattle.std.specs.Option.{option_copied};
 ghost use Rattle.cc_target.specs.Targets.{info_seen};
 ghost use Rattle.cc_flags.specs.DefaultWords as spec;
 
-use crate::family::{has_android_target, has_windows_target, is_cl, is_clang, is_gnu, is_gnu_like};
+use crate::compiler_names::{has_android_target, has_windows_target};
 use crate::texts::{has, value_or_empty};
 use cc_env::EnvSnapshot;
 use cc_target::TargetInfo;
-use cc_text::{Mem, ToolFamily, Words};
+use cc_text::{Mem, ToolFamily, Words, is_cl, is_clang, is_gnu, is_gnu_like};
 
 // GCC spells the level `z` as `s`.
 fn level_text(family: ToolFamily, level: &str) -> &str
@@ -29,7 +29,8 @@ pub fn push_optimisation_words(
     target: &TargetInfo,
     level: &str,
 ) -> Mem<()>
-    ensures { OnOk result (words.new ≡ words.old ++ spec.optimisation_words family (info_seen target.now) level.now) }
+    ensures { OnOk result (words.new
+        ≡ words.old ++ spec.optimisation_words family (info_seen target.now) level.now) }
 {
     words.push_joined("-O", level_text(family, level))?;
     if is_clang(family) && target.os == "android" {
@@ -61,7 +62,8 @@ pub fn push_position_independence_words(
     pic: Option<bool>,
     use_plt: Option<bool>,
 ) -> Mem<()>
-    ensures { OnOk result (words.new ≡ words.old ++ spec.position_independence_words (info_seen target.now) pic use_plt) }
+    ensures { OnOk result (words.new
+        ≡ words.old ++ spec.position_independence_words (info_seen target.now) pic use_plt) }
 {
     if pic.unwrap_or(is_position_independent(target)) {
         words.push("-fPIC")?;
@@ -75,7 +77,8 @@ pub fn push_position_independence_words(
 // Where the headers and libraries of the system are.
 #[tactic(auto, unfolding(crate::specs::DefaultWords::sysroot_words))]
 fn push_sysroot_words(words: &mut Words, sysroot: Option<&str>) -> Mem<()>
-    ensures { OnOk result (words.new ≡ words.old ++ spec.sysroot_words (option_copied sysroot.entry)) }
+    ensures { OnOk result (words.new
+        ≡ words.old ++ spec.sysroot_words (option_copied sysroot.entry)) }
 {
     if let Some(sysroot) = sysroot {
         words.push_joined("--sysroot=", sysroot)?;
@@ -102,7 +105,9 @@ pub fn push_wasi_words(
     name: &str,
     sysroot: Option<&str>,
 ) -> Mem<()>
-    ensures { OnOk result (words.new ≡ words.old ++ spec.wasi_words (info_seen target.now) name.now (option_copied sysroot.entry)) }
+    ensures { OnOk result (words.new
+        ≡ words.old ++ spec.wasi_words (info_seen target.now) name.now
+        (option_copied sysroot.entry)) }
 {
     if target.os == "wasi" {
         push_sysroot_words(words, sysroot)?;
@@ -178,7 +183,8 @@ pub fn is_told_target(
     target: &TargetInfo,
     program: &str,
 ) -> bool
-    ensures { result ≡ spec.is_told_target family (option_copied compiler.entry) (info_seen target.now) program.now }
+    ensures { result ≡ spec.is_told_target family (option_copied compiler.entry)
+        (info_seen target.now) program.now }
 {
     is_clang(family)
         && !has_windows_target(compiler, target, program)
@@ -193,7 +199,9 @@ fn push_freebsd_words(
     cpp: bool,
     set_stdlib: Option<&str>,
 ) -> Mem<()>
-    ensures { OnOk result (words.new ≡ words.old ++ spec.freebsd_words (info_seen target.now) cpp (option_copied set_stdlib.entry)) }
+    ensures { OnOk result (words.new
+        ≡ words.old ++ spec.freebsd_words (info_seen target.now) cpp
+        (option_copied set_stdlib.entry)) }
 {
     if target.os == "freebsd" && cpp && set_stdlib.is_none() {
         words.push("-stdlib=libc++")?;
@@ -228,7 +236,8 @@ fn push_wasm_feature_words(words: &mut Words) -> Mem<()>
 
 #[tactic(auto, unfolding(crate::specs::DefaultWords::wasm_linux_words))]
 fn push_wasm_linux_words(words: &mut Words, sysroot: Option<&str>) -> Mem<()>
-    ensures { OnOk result (words.new ≡ words.old ++ spec.wasm_linux_words (option_copied sysroot.entry)) }
+    ensures { OnOk result (words.new
+        ≡ words.old ++ spec.wasm_linux_words (option_copied sysroot.entry)) }
 {
     push_wasm_feature_words(words)?;
     push_sysroot_words(words, sysroot)?;
@@ -255,7 +264,9 @@ pub fn push_clang_target_words(
     set_stdlib: Option<&str>,
     musl_sysroot: Option<&str>,
 ) -> Mem<()>
-    ensures { OnOk result (words.new ≡ words.old ++ spec.clang_target_words (info_seen target.now) llvm.now cpp (option_copied set_stdlib.entry) (option_copied musl_sysroot.entry)) }
+    ensures { OnOk result (words.new
+        ≡ words.old ++ spec.clang_target_words (info_seen target.now) llvm.now cpp
+        (option_copied set_stdlib.entry) (option_copied musl_sysroot.entry)) }
 {
     push_freebsd_words(words, target, cpp, set_stdlib)?;
     if is_wasm_linux(target) {
@@ -274,7 +285,8 @@ pub fn push_linkage_words(
     static_flag: Option<bool>,
     shared_flag: Option<bool>,
 ) -> Mem<()>
-    ensures { OnOk result (words.new ≡ words.old ++ spec.linkage_words (info_seen target.now) name.now static_flag shared_flag) }
+    ensures { OnOk result (words.new
+        ≡ words.old ++ spec.linkage_words (info_seen target.now) name.now static_flag shared_flag) }
 {
     let bare_wasm = name == "wasm32v1-none";
     let illumos = target.os == "illumos";
@@ -297,7 +309,8 @@ pub fn push_standard_library_words(
     cpp: bool,
     set_stdlib: Option<&str>,
 ) -> Mem<()>
-    ensures { OnOk result (words.new ≡ words.old ++ spec.standard_library_words family cpp (option_copied set_stdlib.entry)) }
+    ensures { OnOk result (words.new
+        ≡ words.old ++ spec.standard_library_words family cpp (option_copied set_stdlib.entry)) }
 {
     if is_gnu_like(family) && cpp {
         if let Some(stdlib) = set_stdlib {
@@ -339,26 +352,32 @@ fn is_sanitized(family: ToolFamily, target: &TargetInfo) -> bool
 
 // Cargo's target has the address sanitizer, and the compiler is given it.
 #[tactic(auto, unfolding(crate::specs::DefaultWords::wants_sanitizer))]
-fn wants_sanitizer(family: ToolFamily, target: &TargetInfo, cargos: bool, env: &EnvSnapshot) -> bool
-    ensures { result ≡ spec.wants_sanitizer family (info_seen target.now) cargos env.now }
+fn wants_sanitizer(
+    family: ToolFamily,
+    target: &TargetInfo,
+    is_cargos_target: bool,
+    env: &EnvSnapshot,
+) -> bool
+    ensures { result ≡ spec.wants_sanitizer family (info_seen target.now) is_cargos_target env.now }
 {
-    cargos
+    is_cargos_target
         && has_address_sanitizer(value_or_empty(env, "CARGO_CFG_SANITIZE"))
         && is_sanitized(family, target)
 }
 
-/// Adds the address sanitizer, where Cargo's target has it and the compiler is given it; `cargos` tells that the target is Cargo's.
+/// Adds the address sanitizer, where Cargo's target has it and the compiler is given it; `is_cargos_target` tells that the target is Cargo's.
 #[tactic(auto, unfolding(crate::specs::DefaultWords::sanitizer_words))]
 pub fn push_sanitizer_words(
     words: &mut Words,
     family: ToolFamily,
     target: &TargetInfo,
-    cargos: bool,
+    is_cargos_target: bool,
     env: &EnvSnapshot,
 ) -> Mem<()>
-    ensures { OnOk result (words.new ≡ words.old ++ spec.sanitizer_words family (info_seen target.now) cargos env.now) }
+    ensures { OnOk result (words.new
+        ≡ words.old ++ spec.sanitizer_words family (info_seen target.now) is_cargos_target env.now) }
 {
-    if wants_sanitizer(family, target, cargos, env) {
+    if wants_sanitizer(family, target, is_cargos_target, env) {
         words.push("-fsanitize=address")?;
     }
     Ok(())

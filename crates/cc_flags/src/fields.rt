@@ -2,12 +2,10 @@
 ghost use Rattle.std.specs.Prelude.{◌≡◌, ◌++◌, IfOk, OnOk, find, flat_map, filter};
 ghost use Rattle.std.specs.Option.{option_copied};
 ghost use Rattle.cc_text.specs.Words.{texts};
-ghost use Rattle.cc_flags.specs.Pairs.{is_among};
-ghost use Rattle.cc_flags.specs.Fields.{is_yes, is_no, truth_of, u32_of, last_of, is_given, text_of, text_or_true_of, switch, switch_of, is_on, plugin_of, number_in, number_of, feature_names, features_in, features_of, needs_text, is_invalid, invalid_pair};
+ghost use Rattle.cc_flags.specs.Fields.{is_yes, is_no, truth_of, last_of, is_given, text_of, text_or_true_of, switch, switch_of, is_on, plugin_of, number_in, number_of, feature_names, features_in, features_of, needs_text, is_invalid, invalid_pair};
 
-use crate::among::is_among;
 use crate::pairs::{Pair, parts_at};
-use cc_text::{Mem, Text, Words};
+use cc_text::{Mem, Text, Words, is_one_of, u32_of};
 use std::alloc::Global;
 
 /// Whether a word says yes.
@@ -15,7 +13,7 @@ use std::alloc::Global;
 pub fn is_yes(word: &str) -> bool
     ensures { result ≡ is_yes word.now }
 {
-    is_among(word, &["y", "yes", "on", "true"])
+    is_one_of(word, &["y", "yes", "on", "true"])
 }
 
 /// Whether a word says no.
@@ -23,7 +21,7 @@ pub fn is_yes(word: &str) -> bool
 pub fn is_no(word: &str) -> bool
     ensures { result ≡ is_no word.now }
 {
-    is_among(word, &["n", "no", "off", "false"])
+    is_one_of(word, &["n", "no", "off", "false"])
 }
 
 /// What a word says: yes, no, or neither.
@@ -40,13 +38,6 @@ fn truth_of(word: &str) -> Option<bool>
     }
 }
 
-/// A number of 32 bits in decimal, as Rust reads it.
-fn u32_of(text: &str) -> Option<u32>
-    ensures { result ≡ u32_of text.now }
-{
-    text.parse::<u32>().ok()
-}
-
 /// The last pair of some keys.
 fn last_of<'a>(pairs: &'a [Pair], keys: &[&str]) -> Option<&'a Pair>
     ensures { option_copied result ≡ last_of (texts keys.now) pairs.now }
@@ -54,7 +45,7 @@ fn last_of<'a>(pairs: &'a [Pair], keys: &[&str]) -> Option<&'a Pair>
     pairs
         .iter()
         .rev()
-        .find(|pair| is_among(pair.key.as_str(), keys))
+        .find(|pair| is_one_of(pair.key.as_str(), keys))
 }
 
 /// Whether some pair has one of the keys.
@@ -203,7 +194,7 @@ pub fn features_of(alloc: Global, pairs: &[Pair]) -> Mem<Words>
 fn needs_text(key: &str) -> bool
     ensures { result ≡ needs_text key.now }
 {
-    is_among(
+    is_one_of(
         key,
         &[
             "-Ccode-model",

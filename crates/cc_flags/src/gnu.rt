@@ -48,7 +48,8 @@ pub fn push_gnu_words(
     static_flag: Option<bool>,
     crt: bool,
 ) -> Mem<()>
-    ensures { OnOk result (words.new ≡ words.old ++ spec.gnu_words (info_seen target.now) static_flag crt) }
+    ensures { OnOk result (words.new
+        ≡ words.old ++ spec.gnu_words (info_seen target.now) static_flag crt) }
 {
     let is_static = static_flag.is_none() && crt;
     let linux = is_v7_linux(target);
@@ -71,7 +72,8 @@ pub fn push_gnu_words(
 // The oldest processor of a full architecture on Linux.
 #[tactic(auto, unfolding(crate::specs::GnuWords::linux_processor))]
 fn linux_processor(full_arch: &str, abi: &str, cpu: Option<&str>) -> &'static [&'static str]
-    ensures { texts result.now ≡ spec.linux_processor full_arch.now abi.now (option_copied cpu.entry) }
+    ensures { texts result.now
+        ≡ spec.linux_processor full_arch.now abi.now (option_copied cpu.entry) }
 {
     match full_arch {
         "armv4t" => &["-march=armv4t", "-marm", "-mfloat-abi=soft"],
@@ -91,7 +93,8 @@ fn linux_processor(full_arch: &str, abi: &str, cpu: Option<&str>) -> &'static [&
 /// Adds the oldest processor of a target on Linux; `cpu` is what the flags of Rust code name.
 #[tactic(auto, unfolding(crate::specs::GnuWords::processor_words))]
 pub fn push_processor_words(words: &mut Words, target: &TargetInfo, cpu: Option<&str>) -> Mem<()>
-    ensures { OnOk result (words.new ≡ words.old ++ spec.processor_words (info_seen target.now) (option_copied cpu.entry)) }
+    ensures { OnOk result (words.new
+        ≡ words.old ++ spec.processor_words (info_seen target.now) (option_copied cpu.entry)) }
 {
     if target.os == "linux" {
         words.push_all(linux_processor(target.full_arch, target.abi, cpu))?;

@@ -7,12 +7,11 @@
 //! the groups in order, and decides where there are none.
 #![tactic(auto)]
 
-mod among;
 mod arm;
+mod compiler_names;
 mod debug;
 mod defaults;
 mod error;
-mod family;
 mod features;
 mod fields;
 mod flags;
@@ -23,6 +22,8 @@ mod texts;
 mod visual_studio;
 mod wanted;
 
+pub use cc_text::{is_among, is_cl, is_clang, is_clang_cl, is_gnu, is_gnu_like, is_visual_studio};
+pub use compiler_names::name_of;
 pub use debug::{keeps_frame_pointers, push_debug_words, push_frame_pointer_words, push_leaf_word};
 pub use defaults::{
     is_qnx, is_told_target, is_wasm_linux, lacks_qnx_variant, push_clang_target_words,
@@ -30,12 +31,11 @@ pub use defaults::{
     push_sanitizer_words, push_standard_library_words, push_wasi_words, push_width_words,
 };
 pub use error::FlagError;
-pub use family::{is_cl, is_clang, is_clang_cl, is_gnu, is_gnu_like, is_visual_studio, name_of};
 pub use flags::RustcCodegenFlags;
 pub use gnu::{push_bare_and_arm_words, push_gnu_words, push_processor_words, push_riscv_words};
 pub use maps::{
     Maps, cargo_maps, push_map_asks, push_map_lacks, push_pairs_words, remap_pairs, set_maps,
     taken_maps, trim_pairs,
 };
-pub use texts::{has, is_among, lent, value_or_empty};
+pub use texts::{has, lent, value_or_empty};
 pub use visual_studio::{push_visual_studio_target_words, push_visual_studio_words};

@@ -5,10 +5,8 @@ ghost use Rattle.std.specs.Option.{option_copied};
 ghost use Rattle.cc_text.specs.Words.{texts};
 ghost use Rattle.cc_flags.specs.MapWords as spec;
 
-use crate::family::{is_cl, is_clang_cl};
-use crate::texts::is_among;
 use cc_env::EnvSnapshot;
-use cc_text::{Mem, Text, ToolFamily, Vars, Words, quoted};
+use cc_text::{Mem, Text, ToolFamily, Vars, Words, is_among, is_cl, is_clang_cl, quoted};
 use std::alloc::Global;
 
 /// What is mapped to other folders: the paths of macros, and those of debug information.
@@ -148,7 +146,8 @@ pub(crate) fn trim_maps(
     scopes: Option<&str>,
     remap: Option<&str>,
 ) -> Maps
-    ensures { result ≡ spec.trim_maps family inherits (option_copied scopes.entry) (option_copied remap.entry) }
+    ensures { result ≡ spec.trim_maps family inherits (option_copied scopes.entry)
+        (option_copied remap.entry) }
 {
     match scopes {
         Some(scopes) if inherits && !is_cl(family) && remap.is_some() => scope_maps(scopes),
@@ -246,7 +245,8 @@ fn push_lack(
     wanted: bool,
     flag: Text,
 ) -> Mem<()>
-    ensures { OnOk result (warnings.new ≡ warnings.old ++ spec.lack_of path.now supported.now wanted flag) }
+    ensures { OnOk result (warnings.new
+        ≡ warnings.old ++ spec.lack_of path.now supported.now wanted flag) }
 {
     let probe = probe_of(flag.try_clone()?)?;
     if wanted && !is_among(supported, probe.as_str()) {
@@ -268,7 +268,8 @@ pub fn push_map_lacks(
     supported: &[Text],
     maps: Maps,
 ) -> Mem<()>
-    ensures { OnOk result (warnings.new ≡ warnings.old ++ spec.map_lacks path.now family supported.now maps) }
+    ensures { OnOk result (warnings.new
+        ≡ warnings.old ++ spec.map_lacks path.now family supported.now maps) }
 {
     let macros = macro_map(alloc, family)?;
     push_lack(warnings, alloc, path, supported, maps.macros, macros)?;

@@ -5,8 +5,7 @@ ghost use Rattle.std.specs.List.{slice_split};
 ghost use Rattle.cc_text.specs.Words.{texts};
 ghost use Rattle.cc_flags.specs.Pairs.{is_prefix, short_form, prefix_and_rest, pair_of, left_of, pairs_of};
 
-use crate::among::is_among;
-use cc_text::{Mem, Text, after_prefix, key_and_value};
+use cc_text::{Mem, Text, after_prefix, is_one_of, key_and_value};
 use std::alloc::Global;
 
 /// A flag: its key, and its value if it has one.
@@ -29,7 +28,7 @@ pub fn parts_at<'a>(alloc: Global, text: &'a str, mark: char) -> Mem<Vec<&'a str
 fn is_prefix(part: &str) -> bool
     ensures { result ≡ is_prefix part.now }
 {
-    is_among(
+    is_one_of(
         part,
         &[
             "-Z",
@@ -106,7 +105,9 @@ fn push_part<'a>(
     pending: Option<&'a str>,
     part: &'a str,
 ) -> Mem<Option<&'a str>>
-    ensures { IfOk result (λ next. (rest : List (List ℕ)) → pairs.new.items ++ left_of (option_copied next) rest ≡ pairs.old.items ++ left_of (option_copied pending.entry) (part.now ∷ rest)) }
+    ensures { IfOk result (λ next. (rest : List (List ℕ))
+        → pairs.new.items ++ left_of (option_copied next) rest
+        ≡ pairs.old.items ++ left_of (option_copied pending.entry) (part.now ∷ rest)) }
 {
     match pending {
         Some(prefix) => {

@@ -2,7 +2,7 @@
 ghost use Rattle.std.specs.Prelude.{◌≡◌};
 ghost use Rattle.std.specs.Option.{option_copied};
 ghost use Rattle.cc_flags.specs.DefaultWords.{value_or_empty};
-ghost use Rattle.cc_flags.specs.Texts.{begins_with, is_among};
+ghost use Rattle.cc_flags.specs.Texts.{begins_with};
 ghost use Rattle.cc_text.specs.Within.{is_within};
 
 use cc_env::EnvSnapshot;
@@ -39,11 +39,4 @@ pub fn lent(text: &Option<Text>) -> Option<&str>
         Some(text) => Some(text.as_str()),
         None => None,
     }
-}
-
-/// The word stands among these.
-pub fn is_among(words: &[Text], text: &str) -> bool
-    ensures { result ≡ is_among words.now text.now }
-{
-    words.iter().any(|word| text == word.as_str())
 }

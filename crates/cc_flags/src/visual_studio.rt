@@ -5,9 +5,8 @@ ghost use Rattle.cc_target.specs.Targets.{info_seen};
 ghost use Rattle.cc_flags.specs.VisualStudioWords as spec;
 
 use crate::defaults::push_target_words;
-use crate::family::{is_clang_cl, is_visual_studio};
 use cc_target::TargetInfo;
-use cc_text::{Mem, ToolFamily, Words};
+use cc_text::{Mem, ToolFamily, Words, is_clang_cl, is_visual_studio};
 
 // A level that asks for small code.
 #[tactic(auto, unfolding(crate::specs::VisualStudioWords::is_small))]
@@ -34,7 +33,8 @@ pub fn push_visual_studio_words(
     crt: bool,
     level: &str,
 ) -> Mem<()>
-    ensures { OnOk result (words.new ≡ words.old ++ spec.visual_studio_words family static_crt crt level.now) }
+    ensures { OnOk result (words.new
+        ≡ words.old ++ spec.visual_studio_words family static_crt crt level.now) }
 {
     if is_visual_studio(family) {
         let is_static = static_crt.unwrap_or(crt);
@@ -63,7 +63,8 @@ fn push_sse_words(words: &mut Words, target: &TargetInfo) -> Mem<()>
 // What tells Clang in this form its target.
 #[tactic(auto, unfolding(crate::specs::VisualStudioWords::clang_cl_words))]
 fn push_clang_cl_words(words: &mut Words, target: &TargetInfo, llvm: &str) -> Mem<()>
-    ensures { OnOk result (words.new ≡ words.old ++ spec.clang_cl_words (info_seen target.now) llvm.now) }
+    ensures { OnOk result (words.new
+        ≡ words.old ++ spec.clang_cl_words (info_seen target.now) llvm.now) }
 {
     push_target_words(words, llvm)?;
     push_sse_words(words, target)?;
@@ -88,7 +89,8 @@ fn push_instruction_words(
     target: &TargetInfo,
     llvm: &str,
 ) -> Mem<()>
-    ensures { OnOk result (words.new ≡ words.old ++ spec.instruction_words family (info_seen target.now) llvm.now) }
+    ensures { OnOk result (words.new
+        ≡ words.old ++ spec.instruction_words family (info_seen target.now) llvm.now) }
 {
     if is_clang_cl(family) {
         push_clang_cl_words(words, target, llvm)?;
@@ -117,7 +119,8 @@ pub fn push_visual_studio_target_words(
     target: &TargetInfo,
     llvm: &str,
 ) -> Mem<()>
-    ensures { OnOk result (words.new ≡ words.old ++ spec.visual_studio_target_words family (info_seen target.now) llvm.now) }
+    ensures { OnOk result (words.new
+        ≡ words.old ++ spec.visual_studio_target_words family (info_seen target.now) llvm.now) }
 {
     if is_visual_studio(family) {
         words.push("-Brepro")?;

@@ -21,7 +21,8 @@ fn plus_for_comma(c: char) -> char
 
 /// A text with each comma as a plus.
 fn with_plus(alloc: Global, kinds: &str) -> Mem<Text>
-    ensures { IfOk result (λ text. text ≡ flat_map (λ c. encode_utf8 (plus_for_comma c)) (chars kinds.now)) }
+    ensures { IfOk result (λ text. text
+        ≡ flat_map (λ c. encode_utf8 (plus_for_comma c)) (chars kinds.now)) }
 {
     let mut text = Text::new(alloc);
     for c in kinds.chars() {

@@ -1,20 +1,8 @@
 -- How many tokens a pool is to have.
-use Rattle.std.specs.Prelude.{ℕ, Bool, List, ◌^◌, Option, Some, None, codes, length, max, nat_lt, ◌&&◌, if◌then◌else◌, unwrap_or}
+use Rattle.std.specs.Prelude.{ℕ, List, codes, max, unwrap_or}
 use Rattle.std.specs.Option.{option_map, option_and_then}
-use Rattle.std.specs.List.{list_all}
-use Rattle.std.specs.Char.{digit_value}
-use Rattle.std.specs.Str.Parse.{digits_value, without_leading_plus}
+use Rattle.cc_text.specs.Numbers.{u32_of}
 use Rattle.cc_env.specs.Snapshot.{last_value}
-
--- one decimal digit or more, and nothing else
-abbrev pub is_numeral : List ℕ → Bool
-is_numeral digits = nat_lt 0 (length digits) && list_all (λ c. nat_lt (digit_value c) 10) digits
-
--- the number of 32 bits that Rust reads from a text: digits, after one `+` at most
-unfoldable pub u32_of : List ℕ → Option ℕ
-u32_of text =
-    let digits = without_leading_plus text in
-    if is_numeral digits && nat_lt (digits_value 10 digits) (2 ^ 32) then Some (digits_value 10 digits) else None
 
 -- the number in `NUM_JOBS`, at least 1, or 4 where there is none
 unfoldable pub pool_size : List (List ℕ × List ℕ) → ℕ

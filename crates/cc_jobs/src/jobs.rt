@@ -44,9 +44,14 @@ pub trait Jobs {
         requires room { held seat.old < 2 ^ 64 - 1 }
         ensures fits { fits self.now seat.new }
         ensures total { total seat.new ≡ total seat.old }
-        ensures bounded { IsBounded (total seat.old) (held seat.old) × IsBounded (total seat.new) (held seat.new) }
-        ensures token { result ≡ Ok Take.Token → (held seat.new ≡ held seat.old + 1) × (taken seat.new ≡ stands (taken seat.old + 1)) × (load seat.new ≡ stands (load seat.old + held seat.new)) }
-        ensures other { result ≢ Ok Take.Token → (held seat.new ≡ held seat.old) × (taken seat.new ≡ taken seat.old) × (load seat.new ≡ load seat.old) }
+        ensures bounded { IsBounded (total seat.old) (held seat.old)
+            × IsBounded (total seat.new) (held seat.new) }
+        ensures token { result ≡ Ok Take.Token
+            → (held seat.new ≡ held seat.old + 1) × (taken seat.new ≡ stands (taken seat.old + 1))
+            × (load seat.new ≡ stands (load seat.old + held seat.new)) }
+        ensures other { result ≢ Ok Take.Token
+            → (held seat.new ≡ held seat.old) × (taken seat.new ≡ taken seat.old)
+            × (load seat.new ≡ load seat.old) }
         ensures full { IfSome (total seat.old) (λ t. result ≡ Ok Take.Pending ↔ held seat.old ≡ t) }
         ensures later { faults seat.old ≤ faults seat.new }
         ensures fault { IfErr result (λ _. Rose (faults seat.old) (faults seat.new)) };

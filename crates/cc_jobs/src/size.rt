@@ -1,15 +1,9 @@
 // How many tokens a pool is to have.
 ghost use Rattle.std.specs.Prelude.{◌≡◌, ◌≤◌};
-ghost use Rattle.cc_jobs.specs.Size.{pool_size, u32_of};
+ghost use Rattle.cc_jobs.specs.Size.{pool_size};
 
 use cc_env::EnvSnapshot;
-
-// The number of 32 bits that Rust reads from a text.
-fn u32_of(text: &str) -> Option<u32>
-    ensures { result ≡ u32_of text.now }
-{
-    text.parse::<u32>().ok()
-}
+use cc_text::u32_of;
 
 /// The number of tokens that `NUM_JOBS` asks for: at least 1, and 4 where it isn't set or is no number of 32 bits. It takes no memory.
 #[tactic(auto, unfolding(crate::specs::Size::pool_size))]

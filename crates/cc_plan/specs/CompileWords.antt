@@ -7,7 +7,8 @@ use Rattle.cc_text.specs.Words.{when}
 use Rattle.cc_text.specs.declared.family.ToolFamily.{ToolFamily}
 use Rattle.cc_target.specs.Targets.{Info, is_arm}
 use Rattle.cc_plan.specs.declared.object.Object.{Object}
-use Rattle.cc_flags.specs.Families.{is_visual_studio, is_clang_cl, is_cl, name_of}
+use Rattle.cc_text.specs.Families.{is_visual_studio, is_clang_cl, is_cl}
+use Rattle.cc_flags.specs.CompilerNames.{name_of}
 use Rattle.cc_flags.specs.Texts.{is, word}
 
 abbrev pub is_asm_extension : List ℕ → Bool

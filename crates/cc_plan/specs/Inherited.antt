@@ -11,7 +11,7 @@ use Rattle.cc_flags.specs.declared.flags.RustcCodegenFlags.{RustcCodegenFlags}
 use Rattle.cc_target.specs.Targets.{Info}
 use Rattle.cc_text.specs.Quoted.{quoted}
 use Rattle.cc_text.specs.declared.family.ToolFamily.{ToolFamily}
-use Rattle.cc_flags.specs.Texts.{is_among}
+use Rattle.cc_text.specs.Words.{is_among}
 use Rattle.cc_plan.specs.declared.error.PlanError.{PlanError}
 use Rattle.cc_plan.specs.declared.error.PlanError.TheVariants.{Flag, NoMemory}
 

@@ -6,8 +6,9 @@ use Rattle.cc_text.specs.declared.family.ToolFamily.{ToolFamily}
 use Rattle.cc_plan.specs.declared.flags.BuildFlag.{BuildFlag}
 use Rattle.cc_plan.specs.declared.flags.BuildFlag.TheVariants.{Always, IfSupported}
 use Rattle.cc_plan.specs.declared.flags.Definition.{Definition}
-use Rattle.cc_flags.specs.Families.{is_visual_studio, is_gnu_like}
-use Rattle.cc_flags.specs.Texts.{is, word, is_among}
+use Rattle.cc_text.specs.Families.{is_visual_studio, is_gnu_like}
+use Rattle.cc_flags.specs.Texts.{is, word}
+use Rattle.cc_text.specs.Words.{is_among}
 
 abbrev pub standard_flag : ToolFamily → List ℕ
 standard_flag family = if is_visual_studio family then codes "-std:" else codes "-std="

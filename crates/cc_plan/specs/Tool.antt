@@ -7,7 +7,7 @@ use Rattle.cc_text.specs.Words.{when}
 use Rattle.cc_text.specs.declared.family.ToolFamily.{ToolFamily}
 use Rattle.cc_tool.specs.Family.{detection_warnings}
 use Rattle.cc_tool.specs.Tool.{ToolSeen, new_tool}
-use Rattle.cc_flags.specs.Families.{is_cl, is_gnu}
+use Rattle.cc_text.specs.Families.{is_cl, is_gnu}
 use Rattle.cc_plan.specs.Given.{is_cargos_target, has_no_defaults, environment_flags}
 use Rattle.cc_plan.specs.Target.{target_name, target_info}
 use Rattle.cc_flags.specs.Texts.{is}

@@ -8,13 +8,14 @@ use Rattle.cc_plan.specs.declared.error.PlanError.{PlanError}
 use Rattle.cc_plan.specs.declared.error.PlanError.TheVariants.{NotSet, QnxArch}
 use Rattle.cc_plan.specs.declared.settings.BuildConfig.{BuildConfig}
 use Rattle.cc_flags.specs.DefaultWords.{optimisation_words, position_independence_words, wasi_words, qnx_words, width_words, is_told_target, clang_target_words, linkage_words, standard_library_words, sanitizer_words, value_or_empty, lacks_qnx_variant, is_wasm_linux}
-use Rattle.cc_flags.specs.Families.{is_gnu, is_gnu_like, is_visual_studio}
+use Rattle.cc_text.specs.Families.{is_gnu, is_gnu_like, is_visual_studio}
 use Rattle.cc_flags.specs.GnuWords.{gnu_words, processor_words, bare_and_arm_words, riscv_words}
 use Rattle.cc_plan.specs.SettingWords.{standard_words, include_words, error_words, warning_words, extra_warning_words, flag_words, flag_asks, definition_words, environment_words}
 use Rattle.cc_flags.specs.DebugWords.{debug_words, frame_pointer_words, keeps_frame_pointers, leaf_word}
 use Rattle.cc_plan.specs.Inherited.{inherited_cpu, inherited_words, taken_words}
 use Rattle.cc_flags.specs.MapWords.{cargo_maps, set_maps, taken_maps, map_asks, pairs_words, trim_pairs, remap_pair}
-use Rattle.cc_flags.specs.Texts.{has, is_among}
+use Rattle.cc_flags.specs.Texts.{has}
+use Rattle.cc_text.specs.Words.{is_among}
 use Rattle.cc_flags.specs.VisualStudioWords.{visual_studio_words, visual_studio_target_words}
 
 -- the level that is set, else Cargo's

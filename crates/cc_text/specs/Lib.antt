@@ -1,10 +1,12 @@
 pub mod Case
 pub mod Components
 pub mod Cuts
+pub mod Families
 pub mod Hash
 pub mod Hex
 pub mod Map
 pub mod MapLends
+pub mod Numbers
 pub mod Paths
 pub mod Pieces
 pub mod Quoted

@@ -5,12 +5,14 @@
 //! memory refuses.
 #![tactic(auto)]
 
+mod among;
 mod case;
 mod cuts;
 mod family;
 mod hash;
 mod map;
 mod memory;
+mod numbers;
 mod pairs;
 mod parts;
 mod paths;
@@ -24,14 +26,18 @@ mod vars;
 mod within;
 mod words;
 
+pub use among::{is_among, is_one_of};
 pub use case::{
     contains_ignore_ascii_case, ends_with_ignore_ascii_case, starts_with_ignore_ascii_case,
 };
 pub use cuts::{after_prefix, before_suffix, key_and_value};
-pub use family::ToolFamily;
+pub use family::{
+    ToolFamily, is_cl, is_clang, is_clang_cl, is_gnu, is_gnu_like, is_plain_clang, is_visual_studio,
+};
 pub use hash::{fnv1a, fnv1a_from, hex16};
 pub use map::VecMap;
 pub use memory::{Mem, NoMemory};
+pub use numbers::u32_of;
 pub use parts::{Component, components, keeps_components};
 pub use paths::{extension, file_name, file_stem, join, parent, same_path, with_extension};
 pub use pieces::{ascii_words, join_texts};

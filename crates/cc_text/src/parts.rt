@@ -57,7 +57,9 @@ fn begins_with_a_name(path: &str) -> bool
 /// components of the two joined are those of the base and then those of the path.
 pub fn keeps_components(base: &str, path: &str) -> bool
     ensures just { IsTrue result ↔ KeepsComponents base.now path.now }
-    ensures law { IsTrue result → path_components (path_join base.now path.now) ≡ path_components base.now ++ path_components path.now }
+    ensures law { IsTrue result
+        → path_components (path_join base.now path.now)
+        ≡ path_components base.now ++ path_components path.now }
 {
     !base.is_empty() && begins_with_a_name(path)
 }

@@ -20,7 +20,8 @@ pub fn ascii_words(alloc: Global, s: &str) -> Mem<Words>
 
 /// Adds each word, after the delimiter.
 fn push_each(text: &mut Text, words: &[Text], delimiter: char) -> Mem<()>
-    ensures { OnOk result (text.new ≡ text.old ++ flat_map (λ word. encode_utf8 delimiter ++ word) words.now) }
+    ensures { OnOk result (text.new
+        ≡ text.old ++ flat_map (λ word. encode_utf8 delimiter ++ word) words.now) }
 {
     for word in words {
         text.push(delimiter)?;

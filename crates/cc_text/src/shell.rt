@@ -111,7 +111,8 @@ fn ending(mode: Mode) -> Mark
 
 /// Does what a mark says: the words so far and those of any marks after it are as before.
 fn apply(alloc: Global, words: &mut Words, word: Option<Text>, mark: Mark) -> Mem<Option<Text>>
-    ensures { IfOk result (λ next. (marks : List Mark) → words.new ++ words_of marks next ≡ words.old ++ words_of (mark ∷ marks) word) }
+    ensures { IfOk result (λ next. (marks : List Mark)
+        → words.new ++ words_of marks next ≡ words.old ++ words_of (mark ∷ marks) word) }
 {
     match mark {
         Mark::Nothing => Ok(word),

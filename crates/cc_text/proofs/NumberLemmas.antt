@@ -7,7 +7,7 @@ use Rattle.std.specs.Result.{OkIff, result_ok}
 use Rattle.std.specs.Str.Parse.{AllDigits, IsNumeral, ParsesUnsigned, digits_value, without_leading_plus}
 use Rattle.std.proofs.lemmas.Bool.{and_parts, and_from}
 use Rattle.std.proofs.lemmas.Bool.Decides.{Decides-ltb}
-use Rattle.cc_jobs.specs.Size.{is_numeral, u32_of}
+use Rattle.cc_text.specs.Numbers.{is_numeral, u32_of}
 
 is_digit : ℕ → Bool
 is_digit c = nat_lt (digit_value c) 10

@@ -1,45 +1,11 @@
--- The families of compilers, and what the name of a compiler's file says.
-use Rattle.std.specs.Prelude.{ℕ, Bool, true, false, not, ◌&&◌, ◌||◌, ◌==◌, List, [], ◌∷◌, Option, unwrap_or, is_none, codes, if◌then◌else◌}
+-- What the name of a compiler's file says.
+use Rattle.std.specs.Prelude.{ℕ, Bool, ◌&&◌, ◌||◌, ◌==◌, List, [], ◌∷◌, Option, unwrap_or, is_none, codes, if◌then◌else◌}
 use Rattle.std.specs.List.{list_any}
 use Rattle.std.specs.Path.{path_file_name}
 use Rattle.cc_text.specs.Case.{lowered, ends_ignoring_case}
-use Rattle.cc_text.specs.declared.family.ToolFamily.{ToolFamily}
-use Rattle.cc_text.specs.declared.family.ToolFamily.TheVariants.{Gnu, Clang, Msvc}
 use Rattle.cc_target.specs.Targets.{Info}
 use Rattle.cc_flags.specs.Texts.{is, has}
 use Prim.Native.String.{String}
-
-abbrev pub is_gnu : ToolFamily → Bool
-is_gnu Gnu = true
-is_gnu (Clang zig_cc) = false
-is_gnu (Msvc clang_cl) = false
-
-abbrev pub is_clang : ToolFamily → Bool
-is_clang Gnu = false
-is_clang (Clang zig_cc) = true
-is_clang (Msvc clang_cl) = false
-
--- the Visual Studio compiler, or Clang in its form
-abbrev pub is_visual_studio : ToolFamily → Bool
-is_visual_studio Gnu = false
-is_visual_studio (Clang zig_cc) = false
-is_visual_studio (Msvc clang_cl) = true
-
--- Clang in the form of the Visual Studio compiler
-abbrev pub is_clang_cl : ToolFamily → Bool
-is_clang_cl Gnu = false
-is_clang_cl (Clang zig_cc) = false
-is_clang_cl (Msvc clang_cl) = clang_cl
-
--- the Visual Studio compiler itself
-abbrev pub is_cl : ToolFamily → Bool
-is_cl Gnu = false
-is_cl (Clang zig_cc) = false
-is_cl (Msvc clang_cl) = not clang_cl
-
--- GCC, Clang and what takes their words
-abbrev pub is_gnu_like : ToolFamily → Bool
-is_gnu_like family = not (is_visual_studio family)
 
 -- the file name of a path, or the empty name
 unfoldable pub name_of : List ℕ → List ℕ

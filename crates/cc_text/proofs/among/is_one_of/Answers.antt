@@ -1,6 +1,6 @@
 use Rattle.std.proofs.Common.{◌∙◌, ℕ, List, Bor, bytes_eq}
-use Rattle.cc_flags.proofs.AmongLemmas.{list_any_map}
-use Rattle.cc_flags.proofs.among.is_among.Goals as goal
+use Rattle.cc_text.proofs.AmongLemmas.{list_any_map}
+use Rattle.cc_text.proofs.among.is_one_of.Goals as goal
 
 pub returns : goal.returns
 returns c =

@@ -1,6 +1,0 @@
-use Rattle.std.proofs.Common.{◌∙◌}
-use Rattle.cc_jobs.proofs.NumberLemmas.{parse_is_u32_of}
-use Rattle.cc_jobs.proofs.size.u32_of.Goals as goal
-
-pub returns : goal.returns
-returns c = c.ok.ensures.value ∙ parse_is_u32_of c.args.text.now c.parse.result c.parse.ensures.value.0
