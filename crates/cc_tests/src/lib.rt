@@ -20,8 +20,12 @@ mod memory;
 #[cfg(test)]
 mod processes;
 #[cfg(test)]
+mod runs;
+#[cfg(test)]
 mod settings;
 #[cfg(test)]
 mod setup;
 #[cfg(test)]
 mod verdicts;
+#[cfg(test)]
+mod watch;

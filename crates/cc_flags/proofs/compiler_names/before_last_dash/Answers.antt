@@ -1,5 +1,5 @@
 use Rattle.cc_flags.proofs.DashLemmas.{splits_at_dash}
-use Rattle.cc_flags.proofs.family.before_last_dash.Goals as goal
+use Rattle.cc_flags.proofs.compiler_names.before_last_dash.Goals as goal
 
 pub returns-in-Some : goal.returns-in-Some
 returns-in-Some c =

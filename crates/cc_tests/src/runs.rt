@@ -1,0 +1,100 @@
+// What a run does between the calls of its pool and its host: each ended child's token is given back before another child is started, and the rest before a turn
+// grows by a millisecond while nothing happens, up to ten.
+ghost use Rattle.std.specs.Prelude.{◌≡◌, ◌≤◌, length, IfOk};
+ghost use Rattle.std.specs.List.{All};
+ghost use Rattle.cc_host.specs.declared.event.Role.TheVariants.{Compile};
+
+use crate::watch::{Watch, WatchedHost, WatchedPool};
+use cc_host::{BenchHost, Command, OutputKind, Role, Script, Status};
+use cc_jobs::OneCaller;
+use cc_run::{Planned, Shows, Turns, run_all};
+use cc_text::Mem;
+use std::alloc::{AllocGlobal, Global};
+use std::process::Abort;
+use std::test::Fail;
+
+fn planned(alloc: Global, program: &str) -> Mem<Planned>
+    ensures { IfOk result (λ p. p.role ≡ Compile) }
+{
+    Ok(Planned {
+        role: Role::Compile,
+        cmd: Command::new(alloc, program)?,
+        message: None,
+    })
+}
+
+// A host on which the first of these commands runs through most turns, and each further one through fewer.
+fn script(bench: &mut BenchHost, alloc: Global, program: &str, turns: u64) -> Mem<()> {
+    bench.script(
+        Role::Compile,
+        program,
+        Script {
+            status: Status::Code(0),
+            pieces: Vec::new(alloc),
+            unread: false,
+            turns,
+            after: None,
+        },
+    )
+}
+
+const QUIET: Shows = Shows {
+    warnings: false,
+    debug: false,
+    out: OutputKind::Discard,
+};
+
+// Whether the commands all end well over a pool of two.
+fn run(alloc: Global, host: &mut WatchedHost<'_>, watch: &Watch, cmds: &[Planned]) -> bool
+    requires some { 2 ≤ length cmds.now }
+    requires compiles { All (λ p. p.role ≡ Compile) cmds.now }
+{
+    let pool = WatchedPool { watch };
+    let (_, mut seat) = OneCaller::new(2);
+    let mut turns = Turns { left: 99, used: 0 };
+    run_all(alloc, host, &pool, &mut seat, &mut turns, cmds, &QUIET).is_ok()
+}
+
+fn run_five(alloc: Global, host: &mut WatchedHost<'_>, watch: &Watch) -> Mem<bool> {
+    let cmds = [
+        planned(alloc, "a")?,
+        planned(alloc, "b")?,
+        planned(alloc, "c")?,
+        planned(alloc, "d")?,
+        planned(alloc, "e")?,
+    ];
+    Ok(run(alloc, host, watch, &cmds))
+}
+
+fn script_five(bench: &mut BenchHost, alloc: Global) -> Mem<()> {
+    script(bench, alloc, "a", 4)?;
+    script(bench, alloc, "b", 1)?;
+    script(bench, alloc, "c", 2)?;
+    script(bench, alloc, "d", 1)?;
+    script(bench, alloc, "e", 14)
+}
+
+fn check_tokens(
+    rt: &(impl AllocGlobal + Abort),
+    host: &mut WatchedHost<'_>,
+    watch: &Watch,
+) -> Result<(), Fail> {
+    script_five(&mut host.bench, rt.alloc())?;
+    assert!(rt; run_five(rt.alloc(), host, watch)?);
+    assert_eq!(rt; watch.odd(), (0, 0, 0));
+    assert_eq!(rt; watch.longest(), 10);
+    Ok(())
+}
+
+#[test]
+fn tokens_come_back_before_the_next_start_and_rests_grow_to_ten(
+    rt: HostRuntime,
+) -> Result<(), Fail> {
+    let watch = Watch::new();
+    let bench = BenchHost::new(rt.alloc()).expect(&rt, "a host");
+    let mut host = WatchedHost {
+        bench,
+        watch: &watch,
+    };
+    check_tokens(&rt, &mut host, &watch)
+}
