@@ -28,19 +28,19 @@ use Rattle.cc_host.specs.declared.script.Scripted.{Scripted}
 use Rattle.cc_host.specs.declared.calls.Failure.{Failure}
 use Rattle.cc_host.specs.declared.calls.Counts.{Counts}
 use Rattle.cc_host.specs.declared.given.Given.{Given}
-use Rattle.cc_host.specs.declared.kid.Kid.{Kid}
+use Rattle.cc_host.specs.declared.child.RunningChild.{RunningChild}
 use Rattle.cc_host.specs.Event.{is_captured}
 use Rattle.cc_host.specs.Calls.{is_due, no_calls, count_of, counted, plus_one}
 use Rattle.cc_host.specs.Script.{has_word, script_for, script_at, status_of, pieces_of, out_of, err_of, met_after}
 use Rattle.cc_host.specs.Given.{outcome_of}
-use Rattle.cc_host.specs.Crew.{news_in, left_in}
+use Rattle.cc_host.specs.ChildLog.{news_in, left_in}
 
 -- what a host in memory is seen as: its log, how often it failed, the children that run, how often each call was made, and what it
--- was told of commands, of calls, of variables, of questions, of files and of words to draw
+-- was given for commands, of calls, of variables, of questions, of files and of words to draw
 pub record BenchSeen : Type 0 where
   pub log : List Event
   pub faults : ℕ
-  pub kids : List Kid
+  pub children : List RunningChild
   pub made : Counts
   pub scripts : List Scripted
   pub missing : List (List ℕ)
@@ -50,9 +50,9 @@ pub record BenchSeen : Type 0 where
   pub files : List (List ℕ)
   pub words : List ℕ
 
--- a host that was told nothing, before its first call
+-- a host on which nothing was set, before its first call
 abbrev pub fresh : BenchSeen
-fresh = record { log = []; faults = 0; kids = []; made = no_calls; scripts = []; missing = []; failures = []; vars = []; given = []; files = []; words = [] }
+fresh = record { log = []; faults = 0; children = []; made = no_calls; scripts = []; missing = []; failures = []; vars = []; given = []; files = []; words = [] }
 
 -- the path has a file
 abbrev pub has_file : List ℕ → BenchSeen → Bool
@@ -105,9 +105,9 @@ Answers call answer after old new (Ok x) = (fails_next call old ≡ false) × (x
 Answers call answer after old new (Err e) = (is_fault e ≡ true → fails_next call old ≡ true) × IsFailure call old new e
 
 -- A question that is not counted has this answer. Where memory was refused the host is as before.
-abbrev pub Tells : {T : Type 0} → T → BenchSeen → BenchSeen → BenchSeen → Result T WantsMemory → Type 0
-Tells answer after old new (Ok x) = (x ≡ answer) × (new ≡ record after { log = new.log })
-Tells answer after old new (Err e) = new ≡ old
+abbrev pub AnswersUncounted : {T : Type 0} → T → BenchSeen → BenchSeen → BenchSeen → Result T WantsMemory → Type 0
+AnswersUncounted answer after old new (Ok x) = (x ≡ answer) × (new ≡ record after { log = new.log })
+AnswersUncounted answer after old new (Err e) = new ≡ old
 
 -- what a probe comes to
 abbrev pub probe_outcome : BenchSeen → Question → Outcome
@@ -119,7 +119,7 @@ probe_after host = record host { made = counted Probe host.made; faults = if fai
 
 -- the host after a child was started that has the script at this place, but for its log
 abbrev pub start_after : BenchSeen → CommandSeen → ℕ → Option ℕ → BenchSeen
-start_after host cmd id place = record host { scripts = map (met_after cmd) host.scripts; kids = host.kids ++ record { id = id; polls = 0; mute = false; place = place } ∷ [] }
+start_after host cmd id place = record host { scripts = map (met_after cmd) host.scripts; children = host.children ++ record { id = id; polls = 0; mute = false; place = place } ∷ [] }
 
 -- A start finds no program, or begins a child with the script that counts for its command; or it fails where it is to fail.
 abbrev pub IsStart : Role → CommandSeen → BenchSeen → BenchSeen → Result Start HostError → Type 0
@@ -129,12 +129,12 @@ IsStart role cmd old new (Ok (Child id)) =
     × ((place : Option ℕ) × (script_at old.scripts place ≡ script_for old.scripts role cmd) × (new ≡ record (start_after old cmd id place) { log = new.log; made = counted Starts old.made }))
 IsStart role cmd old new (Err e) = (is_fault e ≡ true → fails_next Starts old ≡ true) × IsFailure Starts old new e
 
--- A turn tells what each child does by its script; or it fails where it is to fail.
+-- A turn reports what each child does by its script; or it fails where it is to fail.
 abbrev pub IsTurn : BenchSeen → BenchSeen → Result (List News) HostError → Type 0
-IsTurn old new (Ok news) = (fails_next Turns old ≡ false) × (news ≡ news_in old.scripts old.kids) × (new ≡ record old { log = new.log; made = counted Turns old.made; kids = left_in old.scripts old.kids })
+IsTurn old new (Ok news) = (fails_next Turns old ≡ false) × (news ≡ news_in old.scripts old.children) × (new ≡ record old { log = new.log; made = counted Turns old.made; children = left_in old.scripts old.children })
 IsTurn old new (Err e) = (is_fault e ≡ true → fails_next Turns old ≡ true) × IsFailure Turns old new e
 
--- a host that was told nothing of commands and of calls
+-- a host on which nothing was set for commands and for calls
 abbrev pub IsPlain : BenchSeen → Type 0
 IsPlain host = (host.scripts ≡ []) × (host.missing ≡ []) × (host.failures ≡ [])
 

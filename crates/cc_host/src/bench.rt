@@ -5,11 +5,11 @@ ghost use Rattle.cc_host.specs.Calls.{counted, plus_one};
 ghost use Rattle.cc_host.specs.Event.{refused, IsCaused};
 ghost use Rattle.cc_host.specs.Script.{has_word, was_met};
 ghost use Rattle.cc_host.specs.Journal.{IsQuiet};
-ghost use Rattle.cc_host.specs.Crew.{IsIdle};
+ghost use Rattle.cc_host.specs.ChildLog.{IsIdle};
 ghost use Rattle.cc_host.specs.Bench.{BenchSeen, fresh, fails_next, has_file, without_file, next_word, IsFailure};
 
 use crate::calls::{self, Counts, Failure};
-use crate::crew::Crew;
+use crate::child_log::ChildLog;
 use crate::given::GivenList;
 use crate::script::Scripted;
 use crate::{Ask, Event, HostCall, HostError, Outcome, Role, Script, Why};
@@ -18,12 +18,12 @@ use std::alloc::Global;
 use std::marker::Model;
 
 /// A host in memory. Commands end as they are scripted, or with 0 at their first turn, and write nothing. Questions come to what was
-/// given for them, or to answers of a plain GCC. The files on it are those that it was told of, and the probe files that were made.
+/// given for them, or to answers of a plain GCC. The files on it are those that it was given, and the probe files that were made.
 /// Its variables are those that it was given, none at first. A call faults only where `fail` was called.
 #[derive(Drop)]
 pub struct BenchHost {
     pub(crate) alloc: Global,
-    pub(crate) crew: Crew,
+    pub(crate) journal: ChildLog,
     pub(crate) made: Counts,
     pub(crate) scripts: Vec<Scripted>,
     pub(crate) missing: Words,
@@ -37,17 +37,17 @@ pub struct BenchHost {
 impl Model for BenchHost {
     ghost Value = { BenchSeen };
 
-    ghost view = { λ h. record { log = h.crew.log; faults = h.crew.faults; kids = h.crew.kids; made = h.made; scripts = h.scripts.items; missing = h.missing; failures = h.failures.items; vars = h.vars; given = h.given; files = h.files.items; words = reverse h.words.items } };
+    ghost view = { λ h. record { log = h.journal.log; faults = h.journal.faults; children = h.journal.children; made = h.made; scripts = h.scripts.items; missing = h.missing; failures = h.failures.items; vars = h.vars; given = h.given; files = h.files.items; words = reverse h.words.items } };
 }
 
 impl BenchHost {
-    /// A host that was told nothing. It takes no memory.
+    /// A host as it is before anything is set on it. It takes no memory.
     pub fn new(alloc: Global) -> Mem<BenchHost>
         ensures { IfOk result (λ h. h ≡ fresh) }
     {
         Ok(BenchHost {
             alloc,
-            crew: Crew::new(alloc),
+            journal: ChildLog::new(alloc),
             made: Counts::new(),
             scripts: Vec::new(alloc),
             missing: Words::new(alloc),
@@ -66,7 +66,7 @@ impl BenchHost {
         ensures err { OnErr result (self.new ≡ self.old) }
     {
         let word = Text::of(self.alloc, word)?;
-        let met = self.crew.was_met(&script.after);
+        let met = self.journal.was_met(&script.after);
         self.scripts.push(Scripted {
             role,
             word,
@@ -145,11 +145,11 @@ impl BenchHost {
         ensures ok { OnOk result (self.new ≡ record self.old { log = self.old.log ++ event ∷ [] }) }
         ensures err { OnErr result (self.new ≡ self.old) }
     {
-        if self.crew.reserve(1).is_err() {
+        if self.journal.reserve(1).is_err() {
             drop(event);
             return Err(NoMemory);
         }
-        self.crew.note(event);
+        self.journal.note(event);
         Ok(())
     }
 
@@ -172,11 +172,11 @@ impl BenchHost {
         ensures cause { IsCaused call self.old.faults self.new.faults result }
         ensures fails { IsFailure call self.old self.new result }
     {
-        if self.crew.reserve(1).is_err() {
+        if self.journal.reserve(1).is_err() {
             return HostError::NoMemory;
         }
         self.made.count(call);
-        self.crew.fault(call, Why::Other)
+        self.journal.fault(call, Why::Other)
     }
 
     // Whether the path has a file.

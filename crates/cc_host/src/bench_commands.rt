@@ -87,7 +87,7 @@ impl BenchHost {
         ensures err { OnErr result (self.new ≡ self.old) }
     {
         let place = script::place_for(&self.scripts, role, cmd);
-        let id = self.crew.start(role, cmd.try_clone()?, pipes, held, place)?;
+        let id = self.journal.start(role, cmd.try_clone()?, pipes, held, place)?;
         script::note_start(&mut self.scripts, cmd);
         self.made.count(HostCall::Start);
         Ok(id)
@@ -102,9 +102,9 @@ impl BenchHost {
         let kept = Text::of(self.alloc, path)?;
         let file = Text::of(self.alloc, path)?;
         let bytes = Bytes::of(self.alloc, contents)?;
-        self.crew.reserve_probe()?;
+        self.journal.reserve_probe()?;
         self.files.push(file)?;
-        self.crew.note_opened(name, kept, bytes);
+        self.journal.note_opened(name, kept, bytes);
         self.made.count(HostCall::CreateProbe);
         Ok(())
     }

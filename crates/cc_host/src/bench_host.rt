@@ -9,12 +9,12 @@ ghost use Rattle.cc_host.specs.declared.event.HostCall.TheVariants.{Start as Sta
 ghost use Rattle.cc_host.specs.declared.event.Why.{Why};
 ghost use Rattle.cc_host.specs.declared.question.Ask.TheVariants.{Exists as AsksExists};
 ghost use Rattle.cc_host.specs.declared.question.Outcome.TheVariants.{Unanswered};
-ghost use Rattle.cc_host.specs.Event.{started, told, refused, ran, probed, found, reused, unasked, drawn, created, made, removed, printed, listed, Rose, IsCaused, IsSilent};
+ghost use Rattle.cc_host.specs.Event.{started, reported, refused, ran, probed, found, reused, unasked, drawn, created, made, removed, printed, listed, Rose, IsCaused, IsSilent};
 ghost use Rattle.cc_host.specs.Probe.{IsOpen};
 ghost use Rattle.cc_host.specs.Script.{patience_of};
-ghost use Rattle.cc_host.specs.Crew.{without_kid};
+ghost use Rattle.cc_host.specs.ChildLog.{without_child};
 ghost use Rattle.cc_host.specs.Given.{default_outcome};
-ghost use Rattle.cc_host.specs.Bench.{has_file, without_file, files_with, answer_to, created_at, removed_at, next_word, probe_outcome, probe_after, Answers, Tells, IsStart, IsTurn, Gives, IsPlain, plain_end, IsPlainStart, IsPlainTurn};
+ghost use Rattle.cc_host.specs.Bench.{has_file, without_file, files_with, answer_to, created_at, removed_at, next_word, probe_outcome, probe_after, Answers, AnswersUncounted, IsStart, IsTurn, Gives, IsPlain, plain_end, IsPlainStart, IsPlainTurn};
 
 use crate::bench::take_word;
 use crate::script::has_word;
@@ -70,7 +70,7 @@ impl Host<Bench> for BenchHost {
     }
 
     fn turn(&mut self, _rest_ms: u64) -> Result<Vec<News>, HostError>
-        ensures adds { MatchResult result (λ news. self.new.log ≡ self.old.log ++ OneTurn 1 ∷ flat_map told news.items) (λ e. self.new.log ≡ self.old.log ++ refused e) }
+        ensures adds { MatchResult result (λ news. self.new.log ≡ self.old.log ++ OneTurn 1 ∷ flat_map reported news.items) (λ e. self.new.log ≡ self.old.log ++ refused e) }
         ensures news { IfOk result (λ news. IsNews self.old.log news.items) }
         ensures keeps { Keeps (λ h. h.faults) (λ h. patience_of h.scripts) self.old self.new }
         ensures waits { OnOk result (Waits (patience_of self.new.scripts) self.new.log) }
@@ -81,7 +81,7 @@ impl Host<Bench> for BenchHost {
         if self.fails_next(HostCall::Turn) {
             return Err(self.fault(HostCall::Turn));
         }
-        let news = self.crew.turn(&self.scripts)?;
+        let news = self.journal.turn(&self.scripts)?;
         self.made.count(HostCall::Turn);
         Ok(news)
     }
@@ -91,9 +91,9 @@ impl Host<Bench> for BenchHost {
         ensures adds { self.new.log ≡ self.old.log ++ Abandoned id ∷ [] }
         ensures faultless { self.new.faults ≡ self.old.faults }
         ensures keeps { Keeps (λ h. h.faults) (λ h. patience_of h.scripts) self.old self.new }
-        ensures after { self.new ≡ record self.old { log = self.new.log; kids = without_kid id self.old.kids } }
+        ensures after { self.new ≡ record self.old { log = self.new.log; children = without_child id self.old.children } }
     {
-        self.crew.abandon(id);
+        self.journal.abandon(id);
     }
 
     fn probe(&mut self, q: &Question, files: &ProbeFiles) -> Mem<Outcome>
@@ -102,7 +102,7 @@ impl Host<Bench> for BenchHost {
         ensures steady { false ≡ true → IfOk result (λ outcome. outcome ≢ Unanswered → outcome ≡ default_outcome q.now.ask) }
         ensures keeps { Keeps (λ h. h.faults) (λ h. patience_of h.scripts) self.old self.new }
         ensures cause { IfOk result (λ outcome. outcome ≡ Unanswered → Rose self.old.faults self.new.faults) }
-        ensures answers { Tells (probe_outcome self.old q.now) (probe_after self.old) self.old self.new result }
+        ensures answers { AnswersUncounted (probe_outcome self.old q.now) (probe_after self.old) self.old self.new result }
         ensures plain { IsPlain self.old → IsPlain self.new × IfOk result (λ outcome. outcome ≢ Unanswered) }
         ensures default { self.old.given ≡ [] → IfOk result (λ outcome. outcome ≢ Unanswered → outcome ≡ default_outcome q.now.ask) }
     {
@@ -117,7 +117,7 @@ impl Host<Bench> for BenchHost {
     fn reused(&mut self, q: &Question, verdict: &Verdict) -> Mem<()>
         ensures adds { self.new.log ≡ self.old.log ++ reused q.now verdict.now result }
         ensures keeps { Keeps (λ h. h.faults) (λ h. patience_of h.scripts) self.old self.new }
-        ensures answers { Tells tt self.old self.old self.new result }
+        ensures answers { AnswersUncounted tt self.old self.old self.new result }
     {
         let question = q.try_clone()?;
         let verdict = verdict.try_clone()?;
@@ -128,7 +128,7 @@ impl Host<Bench> for BenchHost {
     fn unasked(&mut self, q: &Question) -> Mem<()>
         ensures adds { self.new.log ≡ self.old.log ++ unasked q.now result }
         ensures keeps { Keeps (λ h. h.faults) (λ h. patience_of h.scripts) self.old self.new }
-        ensures answers { Tells tt self.old self.old self.new result }
+        ensures answers { AnswersUncounted tt self.old self.old self.new result }
     {
         let question = q.try_clone()?;
         self.add(Event::Unasked { question })?;
@@ -138,9 +138,9 @@ impl Host<Bench> for BenchHost {
     fn exists(&mut self, path: &str) -> Mem<bool>
         ensures adds { self.new.log ≡ self.old.log ++ found path.now result }
         ensures keeps { Keeps (λ h. h.faults) (λ h. patience_of h.scripts) self.old self.new }
-        ensures answers { Tells (has_file path.now self.old) self.old self.old self.new result }
+        ensures answers { AnswersUncounted (has_file path.now self.old) self.old self.old self.new result }
     {
-        let there = self.tell_file(path)?;
+        let there = self.look_for(path)?;
         Ok(there)
     }
 
@@ -169,18 +169,18 @@ impl Host<Bench> for BenchHost {
         ensures keeps { Keeps (λ h. h.faults) (λ h. patience_of h.scripts) self.old self.new }
         ensures after { self.new ≡ record self.old { log = self.new.log; files = without_file path.now self.old.files } }
     {
-        self.crew.note_dropped(path);
+        self.journal.note_dropped(path);
         self.forget(path);
     }
 
     fn random(&mut self) -> Mem<u64>
         ensures adds { self.new.log ≡ self.old.log ++ drawn result }
         ensures keeps { Keeps (λ h. h.faults) (λ h. patience_of h.scripts) self.old self.new }
-        ensures answers { Tells (next_word self.old.words) (record self.old { words = drop 1 self.old.words }) self.old self.new result }
+        ensures answers { AnswersUncounted (next_word self.old.words) (record self.old { words = drop 1 self.old.words }) self.old self.new result }
     {
-        self.crew.reserve(1)?;
+        self.journal.reserve(1)?;
         let word = take_word(&mut self.words);
-        self.crew.note(Event::Drawn { word });
+        self.journal.note(Event::Drawn { word });
         Ok(word)
     }
 
@@ -268,7 +268,7 @@ impl Host<Bench> for BenchHost {
     }
 
     fn log(&self) -> &[Event] {
-        self.crew.events()
+        self.journal.events()
     }
 }
 

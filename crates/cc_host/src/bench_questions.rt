@@ -62,20 +62,20 @@ impl BenchHost {
     {
         let question = q.try_clone()?;
         let files = files.try_clone()?;
-        self.crew.reserve(2)?;
+        self.journal.reserve(2)?;
         let event = Event::Answered {
             question,
             files: Some(files),
             outcome: Outcome::Unanswered,
         };
-        self.crew.fault(HostCall::Probe, Why::Other);
-        self.crew.note(event);
+        self.journal.fault(HostCall::Probe, Why::Other);
+        self.journal.note(event);
         self.made.count(HostCall::Probe);
         Ok(())
     }
 
-    // Tells whether the path has a file.
-    pub(crate) fn tell_file(&mut self, path: &str) -> Mem<bool>
+    // AnswersUncounted whether the path has a file.
+    pub(crate) fn look_for(&mut self, path: &str) -> Mem<bool>
         ensures is { IfOk result (λ b. b ≡ has_file path.now self.old) }
         ensures ok { IfOk result (λ b. self.new ≡ record self.old { log = self.old.log ++ Answered (exists_question path.now) None (Exists b) ∷ [] }) }
         ensures err { OnErr result (self.new ≡ self.old) }

@@ -86,17 +86,17 @@ pub enum Removal {
 /// What a printed line is.
 #[derive(Clone, Copy, Debug, PartialEq, Eq)]
 pub enum LineKind {
-    /// Tells Cargo what to link.
+    /// AnswersUncounted Cargo what to link.
     Link,
-    /// Tells Cargo which variable was read.
+    /// AnswersUncounted Cargo which variable was read.
     Rerun,
     /// A warning.
     Warning,
     /// A line of the standard error of the child of this number.
     Stderr { id: u64 },
-    /// Tells of a command that begins or ended.
+    /// AnswersUncounted of a command that begins or ended.
     Debug,
-    /// Tells why a run was refused.
+    /// AnswersUncounted why a run was refused.
     Fault,
     /// A source as the preprocessor leaves it.
     Expanded,

@@ -9,7 +9,7 @@ ghost use Rattle.cc_host.specs.declared.event.HostCall.TheVariants.{Start as Sta
 ghost use Rattle.cc_host.specs.declared.event.Why.{Why};
 ghost use Rattle.cc_host.specs.declared.question.Ask.TheVariants.{Exists as AsksExists};
 ghost use Rattle.cc_host.specs.declared.question.Outcome.TheVariants.{Unanswered};
-ghost use Rattle.cc_host.specs.Event.{started, told, refused, ran, probed, found, reused, unasked, drawn, created, made, removed, printed, listed, apart, Rose, IsCaused, IsSilent};
+ghost use Rattle.cc_host.specs.Event.{started, reported, refused, ran, probed, found, reused, unasked, drawn, created, made, removed, printed, listed, apart, Rose, IsCaused, IsSilent};
 ghost use Rattle.cc_host.specs.Probe.{IsOpen, IsTidy};
 
 use crate::{
@@ -41,7 +41,7 @@ pub trait Host<W: World> {
     /// How often the host has failed. It never falls.
     ghost faults: { Self → ℕ };
 
-    /// How many turns a child runs through at most, where the host tells it.
+    /// How many turns a child runs through at most, where the host knows it.
     ghost patience: { Self → Option ℕ };
 
     /// Starts a command, for a caller that holds so many tokens.
@@ -59,7 +59,7 @@ pub trait Host<W: World> {
 
     /// Polls every child that runs once, in start order, after a rest of at most so many milliseconds.
     fn turn(&mut self, rest_ms: u64) -> Result<Vec<News>, HostError>
-        ensures adds { MatchResult result (λ news. log self.new ≡ log self.old ++ OneTurn 1 ∷ flat_map told news.items) (λ e. log self.new ≡ log self.old ++ refused e) }
+        ensures adds { MatchResult result (λ news. log self.new ≡ log self.old ++ OneTurn 1 ∷ flat_map reported news.items) (λ e. log self.new ≡ log self.old ++ refused e) }
         ensures news { IfOk result (λ news. IsNews (log self.old) news.items) }
         ensures keeps { Keeps faults patience self.old self.new }
         ensures waits { OnOk result (Waits (patience self.new) (log self.new)) }
@@ -90,7 +90,7 @@ pub trait Host<W: World> {
         ensures adds { log self.new ≡ log self.old ++ unasked q.now result }
         ensures keeps { Keeps faults patience self.old self.new };
 
-    /// Whether a file of this path is there. What can't be told is not.
+    /// Whether a file of this path is there. What can't be learned is not.
     fn exists(&mut self, path: &str) -> Mem<bool>
         ensures adds { log self.new ≡ log self.old ++ found path.now result }
         ensures keeps { Keeps faults patience self.old self.new };
@@ -144,7 +144,7 @@ pub trait Host<W: World> {
         ensures cause { IfErr result (IsCaused ListsVars (faults self.old) (faults self.new)) };
 
     /// The events so far, oldest first, lent. Turns one after another stand as one event with their sum. No probe file was dropped more
-    /// often than it was made. Where the host tells its patience, it is at least 1.
+    /// often than it was made. Where the host knows its patience, it is at least 1.
     fn log(&self) -> &[Event]
         ensures events { flat_map apart result.now ≡ log self.now }
         ensures tidy { IsTidy (log self.now) }

@@ -13,7 +13,7 @@ pub enum Ask {
     PreprocessDashes,
     /// Whether it takes `-?`.
     HelpFlag,
-    /// Whether its version tells of Zig.
+    /// Whether its version names Zig.
     Version,
     /// Whether it compiles a source with the question's words.
     Flag { cpp: bool, family: ToolFamily },
@@ -21,7 +21,7 @@ pub enum Ask {
     Libcxx,
     /// Where it searches for programs.
     SearchDirs,
-    /// Whether it tells its version.
+    /// Whether it prints its version.
     ToolVersion,
     /// Whether it can be run at all.
     Starts,

@@ -1,0 +1,216 @@
+// The log of a host in memory, and the children that run on it.
+ghost use Rattle.std.specs.Prelude.{◌≡◌, ◌+◌, ◌-◌, ◌^◌, ◌<◌, ◌≤◌, [], ◌∷◌, ◌++◌, min, false, length, map, vec_len, IfOk, OnOk, OnErr, MatchOption};
+ghost use Rattle.std.specs.List.{flat_map, Contains, remove};
+ghost use Rattle.cc_host.specs.declared.event.Event.TheVariants.{Started, Abandoned, Fault, Opened, Dropped, Turn as OneTurn};
+ghost use Rattle.cc_host.specs.declared.event.Start.TheVariants.{Child};
+ghost use Rattle.cc_host.specs.declared.event.HostError.TheVariants.{Fault as Failed};
+ghost use Rattle.cc_host.specs.Children.{running, without, IsFresh, IsNews, Waits};
+ghost use Rattle.cc_host.specs.Event.{reported};
+ghost use Rattle.cc_host.specs.Journal.{IsQuiet};
+ghost use Rattle.cc_host.specs.Probe.{IsOpen, IsTidy};
+ghost use Rattle.cc_host.specs.Script.{patience_of, was_met};
+ghost use Rattle.cc_host.specs.Event.{apart};
+ghost use Rattle.cc_host.specs.ChildLog.{ChildLogSeen, AreRunning, IsIdle, live_of, ids, news_in, left_in, without_child};
+
+use crate::child::{self, RunningChild};
+use crate::script::{self, Scripted};
+use crate::{Command, Event, HostCall, HostError, Journal, News, Pipes, Role, Why};
+use cc_text::{Bytes, Mem, NoMemory, Text};
+use std::alloc::Global;
+use std::marker::Model;
+
+/// The events of a host in memory, oldest first, how often it failed, and the children that run, in start order.
+#[derive(Drop)]
+pub struct ChildLog {
+    alloc: Global,
+    journal: Journal,
+    children: Vec<RunningChild>,
+    next: u64,
+}
+
+impl Model for ChildLog {
+    ghost Value = { ChildLogSeen };
+
+    ghost view = { λ c. record { log = c.journal.log; faults = c.journal.faults; children = c.children.items; places = c.journal.places; probe_places = c.journal.probe_places } };
+
+    ghost invariant = { λ c. record { alive : AreRunning c.journal.log c.next c.children.items; kept : c.journal.children ≡ vec_len c.children } };
+}
+
+impl ChildLog {
+    /// No event and no child. It takes no memory.
+    pub fn new(alloc: Global) -> ChildLog
+        ensures log { result.log ≡ [] }
+        ensures faults { result.faults ≡ 0 }
+        ensures children { result.children ≡ [] }
+    {
+        ChildLog {
+            alloc,
+            journal: Journal::new(alloc),
+            children: Vec::new(alloc),
+            next: 0,
+        }
+    }
+
+    /// Reserves the places of so many events. Refused for memory, the events are as before.
+    pub fn reserve(&mut self, more: usize) -> Mem<()>
+        ensures same { self.new ≡ record self.old { places = self.new.places } }
+        ensures places { OnOk result (more ≤ self.new.places) }
+    {
+        self.journal.reserve(more)
+    }
+
+    /// Reserves the places of a probe file. Refused for memory, the events are as before.
+    pub fn reserve_probe(&mut self) -> Mem<()>
+        ensures same { self.new ≡ record self.old { places = self.new.places; probe_places = self.new.probe_places } }
+        ensures places { OnOk result (2 ≤ self.new.places) }
+        ensures probe_places { OnOk result (0 < self.new.probe_places) }
+    {
+        self.journal.reserve_probe()
+    }
+
+    /// Adds an event last that is of no child, no turn and no probe file.
+    pub fn note(&mut self, event: Event)
+        requires place { 0 < self.old.places }
+        requires quiet { IsQuiet (event ∷ []) }
+        requires idle { IsIdle event }
+        ensures same { self.new ≡ record self.old { log = self.old.log ++ event ∷ []; places = self.new.places } }
+        ensures places { self.old.places ≤ self.new.places + 1 }
+    {
+        self.journal.note(event);
+    }
+
+    /// Adds a fault, and counts it. A count that stands at its last value stays there.
+    pub fn fault(&mut self, call: HostCall, why: Why) -> HostError
+        requires { 0 < self.old.places }
+        ensures same { self.new ≡ record self.old { log = self.old.log ++ Fault call why ∷ []; faults = min (self.old.faults + 1) (2 ^ 64 - 1); places = self.new.places } }
+        ensures refusal { result ≡ Failed call why }
+        ensures later { self.old.faults ≤ self.new.faults }
+        ensures places { self.old.places ≤ self.new.places + 1 }
+    {
+        self.journal.fault(call, why)
+    }
+
+    /// Adds the event of a probe file that was made.
+    pub fn note_opened(&mut self, path: Text, kept: Text, bytes: Bytes)
+        requires places { 2 ≤ self.old.places }
+        requires probe_places { 0 < self.old.probe_places }
+        requires same_path { kept ≡ path }
+        ensures { self.new ≡ record self.old { log = self.old.log ++ Opened path bytes ∷ []; places = self.new.places; probe_places = self.new.probe_places } }
+    {
+        self.journal.note_opened(path, kept, bytes);
+    }
+
+    /// Adds the event of a probe file that is dropped, which takes no memory.
+    pub fn note_dropped(&mut self, path: &str)
+        requires { IsOpen path.now self.old.log }
+        ensures { self.new ≡ record self.old { log = self.old.log ++ Dropped path.now ∷ []; places = self.new.places; probe_places = self.new.probe_places } }
+    {
+        self.journal.note_dropped(path);
+    }
+
+    /// Starts a child that has the script at this place. Refused for memory, the events are as before.
+    pub fn start(
+        &mut self,
+        role: Role,
+        cmd: Command,
+        pipes: Pipes,
+        held: u64,
+        place: Option<usize>,
+    ) -> Mem<u64>
+        ensures log { IfOk result (λ id. self.new.log ≡ self.old.log ++ Started id role cmd pipes held ∷ []) }
+        ensures children { IfOk result (λ id. self.new.children ≡ self.old.children ++ record { id = id; polls = 0; mute = false; place = place } ∷ []) }
+        ensures fresh { IfOk result (λ id. IsFresh self.old.log (Child id)) }
+        ensures faults { self.new.faults ≡ self.old.faults }
+        ensures err { OnErr result (self.new ≡ record self.old { places = self.new.places }) }
+    {
+        let id = self.next;
+        let Some(next) = id.checked_add(1) else {
+            return Err(NoMemory);
+        };
+        self.journal.reserve(2)?;
+        self.children.reserve(1)?;
+        self.next = next;
+        self.children.push_reserved(RunningChild {
+            id,
+            polls: 0,
+            mute: false,
+            place,
+        });
+        self.journal.note_child(Event::Started {
+            id,
+            role,
+            cmd,
+            pipes,
+            held,
+        });
+        Ok(id)
+    }
+
+    /// Lets each child run through one turn. Refused for memory, the events are as before.
+    pub fn turn(&mut self, scripts: &[Scripted]) -> Mem<Vec<News>>
+        ensures log { IfOk result (λ news. self.new.log ≡ self.old.log ++ OneTurn 1 ∷ flat_map reported news.items) }
+        ensures reported { IfOk result (λ news. news.items ≡ news_in scripts.now self.old.children) }
+        ensures children { OnOk result (self.new.children ≡ left_in scripts.now self.old.children) }
+        ensures news { IfOk result (λ news. IsNews self.old.log news.items) }
+        ensures waits { OnOk result (Waits (patience_of scripts.now) self.new.log) }
+        ensures faults { self.new.faults ≡ self.old.faults }
+        ensures err { OnErr result (self.new ≡ record self.old { places = self.new.places }) }
+    {
+        let news = child::news_in(self.alloc, &self.children, scripts)?;
+        let left = child::left_in(self.alloc, &self.children, scripts)?;
+        let events = child::events_of(self.alloc, &news)?;
+        let Some(more) = events.len().checked_add(1) else {
+            return Err(NoMemory);
+        };
+        self.journal.reserve(more)?;
+        self.journal.note_turn();
+        self.journal.note_all(events);
+        self.journal.keep_children(left.len());
+        self.children = left;
+        Ok(news)
+    }
+
+    /// Leaves a child alone that runs, which takes no memory.
+    pub fn abandon(&mut self, id: u64)
+        requires { Contains (running self.old.log) id }
+        ensures log { self.new.log ≡ self.old.log ++ Abandoned id ∷ [] }
+        ensures children { self.new.children ≡ without_child id self.old.children }
+        ensures faults { self.new.faults ≡ self.old.faults }
+    {
+        match place_of(&self.children, id) {
+            Some(place) => {
+                self.children.remove(place);
+                self.journal.note_gone(Event::Abandoned { id });
+            }
+            None => unreachable!(),
+        }
+    }
+
+    /// Whether a command that is waited for was started.
+    pub fn was_met(&self, after: &Option<Text>) -> bool
+        ensures { result ≡ was_met after.now self.now.log }
+    {
+        script::was_met(after, self.journal.events())
+    }
+
+    /// The events, oldest first, lent.
+    pub fn events(&self) -> &[Event]
+        ensures events { flat_map apart result.now ≡ self.now.log }
+        ensures tidy { IsTidy self.now.log }
+    {
+        self.journal.events()
+    }
+}
+
+// The place of the first child of an id.
+#[tactic(auto, using(crate::proofs::ChildLogLemmas::child_here, crate::proofs::ChildLogLemmas::child_on))]
+fn place_of(children: &[RunningChild], id: u64) -> Option<usize>
+    ensures { MatchOption result (without_child id children.now ≡ children.now) (λ at. (at < length children.now) × (without_child id children.now ≡ remove children.now at)) }
+{
+    for (at, child) in children.iter().enumerate() {
+        if child.id == id {
+            return Some(at);
+        }
+    }
+    None
+}
