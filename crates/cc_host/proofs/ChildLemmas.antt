@@ -2,7 +2,7 @@
 use Rattle.std.proofs.Common.{◌≡◌, ℕ, ◌+◌, ◌<◌, ◌≤◌, Bool, true, false, List, [], ◌∷◌, ◌++◌, length, get_or, take, map, filter, is_some, refl, ◌∙◌, ap, arith, append-nil}
 use Rattle.std.proofs.lemmas.List.{map-append, take_more, length-append}
 use Rattle.std.proofs.lemmas.Grind.{flat_map-append}
-use Rattle.cc_host.specs.ChildLog.{news_of, has_news, news_in, child_after, left_in}
+use Rattle.cc_host.specs.ChildLog.{news_of, has_news, news_in, child_after, left_in, older}
 use Rattle.cc_host.specs.declared.event.News.{News}
 use Rattle.cc_host.specs.declared.child.RunningChild.{RunningChild}
 use Rattle.cc_host.specs.declared.script.Scripted.{Scripted}
@@ -26,6 +26,9 @@ left_more scripts children at d lt =
     ap (left_in scripts) (take_more children at d lt)
     ∙ flat_map-append (λ k. child_after k (news_of scripts k)) (take at children) (get_or children at d ∷ [])
     ∙ ap (λ l. left_in scripts (take at children) ++ l) (append-nil (child_after (get_or children at d) (news_of scripts (get_or children at d))))
+
+pub older_more : (children : List RunningChild) (at : ℕ) (d : RunningChild) → at < length children → map older (take (at + 1) children) ≡ map older (take at children) ++ older (get_or children at d) ∷ []
+older_more children at d lt = ap (map older) (take_more children at d lt) ∙ map-append older (take at children) (get_or children at d ∷ [])
 
 one_left : (child : RunningChild) (n : News) (b : Bool) → is_some n.ended ≡ b → length (child_after child n) ≤ 1
 one_left child n true e = rw e (omega arith)

@@ -1,24 +1,17 @@
 -- The news of a turn of the children of a host in memory.
-use Rattle.std.proofs.Common.{◌≡◌, inl, inr, ℕ, zero, suc, ◌+◌, ◌<◌, ◌≤◌, Bool, true, false, ◌||◌, ◌&&◌, ◌==◌, nat_le, List, [], ◌∷◌, ◌++◌, length, map, filter, slice_get, Option, Some, None, is_some, if◌then◌else◌, refl, sym, ◌∙◌, ap, subst, arith, append-nil, append_assoc, eq-eqb, ⊎_elim, pos}
-use Rattle.std.specs.List.{flat_map, Contains, All, list_any}
-use Rattle.std.proofs.lemmas.Bool.{ne_eqb, leb-false}
-use Rattle.std.proofs.lemmas.List.{map-append}
-use Rattle.std.proofs.lemmas.List.Elements.{Contains-append_cases}
-use Rattle.std.proofs.lemmas.Grind.{flat_map-append}
-use Rattle.cc_host.specs.Children.{Live, live, live_from, polled, without, id_of, started_ids, unread_of, unreads, IsNews, IsPiece, InOrder, Waits}
-use Rattle.cc_host.specs.Event.{apart, heard, unread, ended, reported}
-use Rattle.cc_host.specs.Journal.{IsQuiet}
-use Rattle.cc_host.specs.Probe.{open_of, drop_of, opens, drops}
+use Rattle.std.proofs.Common.{◌≡◌, inl, inr, ℕ, zero, suc, ◌+◌, ◌<◌, ◌≤◌, Bool, true, false, ◌&&◌, nat_le, List, [], ◌∷◌, ◌++◌, map, filter, slice_get, Option, Some, None, is_some, if◌then◌else◌, refl, sym, subst, arith, pos}
+use Rattle.std.specs.List.{Contains, All, list_any}
+use Rattle.std.proofs.lemmas.Bool.{leb-false}
+use Rattle.cc_host.specs.Children.{Live, live, unreads, IsNews, IsPiece, InOrder, Waits}
 use Rattle.cc_host.specs.Script.{script_at, turns_of, turns_out, longest, patience_of, is_met, one_if}
-use Rattle.cc_host.specs.ChildLog.{AreRunning, live_of, ids, full, news_by, news_of, has_news, news_in, child_after, left_in, ends_next, piece_next, Below, Above, Rising, Heeds}
+use Rattle.cc_host.specs.ChildLog.{AreRunning, live_of, ids, full, news_by, news_of, has_news, news_in, left_in, ends_next, piece_next, Heeds}
 use Rattle.cc_host.specs.declared.event.Event.{Event}
-use Rattle.cc_host.specs.declared.event.Event.TheVariants.{Turn}
 use Rattle.cc_host.specs.declared.event.News.{News}
 use Rattle.cc_host.specs.declared.event.Status.{Status}
 use Rattle.cc_host.specs.declared.event.Status.TheVariants.{Code}
 use Rattle.cc_host.specs.declared.child.RunningChild.{RunningChild}
 use Rattle.cc_host.specs.declared.script.Scripted.{Scripted}
-use Rattle.cc_host.proofs.ChildLogLemmas.{live_then, below_both, below_lacks, above_lacks, running_ids}
+use Rattle.cc_host.proofs.ChildLogLemmas.{running_ids}
 use Rattle.cc_host.proofs.TurnLemmas.{news_id, next_live, after}
 
 skip_first : (ns : List ℕ) (id : ℕ) (more : List ℕ) → InOrder ns more → InOrder ns (id ∷ more)

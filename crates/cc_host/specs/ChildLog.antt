@@ -1,12 +1,16 @@
--- The children of a host in memory: what each gives in a turn, and those that are left after it.
-use Rattle.std.specs.Prelude.{◌≡◌, ◌<◌, ℕ, ◌+◌, pos, List, [], ◌∷◌, length, map, filter, slice_get, Bool, false, ◌&&◌, ◌||◌, ◌==◌, nat_le, is_some, Option, Some, None, if◌then◌else◌}
-use Rattle.std.specs.List.{flat_map, Contains}
+-- The log of a host with the children that run: what a child does in a turn, and those that are left after it.
+use Rattle.std.specs.Prelude.{◌≡◌, ◌≢◌, ◌<◌, ℕ, ◌+◌, pos, List, [], ◌∷◌, ◌++◌, length, drop, map, option_map, filter, slice_get, Bool, true, false, ◌&&◌, ◌||◌, ◌==◌, nat_le, is_some, Option, Some, None, if◌then◌else◌}
+use Rattle.std.specs.List.{flat_map, remove, Contains}
+use Rattle.cc_host.specs.Calls.{plus_one}
 use Rattle.cc_host.specs.Children.{Live, live, live_after, id_of, started_ids, unread_of, unreads}
 use Rattle.cc_host.specs.Event.{apart}
 use Rattle.cc_host.specs.Script.{script_at, is_met, turns_out}
 use Rattle.cc_host.specs.declared.event.Event.{Event}
+use Rattle.cc_host.specs.declared.event.Event.TheVariants.{Fault}
+use Rattle.cc_host.specs.declared.event.HostCall.{HostCall}
 use Rattle.cc_host.specs.declared.event.News.{News}
 use Rattle.cc_host.specs.declared.event.Status.TheVariants.{Code}
+use Rattle.cc_host.specs.declared.event.Why.{Why}
 use Rattle.cc_host.specs.declared.script.Scripted.{Scripted}
 use Rattle.cc_host.specs.declared.child.RunningChild.{RunningChild}
 
@@ -101,11 +105,72 @@ pub record AreRunning (log : List Event) (next : ℕ) (children : List RunningCh
   pub heard : Below (unreads log) next
   pub heeds : Heeds (unreads log) children
 
--- what the children of a host in memory are seen as, with its log: its events, how often it failed, the children, and how many
--- events and probe files more have a place
+-- a child that was just started, with the place of its script
+abbrev pub begun : ℕ → Option ℕ → RunningChild
+begun id place = record { id = id; polls = 0; mute = false; place = place }
+
+-- a child after a turn in which it did nothing
+abbrev pub older : RunningChild → RunningChild
+older child = record { id = child.id; polls = child.polls + 1; mute = child.mute; place = child.place }
+
+-- the children after a turn in which the oldest ended and the others did nothing
+abbrev pub without_oldest : List RunningChild → List RunningChild
+without_oldest children = map older (drop 1 children)
+
+-- the standard error of each child can be read
+abbrev pub AreHeard : List RunningChild → Type 0
+AreHeard [] = Unit {0}
+AreHeard (child ∷ children) = (child.mute ≡ false) × AreHeard children
+
+-- a piece, where there is one, isn't empty
+abbrev pub IsFull : Option (List ℕ) → Type 0
+IsFull None = Unit {0}
+IsFull (Some piece) = piece ≢ []
+
+-- the id of the oldest of these children, if there is one
+abbrev pub oldest_of : List RunningChild → Option ℕ
+oldest_of children = option_map (λ c. c.id) (slice_get children 0)
+
+-- the oldest of these children ended, and gave no empty piece
+abbrev pub IsEndOfOldest : List RunningChild → News → Type 0
+IsEndOfOldest [] news = ⊥
+IsEndOfOldest (child ∷ children) news =
+    (news.id ≡ child.id) × (is_some news.ended ≡ true) × IsFull news.piece
+
+-- the first child of that id is at this place
+abbrev pub IsChildAt : ℕ → List RunningChild → ℕ → Type 0
+IsChildAt id children at =
+    (at < length children) × (without_child id children ≡ remove children at)
+
+-- what the children of a host are seen as, with its log: its events, how often it failed, the children that run in start order, the
+-- id of the next child, and how many events, probe files and children more have a place
 pub record ChildLogSeen : Type 0 where
   pub log : List Event
   pub faults : ℕ
   pub children : List RunningChild
+  pub next : ℕ
   pub places : ℕ
   pub probe_places : ℕ
+  pub child_places : ℕ
+
+-- places for probe files were reserved, and nothing else
+abbrev pub Reserves : ChildLogSeen → ChildLogSeen → Type 0
+Reserves old new = new ≡ record old { places = new.places; probe_places = new.probe_places }
+
+-- places for a child were reserved, and nothing else
+abbrev pub ReservesChild : ChildLogSeen → ChildLogSeen → Type 0
+ReservesChild old new = new ≡ record old { places = new.places; child_places = new.child_places }
+
+-- this event was added last
+abbrev pub Adds : Event → ChildLogSeen → ChildLogSeen → Type 0
+Adds event old new = new ≡ record old { log = old.log ++ event ∷ []; places = new.places }
+
+-- the event of a probe file was added last
+abbrev pub AddsProbe : Event → ChildLogSeen → ChildLogSeen → Type 0
+AddsProbe event old new =
+    new ≡ record old { log = old.log ++ event ∷ []; places = new.places; probe_places = new.probe_places }
+
+-- a fault was added last, and counted
+abbrev pub AddsFault : HostCall → Why → ChildLogSeen → ChildLogSeen → Type 0
+AddsFault call why old new =
+    new ≡ record old { log = old.log ++ Fault call why ∷ []; faults = plus_one old.faults; places = new.places }

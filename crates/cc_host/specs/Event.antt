@@ -59,10 +59,9 @@ ended id (Some status) = Ended id status ∷ []
 abbrev pub reported : News → List Event
 reported n = heard n.id n.piece ++ unread n.id n.unread ++ ended n.id n.ended
 
--- what the children did in a turn
-abbrev pub turned : Result (List News) HostError → List Event
-turned (Ok news) = Turn 1 ∷ flat_map reported news
-turned (Err e) = refused e
+-- a turn, and what the children did in it
+abbrev pub turned : List News → List Event
+turned news = Turn 1 ∷ flat_map reported news
 
 -- the turns that an event stands for, one by one
 abbrev pub apart : Event → List Event

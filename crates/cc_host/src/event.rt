@@ -86,17 +86,17 @@ pub enum Removal {
 /// What a printed line is.
 #[derive(Clone, Copy, Debug, PartialEq, Eq)]
 pub enum LineKind {
-    /// AnswersUncounted Cargo what to link.
+    /// Says to Cargo what to link.
     Link,
-    /// AnswersUncounted Cargo which variable was read.
+    /// Says to Cargo which variable was read.
     Rerun,
     /// A warning.
     Warning,
     /// A line of the standard error of the child of this number.
     Stderr { id: u64 },
-    /// AnswersUncounted of a command that begins or ended.
+    /// Says that a command begins, or how it ended.
     Debug,
-    /// AnswersUncounted why a run was refused.
+    /// Says why a run was refused.
     Fault,
     /// A source as the preprocessor leaves it.
     Expanded,

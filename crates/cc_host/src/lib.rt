@@ -26,6 +26,8 @@ mod verdicts;
 
 pub use bench::BenchHost;
 pub use bench_host::Bench;
+pub use child::RunningChild;
+pub use child_log::ChildLog;
 pub use command::Command;
 pub use compile_command::CompileCommand;
 pub use event::{
@@ -36,6 +38,6 @@ pub use host::{Host, World};
 pub use journal::Journal;
 pub use line::command_line;
 pub use probe::probe_command;
-pub use question::{Ask, Marks, Outcome, ProbeFiles, Question, Verdict};
+pub use question::{Ask, Marks, Outcome, ProbeFiles, Question, Verdict, exists_of};
 pub use script::Script;
-pub use verdicts::{into_verdict, verdict};
+pub use verdicts::{into_verdict, is_yes, verdict};
