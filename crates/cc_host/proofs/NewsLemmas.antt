@@ -1,48 +1,41 @@
 -- The news of a turn of the children of a host in memory.
-use Rattle.std.proofs.Common.{◌≡◌, inl, inr, ℕ, zero, suc, ◌+◌, ◌<◌, ◌≤◌, Bool, true, false, ◌||◌, ◌&&◌, ◌==◌, nat_le, List, [], ◌∷◌, ◌++◌, length, map, filter, slice_get, Option, Some, None, is_some, if◌then◌else◌, refl, sym, ◌∙◌, ap, subst, arith, append-nil, append_assoc, eq-eqb, ⊎_elim, pos}
-use Rattle.std.specs.List.{flat_map, Contains, All, list_any}
-use Rattle.std.proofs.lemmas.Bool.{ne_eqb, leb-false}
-use Rattle.std.proofs.lemmas.List.{map-append}
-use Rattle.std.proofs.lemmas.List.Elements.{Contains-append_cases}
-use Rattle.std.proofs.lemmas.Grind.{flat_map-append}
-use Rattle.cc_host.specs.Children.{Live, live, live_from, polled, without, id_of, started_ids, unread_of, unreads, IsNews, IsPiece, InOrder, Waits}
-use Rattle.cc_host.specs.Event.{apart, heard, unread, ended, told}
-use Rattle.cc_host.specs.Journal.{IsQuiet}
-use Rattle.cc_host.specs.Probe.{open_of, drop_of, opens, drops}
+use Rattle.std.proofs.Common.{◌≡◌, inl, inr, ℕ, zero, suc, ◌+◌, ◌<◌, ◌≤◌, Bool, true, false, ◌&&◌, nat_le, List, [], ◌∷◌, ◌++◌, map, filter, slice_get, Option, Some, None, is_some, if◌then◌else◌, refl, sym, subst, arith, pos}
+use Rattle.std.specs.List.{Contains, All, list_any}
+use Rattle.std.proofs.lemmas.Bool.{leb-false}
+use Rattle.cc_host.specs.Children.{Live, live, unreads, IsNews, IsPiece, InOrder, Waits}
 use Rattle.cc_host.specs.Script.{script_at, turns_of, turns_out, longest, patience_of, is_met, one_if}
-use Rattle.cc_host.specs.Crew.{IsCrew, live_of, ids, full, news_by, news_of, has_news, news_in, kid_after, left_in, ends_next, piece_next, Below, Above, Rising, Heeds}
+use Rattle.cc_host.specs.ChildLog.{AreRunning, live_of, ids, full, news_by, news_of, has_news, news_in, left_in, ends_next, piece_next, Heeds}
 use Rattle.cc_host.specs.declared.event.Event.{Event}
-use Rattle.cc_host.specs.declared.event.Event.TheVariants.{Turn}
 use Rattle.cc_host.specs.declared.event.News.{News}
 use Rattle.cc_host.specs.declared.event.Status.{Status}
 use Rattle.cc_host.specs.declared.event.Status.TheVariants.{Code}
-use Rattle.cc_host.specs.declared.kid.Kid.{Kid}
+use Rattle.cc_host.specs.declared.child.RunningChild.{RunningChild}
 use Rattle.cc_host.specs.declared.script.Scripted.{Scripted}
-use Rattle.cc_host.proofs.CrewLemmas.{live_then, below_both, below_lacks, above_lacks, running_ids}
+use Rattle.cc_host.proofs.ChildLogLemmas.{running_ids}
 use Rattle.cc_host.proofs.TurnLemmas.{news_id, next_live, after}
 
 skip_first : (ns : List ℕ) (id : ℕ) (more : List ℕ) → InOrder ns more → InOrder ns (id ∷ more)
 skip_first [] id more h = tt
 skip_first (n ∷ ns) id more h = inr h
 
-order_by : (scripts : List Scripted) (k : Kid) (kids : List Kid) (b : Bool) → has_news (news_of scripts k) ≡ b → InOrder (map (λ (n : News). n.id) (news_in scripts kids)) (ids kids) → InOrder (map (λ (n : News). n.id) (news_in scripts (k ∷ kids))) (ids (k ∷ kids))
-order_by scripts k kids true e h = rw e (inl (news_id scripts k, h))
-order_by scripts k kids false e h = rw e (skip_first (map (λ (n : News). n.id) (news_in scripts kids)) k.id (ids kids) h)
+order_by : (scripts : List Scripted) (k : RunningChild) (children : List RunningChild) (b : Bool) → has_news (news_of scripts k) ≡ b → InOrder (map (λ (n : News). n.id) (news_in scripts children)) (ids children) → InOrder (map (λ (n : News). n.id) (news_in scripts (k ∷ children))) (ids (k ∷ children))
+order_by scripts k children true e h = rw e (inl (news_id scripts k, h))
+order_by scripts k children false e h = rw e (skip_first (map (λ (n : News). n.id) (news_in scripts children)) k.id (ids children) h)
 
-order : (scripts : List Scripted) (kids : List Kid) → InOrder (map (λ (n : News). n.id) (news_in scripts kids)) (ids kids)
+order : (scripts : List Scripted) (children : List RunningChild) → InOrder (map (λ (n : News). n.id) (news_in scripts children)) (ids children)
 order scripts [] = tt
-order scripts (k ∷ kids) = order_by scripts k kids (has_news (news_of scripts k)) refl (order scripts kids)
+order scripts (k ∷ children) = order_by scripts k children (has_news (news_of scripts k)) refl (order scripts children)
 
 full_piece : (log : List Event) (n : News) (o : Option (List ℕ)) → (Contains (unreads log) n.id → ⊥) → IsPiece log n (full o)
 full_piece log n None h = tt
 full_piece log n (Some []) h = tt
 full_piece log n (Some (b ∷ bs)) h = (λ e. cc e, h)
 
-piece_by : (log : List Event) (n : News) (k : Kid) (s : Scripted) (m : Bool) → k.mute ≡ m → n.id ≡ k.id → (k.mute ≡ false → Contains (unreads log) k.id → ⊥) → IsPiece log n (piece_next k s)
+piece_by : (log : List Event) (n : News) (k : RunningChild) (s : Scripted) (m : Bool) → k.mute ≡ m → n.id ≡ k.id → (k.mute ≡ false → Contains (unreads log) k.id → ⊥) → IsPiece log n (piece_next k s)
 piece_by log n k s true e is h = rw e tt
 piece_by log n k s false e is h = rw e (full_piece log n (slice_get s.script.pieces.items k.polls) (λ c. h e (subst (Contains (unreads log)) is c)))
 
-piece_of : (log : List Event) (k : Kid) (o : Option Scripted) → (k.mute ≡ false → Contains (unreads log) k.id → ⊥) → IsPiece log (news_by k o) (news_by k o).piece
+piece_of : (log : List Event) (k : RunningChild) (o : Option Scripted) → (k.mute ≡ false → Contains (unreads log) k.id → ⊥) → IsPiece log (news_by k o) (news_by k o).piece
 piece_of log k None h = tt
 piece_of log k (Some s) h = piece_by log (news_by k (Some s)) k s k.mute refl refl h
 
@@ -50,18 +43,18 @@ all_first : (log : List Event) (n : News) (ns : List News) → IsPiece log n n.p
 all_first log n ns one h zero d lt = one
 all_first log n ns one h (suc k) d lt = h k d (omega arith)
 
-pieces_by : (log : List Event) (scripts : List Scripted) (k : Kid) (kids : List Kid) (b : Bool) → has_news (news_of scripts k) ≡ b → IsPiece log (news_of scripts k) (news_of scripts k).piece → All (λ n. IsPiece log n n.piece) (news_in scripts kids) → All (λ n. IsPiece log n n.piece) (news_in scripts (k ∷ kids))
-pieces_by log scripts k kids true e one h = rw e (all_first log (news_of scripts k) (news_in scripts kids) one h)
-pieces_by log scripts k kids false e one h = rw e h
+pieces_by : (log : List Event) (scripts : List Scripted) (k : RunningChild) (children : List RunningChild) (b : Bool) → has_news (news_of scripts k) ≡ b → IsPiece log (news_of scripts k) (news_of scripts k).piece → All (λ n. IsPiece log n n.piece) (news_in scripts children) → All (λ n. IsPiece log n n.piece) (news_in scripts (k ∷ children))
+pieces_by log scripts k children true e one h = rw e (all_first log (news_of scripts k) (news_in scripts children) one h)
+pieces_by log scripts k children false e one h = rw e h
 
-pieces_all : (log : List Event) (scripts : List Scripted) (kids : List Kid) → Heeds (unreads log) kids → All (λ n. IsPiece log n n.piece) (news_in scripts kids)
+pieces_all : (log : List Event) (scripts : List Scripted) (children : List RunningChild) → Heeds (unreads log) children → All (λ n. IsPiece log n n.piece) (news_in scripts children)
 pieces_all log scripts [] h = λ k d lt. absurd (omega arith)
-pieces_all log scripts (k ∷ kids) h = pieces_by log scripts k kids (has_news (news_of scripts k)) refl (piece_of log k (script_at scripts k.place) h.0) (pieces_all log scripts kids h.1)
+pieces_all log scripts (k ∷ children) h = pieces_by log scripts k children (has_news (news_of scripts k)) refl (piece_of log k (script_at scripts k.place) h.0) (pieces_all log scripts children h.1)
 
-pub news_turn : (log : List Event) (next : ℕ) (kids : List Kid) (scripts : List Scripted) → IsCrew log next kids → IsNews log (news_in scripts kids)
-news_turn log next kids scripts crew = record {
-  own = subst (InOrder (map (λ (n : News). n.id) (news_in scripts kids))) (sym (running_ids log next kids crew)) (order scripts kids);
-  pieces = pieces_all log scripts kids crew.heeds;
+pub news_turn : (log : List Event) (next : ℕ) (children : List RunningChild) (scripts : List Scripted) → AreRunning log next children → IsNews log (news_in scripts children)
+news_turn log next children scripts alive = record {
+  own = subst (InOrder (map (λ (n : News). n.id) (news_in scripts children))) (sym (running_ids log next children alive)) (order scripts children);
+  pieces = pieces_all log scripts children alive.heeds;
 }
 
 -- patience
@@ -115,7 +108,7 @@ end_none : (b : Bool) (status : Status) → is_some (if b then Some status else 
 end_none true status h = absurd (cc)
 end_none false status h = refl
 
-slow_by : (scripts : List Scripted) (k : Kid) (o : Option Scripted) → script_at scripts k.place ≡ o → is_some (news_by k o).ended ≡ false → list_any waits_for scripts ≡ false → k.polls + 1 < longest scripts
+slow_by : (scripts : List Scripted) (k : RunningChild) (o : Option Scripted) → script_at scripts k.place ≡ o → is_some (news_by k o).ended ≡ false → list_any waits_for scripts ≡ false → k.polls + 1 < longest scripts
 slow_by scripts k None e f h = absurd (cc)
 slow_by scripts k (Some s) e f h =
     let p = place_some scripts k.place s e h in
@@ -125,20 +118,20 @@ all_lives : (most : ℕ) (c : Live) (cs : List Live) → c.polls < most → All 
 all_lives most c cs one h zero d lt = one
 all_lives most c cs one h (suc k) d lt = h k d (omega arith)
 
-all_left_by : (scripts : List Scripted) (k : Kid) (rest : List Kid) (b : Bool) → is_some (news_of scripts k).ended ≡ b → list_any waits_for scripts ≡ false → All (λ c. c.polls < longest scripts) (map live_of rest) → All (λ c. c.polls < longest scripts) (map live_of (after scripts k ++ rest))
+all_left_by : (scripts : List Scripted) (k : RunningChild) (rest : List RunningChild) (b : Bool) → is_some (news_of scripts k).ended ≡ b → list_any waits_for scripts ≡ false → All (λ c. c.polls < longest scripts) (map live_of rest) → All (λ c. c.polls < longest scripts) (map live_of (after scripts k ++ rest))
 all_left_by scripts k rest true e h all = rw e all
 all_left_by scripts k rest false e h all = rw e (all_lives (longest scripts) (next_live k) (map live_of rest) (slow_by scripts k (script_at scripts k.place) refl e h) all)
 
-all_left : (scripts : List Scripted) (kids : List Kid) → list_any waits_for scripts ≡ false → All (λ c. c.polls < longest scripts) (map live_of (left_in scripts kids))
+all_left : (scripts : List Scripted) (children : List RunningChild) → list_any waits_for scripts ≡ false → All (λ c. c.polls < longest scripts) (map live_of (left_in scripts children))
 all_left scripts [] h = λ k d lt. absurd (omega arith)
-all_left scripts (k ∷ kids) h = all_left_by scripts k (left_in scripts kids) (is_some (news_of scripts k).ended) refl h (all_left scripts kids h)
+all_left scripts (k ∷ children) h = all_left_by scripts k (left_in scripts children) (is_some (news_of scripts k).ended) refl h (all_left scripts children h)
 
-waits_by : (scripts : List Scripted) (kids : List Kid) (new : List Event) (b : Bool) → list_any waits_for scripts ≡ b → live new ≡ map live_of (left_in scripts kids) → Waits (patience_of scripts) new
-waits_by scripts kids new true e is = rw e tt
-waits_by scripts kids new false e is = rw e (subst (All (λ c. c.polls < longest scripts)) (sym is) (all_left scripts kids e))
+waits_by : (scripts : List Scripted) (children : List RunningChild) (new : List Event) (b : Bool) → list_any waits_for scripts ≡ b → live new ≡ map live_of (left_in scripts children) → Waits (patience_of scripts) new
+waits_by scripts children new true e is = rw e tt
+waits_by scripts children new false e is = rw e (subst (All (λ c. c.polls < longest scripts)) (sym is) (all_left scripts children e))
 
-pub waits_turn : (new : List Event) (next : ℕ) (kids : List Kid) (scripts : List Scripted) → IsCrew new next (left_in scripts kids) → Waits (patience_of scripts) new
-waits_turn new next kids scripts crew = waits_by scripts kids new (list_any waits_for scripts) refl crew.run
+pub waits_turn : (new : List Event) (next : ℕ) (children : List RunningChild) (scripts : List Scripted) → AreRunning new next (left_in scripts children) → Waits (patience_of scripts) new
+waits_turn new next children scripts alive = waits_by scripts children new (list_any waits_for scripts) refl alive.run
 
 -- without scripts each child ends with 0
 
@@ -146,7 +139,7 @@ no_script : (place : Option ℕ) → script_at [] place ≡ None
 no_script None = refl
 no_script (Some at) = refl
 
-plain_by : (k : Kid) (o : Option Scripted) (rest : List News) → o ≡ None → All (λ n. n.ended ≡ Some (Code (pos 0))) rest → All (λ n. n.ended ≡ Some (Code (pos 0))) (filter has_news (news_by k o ∷ []) ++ rest)
+plain_by : (k : RunningChild) (o : Option Scripted) (rest : List News) → o ≡ None → All (λ n. n.ended ≡ Some (Code (pos 0))) rest → All (λ n. n.ended ≡ Some (Code (pos 0))) (filter has_news (news_by k o ∷ []) ++ rest)
 plain_by k None rest e h = first
   where
     first : All (λ n. n.ended ≡ Some (Code (pos 0))) (news_by k None ∷ rest)
@@ -158,8 +151,8 @@ first_apart : (n : News) (ns : List News) (b : Bool) → has_news n ≡ b → fi
 first_apart n ns true e = rw e refl
 first_apart n ns false e = rw e refl
 
-pub plain_news : (kids : List Kid) → All (λ n. n.ended ≡ Some (Code (pos 0))) (news_in [] kids)
+pub plain_news : (children : List RunningChild) → All (λ n. n.ended ≡ Some (Code (pos 0))) (news_in [] children)
 plain_news [] = λ i d lt. absurd (omega arith)
-plain_news (k ∷ kids) =
-    let split = first_apart (news_of [] k) (map (news_of []) kids) (has_news (news_of [] k)) refl in
-    subst (All (λ (n : News). n.ended ≡ Some (Code (pos 0)))) (sym split) (plain_by k (script_at [] k.place) (news_in [] kids) (no_script k.place) (plain_news kids))
+plain_news (k ∷ children) =
+    let split = first_apart (news_of [] k) (map (news_of []) children) (has_news (news_of [] k)) refl in
+    subst (All (λ (n : News). n.ended ≡ Some (Code (pos 0)))) (sym split) (plain_by k (script_at [] k.place) (news_in [] children) (no_script k.place) (plain_news children))

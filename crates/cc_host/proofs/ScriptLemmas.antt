@@ -34,9 +34,9 @@ get_or_seam : {X : Type 0} (xs : List X) (y : X) (ys : List X) (at : ℕ) (d : X
 get_or_seam [] y ys at d e = subst (λ n. get_or (y ∷ ys) n d ≡ y) e refl
 get_or_seam (x ∷ xs) y ys at d e = subst (λ n. get_or (x ∷ xs ++ y ∷ ys) n d ≡ y) e (get_or_seam xs y ys (length xs) d refl)
 
--- the scripts so far have been told, and now one more
-pub told_more : (f : Scripted → Scripted) (first now : List Scripted) (at : ℕ) (script after : Scripted) → at < length first → now ≡ map f (take at first) ++ drop at first → script ≡ get_or now at script → after ≡ f script → set now at after ≡ map f (take (at + 1) first) ++ drop (at + 1) first
-told_more f first now at script after lt e is g =
+-- the scripts so far have been reported, and now one more
+pub reported_more : (f : Scripted → Scripted) (first now : List Scripted) (at : ℕ) (script after : Scripted) → at < length first → now ≡ map f (take at first) ++ drop at first → script ≡ get_or now at script → after ≡ f script → set now at after ≡ map f (take (at + 1) first) ++ drop (at + 1) first
+reported_more f first now at script after lt e is g =
     let long : length (map f (take at first)) ≡ at = length-map (take at first) f ∙ length-take-le at first (omega arith) in
     let rest : now ≡ map f (take at first) ++ get_or first at script ∷ drop (at + 1) first = e ∙ ap (λ l. map f (take at first) ++ l) (at_drop_more (λ l. l) first at script lt) in
     let same : script ≡ get_or first at script = is ∙ ap (λ l. get_or l at script) rest ∙ get_or_seam (map f (take at first)) (get_or first at script) (drop (at + 1) first) at script long in

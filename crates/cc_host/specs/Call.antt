@@ -8,7 +8,7 @@ use Rattle.cc_host.specs.declared.event.Event.{Event}
 abbrev pub part : {X : Type 0} → (X → List Event) → X → X → List Event
 part log old new = since (log old) (log new)
 
--- a fact of the verdicts, whichever agree with the answers that a call was told
+-- a fact of the verdicts, whichever agree with the answers that a call got
 abbrev pub ByAnswers : {X : Type 0} → (X → List Event) → X → X → (Look → Type 0) → Type 0
 ByAnswers log old new fact = Holds (answers (part log old new)) fact
 

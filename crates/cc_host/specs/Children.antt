@@ -76,7 +76,7 @@ pub record IsNews (log : List Event) (news : List News) : Type 0 where
   pub own : InOrder (map (λ n. n.id) news) (running log)
   pub pieces : All (λ n. IsPiece log n n.piece) news
 
--- where patience is told, each child that runs was polled fewer times than that
+-- where patience is known, each child that runs was polled fewer times than that
 abbrev pub Waits : Option ℕ → List Event → Type 0
 Waits None log = Unit {0}
 Waits (Some most) log = All (λ c. c.polls < most) (live log)

@@ -56,15 +56,14 @@ ended id None = []
 ended id (Some status) = Ended id status ∷ []
 
 -- what one child did in a turn
-abbrev pub told : News → List Event
-told n = heard n.id n.piece ++ unread n.id n.unread ++ ended n.id n.ended
+abbrev pub reported : News → List Event
+reported n = heard n.id n.piece ++ unread n.id n.unread ++ ended n.id n.ended
 
--- what the children did in a turn
-abbrev pub turned : Result (List News) HostError → List Event
-turned (Ok news) = Turn 1 ∷ flat_map told news
-turned (Err e) = refused e
+-- a turn, and what the children did in it
+abbrev pub turned : List News → List Event
+turned news = Turn 1 ∷ flat_map reported news
 
--- the turns that an event tells of, one by one
+-- the turns that an event stands for, one by one
 abbrev pub apart : Event → List Event
 apart (Turn count) = replicate count (Turn 1)
 apart event = event ∷ []

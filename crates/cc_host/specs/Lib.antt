@@ -1,11 +1,11 @@
 pub mod Bench
 pub mod Call
 pub mod Calls
+pub mod ChildLog
 pub mod Children
 pub mod Command
 pub mod CommandLine
 pub mod CompileCommand
-pub mod Crew
 pub mod Event
 pub mod Given
 pub mod Journal

@@ -25,7 +25,7 @@ is_yes _ = false
 abbrev pub Answer : Type 0
 Answer = Question × Verdict
 
--- what an event tells: an answered question has its outcome's verdict, a reused one its own, and one that couldn't be asked is unanswered
+-- what is learned from an event: an answered question has its outcome's verdict, a reused one its own, and one that couldn't be asked is unanswered
 abbrev pub answer_of : Event → List Answer
 answer_of (Answered question files outcome) = (question, verdict_of question outcome) ∷ []
 answer_of (Reused question verdict) = (question, verdict) ∷ []

@@ -92,6 +92,6 @@ abbrev pub longest : List Scripted → ℕ
 longest [] = 1
 longest (script ∷ scripts) = max (turns_of script) (longest scripts)
 
--- how many turns a child runs through at most, which isn't told where a script waits for a command
+-- how many turns a child runs through at most, which isn't known where a script waits for a command
 abbrev pub patience_of : List Scripted → Option ℕ
 patience_of scripts = if list_any (λ s. is_some s.script.after) scripts then None else Some (longest scripts)

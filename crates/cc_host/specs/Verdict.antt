@@ -1,5 +1,5 @@
 -- What an outcome means for its question.
-use Rattle.std.specs.Prelude.{ℕ, Bool, true, false, ◌&&◌, ◌||◌, ◌==◌, nat_eq, List, [], Option, Some, None, codes, length, drop, find, bytes_eq, if◌then◌else◌}
+use Rattle.std.specs.Prelude.{ℕ, Bool, true, false, ◌&&◌, ◌||◌, ◌==◌, nat_eq, List, [], Option, Some, None, option_map, codes, length, drop, find, bytes_eq, if◌then◌else◌}
 use Rattle.std.specs.List.{starts_with, slice_split}
 use Rattle.std.specs.Str.{is_utf8}
 use Rattle.cc_text.specs.Within.{is_within}
@@ -43,6 +43,10 @@ parted = slice_split (λ b. b == 10 || b == 13)
 
 abbrev pub begins_with_programs : List ℕ → Bool
 begins_with_programs line = starts_with nat_eq line (codes "programs: =")
+
+-- what follows `programs: =` on the first line that begins so
+abbrev pub programs_of : List ℕ → Option (List ℕ)
+programs_of out = option_map (drop (length (codes "programs: ="))) (find begins_with_programs (parted out))
 
 abbrev pub dirs_in : Option (List ℕ) → Verdict
 dirs_in (Some line) = Dirs (drop (length (codes "programs: =")) line)

@@ -5,11 +5,11 @@ ghost use Rattle.cc_host.specs.Calls.{counted, plus_one};
 ghost use Rattle.cc_host.specs.Event.{refused, IsCaused};
 ghost use Rattle.cc_host.specs.Script.{has_word, was_met};
 ghost use Rattle.cc_host.specs.Journal.{IsQuiet};
-ghost use Rattle.cc_host.specs.Crew.{IsIdle};
-ghost use Rattle.cc_host.specs.Bench.{BenchSeen, fresh, fails_next, has_file, without_file, next_word, IsFailure};
+ghost use Rattle.cc_host.specs.ChildLog.{IsIdle};
+ghost use Rattle.cc_host.specs.Bench.{BenchSeen, fresh, fails_next, has_file, without_file, without_path, next_word, IsFailure, with_script, with_missing, with_answer, with_failure, with_file, noted, called};
 
 use crate::calls::{self, Counts, Failure};
-use crate::crew::Crew;
+use crate::child_log::ChildLog;
 use crate::given::GivenList;
 use crate::script::Scripted;
 use crate::{Ask, Event, HostCall, HostError, Outcome, Role, Script, Why};
@@ -18,12 +18,12 @@ use std::alloc::Global;
 use std::marker::Model;
 
 /// A host in memory. Commands end as they are scripted, or with 0 at their first turn, and write nothing. Questions come to what was
-/// given for them, or to answers of a plain GCC. The files on it are those that it was told of, and the probe files that were made.
+/// given for them, or to answers of a plain GCC. The files on it are those that it was given, and the probe files that were made.
 /// Its variables are those that it was given, none at first. A call faults only where `fail` was called.
 #[derive(Drop)]
 pub struct BenchHost {
     pub(crate) alloc: Global,
-    pub(crate) crew: Crew,
+    pub(crate) journal: ChildLog,
     pub(crate) made: Counts,
     pub(crate) scripts: Vec<Scripted>,
     pub(crate) missing: Words,
@@ -37,17 +37,29 @@ pub struct BenchHost {
 impl Model for BenchHost {
     ghost Value = { BenchSeen };
 
-    ghost view = { λ h. record { log = h.crew.log; faults = h.crew.faults; kids = h.crew.kids; made = h.made; scripts = h.scripts.items; missing = h.missing; failures = h.failures.items; vars = h.vars; given = h.given; files = h.files.items; words = reverse h.words.items } };
+    ghost view = { λ h. record {
+      log = h.journal.log;
+      faults = h.journal.faults;
+      children = h.journal.children;
+      made = h.made;
+      scripts = h.scripts.items;
+      missing = h.missing;
+      failures = h.failures.items;
+      vars = h.vars;
+      given = h.given;
+      files = h.files.items;
+      words = reverse h.words.items;
+    } };
 }
 
 impl BenchHost {
-    /// A host that was told nothing. It takes no memory.
+    /// A host as it is before anything is set on it. It takes no memory.
     pub fn new(alloc: Global) -> Mem<BenchHost>
         ensures { IfOk result (λ h. h ≡ fresh) }
     {
         Ok(BenchHost {
             alloc,
-            crew: Crew::new(alloc),
+            journal: ChildLog::new(alloc),
             made: Counts::new(),
             scripts: Vec::new(alloc),
             missing: Words::new(alloc),
@@ -62,11 +74,11 @@ impl BenchHost {
     /// Scripts each command of the role that has the word, as its program or among its words. The script that was added
     /// last counts. Refused for memory, the host stays as it was.
     pub fn script(&mut self, role: Role, word: &str, script: Script) -> Mem<()>
-        ensures ok { OnOk result (self.new ≡ record self.old { scripts = self.old.scripts ++ record { role = role; word = word.now; script = script; met = was_met script.after self.old.log } ∷ [] }) }
+        ensures ok { OnOk result (self.new ≡ with_script role word.now script self.old) }
         ensures err { OnErr result (self.new ≡ self.old) }
     {
         let word = Text::of(self.alloc, word)?;
-        let met = self.crew.was_met(&script.after);
+        let met = self.journal.was_met(&script.after);
         self.scripts.push(Scripted {
             role,
             word,
@@ -79,7 +91,7 @@ impl BenchHost {
     /// Makes each command of the program missing, scripted or not. It speaks of no question. Refused for memory, the host stays as it
     /// was.
     pub fn missing(&mut self, program: &str) -> Mem<()>
-        ensures ok { OnOk result (self.new ≡ record self.old { missing = self.old.missing ++ program.now ∷ [] }) }
+        ensures ok { OnOk result (self.new ≡ with_missing program.now self.old) }
         ensures err { OnErr result (self.new ≡ self.old) }
     {
         self.missing.push(program)
@@ -89,7 +101,7 @@ impl BenchHost {
     /// host stays as it was.
     pub fn answer(&mut self, ask: Ask, program: &str, outcome: Outcome) -> Mem<()>
         requires { outcome ≢ Unanswered }
-        ensures ok { OnOk result (self.new ≡ record self.old { given = self.old.given ++ record { ask = ask; program = program.now; outcome = outcome } ∷ [] }) }
+        ensures ok { OnOk result (self.new ≡ with_answer ask program.now outcome self.old) }
         ensures err { OnErr result (self.new ≡ self.old) }
     {
         self.given.give(ask, program, outcome)
@@ -98,7 +110,7 @@ impl BenchHost {
     /// Makes the nth call of the kind on this host, from 1, fault with `Why::Other`. A call that was refused for memory
     /// counts for none. Refused for memory itself, the host stays as it was.
     pub fn fail(&mut self, call: HostCall, nth: u64) -> Mem<()>
-        ensures ok { OnOk result (self.new ≡ record self.old { failures = self.old.failures ++ record { call = call; nth = nth } ∷ [] }) }
+        ensures ok { OnOk result (self.new ≡ with_failure call nth self.old) }
         ensures err { OnErr result (self.new ≡ self.old) }
     {
         self.failures.push(Failure { call, nth })?;
@@ -107,7 +119,7 @@ impl BenchHost {
 
     /// Puts a file at the path. Refused for memory, the host stays as it was.
     pub fn file(&mut self, path: &str) -> Mem<()>
-        ensures ok { OnOk result (self.new ≡ record self.old { files = self.old.files ++ path.now ∷ [] }) }
+        ensures ok { OnOk result (self.new ≡ with_file path.now self.old) }
         ensures err { OnErr result (self.new ≡ self.old) }
     {
         let path = Text::of(self.alloc, path)?;
@@ -142,14 +154,14 @@ impl BenchHost {
     pub(crate) fn add(&mut self, event: Event) -> Mem<()>
         requires quiet { IsQuiet (event ∷ []) }
         requires idle { IsIdle event }
-        ensures ok { OnOk result (self.new ≡ record self.old { log = self.old.log ++ event ∷ [] }) }
+        ensures ok { OnOk result (self.new ≡ noted (event ∷ []) self.old) }
         ensures err { OnErr result (self.new ≡ self.old) }
     {
-        if self.crew.reserve(1).is_err() {
+        if self.journal.reserve(1).is_err() {
             drop(event);
             return Err(NoMemory);
         }
-        self.crew.note(event);
+        self.journal.note(event);
         Ok(())
     }
 
@@ -157,7 +169,7 @@ impl BenchHost {
     pub(crate) fn add_call(&mut self, call: HostCall, event: Event) -> Mem<()>
         requires quiet { IsQuiet (event ∷ []) }
         requires idle { IsIdle event }
-        ensures ok { OnOk result (self.new ≡ record self.old { log = self.old.log ++ event ∷ []; made = counted call self.old.made }) }
+        ensures ok { OnOk result (self.new ≡ called call (event ∷ []) self.old) }
         ensures err { OnErr result (self.new ≡ self.old) }
     {
         self.add(event)?;
@@ -172,11 +184,11 @@ impl BenchHost {
         ensures cause { IsCaused call self.old.faults self.new.faults result }
         ensures fails { IsFailure call self.old self.new result }
     {
-        if self.crew.reserve(1).is_err() {
+        if self.journal.reserve(1).is_err() {
             return HostError::NoMemory;
         }
         self.made.count(call);
-        self.crew.fault(call, Why::Other)
+        self.journal.fault(call, Why::Other)
     }
 
     // Whether the path has a file.
@@ -188,7 +200,7 @@ impl BenchHost {
 
     // Takes the file of a path away.
     pub(crate) fn forget(&mut self, path: &str)
-        ensures { self.new ≡ record self.old { files = without_file path.now self.old.files } }
+        ensures { self.new ≡ without_path path.now self.old }
     {
         remove_file(&mut self.files, path);
     }

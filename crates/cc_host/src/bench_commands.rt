@@ -1,14 +1,12 @@
 // What a host in memory does with commands and files.
-ghost use Rattle.std.specs.Prelude.{◌≡◌, ◌++◌, ◌∷◌, [], ℕ, Option, Ok, IfOk, OnOk, OnErr};
+ghost use Rattle.std.specs.Prelude.{◌≡◌, ◌++◌, ◌∷◌, [], Ok, IfOk, OnOk, OnErr};
 ghost use Rattle.cc_host.specs.declared.event.Event.TheVariants.{Started, Opened};
-ghost use Rattle.cc_host.specs.declared.event.HostCall.TheVariants.{Start as Starts, Output, CreateProbe};
+ghost use Rattle.cc_host.specs.declared.event.HostCall.TheVariants.{Output, CreateProbe};
 ghost use Rattle.cc_host.specs.declared.event.Ran.TheVariants.{Done};
 ghost use Rattle.cc_host.specs.declared.event.Start.TheVariants.{Child};
 ghost use Rattle.cc_host.specs.Children.{IsFresh};
-ghost use Rattle.cc_host.specs.Calls.{counted};
 ghost use Rattle.cc_host.specs.Event.{is_captured, ran};
-ghost use Rattle.cc_host.specs.Script.{script_for, script_at};
-ghost use Rattle.cc_host.specs.Bench.{start_after, ends_as};
+ghost use Rattle.cc_host.specs.Bench.{ends_as, Begins, called, with_file};
 
 use crate::{BenchHost, Command, Event, HostCall, OutputKind, Pipes, Ran, Role, Status, script};
 use cc_text::{Bytes, Mem, Text};
@@ -27,7 +25,8 @@ fn is_captured(out: OutputKind) -> bool
 impl BenchHost {
     // How a command ends whose program is there, with what is kept of its standard output and of its standard error.
     fn script_end(&self, role: Role, cmd: &Command, pipes: Pipes) -> Mem<(Status, Bytes, Bytes)>
-        ensures { IfOk result (λ end. Done end.0 end.1 end.2 ≡ ends_as self.now role cmd.now pipes) }
+        ensures { IfOk result
+            (λ end. Done end.0 end.1 end.2 ≡ ends_as self.now role cmd.now pipes) }
     {
         let captured = is_captured(pipes.out);
         let found = script::script_for(&self.scripts, role, cmd);
@@ -46,7 +45,8 @@ impl BenchHost {
         out: &Bytes,
         err: &Bytes,
     ) -> Mem<()>
-        ensures ok { OnOk result (self.new ≡ record self.old { log = self.old.log ++ ran role cmd pipes (Ok (Done status out.now err.now)); made = counted Output self.old.made }) }
+        ensures ok { OnOk result (self.new
+            ≡ called Output (ran role cmd pipes (Ok (Done status out.now err.now))) self.old) }
         ensures err { OnErr result (self.new ≡ self.old) }
     {
         let out = out.try_clone()?;
@@ -65,7 +65,9 @@ impl BenchHost {
     // Runs a command to its end whose program is there.
     pub(crate) fn run_script(&mut self, role: Role, cmd: Command, pipes: Pipes) -> Mem<Ran>
         ensures is { IfOk result (λ r. r ≡ ends_as self.old role cmd pipes) }
-        ensures ok { OnOk result (self.new ≡ record self.old { log = self.old.log ++ ran role cmd pipes (Ok (ends_as self.old role cmd pipes)); made = counted Output self.old.made }) }
+        ensures ok { OnOk result (self.new
+            ≡ called Output (ran role cmd pipes (Ok (ends_as self.old role cmd pipes)))
+            self.old) }
         ensures err { OnErr result (self.new ≡ self.old) }
     {
         let (status, out, err) = self.script_end(role, &cmd, pipes)?;
@@ -81,13 +83,16 @@ impl BenchHost {
         pipes: Pipes,
         held: u64,
     ) -> Mem<u64>
-        ensures log { IfOk result (λ id. self.new.log ≡ self.old.log ++ Started id role cmd.now pipes held ∷ []) }
+        ensures log { IfOk result (λ id. self.new.log
+            ≡ self.old.log ++ Started id role cmd.now pipes held ∷ []) }
         ensures fresh { IfOk result (λ id. IsFresh self.old.log (Child id)) }
-        ensures ok { IfOk result (λ id. (place : Option ℕ) × (script_at self.old.scripts place ≡ script_for self.old.scripts role cmd.now) × (self.new ≡ record (start_after self.old cmd.now id place) { log = self.new.log; made = counted Starts self.old.made })) }
+        ensures ok { IfOk result (λ id. Begins cmd.now role id self.old self.new) }
         ensures err { OnErr result (self.new ≡ self.old) }
     {
         let place = script::place_for(&self.scripts, role, cmd);
-        let id = self.crew.start(role, cmd.try_clone()?, pipes, held, place)?;
+        let command = cmd.try_clone()?;
+        self.journal.reserve_child()?;
+        let id = self.journal.note_child(role, command, pipes, held, place);
         script::note_start(&mut self.scripts, cmd);
         self.made.count(HostCall::Start);
         Ok(id)
@@ -95,16 +100,18 @@ impl BenchHost {
 
     // Makes a probe file where none stands.
     pub(crate) fn open_probe(&mut self, path: &str, contents: &[u8]) -> Mem<()>
-        ensures ok { OnOk result (self.new ≡ record self.old { log = self.old.log ++ Opened path.now contents.now ∷ []; files = self.old.files ++ path.now ∷ []; made = counted CreateProbe self.old.made }) }
+        ensures ok { OnOk result (self.new
+            ≡ called CreateProbe (Opened path.now contents.now ∷ [])
+            (with_file path.now self.old)) }
         ensures err { OnErr result (self.new ≡ self.old) }
     {
         let name = Text::of(self.alloc, path)?;
         let kept = Text::of(self.alloc, path)?;
         let file = Text::of(self.alloc, path)?;
         let bytes = Bytes::of(self.alloc, contents)?;
-        self.crew.reserve_probe()?;
+        self.journal.reserve_probe()?;
         self.files.push(file)?;
-        self.crew.note_opened(name, kept, bytes);
+        self.journal.note_opened(name, kept, bytes);
         self.made.count(HostCall::CreateProbe);
         Ok(())
     }

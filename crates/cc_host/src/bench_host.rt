@@ -1,20 +1,18 @@
 // A host in memory, as a host.
-ghost use Rattle.std.specs.Prelude.{◌≡◌, ◌≢◌, ◌≤◌, [], ◌∷◌, ◌++◌, true, false, drop, IfOk, OnOk, OnErr, IfErr, MatchResult};
-ghost use Rattle.std.specs.List.{flat_map, Contains};
+ghost use Rattle.std.specs.Prelude.{◌≡◌, ◌≢◌, ◌≤◌, [], ◌∷◌, ◌++◌, true, false, IfOk, OnOk, OnErr, IfErr};
+ghost use Rattle.std.specs.List.{Contains};
 ghost use Rattle.std.specs.Result.{result_map_both};
-ghost use Rattle.cc_host.specs.Call.{Keeps};
 ghost use Rattle.cc_host.specs.Children.{running, IsFresh, IsNews, Waits};
-ghost use Rattle.cc_host.specs.declared.event.Event.TheVariants.{Abandoned, Dropped, Turn as OneTurn};
+ghost use Rattle.cc_host.specs.declared.event.Event.TheVariants.{Abandoned, Dropped};
 ghost use Rattle.cc_host.specs.declared.event.HostCall.TheVariants.{Start as Starts, Turn as Turns, Output, MakeDir, CreateProbe, Remove as Removes, Print, Vars as ListsVars};
 ghost use Rattle.cc_host.specs.declared.event.Why.{Why};
 ghost use Rattle.cc_host.specs.declared.question.Ask.TheVariants.{Exists as AsksExists};
 ghost use Rattle.cc_host.specs.declared.question.Outcome.TheVariants.{Unanswered};
-ghost use Rattle.cc_host.specs.Event.{started, told, refused, ran, probed, found, reused, unasked, drawn, created, made, removed, printed, listed, Rose, IsCaused, IsSilent};
+ghost use Rattle.cc_host.specs.Event.{started, turned, refused, ran, probed, found, reused, unasked, drawn, created, made, removed, printed, listed, Rose, IsCaused, IsSilent};
 ghost use Rattle.cc_host.specs.Probe.{IsOpen};
 ghost use Rattle.cc_host.specs.Script.{patience_of};
-ghost use Rattle.cc_host.specs.Crew.{without_kid};
 ghost use Rattle.cc_host.specs.Given.{default_outcome};
-ghost use Rattle.cc_host.specs.Bench.{has_file, without_file, files_with, answer_to, created_at, removed_at, next_word, probe_outcome, probe_after, Answers, Tells, IsStart, IsTurn, Gives, IsPlain, plain_end, IsPlainStart, IsPlainTurn};
+ghost use Rattle.cc_host.specs.Bench.{KeepsBench, has_file, answer_to, creation_of, removal_of, removed_at, with_probe, without_path, left_alone, drawn_from, next_word, probe_outcome, probe_after, Answers, Replies, IsStart, IsTurn, Gives, IsPlain, plain_end, IsPlainStart, IsPlainTurn};
 
 use crate::bench::take_word;
 use crate::script::has_word;
@@ -52,7 +50,7 @@ impl Host<Bench> for BenchHost {
     ) -> Result<Start, HostError>
         ensures adds { self.new.log ≡ self.old.log ++ started role cmd.now pipes held result }
         ensures fresh { IfOk result (IsFresh self.old.log) }
-        ensures keeps { Keeps (λ h. h.faults) (λ h. patience_of h.scripts) self.old self.new }
+        ensures keeps { KeepsBench self.old self.new }
         ensures cause { IfErr result (IsCaused Starts self.old.faults self.new.faults) }
         ensures answers { IsStart role cmd.now self.old self.new result }
         ensures plain { IsPlain self.old → IsPlain self.new × IsPlainStart result }
@@ -70,18 +68,22 @@ impl Host<Bench> for BenchHost {
     }
 
     fn turn(&mut self, _rest_ms: u64) -> Result<Vec<News>, HostError>
-        ensures adds { MatchResult result (λ news. self.new.log ≡ self.old.log ++ OneTurn 1 ∷ flat_map told news.items) (λ e. self.new.log ≡ self.old.log ++ refused e) }
+        ensures adds { IfOk result (λ news. self.new.log ≡ self.old.log ++ turned news.items) }
+        ensures refuses { IfErr result (λ e. self.new.log ≡ self.old.log ++ refused e) }
         ensures news { IfOk result (λ news. IsNews self.old.log news.items) }
-        ensures keeps { Keeps (λ h. h.faults) (λ h. patience_of h.scripts) self.old self.new }
+        ensures keeps { KeepsBench self.old self.new }
         ensures waits { OnOk result (Waits (patience_of self.new.scripts) self.new.log) }
         ensures cause { IfErr result (IsCaused Turns self.old.faults self.new.faults) }
-        ensures answers { IsTurn self.old self.new (result_map_both (λ news. news.items) (λ e. e) result) }
-        ensures plain { IsPlain self.old → IsPlain self.new × IsPlainTurn (result_map_both (λ news. news.items) (λ e. e) result) }
+        ensures answers { IsTurn self.old self.new
+            (result_map_both (λ news. news.items) (λ e. e) result) }
+        ensures plain { IsPlain self.old
+            → IsPlain self.new
+            × IsPlainTurn (result_map_both (λ news. news.items) (λ e. e) result) }
     {
         if self.fails_next(HostCall::Turn) {
             return Err(self.fault(HostCall::Turn));
         }
-        let news = self.crew.turn(&self.scripts)?;
+        let news = self.journal.turn(&self.scripts)?;
         self.made.count(HostCall::Turn);
         Ok(news)
     }
@@ -90,21 +92,27 @@ impl Host<Bench> for BenchHost {
         requires { Contains (running self.old.log) id }
         ensures adds { self.new.log ≡ self.old.log ++ Abandoned id ∷ [] }
         ensures faultless { self.new.faults ≡ self.old.faults }
-        ensures keeps { Keeps (λ h. h.faults) (λ h. patience_of h.scripts) self.old self.new }
-        ensures after { self.new ≡ record self.old { log = self.new.log; kids = without_kid id self.old.kids } }
+        ensures keeps { KeepsBench self.old self.new }
+        ensures after { self.new ≡ record (left_alone id self.old) { log = self.new.log } }
     {
-        self.crew.abandon(id);
+        let _ = self.journal.abandon(id);
     }
 
     fn probe(&mut self, q: &Question, files: &ProbeFiles) -> Mem<Outcome>
         requires { q.now.ask ≢ AsksExists }
-        ensures adds { (why : Why) × (self.new.log ≡ self.old.log ++ probed q.now files.now why result) }
-        ensures steady { false ≡ true → IfOk result (λ outcome. outcome ≢ Unanswered → outcome ≡ default_outcome q.now.ask) }
-        ensures keeps { Keeps (λ h. h.faults) (λ h. patience_of h.scripts) self.old self.new }
-        ensures cause { IfOk result (λ outcome. outcome ≡ Unanswered → Rose self.old.faults self.new.faults) }
-        ensures answers { Tells (probe_outcome self.old q.now) (probe_after self.old) self.old self.new result }
-        ensures plain { IsPlain self.old → IsPlain self.new × IfOk result (λ outcome. outcome ≢ Unanswered) }
-        ensures default { self.old.given ≡ [] → IfOk result (λ outcome. outcome ≢ Unanswered → outcome ≡ default_outcome q.now.ask) }
+        ensures adds { (why : Why)
+            × (self.new.log ≡ self.old.log ++ probed q.now files.now why result) }
+        ensures steady { false ≡ true
+            → IfOk result (λ o. o ≢ Unanswered → o ≡ default_outcome q.now.ask) }
+        ensures keeps { KeepsBench self.old self.new }
+        ensures cause { IfOk result
+            (λ o. o ≡ Unanswered → Rose self.old.faults self.new.faults) }
+        ensures answers { Replies (probe_outcome self.old q.now) (probe_after self.old)
+            self.old self.new result }
+        ensures plain { IsPlain self.old
+            → IsPlain self.new × IfOk result (λ o. o ≢ Unanswered) }
+        ensures default { self.old.given ≡ []
+            → IfOk result (λ o. o ≢ Unanswered → o ≡ default_outcome q.now.ask) }
     {
         if self.fails_next(HostCall::Probe) {
             self.fail_probe(q, files)?;
@@ -116,8 +124,8 @@ impl Host<Bench> for BenchHost {
 
     fn reused(&mut self, q: &Question, verdict: &Verdict) -> Mem<()>
         ensures adds { self.new.log ≡ self.old.log ++ reused q.now verdict.now result }
-        ensures keeps { Keeps (λ h. h.faults) (λ h. patience_of h.scripts) self.old self.new }
-        ensures answers { Tells tt self.old self.old self.new result }
+        ensures keeps { KeepsBench self.old self.new }
+        ensures answers { Replies tt self.old self.old self.new result }
     {
         let question = q.try_clone()?;
         let verdict = verdict.try_clone()?;
@@ -127,8 +135,8 @@ impl Host<Bench> for BenchHost {
 
     fn unasked(&mut self, q: &Question) -> Mem<()>
         ensures adds { self.new.log ≡ self.old.log ++ unasked q.now result }
-        ensures keeps { Keeps (λ h. h.faults) (λ h. patience_of h.scripts) self.old self.new }
-        ensures answers { Tells tt self.old self.old self.new result }
+        ensures keeps { KeepsBench self.old self.new }
+        ensures answers { Replies tt self.old self.old self.new result }
     {
         let question = q.try_clone()?;
         self.add(Event::Unasked { question })?;
@@ -137,19 +145,22 @@ impl Host<Bench> for BenchHost {
 
     fn exists(&mut self, path: &str) -> Mem<bool>
         ensures adds { self.new.log ≡ self.old.log ++ found path.now result }
-        ensures keeps { Keeps (λ h. h.faults) (λ h. patience_of h.scripts) self.old self.new }
-        ensures answers { Tells (has_file path.now self.old) self.old self.old self.new result }
+        ensures keeps { KeepsBench self.old self.new }
+        ensures answers { Replies (has_file path.now self.old) self.old self.old self.new result }
     {
-        let there = self.tell_file(path)?;
+        let there = self.look_for(path)?;
         Ok(there)
     }
 
     fn create_probe(&mut self, path: &str, contents: &[u8]) -> Result<Created, HostError>
         ensures adds { self.new.log ≡ self.old.log ++ created path.now contents.now result }
-        ensures keeps { Keeps (λ h. h.faults) (λ h. patience_of h.scripts) self.old self.new }
+        ensures keeps { KeepsBench self.old self.new }
         ensures cause { IfErr result (IsCaused CreateProbe self.old.faults self.new.faults) }
-        ensures answers { Answers CreateProbe (created_at (has_file path.now self.old)) (record self.old { files = files_with path.now self.old }) self.old self.new result }
-        ensures plain { IsPlain self.old → IsPlain self.new × Gives (created_at (has_file path.now self.old)) result }
+        ensures answers { Answers CreateProbe (creation_of path.now self.old)
+            (with_probe path.now self.old)
+            self.old self.new result }
+        ensures plain { IsPlain self.old
+            → IsPlain self.new × Gives (creation_of path.now self.old) result }
     {
         if self.fails_next(HostCall::CreateProbe) {
             return Err(self.fault(HostCall::CreateProbe));
@@ -166,30 +177,33 @@ impl Host<Bench> for BenchHost {
     fn drop_probe(&mut self, path: &str)
         requires { IsOpen path.now self.old.log }
         ensures adds { self.new.log ≡ self.old.log ++ Dropped path.now ∷ [] }
-        ensures keeps { Keeps (λ h. h.faults) (λ h. patience_of h.scripts) self.old self.new }
-        ensures after { self.new ≡ record self.old { log = self.new.log; files = without_file path.now self.old.files } }
+        ensures keeps { KeepsBench self.old self.new }
+        ensures after { self.new
+            ≡ record (without_path path.now self.old) { log = self.new.log } }
     {
-        self.crew.note_dropped(path);
+        self.journal.note_dropped(path);
         self.forget(path);
     }
 
     fn random(&mut self) -> Mem<u64>
         ensures adds { self.new.log ≡ self.old.log ++ drawn result }
-        ensures keeps { Keeps (λ h. h.faults) (λ h. patience_of h.scripts) self.old self.new }
-        ensures answers { Tells (next_word self.old.words) (record self.old { words = drop 1 self.old.words }) self.old self.new result }
+        ensures keeps { KeepsBench self.old self.new }
+        ensures answers { Replies (next_word self.old.words) (drawn_from self.old)
+            self.old self.new result }
     {
-        self.crew.reserve(1)?;
+        self.journal.reserve(1)?;
         let word = take_word(&mut self.words);
-        self.crew.note(Event::Drawn { word });
+        self.journal.note(Event::Drawn { word });
         Ok(word)
     }
 
     fn output(&mut self, role: Role, cmd: &Command, pipes: Pipes) -> Result<Ran, HostError>
         ensures adds { self.new.log ≡ self.old.log ++ ran role cmd.now pipes result }
         ensures silent { IfOk result (IsSilent pipes) }
-        ensures keeps { Keeps (λ h. h.faults) (λ h. patience_of h.scripts) self.old self.new }
+        ensures keeps { KeepsBench self.old self.new }
         ensures cause { IfErr result (IsCaused Output self.old.faults self.new.faults) }
-        ensures answers { Answers Output (answer_to self.old role cmd.now pipes) self.old self.old self.new result }
+        ensures answers { Answers Output (answer_to self.old role cmd.now pipes)
+            self.old self.old self.new result }
         ensures plain { IsPlain self.old → IsPlain self.new × Gives plain_end result }
     {
         if self.fails_next(HostCall::Output) {
@@ -206,7 +220,7 @@ impl Host<Bench> for BenchHost {
 
     fn make_dir(&mut self, scope: Scope, path: &str) -> Result<(), HostError>
         ensures adds { self.new.log ≡ self.old.log ++ made scope path.now result }
-        ensures keeps { Keeps (λ h. h.faults) (λ h. patience_of h.scripts) self.old self.new }
+        ensures keeps { KeepsBench self.old self.new }
         ensures cause { IfErr result (IsCaused (MakeDir scope) self.old.faults self.new.faults) }
         ensures answers { Answers (MakeDir scope) tt self.old self.old self.new result }
         ensures plain { IsPlain self.old → IsPlain self.new × Gives tt result }
@@ -221,10 +235,13 @@ impl Host<Bench> for BenchHost {
 
     fn remove_file(&mut self, path: &str) -> Result<Removal, HostError>
         ensures adds { self.new.log ≡ self.old.log ++ removed path.now result }
-        ensures keeps { Keeps (λ h. h.faults) (λ h. patience_of h.scripts) self.old self.new }
+        ensures keeps { KeepsBench self.old self.new }
         ensures cause { IfErr result (IsCaused Removes self.old.faults self.new.faults) }
-        ensures answers { Answers Removes (removed_at (has_file path.now self.old)) (record self.old { files = without_file path.now self.old.files }) self.old self.new result }
-        ensures plain { IsPlain self.old → IsPlain self.new × Gives (removed_at (has_file path.now self.old)) result }
+        ensures answers { Answers Removes (removal_of path.now self.old)
+            (without_path path.now self.old)
+            self.old self.new result }
+        ensures plain { IsPlain self.old
+            → IsPlain self.new × Gives (removal_of path.now self.old) result }
     {
         if self.fails_next(HostCall::Remove) {
             return Err(self.fault(HostCall::Remove));
@@ -238,7 +255,7 @@ impl Host<Bench> for BenchHost {
 
     fn print(&mut self, kind: LineKind, bytes: &[u8]) -> Result<(), HostError>
         ensures adds { self.new.log ≡ self.old.log ++ printed kind bytes.now result }
-        ensures keeps { Keeps (λ h. h.faults) (λ h. patience_of h.scripts) self.old self.new }
+        ensures keeps { KeepsBench self.old self.new }
         ensures cause { IfErr result (IsCaused Print self.old.faults self.new.faults) }
         ensures answers { Answers Print tt self.old self.old self.new result }
         ensures plain { IsPlain self.old → IsPlain self.new × Gives tt result }
@@ -253,7 +270,7 @@ impl Host<Bench> for BenchHost {
 
     fn vars(&mut self) -> Result<Vars, HostError>
         ensures adds { self.new.log ≡ self.old.log ++ listed result }
-        ensures keeps { Keeps (λ h. h.faults) (λ h. patience_of h.scripts) self.old self.new }
+        ensures keeps { KeepsBench self.old self.new }
         ensures cause { IfErr result (IsCaused ListsVars self.old.faults self.new.faults) }
         ensures answers { Answers ListsVars self.old.vars self.old self.old self.new result }
         ensures plain { IsPlain self.old → IsPlain self.new × Gives self.old.vars result }
@@ -268,7 +285,7 @@ impl Host<Bench> for BenchHost {
     }
 
     fn log(&self) -> &[Event] {
-        self.crew.events()
+        self.journal.events()
     }
 }
 

@@ -26,7 +26,8 @@ impl Model for Command {
 impl Command {
     /// A command of the program alone.
     pub fn new(alloc: Global, program: &str) -> Mem<Command>
-        ensures { IfOk result (λ c. c ≡ record { program = program.now; args = []; env = []; dir = None }) }
+        ensures { IfOk result (λ c. c
+            ≡ record { program = program.now; args = []; env = []; dir = None }) }
     {
         Ok(Command {
             alloc,
@@ -39,7 +40,8 @@ impl Command {
 
     /// Adds a word last. Refused for memory, the command stays as it was.
     pub fn arg(&mut self, word: &str) -> Mem<()>
-        ensures ok { OnOk result (self.new ≡ record self.old { args = self.old.args ++ word.now ∷ [] }) }
+        ensures ok { OnOk result
+            (self.new ≡ record self.old { args = self.old.args ++ word.now ∷ [] }) }
         ensures err { OnErr result (self.new ≡ self.old) }
     {
         self.args.push(word)
@@ -47,7 +49,8 @@ impl Command {
 
     /// Adds each of these words, in order, last. Refused for memory, the command stays as it was.
     pub fn args(&mut self, words: &Words) -> Mem<()>
-        ensures ok { OnOk result (self.new ≡ record self.old { args = self.old.args ++ words.now }) }
+        ensures ok { OnOk result
+            (self.new ≡ record self.old { args = self.old.args ++ words.now }) }
         ensures err { OnErr result (self.new ≡ self.old) }
     {
         self.args.extend(words)
@@ -55,7 +58,8 @@ impl Command {
 
     /// Adds a variable last. Refused for memory, the command stays as it was.
     pub fn env(&mut self, name: &str, value: &str) -> Mem<()>
-        ensures ok { OnOk result (self.new ≡ record self.old { env = self.old.env ++ (name.now, value.now) ∷ [] }) }
+        ensures ok { OnOk result (self.new
+            ≡ record self.old { env = self.old.env ++ (name.now, value.now) ∷ [] }) }
         ensures err { OnErr result (self.new ≡ self.old) }
     {
         self.env.push(name, value)

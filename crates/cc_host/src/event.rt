@@ -86,17 +86,17 @@ pub enum Removal {
 /// What a printed line is.
 #[derive(Clone, Copy, Debug, PartialEq, Eq)]
 pub enum LineKind {
-    /// Tells Cargo what to link.
+    /// Says to Cargo what to link.
     Link,
-    /// Tells Cargo which variable was read.
+    /// Says to Cargo which variable was read.
     Rerun,
     /// A warning.
     Warning,
     /// A line of the standard error of the child of this number.
     Stderr { id: u64 },
-    /// Tells of a command that begins or ended.
+    /// Says that a command begins, or how it ended.
     Debug,
-    /// Tells why a run was refused.
+    /// Says why a run was refused.
     Fault,
     /// A source as the preprocessor leaves it.
     Expanded,

@@ -112,7 +112,8 @@ impl GivenList {
     /// Adds an outcome last. Refused for memory, the list stays as it was.
     pub fn give(&mut self, ask: Ask, program: &str, outcome: Outcome) -> Mem<()>
         requires { outcome ≢ Unanswered }
-        ensures ok { OnOk result (self.new ≡ self.old ++ record { ask = ask; program = program.now; outcome = outcome } ∷ []) }
+        ensures ok { OnOk result (self.new ≡ self.old
+            ++ record { ask = ask; program = program.now; outcome = outcome } ∷ []) }
         ensures err { OnErr result (self.new ≡ self.old) }
     {
         let program = Text::of(self.alloc, program)?;

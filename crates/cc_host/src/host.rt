@@ -1,15 +1,15 @@
 // A host: what runs commands, keeps files and prints. Each call appends to the host's log what it did.
-ghost use Rattle.std.specs.Prelude.{◌≡◌, ◌≢◌, ◌≤◌, ◌∷◌, [], ◌++◌, List, ℕ, Option, true, IfOk, OnOk, IfErr, IfSome, MatchResult};
+ghost use Rattle.std.specs.Prelude.{◌≡◌, ◌≢◌, ◌≤◌, ◌∷◌, [], ◌++◌, List, ℕ, Option, true, IfOk, OnOk, IfErr, IfSome};
 ghost use Rattle.std.specs.List.{flat_map, Contains};
 ghost use Rattle.cc_host.specs.Call.{Keeps};
 ghost use Rattle.cc_host.specs.Children.{running, IsFresh, IsNews, Waits};
 ghost use Rattle.cc_host.specs.declared.event.Event.{Event};
-ghost use Rattle.cc_host.specs.declared.event.Event.TheVariants.{Abandoned, Dropped, Turn as OneTurn};
+ghost use Rattle.cc_host.specs.declared.event.Event.TheVariants.{Abandoned, Dropped};
 ghost use Rattle.cc_host.specs.declared.event.HostCall.TheVariants.{Start as Starts, Turn as Turns, Output, MakeDir, CreateProbe, Remove, Print, Vars as ListsVars};
 ghost use Rattle.cc_host.specs.declared.event.Why.{Why};
 ghost use Rattle.cc_host.specs.declared.question.Ask.TheVariants.{Exists as AsksExists};
 ghost use Rattle.cc_host.specs.declared.question.Outcome.TheVariants.{Unanswered};
-ghost use Rattle.cc_host.specs.Event.{started, told, refused, ran, probed, found, reused, unasked, drawn, created, made, removed, printed, listed, apart, Rose, IsCaused, IsSilent};
+ghost use Rattle.cc_host.specs.Event.{started, turned, refused, ran, probed, found, reused, unasked, drawn, created, made, removed, printed, listed, apart, Rose, IsCaused, IsSilent};
 ghost use Rattle.cc_host.specs.Probe.{IsOpen, IsTidy};
 
 use crate::{
@@ -33,7 +33,8 @@ pub trait World: Send + Sync {
 
 /// What runs commands, keeps files and prints.
 ///
-/// A refused call did nothing. It adds its fault to the log, or nothing where memory was refused.
+/// A refused call did nothing. It adds its fault to the log, or nothing where memory was refused. One thing is excepted: a command
+/// that ran to its end, and whose end memory was wanting to keep, did run.
 pub trait Host<W: World> {
     /// The events so far, oldest first.
     ghost log: { Self → List Event };
@@ -41,7 +42,7 @@ pub trait Host<W: World> {
     /// How often the host has failed. It never falls.
     ghost faults: { Self → ℕ };
 
-    /// How many turns a child runs through at most, where the host tells it.
+    /// How many turns a child runs through at most, where the host knows it.
     ghost patience: { Self → Option ℕ };
 
     /// Starts a command, for a caller that holds so many tokens.
@@ -57,9 +58,12 @@ pub trait Host<W: World> {
         ensures keeps { Keeps faults patience self.old self.new }
         ensures cause { IfErr result (IsCaused Starts (faults self.old) (faults self.new)) };
 
-    /// Polls every child that runs once, in start order, after a rest of at most so many milliseconds.
+    /// Lets every child that runs go on by a turn, and answers what each did in it, in start order; a child that did nothing has no
+    /// item. A host in memory lets each child's script go one turn. A host over the machine waits for the oldest child that runs, and
+    /// answers its end. A host may rest first, at most so many milliseconds.
     fn turn(&mut self, rest_ms: u64) -> Result<Vec<News>, HostError>
-        ensures adds { MatchResult result (λ news. log self.new ≡ log self.old ++ OneTurn 1 ∷ flat_map told news.items) (λ e. log self.new ≡ log self.old ++ refused e) }
+        ensures adds { IfOk result (λ news. log self.new ≡ log self.old ++ turned news.items) }
+        ensures refuses { IfErr result (λ e. log self.new ≡ log self.old ++ refused e) }
         ensures news { IfOk result (λ news. IsNews (log self.old) news.items) }
         ensures keeps { Keeps faults patience self.old self.new }
         ensures waits { OnOk result (Waits (patience self.new) (log self.new)) }
@@ -75,10 +79,13 @@ pub trait Host<W: World> {
     /// Asks a question by its command. One that couldn't be run for another cause than absence is unanswered.
     fn probe(&mut self, q: &Question, files: &ProbeFiles) -> Mem<Outcome>
         requires { q.now.ask ≢ AsksExists }
-        ensures adds { (why : Why) × (log self.new ≡ log self.old ++ probed q.now files.now why result) }
-        ensures steady { W.steady ≡ true → IfOk result (λ outcome. outcome ≢ Unanswered → outcome ≡ W.answer q.now) }
+        ensures adds { (why : Why)
+            × (log self.new ≡ log self.old ++ probed q.now files.now why result) }
+        ensures steady { W.steady ≡ true
+            → IfOk result (λ o. o ≢ Unanswered → o ≡ W.answer q.now) }
         ensures keeps { Keeps faults patience self.old self.new }
-        ensures cause { IfOk result (λ outcome. outcome ≡ Unanswered → Rose (faults self.old) (faults self.new)) };
+        ensures cause { IfOk result
+            (λ o. o ≡ Unanswered → Rose (faults self.old) (faults self.new)) };
 
     /// Notes that a question has a verdict from earlier.
     fn reused(&mut self, q: &Question, verdict: &Verdict) -> Mem<()>
@@ -90,7 +97,7 @@ pub trait Host<W: World> {
         ensures adds { log self.new ≡ log self.old ++ unasked q.now result }
         ensures keeps { Keeps faults patience self.old self.new };
 
-    /// Whether a file of this path is there. What can't be told is not.
+    /// Whether a file of this path is there. What can't be learned is not.
     fn exists(&mut self, path: &str) -> Mem<bool>
         ensures adds { log self.new ≡ log self.old ++ found path.now result }
         ensures keeps { Keeps faults patience self.old self.new };
@@ -123,7 +130,8 @@ pub trait Host<W: World> {
     fn make_dir(&mut self, scope: Scope, path: &str) -> Result<(), HostError>
         ensures adds { log self.new ≡ log self.old ++ made scope path.now result }
         ensures keeps { Keeps faults patience self.old self.new }
-        ensures cause { IfErr result (IsCaused (MakeDir scope) (faults self.old) (faults self.new)) };
+        ensures cause { IfErr result
+            (IsCaused (MakeDir scope) (faults self.old) (faults self.new)) };
 
     /// Removes a file. One that isn't there is absent, which is no fault.
     fn remove_file(&mut self, path: &str) -> Result<Removal, HostError>
@@ -144,7 +152,7 @@ pub trait Host<W: World> {
         ensures cause { IfErr result (IsCaused ListsVars (faults self.old) (faults self.new)) };
 
     /// The events so far, oldest first, lent. Turns one after another stand as one event with their sum. No probe file was dropped more
-    /// often than it was made. Where the host tells its patience, it is at least 1.
+    /// often than it was made. Where the host knows its patience, it is at least 1.
     fn log(&self) -> &[Event]
         ensures events { flat_map apart result.now ≡ log self.now }
         ensures tidy { IsTidy (log self.now) }

@@ -5,7 +5,7 @@ ghost use Rattle.cc_host.specs.declared.event.Event.TheVariants.{Fault, Opened, 
 ghost use Rattle.cc_host.specs.declared.event.HostError.TheVariants.{Fault as Failed};
 ghost use Rattle.cc_host.specs.Event.{apart};
 ghost use Rattle.cc_host.specs.Probe.{times, opens, drops, IsOpen, IsTidy};
-ghost use Rattle.cc_host.specs.Journal.{JournalSeen, IsKept, IsQuiet};
+ghost use Rattle.cc_host.specs.Journal.{JournalSeen, IsKept, IsQuiet, IsPlaceOf, Reserves, Adds, AddsKeeping, AddsProbe, AddsFault};
 
 use crate::{Event, HostCall, HostError, Why};
 use cc_text::{Bytes, Mem, NoMemory, Text};
@@ -26,9 +26,18 @@ pub struct Journal {
 impl Model for Journal {
     ghost Value = { JournalSeen };
 
-    ghost view = { λ j. record { log = flat_map apart j.events.items; faults = j.faults; children = j.children; places = vec_capacity j.events - (vec_len j.events + j.children + vec_len j.probes); probe_places = vec_capacity j.probes - vec_len j.probes } };
+    ghost view = { λ j. record {
+      log = flat_map apart j.events.items;
+      faults = j.faults;
+      children = j.children;
+      places = vec_capacity j.events - (vec_len j.events + j.children + vec_len j.probes);
+      probe_places = vec_capacity j.probes - vec_len j.probes;
+    } };
 
-    ghost invariant = { λ j. record { kept : IsKept (flat_map apart j.events.items) j.probes.items; room : vec_len j.events + j.children + vec_len j.probes ≤ vec_capacity j.events } };
+    ghost invariant = { λ j. record {
+      kept : IsKept (flat_map apart j.events.items) j.probes.items;
+      room : vec_len j.events + j.children + vec_len j.probes ≤ vec_capacity j.events;
+    } };
 }
 
 impl Journal {
@@ -61,7 +70,7 @@ impl Journal {
 
     /// Reserves the places of a probe file. Refused for memory, the events are as before.
     pub fn reserve_probe(&mut self) -> Mem<()>
-        ensures same { self.new ≡ record self.old { places = self.new.places; probe_places = self.new.probe_places } }
+        ensures same { Reserves self.old self.new }
         ensures places { OnOk result (2 ≤ self.new.places) }
         ensures probe_places { OnOk result (0 < self.new.probe_places) }
     {
@@ -74,7 +83,7 @@ impl Journal {
     pub fn note(&mut self, event: Event)
         requires place { 0 < self.old.places }
         requires quiet { IsQuiet (event ∷ []) }
-        ensures same { self.new ≡ record self.old { log = self.old.log ++ apart event; places = self.new.places } }
+        ensures same { Adds (apart event) self.old self.new }
         ensures places { self.old.places ≤ self.new.places + 1 }
     {
         self.events.push_reserved(event);
@@ -84,7 +93,7 @@ impl Journal {
     pub fn note_all(&mut self, mut events: Vec<Event>)
         requires places { vec_len events ≤ self.old.places }
         requires quiet { IsQuiet events.items }
-        ensures same { self.new ≡ record self.old { log = self.old.log ++ flat_map apart events.items; places = self.new.places } }
+        ensures same { Adds (flat_map apart events.items) self.old self.new }
         ensures places { self.old.places ≤ self.new.places + vec_len events }
     {
         match self.events.append(&mut events) {
@@ -96,7 +105,7 @@ impl Journal {
     /// Adds a fault, and counts it. A count that stands at its last value stays there.
     pub fn fault(&mut self, call: HostCall, why: Why) -> HostError
         requires { 0 < self.old.places }
-        ensures same { self.new ≡ record self.old { log = self.old.log ++ Fault call why ∷ []; faults = min (self.old.faults + 1) (2 ^ 64 - 1); places = self.new.places } }
+        ensures same { AddsFault call why self.old self.new }
         ensures refusal { result ≡ Failed call why }
         ensures later { self.old.faults ≤ self.new.faults }
         ensures places { self.old.places ≤ self.new.places + 1 }
@@ -110,7 +119,7 @@ impl Journal {
     pub fn note_child(&mut self, event: Event)
         requires places { 2 ≤ self.old.places }
         requires quiet { IsQuiet (event ∷ []) }
-        ensures same { self.new ≡ record self.old { log = self.old.log ++ apart event; children = self.old.children + 1; places = self.new.places } }
+        ensures same { AddsKeeping (self.old.children + 1) (apart event) self.old self.new }
     {
         self.note(event);
         self.children += 1;
@@ -119,7 +128,8 @@ impl Journal {
     /// Leaves so many children their places, and gives back those of the others.
     pub fn keep_children(&mut self, left: usize)
         requires { left ≤ self.old.children }
-        ensures { self.new ≡ record self.old { children = left; places = self.old.places + (self.old.children - left) } }
+        ensures { self.new ≡ record self.old
+            { children = left; places = self.old.places + (self.old.children - left) } }
     {
         self.children = left;
     }
@@ -128,7 +138,7 @@ impl Journal {
     pub fn note_gone(&mut self, event: Event)
         requires child { 0 < self.old.children }
         requires quiet { IsQuiet (event ∷ []) }
-        ensures { self.new ≡ record self.old { log = self.old.log ++ apart event; children = self.old.children - 1; places = self.new.places } }
+        ensures { AddsKeeping (self.old.children - 1) (apart event) self.old self.new }
     {
         self.children -= 1;
         self.note(event);
@@ -137,7 +147,7 @@ impl Journal {
     /// Adds a turn last.
     pub fn note_turn(&mut self)
         requires { 0 < self.old.places }
-        ensures same { self.new ≡ record self.old { log = self.old.log ++ OneTurn 1 ∷ []; places = self.new.places } }
+        ensures same { Adds (OneTurn 1 ∷ []) self.old self.new }
         ensures places { self.old.places ≤ self.new.places + 1 }
     {
         add_turn(&mut self.events);
@@ -148,7 +158,7 @@ impl Journal {
         requires places { 2 ≤ self.old.places }
         requires probe_places { 0 < self.old.probe_places }
         requires same_path { kept ≡ path }
-        ensures { self.new ≡ record self.old { log = self.old.log ++ Opened path bytes ∷ []; places = self.new.places; probe_places = self.new.probe_places } }
+        ensures { AddsProbe (Opened path bytes) self.old self.new }
     {
         self.events.push_reserved(Event::Opened { path, bytes });
         self.probes.push_reserved(kept);
@@ -157,7 +167,7 @@ impl Journal {
     /// Adds the event of a probe file that is dropped, which takes no memory.
     pub fn note_dropped(&mut self, path: &str)
         requires { IsOpen path.now self.old.log }
-        ensures { self.new ≡ record self.old { log = self.old.log ++ Dropped path.now ∷ []; places = self.new.places; probe_places = self.new.probe_places } }
+        ensures { AddsProbe (Dropped path.now) self.old self.new }
     {
         match place_of(&self.probes, path) {
             Some(place) => {
@@ -180,7 +190,7 @@ impl Journal {
 // The first place of a path among these, or none where it isn't there.
 #[tactic(auto, using(crate::proofs::JournalLemmas::times_more))]
 fn place_of(files: &[Text], path: &str) -> Option<usize>
-    ensures { MatchOption result (times path.now files.now ≡ 0) (λ at. (at < length files.now) × (slice_index_or files.now at path.now ≡ path.now)) }
+    ensures { MatchOption result (times path.now files.now ≡ 0) (IsPlaceOf path.now files.now) }
 {
     for (at, file) in files.iter().enumerate() {
         if path == file.as_str() {
@@ -193,7 +203,8 @@ fn place_of(files: &[Text], path: &str) -> Option<usize>
 // Adds a turn last, after so many turns that were the last event.
 fn put_turn(events: &mut Vec<Event>, count: u64)
     requires { vec_len events.old + 2 ≤ vec_capacity events.old }
-    ensures log { flat_map apart events.new.items ≡ (flat_map apart events.old.items ++ replicate count (OneTurn 1)) ++ OneTurn 1 ∷ [] }
+    ensures log { flat_map apart events.new.items
+        ≡ (flat_map apart events.old.items ++ replicate count (OneTurn 1)) ++ OneTurn 1 ∷ [] }
     ensures len { vec_len events.new ≤ vec_len events.old + 2 }
     ensures capacity { vec_capacity events.new ≡ vec_capacity events.old }
 {
@@ -209,7 +220,8 @@ fn put_turn(events: &mut Vec<Event>, count: u64)
 // Adds a turn to the last event where that is of turns, and as an event of its own where it isn't.
 fn add_turn(events: &mut Vec<Event>)
     requires { vec_len events.old < vec_capacity events.old }
-    ensures log { flat_map apart events.new.items ≡ flat_map apart events.old.items ++ OneTurn 1 ∷ [] }
+    ensures log { flat_map apart events.new.items
+        ≡ flat_map apart events.old.items ++ OneTurn 1 ∷ [] }
     ensures len { vec_len events.new ≤ vec_len events.old + 1 }
     ensures capacity { vec_capacity events.new ≡ vec_capacity events.old }
 {

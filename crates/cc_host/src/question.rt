@@ -1,8 +1,10 @@
 // What a compiler is asked, and what its answers mean.
 ghost use Rattle.std.specs.Prelude.{◌≡◌, IfOk, IsTrue, ◌↔◌, ◌&&◌};
+ghost use Rattle.cc_host.specs.Question.{exists_question};
 
 use crate::Status;
 use cc_text::{Bytes, Mem, Text, ToolFamily, Vars, Words};
+use std::alloc::Global;
 
 /// What a question asks of a program.
 #[derive(Clone, Copy, Debug, PartialEq, Eq)]
@@ -13,7 +15,7 @@ pub enum Ask {
     PreprocessDashes,
     /// Whether it takes `-?`.
     HelpFlag,
-    /// Whether its version tells of Zig.
+    /// Whether its version names Zig.
     Version,
     /// Whether it compiles a source with the question's words.
     Flag { cpp: bool, family: ToolFamily },
@@ -21,7 +23,7 @@ pub enum Ask {
     Libcxx,
     /// Where it searches for programs.
     SearchDirs,
-    /// Whether it tells its version.
+    /// Whether it prints its version.
     ToolVersion,
     /// Whether it can be run at all.
     Starts,
@@ -73,6 +75,18 @@ impl Question {
         let vars = self.vars == other.vars;
         all(ask, program, words, vars)
     }
+}
+
+/// The question whether a file of this path is there. It has no words and no variables. Refused only for memory.
+pub fn exists_of(alloc: Global, path: &str) -> Mem<Question>
+    ensures { IfOk result (λ q. q ≡ exists_question path.now) }
+{
+    Ok(Question {
+        ask: Ask::Exists,
+        program: Text::of(alloc, path)?,
+        words: Words::new(alloc),
+        vars: Vars::new(alloc),
+    })
 }
 
 /// The files of a probe: their folder, and the paths of the source and of the object, each empty where the question needs none.

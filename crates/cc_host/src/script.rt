@@ -151,7 +151,8 @@ pub fn out_of(alloc: Global, captured: bool, script: Option<&Scripted>) -> Mem<B
 
 /// The standard error of a command that ran to its end.
 pub fn err_of(alloc: Global, captured: bool, heard: bool, script: Option<&Scripted>) -> Mem<Bytes>
-    ensures { IfOk result (λ b. b ≡ err_of captured heard (pieces_of (option_copied script.entry))) }
+    ensures { IfOk result
+        (λ b. b ≡ err_of captured heard (pieces_of (option_copied script.entry))) }
 {
     if heard {
         joined(alloc, err_pieces(captured, pieces_of(script)))

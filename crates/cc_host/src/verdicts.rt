@@ -4,14 +4,29 @@ ghost use Rattle.std.specs.List.{position_or_len};
 ghost use Rattle.std.specs.Str.{IsUtf8, is_utf8};
 ghost use Rattle.std.specs.Option.{option_map};
 ghost use Rattle.cc_text.specs.Within.{is_within};
+ghost use Rattle.cc_host.specs.Question.{is_yes};
 ghost use Rattle.cc_host.specs.Status.{is_success};
-ghost use Rattle.cc_host.specs.Verdict.{yes_if, marks_of, read_as_option, preprocessed, begins_with_programs, parted, search_dirs, ended_verdict, existence, verdict_of};
+ghost use Rattle.cc_host.specs.Verdict.{yes_if, marks_of, read_as_option, preprocessed, begins_with_programs, programs_of, parted, search_dirs, ended_verdict, existence, verdict_of};
 ghost use Rattle.cc_host.specs.declared.question.Verdict.TheVariants.{No, Marks as Shows, Dirs};
 
 use crate::{Ask, Marks, Outcome, Question, Status, Verdict};
 use cc_text::{Bytes, Mem, Text};
 use memchr::memmem;
 use std::alloc::Global;
+
+/// Whether a verdict is yes. Any other verdict, an unanswered question too, isn't.
+pub fn is_yes(verdict: &Verdict) -> bool
+    ensures { result ≡ is_yes verdict.now }
+{
+    match verdict {
+        Verdict::Unanswered => false,
+        Verdict::Missing => false,
+        Verdict::No => false,
+        Verdict::Yes => true,
+        Verdict::Marks(_) => false,
+        Verdict::Dirs(_) => false,
+    }
+}
 
 // Whether the needle stands in the bytes.
 fn contains(bytes: &[u8], needle: &str) -> bool
@@ -81,7 +96,8 @@ fn ends_line(byte: u8) -> bool
 #[tactic(auto, using(crate::proofs::VerdictLemmas::line_on, crate::proofs::VerdictLemmas::line_off, crate::proofs::VerdictLemmas::line_over))]
 fn line_end(out: &[u8], start: usize) -> usize
     requires { start ≤ length out.now }
-    ensures ends { result ≡ start + position_or_len (λ b. b == 10 || b == 13) (drop start out.now) }
+    ensures ends { result
+        ≡ start + position_or_len (λ b. b == 10 || b == 13) (drop start out.now) }
     ensures within { result ≤ length out.now }
 {
     let mut end = start;
@@ -101,7 +117,7 @@ fn begins_with_programs(line: &[u8]) -> bool
 // From where to where what follows the mark stands, on the first line that begins with it.
 #[tactic(auto, using(crate::proofs::VerdictLemmas::found_on, crate::proofs::VerdictLemmas::found_never, crate::proofs::VerdictLemmas::found_fits, crate::proofs::VerdictLemmas::found_cut, crate::proofs::VerdictLemmas::found_text))]
 fn programs_in(out: &[u8]) -> Option<(usize, usize)>
-    ensures cut { option_map (λ r. slice_range out.now r.0 r.1) result ≡ option_map (drop (length (codes "programs: ="))) (find begins_with_programs (parted out.now)) }
+    ensures cut { option_map (λ r. slice_range out.now r.0 r.1) result ≡ programs_of out.now }
     ensures within { IfSome result (λ r. (r.0 ≤ r.1) × (r.1 ≤ length out.now)) }
     ensures text { IsUtf8 out.now → IfSome result (λ r. IsUtf8 (slice_range out.now r.0 r.1)) }
 {

@@ -7,8 +7,8 @@ use Rattle.std.proofs.lemmas.List.Elements.{Contains-append_cases}
 use Rattle.std.proofs.lemmas.Grind.{common_steps, flat_map-append}
 use Rattle.cc_host.specs.Children.{Live, live, live_from, polled, running, id_of, started_ids, unread_of, unreads, IsFresh, IsNews, IsPiece, InOrder}
 use Rattle.cc_host.specs.Command.{CommandSeen}
-use Rattle.cc_host.specs.Crew.{IsCrew, IsIdle, live_of, ids, without_kid, Below, Above, Heeds}
-use Rattle.cc_host.specs.Event.{told}
+use Rattle.cc_host.specs.ChildLog.{AreRunning, IsIdle, live_of, ids, without_child, Below, Above, Heeds}
+use Rattle.cc_host.specs.Event.{reported}
 use Rattle.cc_host.specs.declared.event.Event.{Event}
 use Rattle.cc_host.specs.declared.event.Event.TheVariants.{Started, Abandoned, Turn}
 use Rattle.cc_host.specs.declared.event.News.{News}
@@ -16,63 +16,63 @@ use Rattle.cc_host.specs.declared.event.Pipes.{Pipes}
 use Rattle.cc_host.specs.declared.event.Role.{Role}
 use Rattle.cc_host.specs.declared.event.Start.TheVariants.{Child}
 use Rattle.cc_host.specs.declared.event.Status.{Status}
-use Rattle.cc_host.specs.declared.kid.Kid.{Kid}
-use Rattle.cc_host.proofs.CrewLemmas.{live_then, below_both, below_lacks, crew_after, crew_start, crew_fresh, crew_gone, running_ids}
-use Rattle.cc_host.proofs.TurnLemmas.{told_live, told_starts, told_mutes, polled_kids, gone_if, mutes_if, next_live}
+use Rattle.cc_host.specs.declared.child.RunningChild.{RunningChild}
+use Rattle.cc_host.proofs.ChildLogLemmas.{live_then, below_both, below_lacks, alive_after, alive_start, alive_fresh, alive_gone, running_ids}
+use Rattle.cc_host.proofs.TurnLemmas.{reported_live, reported_starts, reported_mutes, polled_children, gone_if, mutes_if, next_live}
 use Rattle.cc_hosts.specs.Brood.{IsBrood, AreHeard, IsFull, without_id}
 
 pub brood_after : (log new : List Event) (next : ℕ) (ns : List ℕ) (e : Event) → new ≡ log ++ e ∷ [] → IsIdle e → IsBrood log next ns → IsBrood new next ns
 brood_after log new next ns e is idle b = record {
-  kids = b.kids;
-  crew = crew_after log new next b.kids e is idle b.crew;
+  children = b.children;
+  alive = alive_after log new next b.children e is idle b.alive;
   same = b.same;
   heard = b.heard;
 }
 
 pub brood_new : (log : List Event) (ns : List ℕ) → log ≡ [] → ns ≡ [] → IsBrood log 0 ns
 brood_new log ns e f =
-    let none : IsBrood [] 0 [] = record { kids = []; crew = record { run = refl; count = refl; drawn = tt; rising = tt; below = tt; heard = tt; heeds = tt }; same = refl; heard = tt } in
+    let none : IsBrood [] 0 [] = record { children = []; alive = record { run = refl; count = refl; drawn = tt; rising = tt; below = tt; heard = tt; heeds = tt }; same = refl; heard = tt } in
     subst (λ l. IsBrood l 0 ns) (sym e) (subst (IsBrood [] 0) (sym f) none)
 
-heard_one : (kids : List Kid) (kid : Kid) → AreHeard kids → kid.mute ≡ false → AreHeard (kids ++ kid ∷ [])
-heard_one [] kid h one = (one, tt)
-heard_one (k ∷ kids) kid h one = (h.0, heard_one kids kid h.1 one)
+heard_one : (children : List RunningChild) (child : RunningChild) → AreHeard children → child.mute ≡ false → AreHeard (children ++ child ∷ [])
+heard_one [] child h one = (one, tt)
+heard_one (k ∷ children) child h one = (h.0, heard_one children child h.1 one)
 
 pub brood_start : (log new : List Event) (next : ℕ) (ns others : List ℕ) (role : Role) (cmd : CommandSeen) (pipes : Pipes) (held : ℕ) → new ≡ log ++ Started next role cmd pipes held ∷ [] → others ≡ ns ++ next ∷ [] → IsBrood log next ns → IsBrood new (next + 1) others
 brood_start log new next ns others role cmd pipes held is more b =
-    let kid : Kid = record { id = next; polls = 0; mute = false; place = None } in
+    let child : RunningChild = record { id = next; polls = 0; mute = false; place = None } in
     record {
-      kids = b.kids ++ kid ∷ [];
-      crew = crew_start log new next b.kids role cmd pipes held None is b.crew;
-      same = map-append (λ (k : Kid). k.id) b.kids (kid ∷ []) ∙ ap (λ l. l ++ next ∷ []) b.same ∙ sym more;
-      heard = heard_one b.kids kid b.heard refl;
+      children = b.children ++ child ∷ [];
+      alive = alive_start log new next b.children role cmd pipes held None is b.alive;
+      same = map-append (λ (k : RunningChild). k.id) b.children (child ∷ []) ∙ ap (λ l. l ++ next ∷ []) b.same ∙ sym more;
+      heard = heard_one b.children child b.heard refl;
     }
 
 pub brood_fresh : (log : List Event) (next : ℕ) (ns : List ℕ) → IsBrood log next ns → IsFresh log (Child next)
-brood_fresh log next ns b = crew_fresh log next b.kids b.crew
+brood_fresh log next ns b = alive_fresh log next b.children b.alive
 
-gone_ids_by : (id : ℕ) (k : Kid) (kids : List Kid) (b : Bool) → (k.id == id) ≡ b → ids (without_kid id kids) ≡ without_id id (ids kids) → ids (without_kid id (k ∷ kids)) ≡ without_id id (ids (k ∷ kids))
-gone_ids_by id k kids true e h = rw e refl
-gone_ids_by id k kids false e h = rw e (ap (λ l. k.id ∷ l) h)
+gone_ids_by : (id : ℕ) (k : RunningChild) (children : List RunningChild) (b : Bool) → (k.id == id) ≡ b → ids (without_child id children) ≡ without_id id (ids children) → ids (without_child id (k ∷ children)) ≡ without_id id (ids (k ∷ children))
+gone_ids_by id k children true e h = rw e refl
+gone_ids_by id k children false e h = rw e (ap (λ l. k.id ∷ l) h)
 
-gone_ids : (id : ℕ) (kids : List Kid) → ids (without_kid id kids) ≡ without_id id (ids kids)
+gone_ids : (id : ℕ) (children : List RunningChild) → ids (without_child id children) ≡ without_id id (ids children)
 gone_ids id [] = refl
-gone_ids id (k ∷ kids) = gone_ids_by id k kids (k.id == id) refl (gone_ids id kids)
+gone_ids id (k ∷ children) = gone_ids_by id k children (k.id == id) refl (gone_ids id children)
 
-gone_heard_by : (id : ℕ) (k : Kid) (kids : List Kid) (b : Bool) → (k.id == id) ≡ b → AreHeard (k ∷ kids) → AreHeard (without_kid id kids) → AreHeard (without_kid id (k ∷ kids))
-gone_heard_by id k kids true e h g = rw e h.1
-gone_heard_by id k kids false e h g = rw e (h.0, g)
+gone_heard_by : (id : ℕ) (k : RunningChild) (children : List RunningChild) (b : Bool) → (k.id == id) ≡ b → AreHeard (k ∷ children) → AreHeard (without_child id children) → AreHeard (without_child id (k ∷ children))
+gone_heard_by id k children true e h g = rw e h.1
+gone_heard_by id k children false e h g = rw e (h.0, g)
 
-gone_heard : (id : ℕ) (kids : List Kid) → AreHeard kids → AreHeard (without_kid id kids)
+gone_heard : (id : ℕ) (children : List RunningChild) → AreHeard children → AreHeard (without_child id children)
 gone_heard id [] h = tt
-gone_heard id (k ∷ kids) h = gone_heard_by id k kids (k.id == id) refl h (gone_heard id kids h.1)
+gone_heard id (k ∷ children) h = gone_heard_by id k children (k.id == id) refl h (gone_heard id children h.1)
 
 pub brood_gone : (log new : List Event) (next id : ℕ) (ns others : List ℕ) → new ≡ log ++ Abandoned id ∷ [] → others ≡ without_id id ns → IsBrood log next ns → IsBrood new next others
 brood_gone log new next id ns others is left b = record {
-  kids = without_kid id b.kids;
-  crew = crew_gone log new next id b.kids (without_kid id b.kids) is refl b.crew;
-  same = gone_ids id b.kids ∙ ap (without_id id) b.same ∙ sym left;
-  heard = gone_heard id b.kids b.heard;
+  children = without_child id b.children;
+  alive = alive_gone log new next id b.children (without_child id b.children) is refl b.alive;
+  same = gone_ids id b.children ∙ ap (without_id id) b.same ∙ sym left;
+  heard = gone_heard id b.children b.heard;
 }
 
 short_at : (id : ℕ) (ns : List ℕ) (k : ℕ) → k < length ns → get_or ns k id ≡ id → length (without_id id ns) + 1 ≡ length ns
@@ -82,27 +82,27 @@ short_at id (n ∷ ns) (suc k) lt is = grind (arith, common_steps, short_at id n
 
 pub brood_missing : (log : List Event) (next id : ℕ) (ns : List ℕ) → IsBrood log next ns → Contains (running log) id → without_id id ns ≡ ns → ⊥
 brood_missing log next id ns b runs same =
-    let c : Contains ns id = subst (λ l. Contains l id) (running_ids log next b.kids b.crew ∙ b.same) runs in
+    let c : Contains ns id = subst (λ l. Contains l id) (running_ids log next b.children b.alive ∙ b.same) runs in
     let short : length (without_id id ns) + 1 ≡ length ns = short_at id ns c.0 c.1 c.2 in
     let long : length (without_id id ns) ≡ length ns = ap length same in
     omega arith
 
 -- a turn in which no child runs
 
-rest_by : (log new : List Event) (next : ℕ) (kids : List Kid) → ids kids ≡ [] → new ≡ log ++ Turn 1 ∷ [] → IsCrew log next kids → IsBrood new next []
-rest_by log new next (k ∷ kids) none is crew = absurd (cc)
-rest_by log new next [] none is crew =
+rest_by : (log new : List Event) (next : ℕ) (children : List RunningChild) → ids children ≡ [] → new ≡ log ++ Turn 1 ∷ [] → AreRunning log next children → IsBrood new next []
+rest_by log new next (k ∷ children) none is alive = absurd (cc)
+rest_by log new next [] none is alive =
     let u : unreads new ≡ unreads log = ap unreads is ∙ flat_map-append unread_of log (Turn 1 ∷ []) ∙ append-nil (unreads log) in
     let s : started_ids new ≡ started_ids log = ap started_ids is ∙ flat_map-append id_of log (Turn 1 ∷ []) ∙ append-nil (started_ids log) in
     record {
-      kids = [];
-      crew = record {
-        run = ap live is ∙ live_then [] log (Turn 1 ∷ []) ∙ ap (map (polled 1)) crew.run;
-        count = crew.count ∙ ap length (sym s);
-        drawn = subst (λ l. Below l next) (sym s) crew.drawn;
+      children = [];
+      alive = record {
+        run = ap live is ∙ live_then [] log (Turn 1 ∷ []) ∙ ap (map (polled 1)) alive.run;
+        count = alive.count ∙ ap length (sym s);
+        drawn = subst (λ l. Below l next) (sym s) alive.drawn;
         rising = tt;
         below = tt;
-        heard = subst (λ l. Below l next) (sym u) crew.heard;
+        heard = subst (λ l. Below l next) (sym u) alive.heard;
         heeds = tt;
       };
       same = refl;
@@ -110,73 +110,73 @@ rest_by log new next [] none is crew =
     }
 
 pub brood_rest : (log new : List Event) (next : ℕ) (ns : List ℕ) → ns ≡ [] → new ≡ log ++ Turn 1 ∷ [] → IsBrood log next ns → IsBrood new next ns
-brood_rest log new next ns none is b = subst (IsBrood new next) (sym none) (rest_by log new next b.kids (b.same ∙ none) is b.crew)
+brood_rest log new next ns none is b = subst (IsBrood new next) (sym none) (rest_by log new next b.children (b.same ∙ none) is b.alive)
 
 pub no_news : (log : List Event) → IsNews log []
 no_news log = record { own = tt; pieces = λ k d lt. absurd (omega arith) }
 
 -- a turn in which the oldest child ends
 
-abbrev older : Kid → Kid
+abbrev older : RunningChild → RunningChild
 older k = record { id = k.id; polls = k.polls + 1; mute = k.mute; place = k.place }
 
-older_live : (kids : List Kid) → map next_live kids ≡ map live_of (map older kids)
+older_live : (children : List RunningChild) → map next_live children ≡ map live_of (map older children)
 older_live [] = refl
-older_live (k ∷ kids) = ap (λ l. next_live k ∷ l) (older_live kids)
+older_live (k ∷ children) = ap (λ l. next_live k ∷ l) (older_live children)
 
-older_ids : (kids : List Kid) → ids (map older kids) ≡ ids kids
+older_ids : (children : List RunningChild) → ids (map older children) ≡ ids children
 older_ids [] = refl
-older_ids (k ∷ kids) = ap (λ l. k.id ∷ l) (older_ids kids)
+older_ids (k ∷ children) = ap (λ l. k.id ∷ l) (older_ids children)
 
-older_heard : (kids : List Kid) → AreHeard kids → AreHeard (map older kids)
+older_heard : (children : List RunningChild) → AreHeard children → AreHeard (map older children)
 older_heard [] h = tt
-older_heard (k ∷ kids) h = (h.0, older_heard kids h.1)
+older_heard (k ∷ children) h = (h.0, older_heard children h.1)
 
 mute_below : (un : Bool) (id n : ℕ) → id < n → Below (mutes_if un id) n
 mute_below true id n lt = (lt, tt)
 mute_below false id n lt = tt
 
-older_heeds : (us : List ℕ) (un : Bool) (id : ℕ) (kids : List Kid) → Above id (ids kids) → Heeds us kids → Heeds (us ++ mutes_if un id) (map older kids)
+older_heeds : (us : List ℕ) (un : Bool) (id : ℕ) (children : List RunningChild) → Above id (ids children) → Heeds us children → Heeds (us ++ mutes_if un id) (map older children)
 older_heeds us un id [] a h = tt
-older_heeds us un id (k ∷ kids) a h = (
+older_heeds us un id (k ∷ children) a h = (
   λ m c. ⊎_elim (h.0 m) (below_lacks (mutes_if un id) k.id (mute_below un id k.id a.0)) (Contains-append_cases us (mutes_if un id) k.id c),
-  older_heeds us un id kids a.1 h.1,
+  older_heeds us un id children a.1 h.1,
 )
 
-ended_first : (end : Option Status) (id : ℕ) (k : Kid) (rest : List Live) → is_some end ≡ true → id ≡ k.id → gone_if end id (next_live k ∷ rest) ≡ rest
+ended_first : (end : Option Status) (id : ℕ) (k : RunningChild) (rest : List Live) → is_some end ≡ true → id ≡ k.id → gone_if end id (next_live k ∷ rest) ≡ rest
 ended_first None id k rest e is = absurd (cc)
 ended_first (Some s) id k rest e is = rw (eq-eqb k.id id (sym is)) refl
 
-turn_by : (log new : List Event) (next n : ℕ) (ns : List ℕ) (m : News) (kids : List Kid) → ids kids ≡ n ∷ ns → AreHeard kids → m.id ≡ n → is_some m.ended ≡ true → new ≡ log ++ Turn 1 ∷ told m → IsCrew log next kids → IsBrood new next ns
-turn_by log new next n ns m [] same h own end is crew = absurd (cc)
-turn_by log new next n ns m (k ∷ kids) same h own end is crew =
-    let events : List Event = Turn 1 ∷ told m in
+turn_by : (log new : List Event) (next n : ℕ) (ns : List ℕ) (m : News) (children : List RunningChild) → ids children ≡ n ∷ ns → AreHeard children → m.id ≡ n → is_some m.ended ≡ true → new ≡ log ++ Turn 1 ∷ reported m → AreRunning log next children → IsBrood new next ns
+turn_by log new next n ns m [] same h own end is alive = absurd (cc)
+turn_by log new next n ns m (k ∷ children) same h own end is alive =
+    let events : List Event = Turn 1 ∷ reported m in
     let mine : m.id ≡ k.id = own ∙ sym (ap (λ l. get_or l 0 0) same) in
-    let u : unreads new ≡ unreads log ++ mutes_if m.unread k.id = ap unreads is ∙ flat_map-append unread_of log events ∙ ap (λ l. unreads log ++ l) (told_mutes m.id m.piece m.unread m.ended ∙ ap (mutes_if m.unread) mine) in
-    let s : started_ids new ≡ started_ids log = ap started_ids is ∙ flat_map-append id_of log events ∙ ap (λ l. started_ids log ++ l) (told_starts m.id m.piece m.unread m.ended) ∙ append-nil (started_ids log) in
+    let u : unreads new ≡ unreads log ++ mutes_if m.unread k.id = ap unreads is ∙ flat_map-append unread_of log events ∙ ap (λ l. unreads log ++ l) (reported_mutes m.id m.piece m.unread m.ended ∙ ap (mutes_if m.unread) mine) in
+    let s : started_ids new ≡ started_ids log = ap started_ids is ∙ flat_map-append id_of log events ∙ ap (λ l. started_ids log ++ l) (reported_starts m.id m.piece m.unread m.ended) ∙ append-nil (started_ids log) in
     record {
-      kids = map older kids;
-      crew = record {
-        run = ap live is ∙ live_then [] log events ∙ ap (λ l. live_from (map (polled 1) l) (told m)) crew.run ∙ told_live (map (polled 1) (map live_of (k ∷ kids))) m.id m.piece m.unread m.ended ∙ ended_first m.ended m.id k (map (polled 1) (map live_of kids)) end mine ∙ polled_kids kids ∙ older_live kids;
-        count = crew.count ∙ ap length (sym s);
-        drawn = subst (λ l. Below l next) (sym s) crew.drawn;
-        rising = rw (older_ids kids) crew.rising.1;
-        below = rw (older_ids kids) crew.below.1;
-        heard = subst (λ l. Below l next) (sym u) (below_both (unreads log) (mutes_if m.unread k.id) next crew.heard (mute_below m.unread k.id next crew.below.0));
-        heeds = subst (λ l. Heeds l (map older kids)) (sym u) (older_heeds (unreads log) m.unread k.id kids crew.rising.0 crew.heeds.1);
+      children = map older children;
+      alive = record {
+        run = ap live is ∙ live_then [] log events ∙ ap (λ l. live_from (map (polled 1) l) (reported m)) alive.run ∙ reported_live (map (polled 1) (map live_of (k ∷ children))) m.id m.piece m.unread m.ended ∙ ended_first m.ended m.id k (map (polled 1) (map live_of children)) end mine ∙ polled_children children ∙ older_live children;
+        count = alive.count ∙ ap length (sym s);
+        drawn = subst (λ l. Below l next) (sym s) alive.drawn;
+        rising = rw (older_ids children) alive.rising.1;
+        below = rw (older_ids children) alive.below.1;
+        heard = subst (λ l. Below l next) (sym u) (below_both (unreads log) (mutes_if m.unread k.id) next alive.heard (mute_below m.unread k.id next alive.below.0));
+        heeds = subst (λ l. Heeds l (map older children)) (sym u) (older_heeds (unreads log) m.unread k.id children alive.rising.0 alive.heeds.1);
       };
-      same = older_ids kids ∙ ap (drop 1) same;
-      heard = older_heard kids h.1;
+      same = older_ids children ∙ ap (drop 1) same;
+      heard = older_heard children h.1;
     }
 
-pub brood_turn : (log new : List Event) (next n : ℕ) (ns : List ℕ) (m : News) → m.id ≡ n → is_some m.ended ≡ true → new ≡ log ++ Turn 1 ∷ told m → IsBrood log next (n ∷ ns) → IsBrood new next ns
-brood_turn log new next n ns m own end is b = turn_by log new next n ns m b.kids b.same b.heard own end is b.crew
+pub brood_turn : (log new : List Event) (next n : ℕ) (ns : List ℕ) (m : News) → m.id ≡ n → is_some m.ended ≡ true → new ≡ log ++ Turn 1 ∷ reported m → IsBrood log next (n ∷ ns) → IsBrood new next ns
+brood_turn log new next n ns m own end is b = turn_by log new next n ns m b.children b.same b.heard own end is b.alive
 
-unheard : (log : List Event) (next n : ℕ) (ns : List ℕ) (kids : List Kid) → ids kids ≡ n ∷ ns → AreHeard kids → IsCrew log next kids → Contains (unreads log) n → ⊥
-unheard log next n ns [] same h crew c = absurd (cc)
-unheard log next n ns (k ∷ kids) same h crew c =
+unheard : (log : List Event) (next n : ℕ) (ns : List ℕ) (children : List RunningChild) → ids children ≡ n ∷ ns → AreHeard children → AreRunning log next children → Contains (unreads log) n → ⊥
+unheard log next n ns [] same h alive c = absurd (cc)
+unheard log next n ns (k ∷ children) same h alive c =
     let mine : n ≡ k.id = sym (ap (λ l. get_or l 0 0) same) in
-    crew.heeds.0 h.0 (subst (Contains (unreads log)) mine c)
+    alive.heeds.0 h.0 (subst (Contains (unreads log)) mine c)
 
 piece_is : (log : List Event) (m : News) (piece : Option (List ℕ)) → IsFull piece → (Contains (unreads log) m.id → ⊥) → IsPiece log m piece
 piece_is log m None f h = tt
@@ -184,12 +184,12 @@ piece_is log m (Some p) f h = (f, h)
 
 pub brood_news : (log : List Event) (next n : ℕ) (ns : List ℕ) (m : News) → m.id ≡ n → IsFull m.piece → IsBrood log next (n ∷ ns) → IsNews log (m ∷ [])
 brood_news log next n ns m own full b = record {
-  own = subst (InOrder (m.id ∷ [])) (sym (running_ids log next b.kids b.crew ∙ b.same)) (inl (own, tt));
+  own = subst (InOrder (m.id ∷ [])) (sym (running_ids log next b.children b.alive ∙ b.same)) (inl (own, tt));
   pieces = one;
 }
   where
     lacks : Contains (unreads log) m.id → ⊥
-    lacks c = unheard log next n ns b.kids b.same b.heard b.crew (subst (Contains (unreads log)) own c)
+    lacks c = unheard log next n ns b.children b.same b.heard b.alive (subst (Contains (unreads log)) own c)
 
     one : All (λ x. IsPiece log x x.piece) (m ∷ [])
     one zero d lt = piece_is log m m.piece full lacks

@@ -21,7 +21,7 @@ set_by false was pair name old new e o set others =
     let differ : name ≢ pair.0 = λ same. not_from_Decides (bytes_eq pair.0 name) (bytes_eq-Decides pair.0 name) e (sym same) in
     others name differ ∙ o
 
--- a child that has the variables of the first i pairs, and is told the next, has those of the first i + 1
+-- a child that has the variables of the first i pairs, and is reported the next, has those of the first i + 1
 pub value_step : (vars : List (List ℕ × List ℕ)) (i : ℕ) (pair : List ℕ × List ℕ) (old new : List ℕ → Option (Option (List ℕ))) → i < length vars → pair ≡ get_or vars i pair → ((name : List ℕ) → old name ≡ child_value (take i vars) name) → new pair.0 ≡ Some (Some pair.1) → ((k : List ℕ) → k ≢ pair.0 → new k ≡ old k) → (name : List ℕ) → new name ≡ child_value (take (i + 1) vars) name
 value_step vars i pair old new lt at before set others name =
     set_by (bytes_eq pair.0 name) (child_value (take i vars) name) pair name old new refl (before name) set others

@@ -5,10 +5,10 @@ ghost use Rattle.cc_host.specs.declared.event.Event.TheVariants.{Started, Abando
 ghost use Rattle.cc_host.specs.declared.event.Start.TheVariants.{Child as Begins};
 ghost use Rattle.cc_host.specs.declared.event.HostError.TheVariants.{Fault as Failed};
 ghost use Rattle.cc_host.specs.Children.{running, IsFresh, IsNews};
-ghost use Rattle.cc_host.specs.Event.{apart, told};
+ghost use Rattle.cc_host.specs.Event.{apart, reported};
 ghost use Rattle.cc_host.specs.Journal.{IsQuiet};
 ghost use Rattle.cc_host.specs.Probe.{IsOpen, IsTidy};
-ghost use Rattle.cc_host.specs.Crew.{IsIdle};
+ghost use Rattle.cc_host.specs.ChildLog.{IsIdle};
 ghost use Rattle.cc_hosts.specs.Brood.{BroodSeen, IsBrood, EndsWith, without_id};
 
 use crate::child::{self, Outcome};
@@ -163,7 +163,7 @@ impl<P: OpenProcess + Drop> Brood<P> {
 
     /// Waits for the end of the oldest child that runs. Refused for memory, it did nothing.
     pub fn turn(&mut self) -> Mem<Vec<News>>
-        ensures log { IfOk result (λ news. self.new.log ≡ self.old.log ++ OneTurn 1 ∷ flat_map told news.items) }
+        ensures log { IfOk result (λ news. self.new.log ≡ self.old.log ++ OneTurn 1 ∷ flat_map reported news.items) }
         ensures news { IfOk result (λ news. IsNews self.old.log news.items) }
         ensures faults { self.new.faults ≡ self.old.faults }
         ensures err { OnErr result (self.new ≡ record self.old { places = self.new.places }) }
@@ -227,8 +227,8 @@ fn piece_of(err: Bytes) -> Mem<Option<(Bytes, Bytes)>>
     Ok(Some((err, copy)))
 }
 
-// What a child tells that ended so, with its standard error in whole.
-fn told_end(id: u64, status: Status, err: Bytes) -> (News, Option<Bytes>)
+// What a child reports that ended so, with its standard error in whole.
+fn news_of_end(id: u64, status: Status, err: Bytes) -> (News, Option<Bytes>)
     ensures { EndsWith id result.0 result.1 }
 {
     let ended = Some(status);
@@ -263,7 +263,7 @@ fn told_end(id: u64, status: Status, err: Bytes) -> (News, Option<Bytes>)
     }
 }
 
-// Waits for the end of a child, and tells it. A child whose end can't be learned ended without a code.
+// Waits for the end of a child, and reports it. A child whose end can't be learned ended without a code.
 fn end_of<P: OpenProcess + Drop>(alloc: Global, young: Young<P>) -> (News, Option<Bytes>)
     ensures { EndsWith young.id result.0 result.1 }
 {
@@ -273,7 +273,7 @@ fn end_of<P: OpenProcess + Drop>(alloc: Global, young: Young<P>) -> (News, Optio
         hear: young.hear,
     };
     match child::finish(alloc, young.child, pipes) {
-        Outcome::Ended(end) => told_end(id, end.status, end.err),
+        Outcome::Ended(end) => news_of_end(id, end.status, end.err),
         _ => (
             News {
                 id,
@@ -286,11 +286,11 @@ fn end_of<P: OpenProcess + Drop>(alloc: Global, young: Young<P>) -> (News, Optio
     }
 }
 
-// Adds the events that a child told.
+// Adds the events that a child reported.
 fn put_events(events: &mut Vec<Event>, news: &News, copy: Option<Bytes>)
     requires room { vec_len events.old + 3 ≤ vec_capacity events.old }
     requires same { copy ≡ news.now.piece }
-    ensures { events.new.items ≡ events.old.items ++ told news.now }
+    ensures { events.new.items ≡ events.old.items ++ reported news.now }
 {
     let id = news.id;
     if let Some(bytes) = copy {

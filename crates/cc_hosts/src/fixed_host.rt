@@ -23,7 +23,7 @@ impl World for Fixed {
     ghost answer = { λ q. default_outcome q.ask };
 }
 
-/// A host in memory that is told no outcome of a question. All else is as in `BenchHost`.
+/// A host in memory that is reported no outcome of a question. All else is as in `BenchHost`.
 #[derive(Drop)]
 pub struct FixedHost {
     bench: BenchHost,
@@ -38,7 +38,7 @@ impl Model for FixedHost {
 }
 
 impl FixedHost {
-    /// A host that was told nothing. It takes no memory.
+    /// A host that was reported nothing. It takes no memory.
     pub fn new(alloc: Global) -> Mem<FixedHost>
         ensures { IfOk result (λ h. h ≡ fresh) }
     {

@@ -1,4 +1,4 @@
-use Rattle.cc_host.proofs.CrewLemmas.{started_runs}
+use Rattle.cc_host.proofs.ChildLogLemmas.{started_runs}
 use Rattle.cc_tests.proofs.calls.leave_alone.Goals as goal
 
 pub abandon-requires : goal.abandon-requires

@@ -6,5 +6,5 @@ use Rattle.cc_host.proofs.bench_host.BenchHostHostBench.start.Goals as goal
 
 pub returns-clause-keeps : goal.returns-clause-keeps
 returns-clause-keeps c =
-  let same = ap (λ (s : BenchSeen). s.faults) c.in_ok-id.ensures.ok.2 in
-  (omega (arith, same), ap (λ (s : BenchSeen). patience_of s.scripts) c.in_ok-id.ensures.ok.2 ∙ patience_same c.args.cmd.now c.args.self.now.scripts)
+    let same = ap (λ (s : BenchSeen). s.faults) c.in_ok-id.ensures.ok.2 in
+    (omega (arith, same), ap (λ (s : BenchSeen). patience_of s.scripts) c.in_ok-id.ensures.ok.2 ∙ patience_same c.args.cmd.now c.args.self.now.scripts)

@@ -3,7 +3,7 @@ use Rattle.std.specs.List.{flat_map, remove}
 use Rattle.std.proofs.lemmas.Bool.{eqb-true}
 use Rattle.std.proofs.lemmas.Grind.{common_steps}
 use Rattle.cc_host.specs.Children.{IsNews}
-use Rattle.cc_host.specs.Event.{apart, told}
+use Rattle.cc_host.specs.Event.{apart, reported}
 use Rattle.cc_host.specs.Journal.{JournalSeen}
 use Rattle.cc_host.specs.declared.event.Event.{Event}
 use Rattle.cc_host.specs.declared.event.Event.TheVariants.{Turn}
@@ -13,8 +13,8 @@ use Rattle.cc_host.proofs.TurnLemmas.{all_apart}
 use Rattle.cc_hosts.proofs.BroodLemmas.{brood_rest, brood_turn, brood_news, first_out, none_out}
 use Rattle.cc_hosts.proofs.brood.Brood.turn.Goals as goal
 
-one_apart : (n : News) → flat_map apart (told n) ≡ told n
-one_apart n = ap (flat_map apart) (sym (append-nil (told n))) ∙ all_apart (n ∷ []) ∙ append-nil (told n)
+one_apart : (n : News) → flat_map apart (reported n) ≡ reported n
+one_apart n = ap (flat_map apart) (sym (append-nil (reported n))) ∙ all_apart (n ∷ []) ∙ append-nil (reported n)
 
 pub invariant_of-self-then-is_empty : goal.invariant_of-self-then-is_empty
 invariant_of-self-then-is_empty g c =
@@ -28,14 +28,14 @@ invariant_of-self-then-is_empty g c =
 pub invariant_of-self-2 : goal.invariant_of-self-2
 invariant_of-self-2 g c =
     let news = c.end_of-news.result.0 in
-    let log : c.keep_children.new.self.log ≡ c.self.inside.journal.log ++ Turn 1 ∷ told c.end_of-news.result.0 =
+    let log : c.keep_children.new.self.log ≡ c.self.inside.journal.log ++ Turn 1 ∷ reported c.end_of-news.result.0 =
     ap (λ (j : JournalSeen). j.log) c.keep_children.ensures
     ∙ ap (λ (j : JournalSeen). j.log) c.note_all.ensures.same
     ∙ ap (λ (j : JournalSeen). j.log ++ flat_map apart c.put_events.new.events.items) c.note_turn-2.ensures.same
     ∙ ap (λ (j : JournalSeen). (j.log ++ Turn 1 ∷ []) ++ flat_map apart c.put_events.new.events.items) c.reserve.ensures.same
-    ∙ ap (λ l. (c.self.inside.journal.log ++ Turn 1 ∷ []) ++ flat_map apart l) (c.put_events.ensures ∙ ap (λ l. l ++ told news) c.in_ok-events.ensures.items)
+    ∙ ap (λ l. (c.self.inside.journal.log ++ Turn 1 ∷ []) ++ flat_map apart l) (c.put_events.ensures ∙ ap (λ l. l ++ reported news) c.in_ok-events.ensures.items)
     ∙ ap (λ l. (c.self.inside.journal.log ++ Turn 1 ∷ []) ++ l) (one_apart news)
-    ∙ append_assoc c.self.inside.journal.log (Turn 1 ∷ []) (told news) in
+    ∙ append_assoc c.self.inside.journal.log (Turn 1 ∷ []) (reported news) in
     let lots : 0 < length c.self.inside.young.items = grind (arith, common_steps, c.if-is_empty.false, c.is_empty.ensures) in
     let brood : IsBrood c.self.inside.journal.log c.self.inside.next (c.remove-oldest.result.id ∷ map (λ y. y.id) (remove c.self.inside.young.items 0)) = subst (IsBrood c.self.inside.journal.log c.self.inside.next) (first_out (λ y. y.id) c.self.inside.young.items c.remove-oldest.result lots c.remove-oldest.ensures.value) c.self.invariant.brood in
     record {
@@ -46,15 +46,15 @@ invariant_of-self-2 g c =
 pub returns-clause-log : goal.returns-clause-log
 returns-clause-log g c =
     let news = c.end_of-news.result.0 in
-    let log : c.keep_children.new.self.log ≡ c.self.inside.journal.log ++ Turn 1 ∷ told c.end_of-news.result.0 =
+    let log : c.keep_children.new.self.log ≡ c.self.inside.journal.log ++ Turn 1 ∷ reported c.end_of-news.result.0 =
     ap (λ (j : JournalSeen). j.log) c.keep_children.ensures
     ∙ ap (λ (j : JournalSeen). j.log) c.note_all.ensures.same
     ∙ ap (λ (j : JournalSeen). j.log ++ flat_map apart c.put_events.new.events.items) c.note_turn-2.ensures.same
     ∙ ap (λ (j : JournalSeen). (j.log ++ Turn 1 ∷ []) ++ flat_map apart c.put_events.new.events.items) c.reserve.ensures.same
-    ∙ ap (λ l. (c.self.inside.journal.log ++ Turn 1 ∷ []) ++ flat_map apart l) (c.put_events.ensures ∙ ap (λ l. l ++ told news) c.in_ok-events.ensures.items)
+    ∙ ap (λ l. (c.self.inside.journal.log ++ Turn 1 ∷ []) ++ flat_map apart l) (c.put_events.ensures ∙ ap (λ l. l ++ reported news) c.in_ok-events.ensures.items)
     ∙ ap (λ l. (c.self.inside.journal.log ++ Turn 1 ∷ []) ++ l) (one_apart news)
-    ∙ append_assoc c.self.inside.journal.log (Turn 1 ∷ []) (told news) in
-    log ∙ ap (λ l. c.self.inside.journal.log ++ Turn 1 ∷ l) (sym (ap (flat_map told) (c.push_reserved.ensures.items ∙ ap (λ l. l ++ news ∷ []) c.in_ok-list.ensures.items) ∙ append-nil (told news))) ∙ ap (λ (s : BroodSeen). s.log ++ Turn 1 ∷ flat_map told c.push_reserved.new.self.items) c.self.view_is
+    ∙ append_assoc c.self.inside.journal.log (Turn 1 ∷ []) (reported news) in
+    log ∙ ap (λ l. c.self.inside.journal.log ++ Turn 1 ∷ l) (sym (ap (flat_map reported) (c.push_reserved.ensures.items ∙ ap (λ l. l ++ news ∷ []) c.in_ok-list.ensures.items) ∙ append-nil (reported news))) ∙ ap (λ (s : BroodSeen). s.log ++ Turn 1 ∷ flat_map reported c.push_reserved.new.self.items) c.self.view_is
 
 pub returns-clause-news : goal.returns-clause-news
 returns-clause-news g c =

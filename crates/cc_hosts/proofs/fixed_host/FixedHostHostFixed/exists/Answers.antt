@@ -1,6 +1,6 @@
 use Rattle.std.proofs.Common.{◌∙◌, refl}
-use Rattle.cc_hosts.proofs.FixedLemmas.{tells_given}
+use Rattle.cc_hosts.proofs.FixedLemmas.{uncounted_given}
 use Rattle.cc_hosts.proofs.fixed_host.FixedHostHostFixed.exists.Goals as goal
 
 pub invariant_of-self : goal.invariant_of-self
-invariant_of-self c = tells_given _ c.self.inside.bench c.self.inside.bench c.exists.new.self _ c.exists.ensures.answers refl ∙ c.self.invariant
+invariant_of-self c = uncounted_given _ c.self.inside.bench c.self.inside.bench c.exists.new.self _ c.exists.ensures.answers refl ∙ c.self.invariant

@@ -1,0 +1,12 @@
+use Rattle.std.proofs.Common.{ap, refl, arith}
+use Rattle.std.proofs.lemmas.Grind.{common_steps}
+use Rattle.cc_host.specs.Journal.{JournalSeen}
+use Rattle.cc_host.specs.declared.event.Event.TheVariants.{Dropped}
+use Rattle.cc_host.proofs.ChildLogLemmas.{alive_after}
+use Rattle.cc_host.proofs.child_log.ChildLog.note_dropped.Goals as goal
+
+pub invariant_of-self : goal.invariant_of-self
+invariant_of-self c = record {
+  alive = alive_after c.self.inside.journal.log _ c.self.inside.next c.self.inside.children.items (Dropped c.args.path.now) (ap (λ (j : JournalSeen). j.log) c.note_dropped.ensures) (refl, refl, refl, λ l. refl) c.self.invariant.alive;
+  kept = grind (arith, common_steps);
+}

@@ -1,7 +1,0 @@
-use Rattle.std.proofs.Common.{◌≡◌, take}
-use Rattle.std.specs.List.{flat_map}
-use Rattle.cc_host.specs.Event.{told}
-use Rattle.cc_host.proofs.kid.events_of.Given as goal
-
-abbrev pub invariant-loop-item : goal.invariant-loop-item
-invariant-loop-item l = l.events.items ≡ flat_map told (take l.item-index l.news)
