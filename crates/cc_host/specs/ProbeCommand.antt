@@ -1,26 +1,16 @@
 -- The command that a question is asked by.
-use Rattle.std.specs.Prelude.{ℕ, Bool, true, false, List, [], ◌∷◌, ◌++◌, Option, Some, None, codes, if◌then◌else◌}
+use Rattle.std.specs.Prelude.{ℕ, List, [], ◌∷◌, ◌++◌, Option, Some, None, codes, if◌then◌else◌}
+use Rattle.cc_text.specs.Families.{is_visual_studio, is_clang_cl}
 use Rattle.cc_text.specs.declared.family.ToolFamily.{ToolFamily}
-use Rattle.cc_text.specs.declared.family.ToolFamily.TheVariants.{Gnu, Clang, Msvc}
 use Rattle.cc_host.specs.Command.{CommandSeen}
 use Rattle.cc_host.specs.declared.question.Ask.{Ask}
 use Rattle.cc_host.specs.declared.question.Ask.TheVariants.{Preprocess, PreprocessDashes, HelpFlag, Version, Flag, Libcxx, SearchDirs, ToolVersion, Starts, Exists}
 use Rattle.cc_host.specs.declared.question.Question.{Question}
 use Rattle.cc_host.specs.declared.question.ProbeFiles.{ProbeFiles}
 
-abbrev pub is_msvc : ToolFamily → Bool
-is_msvc Gnu = false
-is_msvc (Clang zig_cc) = false
-is_msvc (Msvc clang_cl) = true
-
-abbrev pub is_clang_cl : ToolFamily → Bool
-is_clang_cl Gnu = false
-is_clang_cl (Clang zig_cc) = false
-is_clang_cl (Msvc clang_cl) = clang_cl
-
 -- the words that name the object
 abbrev pub object_words : ToolFamily → List ℕ → List (List ℕ)
-object_words family object = if is_msvc family then (codes "-Fo" ++ object) ∷ [] else codes "-o" ∷ object ∷ []
+object_words family object = if is_visual_studio family then (codes "-Fo" ++ object) ∷ [] else codes "-o" ∷ object ∷ []
 
 -- the word after which no word is an option, where the family needs it
 abbrev pub dashes : ToolFamily → List (List ℕ)

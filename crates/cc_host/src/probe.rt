@@ -1,37 +1,17 @@
 // The command that a question is asked by.
 ghost use Rattle.std.specs.Prelude.{◌≡◌, ◌≢◌, ◌++◌, None, IfOk, OnOk};
-ghost use Rattle.cc_host.specs.ProbeCommand.{is_msvc, is_clang_cl, object_words, dashes, flag_words, ask_words, probe_dir, probe_command_of};
+ghost use Rattle.cc_host.specs.ProbeCommand.{object_words, dashes, flag_words, ask_words, probe_dir, probe_command_of};
 ghost use Rattle.cc_host.specs.declared.question.Ask.TheVariants.{Exists as AsksExists};
 
 use crate::{Ask, Command, ProbeFiles, Question};
-use cc_text::{Mem, ToolFamily, Words};
+use cc_text::{Mem, ToolFamily, Words, is_clang_cl, is_visual_studio};
 use std::alloc::Global;
-
-fn is_msvc(family: ToolFamily) -> bool
-    ensures { result ≡ is_msvc family }
-{
-    match family {
-        ToolFamily::Gnu => false,
-        ToolFamily::Clang { .. } => false,
-        ToolFamily::Msvc { .. } => true,
-    }
-}
-
-fn is_clang_cl(family: ToolFamily) -> bool
-    ensures { result ≡ is_clang_cl family }
-{
-    match family {
-        ToolFamily::Gnu => false,
-        ToolFamily::Clang { .. } => false,
-        ToolFamily::Msvc { clang_cl } => clang_cl,
-    }
-}
 
 // Adds the words that name the object.
 fn push_object(words: &mut Words, family: ToolFamily, object: &str) -> Mem<()>
     ensures { OnOk result (words.new ≡ words.old ++ object_words family object.now) }
 {
-    if is_msvc(family) {
+    if is_visual_studio(family) {
         words.push_joined("-Fo", object)?;
     } else {
         words.push_all(&["-o", object])?;
