@@ -1,4 +1,5 @@
-// The words that a target and an optimisation level bring, a function a group.
+// The words that a target and an optimisation level bring, a function a group. Setters count before what the target
+// wants.
 ghost use Rattle.std.specs.Prelude.{◌≡◌, ◌++◌, OnOk};
 ghost use Rattle.std.specs.Option.{option_copied};
 ghost use Rattle.cc_target.specs.Targets.{info_seen};
@@ -21,7 +22,11 @@ fn level_text(family: ToolFamily, level: &str) -> &str
     }
 }
 
-/// Adds the optimisation level as the family spells it, and a section of its own for each function and datum.
+/// Adds the level as `-O` and its text; `-Os` for level `z` of GCC, which older releases don't know. Then a section
+/// of its own for each function and datum, so that the linker can leave out what nothing uses (GCC's manual,
+/// "Options That Control Optimization"). Between them `-DANDROID` for Clang on Android, which the NDK's build
+/// systems define, for code that doesn't look at `__ANDROID__`. Refused for memory, `words` may hold a part of
+/// them.
 #[tactic(auto, unfolding(crate::specs::DefaultWords::optimisation_words))]
 pub fn push_optimisation_words(
     words: &mut Words,
@@ -54,7 +59,11 @@ fn is_position_independent(target: &TargetInfo) -> bool
         && target.arch != "wasm64"
 }
 
-/// Adds what makes code that runs wherever it is loaded: as it is set, else as the target wants it; `-fno-plt` where calls go without a table.
+/// Adds `-fPIC`, for code that runs wherever it is loaded, where `pic` says so or, unset, the target wants it: not
+/// Windows, UEFI and Vita, not targets without a system, whose linker may not take it, and not WebAssembly, for
+/// which rustc makes none either. With it, on Linux and Android, `-fno-plt` where `use_plt` is false: calls then
+/// skip the procedure linkage table (GCC's manual, "Options for Code Generation Conventions"). Refused for memory,
+/// `words` may hold a part of them.
 #[tactic(auto, unfolding(crate::specs::DefaultWords::position_independence_words))]
 pub fn push_position_independence_words(
     words: &mut Words,
@@ -97,7 +106,9 @@ fn push_thread_words(words: &mut Words, name: &str) -> Mem<()>
     Ok(())
 }
 
-/// Adds, for WASI, the sysroot where it is set, and threads where the target's name has them.
+/// Adds for WASI, and nothing for other systems: `--sysroot=` and `sysroot`, the value of `WASI_SYSROOT`, where it
+/// is set, since Clang alone has no C library for WASI (WASI SDK's README); `-pthread` where the target's name has
+/// `threads` in it. Refused for memory, `words` may hold a part of them.
 #[tactic(auto, unfolding(crate::specs::DefaultWords::wasi_words))]
 pub fn push_wasi_words(
     words: &mut Words,
@@ -129,7 +140,7 @@ fn qnx_variant(full_arch: &str) -> Option<&'static str>
     }
 }
 
-/// The target runs QNX.
+/// Whether the target runs QNX, by either name that its system has: `nto` or `qnx`. It takes no memory.
 #[tactic(auto, unfolding(crate::specs::DefaultWords::is_qnx))]
 pub fn is_qnx(target: &TargetInfo) -> bool
     ensures { result ≡ spec.is_qnx (info_seen target.now) }
@@ -137,7 +148,9 @@ pub fn is_qnx(target: &TargetInfo) -> bool
     target.os == "nto" || target.os == "qnx"
 }
 
-/// Adds the variant of QNX's compiler, where the target runs QNX and its architecture has one.
+/// Adds `-V` and the variant by which `qcc`, the compiler of QNX, is told its target (QNX's Utilities Reference,
+/// `qcc`), where the target runs QNX and its full architecture has a variant. Refused for memory, `words` may hold
+/// a part of them.
 #[tactic(auto, unfolding(crate::specs::DefaultWords::qnx_words))]
 pub fn push_qnx_words(words: &mut Words, target: &TargetInfo) -> Mem<()>
     ensures { OnOk result (words.new ≡ words.old ++ spec.qnx_words (info_seen target.now)) }
@@ -150,7 +163,8 @@ pub fn push_qnx_words(words: &mut Words, target: &TargetInfo) -> Mem<()>
     Ok(())
 }
 
-/// GCC or Clang is to compile for QNX on an architecture for which QNX's compiler has no variant.
+/// Whether GCC or Clang is to compile for QNX on a full architecture for which `qcc` has no variant: then there is
+/// no word for the target, and `cc_plan` refuses it. It takes no memory.
 #[tactic(auto, unfolding(crate::specs::DefaultWords::lacks_qnx_variant))]
 pub fn lacks_qnx_variant(family: ToolFamily, target: &TargetInfo) -> bool
     ensures { result ≡ spec.lacks_qnx_variant family (info_seen target.now) }
@@ -158,7 +172,10 @@ pub fn lacks_qnx_variant(family: ToolFamily, target: &TargetInfo) -> bool
     is_gnu_like(family) && is_qnx(target) && qnx_variant(target.full_arch).is_none()
 }
 
-/// Adds the width of addresses for GCC and Clang: `-m32`, `-mx32`, `-m64` or nothing.
+/// Adds the width of addresses, since one GCC or Clang makes code of both widths: `-m32` for x86, `-mx32` for the
+/// interface x32, `-m64` for x86_64 and powerpc64 (GCC's manual, "x86 Options" and "RS/6000 and PowerPC Options").
+/// Nothing for other targets and for Visual Studio's compilers. Refused for memory, `words` may hold a part of
+/// them.
 #[tactic(auto, unfolding(crate::specs::DefaultWords::width_words))]
 pub fn push_width_words(words: &mut Words, family: ToolFamily, target: &TargetInfo) -> Mem<()>
     ensures { OnOk result (words.new ≡ words.old ++ spec.width_words family (info_seen target.now)) }
@@ -175,7 +192,9 @@ pub fn push_width_words(words: &mut Words, family: ToolFamily, target: &TargetIn
     Ok(())
 }
 
-/// Clang is told its target, unless the name of `program` does that; `compiler` is the compiler that is set.
+/// Whether Clang is to be told its target by `--target`: always, but where the name of `program` says that it is a
+/// wrapper which does so. `compiler` is the compiler that is set, if any: of those for Windows only one that was
+/// found counts as a wrapper. False for other families. It takes no memory.
 #[tactic(auto, unfolding(crate::specs::DefaultWords::is_told_target))]
 pub fn is_told_target(
     family: ToolFamily,
@@ -209,7 +228,8 @@ fn push_freebsd_words(
     Ok(())
 }
 
-/// WebAssembly on Linux, the one kind that has threads and a C library to be found by its sysroot.
+/// Whether the target is WebAssembly with the system calls of Linux (WALI), whose C library Clang finds by a
+/// sysroot alone: `cc_plan` refuses it where `WASM_MUSL_SYSROOT` isn't set. It takes no memory.
 #[tactic(auto, unfolding(crate::specs::DefaultWords::is_wasm_linux))]
 pub fn is_wasm_linux(target: &TargetInfo) -> bool
     ensures { result ≡ spec.is_wasm_linux (info_seen target.now) }
@@ -254,7 +274,11 @@ pub(crate) fn push_target_words(words: &mut Words, llvm: &str) -> Mem<()>
     Ok(())
 }
 
-/// Adds what tells Clang its target by LLVM's name, and before it what the target's C and C++ libraries want.
+/// Adds `--target=` and LLVM's name `llvm`, without which Clang reads flags as for the system that it runs on (its
+/// page "Cross-compilation using Clang", "Target Triple"). Before it, for C++ on FreeBSD and with no `set_stdlib`,
+/// `-stdlib=libc++`, which Clang 13 and older don't choose by themselves where the target's name has no version;
+/// for `is_wasm_linux` its features, `--sysroot=` and `musl_sysroot` where it is set, and `-pthread`. Refused for
+/// memory, `words` may hold a part of them.
 #[tactic(auto, unfolding(crate::specs::DefaultWords::clang_target_words))]
 pub fn push_clang_target_words(
     words: &mut Words,
@@ -276,7 +300,10 @@ pub fn push_clang_target_words(
     Ok(())
 }
 
-/// Adds how the target or the settings want to be linked.
+/// Adds, for the target named `wasm32v1-none`, the features that rustc's book, "Platform Support", gives it, since
+/// the name is unknown to Clang; for illumos `-D_REENTRANT`, so that its headers are those of programs with threads
+/// (illumos manual, threads(7)); `-static` and `-shared` where they are set (GCC's manual, "Options for Linking").
+/// Refused for memory, `words` may hold a part of them.
 #[tactic(auto, unfolding(crate::specs::DefaultWords::linkage_words))]
 pub fn push_linkage_words(
     words: &mut Words,
@@ -301,7 +328,8 @@ pub fn push_linkage_words(
     Ok(())
 }
 
-/// Adds the C++ library that is set, for C++ and a compiler that can be told.
+/// Adds `-stdlib=lib` and the name `set_stdlib`, where one is set for C++. Nothing for Visual Studio's compilers,
+/// which can't be told: `cc_plan` then warns. Refused for memory, `words` may hold a part of them.
 #[tactic(auto, unfolding(crate::specs::DefaultWords::standard_library_words))]
 pub fn push_standard_library_words(
     words: &mut Words,
@@ -328,6 +356,7 @@ fn has_address_sanitizer(sanitizers: &str) -> bool
     sanitizers.split(',').any(|name| name == "address")
 }
 
+// Where GCC's and Clang's objects work with the sanitizer's runtime from rustc's LLVM.
 #[tactic(auto, unfolding(crate::specs::DefaultWords::is_x86_64_glibc))]
 fn is_x86_64_glibc(target: &TargetInfo) -> bool
     ensures { result ≡ spec.is_x86_64_glibc (info_seen target.now) }
@@ -335,6 +364,7 @@ fn is_x86_64_glibc(target: &TargetInfo) -> bool
     target.arch == "x86_64" && target.os == "linux" && target.env == "gnu" && target.abi == ""
 }
 
+// Where rustc links the sanitizer's runtime that fits `cl.exe`.
 #[tactic(auto, unfolding(crate::specs::DefaultWords::is_x86_64_visual_studio))]
 fn is_x86_64_visual_studio(target: &TargetInfo) -> bool
     ensures { result ≡ spec.is_x86_64_visual_studio (info_seen target.now) }
@@ -365,7 +395,11 @@ fn wants_sanitizer(
         && is_sanitized(family, target)
 }
 
-/// Adds the address sanitizer, where Cargo's target has it and the compiler is given it; `is_cargos_target` tells that the target is Cargo's.
+/// Adds `-fsanitize=address` where rustc instruments the Rust code so: `CARGO_CFG_SANITIZE` names `address` between
+/// its commas, and the target is Cargo's, of which alone that variable speaks. Only for GCC and Clang on x86_64
+/// Linux with glibc, and `cl.exe` on x86_64 Windows, whose objects fit the runtime that rustc links (GCC's manual,
+/// "Program Instrumentation Options"; Microsoft's page "/fsanitize (Enable sanitizers)"). Refused for memory,
+/// `words` may hold a part of them.
 #[tactic(auto, unfolding(crate::specs::DefaultWords::sanitizer_words))]
 pub fn push_sanitizer_words(
     words: &mut Words,
