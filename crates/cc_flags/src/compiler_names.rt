@@ -36,7 +36,7 @@ fn before_last_dash(name: &str) -> &str
     }
 }
 
-// A MinGW compiler that Clang's distribution names by its target.
+// A wrapper of Clang from llvm-mingw, named by its target.
 #[tactic(auto, unfolding(crate::specs::CompilerNames::is_mingw_clang))]
 fn is_mingw_clang(program: &str) -> bool
     ensures { result ≡ names.is_mingw_clang program.now }

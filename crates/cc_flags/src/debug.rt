@@ -51,7 +51,7 @@ fn push_level_word(words: &mut Words, family: ToolFamily, text: &str) -> Mem<()>
     Ok(())
 }
 
-// Systems whose debuggers read version 2 of DWARF.
+// Systems on which rustc writes version 2 of DWARF.
 #[tactic(auto, unfolding(crate::specs::DebugWords::reads_dwarf_2))]
 fn reads_dwarf_2(target: &TargetInfo) -> bool
     ensures { result ≡ spec.reads_dwarf_2 (info_seen target.now) }
