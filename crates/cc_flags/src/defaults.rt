@@ -1,5 +1,5 @@
-// The words that a target and an optimisation level bring, a function a group. Setters count before what the target
-// wants.
+// The words that a target and an optimisation level bring, a function a group. Setters count before the target. Only
+// want of memory refuses; a part of the words may then stay, and the list is to be dropped.
 ghost use Rattle.std.specs.Prelude.{◌≡◌, ◌++◌, OnOk};
 ghost use Rattle.std.specs.Option.{option_copied};
 ghost use Rattle.cc_target.specs.Targets.{info_seen};
@@ -22,11 +22,9 @@ fn level_text(family: ToolFamily, level: &str) -> &str
     }
 }
 
-/// Adds the level as `-O` and its text; `-Os` for level `z` of GCC, which older releases don't know. Then a section
-/// of its own for each function and datum, so that the linker can leave out what nothing uses (GCC's manual,
-/// "Options That Control Optimization"). Between them `-DANDROID` for Clang on Android, which the NDK's build
-/// systems define, for code that doesn't look at `__ANDROID__`. Refused for memory, `words` may hold a part of
-/// them.
+/// Adds the level as `-O` and its text (`-Os` for level `z` of GCC, which lacked it long), and a section of its own for
+/// each function and datum, so that linkers can drop what is unused (GCC's manual, "Options That Control
+/// Optimization"); between them `-DANDROID` for Clang on Android, as the NDK has it. Refused, a part may stay.
 #[tactic(auto, unfolding(crate::specs::DefaultWords::optimisation_words))]
 pub fn push_optimisation_words(
     words: &mut Words,
@@ -59,11 +57,9 @@ fn is_position_independent(target: &TargetInfo) -> bool
         && target.arch != "wasm64"
 }
 
-/// Adds `-fPIC`, for code that runs wherever it is loaded, where `pic` says so or, unset, the target wants it: not
-/// Windows, UEFI and Vita, not targets without a system, whose linker may not take it, and not WebAssembly, for
-/// which rustc makes none either. With it, on Linux and Android, `-fno-plt` where `use_plt` is false: calls then
-/// skip the procedure linkage table (GCC's manual, "Options for Code Generation Conventions"). Refused for memory,
-/// `words` may hold a part of them.
+/// Adds `-fPIC` where `pic` says so or, unset, the target wants it: not Windows, UEFI, Vita, targets without a system,
+/// whose linker may not take it, and WebAssembly, as rustc. With it, on Linux and Android, `-fno-plt` where `use_plt`
+/// is false (GCC's manual, "Options for Code Generation Conventions"). Refused, a part may stay.
 #[tactic(auto, unfolding(crate::specs::DefaultWords::position_independence_words))]
 pub fn push_position_independence_words(
     words: &mut Words,
@@ -106,9 +102,8 @@ fn push_thread_words(words: &mut Words, name: &str) -> Mem<()>
     Ok(())
 }
 
-/// Adds for WASI, and nothing for other systems: `--sysroot=` and `sysroot`, the value of `WASI_SYSROOT`, where it
-/// is set, since Clang alone has no C library for WASI (WASI SDK's README); `-pthread` where the target's name has
-/// `threads` in it. Refused for memory, `words` may hold a part of them.
+/// Adds for WASI: `--sysroot=` and `sysroot`, the value of `WASI_SYSROOT`, where it is set, since Clang by itself has
+/// no C library for it (WASI SDK's README); `-pthread` where the target's name has `threads`. Refused, a part may stay.
 #[tactic(auto, unfolding(crate::specs::DefaultWords::wasi_words))]
 pub fn push_wasi_words(
     words: &mut Words,
@@ -148,9 +143,7 @@ pub fn is_qnx(target: &TargetInfo) -> bool
     target.os == "nto" || target.os == "qnx"
 }
 
-/// Adds `-V` and the variant by which `qcc`, the compiler of QNX, is told its target (QNX's Utilities Reference,
-/// `qcc`), where the target runs QNX and its full architecture has a variant. Refused for memory, `words` may hold
-/// a part of them.
+/// Adds, for QNX, `-V` and its compiler's variant, where there is one (QNX's manual, `qcc`). Refused, a part may stay.
 #[tactic(auto, unfolding(crate::specs::DefaultWords::qnx_words))]
 pub fn push_qnx_words(words: &mut Words, target: &TargetInfo) -> Mem<()>
     ensures { OnOk result (words.new ≡ words.old ++ spec.qnx_words (info_seen target.now)) }
@@ -163,8 +156,7 @@ pub fn push_qnx_words(words: &mut Words, target: &TargetInfo) -> Mem<()>
     Ok(())
 }
 
-/// Whether GCC or Clang is to compile for QNX on a full architecture for which `qcc` has no variant: then there is
-/// no word for the target, and `cc_plan` refuses it. It takes no memory.
+/// Whether GCC or Clang is to compile for QNX where `qcc` has no variant, which `cc_plan` refuses. It takes no memory.
 #[tactic(auto, unfolding(crate::specs::DefaultWords::lacks_qnx_variant))]
 pub fn lacks_qnx_variant(family: ToolFamily, target: &TargetInfo) -> bool
     ensures { result ≡ spec.lacks_qnx_variant family (info_seen target.now) }
@@ -172,10 +164,8 @@ pub fn lacks_qnx_variant(family: ToolFamily, target: &TargetInfo) -> bool
     is_gnu_like(family) && is_qnx(target) && qnx_variant(target.full_arch).is_none()
 }
 
-/// Adds the width of addresses, since one GCC or Clang makes code of both widths: `-m32` for x86, `-mx32` for the
-/// interface x32, `-m64` for x86_64 and powerpc64 (GCC's manual, "x86 Options" and "RS/6000 and PowerPC Options").
-/// Nothing for other targets and for Visual Studio's compilers. Refused for memory, `words` may hold a part of
-/// them.
+/// Adds the width of addresses, since one GCC or Clang has several: `-m32` for x86, `-mx32` for the interface x32,
+/// `-m64` for x86_64 and powerpc64 (GCC's manual, "x86 Options"). Refused, a part may stay.
 #[tactic(auto, unfolding(crate::specs::DefaultWords::width_words))]
 pub fn push_width_words(words: &mut Words, family: ToolFamily, target: &TargetInfo) -> Mem<()>
     ensures { OnOk result (words.new ≡ words.old ++ spec.width_words family (info_seen target.now)) }
@@ -192,9 +182,8 @@ pub fn push_width_words(words: &mut Words, family: ToolFamily, target: &TargetIn
     Ok(())
 }
 
-/// Whether Clang is to be told its target by `--target`: always, but where the name of `program` says that it is a
-/// wrapper which does so. `compiler` is the compiler that is set, if any: of those for Windows only one that was
-/// found counts as a wrapper. False for other families. It takes no memory.
+/// Whether Clang is to be told its target: not where the name of `program` is a wrapper's that tells it, which for
+/// Windows counts only where no `compiler` is set. False for other families. It takes no memory.
 #[tactic(auto, unfolding(crate::specs::DefaultWords::is_told_target))]
 pub fn is_told_target(
     family: ToolFamily,
@@ -228,8 +217,7 @@ fn push_freebsd_words(
     Ok(())
 }
 
-/// Whether the target is WebAssembly with the system calls of Linux (WALI), whose C library Clang finds by a
-/// sysroot alone: `cc_plan` refuses it where `WASM_MUSL_SYSROOT` isn't set. It takes no memory.
+/// Whether the target is WebAssembly on Linux; `cc_plan` wants `WASM_MUSL_SYSROOT` set for it. It takes no memory.
 #[tactic(auto, unfolding(crate::specs::DefaultWords::is_wasm_linux))]
 pub fn is_wasm_linux(target: &TargetInfo) -> bool
     ensures { result ≡ spec.is_wasm_linux (info_seen target.now) }
@@ -274,11 +262,9 @@ pub(crate) fn push_target_words(words: &mut Words, llvm: &str) -> Mem<()>
     Ok(())
 }
 
-/// Adds `--target=` and LLVM's name `llvm`, without which Clang reads flags as for the system that it runs on (its
-/// page "Cross-compilation using Clang", "Target Triple"). Before it, for C++ on FreeBSD and with no `set_stdlib`,
-/// `-stdlib=libc++`, which Clang 13 and older don't choose by themselves where the target's name has no version;
-/// for `is_wasm_linux` its features, `--sysroot=` and `musl_sysroot` where it is set, and `-pthread`. Refused for
-/// memory, `words` may hold a part of them.
+/// Adds `--target=` and LLVM's name `llvm`, without which Clang reads flags as for the system that it runs on (its page
+/// "Cross-compilation using Clang"). Before it, for C++ on FreeBSD, `-stdlib=libc++` unless `set_stdlib` is set, which
+/// Clang before 14 doesn't choose; for `is_wasm_linux` features, sysroot and threads. Refused, a part may stay.
 #[tactic(auto, unfolding(crate::specs::DefaultWords::clang_target_words))]
 pub fn push_clang_target_words(
     words: &mut Words,
@@ -300,10 +286,9 @@ pub fn push_clang_target_words(
     Ok(())
 }
 
-/// Adds, for the target named `wasm32v1-none`, the features that rustc's book, "Platform Support", gives it, since
-/// the name is unknown to Clang; for illumos `-D_REENTRANT`, so that its headers are those of programs with threads
-/// (illumos manual, threads(7)); `-static` and `-shared` where they are set (GCC's manual, "Options for Linking").
-/// Refused for memory, `words` may hold a part of them.
+/// Adds, for `wasm32v1-none`, the features that rustc's book, "Platform Support", gives it, as Clang lacks the name;
+/// for illumos `-D_REENTRANT`, so that headers are those of programs with threads (its manual, threads(7)); `-static`
+/// and `-shared` where they are set (GCC's manual, "Options for Linking"). Refused, a part may stay.
 #[tactic(auto, unfolding(crate::specs::DefaultWords::linkage_words))]
 pub fn push_linkage_words(
     words: &mut Words,
@@ -328,8 +313,8 @@ pub fn push_linkage_words(
     Ok(())
 }
 
-/// Adds `-stdlib=lib` and the name `set_stdlib`, where one is set for C++. Nothing for Visual Studio's compilers,
-/// which can't be told: `cc_plan` then warns. Refused for memory, `words` may hold a part of them.
+/// Adds `-stdlib=lib` and the name `set_stdlib`, where one is set for C++. Nothing for Visual Studio's compilers, which
+/// can't be told: `cc_plan` then warns. Refused, a part may stay.
 #[tactic(auto, unfolding(crate::specs::DefaultWords::standard_library_words))]
 pub fn push_standard_library_words(
     words: &mut Words,
@@ -356,7 +341,6 @@ fn has_address_sanitizer(sanitizers: &str) -> bool
     sanitizers.split(',').any(|name| name == "address")
 }
 
-// Where GCC's and Clang's objects work with the sanitizer's runtime from rustc's LLVM.
 #[tactic(auto, unfolding(crate::specs::DefaultWords::is_x86_64_glibc))]
 fn is_x86_64_glibc(target: &TargetInfo) -> bool
     ensures { result ≡ spec.is_x86_64_glibc (info_seen target.now) }
@@ -364,7 +348,6 @@ fn is_x86_64_glibc(target: &TargetInfo) -> bool
     target.arch == "x86_64" && target.os == "linux" && target.env == "gnu" && target.abi == ""
 }
 
-// Where rustc links the sanitizer's runtime that fits `cl.exe`.
 #[tactic(auto, unfolding(crate::specs::DefaultWords::is_x86_64_visual_studio))]
 fn is_x86_64_visual_studio(target: &TargetInfo) -> bool
     ensures { result ≡ spec.is_x86_64_visual_studio (info_seen target.now) }
@@ -395,11 +378,9 @@ fn wants_sanitizer(
         && is_sanitized(family, target)
 }
 
-/// Adds `-fsanitize=address` where rustc instruments the Rust code so: `CARGO_CFG_SANITIZE` names `address` between
-/// its commas, and the target is Cargo's, of which alone that variable speaks. Only for GCC and Clang on x86_64
-/// Linux with glibc, and `cl.exe` on x86_64 Windows, whose objects fit the runtime that rustc links (GCC's manual,
-/// "Program Instrumentation Options"; Microsoft's page "/fsanitize (Enable sanitizers)"). Refused for memory,
-/// `words` may hold a part of them.
+/// Adds `-fsanitize=address` where `CARGO_CFG_SANITIZE`, which speaks of Cargo's target alone, has `address`. Only for
+/// GCC and Clang on x86_64 Linux with glibc, and `cl.exe` on x86_64 Windows, whose objects fit the runtime that rustc
+/// links (GCC's manual, "Program Instrumentation Options"). Refused, a part may stay.
 #[tactic(auto, unfolding(crate::specs::DefaultWords::sanitizer_words))]
 pub fn push_sanitizer_words(
     words: &mut Words,
