@@ -18,7 +18,7 @@ use std::marker::Model;
 pub struct NotSet;
 
 /// The variables of an environment at one time. Two are equal where they have the same names and values in the same
-/// order. Its `Debug` text tells how many variables there are and none of them, since values may be secret.
+/// order. Its `Debug` text gives how many variables there are and none of them, since values may be secret.
 ///
 /// Contracts see a list of names and values in which no name is there twice.
 #[derive(Drop)]

@@ -1,4 +1,4 @@
-// The words for debug information and for frame pointers. How much is wanted is told as in Cargo's profiles (The
+// The words for debug information and for frame pointers. How much is wanted is said as in Cargo's profiles (The
 // Cargo Book, "Profiles", `debug`); words are those of GCC's manual, "Options for Debugging Your Program" and
 // "Options That Control Optimization", and of Microsoft's page "/Z7, /Zi, /ZI (Debug Information Format)".
 ghost use Rattle.std.specs.Prelude.{◌≡◌, ◌++◌, OnOk};
@@ -152,8 +152,7 @@ fn push_kept_words(words: &mut Words, takes_leaf: bool) -> Mem<()>
 }
 
 /// Adds the words that keep frame pointers, where `keeps_frame_pointers` holds: `-fno-omit-frame-pointer`, and the
-/// word for leaves where `takes_leaf` tells that the compiler takes it. Refused for memory, `words` may hold a part
-/// of them.
+/// word for leaves where the compiler takes it (`takes_leaf`). Refused for memory, `words` may hold a part of them.
 #[tactic(auto, unfolding(crate::specs::DebugWords::frame_pointer_words))]
 pub fn push_frame_pointer_words(
     words: &mut Words,

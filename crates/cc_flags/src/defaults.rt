@@ -182,8 +182,8 @@ pub fn push_width_words(words: &mut Words, family: ToolFamily, target: &TargetIn
     Ok(())
 }
 
-/// Whether Clang is to be told its target: not where the name of `program` is a wrapper's that tells it, which for
-/// Windows counts only where no `compiler` is set. False for other families. It takes no memory.
+/// Whether Clang is to get `--target`: not where the name of `program` is a wrapper's that gives it, which for Windows
+/// counts only where no `compiler` is set. False for other families. It takes no memory.
 #[tactic(auto, unfolding(crate::specs::DefaultWords::is_told_target))]
 pub fn is_told_target(
     family: ToolFamily,
@@ -314,7 +314,7 @@ pub fn push_linkage_words(
 }
 
 /// Adds `-stdlib=lib` and the name `set_stdlib`, where one is set for C++. Nothing for Visual Studio's compilers, which
-/// can't be told: `cc_plan` then warns. Refused, a part may stay.
+/// have no such word: `cc_plan` then warns. Refused, a part may stay.
 #[tactic(auto, unfolding(crate::specs::DefaultWords::standard_library_words))]
 pub fn push_standard_library_words(
     words: &mut Words,

@@ -4,7 +4,7 @@ ghost use Rattle.cc_flags.specs.declared.error.FlagError.TheVariants.{NoMemory a
 
 use cc_text::{NoMemory, Text};
 
-/// Why rustflags are refused. Then no field of them is told.
+/// Why rustflags are refused. No field of them is given then.
 #[derive(Drop, Debug, PartialEq, Eq)]
 pub enum FlagError {
     /// The flag of this key, as `-Cdwarf-version`, lacks the value that it needs, or its value is no number of 32

@@ -41,10 +41,10 @@ fn has_neon(target: &TargetInfo) -> bool
     has(target.full_arch, "neon")
 }
 
-/// Adds `-static` where `crt` tells that rustc links its C library so and `static_flag` isn't set; then, for Armv7,
-/// what each processor of Rust's target has: on Linux `-march=armv7-a`, and for `eabihf` the least floating-point
-/// unit and calls by its registers; on Android what the NDK's guide "Android ABIs" promises of `armeabi-v7a`; and
-/// NEON where the full architecture names it. Refused for memory, `words` may hold a part of them.
+/// Adds `-static` where rustc links its C library so (`crt`) and `static_flag` isn't set; then, for Armv7, what
+/// each processor of Rust's target has: on Linux `-march=armv7-a`, and for `eabihf` the least floating-point unit
+/// and calls by its registers; on Android what the NDK's guide "Android ABIs" promises of `armeabi-v7a`; and NEON
+/// where the full architecture names it. Refused for memory, `words` may hold a part of them.
 #[tactic(auto, unfolding(crate::specs::GnuWords::gnu_words, cc_text::specs::Words::choose))]
 pub fn push_gnu_words(
     words: &mut Words,

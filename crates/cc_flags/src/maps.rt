@@ -1,4 +1,4 @@
-// The words that map the folders of sources to others, so that objects don't tell where they were built: GCC's
+// The words that map the folders of sources to others, so that objects don't show where they were built: GCC's
 // manual, "Options Controlling the Preprocessor", `-fmacro-prefix-map`, and "Options for Debugging Your Program",
 // `-fdebug-prefix-map`; for `clang-cl` Clang Compiler User's Manual, "The /clang: Option". Older compilers lack
 // them: GCC 8 and Clang 10 were the first to have both, so that each compiler is asked.
@@ -12,10 +12,10 @@ use cc_env::EnvSnapshot;
 use cc_text::{Mem, Text, ToolFamily, Vars, Words, is_among, is_cl, is_clang_cl, quoted};
 use std::alloc::Global;
 
-/// Which paths are to be told as others.
+/// Which paths in objects are to be mapped to others.
 #[derive(Clone, Copy, Debug)]
 pub struct Maps {
-    /// Those that macros tell, as `__FILE__`.
+    /// Those that macros give, as `__FILE__`.
     pub macros: bool,
     /// Those in debug information.
     pub debug: bool,
@@ -90,7 +90,7 @@ fn push_pair_words(
 }
 
 /// Adds for each pair `FROM=TO`, in order, the map of macros and that of debug information, as `maps` wants them
-/// and as the family spells them: a path that begins with `FROM` is told as beginning with `TO`. Refused for
+/// and as the family spells them: of a path that begins with `FROM`, that part is replaced by `TO`. Refused for
 /// memory, `words` may hold a part of them.
 #[tactic(auto, unfolding(crate::specs::MapWords::pairs_words))]
 pub fn push_pairs_words(

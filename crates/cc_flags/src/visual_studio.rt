@@ -86,8 +86,8 @@ fn push_cl_words(words: &mut Words, target: &TargetInfo) -> Mem<()>
     Ok(())
 }
 
-// Rust's targets for Windows on x86 want SSE2, which `clang-cl` is told and `cl.exe` takes for granted; `i586` is
-// held to less (Microsoft's page "/arch (x86)").
+// Rust's targets for Windows on x86 want SSE2, which `clang-cl` gets by a flag and `cl.exe` takes for granted;
+// `i586` is held to less (Microsoft's page "/arch (x86)").
 #[tactic(auto, unfolding(crate::specs::VisualStudioWords::instruction_words))]
 fn push_instruction_words(
     words: &mut Words,

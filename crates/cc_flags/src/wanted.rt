@@ -337,9 +337,9 @@ fn push_msvc_words(words: &mut Words, flags: &RustcCodegenFlags, target: &Target
 }
 
 impl RustcCodegenFlags {
-    /// The words by which a C compiler of the family is told what these flags say, in a fixed order. Code models
-    /// are handed on as they are; of other values, one that C compilers have no word for gives none. A compiler
-    /// that lacks a word is found out by asking it, which `cc_plan` does.
+    /// The words that say to a C compiler of the family what these flags say, in a fixed order. Code models are
+    /// handed on as they are; of other values, one that C compilers have no word for gives none. A compiler that
+    /// lacks a word is found out by asking it, which `cc_plan` does.
     ///
     /// The processor, the kind of LTO and profiles are not handed on: processors are named otherwise, and profiles
     /// are bound to one version of LLVM, so that objects of another one crash. Only want of memory refuses; nothing

@@ -30,7 +30,7 @@ pub trait Jobs {
     /// How often the pool failed this seat. It never falls.
     ghost faults: { Self.Seat → ℕ };
 
-    /// How many tokens the whole pool has, told where one caller owns it.
+    /// How many tokens the whole pool has, known where one caller owns it.
     ghost total: { Self.Seat → Option ℕ };
 
     /// How many tokens the seat took so far. It stands still at the greatest u64.
@@ -41,7 +41,7 @@ pub trait Jobs {
     ghost load: { Self.Seat → ℕ };
 
     /// Asks for a token. `Token` raises what the seat holds by one; `Pending` and a fault leave it. Where the total
-    /// is told, `Pending` comes exactly where the seat holds them all. The caller sees to it that the seat holds
+    /// is known, `Pending` comes exactly where the seat holds them all. The caller sees to it that the seat holds
     /// fewer than the greatest u64.
     fn take(&self, seat: &mut Self::Seat) -> Result<Take, JobFault>
         requires fits { fits self.now seat.old }
