@@ -8,7 +8,8 @@ use cc_text::{Mem, Vars};
 use std::alloc::Global;
 use std::collections::BTreeMap;
 
-// From each name to its place.
+/// From each name of a list to the place of its pair, counted from 0, so that look-ups need not go through the
+/// list.
 pub type Places = BTreeMap<String, usize>;
 
 // The place of a name in the first map that has it.
@@ -45,7 +46,8 @@ fn put(
     Ok(())
 }
 
-// Puts each entry, in order.
+/// Gives each entry's name its value, in order: in place where the name is there, else in a pair added last.
+/// Refused for memory, `vars` and `more` may hold a part of the entries, and their caller drops both.
 pub fn put_all(
     alloc: Global,
     vars: &mut Vars,

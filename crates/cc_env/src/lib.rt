@@ -1,8 +1,9 @@
-//! Environments: a snapshot of variables, the variables of a child, and the look-ups by target and host.
+//! Environments: a snapshot of variables, the variables of a child, and the look-ups by target and host. No call
+//! reads the process: who calls hands the variables in.
 //!
-//! Stands on `cc_text`. Contracts see an `EnvSnapshot` as a list of pairs with distinct names, and a `BuildEnv` as a
-//! snapshot and a list of explicit entries. The crates above use two things: of a name that is given more than once
-//! the last value counts, and the variables of a child are `child_of` of the two lists.
+//! Stands on `cc_text`. Contracts see an `EnvSnapshot` as a list of pairs with distinct names, and a `BuildEnv` as
+//! a snapshot and a list of explicit entries. The crates above use two things: of a name that is given more than
+//! once the last value counts, and the variables of a child are `child_of` of the two lists.
 #![tactic(auto)]
 
 mod build_env;

@@ -1,4 +1,5 @@
-// Look-ups by the names of a target and a host.
+// Look-ups by the names of a target and a host: the order is that of the crate `cc`, its documentation, "External
+// configuration via environment variables".
 ghost use Rattle.std.specs.Prelude.{◌≡◌, [], IfOk};
 ghost use Rattle.cc_env.specs.Names.{single_of, flags_of, flag_words as words_of_value};
 
@@ -6,7 +7,9 @@ use crate::{EnvSnapshot, target_envs};
 use cc_text::{Mem, Text, Words, ascii_words, shell_words};
 use std::alloc::Global;
 
-/// The value of a variable for a target and a host: that of the first of its names that is set, or none.
+/// The value of a variable for a target and a host, as `CC`: that of the first of the names `target_envs` that is
+/// set, so that the more specific one wins; none where none is set. A name that is set to the empty text counts as
+/// set. Only want of memory refuses; nothing is kept then.
 pub fn single(
     alloc: Global,
     env: &EnvSnapshot,
@@ -36,8 +39,10 @@ fn flag_words(alloc: Global, value: &str, shell: bool) -> Mem<Words>
     }
 }
 
-/// The words of a list of flags for a target and a host: those of each of its names that is set, from the last name
-/// to the first; none where no name is set. Where `shell` holds, a value is split as a shell does, else at blanks.
+/// The words of a list of flags for a target and a host, as `CFLAGS`: those of each of the names `target_envs` that
+/// is set, from the last name to the first, so that the more specific flags come later and win; none where no name
+/// is set. Where `shell` holds, a value is split as a POSIX shell quotes words, else at ASCII blanks. Only want of
+/// memory refuses; nothing is kept then.
 pub fn flags_of(
     alloc: Global,
     env: &EnvSnapshot,

@@ -23,9 +23,10 @@ fn underscored(alloc: Global, text: &str) -> Mem<Text>
     Ok(out)
 }
 
-/// The names of a variable for a target and a host, in the order in which they are looked up: with the target, with
-/// the target in which each `-` and each `.` is `_`, with `HOST` where the two are the same, else with `TARGET`, and
-/// alone. As the documentation of the crate `cc` has them.
+/// The four names of a variable for a target and a host, in the order in which they are looked up: with `_` and the
+/// target; with `_` and the target in which each `-` and each `.` is `_`, since many shells take no other name;
+/// after `HOST_` where target and host are the same, else after `TARGET_`; alone. As the documentation of the crate
+/// `cc` has them. Only want of memory refuses; nothing is kept then.
 #[tactic(auto, unfolding(crate::specs::Names::target_names))]
 pub fn target_envs(alloc: Global, var: &str, target: &str, host: &str) -> Mem<Words>
     ensures { IfOk result (λ words. words ≡ target_names var.now target.now host.now) }

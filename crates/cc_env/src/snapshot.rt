@@ -1,4 +1,4 @@
-// A snapshot of an environment.
+// A snapshot of an environment, which no later change of the process reaches.
 ghost use Rattle.std.specs.Prelude.{◌≡◌, ◌↔◌, [], ◌++◌, List, ℕ, IfOk, IsErr, IsTrue, Some, None, bytes_eq};
 ghost use Rattle.std.specs.Option.{option_copied};
 ghost use Rattle.std.specs.Cmp.{partial_equiv_from_equiv};
@@ -13,11 +13,14 @@ use std::collections::BTreeMap;
 use std::fmt;
 use std::marker::Model;
 
-/// A name that isn't set.
+/// The name isn't set in the snapshot. Set to the empty text is set.
 #[derive(Clone, Copy, Debug, PartialEq, Eq)]
 pub struct NotSet;
 
-/// The variables of an environment. Contracts see a list of names and values in which no name is there twice.
+/// The variables of an environment at one time. Two are equal where they have the same names and values in the same
+/// order. Its `Debug` text gives how many variables there are and none of them, since values may be secret.
+///
+/// Contracts see a list of names and values in which no name is there twice.
 #[derive(Drop)]
 pub struct EnvSnapshot {
     alloc: Global,
@@ -49,7 +52,8 @@ impl EnvSnapshot {
         }
     }
 
-    /// The snapshot of some pairs: each name once, at the place of its first pair, with its last value.
+    /// The snapshot of some pairs: each name once, at the place of its first pair, with the value of its last. The
+    /// pairs are copied. Only want of memory refuses; nothing is kept then.
     pub fn from_vars(alloc: Global, vars: &Vars) -> Mem<EnvSnapshot>
         ensures snapshot { IfOk result (λ env. env ≡ snapshot_of vars.now) }
         ensures last { IfOk result (λ env. (name : List ℕ)
@@ -65,7 +69,7 @@ impl EnvSnapshot {
         })
     }
 
-    /// The value of a name, or none where it isn't set. It takes no memory.
+    /// The value of a name, lent, or none where it isn't set. Case counts. It takes no memory.
     pub fn get(&self, name: &str) -> Option<&str>
         ensures { option_copied result ≡ last_value self.now name.now }
     {
@@ -74,7 +78,8 @@ impl EnvSnapshot {
         Some(value.as_str())
     }
 
-    /// The value of a name that Cargo sets. `NotSet` comes where it isn't set, and only there. It takes no memory.
+    /// The value of a name that Cargo sets for build scripts (The Cargo Book, "Environment Variables"), lent.
+    /// Refused with `NotSet` exactly where it isn't set, as when no build script runs. It takes no memory.
     pub fn get_cargo_var(&self, name: &str) -> Result<&str, NotSet>
         ensures set { IfOk result (λ value. last_value self.now name.now ≡ Some value.now) }
         ensures unset { IsErr result ↔ (last_value self.now name.now ≡ None) }
@@ -85,7 +90,7 @@ impl EnvSnapshot {
         }
     }
 
-    /// The variables in order, lent.
+    /// The variables in order, lent; no name is there twice. It takes no memory.
     pub fn vars(&self) -> &Vars
         ensures vars { result.now ≡ self.now }
         ensures distinct { HasDistinctKeys bytes_eq self.now }
@@ -94,7 +99,8 @@ impl EnvSnapshot {
     }
 
     /// The variables of a child that inherits these and is given some entries: each entry, in order, replaces the
-    /// value of its name, or is added last.
+    /// value of its name, or is added last. The snapshot stays as it is. Only want of memory refuses; nothing is
+    /// kept then.
     pub fn child_vars(&self, alloc: Global, entries: &Vars) -> Mem<Vars>
         ensures child { IfOk result (λ vars. vars ≡ child_of self.now entries.now) }
         ensures last { IfOk result (λ vars. (name : List ℕ)
@@ -108,7 +114,7 @@ impl EnvSnapshot {
         Ok(vars)
     }
 
-    /// A second snapshot of the same variables.
+    /// A second snapshot of the same variables. Only want of memory refuses; nothing is kept then.
     pub fn try_clone(&self) -> Mem<EnvSnapshot>
         ensures { IfOk result (λ env. env ≡ self.now) }
     {

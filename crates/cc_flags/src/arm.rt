@@ -1,4 +1,5 @@
-// The table of Arm processors.
+// The table of Arm processors: GCC's manual, "ARM Options", `-march` and `-mfpu`; names of targets: rustc's book,
+// "Platform Support".
 ghost use Rattle.std.specs.Prelude.{◌≡◌, ◌++◌, OnOk, map, find, option_map};
 ghost use Rattle.std.specs.Option.{option_copied};
 ghost use Rattle.cc_flags.specs.GnuWords.{arm_lines, arm_line, arm_seen, arm_words};
@@ -24,6 +25,10 @@ macro_rules! row {
     };
 }
 
+// Where the name of an Arm target has the version of its architecture, GCC gets it too, so that it makes no
+// instruction that the target's processors lack; the first prefix that fits counts. The second list names the least
+// floating-point unit of those processors, for targets that hand floats over in its registers. `armv6s-m` is the
+// older name of Armv6-M with the supervisor call; some assemblers still distinguish the two.
 static ARM_ROWS: [ArmRow; 14] = [
     row!("thumbv6m", ["-march=armv6s-m"], []),
     row!("thumbv7m", ["-march=armv7-m"], []),

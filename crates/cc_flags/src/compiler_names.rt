@@ -1,4 +1,6 @@
-// What the name of a compiler's file says.
+// What the name of a compiler's file says. The Android NDK (its guide "Use the NDK with other build systems") and
+// llvm-mingw ship wrappers of Clang that are named by their target and hand Clang that target's `--target`; a
+// second one from here would override it.
 ghost use Rattle.std.specs.Prelude.{◌≡◌};
 ghost use Rattle.std.specs.Option.{option_copied};
 ghost use Rattle.cc_text.specs.Case.{lowered};
@@ -9,7 +11,7 @@ ghost use Rattle.cc_text.specs.Within.{is_within};
 use cc_target::TargetInfo;
 use cc_text::{contains_ignore_ascii_case, ends_with_ignore_ascii_case, file_name};
 
-/// The file name of a path, or the empty name.
+/// The file name of a path, lent, or the empty text where it has none. It takes no memory.
 #[tactic(auto, unfolding(crate::specs::CompilerNames::name_of))]
 pub fn name_of(path: &str) -> &str
     ensures { result.now ≡ names.name_of path.now }
@@ -34,7 +36,7 @@ fn before_last_dash(name: &str) -> &str
     }
 }
 
-// A MinGW compiler that Clang's distribution names by its target.
+// A wrapper of Clang from llvm-mingw, named by its target.
 #[tactic(auto, unfolding(crate::specs::CompilerNames::is_mingw_clang))]
 fn is_mingw_clang(program: &str) -> bool
     ensures { result ≡ names.is_mingw_clang program.now }

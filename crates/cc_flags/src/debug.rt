@@ -1,4 +1,6 @@
-// The words for debug information and for frame pointers.
+// The words for debug information and for frame pointers. How much is wanted is said as in Cargo's profiles (The
+// Cargo Book, "Profiles", `debug`); words are those of GCC's manual, "Options for Debugging Your Program" and
+// "Options That Control Optimization", and of Microsoft's page "/Z7, /Zi, /ZI (Debug Information Format)".
 ghost use Rattle.std.specs.Prelude.{◌≡◌, ◌++◌, OnOk};
 ghost use Rattle.std.specs.Option.{option_copied};
 ghost use Rattle.cc_target.specs.Targets.{info_seen};
@@ -49,7 +51,7 @@ fn push_level_word(words: &mut Words, family: ToolFamily, text: &str) -> Mem<()>
     Ok(())
 }
 
-// Systems whose debuggers read version 2 of DWARF.
+// Systems on which rustc writes version 2 of DWARF.
 #[tactic(auto, unfolding(crate::specs::DebugWords::reads_dwarf_2))]
 fn reads_dwarf_2(target: &TargetInfo) -> bool
     ensures { result ≡ spec.reads_dwarf_2 (info_seen target.now) }
@@ -95,7 +97,11 @@ fn push_wanted_debug_words(
     Ok(())
 }
 
-/// Adds the words for debug information, where `debug` asks for it: `-Z7` for Visual Studio, else `-g`, its level and the version of DWARF.
+/// Adds the words for debug information, where `debug` asks for it: any text does but the empty one, `0`, `false`
+/// and `none`. `-Z7` for Visual Studio's compilers, so that it stays in the objects. Else `-g1` where line tables
+/// are enough, `-gline-directives-only` where Clang is asked for those, `-g` for all other texts, as too much does
+/// less harm than too little; and then, on Linux, Android, BSDs and MinGW, the version of DWARF that rustc has
+/// there. Refused for memory, `words` may hold a part of them.
 #[tactic(auto, unfolding(crate::specs::DebugWords::debug_words))]
 pub fn push_debug_words(
     words: &mut Words,
@@ -114,7 +120,8 @@ pub fn push_debug_words(
     Ok(())
 }
 
-/// GCC or Clang keeps frame pointers: as it is set, else where debug information is wanted.
+/// Whether GCC or Clang is to keep frame pointers: as `force` says, else where `debug` asks for debug information,
+/// so that whoever reads it can also walk the stack. False for Visual Studio's compilers. It takes no memory.
 #[tactic(auto, unfolding(crate::specs::DebugWords::keeps_frame_pointers))]
 pub fn keeps_frame_pointers(family: ToolFamily, force: Option<bool>, debug: Option<&str>) -> bool
     ensures { result ≡ spec.keeps_frame_pointers family force (option_copied debug.entry) }
@@ -122,7 +129,9 @@ pub fn keeps_frame_pointers(family: ToolFamily, force: Option<bool>, debug: Opti
     is_gnu_like(family) && force.unwrap_or(has_debug(debug))
 }
 
-/// Adds the word that keeps the frame pointers of leaves, where it is wanted.
+/// Adds `-mno-omit-leaf-frame-pointer`, which keeps frame pointers also in functions that call no other, where it
+/// is `wanted` (GCC's manual, "x86 Options"). Not every target of GCC has the flag, so that the compiler is asked
+/// about it first. Refused for memory, `words` may hold a part of them.
 pub fn push_leaf_word(words: &mut Words, wanted: bool) -> Mem<()>
     ensures { OnOk result (words.new ≡ words.old ++ when wanted spec.leaf_word) }
 {
@@ -142,7 +151,8 @@ fn push_kept_words(words: &mut Words, takes_leaf: bool) -> Mem<()>
     Ok(())
 }
 
-/// Adds the words that keep frame pointers, where they are kept; `takes_leaf` tells whether the compiler takes the word for leaves.
+/// Adds the words that keep frame pointers, where `keeps_frame_pointers` holds: `-fno-omit-frame-pointer`, and the
+/// word for leaves where the compiler takes it (`takes_leaf`). Refused for memory, `words` may hold a part of them.
 #[tactic(auto, unfolding(crate::specs::DebugWords::frame_pointer_words))]
 pub fn push_frame_pointer_words(
     words: &mut Words,

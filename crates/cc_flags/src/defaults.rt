@@ -1,4 +1,5 @@
-// The words that a target and an optimisation level bring, a function a group.
+// The words that a target and an optimisation level bring, a function a group. Setters count before the target. Only
+// want of memory refuses; a part of the words may then stay, and the list is to be dropped.
 ghost use Rattle.std.specs.Prelude.{◌≡◌, ◌++◌, OnOk};
 ghost use Rattle.std.specs.Option.{option_copied};
 ghost use Rattle.cc_target.specs.Targets.{info_seen};
@@ -21,7 +22,9 @@ fn level_text(family: ToolFamily, level: &str) -> &str
     }
 }
 
-/// Adds the optimisation level as the family spells it, and a section of its own for each function and datum.
+/// Adds the level as `-O` and its text (`-Os` for level `z` of GCC, which lacked it long), and a section of its own for
+/// each function and datum, so that linkers can drop what is unused (GCC's manual, "Options That Control
+/// Optimization"); between them `-DANDROID` for Clang on Android, as the NDK has it. Refused, a part may stay.
 #[tactic(auto, unfolding(crate::specs::DefaultWords::optimisation_words))]
 pub fn push_optimisation_words(
     words: &mut Words,
@@ -54,7 +57,9 @@ fn is_position_independent(target: &TargetInfo) -> bool
         && target.arch != "wasm64"
 }
 
-/// Adds what makes code that runs wherever it is loaded: as it is set, else as the target wants it; `-fno-plt` where calls go without a table.
+/// Adds `-fPIC` where `pic` says so or, unset, the target wants it: not Windows, UEFI, Vita, targets without a system,
+/// whose linker may not take it, and WebAssembly, as rustc. With it, on Linux and Android, `-fno-plt` where `use_plt`
+/// is false (GCC's manual, "Options for Code Generation Conventions"). Refused, a part may stay.
 #[tactic(auto, unfolding(crate::specs::DefaultWords::position_independence_words))]
 pub fn push_position_independence_words(
     words: &mut Words,
@@ -97,7 +102,8 @@ fn push_thread_words(words: &mut Words, name: &str) -> Mem<()>
     Ok(())
 }
 
-/// Adds, for WASI, the sysroot where it is set, and threads where the target's name has them.
+/// Adds for WASI: `--sysroot=` and `sysroot`, the value of `WASI_SYSROOT`, where it is set, since Clang by itself has
+/// no C library for it (WASI SDK's README); `-pthread` where the target's name has `threads`. Refused, a part may stay.
 #[tactic(auto, unfolding(crate::specs::DefaultWords::wasi_words))]
 pub fn push_wasi_words(
     words: &mut Words,
@@ -129,7 +135,7 @@ fn qnx_variant(full_arch: &str) -> Option<&'static str>
     }
 }
 
-/// The target runs QNX.
+/// Whether the target runs QNX, by either name that its system has: `nto` or `qnx`. It takes no memory.
 #[tactic(auto, unfolding(crate::specs::DefaultWords::is_qnx))]
 pub fn is_qnx(target: &TargetInfo) -> bool
     ensures { result ≡ spec.is_qnx (info_seen target.now) }
@@ -137,7 +143,7 @@ pub fn is_qnx(target: &TargetInfo) -> bool
     target.os == "nto" || target.os == "qnx"
 }
 
-/// Adds the variant of QNX's compiler, where the target runs QNX and its architecture has one.
+/// Adds, for QNX, `-V` and its compiler's variant, where there is one (QNX's manual, `qcc`). Refused, a part may stay.
 #[tactic(auto, unfolding(crate::specs::DefaultWords::qnx_words))]
 pub fn push_qnx_words(words: &mut Words, target: &TargetInfo) -> Mem<()>
     ensures { OnOk result (words.new ≡ words.old ++ spec.qnx_words (info_seen target.now)) }
@@ -150,7 +156,7 @@ pub fn push_qnx_words(words: &mut Words, target: &TargetInfo) -> Mem<()>
     Ok(())
 }
 
-/// GCC or Clang is to compile for QNX on an architecture for which QNX's compiler has no variant.
+/// Whether GCC or Clang is to compile for QNX where `qcc` has no variant, which `cc_plan` refuses. It takes no memory.
 #[tactic(auto, unfolding(crate::specs::DefaultWords::lacks_qnx_variant))]
 pub fn lacks_qnx_variant(family: ToolFamily, target: &TargetInfo) -> bool
     ensures { result ≡ spec.lacks_qnx_variant family (info_seen target.now) }
@@ -158,7 +164,8 @@ pub fn lacks_qnx_variant(family: ToolFamily, target: &TargetInfo) -> bool
     is_gnu_like(family) && is_qnx(target) && qnx_variant(target.full_arch).is_none()
 }
 
-/// Adds the width of addresses for GCC and Clang: `-m32`, `-mx32`, `-m64` or nothing.
+/// Adds the width of addresses, since one GCC or Clang has several: `-m32` for x86, `-mx32` for the interface x32,
+/// `-m64` for x86_64 and powerpc64 (GCC's manual, "x86 Options"). Refused, a part may stay.
 #[tactic(auto, unfolding(crate::specs::DefaultWords::width_words))]
 pub fn push_width_words(words: &mut Words, family: ToolFamily, target: &TargetInfo) -> Mem<()>
     ensures { OnOk result (words.new ≡ words.old ++ spec.width_words family (info_seen target.now)) }
@@ -175,7 +182,8 @@ pub fn push_width_words(words: &mut Words, family: ToolFamily, target: &TargetIn
     Ok(())
 }
 
-/// Clang is told its target, unless the name of `program` does that; `compiler` is the compiler that is set.
+/// Whether Clang is to get `--target`: not where the name of `program` is a wrapper's that gives it, which for Windows
+/// counts only where no `compiler` is set. False for other families. It takes no memory.
 #[tactic(auto, unfolding(crate::specs::DefaultWords::is_told_target))]
 pub fn is_told_target(
     family: ToolFamily,
@@ -209,7 +217,7 @@ fn push_freebsd_words(
     Ok(())
 }
 
-/// WebAssembly on Linux, the one kind that has threads and a C library to be found by its sysroot.
+/// Whether the target is WebAssembly on Linux; `cc_plan` wants `WASM_MUSL_SYSROOT` set for it. It takes no memory.
 #[tactic(auto, unfolding(crate::specs::DefaultWords::is_wasm_linux))]
 pub fn is_wasm_linux(target: &TargetInfo) -> bool
     ensures { result ≡ spec.is_wasm_linux (info_seen target.now) }
@@ -254,7 +262,9 @@ pub(crate) fn push_target_words(words: &mut Words, llvm: &str) -> Mem<()>
     Ok(())
 }
 
-/// Adds what tells Clang its target by LLVM's name, and before it what the target's C and C++ libraries want.
+/// Adds `--target=` and LLVM's name `llvm`, without which Clang reads flags as for the system that it runs on (its page
+/// "Cross-compilation using Clang"). Before it, for C++ on FreeBSD, `-stdlib=libc++` unless `set_stdlib` is set, which
+/// Clang before 14 doesn't choose; for `is_wasm_linux` features, sysroot and threads. Refused, a part may stay.
 #[tactic(auto, unfolding(crate::specs::DefaultWords::clang_target_words))]
 pub fn push_clang_target_words(
     words: &mut Words,
@@ -276,7 +286,9 @@ pub fn push_clang_target_words(
     Ok(())
 }
 
-/// Adds how the target or the settings want to be linked.
+/// Adds, for `wasm32v1-none`, the features that rustc's book, "Platform Support", gives it, as Clang lacks the name;
+/// for illumos `-D_REENTRANT`, so that headers are those of programs with threads (its manual, threads(7)); `-static`
+/// and `-shared` where they are set (GCC's manual, "Options for Linking"). Refused, a part may stay.
 #[tactic(auto, unfolding(crate::specs::DefaultWords::linkage_words))]
 pub fn push_linkage_words(
     words: &mut Words,
@@ -301,7 +313,8 @@ pub fn push_linkage_words(
     Ok(())
 }
 
-/// Adds the C++ library that is set, for C++ and a compiler that can be told.
+/// Adds `-stdlib=lib` and the name `set_stdlib`, where one is set for C++. Nothing for Visual Studio's compilers, which
+/// have no such word: `cc_plan` then warns. Refused, a part may stay.
 #[tactic(auto, unfolding(crate::specs::DefaultWords::standard_library_words))]
 pub fn push_standard_library_words(
     words: &mut Words,
@@ -365,7 +378,9 @@ fn wants_sanitizer(
         && is_sanitized(family, target)
 }
 
-/// Adds the address sanitizer, where Cargo's target has it and the compiler is given it; `is_cargos_target` tells that the target is Cargo's.
+/// Adds `-fsanitize=address` where `CARGO_CFG_SANITIZE`, which speaks of Cargo's target alone, has `address`. Only for
+/// GCC and Clang on x86_64 Linux with glibc, and `cl.exe` on x86_64 Windows, whose objects fit the runtime that rustc
+/// links (GCC's manual, "Program Instrumentation Options"). Refused, a part may stay.
 #[tactic(auto, unfolding(crate::specs::DefaultWords::sanitizer_words))]
 pub fn push_sanitizer_words(
     words: &mut Words,

@@ -4,12 +4,13 @@ ghost use Rattle.cc_flags.specs.declared.error.FlagError.TheVariants.{NoMemory a
 
 use cc_text::{NoMemory, Text};
 
-/// Why rustflags are refused.
+/// Why rustflags are refused. No field of them is given then.
 #[derive(Drop, Debug, PartialEq, Eq)]
 pub enum FlagError {
-    /// The flag of this key lacks the value that it needs, or its value is no number of 32 bits where one is needed.
+    /// The flag of this key, as `-Cdwarf-version`, lacks the value that it needs, or its value is no number of 32
+    /// bits where one is needed.
     InvalidFlag(Text),
-    /// Memory was refused.
+    /// Memory was refused; the flags may be right.
     NoMemory,
 }
 

@@ -1,4 +1,5 @@
-// The features of x86 that rustc and C compilers both know.
+// The features of x86 that rustc and C compilers both know: The Rust Reference, "Code generation attributes"; GCC's
+// manual, "x86 Options".
 ghost use Rattle.std.specs.Prelude.{◌≡◌, IfOk, map, find, bytes_eq, option_map};
 ghost use Rattle.std.specs.Option.{option_copied};
 ghost use Rattle.cc_flags.specs.Features.{feature_seen, features, feature_of, c_name, signed, is_x86, feature_word};
@@ -7,7 +8,8 @@ use crate::RustcCodegenFlags;
 use cc_text::{Mem, Text, after_prefix};
 use std::alloc::Global;
 
-/// The names: rustc's, then that of GCC and Clang.
+/// The names: rustc's, then that of GCC and Clang, which differ in the last four. `sse` and `sse2` are left out:
+/// each x86_64 processor has them, and without them GCC refuses C functions that return floats.
 static FEATURES: [(&'static str, &'static str); 43] = [
     ("adx", "adx"),
     ("aes", "aes"),
@@ -109,11 +111,9 @@ fn is_x86(arch: &str) -> bool
 
 impl RustcCodegenFlags {
     /// The word of GCC and Clang for a feature of `-Ctarget-feature` with its sign, as `-mavx2` for `+avx2` and
-    /// `-mno-avx2` for `-avx2`. None on architectures other than `x86` and `x86_64`, for a feature that isn't in the
-    /// table, and without a sign.
-    ///
-    /// The table has the features that mean the same to rustc (the Rust Reference, codegen attributes) and to GCC
-    /// (its manual, x86 options).
+    /// `-mno-avx2` for `-avx2`. None on architectures other than `x86` and `x86_64`, for a feature that the table
+    /// lacks, since the same name may mean another thing to a C compiler, and without a sign, which rustc passes
+    /// over too. Only want of memory refuses; nothing is kept then.
     #[tactic(auto, unfolding(crate::specs::Features::feature_word))]
     pub fn target_feature_cc_flag(alloc: Global, arch: &str, feature: &str) -> Mem<Option<Text>>
         ensures { IfOk result (λ word. word ≡ feature_word arch.now feature.now) }

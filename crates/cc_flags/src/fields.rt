@@ -1,4 +1,5 @@
-// The fields that pairs give.
+// The fields that pairs give: rustc's book, "Codegen Options", says of each option which values it takes. Of
+// several pairs with one key the last counts.
 ghost use Rattle.std.specs.Prelude.{◌≡◌, ◌++◌, IfOk, OnOk, find, flat_map, filter};
 ghost use Rattle.std.specs.Option.{option_copied};
 ghost use Rattle.cc_text.specs.Words.{texts};
@@ -8,7 +9,7 @@ use crate::pairs::{Pair, parts_at};
 use cc_text::{Mem, Text, Words, is_one_of, u32_of};
 use std::alloc::Global;
 
-/// Whether a word says yes.
+/// Whether a word says yes, as rustc spells it: `y`, `yes`, `on` or `true`. It takes no memory.
 #[tactic(auto, unfolding(crate::specs::Fields::is_yes))]
 pub fn is_yes(word: &str) -> bool
     ensures { result ≡ is_yes word.now }
@@ -16,7 +17,7 @@ pub fn is_yes(word: &str) -> bool
     is_one_of(word, &["y", "yes", "on", "true"])
 }
 
-/// Whether a word says no.
+/// Whether a word says no, as rustc spells it: `n`, `no`, `off` or `false`. It takes no memory.
 #[tactic(auto, unfolding(crate::specs::Fields::is_no))]
 pub fn is_no(word: &str) -> bool
     ensures { result ≡ is_no word.now }
@@ -48,7 +49,7 @@ fn last_of<'a>(pairs: &'a [Pair], keys: &[&str]) -> Option<&'a Pair>
         .find(|pair| is_one_of(pair.key.as_str(), keys))
 }
 
-/// Whether some pair has one of the keys.
+/// Whether some pair has one of the keys, with a value or without. It takes no memory.
 pub fn is_given(pairs: &[Pair], keys: &[&str]) -> bool
     ensures { result ≡ is_given (texts keys.now) pairs.now }
 {
@@ -64,7 +65,8 @@ fn copy_of(text: &Option<Text>) -> Mem<Option<Text>>
     }
 }
 
-/// The value of the last pair of some keys.
+/// The value of the last pair of some keys; none where there is no such pair, or it has no value. Only want of
+/// memory refuses; nothing is kept then.
 #[tactic(auto, unfolding(crate::specs::Fields::text_of))]
 pub fn text_of(pairs: &[Pair], keys: &[&str]) -> Mem<Option<Text>>
     ensures { IfOk result (λ text. text ≡ text_of (texts keys.now) pairs.now) }
@@ -75,7 +77,8 @@ pub fn text_of(pairs: &[Pair], keys: &[&str]) -> Mem<Option<Text>>
     }
 }
 
-/// The value of the last pair of some keys, where no value stands for `true`.
+/// The value of the last pair of some keys, `true` where it has none; none where there is no such pair. Only want
+/// of memory refuses; nothing is kept then.
 #[tactic(auto, unfolding(crate::specs::Fields::text_or_true_of))]
 pub fn text_or_true_of(alloc: Global, pairs: &[Pair], keys: &[&str]) -> Mem<Option<Text>>
     ensures { IfOk result (λ text. text ≡ text_or_true_of (texts keys.now) pairs.now) }
@@ -99,7 +102,8 @@ fn switch(value: &Option<Text>) -> Option<bool>
     }
 }
 
-/// What the last pair of some keys says: yes without a value.
+/// What the last pair of some keys says: yes without a value, or as its value says; none where there is no such
+/// pair or its value says neither. It takes no memory.
 #[tactic(auto, unfolding(crate::specs::Fields::switch_of))]
 pub fn switch_of(pairs: &[Pair], keys: &[&str]) -> Option<bool>
     ensures { result ≡ switch_of (texts keys.now) pairs.now }
@@ -120,7 +124,8 @@ fn is_on(value: &Option<Text>) -> bool
     }
 }
 
-/// Whether the last pair of some keys asks for a plugin: also by a value that names one.
+/// Whether the last pair of some keys asks for a plugin: not where its value says no, else yes, since a value that
+/// is neither names the plugin; none where there is no such pair. It takes no memory.
 #[tactic(auto, unfolding(crate::specs::Fields::plugin_of))]
 pub fn plugin_of(pairs: &[Pair], keys: &[&str]) -> Option<bool>
     ensures { result ≡ plugin_of (texts keys.now) pairs.now }
@@ -140,7 +145,8 @@ fn number_in(value: &Option<Text>) -> Option<u32>
     }
 }
 
-/// The number in the last pair of some keys.
+/// The number of 32 bits in the last pair of some keys; none where there is no such pair or its value is no such
+/// number. It takes no memory.
 #[tactic(auto, unfolding(crate::specs::Fields::number_of))]
 pub fn number_of(pairs: &[Pair], keys: &[&str]) -> Option<u32>
     ensures { result ≡ number_of (texts keys.now) pairs.now }
@@ -178,7 +184,8 @@ fn push_features_in(words: &mut Words, alloc: Global, pair: &Pair) -> Mem<()>
     Ok(())
 }
 
-/// The names of features of each pair, in order.
+/// The names of all pairs `-Ctarget-feature`, parted at commas, each with its sign, in order, without empty ones: a
+/// later one may take back an earlier one. Only want of memory refuses; nothing is kept then.
 #[tactic(auto, unfolding(crate::specs::Fields::features_of))]
 pub fn features_of(alloc: Global, pairs: &[Pair]) -> Mem<Words>
     ensures { IfOk result (λ names. names ≡ features_of pairs.now) }
@@ -218,7 +225,8 @@ fn is_invalid(pair: &Pair) -> bool
         || key == "-Cdwarf-version" && number_in(&pair.value).is_none()
 }
 
-/// The first pair without the value that it needs.
+/// The first pair that lacks the value that it needs, or whose value is no number of 32 bits where one is needed;
+/// none where all are right. It takes no memory.
 #[tactic(auto, unfolding(crate::specs::Fields::invalid_pair))]
 pub fn invalid_pair(pairs: &[Pair]) -> Option<&Pair>
     ensures { option_copied result ≡ invalid_pair pairs.now }

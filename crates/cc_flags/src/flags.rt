@@ -1,4 +1,5 @@
-// The rustflags that matter for a C compiler.
+// The rustflags that matter for a C compiler: rustc's book, "Codegen Options", and for `-Z` The Rust Unstable Book,
+// "Compiler flags".
 ghost use Rattle.std.specs.Prelude.{◌≡◌, ◌⊎◌, [], Some, None, IfOk, IfErr, OnOk, false, unwrap_or};
 ghost use Rattle.std.specs.Option.{option_copied};
 ghost use Rattle.cc_flags.specs.Pairs.{pairs_of};
@@ -13,40 +14,45 @@ use crate::pairs::{Pair, pairs_of};
 use cc_text::{Mem, Text, Words};
 use std::alloc::Global;
 
-/// The rustflags that matter for a C compiler, by rustc's codegen options. A field is none where no flag sets it.
+/// The rustflags that matter for a C compiler, so that its code fits the Rust code that it is linked with. A field
+/// is none, or false, where no flag sets it. Texts are as the flag has them, whatever they say.
 #[derive(Drop, Debug, PartialEq, Eq)]
 pub struct RustcCodegenFlags {
-    /// `-Zbranch-protection` or `-Cbranch-protection`.
+    /// Which branches are guarded on Arm, kinds between commas, as `bti,pac-ret`: `-Zbranch-protection` or
+    /// `-Cbranch-protection`.
     pub branch_protection: Option<Text>,
-    /// `-Ccode-model`.
+    /// How far code and data may lie apart, as `small` or `large`: `-Ccode-model`.
     pub code_model: Option<Text>,
-    /// Whether `-Cno-vectorize-loops` is given.
+    /// Whether loops stay as they are, without vectors: `-Cno-vectorize-loops`.
     pub no_vectorize_loops: bool,
-    /// Whether `-Cno-vectorize-slp` is given.
+    /// Whether statements in a row stay as they are, without vectors: `-Cno-vectorize-slp`.
     pub no_vectorize_slp: bool,
-    /// `-Ccontrol-flow-guard`: `true` without a value.
+    /// Whether Windows guards indirect calls, as `checks` or `nochecks`: `-Ccontrol-flow-guard`, `true` without a
+    /// value.
     pub control_flow_guard: Option<Text>,
-    /// `-Clto`: `true` without a value.
+    /// Which kind of link-time optimisation is done: `-Clto`, `true` without a value. It gives no word.
     pub lto: Option<Text>,
-    /// `-Crelocation-model`.
+    /// Whether code runs wherever it is loaded, as `pic` or `static`: `-Crelocation-model`.
     pub relocation_model: Option<Text>,
-    /// `-Cembed-bitcode`.
+    /// Whether objects hold LLVM's bitcode besides machine code: `-Cembed-bitcode`.
     pub embed_bitcode: Option<bool>,
-    /// `-Cforce-frame-pointers`.
+    /// Whether all functions keep frame pointers: `-Cforce-frame-pointers`.
     pub force_frame_pointers: Option<bool>,
-    /// `-Cno-redzone`.
+    /// Whether functions leave the memory below the stack pointer alone, as kernels need it: `-Cno-redzone`.
     pub no_redzone: Option<bool>,
-    /// `-Csoft-float`.
+    /// Whether code does without a floating-point unit: `-Csoft-float`.
     pub soft_float: Option<bool>,
-    /// `-Cdwarf-version`.
+    /// The version of DWARF in which debug information is written: `-Cdwarf-version`.
     pub dwarf_version: Option<u32>,
-    /// `-Zstack-protector` or `-Cstack-protector`.
+    /// Which functions guard their stack, as `strong` or `all`: `-Zstack-protector` or `-Cstack-protector`.
     pub stack_protector: Option<Text>,
-    /// `-Clinker-plugin-lto`, which a value that names a plugin sets too.
+    /// Whether the linker optimises by its plugin: `-Clinker-plugin-lto`, which a value that names the plugin asks
+    /// for too.
     pub linker_plugin_lto: Option<bool>,
-    /// The names in all `-Ctarget-feature`, each with its sign.
+    /// The processor's features in all `-Ctarget-feature`, in order, each with its sign, as `+avx2`.
     pub target_features: Words,
-    /// `-Ctarget-cpu`.
+    /// The processor that code is made for, by rustc's name: `-Ctarget-cpu`. It gives no word: C compilers name
+    /// them otherwise.
     pub target_cpu: Option<Text>,
 }
 
@@ -91,11 +97,12 @@ fn flags_of(alloc: Global, pairs: &[Pair]) -> Mem<RustcCodegenFlags>
 }
 
 impl RustcCodegenFlags {
-    /// The fields of rustflags as Cargo encodes them in `CARGO_ENCODED_RUSTFLAGS`: parts between U+001F. Of several
-    /// flags with one key the last counts, and features add up. Flags that matter for no field change nothing.
+    /// The fields of rustflags as Cargo hands them to build scripts in `CARGO_ENCODED_RUSTFLAGS`: parts between
+    /// U+001F (The Cargo Book, "Environment Variables"). Of several flags with one key the last counts, and
+    /// features add up. Flags that matter for no field change nothing; the empty text gives no flags.
     ///
-    /// Refused at the first flag without the value that it needs, or with a version of DWARF that is no number of 32
-    /// bits: the error has its key.
+    /// Refused at the first flag without the value that it needs, or with a version of DWARF that is no number of
+    /// 32 bits: the error has its key. Refused for memory too. A refusal leaves nothing.
     pub fn parse(alloc: Global, encoded: &str) -> Result<RustcCodegenFlags, FlagError>
         ensures flags { IfOk result (λ flags. flags ≡ flags_of (pairs_of encoded.now)) }
         ensures valid { OnOk result (refusal_of encoded.now ≡ None) }
@@ -111,14 +118,14 @@ impl RustcCodegenFlags {
         Ok(flags)
     }
 
-    /// Whether the linker is to optimise by its plugin. It takes no memory.
+    /// Whether the linker is to optimise by its plugin; no where no flag says so. It takes no memory.
     pub fn linker_plugin_lto(&self) -> bool
         ensures { result ≡ unwrap_or self.now.linker_plugin_lto false }
     {
         self.linker_plugin_lto.unwrap_or(false)
     }
 
-    /// The processor that rustc makes code for, where a flag says so. It takes no memory.
+    /// The processor that rustc makes code for, by its own name, where a flag says so. It takes no memory.
     pub fn target_cpu(&self) -> Option<&str>
         ensures { option_copied result ≡ self.now.target_cpu }
     {

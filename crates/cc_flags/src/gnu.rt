@@ -1,4 +1,5 @@
-// The words that GCC takes for a target.
+// The words that GCC takes for a target, which Clang knows by its `--target`: GCC's manual, "ARM Options", "x86
+// Options" and "RISC-V Options". A distribution builds GCC with defaults of its own, which may be above rustc's.
 ghost use Rattle.std.specs.Prelude.{◌≡◌, ◌++◌, [], ◌∷◌, codes, OnOk};
 ghost use Rattle.std.specs.Option.{option_copied};
 ghost use Rattle.cc_target.specs.Targets.{info_seen};
@@ -40,7 +41,10 @@ fn has_neon(target: &TargetInfo) -> bool
     has(target.full_arch, "neon")
 }
 
-/// Adds a static C library, where `crt` wants it and no setting says otherwise, and the versions of Arm on Linux and Android.
+/// Adds `-static` where rustc links its C library so (`crt`) and `static_flag` isn't set; then, for Armv7, what
+/// each processor of Rust's target has: on Linux `-march=armv7-a`, and for `eabihf` the least floating-point unit
+/// and calls by its registers; on Android what the NDK's guide "Android ABIs" promises of `armeabi-v7a`; and NEON
+/// where the full architecture names it. Refused for memory, `words` may hold a part of them.
 #[tactic(auto, unfolding(crate::specs::GnuWords::gnu_words, cc_text::specs::Words::choose))]
 pub fn push_gnu_words(
     words: &mut Words,
@@ -90,7 +94,10 @@ fn linux_processor(full_arch: &str, abi: &str, cpu: Option<&str>) -> &'static [&
     }
 }
 
-/// Adds the oldest processor of a target on Linux; `cpu` is what the flags of Rust code name.
+/// Adds, on Linux, the oldest processor that rustc's targets of that full architecture run on, and for Arm how
+/// floats are handed over: `arm` alone means Armv6 to rustc. Nothing for a full architecture that isn't listed.
+/// `cpu` is the processor that the rustflags name: with another one than `x86-64`, nothing is added for `x86_64`,
+/// so that C code isn't held below Rust code. Refused for memory, `words` may hold a part of them.
 #[tactic(auto, unfolding(crate::specs::GnuWords::processor_words))]
 pub fn push_processor_words(words: &mut Words, target: &TargetInfo, cpu: Option<&str>) -> Mem<()>
     ensures { OnOk result (words.new
@@ -135,7 +142,10 @@ fn push_bare_words(words: &mut Words, target: &TargetInfo) -> Mem<()>
     Ok(())
 }
 
-/// Adds what targets without a system want, and the words of the first row of the table of Arm processors that fits.
+/// Adds what some targets want whatever their system: for x86 with musl the linker's form of 32 bits, which
+/// `musl-gcc` doesn't hand on by itself; calls by floating-point registers for `eabihf` without a system; `-mthumb`
+/// for Thumb; and the words of the first row of the table of Arm processors that fits. Refused for memory, `words`
+/// may hold a part of them.
 pub fn push_bare_and_arm_words(words: &mut Words, target: &TargetInfo) -> Mem<()>
     ensures { OnOk result (words.new ≡ words.old ++ spec.bare_and_arm_words (info_seen target.now)) }
 {
@@ -190,7 +200,10 @@ fn push_riscv_by(words: &mut Words, os: &str, rest: &str) -> Mem<()>
     Ok(())
 }
 
-/// Adds the instructions and the calls of a RISC-V target.
+/// Adds the instructions and the calling convention of a RISC-V target: the general profile of 64 or 32 bits with
+/// calls by floating-point registers on systems that are built so, else those that the full architecture names,
+/// with calls by integer registers. Nothing for other architectures. Refused for memory, `words` may hold a part of
+/// them.
 #[tactic(auto, unfolding(crate::specs::GnuWords::riscv_words))]
 pub fn push_riscv_words(words: &mut Words, target: &TargetInfo) -> Mem<()>
     ensures { OnOk result (words.new ≡ words.old ++ spec.riscv_words (info_seen target.now)) }

@@ -1,10 +1,14 @@
 //! What the flags of Rust code and the table of targets mean to a C compiler.
 //!
-//! Stands on `cc_text`, `cc_env` and `cc_target`. Rustflags are read as a list of pairs of a key and its value, and a field is
-//! made from the last pair of its keys: `parse` gives exactly those fields or names the first flag that is wrong, and `wanted` gives
-//! exactly the words of the table over the fields. The other words are a function a group: each equals its definition in `specs/`,
-//! which depends on the family of the compiler, on what is known of the target, and on what is set. The crate above, `cc_plan`, puts
-//! the groups in order, and decides where there are none.
+//! Stands on `cc_text`, `cc_env` and `cc_target`. Rustflags are read as a list of pairs of a key and its value, and
+//! a field is made from the last pair of its keys: `parse` gives exactly those fields or names the first flag that
+//! is wrong, and `wanted` gives exactly the words of the table over the fields. The other words are a function a
+//! group: each equals its definition in `specs/`, which depends on the family of the compiler, on what is known of
+//! the target, and on what is set. The crate above, `cc_plan`, puts the groups in order, and decides where there
+//! are none.
+//!
+//! A `push_*` adds its words last. Refused, which only want of memory does, it may have added a part of them: the
+//! list is to be dropped. Manuals are cited by name and section at each group.
 #![tactic(auto)]
 
 mod arm;

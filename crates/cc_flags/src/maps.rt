@@ -1,4 +1,7 @@
-// The words that map the folders of sources to others, in what macros and debug information tell.
+// The words that map the folders of sources to others, so that objects don't show where they were built: GCC's
+// manual, "Options Controlling the Preprocessor", `-fmacro-prefix-map`, and "Options for Debugging Your Program",
+// `-fdebug-prefix-map`; for `clang-cl` Clang Compiler User's Manual, "The /clang: Option". Older compilers lack
+// them: GCC 8 and Clang 10 were the first to have both, so that each compiler is asked.
 ghost use Rattle.std.specs.Prelude.{◌≡◌, ◌++◌, map, IfOk, OnOk};
 ghost use Rattle.std.specs.List.{list_any};
 ghost use Rattle.std.specs.Option.{option_copied};
@@ -9,10 +12,12 @@ use cc_env::EnvSnapshot;
 use cc_text::{Mem, Text, ToolFamily, Vars, Words, is_among, is_cl, is_clang_cl, quoted};
 use std::alloc::Global;
 
-/// What is mapped to other folders: the paths of macros, and those of debug information.
+/// Which paths in objects are to be mapped to others.
 #[derive(Clone, Copy, Debug)]
 pub struct Maps {
+    /// Those that macros give, as `__FILE__`.
     pub macros: bool,
+    /// Those in debug information.
     pub debug: bool,
 }
 
@@ -84,7 +89,9 @@ fn push_pair_words(
     Ok(())
 }
 
-/// Adds the maps of some pairs `FROM=TO`, as the family spells them.
+/// Adds for each pair `FROM=TO`, in order, the map of macros and that of debug information, as `maps` wants them
+/// and as the family spells them: of a path that begins with `FROM`, that part is replaced by `TO`. Refused for
+/// memory, `words` may hold a part of them.
 #[tactic(auto, unfolding(crate::specs::MapWords::pairs_words))]
 pub fn push_pairs_words(
     words: &mut Words,
@@ -163,7 +170,8 @@ fn colon_parts(alloc: Global, remap: &str) -> Mem<Vec<&str>>
     Ok(parts)
 }
 
-/// The pairs `FROM=TO` that Cargo trims paths by: the parts between colons, without empty ones.
+/// The pairs `FROM=TO` that Cargo trims paths by, from the value of `CARGO_TRIM_PATHS_REMAP`: the parts between
+/// colons, without empty ones. Only want of memory refuses; nothing is kept then.
 #[tactic(auto, unfolding(crate::specs::MapWords::trim_pairs))]
 pub fn trim_pairs(alloc: Global, remap: &str) -> Mem<Words>
     ensures { IfOk result (λ pairs. pairs ≡ spec.trim_pairs remap.now) }
@@ -178,7 +186,10 @@ pub fn trim_pairs(alloc: Global, remap: &str) -> Mem<Words>
     Ok(pairs)
 }
 
-/// What Cargo wants mapped, by `CARGO_TRIM_PATHS_SCOPE` and `CARGO_TRIM_PATHS_REMAP`.
+/// What Cargo wants mapped by its setting `trim-paths` (The Cargo Book, "Unstable Features", "Profile `trim-paths`
+/// option"). Of the scopes between commas in `CARGO_TRIM_PATHS_SCOPE`, `macro` wants macros, and `object` and `all`
+/// want both, since objects hold both. Nothing where `inherits` is false, where that or `CARGO_TRIM_PATHS_REMAP` is
+/// unset, and for `cl.exe`, which has no such flags. It takes no memory.
 pub fn cargo_maps(inherits: bool, env: &EnvSnapshot, family: ToolFamily) -> Maps
     ensures { result ≡ spec.cargo_maps inherits env.now family }
 {
@@ -186,7 +197,8 @@ pub fn cargo_maps(inherits: bool, env: &EnvSnapshot, family: ToolFamily) -> Maps
     trim_maps(family, inherits, scopes, env.get("CARGO_TRIM_PATHS_REMAP"))
 }
 
-/// What the settings want told as others: each path that is remapped, in macros and in debug information.
+/// What the settings want mapped: macros and debug information, where there is a path to remap; nothing for
+/// `cl.exe`, which has no such flags. It takes no memory.
 #[tactic(auto, unfolding(crate::specs::MapWords::set_maps))]
 pub fn set_maps(family: ToolFamily, remaps: &Vars) -> Maps
     ensures { result ≡ spec.set_maps family remaps.now }
@@ -198,7 +210,8 @@ pub fn set_maps(family: ToolFamily, remaps: &Vars) -> Maps
     }
 }
 
-/// Adds the words by which a compiler is asked whether it maps what is wanted.
+/// Adds the words by which a compiler is asked whether it has the flags that are wanted: each with the pair
+/// `/probe=/probe`, so that one answer serves all pairs. Refused for memory, `words` may hold a part of them.
 #[tactic(auto, unfolding(crate::specs::MapWords::map_asks))]
 pub fn push_map_asks(words: &mut Words, alloc: Global, family: ToolFamily, maps: Maps) -> Mem<()>
     ensures { OnOk result (words.new ≡ words.old ++ spec.map_asks family maps) }
@@ -212,7 +225,8 @@ pub fn push_map_asks(words: &mut Words, alloc: Global, family: ToolFamily, maps:
     Ok(())
 }
 
-/// What is wanted, and stands among the supported words by which the compiler was asked.
+/// What is wanted and whose word by `push_map_asks` stands among the `supported` ones. Only want of memory refuses;
+/// nothing is kept then.
 #[tactic(auto, unfolding(crate::specs::MapWords::taken_maps))]
 pub fn taken_maps(alloc: Global, family: ToolFamily, supported: &[Text], maps: Maps) -> Mem<Maps>
     ensures { IfOk result (λ taken. taken ≡ spec.taken_maps family supported.now maps) }
@@ -225,7 +239,8 @@ pub fn taken_maps(alloc: Global, family: ToolFamily, supported: &[Text], maps: M
     })
 }
 
-/// The pairs `FROM=TO` of source paths that are to be told as others.
+/// The pairs of paths that the settings remap, each as `FROM=TO`, in order. Only want of memory refuses; nothing is
+/// kept then.
 pub fn remap_pairs(alloc: Global, remaps: &Vars) -> Mem<Words>
     ensures { IfOk result (λ pairs. pairs ≡ map spec.remap_pair remaps.now) }
 {
@@ -258,7 +273,9 @@ fn push_lack(
     Ok(())
 }
 
-/// Adds a warning of each flag that is wanted and isn't supported.
+/// Adds a warning of each flag that is wanted and isn't among the `supported` ones: its name,
+/// ` is not supported by `, and the compiler's path in quotes. Refused for memory, `warnings` may hold a part of
+/// them.
 #[tactic(auto, unfolding(crate::specs::MapWords::map_lacks))]
 pub fn push_map_lacks(
     warnings: &mut Words,

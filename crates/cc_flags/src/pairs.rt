@@ -1,4 +1,5 @@
-// Rustflags as pairs of a key and its value.
+// Rustflags as pairs of a key and its value: `-C` and the name as one key, whether the flag was written in one word
+// or two (rustc's book, "Command-line Arguments", and "Codegen Options").
 ghost use Rattle.std.specs.Prelude.{◌≡◌, ℕ, ◌<◌, ◌==◌, List, ◌∷◌, ◌++◌, IfOk};
 ghost use Rattle.std.specs.Option.{option_copied};
 ghost use Rattle.std.specs.List.{slice_split};
@@ -11,11 +12,14 @@ use std::alloc::Global;
 /// A flag: its key, and its value if it has one.
 #[derive(Drop, Debug)]
 pub struct Pair {
+    /// The short form of its option and its name, as `-Clto`.
     pub key: Text,
+    /// What follows its first `=`, which may be empty; none without one.
     pub value: Option<Text>,
 }
 
-/// The parts of a text at an ASCII character.
+/// The parts of a text at a mark, lent, in order, empty ones too. The caller sees to it that the mark is ASCII.
+/// Only want of memory refuses; nothing is kept then.
 pub fn parts_at<'a>(alloc: Global, text: &'a str, mark: char) -> Mem<Vec<&'a str>>
     requires { mark < 128 }
     ensures { IfOk result (λ parts. texts parts.items ≡ slice_split (λ b. b == mark) text.now) }
@@ -124,7 +128,8 @@ fn push_part<'a>(
     }
 }
 
-/// The pairs of rustflags as Cargo encodes them, in order.
+/// The pairs of rustflags as Cargo encodes them, parts between U+001F, in order. An option alone takes the next
+/// part as its name. Only want of memory refuses; nothing is kept then.
 pub fn pairs_of(alloc: Global, encoded: &str) -> Mem<Vec<Pair>>
     ensures { IfOk result (λ pairs. pairs.items ≡ pairs_of encoded.now) }
 {

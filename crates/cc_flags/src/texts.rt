@@ -16,14 +16,14 @@ pub(crate) fn begins(text: &str, prefix: &str) -> bool
     cc_text::begins_with(text, prefix)
 }
 
-/// The needle stands in the text. Case counts.
+/// Whether the needle stands in the text. Case counts. It takes no memory.
 pub fn has(text: &str, needle: &str) -> bool
     ensures { result ≡ is_within needle.now text.now }
 {
     cc_text::contains(text, needle)
 }
 
-/// The value of a variable, or the empty text where it isn't set.
+/// The value of a variable, lent, or the empty text where it isn't set. It takes no memory.
 #[tactic(auto, unfolding(crate::specs::DefaultWords::value_or_empty))]
 pub fn value_or_empty<'a>(env: &'a EnvSnapshot, name: &str) -> &'a str
     ensures { result.now ≡ value_or_empty env.now name.now }
@@ -31,7 +31,7 @@ pub fn value_or_empty<'a>(env: &'a EnvSnapshot, name: &str) -> &'a str
     env.get(name).unwrap_or("")
 }
 
-/// The text that is set, lent.
+/// The text that is set, lent, or none. It takes no memory.
 pub fn lent(text: &Option<Text>) -> Option<&str>
     ensures { option_copied result ≡ text.now }
 {

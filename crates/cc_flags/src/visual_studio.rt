@@ -1,4 +1,5 @@
-// The words that the Visual Studio compilers take for a target and an optimisation level.
+// The words that the Visual Studio compilers take for a target and an optimisation level: Microsoft's page "MSVC
+// Compiler Options", and a page of its own for each; `-` stands for `/`, which both drivers read so.
 ghost use Rattle.std.specs.Prelude.{◌≡◌, ◌++◌, OnOk};
 ghost use Rattle.std.specs.Option.{option_copied};
 ghost use Rattle.cc_target.specs.Targets.{info_seen};
@@ -24,7 +25,10 @@ fn is_fast(level: &str) -> bool
     matches!(level, "2" | "3")
 }
 
-/// Adds what Visual Studio's compilers take: no banner, a C library that is linked statically or not, and the level.
+/// Adds, for Visual Studio's compilers: no banner, which would stand among the lines of each run; the C library,
+/// `-MT` linked statically or `-MD` not, as `static_crt` says, else as rustc links it (`crt`), since a program has
+/// one; `-O1` for levels `s`, `z` and `1`, which ask for small code, and `-O2` for `2` and `3`, as there is no
+/// `-O3`. Refused for memory, `words` may hold a part of them.
 #[tactic(auto, unfolding(crate::specs::VisualStudioWords::visual_studio_words))]
 pub fn push_visual_studio_words(
     words: &mut Words,
@@ -82,6 +86,8 @@ fn push_cl_words(words: &mut Words, target: &TargetInfo) -> Mem<()>
     Ok(())
 }
 
+// Rust's targets for Windows on x86 want SSE2, which `clang-cl` gets by a flag and `cl.exe` takes for granted;
+// `i586` is held to less (Microsoft's page "/arch (x86)").
 #[tactic(auto, unfolding(crate::specs::VisualStudioWords::instruction_words))]
 fn push_instruction_words(
     words: &mut Words,
@@ -111,7 +117,10 @@ fn push_desktop_words(words: &mut Words, target: &TargetInfo) -> Mem<()>
     Ok(())
 }
 
-/// Adds what makes Visual Studio's compilers write the same bytes at each build, and what tells them the target.
+/// Adds, for Visual Studio's compilers: `-Brepro`, which Microsoft doesn't document, so that two builds write the
+/// same bytes, without times; the target as `llvm` for `clang-cl`, and what the architecture wants; for Arm the
+/// macro without which headers of Windows refuse desktop programs. Refused for memory, `words` may hold a part of
+/// them.
 #[tactic(auto, unfolding(crate::specs::VisualStudioWords::visual_studio_target_words))]
 pub fn push_visual_studio_target_words(
     words: &mut Words,

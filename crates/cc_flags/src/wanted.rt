@@ -1,4 +1,5 @@
-// The words of a C compiler that say what the rustflags say.
+// The words of a C compiler that say what the rustflags say: GCC's manual, section by section below; "Clang command
+// line argument reference"; Microsoft's page "MSVC Compiler Options".
 ghost use Rattle.std.specs.Prelude.{◌≡◌, ◌++◌, IfOk, OnOk, flat_map, encode_utf8, string_bytes};
 ghost use Rattle.std.specs.Fmt.{decimal};
 ghost use Rattle.std.specs.Str.{chars};
@@ -31,6 +32,7 @@ fn with_plus(alloc: Global, kinds: &str) -> Mem<Text>
     Ok(text)
 }
 
+// "AArch64 Options" and "ARM Options": C compilers part the kinds by `+`, rustc by commas.
 #[tactic(auto, unfolding(crate::specs::Wanted::branch_protection_word))]
 fn push_branch_protection_word(words: &mut Words, alloc: Global, kinds: &str) -> Mem<()>
     ensures { OnOk result (words.new ≡ words.old ++ branch_protection_word kinds.now) }
@@ -60,6 +62,7 @@ fn push_code_model_words(words: &mut Words, model: &Option<Text>) -> Mem<()>
     Ok(())
 }
 
+// Clang's words. GCC is asked like any compiler, and doesn't take them.
 #[tactic(auto, unfolding(crate::specs::Wanted::vector_words))]
 fn push_vector_words(words: &mut Words, no_loops: bool, no_slp: bool) -> Mem<()>
     ensures { OnOk result (words.new ≡ words.old ++ vector_words no_loops no_slp) }
@@ -71,6 +74,7 @@ fn push_vector_words(words: &mut Words, no_loops: bool, no_slp: bool) -> Mem<()>
     Ok(())
 }
 
+// "Options for Code Generation Conventions". Other models have no word.
 #[tactic(auto, unfolding(crate::specs::Wanted::relocation_word))]
 fn relocation_word(model: &str) -> &'static [&'static str]
     ensures { texts result.now ≡ relocation_word model.now }
@@ -93,6 +97,7 @@ fn push_relocation_words(words: &mut Words, model: &Option<Text>) -> Mem<()>
     Ok(())
 }
 
+// "Options That Control Optimization" and "x86 Options". Where the flag says no, the choice is the compiler's.
 #[tactic(auto, unfolding(crate::specs::Wanted::frame_pointer_words))]
 fn push_frame_pointer_words(words: &mut Words, force: Option<bool>) -> Mem<()>
     ensures { OnOk result (words.new ≡ words.old ++ frame_pointer_words force) }
@@ -113,6 +118,7 @@ fn push_switch(words: &mut Words, on_word: &str, off_word: &str, value: Option<b
     Ok(())
 }
 
+// "x86 Options".
 #[tactic(auto, unfolding(crate::specs::Wanted::red_zone_words))]
 fn push_red_zone_words(words: &mut Words, no_redzone: Option<bool>) -> Mem<()>
     ensures { OnOk result (words.new ≡ words.old ++ red_zone_words no_redzone) }
@@ -121,6 +127,7 @@ fn push_red_zone_words(words: &mut Words, no_redzone: Option<bool>) -> Mem<()>
     Ok(())
 }
 
+// Not `-mno-soft-float`, which is another flag to Clang.
 #[tactic(auto, unfolding(crate::specs::Wanted::float_words))]
 fn push_float_words(words: &mut Words, soft: Option<bool>) -> Mem<()>
     ensures { OnOk result (words.new ≡ words.old ++ float_words soft) }
@@ -135,6 +142,7 @@ fn number(alloc: Global, n: u32) -> Mem<String>
     Ok(format!(in alloc; "{n}")?)
 }
 
+// "Options for Debugging Your Program".
 #[tactic(auto, unfolding(crate::specs::Wanted::dwarf_words))]
 fn push_dwarf_words(words: &mut Words, alloc: Global, version: Option<u32>) -> Mem<()>
     ensures { OnOk result (words.new ≡ words.old ++ dwarf_words version) }
@@ -146,6 +154,8 @@ fn push_dwarf_words(words: &mut Words, alloc: Global, version: Option<u32>) -> M
     Ok(())
 }
 
+// "Program Instrumentation Options". `none` isn't handed on, since it would leave C code with fewer guards, nor
+// `basic`, which rustc gives up. Visual Studio's compilers guard by themselves ("/GS (Buffer Security Check)").
 #[tactic(auto, unfolding(crate::specs::Wanted::stack_protector_word))]
 fn stack_protector_word(strength: &str) -> &'static [&'static str]
     ensures { texts result.now ≡ stack_protector_word strength.now }
@@ -167,6 +177,7 @@ fn push_stack_protector_words(words: &mut Words, strength: &Option<Text>) -> Mem
     Ok(())
 }
 
+// In the order of the flags, so that a later feature can take back an earlier one.
 #[tactic(auto, unfolding(crate::specs::Wanted::feature_words))]
 fn push_feature_words(words: &mut Words, alloc: Global, arch: &str, features: &Words) -> Mem<()>
     ensures { OnOk result (words.new ≡ words.old ++ feature_words arch.now features.now) }
@@ -219,6 +230,8 @@ fn push_embed_bitcode_words(words: &mut Words, embed: Option<bool>) -> Mem<()>
     Ok(())
 }
 
+// Thin, as the plugin of LLVM's linkers optimises so and needs what only thin objects hold (rustc's book,
+// "Linker-plugin-based LTO").
 #[tactic(auto, unfolding(crate::specs::Wanted::plugin_words))]
 fn push_plugin_words(words: &mut Words, plugin: Option<bool>) -> Mem<()>
     ensures { OnOk result (words.new ≡ words.old ++ plugin_words plugin) }
@@ -241,6 +254,7 @@ fn is_nochecks(value: &str) -> bool
     value == "nochecks"
 }
 
+// Of the compilers Clang alone makes the tables of the guard without its checks (`nochecks`).
 #[tactic(auto, unfolding(crate::specs::Wanted::clang_guard_word))]
 fn clang_guard_word(value: &str) -> &'static [&'static str]
     ensures { texts result.now ≡ clang_guard_word value.now }
@@ -277,6 +291,7 @@ fn push_clang_words(words: &mut Words, flags: &RustcCodegenFlags) -> Mem<()>
     Ok(())
 }
 
+// "/guard (Enable Control Flow Guard)", which has nothing for `nochecks`.
 #[tactic(auto, unfolding(crate::specs::Wanted::msvc_guard_word))]
 fn msvc_guard_word(value: &str) -> &'static [&'static str]
     ensures { texts result.now ≡ msvc_guard_word value.now }
@@ -300,6 +315,7 @@ fn push_msvc_guard_words(words: &mut Words, guard: &Option<Text>) -> Mem<()>
     Ok(())
 }
 
+// "/Oy (Frame-Pointer Omission)", which is there for 32 bits alone.
 #[tactic(auto, unfolding(crate::specs::Wanted::msvc_frame_pointer_words))]
 fn push_msvc_frame_pointer_words(words: &mut Words, arch: &str, force: Option<bool>) -> Mem<()>
     ensures { OnOk result (words.new ≡ words.old ++ msvc_frame_pointer_words arch.now force) }
@@ -321,11 +337,13 @@ fn push_msvc_words(words: &mut Words, flags: &RustcCodegenFlags, target: &Target
 }
 
 impl RustcCodegenFlags {
-    /// The words of a C compiler of the family that say what these flags say, in a fixed order: those of GCC and
-    /// Clang by the GCC manual, those of Clang alone by its command line reference, and those of the Visual Studio
-    /// compiler by its reference. A value that the table doesn't have gives no word.
+    /// The words that say to a C compiler of the family what these flags say, in a fixed order. Code models are
+    /// handed on as they are; of other values, one that C compilers have no word for gives none. A compiler that
+    /// lacks a word is found out by asking it, which `cc_plan` does.
     ///
-    /// The processor, the kind of LTO and profiles are not handed on: the two compilers name or keep them differently.
+    /// The processor, the kind of LTO and profiles are not handed on: processors are named otherwise, and profiles
+    /// are bound to one version of LLVM, so that objects of another one crash. Only want of memory refuses; nothing
+    /// is kept then.
     pub fn wanted(&self, alloc: Global, family: ToolFamily, target: &TargetInfo) -> Mem<Words>
         ensures { IfOk result (λ words. words ≡ wanted self.now family (info_seen target.now)) }
     {

@@ -1,44 +1,48 @@
-// What a pool of tokens promises.
+// What a pool of tokens promises, whatever it is made of.
 ghost use Rattle.std.specs.Prelude.{◌≡◌, ℕ, ◌+◌, ◌-◌, ◌<◌, ◌≤◌, ◌^◌, ◌≢◌, Option, IfSome, IfErr, ◌↔◌};
 ghost use Rattle.cc_jobs.specs.Seats.{Rose, stands, IsBounded};
 
-/// What a pool answers.
+/// What a pool answers where it didn't fail.
 #[derive(Clone, Copy, PartialEq, Eq, Debug)]
 pub enum Take {
-    /// The seat holds one token more.
+    /// The seat holds one token more: one more command may run.
     Token,
-    /// There is none now.
+    /// There is no token now. The caller asks again once one may have come back.
     Pending,
 }
 
-/// The pool itself failed.
+/// The pool itself failed, and the seat holds what it held. `OneCaller` never answers it.
 #[derive(Clone, Copy, PartialEq, Eq, Debug)]
 pub struct JobFault;
 
-/// A pool of tokens. Every meaning is of the seat, which the caller keeps.
+/// A pool of tokens, which bounds how many commands run at once. Every meaning is of the seat that the caller keeps
+/// and hands in.
 pub trait Jobs {
-    /// A place at the pool, which holds tokens.
+    /// What a caller keeps at the pool: how many tokens it holds, and counts of what was taken.
     type Seat;
 
-    /// Whether a seat is one of this pool.
+    /// Whether a seat is one of this pool. Each call is for such seats alone.
     ghost fits: { Self → Self.Seat → Type 0 };
 
-    /// How many tokens it holds.
+    /// How many tokens the seat holds.
     ghost held: { Self.Seat → ℕ };
 
-    /// How often the pool has failed. It never falls.
+    /// How often the pool failed this seat. It never falls.
     ghost faults: { Self.Seat → ℕ };
 
-    /// The number of tokens of the whole pool, told where one caller owns it.
+    /// How many tokens the whole pool has, known where one caller owns it.
     ghost total: { Self.Seat → Option ℕ };
 
-    /// How many tokens it was given so far.
+    /// How many tokens the seat took so far. It stands still at the greatest u64.
     ghost taken: { Self.Seat → ℕ };
 
-    /// The sum of the held counts right after each token.
+    /// The sum of what the seat held right after each token that it took: over `taken`, it says how many commands
+    /// ran side by side. It stands still at the greatest u64.
     ghost load: { Self.Seat → ℕ };
 
-    /// Asks for a token.
+    /// Asks for a token. `Token` raises what the seat holds by one; `Pending` and a fault leave it. Where the total
+    /// is known, `Pending` comes exactly where the seat holds them all. The caller sees to it that the seat holds
+    /// fewer than the greatest u64.
     fn take(&self, seat: &mut Self::Seat) -> Result<Take, JobFault>
         requires fits { fits self.now seat.old }
         requires room { held seat.old < 2 ^ 64 - 1 }
@@ -56,7 +60,7 @@ pub trait Jobs {
         ensures later { faults seat.old ≤ faults seat.new }
         ensures fault { IfErr result (λ _. Rose (faults seat.old) (faults seat.new)) };
 
-    /// Gives a token back.
+    /// Gives one token of the seat back, and can't fail. The caller sees to it that the seat holds one.
     fn give(&self, seat: &mut Self::Seat)
         requires fits { fits self.now seat.old }
         requires one { 0 < held seat.old }

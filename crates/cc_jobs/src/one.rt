@@ -1,13 +1,14 @@
-// A pool that one caller owns.
+// A pool that one caller owns: a count up to a total. Its calls take no memory and wait for nobody.
 ghost use Rattle.std.specs.Prelude.{◌≡◌, ◌≤◌, Some};
 
 use crate::{JobFault, Jobs, Take};
 
-/// A pool that one caller owns. Its seat counts.
+/// A pool that one caller owns. It has nothing of its own: its seat counts, and every seat is one of it.
 #[derive(Clone, Copy, Debug)]
 pub struct OneCaller;
 
-/// The seat of such a pool, with the pool's total.
+/// The seat of such a pool: the pool's total, how many tokens are taken, and the two counts of what was taken. It
+/// holds at most the total.
 #[derive(Drop, Debug)]
 pub struct OneSeat {
     total: u32,
@@ -18,7 +19,8 @@ pub struct OneSeat {
 }
 
 impl OneCaller {
-    /// A pool of so many tokens, and its seat, which holds none. It takes no memory.
+    /// A pool of `total` tokens, and its seat, which holds none. The caller sees to it that `total` is at least 1.
+    /// It takes no memory.
     pub fn new(total: u32) -> (OneCaller, OneSeat)
         requires { 1 ≤ total }
         ensures total { result.1.total ≡ total }

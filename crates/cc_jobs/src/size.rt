@@ -5,7 +5,9 @@ ghost use Rattle.cc_jobs.specs.Size.{pool_size};
 use cc_env::EnvSnapshot;
 use cc_text::u32_of;
 
-/// The number of tokens that `NUM_JOBS` asks for: at least 1, and 4 where it isn't set or is no number of 32 bits. It takes no memory.
+/// How many commands may run at once, by `NUM_JOBS`, which Cargo sets for build scripts from its `-j` (The Cargo
+/// Book, "Environment Variables"). At least 1: 0 counts as 1. 4 where it isn't set, or isn't a number of 32 bits in
+/// decimal; no processors are counted. It takes no memory.
 #[tactic(auto, unfolding(crate::specs::Size::pool_size))]
 pub fn pool_size(env: &EnvSnapshot) -> u32
     ensures size { result ≡ pool_size env.now }

@@ -1,7 +1,9 @@
-//! The command: its words ask for a compile run, which it drives on the machine.
+//! The command: its words ask for a compile run, which it drives on the machine. Standard output bears the lines
+//! that Cargo reads from a build script (The Cargo Book, "Build Scripts"); `HELP` lists the words and the statuses.
 //!
-//! Stands on `cc_command`, whose `drive` reads the words and runs what they ask for: that call carries the theorem of the repository. Here is what
-//! knows the process: its words, the host that runs processes, and a pool of the size that its variables ask for.
+//! Stands on `cc_command`, whose `drive` reads the words and runs what they ask for: that call carries the theorem
+//! of the repository. Here is what knows the process: its words, the host that runs processes, and a pool of the
+//! size that its variables ask for.
 #![tactic(auto)]
 
 ghost use Rattle.std.specs.Prelude.{◌≡◌, ◌≤◌, IfOk};

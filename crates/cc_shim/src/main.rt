@@ -1,4 +1,5 @@
 //! A stand-in for a compiler and an archiver, for tests: it does what its words ask for, and writes down its words.
+//! So a test needs no compiler, and sees each command line in the file that the command made.
 //!
 //! Stands on `cc_text`. What the words ask for stands in `words.rt`, with a contract for each answer; `main` alone
 //! reads and writes files.

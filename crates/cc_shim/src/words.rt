@@ -1,4 +1,4 @@
-// What the words ask for.
+// What the words ask for: the forms of GCC, `cl.exe` and `ar` that tests use, and words `--shim-..` of its own.
 ghost use Rattle.std.specs.Prelude.{◌≡◌, ◌<◌, ◌++◌, length, find, nat_eq, bytes_eq, IfOk, IfSome, OnOk};
 ghost use Rattle.std.specs.List.{position, starts_with};
 ghost use Rattle.std.specs.Option.{option_copied};
@@ -7,7 +7,7 @@ ghost use Rattle.cc_shim.specs.Shim.{has, value_of, next_to, with_digit, number_
 use cc_text::{Mem, Text, after_prefix, begins_with};
 use std::alloc::Global;
 
-// Whether a word is given.
+// Whether the word `-?` is given.
 fn has_no_source(words: &[Text]) -> bool
     ensures { result ≡ has words.now "-?" }
 {
@@ -27,7 +27,7 @@ fn first_with<'a>(words: &'a [Text], prefix: &str) -> Option<&'a Text>
     words.iter().find(|word| begins_with(word.as_str(), prefix))
 }
 
-/// What follows the prefix in the first word that begins with it.
+/// What follows the prefix in the first word that begins with it, lent, or none. It takes no memory.
 #[tactic(auto, unfolding(crate::specs::Shim::value_of))]
 pub fn value_of<'a>(words: &'a [Text], prefix: &str) -> Option<&'a str>
     ensures { option_copied result ≡ value_of words.now prefix.now }
@@ -108,7 +108,8 @@ fn push_text(text: &mut Text, word: &str) -> Mem<()>
     Ok(())
 }
 
-/// What is written to standard error: the lines that were asked for, then the texts.
+/// What is written to standard error: for each `--shim-lines=N` N lines `x`, and then the text of each
+/// `--shim-err=TEXT` as a line. Only want of memory refuses; nothing is kept then.
 #[tactic(auto, unfolding(crate::specs::Shim::heard))]
 pub fn heard(alloc: Global, words: &[Text]) -> Mem<Text>
     ensures { IfOk result (λ text. text ≡ heard words.now) }
@@ -132,7 +133,7 @@ fn push_line(text: &mut Text, word: &str) -> Mem<()>
     Ok(())
 }
 
-/// Words, one per line.
+/// The words, each as a line with its line feed. Only want of memory refuses; nothing is kept then.
 pub fn lines(alloc: Global, words: &[Text]) -> Mem<Text>
     ensures { IfOk result (λ text. text ≡ lines words.now) }
 {
@@ -143,7 +144,7 @@ pub fn lines(alloc: Global, words: &[Text]) -> Mem<Text>
     Ok(text)
 }
 
-/// The file that is copied to standard output, where one is asked for.
+/// The file that is copied to standard output: with `-E`, the last word; else none. It takes no memory.
 #[tactic(auto, unfolding(crate::specs::Shim::copied))]
 pub fn copied(words: &[Text]) -> Option<&str>
     ensures { option_copied result ≡ copied words.now }
@@ -157,7 +158,8 @@ pub fn copied(words: &[Text]) -> Option<&str>
     }
 }
 
-/// The file that the words are written to, where one is named.
+/// The file that the words are written to: the word after `-o`, else what follows `-Fo`; none without either. It
+/// takes no memory.
 #[tactic(auto, unfolding(crate::specs::Shim::output))]
 pub fn output(words: &[Text]) -> Option<&str>
     ensures { option_copied result ≡ output words.now }
@@ -178,7 +180,8 @@ fn archiving_place(words: &[Text]) -> Option<usize>
         .position(|word| word.as_str() == "cqD" || word.as_str() == "cq")
 }
 
-/// The words behind the one that asks for an archive, where one does: the library, and its members.
+/// The words after the first `cqD` or `cq`, by which `ar` is asked for an archive: the library, and then its
+/// members. Nothing where neither is given. It takes no memory.
 #[tactic(auto, unfolding(crate::specs::Shim::archived))]
 pub fn archived(words: &[Text]) -> &[Text]
     ensures { result.now ≡ archived words.now }
@@ -189,7 +192,9 @@ pub fn archived(words: &[Text]) -> &[Text]
     }
 }
 
-/// The number that the program ends with, where a file failed or none did.
+/// The status that the program ends with: that of `--shim-status=N`, in its lowest 8 bits; else 1 where the word
+/// `-?` is given, as compilers other than `cl.exe` refuse it; else 2 where a file failed (`failed`); else 0. It
+/// takes no memory.
 #[tactic(auto, unfolding(crate::specs::Shim::status))]
 pub fn status(words: &[Text], failed: bool) -> u8
     ensures { result ≡ status words.now failed }

@@ -1,33 +1,37 @@
-// The parts of a target.
+// The parts of a target: those of rustc's `cfg` (The Rust Reference, "Conditional compilation"), which Cargo hands
+// on as `CARGO_CFG_TARGET_*` (The Cargo Book, "Environment Variables").
 ghost use Rattle.std.specs.Prelude.{◌≡◌, ◌↔◌, IsErr, None, option_map};
 ghost use Rattle.std.specs.Result.{result_ok};
 ghost use Rattle.cc_target.specs.Targets.{info_seen, info_of, is_arm};
 
 use crate::rows::row_named;
 
-/// The table has no row of the name.
+/// The table has no row of that name: it is misspelt, or a target that isn't ported yet.
 #[derive(Clone, Copy, Debug, PartialEq, Eq)]
 pub struct UnknownTarget;
 
-/// The parts of a target, as Cargo names them in `CARGO_CFG_TARGET_*`. A part that a target lacks is empty.
+/// The parts of a target, by which flags and tools are chosen. A part that a target lacks is empty. All but
+/// `full_arch` follow rustc's `cfg`.
 #[derive(Clone, Copy, Debug, PartialEq, Eq)]
 pub struct TargetInfo {
-    /// The architecture, with its version, as the name begins.
+    /// The architecture with its version, as the target's name has it: `armv7` where `arch` is `arm`, `i586` where
+    /// it is `x86`. Flags that choose a processor need it.
     pub full_arch: &'static str,
-    /// The architecture's family.
+    /// The architecture's family, as `arm` or `x86_64`: `target_arch`.
     pub arch: &'static str,
-    /// Who makes the system.
+    /// Who makes the machine or the system, as `pc`, mostly `unknown`: `target_vendor`.
     pub vendor: &'static str,
-    /// The system.
+    /// The operating system, or `none` for code that runs without one: `target_os`.
     pub os: &'static str,
-    /// The system's C library, or its version.
+    /// The C library or, for QNX, the system's version, as `gnu`, `musl` or `nto71`: `target_env`.
     pub env: &'static str,
-    /// The binary interface, where the others don't tell it.
+    /// The binary interface where the other parts leave it open, as `eabihf` or `x32`: `target_abi`.
     pub abi: &'static str,
 }
 
 impl TargetInfo {
-    /// The parts that the table has for a name. Refused exactly where it has no row of that name.
+    /// The parts of the target with this name, as rustc spells it. Refused exactly where the table has no row of
+    /// that name, which leaves nothing. It takes no memory.
     pub fn from_rustc_target(name: &str) -> Result<TargetInfo, UnknownTarget>
         ensures row { option_map info_seen (result_ok result) ≡ info_of name.now }
         ensures unknown { IsErr result ↔ (info_of name.now ≡ None) }
@@ -38,7 +42,7 @@ impl TargetInfo {
         }
     }
 
-    /// Whether the architecture's family is one of Arm: `aarch64`, `arm64ec` or `arm`.
+    /// Whether the architecture's family is one of Arm: `aarch64`, `arm64ec` or `arm`. It takes no memory.
     pub fn is_arm(&self) -> bool
         ensures { result ≡ is_arm (info_seen self.now) }
     {

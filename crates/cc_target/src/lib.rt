@@ -1,4 +1,6 @@
-//! What is known of each target by its Rust name, as a table with one row a target.
+//! What is known of each target by its Rust name (rustc's book, "Platform Support"), as a table with one row a
+//! target. A table is needed since Cargo gives a build script the parts of its own target alone, and a build may be
+//! for another.
 //!
 //! Stands on `cc_text`. The crates above use one thing: each call gives what the row of the name says, and no row,
 //! no answer. No call takes memory. Targets of the Visual Studio tools aren't in the table yet.

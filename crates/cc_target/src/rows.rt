@@ -1,4 +1,7 @@
-// The table of targets.
+// The table of targets, whose entries are this project's. Names and parts follow rustc's book, "Platform Support",
+// and `rustc --print cfg`; the third name follows the `llvm-target` of `rustc --print target-spec-json`; the
+// prefixes are the names under which distributions and vendors ship the GNU tools, as Debian's
+// `arm-linux-gnueabihf-gcc`.
 ghost use Rattle.std.specs.Prelude.{◌≡◌, IsTrue, find, bytes_eq, map, option_map};
 ghost use Rattle.std.specs.List.{list_all};
 ghost use Rattle.std.specs.Option.{option_copied};
@@ -6,13 +9,18 @@ ghost use Rattle.cc_target.specs.Targets.{lines, line_of, line_seen, are_apart, 
 
 use crate::TargetInfo;
 
-/// A row of the table.
+/// A row of the table: what is known of one target.
 #[derive(Clone, Copy)]
 pub struct Row {
+    /// The name that rustc has for the target.
     pub name: &'static str,
+    /// Its parts.
     pub info: TargetInfo,
+    /// The name that LLVM has for it.
     pub llvm: &'static str,
+    /// What the names of its GNU tools begin with, where there is one way only.
     pub prefix: Option<&'static str>,
+    /// What they may begin with, where there are several ways, the likeliest first; else nothing.
     pub candidates: &'static [&'static str],
 }
 
@@ -299,7 +307,7 @@ fn row_among<'a>(rows: &'a [Row], name: &str) -> Option<&'a Row>
     rows.iter().find(|row| row.name == name)
 }
 
-/// The row with the name, or none.
+/// The row of the name, or none. It takes no memory.
 pub fn row_named(name: &str) -> Option<&'static Row>
     ensures { option_map line_seen (option_copied result) ≡ line_of name.now }
 {

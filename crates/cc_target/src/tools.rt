@@ -6,7 +6,9 @@ ghost use Rattle.cc_text.specs.Words.{texts};
 
 use crate::rows::row_named;
 
-/// The name that LLVM has for a target, as Clang's `--target` takes it, or none without a row.
+/// The name that LLVM has for a target, as Clang's `--target` takes it (Clang's page "Cross-compilation using
+/// Clang", "Target Triple"); it may differ from rustc's, as `x86_64-pc-solaris` for illumos. None without a row. It
+/// takes no memory.
 pub fn llvm_target(name: &str) -> Option<&'static str>
     ensures { option_copied result ≡ llvm_of name.now }
 {
@@ -14,22 +16,24 @@ pub fn llvm_target(name: &str) -> Option<&'static str>
     Some(row.llvm)
 }
 
-/// The prefix of the GNU tools' names for a target, where there is a fixed one.
+/// What the names of a target's GNU tools begin with, as `aarch64-linux-gnu` for `aarch64-linux-gnu-gcc`, where
+/// there is one way only. None for other targets and without a row. It takes no memory.
 pub fn gnu_prefix(name: &str) -> Option<&'static str>
     ensures { option_copied result ≡ prefix_of name.now }
 {
     row_named(name)?.prefix
 }
 
-/// The candidate at a place, from 0, among the prefixes that the GNU tools' names may have for a target, or none
-/// past the last one.
+/// The candidate at a place, counted from 0, among what the names of a target's GNU tools may begin with, the
+/// likeliest first; none past the last one and without a row. It takes no memory.
 pub fn gnu_candidate(name: &str, place: usize) -> Option<&'static str>
     ensures { option_copied result ≡ candidate_of name.now place }
 {
     row_named(name)?.candidates.get(place).copied()
 }
 
-/// All those candidates, in order.
+/// All those candidates, in order; nothing for targets with a fixed prefix and without a row. Several stand where
+/// one toolchain goes by several names or compiles for more than one target, as that of RISC-V. It takes no memory.
 pub fn gnu_candidates(name: &str) -> &'static [&'static str]
     ensures { texts result.now ≡ candidates_of name.now }
 {

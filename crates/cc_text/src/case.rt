@@ -1,4 +1,5 @@
-// Texts compared with no regard to the case of ASCII letters.
+// Texts compared with no regard to the case of ASCII letters, as file names of programs are, whose case Windows
+// doesn't heed. Other letters are compared as they are.
 ghost use Rattle.std.specs.Prelude.{◌≡◌, ◌↔◌, IsTrue, ◌+◌, ◌-◌, ◌<◌, ◌≤◌, length};
 ghost use Rattle.std.specs.Str.Iter.{HasSubslice};
 ghost use Rattle.cc_text.specs.Case.{lowered, starts_ignoring_case, ends_ignoring_case};

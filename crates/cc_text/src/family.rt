@@ -1,47 +1,49 @@
-// The families of compilers.
+// The families of compilers. These calls take no memory.
 ghost use Rattle.std.specs.Prelude.{◌≡◌};
 ghost use Rattle.cc_text.specs.Families as families;
 
-/// A family of compilers, by the form of command line that they take.
+/// A family of compilers, by the form of command line that they take. Which words a compiler is given depends on it
+/// first.
 #[derive(Clone, Copy, Debug, PartialEq, Eq)]
 pub enum ToolFamily {
-    /// GCC and what takes its words.
+    /// GCC, and what takes its words.
     Gnu,
-    /// Clang. `zig_cc` tells whether it is the one of Zig.
+    /// Clang, and what takes its words. `zig_cc`: whether it is the Clang of Zig, `zig cc`.
     Clang { zig_cc: bool },
-    /// The Visual Studio compiler. `clang_cl` tells whether it is Clang in that form.
+    /// `cl.exe` of Visual Studio, and what takes its words. `clang_cl`: whether it is Clang's driver `clang-cl`,
+    /// which takes some of Clang's words besides.
     Msvc { clang_cl: bool },
 }
 
-/// GCC, or what takes its words.
+/// Whether it is GCC, or what takes GCC's words and isn't Clang.
 pub fn is_gnu(family: ToolFamily) -> bool
     ensures { result ≡ families.is_gnu family }
 {
     matches!(family, ToolFamily::Gnu)
 }
 
-/// Clang, under its own name or another one that takes its words.
+/// Whether it is Clang with its own words, `zig cc` too; not `clang-cl`.
 pub fn is_clang(family: ToolFamily) -> bool
     ensures { result ≡ families.is_clang family }
 {
     matches!(family, ToolFamily::Clang { .. })
 }
 
-/// The Visual Studio compiler, or Clang in its form.
+/// Whether it takes the words of `cl.exe`: that itself, or `clang-cl`.
 pub fn is_visual_studio(family: ToolFamily) -> bool
     ensures { result ≡ families.is_visual_studio family }
 {
     matches!(family, ToolFamily::Msvc { .. })
 }
 
-/// GCC, Clang and what takes their words.
+/// Whether it takes the words that GCC and Clang share.
 pub fn is_gnu_like(family: ToolFamily) -> bool
     ensures { result ≡ families.is_gnu_like family }
 {
     !is_visual_studio(family)
 }
 
-/// Clang in the form of the Visual Studio compiler.
+/// Whether it is `clang-cl`.
 pub fn is_clang_cl(family: ToolFamily) -> bool
     ensures { result ≡ families.is_clang_cl family }
 {
@@ -52,7 +54,7 @@ pub fn is_clang_cl(family: ToolFamily) -> bool
     }
 }
 
-/// The Visual Studio compiler itself, and no Clang in its form.
+/// Whether it is `cl.exe` itself, not `clang-cl`.
 pub fn is_cl(family: ToolFamily) -> bool
     ensures { result ≡ families.is_cl family }
 {
@@ -63,7 +65,7 @@ pub fn is_cl(family: ToolFamily) -> bool
     }
 }
 
-/// Clang itself, and not the one of Zig.
+/// Whether it is Clang with its own words, and not `zig cc`.
 pub fn is_plain_clang(family: ToolFamily) -> bool
     ensures { result ≡ families.is_plain_clang family }
 {

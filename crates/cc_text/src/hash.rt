@@ -1,4 +1,4 @@
-// The hash FNV-1a of 64 bits, and its digits.
+// The hash FNV-1a of 64 bits, by its authors' page (Fowler, Noll, Vo: "FNV Hash"), and its digits.
 ghost use Rattle.std.specs.Prelude.{◌≡◌, ℕ, ◌+◌, ◌<◌, ◌≤◌, ◌++◌, [], ◌∷◌, IfOk, OnOk};
 ghost use Rattle.cc_text.specs.Hash.{fnv1a, fnv1a_step, fnv1a_from};
 ghost use Rattle.cc_text.specs.Hex.{hex16, hex_digit, hex_digits};
@@ -14,7 +14,8 @@ fn fnv1a_step(hash: u64, byte: u8) -> u64
     (hash ^ u64::from(byte)).wrapping_mul(0x0000_0100_0000_01b3)
 }
 
-/// The hash that goes on from `start`, over the bytes: a caller can hash piece by piece. It takes no memory.
+/// The hash that goes on from `start` over the bytes, so that a caller can hash piece by piece:
+/// `fnv1a_from(fnv1a(a), b)` is the hash of `a` and then `b`. It takes no memory.
 pub fn fnv1a_from(start: u64, bytes: &[u8]) -> u64
     ensures { result ≡ fnv1a_from start bytes.now }
 {
@@ -23,7 +24,8 @@ pub fn fnv1a_from(start: u64, bytes: &[u8]) -> u64
         .fold(start, |hash, byte| fnv1a_step(hash, *byte))
 }
 
-/// FNV-1a of 64 bits over the bytes, by its authors' page (Fowler, Noll, Vo). It takes no memory.
+/// FNV-1a of 64 bits over the bytes, with the offset basis and the prime of its authors' page. It is no safeguard
+/// against those who seek two texts with one hash. It takes no memory.
 pub fn fnv1a(bytes: &[u8]) -> u64
     ensures { result ≡ fnv1a bytes.now }
 {
@@ -54,7 +56,8 @@ fn push_digits(text: &mut Text, count: u8, n: u64) -> Mem<()>
     Ok(())
 }
 
-/// The sixteen digits of a number in hexadecimal, in lower case, with leading zeros.
+/// The sixteen digits of a number in hexadecimal, in lower case, with leading zeros. Only want of memory refuses;
+/// nothing is kept then.
 #[tactic(auto, unfolding(crate::specs::Hex::hex16))]
 pub fn hex16(alloc: Global, n: u64) -> Mem<Text>
     ensures { IfOk result (λ text. text ≡ hex16 n) }

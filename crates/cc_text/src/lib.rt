@@ -1,8 +1,12 @@
-//! Texts, lists of them, paths, quoting and hashes: what needs no word of compilers.
+//! Texts, lists of them, paths, quoting and hashes, and the families of compilers: what all crates above name.
 //!
 //! Stands on std alone. Contracts see a `Text` as its bytes, `Words` as a list of texts and `Vars` as a list of
 //! pairs of texts. The crates above use one thing: each call equals its definition in `specs/`, and only want of
 //! memory refuses.
+//!
+//! A call that may allocate answers `Mem`, and one that takes no memory can't be refused. A refused call that
+//! changes its receiver leaves it as it was; what it was given to keep is dropped. Names of std's are cited where
+//! the rule is std's.
 #![tactic(auto)]
 
 mod among;

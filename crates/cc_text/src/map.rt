@@ -1,4 +1,4 @@
-// A small map: a list of pairs.
+// A small map: a list of pairs, which is searched from its front.
 ghost use Rattle.std.specs.Prelude.{◌≡◌, ◌<◌, [], length, slice_get, IsSome, IsOk, OnOk, OnErr};
 ghost use Rattle.std.specs.Borrow.{sem};
 ghost use Rattle.std.specs.List.{position};
@@ -8,8 +8,8 @@ use crate::Mem;
 use std::alloc::Global;
 use std::marker::Model;
 
-/// A map from keys to values, for few keys. Contracts see a list of pairs with distinct keys, in the order in which
-/// the keys came.
+/// A map from keys to values, for few keys: each look-up goes through them all. Contracts see a list of pairs with
+/// distinct keys, in the order in which the keys came.
 #[derive(Drop)]
 pub struct VecMap<K: PartialEq, V> {
     entries: Vec<(K, V)>,
@@ -39,7 +39,7 @@ impl<K: PartialEq + Drop, V: Drop> VecMap<K, V> {
         }
     }
 
-    /// The pairs in order, lent.
+    /// The pairs, in the order in which their keys came, lent; no key is there twice. It takes no memory.
     pub fn as_slice(&self) -> &[(K, V)]
         ensures pairs { result.now ≡ self.now }
         ensures distinct { HasDistinctKeys K.eq self.now }
@@ -54,7 +54,7 @@ impl<K: PartialEq + Drop, V: Drop> VecMap<K, V> {
         self.entries.iter().position(|pair| pair.0 == *key)
     }
 
-    /// The value of a key, or none. It takes no memory.
+    /// The value of a key, lent, or none. It takes no memory.
     pub fn get(&self, key: &K) -> Option<&V>
         ensures { option_copied result ≡ value_of K.eq self.now key.now }
     {
@@ -72,7 +72,7 @@ impl<K: PartialEq + Drop, V: Drop> VecMap<K, V> {
         &mut pair.1
     }
 
-    /// The value of a key, to be written, or none. It takes no memory.
+    /// The value of a key, lent to be written, or none. The other pairs stay as they are. It takes no memory.
     pub fn get_mut(&mut self, key: &K) -> Option<&mut V>
         ensures* writes_back { sem 𝓛 (lends_value K.row V.row K.PartialEq self.entry key.now result) }
         ensures value { option_copied_mut result ≡ value_of K.eq self.old key.now }
@@ -83,8 +83,8 @@ impl<K: PartialEq + Drop, V: Drop> VecMap<K, V> {
         }
     }
 
-    /// Gives a key a value: in its place where the key is there, which takes no memory, else in a pair that is
-    /// added last. Refused for memory, the map stays as it was.
+    /// Gives a key a value: in its place where the key is there, which takes no memory and isn't refused, else in a
+    /// pair that is added last. Refused for memory, the map stays as it was, and `key` and `value` are dropped.
     pub fn insert(&mut self, key: K, value: V) -> Mem<()>
         ensures ok { OnOk result (self.new ≡ with_pair K.eq self.old key value) }
         ensures err { OnErr result (self.new ≡ self.old) }

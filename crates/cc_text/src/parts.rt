@@ -1,4 +1,5 @@
-// The components of a path.
+// The components of a path, by Rust's std: the module `std::path`, type `Component`, on a system whose separator is
+// `/`.
 ghost use Rattle.std.specs.Prelude.{◌≡◌, ◌↔◌, ◌<◌, ◌++◌, false, length, map, IfOk, IsTrue};
 ghost use Rattle.std.specs.Path.{path_components, path_join, component_bytes, is_dot_at, IsRelative, IsWellFormedComponent};
 ghost use Rattle.cc_text.specs.Components.{component_of, KeepsComponents};
@@ -7,16 +8,16 @@ use crate::{Mem, Text};
 use std::alloc::Global;
 use std::path::{self, Path};
 
-/// A component of a path.
+/// A component of a path, which owns its text.
 #[derive(Drop, Debug)]
 pub enum Component {
-    /// The `/` that a path begins with.
+    /// The `/` that an absolute path begins with.
     RootDir,
-    /// A part `.` that a relative path begins with.
+    /// A part `.` that a relative path begins with; others vanish.
     CurDir,
-    /// A part `..`.
+    /// A part `..`, which isn't resolved.
     ParentDir,
-    /// Any other part.
+    /// Any other part: a name, without slashes.
     Normal(Text),
 }
 
@@ -34,8 +35,9 @@ fn owned(alloc: Global, part: path::Component<'_>) -> Mem<Component>
     }
 }
 
-/// The components of a path: a leading `/`, then the parts between slashes, where empty parts vanish, and a part
-/// `.` that isn't the first of a relative path. `..` stays. As `std::path::Path::components` has it.
+/// The components of a path, in order: a leading `/`, then the parts between slashes. Empty parts vanish, and so
+/// does a part `.` that isn't the first of a relative path; `..` stays. As `std::path::Path::components` has it.
+/// Only want of memory refuses; nothing is kept then.
 pub fn components(alloc: Global, path: &str) -> Mem<Vec<Component>>
     ensures { IfOk result (λ parts. parts.items ≡ map component_of (path_components path.now)) }
 {
@@ -53,8 +55,9 @@ fn begins_with_a_name(path: &str) -> bool
     !path.starts_with('/') && path != "." && !path.starts_with("./")
 }
 
-/// Whether the base is not empty, and the path is relative and doesn't begin with the part `.`. Then the
-/// components of the two joined are those of the base and then those of the path.
+/// Whether joining adds components and changes none: the base isn't empty, and the path is relative and doesn't
+/// begin with the part `.`. Then the components of `join` are those of the base and then those of the path. It
+/// takes no memory.
 pub fn keeps_components(base: &str, path: &str) -> bool
     ensures just { IsTrue result ↔ KeepsComponents base.now path.now }
     ensures law { IsTrue result

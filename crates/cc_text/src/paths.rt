@@ -1,4 +1,5 @@
-// Paths as texts, read by their components.
+// Paths as texts, read by their components: Rust's std, `std::path::Path`, on a system whose separator is `/`. No
+// call asks the file system.
 ghost use Rattle.std.specs.Prelude.{◌≡◌, ◌↔◌, IfOk, IsTrue};
 ghost use Rattle.std.specs.Option.{option_copied};
 ghost use Rattle.std.specs.Path.{path_components, path_join, path_parent, path_file_name, path_file_stem, path_extension};
@@ -8,8 +9,9 @@ use crate::{Mem, Text};
 use std::alloc::Global;
 use std::path::{Path, PathBuf};
 
-/// The path that `path` is from `base`: `path` itself where it begins with `/`, else the base, a `/` where the
-/// base is neither empty nor ends with one, and `path`. As `std::path::Path::join` has it.
+/// The path that `path` is, seen from `base`: `path` itself where it begins with `/`, else the base, a `/` where
+/// the base is neither empty nor ends with one, and `path`. As `std::path::Path::join` has it. Only want of memory
+/// refuses; nothing is kept then.
 pub fn join(alloc: Global, base: &str, path: &str) -> Mem<Text>
     ensures { IfOk result (λ joined. joined ≡ path_join base.now path.now) }
 {
@@ -17,7 +19,8 @@ pub fn join(alloc: Global, base: &str, path: &str) -> Mem<Text>
 }
 
 /// The path up to the end of its last component but one: `/` where only the root is left, empty where nothing is.
-/// None for a path without components and for the root alone. As `std::path::Path::parent` has it. It takes no memory.
+/// None for a path without components and for the root alone. As `std::path::Path::parent` has it. It takes no
+/// memory.
 pub fn parent(path: &str) -> Option<&str>
     ensures { option_copied result ≡ path_parent path.now }
 {
@@ -48,9 +51,9 @@ pub fn extension(path: &str) -> Option<&str>
     Path::new(path).extension()
 }
 
-/// The path with its file name replaced by its stem, a dot and `ext`; a path without file name stays as it is.
-/// The dot stands before an empty extension too.
-
+/// The path with its file name replaced by its stem, a dot and `ext`; a path without file name stays as it is. The
+/// dot stands before an empty `ext` too, which is where this differs from `std::path::Path::with_extension`. Only
+/// want of memory refuses; nothing is kept then.
 pub fn with_extension(alloc: Global, path: &str, ext: &str) -> Mem<Text>
     ensures { IfOk result (λ text. text ≡ with_extension path.now ext.now) }
 {
@@ -64,7 +67,8 @@ pub fn with_extension(alloc: Global, path: &str, ext: &str) -> Mem<Text>
     Ok(text)
 }
 
-/// Whether two paths have the same components. It takes no memory.
+/// Whether two paths have the same components, as std compares them: `a//b` and `a/./b` are the same, `a/../b` and
+/// `b` aren't. It takes no memory.
 #[tactic(auto, using(crate::proofs::PathLemmas::same_by_both))]
 pub fn same_path(a: &str, b: &str) -> bool
     ensures { IsTrue result ↔ (path_components a.now ≡ path_components b.now) }

@@ -57,8 +57,9 @@ fn after_first(path: &str) -> &str
     }
 }
 
-/// The path from the first component after the base's to the end of its last; none where the base's components
-/// aren't the first of the path's. It takes no memory.
+/// The path from the first component after the base's to the end of its last, lent; empty where the two have the
+/// same components, and none where the base's components aren't the first of the path's. As
+/// `std::path::Path::strip_prefix` has it. It takes no memory.
 pub fn strip_prefix<'a>(path: &'a str, base: &str) -> Option<&'a str>
     ensures { option_copied result ≡ strip_prefix path.now base.now }
 {

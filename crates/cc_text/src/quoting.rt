@@ -1,4 +1,4 @@
-// Texts in double quotes, for a reader.
+// Texts in double quotes, as messages show paths and words.
 ghost use Rattle.std.specs.Prelude.{◌≡◌, ℕ, ◌+◌, ◌<◌, ◌≤◌, ◌++◌, [], ◌∷◌, IfOk, OnOk, flat_map, encode_utf8};
 ghost use Rattle.std.specs.Str.{chars};
 ghost use Rattle.cc_text.specs.Quoted.{quoted, quoted_char, escaped};
@@ -38,9 +38,10 @@ fn push_quoted(text: &mut Text, c: char) -> Mem<()>
     }
 }
 
-/// The text in double quotes: a backslash before `"` and `\`, line feed, carriage return, tab and NUL as `\n`,
-/// `\r`, `\t` and `\0`, other characters below U+0020 and U+007F as `\u{h}` with `h` in lower case hexadecimal
-/// without leading zeros, and all else as it is. As Rust's `Debug` of a `str` writes ASCII text.
+/// The text in double quotes, so that a reader sees where it ends: a backslash before `"` and `\`; line feed,
+/// carriage return, tab and NUL as `\n`, `\r`, `\t` and `\0`; other characters below U+0020, and U+007F, as `\u{h}`
+/// with `h` in lower case hexadecimal without leading zeros; all else as it is. As Rust's `Debug` of a `str` writes
+/// ASCII text. Only want of memory refuses; nothing is kept then.
 #[tactic(auto, unfolding(crate::specs::Quoted::quoted))]
 pub fn quoted(alloc: Global, s: &str) -> Mem<Text>
     ensures { IfOk result (λ text. text ≡ quoted s.now) }

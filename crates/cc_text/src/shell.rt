@@ -1,4 +1,5 @@
-// Words as a POSIX shell quotes them.
+// Words as a POSIX shell quotes them: the standard's Shell Command Language (XCU), 2.2 "Quoting" and 2.3 "Token
+// Recognition".
 
 ghost use Rattle.std.specs.Prelude.{◌≡◌, ◌++◌, ◌∷◌, List, IfOk};
 ghost use Rattle.cc_text.specs.Shell.{step, words_of, shell_words, ending, is_open};
@@ -7,10 +8,10 @@ ghost use Rattle.cc_text.specs.declared.shell.Mark.{Mark};
 use crate::{Mem, Text, Words};
 use std::alloc::Global;
 
-/// Where a reader of the text stands.
+/// Where a reader of the text stands, between two characters.
 #[derive(Clone, Copy)]
 pub enum Mode {
-    /// Before a word.
+    /// Outside quotes, with no character of a word since the last blank.
     Between,
     /// In a word, outside quotes.
     Inside,
@@ -26,7 +27,7 @@ pub enum Mode {
     Comment,
 }
 
-/// What a character does to the word in work.
+/// What a character does to the word in work. A word may be in work and still empty, as after `''`.
 #[derive(Clone, Copy)]
 pub enum Mark {
     /// Nothing.
@@ -37,9 +38,9 @@ pub enum Mark {
     Begins,
     /// It adds the character.
     Adds(char),
-    /// It adds a backslash and the character.
+    /// It adds a backslash and the character: in double quotes a backslash stays before most characters.
     AddsEscaped(char),
-    /// It drops the word.
+    /// It drops the word, if there is one.
     Drops,
 }
 
@@ -147,9 +148,10 @@ fn apply(alloc: Global, words: &mut Words, word: Option<Text>, mark: Mark) -> Me
     }
 }
 
-/// The words of a text, as a POSIX shell quotes them (XCU 2.2 and 2.3; the crate `shlex` reads so). Space, tab and
-/// line feed part words; quotes and backslashes keep characters; `#` at the start of a word comments to the line's
-/// end. At an open quote or a last backslash the word in work is dropped, and the words before it stay.
+/// The words of a text as a POSIX shell would quote them, with no expansion; the crate `shlex` reads so. Space, tab
+/// and line feed part words; quotes and backslashes keep characters, and `''` is an empty word; `#` at the start of
+/// a word comments to the line's end. At an open quote or a last backslash the word in work is dropped, and the
+/// words before it stay. Only want of memory refuses; nothing is kept then.
 #[tactic(auto, unfolding(crate::specs::Shell::shell_words))]
 pub fn shell_words(alloc: Global, s: &str) -> Mem<Words>
     ensures { IfOk result (λ words. words ≡ shell_words s.now) }

@@ -1,4 +1,4 @@
-// Look-ups in a list of names and values.
+// Look-ups in a list of names and values. Names are compared byte for byte.
 ghost use Rattle.std.specs.Prelude.{◌≡◌, IsTrue};
 ghost use Rattle.std.specs.Option.{option_copied};
 ghost use Rattle.std.specs.Ordering.{nat_cmp};
@@ -8,7 +8,7 @@ ghost use Rattle.cc_text.specs.Vars.{lookup, names_ascend};
 use crate::{Text, Vars};
 use std::cmp::Ordering;
 
-/// The value of the first pair of a name, or none. It takes no memory.
+/// The value of the first pair of a name, lent, or none. It goes through the pairs, and takes no memory.
 pub fn lookup<'a>(table: &'a Vars, key: &str) -> Option<&'a Text>
     ensures { option_copied result ≡ lookup table.now key.now }
 {
@@ -23,8 +23,8 @@ fn name_order(pair: &(Text, Text), key: &str) -> Ordering
     pair.0.as_str().cmp(key)
 }
 
-/// The value of a name in a table whose names ascend strictly by bytes, or none. It searches by halves, and takes
-/// no memory.
+/// The value of a name, lent, or none: what `lookup` gives, found by halves. The caller sees to it that the names
+/// ascend strictly by bytes. It takes no memory.
 pub fn lookup_sorted<'a>(table: &'a Vars, key: &str) -> Option<&'a Text>
     requires { IsTrue (names_ascend table.now) }
     ensures { option_copied result ≡ lookup table.now key.now }
