@@ -15,7 +15,7 @@ loop-child-preserved g c =
       total = c.give.ensures.total ∙ c.loop-child.invariant.total;
       later = omega (arith, c.give.ensures.later, c.loop-child.invariant.later);
       counts = grind (arith, common_steps);
-      patient = c.abandon.ensures.patient ∙ c.loop-child.invariant.patient;
+      patient = c.abandon.ensures.keeps.1 ∙ c.loop-child.invariant.patient;
       adds = s.0;
       own = s.1;
     }
