@@ -11,7 +11,7 @@ use Rattle.cc_host.specs.declared.event.OutputKind.TheVariants.{Discard}
 use Rattle.cc_host.specs.declared.event.Status.{Status}
 use Rattle.cc_host.specs.declared.event.Why.{Why}
 use Rattle.cc_run.specs.Lines.{warnings}
-use Rattle.cc_run.specs.Shown.{prints}
+use Rattle.cc_run.specs.Prints.{prints}
 use Rattle.cc_run.specs.Texts.{announced, cargo_line, debug_line, ended_text}
 use Rattle.cc_run.specs.declared.error.RunError.{RunError}
 use Rattle.cc_run.specs.declared.error.RunError.TheVariants.{ToolNotFound, Failed, StartFault, HostFault, NoMemory}
@@ -23,10 +23,11 @@ use Rattle.cc_run.specs.declared.print.Line.{Line}
 abbrev pub map_warnings : Option (List ℕ) → List ℕ → List Line
 map_warnings ignored stderr = map (cargo_line Warning) (warnings ignored stderr)
 
--- the lines behind a command: how it ended, and the warnings of its standard error
+-- the lines behind a command: the warnings of its standard error, and then how it ended
 unfoldable pub behind : Shows → Bool → Option (List ℕ) → Status → List ℕ → List Line
 behind shows always ignored status stderr =
-    when shows.debug (debug_line (ended_text status) ∷ []) ++ when (shows.warnings && (always || is_success status)) (map_warnings ignored stderr)
+    when (shows.warnings && (always || is_success status)) (map_warnings ignored stderr)
+    ++ when shows.debug (debug_line (ended_text status) ∷ [])
 
 -- a command as it ran, between the line before it and some of those behind it
 pub record RanWhole (shows : Shows) (p : Planned) (out : OutputKind) (always : Bool) (ignored : Option (List ℕ)) (part : List Event) : Type 0 where

@@ -6,7 +6,7 @@ use Rattle.cc_host.specs.declared.event.HostCall.TheVariants.{Start, Print}
 use Rattle.cc_host.specs.declared.event.Why.{Why}
 use Rattle.cc_run.specs.Children.{Kept}
 use Rattle.cc_run.specs.Planned.{pipes_of}
-use Rattle.cc_run.specs.Shown.{prints}
+use Rattle.cc_run.specs.Prints.{prints}
 use Rattle.cc_run.specs.Texts.{announced}
 use Rattle.cc_run.specs.declared.error.RunError.{RunError}
 use Rattle.cc_run.specs.declared.error.RunError.TheVariants.{ToolNotFound, StartFault, HostFault, NoMemory}

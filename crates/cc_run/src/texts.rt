@@ -23,21 +23,17 @@ pub(crate) fn cargo_line(alloc: Global, kind: LineKind, text: &[u8]) -> Mem<Line
 }
 
 // Adds each of these texts as such a line.
-pub(crate) fn push_lines(
-    alloc: Global,
-    kind: LineKind,
-    texts: &[Bytes],
-    lines: &mut Vec<Line>,
-) -> Mem<()>
+pub(crate) fn push_lines(kind: LineKind, texts: &[Bytes], lines: &mut Vec<Line>) -> Mem<()>
     ensures { OnOk result (lines.new.items ≡ lines.old.items ++ map (cargo_line kind) texts.now) }
 {
+    let alloc = *lines.allocator();
     for text in texts {
         lines.push(cargo_line(alloc, kind, text.as_slice())?)?;
     }
     Ok(())
 }
 
-// A line that tells of a command that begins or ended.
+// A line for debugging.
 fn debug_line(alloc: Global, text: &[u8]) -> Mem<Line>
     ensures { IfOk result (λ line. line ≡ debug_line text.now) }
 {
