@@ -113,7 +113,7 @@ module _ (shows : Shows) (p : Planned) (held : ℕ) (old new : Kept) (part : Lis
   ann : List Line
   ann = announced shows p.cmd
 
-  -- a start is reported by no missing command and no fault
+  -- a start has no missing command and no fault
   pub start_named : (cmds : List Planned) (id : ℕ) → IsStart shows p held old (Ok id) new part → NamesCause {T = Step} (asked shows cmds) (Ok Ready) part
   unfolding ann
   start_named cmds id s = (

@@ -128,7 +128,7 @@ goes_news t cmds old mid new r r' ns result a b s is same busy news =
     (goes_then t cmds mid (mid ++ prints s.lines) new r' r' r' (goes_prints t cmds mid (mid ++ prints s.lines) r' s.lines refl)
     (goes_fault t cmds (mid ++ prints s.lines) new r' result (b ∙ ap (λ l. mid ++ l) s.is ∙ sym (append_assoc mid _ _))))
 
--- the answer of what was printed warns its fault
+-- the answer of what was printed names its fault
 pub spoken_named : {T : Type 0} (U : Type 0) (cmds : List Asked) (result : Result T RunError) (e : RunError) → result ≡ Err e → IsPrintError e → NamesCause {T = U} cmds (Err e) (fault_of_answer result)
 unfolding fault_of_answer
 spoken_named U cmds result (HostFault call why) x k = (ap (λ r. missing (fault_of_answer r)) x, ap (λ r. faults (fault_of_answer r)) x, ap (λ r. abandoned (fault_of_answer r)) x)

@@ -34,7 +34,8 @@ rest_lines shows child = when shows.warnings (map (stderr_line child.id) (option
 abbrev pub unread_lines : Shows → Child → List Line
 unread_lines shows child = rest_lines shows child ++ when shows.warnings (cargo_line Warning unread_text ∷ [])
 
--- the same, the end, and a warning of a failure, where it is to be told
+-- the same, the end, and a warning of a failure, where it is warned of
 abbrev pub ended_lines : Shows → Bool → CommandSeen → Status → Child → List Line
 ended_lines shows warns cmd status child =
-    rest_lines shows child ++ when shows.debug (debug_line (ended_text status) ∷ []) ++ when (warns && shows.warnings && not (is_success status)) (failed_line status cmd ∷ [])
+    rest_lines shows child ++ when shows.debug (debug_line (ended_text status) ∷ [])
+    ++ when (warns && shows.warnings && not (is_success status)) (failed_line status cmd ∷ [])

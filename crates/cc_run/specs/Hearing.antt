@@ -40,7 +40,8 @@ children_from cs (e ∷ es) = children_from (children_after cs e) es
 
 -- the lines of the end of a child, by its command
 abbrev pub end_lines : Shows → Bool → List Planned → Status → Child → List Line
-end_lines shows warns cmds status c = flat_map (λ p. ended_lines shows warns p.cmd status c) (take 1 (drop c.place cmds))
+end_lines shows warns cmds status c =
+    flat_map (λ p. ended_lines shows warns p.cmd status c) (take 1 (drop c.place cmds))
 
 -- the lines that an event gives
 abbrev pub owed : Shows → Bool → List Planned → List Child → Event → List Line
@@ -52,7 +53,8 @@ owed shows warns cmds cs _ = []
 -- the lines that these events give, in order
 abbrev pub owed_from : Shows → Bool → List Planned → List Child → List Event → List Line
 owed_from shows warns cmds cs [] = []
-owed_from shows warns cmds cs (e ∷ es) = owed shows warns cmds cs e ++ owed_from shows warns cmds (children_after cs e) es
+owed_from shows warns cmds cs (e ∷ es) = owed shows warns cmds cs e
+    ++ owed_from shows warns cmds (children_after cs e) es
 
 -- what the news of a turn come to, as events
 abbrev pub reports : List News → List Event

@@ -10,13 +10,14 @@ pub record IsIdle {J S : Type 0} (fits : J → S → Type 0) (held : S → ℕ) 
   pub fitting : fits jobs seat
   pub empty : held seat ≡ 0
 
--- the seat is one of this pool, and holds a token for each child of the run; their places are below the number of commands
-pub record IsOneRun {J S : Type 0} (fits : J → S → Type 0) (held : S → ℕ) (jobs : J) (seat : S) (count : ℕ) (kept : Kept) : Type 0 where
+-- the seat is one of this pool, and holds a token for each child of the run; each has a place among so many commands
+pub record IsOneRun {J S : Type 0} (fits : J → S → Type 0) (held : S → ℕ) (jobs : J) (seat : S) (count : ℕ)
+    (kept : Kept) : Type 0 where
   pub fitting : fits jobs seat
   pub tokens : held seat ≡ length kept.children
   pub placed : ArePlaced count kept
 
--- the total that the seat warns stays, and its faults never fall
+-- the total that the seat knows stays, and its faults never fall
 pub record KeepsSeat {S : Type 0} (total : S → Option ℕ) (faults : S → ℕ) (old new : S) : Type 0 where
   pub same_total : total new ≡ total old
   pub later : faults old ≤ faults new
@@ -34,6 +35,6 @@ pub record TurnsMade (old new : TurnsSeen) (part : List Event) : Type 0 where
 abbrev pub IsOneFewer : TurnsSeen → TurnsSeen → Type 0
 IsOneFewer old new = (new.left + 1 ≡ old.left) × (new.used ≡ old.used + 1)
 
--- where the pool tells its total, the seat holds that many, and one at least
+-- where the total of the pool is known, the seat holds that many, and one at least
 abbrev pub IsFull : Option ℕ → ℕ → Type 0
 IsFull total held = IfSome total (λ t. (1 ≤ t) × (held ≡ t))

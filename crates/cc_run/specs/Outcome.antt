@@ -51,7 +51,8 @@ faults_by (Err e) = faults_in e
 
 -- the part has the one missing command or fault that the answer names, and no other
 abbrev pub NamesCause : {T : Type 0} → List Asked → Result T RunError → List Event → Type 0
-NamesCause cmds result part = (missing part ≡ missing_by cmds result) × (faults part ≡ faults_by result) × (abandoned part ≡ [])
+NamesCause cmds result part = (missing part ≡ missing_by cmds result) × (faults part ≡ faults_by result)
+    × (abandoned part ≡ [])
 
 -- the refusals of a spawn: the command that was missing or couldn't be started is the one after those that were started
 abbrev pub IsSpawnError : ℕ → Run → RunError → Type 0
@@ -109,7 +110,8 @@ IsRunError count r _ = Unit {0}
 
 -- a fault or a missing program is the last event
 abbrev pub EndsAt : List Event → RunError → Type 0
-EndsAt log (ToolNotFound place) = (before : List Event) × ((role : Role) × ((cmd : CommandSeen) × (log ≡ before ++ Absent role cmd ∷ [])))
+EndsAt log (ToolNotFound place) = (before : List Event) × ((role : Role) × ((cmd : CommandSeen)
+    × (log ≡ before ++ Absent role cmd ∷ [])))
 EndsAt log (StartFault place) = (before : List Event) × ((why : Why) × (log ≡ before ++ Faulted Start why ∷ []))
 EndsAt log WaitFault = (before : List Event) × ((why : Why) × (log ≡ before ++ Faulted Turn why ∷ []))
 EndsAt log (HostFault call why) = (before : List Event) × (log ≡ before ++ Faulted call why ∷ [])

@@ -26,7 +26,8 @@ StartsNone part = (starts part ≡ 0) × (loads part ≡ 0)
 
 -- the counts rose by the starts and by what these carry, and by so much more
 abbrev pub PaidAnd : ℕ → ℕ → List Event → ℕ → ℕ → ℕ → ℕ → Type 0
-PaidAnd more held part taken load taken' load' = UpBy taken (starts part + more) taken' × UpBy load (loads part + held) load'
+PaidAnd more held part taken load taken' load' = UpBy taken (starts part + more) taken'
+    × UpBy load (loads part + held) load'
 
 -- a start can end a run so: its program is missing, it or its line is refused, or memory is wanted
 abbrev pub IsStartError : RunError → Type 0
@@ -36,7 +37,8 @@ IsStartError (HostFault call why) = Unit {0}
 IsStartError NoMemory = Unit {0}
 IsStartError _ = ⊥
 
--- Both counts rose by the starts. Where a start may have ended the run, one further token may stand in them: that of the start.
+-- Both counts rose by the starts. Where a start may have ended the run, one further token may stand in them: that of
+-- the start.
 abbrev pub Paid : {T : Type 0} → Result T RunError → ℕ → List Event → ℕ → ℕ → ℕ → ℕ → Type 0
 Paid (Ok _) n part taken load taken' load' = PaidAnd 0 0 part taken load taken' load'
 Paid (Err e) n part taken load taken' load' =

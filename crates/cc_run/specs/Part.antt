@@ -82,7 +82,8 @@ pub record Steps (total : Option ℕ) (cmds : List Asked) (r : Run) (part : List
   pub greedy : Greedy total (length cmds) r part
 
 -- A log grew by such a part, which takes each child on.
-pub record Goes (total : Option ℕ) (cmds : List Asked) (old : List Event) (r : Run) (new : List Event) (r' : Run) : Type 0 where
+pub record Goes (total : Option ℕ) (cmds : List Asked) (old : List Event) (r : Run) (new : List Event)
+    (r' : Run) : Type 0 where
   pub extends : new ≡ old ++ since old new
   pub steps : Steps total cmds r (since old new) r'
   pub lives : LivesOn old new

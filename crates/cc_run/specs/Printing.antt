@@ -28,7 +28,10 @@ abbrev pub kept_after : Kept → Event → Kept
 kept_after kept (Started id role cmd pipes held) = with_child id kept
 kept_after kept (Heard id piece) = record kept { children = at_child id (fed piece) kept.children }
 kept_after kept (Unread id) = record kept { children = at_child id emptied kept.children }
-kept_after kept (Ended id status) = record kept { children = without_child id kept.children; failed = failed_at (place_of id (map seat kept.children)) status kept.failed }
+kept_after kept (Ended id status) = record kept {
+  children = without_child id kept.children;
+  failed = failed_at (place_of id (map seat kept.children)) status kept.failed;
+}
 kept_after kept (Abandoned id) = record kept { children = without_child id kept.children }
 kept_after kept _ = kept
 
@@ -44,7 +47,8 @@ due shows warns cmds kept e = owed shows warns cmds kept.children e
 -- the lines that these events give, in order
 abbrev pub due_from : Shows → Bool → List Planned → Kept → List Event → List Line
 due_from shows warns cmds kept [] = []
-due_from shows warns cmds kept (e ∷ es) = due shows warns cmds kept e ++ due_from shows warns cmds (kept_after kept e) es
+due_from shows warns cmds kept (e ∷ es) = due shows warns cmds kept e
+    ++ due_from shows warns cmds (kept_after kept e) es
 
 -- lines that each event gives to one who knows the run right before it
 abbrev pub lines_along : (Run → Event → List Line) → Run → List Event → List Line
@@ -57,7 +61,8 @@ next_lines shows cmds begun = flat_map (λ p. announced shows p.cmd) (take 1 (dr
 
 -- the lines that these events give, and that before the next command
 abbrev pub due_next : Shows → Bool → List Planned → Kept → List Event → List Line
-due_next shows warns cmds kept part = due_from shows warns cmds kept part ++ next_lines shows cmds (kept_from kept part).begun
+due_next shows warns cmds kept part = due_from shows warns cmds kept part
+    ++ next_lines shows cmds (kept_from kept part).begun
 
 -- What was printed, by the answer: all lines that the events give, with the one before a command that couldn't be
 -- started. Where a print or memory was refused, the first of these.
@@ -65,8 +70,10 @@ abbrev pub IsPrinted : {T : Type 0} → Shows → Bool → List Planned → Kept
 IsPrinted shows warns cmds kept (Ok _) part = printed part ≡ due_from shows warns cmds kept part
 IsPrinted shows warns cmds kept (Err (ToolNotFound place)) part = printed part ≡ due_next shows warns cmds kept part
 IsPrinted shows warns cmds kept (Err (StartFault place)) part = printed part ≡ due_next shows warns cmds kept part
-IsPrinted shows warns cmds kept (Err (HostFault call why)) part = (count : ℕ) × (printed part ≡ take count (due_next shows warns cmds kept part))
-IsPrinted shows warns cmds kept (Err NoMemory) part = (count : ℕ) × (printed part ≡ take count (due_next shows warns cmds kept part))
+IsPrinted shows warns cmds kept (Err (HostFault call why)) part = (count : ℕ)
+    × (printed part ≡ take count (due_next shows warns cmds kept part))
+IsPrinted shows warns cmds kept (Err NoMemory) part = (count : ℕ)
+    × (printed part ≡ take count (due_next shows warns cmds kept part))
 IsPrinted shows warns cmds kept (Err _) part = printed part ≡ due_from shows warns cmds kept part
 
 -- the same of starts, whether or not a failure is warned of

@@ -54,10 +54,11 @@ is_stderr id line = is_own_kind id line.kind
 abbrev pub stderr_printed : ℕ → List Event → List Line
 stderr_printed id part = filter (is_stderr id) (printed part)
 
--- The lines that the standard error of that child gives: all of its bytes at once, split at line feeds. Where it was abandoned before it ended
--- and before its standard error failed to be read, the rest behind the last line feed is none.
+-- The lines that the standard error of that child gives: all of its bytes at once, split at line feeds. Where it was
+-- abandoned before it ended and before its standard error failed to be read, the rest behind the last line feed is none.
 abbrev pub stderr_given : Shows → ℕ → List Event → List Line
-stderr_given shows id part = when shows.warnings (map (stderr_line id) (lines_by (list_any (is_over id) part) (heard id part)))
+stderr_given shows id part =
+    when shows.warnings (map (stderr_line id) (lines_by (list_any (is_over id) part) (heard id part)))
 
 -- all of these lines, or the first of them, where a print or memory was refused
 abbrev pub IsForwarded : {T : Type 0} → Result T RunError → List Line → List Line → Type 0

@@ -1,4 +1,5 @@
--- The warnings that a run prints: where a standard error failed to be read, and where a command failed that is to be warned of.
+-- The warnings that a run prints: where a standard error failed to be read, and where a command failed that is to be
+-- warned of.
 use Rattle.std.specs.Prelude.{ℕ, Bool, true, false, List, [], ◌∷◌, filter, not, ◌&&◌, take, drop, Option, None, Some, Result}
 use Rattle.std.specs.List.{flat_map}
 use Rattle.cc_text.specs.Words.{when}
@@ -33,10 +34,15 @@ abbrev pub unread_warned : Shows → Option ℕ → List Line
 unread_warned shows None = []
 unread_warned shows (Some place) = when shows.warnings (cargo_line Warning unread_text ∷ [])
 
+-- a command failed, where that is warned of
+abbrev pub failed_of : Shows → Bool → Status → Planned → List Line
+failed_of shows warns status p = when (warns && shows.warnings && not (is_success status)) (failed_line status p.cmd ∷ [])
+
 -- the command at that place failed
 abbrev pub failed_warned : Shows → Bool → List Planned → Status → Option ℕ → List Line
 failed_warned shows warns cmds status None = []
-failed_warned shows warns cmds status (Some place) = flat_map (λ p. when (warns && shows.warnings && not (is_success status)) (failed_line status p.cmd ∷ [])) (take 1 (drop place cmds))
+failed_warned shows warns cmds status (Some place) =
+    flat_map (failed_of shows warns status) (take 1 (drop place cmds))
 
 abbrev pub warning_of : Shows → Bool → List Planned → Run → Event → List Line
 warning_of shows warns cmds r (Unread id) = unread_warned shows (place_of id r.live)

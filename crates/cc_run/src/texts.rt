@@ -102,7 +102,8 @@ fn end_in_brackets(alloc: Global, status: Status) -> Mem<Text>
     Ok(text)
 }
 
-/// The message of a command that ended with another status than 0: how it ended, and its line.
+/// The message of a command that ended with another status than 0: how it ended, and its line as `command_line` quotes
+/// it. The words are those of the crate `cc`.
 #[tactic(auto, unfolding(crate::specs::Texts::failed_text))]
 pub fn failed_text(alloc: Global, status: Status, cmd: &Command) -> Mem<Text>
     ensures { IfOk result (λ text. text ≡ failed_text status cmd.now) }

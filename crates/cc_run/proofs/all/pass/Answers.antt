@@ -3,7 +3,6 @@ use Rattle.std.proofs.lemmas.List.{length-map}
 use Rattle.cc_run.specs.Children.{run_of}
 use Rattle.cc_run.specs.Outcome.{IsOpen}
 use Rattle.cc_run.specs.Planned.{asked_by}
-use Rattle.cc_run.specs.declared.error.RunError.{RunError}
 use Rattle.cc_run.specs.declared.error.RunError.TheVariants.{TurnsSpent}
 use Rattle.cc_run.proofs.Payments.{paid_turn}
 use Rattle.cc_run.proofs.PassLemmas.{pass_goes}

@@ -1,10 +1,9 @@
-use Rattle.std.proofs.Common.{◌≡◌, ◌+◌, Ok, Err, Bool, true, false, length, arith, subst, ◌∙◌}
+use Rattle.std.proofs.Common.{◌≡◌, ◌+◌, Ok, Err, Bool, true, false, length, arith, ◌∙◌}
 use Rattle.std.proofs.lemmas.Grind.{common_steps}
 use Rattle.cc_host.specs.Part.{since}
 use Rattle.cc_run.specs.Part.{turns}
 use Rattle.cc_run.proofs.Runs.{goes_on, turns_both, named_then}
 use Rattle.cc_run.specs.Paid.{PaidAnd}
-use Rattle.cc_run.specs.declared.error.RunError.{RunError}
 use Rattle.cc_run.proofs.KeepingLemmas.{keeps_then, made_then}
 use Rattle.cc_run.proofs.Payments.{paid_then, paid_any}
 use Rattle.cc_run.proofs.PatienceLemmas.{lasts_then}

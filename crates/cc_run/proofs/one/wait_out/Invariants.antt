@@ -1,4 +1,4 @@
-use Rattle.std.proofs.Common.{◌≡◌, ◌+◌, ◌<◌, length, Ok, true, false}
+use Rattle.std.proofs.Common.{◌≡◌, ◌<◌, length, Ok, true}
 use Rattle.std.specs.Prelude.{IfSome}
 use Rattle.std.specs.List.{list_all}
 use Rattle.cc_host.specs.Part.{since}

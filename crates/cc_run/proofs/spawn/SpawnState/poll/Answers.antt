@@ -2,7 +2,6 @@ use Rattle.std.proofs.Common.{◌≡◌, ◌+◌, arith, Ok, Err, length, ◌∙
 use Rattle.std.proofs.lemmas.Grind.{common_steps}
 use Rattle.cc_host.specs.Part.{since}
 use Rattle.cc_run.specs.Part.{turns}
-use Rattle.cc_run.specs.declared.error.RunError.{RunError}
 use Rattle.cc_run.specs.declared.error.Step.{Step}
 use Rattle.cc_run.specs.declared.error.Step.TheVariants.{Ready, Pending}
 use Rattle.cc_run.proofs.KeepingLemmas.{keeps_then}
