@@ -14,7 +14,7 @@ use Rattle.cc_host.specs.declared.event.Event.TheVariants.{Started, Ended, Aband
 use Rattle.cc_host.specs.declared.event.LineKind.TheVariants.{Warning}
 use Rattle.cc_host.specs.declared.event.Status.{Status}
 use Rattle.cc_run.specs.Children.{Kept, run_of, seat, AreBelow, nothing_kept}
-use Rattle.cc_run.specs.Debugging.{is_debug, debug_printed, end_told, debug_of, debug_from}
+use Rattle.cc_run.specs.Debugging.{is_debug, debug_printed, end_line, debug_of, debug_from}
 use Rattle.cc_run.specs.Forwarded.{heard_lines, rest_lines, unread_lines, ended_lines}
 use Rattle.cc_run.specs.Hearing.{of_child, end_lines}
 use Rattle.cc_run.specs.Lines.{whole_lines, last_line}
@@ -47,11 +47,11 @@ unread_none shows c =
     ∙ ap (λ l. l ++ filter is_debug (when shows.warnings (cargo_line Warning unread_text ∷ []))) (rest_none shows c)
     ∙ filter_when is_debug shows.warnings _ ∙ when_none shows.warnings
 
-ended_one : (shows : Shows) (tells : Bool) (cmd : CommandSeen) (s : Status) (c : Child) → filter is_debug (ended_lines shows tells cmd s c) ≡ when shows.debug (debug_line (ended_text s) ∷ [])
+ended_one : (shows : Shows) (warns : Bool) (cmd : CommandSeen) (s : Status) (c : Child) → filter is_debug (ended_lines shows warns cmd s c) ≡ when shows.debug (debug_line (ended_text s) ∷ [])
 unfolding failed_line
-ended_one shows tells cmd s c =
-    filter-append is_debug (rest_lines shows c ++ when shows.debug (debug_line (ended_text s) ∷ [])) (when (tells && shows.warnings && not (is_success s)) (failed_line s cmd ∷ []))
-    ∙ ap (λ l. filter is_debug (rest_lines shows c ++ when shows.debug (debug_line (ended_text s) ∷ [])) ++ l) (filter_when is_debug (tells && shows.warnings && not (is_success s)) _ ∙ when_none (tells && shows.warnings && not (is_success s)))
+ended_one shows warns cmd s c =
+    filter-append is_debug (rest_lines shows c ++ when shows.debug (debug_line (ended_text s) ∷ [])) (when (warns && shows.warnings && not (is_success s)) (failed_line s cmd ∷ []))
+    ∙ ap (λ l. filter is_debug (rest_lines shows c ++ when shows.debug (debug_line (ended_text s) ∷ [])) ++ l) (filter_when is_debug (warns && shows.warnings && not (is_success s)) _ ∙ when_none (warns && shows.warnings && not (is_success s)))
     ∙ append-nil _
     ∙ filter-append is_debug (rest_lines shows c) (when shows.debug (debug_line (ended_text s) ∷ []))
     ∙ ap (λ l. l ++ filter is_debug (when shows.debug (debug_line (ended_text s) ∷ []))) (rest_none shows c)
@@ -70,49 +70,49 @@ none_of id g h (c ∷ cs) = at (c.id == id) (none_of id g h cs)
     at false k = k
 
 -- the end of a command
-end_one : (shows : Shows) (tells : Bool) (cmds : List Planned) (s : Status) (c : Child) → c.place < length cmds → filter is_debug (end_lines shows tells cmds s c) ≡ when shows.debug (debug_line (ended_text s) ∷ [])
-end_one shows tells cmds s c lt = at cmds c.place lt
+end_one : (shows : Shows) (warns : Bool) (cmds : List Planned) (s : Status) (c : Child) → c.place < length cmds → filter is_debug (end_lines shows warns cmds s c) ≡ when shows.debug (debug_line (ended_text s) ∷ [])
+end_one shows warns cmds s c lt = at cmds c.place lt
   where
-    at : (cmds : List Planned) (place : ℕ) → place < length cmds → filter is_debug (flat_map (λ p. ended_lines shows tells p.cmd s c) (take 1 (drop place cmds))) ≡ when shows.debug (debug_line (ended_text s) ∷ [])
-    at (p ∷ cmds) zero lt = ap (filter is_debug) (append-nil (ended_lines shows tells p.cmd s c)) ∙ ended_one shows tells p.cmd s c
+    at : (cmds : List Planned) (place : ℕ) → place < length cmds → filter is_debug (flat_map (λ p. ended_lines shows warns p.cmd s c) (take 1 (drop place cmds))) ≡ when shows.debug (debug_line (ended_text s) ∷ [])
+    at (p ∷ cmds) zero lt = ap (filter is_debug) (append-nil (ended_lines shows warns p.cmd s c)) ∙ ended_one shows warns p.cmd s c
     at (p ∷ cmds) (suc place) lt = at cmds place (omega arith)
     at [] place lt = absurd (omega arith)
 
-end_of : (shows : Shows) (tells : Bool) (cmds : List Planned) (id : ℕ) (s : Status) (cs : List Child) → AreBelow (length cmds) (map seat cs) → filter is_debug (of_child id (end_lines shows tells cmds s) cs) ≡ end_told shows s (place_of id (map seat cs))
-end_of shows tells cmds id s [] h = refl
-end_of shows tells cmds id s (c ∷ cs) h = at (c.id == id) (end_of shows tells cmds id s cs h.1)
+end_of : (shows : Shows) (warns : Bool) (cmds : List Planned) (id : ℕ) (s : Status) (cs : List Child) → AreBelow (length cmds) (map seat cs) → filter is_debug (of_child id (end_lines shows warns cmds s) cs) ≡ end_line shows s (place_of id (map seat cs))
+end_of shows warns cmds id s [] h = refl
+end_of shows warns cmds id s (c ∷ cs) h = at (c.id == id) (end_of shows warns cmds id s cs h.1)
   where
-    at : (b : Bool) → filter is_debug (of_child id (end_lines shows tells cmds s) cs) ≡ end_told shows s (place_of id (map seat cs)) → filter is_debug (if b then end_lines shows tells cmds s c else of_child id (end_lines shows tells cmds s) cs) ≡ end_told shows s (if b then Some c.place else place_of id (map seat cs))
-    at true k = end_one shows tells cmds s c h.0
+    at : (b : Bool) → filter is_debug (of_child id (end_lines shows warns cmds s) cs) ≡ end_line shows s (place_of id (map seat cs)) → filter is_debug (if b then end_lines shows warns cmds s c else of_child id (end_lines shows warns cmds s) cs) ≡ end_line shows s (if b then Some c.place else place_of id (map seat cs))
+    at true k = end_one shows warns cmds s c h.0
     at false k = k
 
 -- one event
-debug_due : (shows : Shows) (tells : Bool) (cmds : List Planned) (k : Kept) (e : Event) → AreBelow (length cmds) (map seat k.children) → filter is_debug (due shows tells cmds k e) ≡ debug_of shows (run_of k) e
-debug_due shows tells cmds k (Started n role cmd pipes held) h = announced_one shows cmd
-debug_due shows tells cmds k (Heard n p) h = none_of n (λ c. heard_lines shows c p) (heard_none shows p) k.children
-debug_due shows tells cmds k (Unread n) h = none_of n (unread_lines shows) (unread_none shows) k.children
-debug_due shows tells cmds k (Ended n s) h = end_of shows tells cmds n s k.children h
-debug_due shows tells cmds k (Abandoned n) h = refl
-debug_due shows tells cmds k (Turn n) h = refl
-debug_due shows tells cmds k (Answered q f o) h = refl
-debug_due shows tells cmds k (Reused q v) h = refl
-debug_due shows tells cmds k (Unasked q) h = refl
-debug_due shows tells cmds k (Drawn w) h = refl
-debug_due shows tells cmds k (Opened p b) h = refl
-debug_due shows tells cmds k (Taken p) h = refl
-debug_due shows tells cmds k (Dropped p) h = refl
-debug_due shows tells cmds k (Ran role cmd pipes status out err) h = refl
-debug_due shows tells cmds k (Missing role cmd) h = refl
-debug_due shows tells cmds k (Made scope p) h = refl
-debug_due shows tells cmds k (Removed p how) h = refl
-debug_due shows tells cmds k (Printed kind b) h = refl
-debug_due shows tells cmds k (Listed vars) h = refl
-debug_due shows tells cmds k (Fault call why) h = refl
+debug_due : (shows : Shows) (warns : Bool) (cmds : List Planned) (k : Kept) (e : Event) → AreBelow (length cmds) (map seat k.children) → filter is_debug (due shows warns cmds k e) ≡ debug_of shows (run_of k) e
+debug_due shows warns cmds k (Started n role cmd pipes held) h = announced_one shows cmd
+debug_due shows warns cmds k (Heard n p) h = none_of n (λ c. heard_lines shows c p) (heard_none shows p) k.children
+debug_due shows warns cmds k (Unread n) h = none_of n (unread_lines shows) (unread_none shows) k.children
+debug_due shows warns cmds k (Ended n s) h = end_of shows warns cmds n s k.children h
+debug_due shows warns cmds k (Abandoned n) h = refl
+debug_due shows warns cmds k (Turn n) h = refl
+debug_due shows warns cmds k (Answered q f o) h = refl
+debug_due shows warns cmds k (Reused q v) h = refl
+debug_due shows warns cmds k (Unasked q) h = refl
+debug_due shows warns cmds k (Drawn w) h = refl
+debug_due shows warns cmds k (Opened p b) h = refl
+debug_due shows warns cmds k (Taken p) h = refl
+debug_due shows warns cmds k (Dropped p) h = refl
+debug_due shows warns cmds k (Ran role cmd pipes status out err) h = refl
+debug_due shows warns cmds k (Missing role cmd) h = refl
+debug_due shows warns cmds k (Made scope p) h = refl
+debug_due shows warns cmds k (Removed p how) h = refl
+debug_due shows warns cmds k (Printed kind b) h = refl
+debug_due shows warns cmds k (Listed vars) h = refl
+debug_due shows warns cmds k (Fault call why) h = refl
 
 -- those that were printed
-pub debug_all : {T : Type 0} (shows : Shows) (tells : Bool) (cmds : List Planned) (part : List Event) (result : Result T RunError) → IsPrinted shows tells cmds nothing_kept result part → 0 + length (started part) ≤ length cmds → OnOk result (debug_printed part ≡ debug_from shows nothing part)
-debug_all shows tells cmds part (Ok x) q few = ap (filter is_debug) q ∙ along_due is_debug (debug_of shows) shows tells cmds (debug_due shows tells cmds) nothing_kept part tt few
-debug_all shows tells cmds part (Err e) q few = tt
+pub debug_all : {T : Type 0} (shows : Shows) (warns : Bool) (cmds : List Planned) (part : List Event) (result : Result T RunError) → IsPrinted shows warns cmds nothing_kept result part → 0 + length (started part) ≤ length cmds → OnOk result (debug_printed part ≡ debug_from shows nothing part)
+debug_all shows warns cmds part (Ok x) q few = ap (filter is_debug) q ∙ along_due is_debug (debug_of shows) shows warns cmds (debug_due shows warns cmds) nothing_kept part tt few
+debug_all shows warns cmds part (Err e) q few = tt
 
 none_both : {X : Type 0} (xs ys : List X) → xs ++ ys ≡ [] → (xs ≡ []) × (ys ≡ [])
 none_both [] ys e = (refl, e)
@@ -123,17 +123,17 @@ unfolding announced
 announced_once shows cmd on = ap (λ b. length (when b (debug_line (codes "running: " ++ command_line cmd) ∷ []))) on
 
 -- one line, and one child less
-told_once : (shows : Shows) (id : ℕ) (s : Status) (cs : List (ℕ × ℕ)) → shows.debug ≡ true → length (end_told shows s (place_of id cs)) + length (without id cs) ≡ length cs
-told_once shows id s [] on = refl
-told_once shows id s (c ∷ cs) on = at (c.0 == id) (told_once shows id s cs on)
+reported_once : (shows : Shows) (id : ℕ) (s : Status) (cs : List (ℕ × ℕ)) → shows.debug ≡ true → length (end_line shows s (place_of id cs)) + length (without id cs) ≡ length cs
+reported_once shows id s [] on = refl
+reported_once shows id s (c ∷ cs) on = at (c.0 == id) (reported_once shows id s cs on)
   where
-    at : (b : Bool) → length (end_told shows s (place_of id cs)) + length (without id cs) ≡ length cs → length (end_told shows s (if b then Some c.1 else place_of id cs)) + length (if b then cs else c ∷ without id cs) ≡ length (c ∷ cs)
+    at : (b : Bool) → length (end_line shows s (place_of id cs)) + length (without id cs) ≡ length cs → length (end_line shows s (if b then Some c.1 else place_of id cs)) + length (if b then cs else c ∷ without id cs) ≡ length (c ∷ cs)
     at true k = let one : length (when shows.debug (debug_line (ended_text s) ∷ [])) ≡ 1 = ap (λ b. length (when b (debug_line (ended_text s) ∷ []))) on in omega arith
     at false k = omega (arith, k)
 
 counted : (shows : Shows) (r : Run) (e : Event) → shows.debug ≡ true → abandoned_of e ≡ [] → length (debug_of shows r e) + length (run_after r e).live ≡ 2 * length (started_of e) + length r.live
 counted shows r (Started n role cmd pipes held) on h = let one : length (announced shows cmd) ≡ 1 = announced_once shows cmd on in let more : length (r.live ++ (n, r.begun) ∷ []) ≡ length r.live + 1 = length-append r.live ((n, r.begun) ∷ []) in omega (arith, one, more)
-counted shows r (Ended n s) on h = let k : length (end_told shows s (place_of n r.live)) + length (without n r.live) ≡ length r.live = told_once shows n s r.live on in omega (arith, k)
+counted shows r (Ended n s) on h = let k : length (end_line shows s (place_of n r.live)) + length (without n r.live) ≡ length r.live = reported_once shows n s r.live on in omega (arith, k)
 counted shows r (Abandoned n) on h = absurd (cc)
 counted shows r (Heard n p) on h = omega arith
 counted shows r (Unread n) on h = omega arith

@@ -2,6 +2,7 @@ pub mod ChildLemmas
 pub mod DebugLemmas
 pub mod Drops
 pub mod HearingLemmas
+pub mod KeepingLemmas
 pub mod LifeLemmas
 pub mod LineLemmas
 pub mod OutputLemmas

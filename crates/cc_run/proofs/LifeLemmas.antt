@@ -8,7 +8,7 @@ use Rattle.std.proofs.lemmas.List.Sums.{sum_by-cons, sum_by-append}
 use Rattle.std.proofs.lemmas.Grind.{flat_map-append}
 use Rattle.cc_host.specs.Children.{Live, live, live_from, live_after, polled, without, running, id_of, started_ids, unread_of, unreads, InOrder, IsNews, IsPiece}
 use Rattle.cc_host.specs.Command.{CommandSeen}
-use Rattle.cc_host.specs.Event.{told, heard, unread, ended}
+use Rattle.cc_host.specs.Event.{told as reported, heard, unread, ended}
 use Rattle.cc_host.specs.Part.{since}
 use Rattle.cc_host.proofs.Parts.{since_append, since_since}
 use Rattle.cc_host.specs.declared.event.Event.{Event}
@@ -330,8 +330,8 @@ module _ (id : ℕ) where
   end_by l None a ls u c some one h = h
   end_by l (Some s) a ls u c some one h = subst (λ m. IsBy m a (times id (ids_of (without id ls))) u) (sym c) (some, (let w : times id (ids_of (without id ls)) + 1 ≡ times id (ids_of ls) = without_own ls (omega (arith, one)) in omega (arith, one)))
 
-  own_told : (p : Option (List ℕ)) (b : Bool) (o : Option Status) (rest : List Event) (l : Life) (a : ℕ) (ls : List Live) (u : ℕ) → (is_some p ≡ true → on_piece l ≡ l) → on_unread l ≡ Unreadable → on_close l ≡ Closed → 0 < a → times id (ids_of ls) ≡ 1 → Others rest → IsBy l a (times id (ids_of ls)) u → Leads l a ls u ((heard id p ++ unread id b ++ ended id o) ++ rest)
-  own_told p b o rest l a ls u c d f some one others is =
+  own_reported : (p : Option (List ℕ)) (b : Bool) (o : Option Status) (rest : List Event) (l : Life) (a : ℕ) (ls : List Live) (u : ℕ) → (is_some p ≡ true → on_piece l ≡ l) → on_unread l ≡ Unreadable → on_close l ≡ Closed → 0 < a → times id (ids_of ls) ≡ 1 → Others rest → IsBy l a (times id (ids_of ls)) u → Leads l a ls u ((heard id p ++ unread id b ++ ended id o) ++ rest)
+  own_reported p b o rest l a ls u c d f some one others is =
       subst (λ es. Leads l a ls u es) (sym (append_assoc (heard id p ++ unread id b) (ended id o) rest ∙ append_assoc (heard id p) (unread id b) (ended id o ++ rest)))
       (on_heard p (unread id b ++ (ended id o ++ rest)) l a ls u c
       (on_muted b (ended id o ++ rest) l a ls u
@@ -346,8 +346,8 @@ module _ (id : ℕ) where
       still false = same_by l a (times id (ids_of ls)) u a (times id (ids_of ls)) (u + 0) refl refl (omega arith) is
       still true = subst (λ k. IsBy k a (times id (ids_of ls)) (u + 1)) (sym d) (some, one, omega arith)
 
-  told_others : (n : News) → (n.id == id) ≡ false → Others (told n)
-  told_others n ne = said n.id n.piece n.unread n.ended ne
+  reported_others : (n : News) → (n.id == id) ≡ false → Others (reported n)
+  reported_others n ne = said n.id n.piece n.unread n.ended ne
     where
       said : (m : ℕ) (p : Option (List ℕ)) (b : Bool) (o : Option Status) → (m == id) ≡ false → Others (heard m p ++ unread m b ++ ended m o)
       said m None false None ne = tt
@@ -359,13 +359,13 @@ module _ (id : ℕ) where
       said m (Some p) true None ne = (ne, (ne, tt))
       said m (Some p) true (Some s) ne = (ne, (ne, (ne, tt)))
 
-  none_others : (ns : List News) → times id (map (λ n. n.id) ns) ≡ 0 → Others (flat_map told ns)
+  none_others : (ns : List News) → times id (map (λ n. n.id) ns) ≡ 0 → Others (flat_map reported ns)
   none_others [] z = tt
   none_others (n ∷ ns) z = at (n.id == id) refl (none_others ns)
     where
-      at : (b : Bool) → (n.id == id) ≡ b → (times id (map (λ n. n.id) ns) ≡ 0 → Others (flat_map told ns)) → Others (told n ++ flat_map told ns)
+      at : (b : Bool) → (n.id == id) ≡ b → (times id (map (λ n. n.id) ns) ≡ 0 → Others (flat_map reported ns)) → Others (reported n ++ flat_map reported ns)
       at true e k = let t : times id (n.id ∷ map (λ n. n.id) ns) ≡ 1 + times id (map (λ n. n.id) ns) = times_own n.id (map (λ n. n.id) ns) e in absurd (omega (arith, z, t))
-      at false e k = let t : times id (n.id ∷ map (λ n. n.id) ns) ≡ times id (map (λ n. n.id) ns) = times_other n.id (map (λ n. n.id) ns) e in others_both (told n) (flat_map told ns) (told_others n e) (k (sym t ∙ z))
+      at false e k = let t : times id (n.id ∷ map (λ n. n.id) ns) ≡ times id (map (λ n. n.id) ns) = times_other n.id (map (λ n. n.id) ns) e in others_both (reported n) (flat_map reported ns) (reported_others n e) (k (sym t ∙ z))
 
   -- it gives no piece where its standard error couldn't be read
   abbrev Clean : ℕ → List News → Type 0
@@ -384,23 +384,23 @@ module _ (id : ℕ) where
       at None h s e = absurd (cc)
       at (Some p) h s e = zero_by (times id (unreads log)) refl (λ some. h.1 (subst (λ m. Contains (unreads log) m) (sym (eqb-true n.id id e)) (times_contains (unreads log) some)))
 
-  news_one : (ns : List News) (l : Life) (a : ℕ) (ls : List Live) (u : ℕ) → (u ≡ 0 → on_piece l ≡ l) → on_unread l ≡ Unreadable → on_close l ≡ Closed → 0 < a → times id (ids_of ls) ≡ 1 → times id (map (λ n. n.id) ns) ≤ 1 → Clean u ns → IsBy l a (times id (ids_of ls)) u → Leads l a ls u (flat_map told ns)
+  news_one : (ns : List News) (l : Life) (a : ℕ) (ls : List Live) (u : ℕ) → (u ≡ 0 → on_piece l ≡ l) → on_unread l ≡ Unreadable → on_close l ≡ Closed → 0 < a → times id (ids_of ls) ≡ 1 → times id (map (λ n. n.id) ns) ≤ 1 → Clean u ns → IsBy l a (times id (ids_of ls)) u → Leads l a ls u (flat_map reported ns)
   news_one [] l a ls u c d f some one few clean is = leads_none l a ls u is
   news_one (n ∷ ns) l a ls u c d f some one few clean is = at (n.id == id) refl (news_one ns l a)
     where
-      at : (b : Bool) → (n.id == id) ≡ b → ((ls : List Live) (u : ℕ) → (u ≡ 0 → on_piece l ≡ l) → on_unread l ≡ Unreadable → on_close l ≡ Closed → 0 < a → times id (ids_of ls) ≡ 1 → times id (map (λ n. n.id) ns) ≤ 1 → Clean u ns → IsBy l a (times id (ids_of ls)) u → Leads l a ls u (flat_map told ns)) → Leads l a ls u (told n ++ flat_map told ns)
+      at : (b : Bool) → (n.id == id) ≡ b → ((ls : List Live) (u : ℕ) → (u ≡ 0 → on_piece l ≡ l) → on_unread l ≡ Unreadable → on_close l ≡ Closed → 0 < a → times id (ids_of ls) ≡ 1 → times id (map (λ n. n.id) ns) ≤ 1 → Clean u ns → IsBy l a (times id (ids_of ls)) u → Leads l a ls u (flat_map reported ns)) → Leads l a ls u (reported n ++ flat_map reported ns)
       at true e k =
           let t : times id (n.id ∷ map (λ n. n.id) ns) ≡ 1 + times id (map (λ n. n.id) ns) = times_own n.id (map (λ n. n.id) ns) e in
-          subst (λ m. Leads l a ls u ((heard m n.piece ++ unread m n.unread ++ ended m n.ended) ++ flat_map told ns)) (sym (eqb-true n.id id e))
-          (own_told n.piece n.unread n.ended (flat_map told ns) l a ls u (λ s. c (clean.0 e s)) d f some one (none_others ns (omega (arith, few, t))) is)
+          subst (λ m. Leads l a ls u ((heard m n.piece ++ unread m n.unread ++ ended m n.ended) ++ flat_map reported ns)) (sym (eqb-true n.id id e))
+          (own_reported n.piece n.unread n.ended (flat_map reported ns) l a ls u (λ s. c (clean.0 e s)) d f some one (none_others ns (omega (arith, few, t))) is)
       at false e k =
           let t : times id (n.id ∷ map (λ n. n.id) ns) ≡ times id (map (λ n. n.id) ns) = times_other n.id (map (λ n. n.id) ns) e in
-          others_then (told n) (flat_map told ns) l a ls u (told_others n e) (λ ks same. k ks u c d f some (same ∙ one) (omega (arith, few, t)) clean.1 (same_by l a (times id (ids_of ls)) u a (times id (ids_of ks)) u refl same refl is))
+          others_then (reported n) (flat_map reported ns) l a ls u (reported_others n e) (λ ks same. k ks u c d f some (same ∙ one) (omega (arith, few, t)) clean.1 (same_by l a (times id (ids_of ls)) u a (times id (ids_of ks)) u refl same refl is))
 
   -- a child of somebody else stays one
-  foreign_told : (ns : List News) → life_from id Foreign (flat_map told ns) ≡ Foreign
-  foreign_told [] = refl
-  foreign_told (n ∷ ns) = life_from-append id Foreign (told n) (flat_map told ns) ∙ ap (λ l. life_from id l (flat_map told ns)) (said n.id n.piece n.unread n.ended) ∙ foreign_told ns
+  foreign_reported : (ns : List News) → life_from id Foreign (flat_map reported ns) ≡ Foreign
+  foreign_reported [] = refl
+  foreign_reported (n ∷ ns) = life_from-append id Foreign (reported n) (flat_map reported ns) ∙ ap (λ l. life_from id l (flat_map reported ns)) (said n.id n.piece n.unread n.ended) ∙ foreign_reported ns
     where
       stays : (m : ℕ) → (if m == id then Foreign else Foreign) ≡ Foreign
       stays m = same_if (m == id) Foreign
@@ -415,15 +415,15 @@ module _ (id : ℕ) where
       said m (Some p) true None = ap (λ l. life_from id l (Unread m ∷ [])) (stays m) ∙ stays m
       said m (Some p) true (Some s) = ap (λ l. life_from id l (Unread m ∷ Ended m s ∷ [])) (stays m) ∙ ap (λ l. life_from id l (Ended m s ∷ [])) (stays m) ∙ stays m
 
-  news_leads : (ns : List News) (l : Life) (a : ℕ) (ls : List Live) (u : ℕ) → times id (ids_of ls) ≤ a → times id (map (λ n. n.id) ns) ≤ times id (ids_of ls) → Clean u ns → IsBy l a (times id (ids_of ls)) u → Leads l a ls u (flat_map told ns)
-  news_leads ns Unstarted a ls u most few clean h = others_lead (flat_map told ns) Unstarted a ls u (none_others ns (omega (arith, most, few, h))) h
+  news_leads : (ns : List News) (l : Life) (a : ℕ) (ls : List Live) (u : ℕ) → times id (ids_of ls) ≤ a → times id (map (λ n. n.id) ns) ≤ times id (ids_of ls) → Clean u ns → IsBy l a (times id (ids_of ls)) u → Leads l a ls u (flat_map reported ns)
+  news_leads ns Unstarted a ls u most few clean h = others_lead (flat_map reported ns) Unstarted a ls u (none_others ns (omega (arith, most, few, h))) h
   news_leads ns Runs a ls u most few clean h = news_one ns Runs a ls u (λ _. refl) refl refl h.0 h.1 (omega (arith, few, h.1)) clean h
   news_leads ns Unreadable a ls u most few clean h = news_one ns Unreadable a ls u (λ z. absurd (omega (arith, z, h.2))) refl refl h.0 h.1 (omega (arith, few, h.1)) clean h
-  news_leads ns Closed a ls u most few clean h = others_lead (flat_map told ns) Closed a ls u (none_others ns (omega (arith, few, h.1))) h
-  news_leads ns Foreign a ls u most few clean h = subst (λ l. IsBy l (a + times id (started_ids (flat_map told ns))) (times id (ids_of (live_from ls (flat_map told ns)))) (u + times id (unreads (flat_map told ns)))) (sym (foreign_told ns)) (omega (arith, h))
+  news_leads ns Closed a ls u most few clean h = others_lead (flat_map reported ns) Closed a ls u (none_others ns (omega (arith, few, h.1))) h
+  news_leads ns Foreign a ls u most few clean h = subst (λ l. IsBy l (a + times id (started_ids (flat_map reported ns))) (times id (ids_of (live_from ls (flat_map reported ns)))) (u + times id (unreads (flat_map reported ns)))) (sym (foreign_reported ns)) (omega (arith, h))
   news_leads ns Amiss a ls u most few clean h = absurd h
 
-  own_turn : (log : List Event) (ns : List News) (l : Life) → IsNews log ns → IsAt log id l → IsAt (log ++ Turn 1 ∷ flat_map told ns) id (life_from id l (Turn 1 ∷ flat_map told ns))
+  own_turn : (log : List Event) (ns : List News) (l : Life) → IsNews log ns → IsAt log id l → IsAt (log ++ Turn 1 ∷ flat_map reported ns) id (life_from id l (Turn 1 ∷ flat_map reported ns))
   own_turn log ns l news is =
       let ls = live log in
       let ks = map (polled 1) (live log) in
@@ -432,8 +432,8 @@ module _ (id : ℕ) where
       let same : times id (ids_of ks) ≡ times id (running log) = ap (times id) (polled_ids 1 ls) in
       let most : times id (running log) ≤ a = runs_started log in
       let few : times id (map (λ n. n.id) ns) ≤ times id (running log) = in_order_times (map (λ n. n.id) ns) (running log) news.own in
-      at_leads log (Turn 1 ∷ flat_map told ns) l
-      (leads_on (Turn 1) (flat_map told ns) l l a a ls u u refl (omega arith) (omega arith)
+      at_leads log (Turn 1 ∷ flat_map reported ns) l
+      (leads_on (Turn 1) (flat_map reported ns) l l a a ls u u refl (omega arith) (omega arith)
       (news_leads ns l a ks u (omega (arith, same, most)) (omega (arith, same, few)) (clean_by log ns news.pieces) (same_by l a (times id (running log)) u a (times id (ids_of ks)) u refl same refl is)))
 
   -- what is amiss stays so
@@ -493,8 +493,8 @@ lives_start old new n role cmd pipes held e fresh = lives_by old new (Started n 
     at id l is false other = at_leads id old (Started n role cmd pipes held ∷ []) l (others_lead id (Started n role cmd pipes held ∷ []) l (times id (started_ids old)) (live old) (times id (unreads old)) (other, tt) is)
 
 -- a turn
-pub lives_turn : (old new : List Event) (ns : List News) → new ≡ old ++ Turn 1 ∷ flat_map told ns → IsNews old ns → LivesOn old new
-lives_turn old new ns e news = lives_by old new (Turn 1 ∷ flat_map told ns) e (λ id l is. own_turn id old ns l news is)
+pub lives_turn : (old new : List Event) (ns : List News) → new ≡ old ++ Turn 1 ∷ flat_map reported ns → IsNews old ns → LivesOn old new
+lives_turn old new ns e news = lives_by old new (Turn 1 ∷ flat_map reported ns) e (λ id l is. own_turn id old ns l news is)
 
 -- a child that runs is abandoned
 pub lives_abandoned : (old new : List Event) (n : ℕ) → new ≡ old ++ Abandoned n ∷ [] → Contains (running old) n → LivesOn old new

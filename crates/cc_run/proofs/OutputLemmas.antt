@@ -9,7 +9,7 @@ use Rattle.cc_host.specs.declared.event.Event.TheVariants.{Ran}
 use Rattle.cc_host.specs.declared.event.OutputKind.{OutputKind}
 use Rattle.cc_host.specs.declared.event.Status.{Status}
 use Rattle.cc_run.specs.Output.{IsOutput, IsRanTo, RanWhole, behind}
-use Rattle.cc_run.specs.Shown.{IsShown, IsPrintError, prints, print_fault}
+use Rattle.cc_run.specs.Prints.{ArePrinted, IsPrintError, prints, print_fault}
 use Rattle.cc_run.specs.Texts.{announced}
 use Rattle.cc_run.specs.declared.error.RunError.{RunError}
 use Rattle.cc_run.specs.declared.error.RunError.TheVariants.{ToolNotFound, Failed, StartFault, WaitFault, HostFault, JobFault, TurnsSpent, NoMemory}
@@ -20,7 +20,7 @@ use Rattle.cc_run.proofs.StartLemmas.{one_faulted, one_unprinted}
 
 module _ (shows : Shows) (p : Planned) (out : OutputKind) (always : Bool) (ignored : Option (List ℕ)) where
   -- the line before it couldn't be printed
-  pub unprinted : (e : RunError) (part : List Event) → IsShown {T = Unit {0}} (announced shows p.cmd) (Err e) part → IsPrintError e → IsOutput shows p out always ignored (Err e) part
+  pub unprinted : (e : RunError) (part : List Event) → ArePrinted {T = Unit {0}} (announced shows p.cmd) (Err e) part → IsPrintError e → IsOutput shows p out always ignored (Err e) part
   unfolding announced
   unprinted (HostFault call why) part h k = (k, inl (one_faulted shows.debug _ (HostFault call why) part (λ e. cc) h))
   unprinted NoMemory part h k = elim (one_unprinted shows.debug _ part h) [ inl x ↦ inl x | inr x ↦ inr (inl x) ]
@@ -61,7 +61,7 @@ module _ (shows : Shows) (p : Planned) (out : OutputKind) (always : Bool) (ignor
     )
 
     -- a line was refused
-    pub ran_refused : (ls : List Line) (e : RunError) → mid ≡ log ++ since log mid → since log mid ≡ prints (announced shows p.cmd) → ran ≡ mid ++ Ran p.role p.cmd (record { out = out; hear = shows.warnings }) status output stderr ∷ [] → new ≡ ran ++ since ran new → ls ≡ behind shows always ignored status stderr → IsShown {T = Unit {0}} ls (Err e) (since ran new) → IsPrintError e → IsOutput shows p out always ignored (Err e) (since log new)
+    pub ran_refused : (ls : List Line) (e : RunError) → mid ≡ log ++ since log mid → since log mid ≡ prints (announced shows p.cmd) → ran ≡ mid ++ Ran p.role p.cmd (record { out = out; hear = shows.warnings }) status output stderr ∷ [] → new ≡ ran ++ since ran new → ls ≡ behind shows always ignored status stderr → ArePrinted {T = Unit {0}} ls (Err e) (since ran new) → IsPrintError e → IsOutput shows p out always ignored (Err e) (since log new)
     ran_refused ls (HostFault call why) a b c d e (n, (le, m, h)) k = (k, inr (ran_whole n (print_fault (HostFault call why)) a b c d (subst (λ l. n ≤ length l) e le) (h ∙ ap (λ l. prints (take n l) ++ print_fault (HostFault call why)) e)))
     ran_refused ls NoMemory a b c d e (n, (le, m, h)) k = inr (inr (ran_whole n [] a b c d (subst (λ l. n ≤ length l) e le) (h ∙ ap (λ l. prints (take n l) ++ []) e)))
     ran_refused ls (ToolNotFound n) a b c d e h k = absurd k

@@ -7,7 +7,7 @@ use Rattle.std.proofs.lemmas.Bool.{and_from, and_parts, true≢false}
 use Rattle.std.proofs.lemmas.List.Folds.{list_all-append, list_all-map}
 use Rattle.cc_text.specs.Words.{when}
 use Rattle.cc_host.specs.Command.{CommandSeen}
-use Rattle.cc_host.specs.Event.{told, heard, unread, ended}
+use Rattle.cc_host.specs.Event.{told as reported, heard, unread, ended}
 use Rattle.cc_host.specs.Part.{since}
 use Rattle.cc_host.specs.Status.{is_success}
 use Rattle.cc_host.proofs.Parts.{since_append, since_since}
@@ -25,7 +25,7 @@ use Rattle.cc_run.specs.Lines.{whole_lines, last_line}
 use Rattle.cc_run.specs.Outcome.{IsUnturned}
 use Rattle.cc_run.specs.Own.{is_run_line, is_of_run, AreRunLines}
 use Rattle.cc_run.specs.Run.{gone}
-use Rattle.cc_run.specs.Shown.{prints, print_of, print_fault, IsShown, IsPrintError}
+use Rattle.cc_run.specs.Prints.{prints, print_of, print_fault, ArePrinted, IsPrintError}
 use Rattle.cc_run.specs.Started.{IsStart}
 use Rattle.cc_run.specs.Texts.{cargo_line, debug_line, ended_text, announced, failed_line}
 use Rattle.cc_run.specs.declared.error.RunError.{RunError}
@@ -94,7 +94,7 @@ own_print_fault JobFault k = absurd k
 own_print_fault TurnsSpent k = absurd k
 
 -- such lines, printed
-pub own_shown : {T : Type 0} (ls : List Line) (result : Result T RunError) (part : List Event) → AreRunLines ls → IsShown ls result part → IfErr result IsPrintError → list_all is_of_run part ≡ true
+pub own_shown : {T : Type 0} (ls : List Line) (result : Result T RunError) (part : List Event) → AreRunLines ls → ArePrinted ls result part → IfErr result IsPrintError → list_all is_of_run part ≡ true
 own_shown ls (Ok x) part h s k = ap (list_all is_of_run) s ∙ own_prints ls h
 own_shown ls (Err e) part h (n, s) k = ap (list_all is_of_run) s.2 ∙ own_both (prints (take n ls)) (print_fault e) (own_prints (take n ls) (lines_take n ls h)) (own_print_fault e k)
 
@@ -131,15 +131,15 @@ own_said id (Some p) false (Some s) = refl
 own_said id (Some p) true None = refl
 own_said id (Some p) true (Some s) = refl
 
-own_told : (ns : List News) → list_all is_of_run (flat_map told ns) ≡ true
-own_told [] = refl
-own_told (n ∷ ns) = own_both (told n) (flat_map told ns) (own_said n.id n.piece n.unread n.ended) (own_told ns)
+own_reported : (ns : List News) → list_all is_of_run (flat_map reported ns) ≡ true
+own_reported [] = refl
+own_reported (n ∷ ns) = own_both (reported n) (flat_map reported ns) (own_said n.id n.piece n.unread n.ended) (own_reported ns)
 
 -- a turn, and then a call
-pub own_news : (old mid new : List Event) (ns : List News) → mid ≡ old ++ Turn 1 ∷ flat_map told ns → new ≡ mid ++ since mid new → list_all is_of_run (since mid new) ≡ true → list_all is_of_run (since old new) ≡ true
+pub own_news : (old mid new : List Event) (ns : List News) → mid ≡ old ++ Turn 1 ∷ flat_map reported ns → new ≡ mid ++ since mid new → list_all is_of_run (since mid new) ≡ true → list_all is_of_run (since old new) ≡ true
 own_news old mid new ns a b p =
-    let e : mid ≡ old ++ since old mid = a ∙ ap (λ l. old ++ l) (sym (ap (since old) a ∙ since_append old (Turn 1 ∷ flat_map told ns))) in
-    own_then old mid new e b (own_by old mid (Turn 1 ∷ flat_map told ns) a (own_told ns)) p
+    let e : mid ≡ old ++ since old mid = a ∙ ap (λ l. old ++ l) (sym (ap (since old) a ∙ since_append old (Turn 1 ∷ flat_map reported ns))) in
+    own_then old mid new e b (own_by old mid (Turn 1 ∷ flat_map reported ns) a (own_reported ns)) p
 
 -- no turn
 pub own_unturned : (old new : List Event) (e : RunError) → IsUnturned old new e → list_all is_of_run (since old new) ≡ true
@@ -164,11 +164,11 @@ lines_unread : (shows : Shows) (c : Child) → AreRunLines (unread_lines shows c
 lines_unread shows c = lines_both (rest_lines shows c) _ (lines_rest shows c) (lines_when shows.warnings _ refl)
 
 -- the end of a child
-pub lines_ended : (shows : Shows) (tells : Bool) (cmd : CommandSeen) (status : Status) (c : Child) → AreRunLines (ended_lines shows tells cmd status c)
+pub lines_ended : (shows : Shows) (warns : Bool) (cmd : CommandSeen) (status : Status) (c : Child) → AreRunLines (ended_lines shows warns cmd status c)
 unfolding failed_line
-lines_ended shows tells cmd status c =
+lines_ended shows warns cmd status c =
     let debug : List Line = when shows.debug (debug_line (ended_text status) ∷ []) in
-    lines_both (rest_lines shows c ++ debug) _ (lines_both (rest_lines shows c) debug (lines_rest shows c) (lines_when shows.debug _ refl)) (lines_when (tells && shows.warnings && not (is_success status)) (failed_line status cmd ∷ []) refl)
+    lines_both (rest_lines shows c ++ debug) _ (lines_both (rest_lines shows c) debug (lines_rest shows c) (lines_when shows.debug _ refl)) (lines_when (warns && shows.warnings && not (is_success status)) (failed_line status cmd ∷ []) refl)
 
 lines_of : (id : ℕ) (f : Child → List Line) → ((c : Child) → AreRunLines (f c)) → (cs : List Child) → AreRunLines (of_child id f cs)
 lines_of id f h [] = refl
@@ -182,16 +182,16 @@ lines_flat : {X : Type 0} (f : X → List Line) → ((x : X) → AreRunLines (f 
 lines_flat f h [] = refl
 lines_flat f h (x ∷ xs) = lines_both (f x) (flat_map f xs) (h x) (lines_flat f h xs)
 
-lines_owed_by : (shows : Shows) (tells : Bool) (cmds : List Planned) (cs : List Child) (e : Event) → AreRunLines (owed shows tells cmds cs e)
-lines_owed_by shows tells cmds cs (Heard id piece) = lines_of id (λ c. heard_lines shows c piece) (lines_heard shows piece) cs
-lines_owed_by shows tells cmds cs (Unread id) = lines_of id (unread_lines shows) (lines_unread shows) cs
-lines_owed_by shows tells cmds cs (Ended id status) = lines_of id (end_lines shows tells cmds status) (λ c. lines_flat (λ p. ended_lines shows tells p.cmd status c) (λ p. lines_ended shows tells p.cmd status c) (take 1 (drop c.place cmds))) cs
-lines_owed_by shows tells cmds cs _ = refl
+lines_owed_by : (shows : Shows) (warns : Bool) (cmds : List Planned) (cs : List Child) (e : Event) → AreRunLines (owed shows warns cmds cs e)
+lines_owed_by shows warns cmds cs (Heard id piece) = lines_of id (λ c. heard_lines shows c piece) (lines_heard shows piece) cs
+lines_owed_by shows warns cmds cs (Unread id) = lines_of id (unread_lines shows) (lines_unread shows) cs
+lines_owed_by shows warns cmds cs (Ended id status) = lines_of id (end_lines shows warns cmds status) (λ c. lines_flat (λ p. ended_lines shows warns p.cmd status c) (λ p. lines_ended shows warns p.cmd status c) (take 1 (drop c.place cmds))) cs
+lines_owed_by shows warns cmds cs _ = refl
 
 -- what the events of a turn give
-pub lines_owed : (shows : Shows) (tells : Bool) (cmds : List Planned) (cs : List Child) (es : List Event) → AreRunLines (owed_from shows tells cmds cs es)
-lines_owed shows tells cmds cs [] = refl
-lines_owed shows tells cmds cs (e ∷ es) = lines_both (owed shows tells cmds cs e) (owed_from shows tells cmds (children_after cs e) es) (lines_owed_by shows tells cmds cs e) (lines_owed shows tells cmds (children_after cs e) es)
+pub lines_owed : (shows : Shows) (warns : Bool) (cmds : List Planned) (cs : List Child) (es : List Event) → AreRunLines (owed_from shows warns cmds cs es)
+lines_owed shows warns cmds cs [] = refl
+lines_owed shows warns cmds cs (e ∷ es) = lines_both (owed shows warns cmds cs e) (owed_from shows warns cmds (children_after cs e) es) (lines_owed_by shows warns cmds cs e) (lines_owed shows warns cmds (children_after cs e) es)
 
 -- a call that adds such lines
 pub lines_more : {T E : Type 0} (result : Result T E) (old new add : List Line) → OnOk result (new ≡ old ++ add) → AreRunLines add → OnOk result (AreRunLines old → AreRunLines new)

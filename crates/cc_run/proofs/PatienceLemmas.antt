@@ -22,7 +22,7 @@ use Rattle.cc_run.specs.Part.{turns, turns_of, IsBusy, Goes}
 use Rattle.cc_run.specs.Patience.{Bounded, Unspent, Waited, left_of, patience_left, IsPatient, Lasts}
 use Rattle.cc_run.specs.Planned.{Asked, asked, asked_by}
 use Rattle.cc_run.specs.Run.{Run, nothing, run_after, run_from, without, gone, Along}
-use Rattle.cc_run.specs.Shown.{prints}
+use Rattle.cc_run.specs.Prints.{prints}
 use Rattle.cc_run.specs.declared.error.RunError.{RunError}
 use Rattle.cc_run.specs.declared.error.RunError.TheVariants.{ToolNotFound, Failed, StartFault, WaitFault, HostFault, JobFault, TurnsSpent, NoMemory}
 use Rattle.cc_run.specs.declared.planned.Planned.{Planned}

@@ -5,6 +5,7 @@ use Rattle.std.proofs.lemmas.List.Sums.{sum_by-append}
 use Rattle.cc_jobs.specs.Seats.{UpBy, stands}
 use Rattle.cc_host.specs.declared.event.Event.{Event}
 use Rattle.cc_host.specs.Part.{since}
+use Rattle.cc_run.specs.declared.error.RunError.{RunError}
 use Rattle.cc_run.specs.Paid.{starts, starts_of, loads, held_of, PaidAnd, Paid}
 use Rattle.cc_host.proofs.Parts.{since_since}
 
@@ -21,23 +22,23 @@ paid_and_then more held a b t l t' l' t'' l'' x y =
     (subst (λ n. UpBy t n t'') s (up_then t (starts a + 0) t' (starts b + more) t'' x.0 y.0), subst (λ n. UpBy l n l'') h (up_then l (loads a + 0) l' (loads b + held) l'' x.1 y.1))
 
 -- one call after another that went well
-pub paid_then : {T E : Type 0} (old mid new : List Event) (result : Result T E) (n : ℕ) (t l t' l' t'' l'' : ℕ) → mid ≡ old ++ since old mid → new ≡ mid ++ since mid new → PaidAnd 0 0 (since old mid) t l t' l' → Paid result n (since mid new) t' l' t'' l'' → Paid result n (since old new) t l t'' l''
-paid_then {T} {E} old mid new (Ok x) n t l t' l' t'' l'' g h a b =
+pub paid_then : {T : Type 0} (old mid new : List Event) (result : Result T RunError) (n : ℕ) (t l t' l' t'' l'' : ℕ) → mid ≡ old ++ since old mid → new ≡ mid ++ since mid new → PaidAnd 0 0 (since old mid) t l t' l' → Paid result n (since mid new) t' l' t'' l'' → Paid result n (since old new) t l t'' l''
+paid_then {T} old mid new (Ok x) n t l t' l' t'' l'' g h a b =
     subst (λ q. PaidAnd 0 0 q t l t'' l'') (sym (since_since old mid new g h)) (paid_and_then 0 0 (since old mid) (since mid new) t l t' l' t'' l'' a b)
-paid_then {T} {E} old mid new (Err e) n t l t' l' t'' l'' g h a (inl b) =
+paid_then {T} old mid new (Err e) n t l t' l' t'' l'' g h a (inl b) =
     inl (subst (λ q. PaidAnd 0 0 q t l t'' l'') (sym (since_since old mid new g h)) (paid_and_then 0 0 (since old mid) (since mid new) t l t' l' t'' l'' a b))
-paid_then {T} {E} old mid new (Err e) n t l t' l' t'' l'' g h a (inr b) =
-    inr (subst (λ q. PaidAnd 1 (n + 1) q t l t'' l'') (sym (since_since old mid new g h)) (paid_and_then 1 (n + 1) (since old mid) (since mid new) t l t' l' t'' l'' a b))
+paid_then {T} old mid new (Err e) n t l t' l' t'' l'' g h a (inr b) =
+    inr (b.0, subst (λ q. PaidAnd 1 (n + 1) q t l t'' l'') (sym (since_since old mid new g h)) (paid_and_then 1 (n + 1) (since old mid) (since mid new) t l t' l' t'' l'' a b.1))
 
 -- after a turn, which takes no token
-pub paid_turn : {T E : Type 0} (old mid new : List Event) (result : Result T E) (n t l t' l' t'' l'' : ℕ) → mid ≡ old ++ since old mid → new ≡ mid ++ since mid new → PaidAnd 0 0 (since old mid) t l t' l' → (starts (since mid new) ≡ 0) × (loads (since mid new) ≡ 0) → (t'' ≡ t') × (l'' ≡ l') → Paid result n (since old new) t l t'' l''
-paid_turn {T} {E} old mid new (Ok x) n t l t' l' t'' l'' g h a z e = paid_then {T = T} {E = E} old mid new (Ok x) n t l t' l' t'' l'' g h a (still z e)
+pub paid_turn : {T : Type 0} (old mid new : List Event) (result : Result T RunError) (n t l t' l' t'' l'' : ℕ) → mid ≡ old ++ since old mid → new ≡ mid ++ since mid new → PaidAnd 0 0 (since old mid) t l t' l' → (starts (since mid new) ≡ 0) × (loads (since mid new) ≡ 0) → (t'' ≡ t') × (l'' ≡ l') → Paid result n (since old new) t l t'' l''
+paid_turn {T} old mid new (Ok x) n t l t' l' t'' l'' g h a z e = paid_then {T = T} old mid new (Ok x) n t l t' l' t'' l'' g h a (still z e)
   where
     still : (starts (since mid new) ≡ 0) × (loads (since mid new) ≡ 0) → (t'' ≡ t') × (l'' ≡ l') → PaidAnd 0 0 (since mid new) t' l' t'' l''
     still z e = (inl (omega (arith, z.0, e.0)), inl (omega (arith, z.1, e.1)))
-paid_turn {T} {E} old mid new (Err x) n t l t' l' t'' l'' g h a z e = paid_then {T = T} {E = E} old mid new (Err x) n t l t' l' t'' l'' g h a (inl (inl (omega (arith, z.0, e.0)), inl (omega (arith, z.1, e.1))))
+paid_turn {T} old mid new (Err x) n t l t' l' t'' l'' g h a z e = paid_then {T = T} old mid new (Err x) n t l t' l' t'' l'' g h a (inl (inl (omega (arith, z.0, e.0)), inl (omega (arith, z.1, e.1))))
 
-pub paid_any : {T E : Type 0} (part : List Event) (t l t' l' : ℕ) (result : Result T E) (n : ℕ) → PaidAnd 0 0 part t l t' l' → Paid result n part t l t' l'
+pub paid_any : {T : Type 0} (part : List Event) (t l t' l' : ℕ) (result : Result T RunError) (n : ℕ) → PaidAnd 0 0 part t l t' l' → Paid result n part t l t' l'
 paid_any part t l t' l' (Ok x) n p = p
 paid_any part t l t' l' (Err e) n p = inl p
 

@@ -5,7 +5,7 @@ use Rattle.std.specs.List.{flat_map}
 use Rattle.std.proofs.Math.Seq.{take-append-add}
 use Rattle.std.proofs.lemmas.List.{append-nil, map-append, take-append-le, take_all}
 use Rattle.std.proofs.lemmas.Grind.{flat_map-append}
-use Rattle.cc_host.specs.Event.{told, heard, unread, ended}
+use Rattle.cc_host.specs.Event.{told as reported, heard, unread, ended}
 use Rattle.cc_host.specs.Part.{since}
 use Rattle.cc_host.proofs.Parts.{since_append, since_since}
 use Rattle.cc_host.specs.declared.event.Event.{Event}
@@ -20,7 +20,7 @@ use Rattle.cc_run.specs.Outcome.{IsOutcome, IsUnturned}
 use Rattle.cc_run.specs.Planned.{pipes_of}
 use Rattle.cc_run.specs.Printing.{printed, printed_of, kept_after, kept_from, due, due_from, due_next, next_lines, IsPrinted}
 use Rattle.cc_run.specs.Run.{Run, run_after, run_from, gone, failed_at, place_of}
-use Rattle.cc_run.specs.Shown.{IsShown, IsPrintError, prints, print_fault}
+use Rattle.cc_run.specs.Prints.{ArePrinted, IsPrintError, prints, print_fault}
 use Rattle.cc_run.specs.Started.{IsStart}
 use Rattle.cc_run.specs.Texts.{announced}
 use Rattle.cc_run.specs.declared.error.RunError.{RunError}
@@ -86,16 +86,16 @@ pub kept_same : (a b : Kept) → a.children ≡ b.children → run_of a ≡ run_
 unfolding kept_with
 kept_same a b e f = ap (λ cs. kept_with cs (run_of a)) e ∙ ap (kept_with b.children) f
 
-module _ (shows : Shows) (tells : Bool) (cmds : List Planned) where
-  pub due_both : (k : Kept) (a b : List Event) → due_from shows tells cmds k (a ++ b) ≡ due_from shows tells cmds k a ++ due_from shows tells cmds (kept_from k a) b
+module _ (shows : Shows) (warns : Bool) (cmds : List Planned) where
+  pub due_both : (k : Kept) (a b : List Event) → due_from shows warns cmds k (a ++ b) ≡ due_from shows warns cmds k a ++ due_from shows warns cmds (kept_from k a) b
   due_both k [] b = refl
-  due_both k (e ∷ a) b = ap (λ l. due shows tells cmds k e ++ l) (due_both (kept_after k e) a b) ∙ sym (append_assoc (due shows tells cmds k e) _ _)
+  due_both k (e ∷ a) b = ap (λ l. due shows warns cmds k e ++ l) (due_both (kept_after k e) a b) ∙ sym (append_assoc (due shows warns cmds k e) _ _)
 
   -- the news of a child
-  told_due : (k : Kept) (n : News) → ((kept_from k (told n)).children ≡ children_from k.children (told n)) × (due_from shows tells cmds k (told n) ≡ owed_from shows tells cmds k.children (told n))
-  told_due k n = said n.id n.piece n.unread n.ended
+  reported_due : (k : Kept) (n : News) → ((kept_from k (reported n)).children ≡ children_from k.children (reported n)) × (due_from shows warns cmds k (reported n) ≡ owed_from shows warns cmds k.children (reported n))
+  reported_due k n = said n.id n.piece n.unread n.ended
     where
-      said : (id : ℕ) (piece : Option (List ℕ)) (un : Bool) (end : Option Status) → ((kept_from k (heard id piece ++ unread id un ++ ended id end)).children ≡ children_from k.children (heard id piece ++ unread id un ++ ended id end)) × (due_from shows tells cmds k (heard id piece ++ unread id un ++ ended id end) ≡ owed_from shows tells cmds k.children (heard id piece ++ unread id un ++ ended id end))
+      said : (id : ℕ) (piece : Option (List ℕ)) (un : Bool) (end : Option Status) → ((kept_from k (heard id piece ++ unread id un ++ ended id end)).children ≡ children_from k.children (heard id piece ++ unread id un ++ ended id end)) × (due_from shows warns cmds k (heard id piece ++ unread id un ++ ended id end) ≡ owed_from shows warns cmds k.children (heard id piece ++ unread id un ++ ended id end))
       said id None false None = (refl, refl)
       said id None false (Some s) = (refl, refl)
       said id None true None = (refl, refl)
@@ -106,23 +106,23 @@ module _ (shows : Shows) (tells : Bool) (cmds : List Planned) where
       said id (Some p) true (Some s) = (refl, refl)
 
   -- the news of a turn
-  pub news_due : (k : Kept) (ns : List News) → ((kept_from k (flat_map told ns)).children ≡ children_from k.children (flat_map told ns)) × (due_from shows tells cmds k (flat_map told ns) ≡ owed_from shows tells cmds k.children (flat_map told ns))
+  pub news_due : (k : Kept) (ns : List News) → ((kept_from k (flat_map reported ns)).children ≡ children_from k.children (flat_map reported ns)) × (due_from shows warns cmds k (flat_map reported ns) ≡ owed_from shows warns cmds k.children (flat_map reported ns))
   news_due k [] = (refl, refl)
   news_due k (n ∷ ns) =
-      let one = told_due k n in
-      let more = news_due (kept_from k (told n)) ns in (
-        ap (λ q. q.children) (kept_both k (told n) (flat_map told ns)) ∙ more.0 ∙ ap (λ cs. children_from cs (flat_map told ns)) one.0 ∙ sym (children_both k.children (told n) (flat_map told ns)),
-        due_both k (told n) (flat_map told ns) ∙ ap (λ l. l ++ due_from shows tells cmds (kept_from k (told n)) (flat_map told ns)) one.1
-            ∙ ap (λ l. owed_from shows tells cmds k.children (told n) ++ l) (more.1 ∙ ap (λ cs. owed_from shows tells cmds cs (flat_map told ns)) one.0)
-            ∙ sym (owed_both shows tells cmds k.children (told n) (flat_map told ns)),
+      let one = reported_due k n in
+      let more = news_due (kept_from k (reported n)) ns in (
+        ap (λ q. q.children) (kept_both k (reported n) (flat_map reported ns)) ∙ more.0 ∙ ap (λ cs. children_from cs (flat_map reported ns)) one.0 ∙ sym (children_both k.children (reported n) (flat_map reported ns)),
+        due_both k (reported n) (flat_map reported ns) ∙ ap (λ l. l ++ due_from shows warns cmds (kept_from k (reported n)) (flat_map reported ns)) one.1
+            ∙ ap (λ l. owed_from shows warns cmds k.children (reported n) ++ l) (more.1 ∙ ap (λ cs. owed_from shows warns cmds cs (flat_map reported ns)) one.0)
+            ∙ sym (owed_both shows warns cmds k.children (reported n) (flat_map reported ns)),
       )
 
   -- lines that were printed give no further ones
-  pub prints_due : (k : Kept) (ls : List Line) → (kept_from k (prints ls) ≡ k) × (due_from shows tells cmds k (prints ls) ≡ [])
+  pub prints_due : (k : Kept) (ls : List Line) → (kept_from k (prints ls) ≡ k) × (due_from shows warns cmds k (prints ls) ≡ [])
   prints_due k [] = (refl, refl)
   prints_due k (l ∷ ls) = prints_due k ls
 
-  fault_due : (k : Kept) (e : RunError) → (kept_from k (print_fault e) ≡ k) × (due_from shows tells cmds k (print_fault e) ≡ []) × (printed (print_fault e) ≡ [])
+  fault_due : (k : Kept) (e : RunError) → (kept_from k (print_fault e) ≡ k) × (due_from shows warns cmds k (print_fault e) ≡ []) × (printed (print_fault e) ≡ [])
   fault_due k (HostFault call why) = (refl, refl, refl)
   fault_due k (ToolNotFound n) = (refl, refl, refl)
   fault_due k (Failed n s) = (refl, refl, refl)
@@ -132,7 +132,7 @@ module _ (shows : Shows) (tells : Bool) (cmds : List Planned) where
   fault_due k TurnsSpent = (refl, refl, refl)
   fault_due k NoMemory = (refl, refl, refl)
 
-  gone_due : (k : Kept) (cs : List (ℕ × ℕ)) → ((kept_from k (gone cs)).begun ≡ k.begun) × (due_from shows tells cmds k (gone cs) ≡ []) × (printed (gone cs) ≡ [])
+  gone_due : (k : Kept) (cs : List (ℕ × ℕ)) → ((kept_from k (gone cs)).begun ≡ k.begun) × (due_from shows warns cmds k (gone cs) ≡ []) × (printed (gone cs) ≡ [])
   gone_due k [] = (refl, refl, refl)
   gone_due k (c ∷ cs) = gone_due (kept_after k (Abandoned c.0)) cs
 
@@ -141,37 +141,37 @@ prints_printed [] = refl
 prints_printed (l ∷ ls) = ap (λ k. l ∷ k) (prints_printed ls)
 
 -- A part after which this is kept, and then another.
-module _ (shows : Shows) (tells : Bool) (cmds : List Planned) (k k' : Kept) (a b : List Event) where
-  whole_then : kept_from k a ≡ k' → printed a ≡ due_from shows tells cmds k a → printed b ≡ due_from shows tells cmds k' b → printed (a ++ b) ≡ due_from shows tells cmds k (a ++ b)
+module _ (shows : Shows) (warns : Bool) (cmds : List Planned) (k k' : Kept) (a b : List Event) where
+  whole_then : kept_from k a ≡ k' → printed a ≡ due_from shows warns cmds k a → printed b ≡ due_from shows warns cmds k' b → printed (a ++ b) ≡ due_from shows warns cmds k (a ++ b)
   whole_then e p q =
       flat_map-append printed_of a b ∙ ap (λ l. l ++ printed b) p
-      ∙ ap (λ l. due_from shows tells cmds k a ++ l) (q ∙ ap (λ x. due_from shows tells cmds x b) (sym e))
-      ∙ sym (due_both shows tells cmds k a b)
+      ∙ ap (λ l. due_from shows warns cmds k a ++ l) (q ∙ ap (λ x. due_from shows warns cmds x b) (sym e))
+      ∙ sym (due_both shows warns cmds k a b)
 
-  next_both : kept_from k a ≡ k' → due_next shows tells cmds k (a ++ b) ≡ due_from shows tells cmds k a ++ due_next shows tells cmds k' b
+  next_both : kept_from k a ≡ k' → due_next shows warns cmds k (a ++ b) ≡ due_from shows warns cmds k a ++ due_next shows warns cmds k' b
   next_both e =
-      ap (λ l. l ++ next_lines shows cmds (kept_from k (a ++ b)).begun) (due_both shows tells cmds k a b)
-      ∙ append_assoc (due_from shows tells cmds k a) _ _
-      ∙ ap (λ x. due_from shows tells cmds k a ++ (due_from shows tells cmds (kept_from k a) b ++ next_lines shows cmds x.begun)) (kept_both k a b)
-      ∙ ap (λ x. due_from shows tells cmds k a ++ due_next shows tells cmds x b) e
+      ap (λ l. l ++ next_lines shows cmds (kept_from k (a ++ b)).begun) (due_both shows warns cmds k a b)
+      ∙ append_assoc (due_from shows warns cmds k a) _ _
+      ∙ ap (λ x. due_from shows warns cmds k a ++ (due_from shows warns cmds (kept_from k a) b ++ next_lines shows cmds x.begun)) (kept_both k a b)
+      ∙ ap (λ x. due_from shows warns cmds k a ++ due_next shows warns cmds x b) e
 
-  next_then : kept_from k a ≡ k' → printed a ≡ due_from shows tells cmds k a → printed b ≡ due_next shows tells cmds k' b → printed (a ++ b) ≡ due_next shows tells cmds k (a ++ b)
+  next_then : kept_from k a ≡ k' → printed a ≡ due_from shows warns cmds k a → printed b ≡ due_next shows warns cmds k' b → printed (a ++ b) ≡ due_next shows warns cmds k (a ++ b)
   next_then e p q =
       flat_map-append printed_of a b ∙ ap (λ l. l ++ printed b) p
-      ∙ ap (λ l. due_from shows tells cmds k a ++ l) q
+      ∙ ap (λ l. due_from shows warns cmds k a ++ l) q
       ∙ sym (next_both e)
 
-  some_then : kept_from k a ≡ k' → printed a ≡ due_from shows tells cmds k a → (n : ℕ) × (printed b ≡ take n (due_next shows tells cmds k' b)) → (n : ℕ) × (printed (a ++ b) ≡ take n (due_next shows tells cmds k (a ++ b)))
+  some_then : kept_from k a ≡ k' → printed a ≡ due_from shows warns cmds k a → (n : ℕ) × (printed b ≡ take n (due_next shows warns cmds k' b)) → (n : ℕ) × (printed (a ++ b) ≡ take n (due_next shows warns cmds k (a ++ b)))
   some_then e p (n, q) = (
-    length (due_from shows tells cmds k a) + n,
+    length (due_from shows warns cmds k a) + n,
     flat_map-append printed_of a b ∙ ap (λ l. l ++ printed b) p
-        ∙ ap (λ l. due_from shows tells cmds k a ++ l) q
-        ∙ sym (take-append-add (due_from shows tells cmds k a) (due_next shows tells cmds k' b) n)
-        ∙ ap (take (length (due_from shows tells cmds k a) + n)) (sym (next_both e)),
+        ∙ ap (λ l. due_from shows warns cmds k a ++ l) q
+        ∙ sym (take-append-add (due_from shows warns cmds k a) (due_next shows warns cmds k' b) n)
+        ∙ ap (take (length (due_from shows warns cmds k a) + n)) (sym (next_both e)),
   )
 
   -- what the second one printed by its answer
-  pub printed_on : {T : Type 0} (result : Result T RunError) → kept_from k a ≡ k' → printed a ≡ due_from shows tells cmds k a → IsPrinted shows tells cmds k' result b → IsPrinted shows tells cmds k result (a ++ b)
+  pub printed_on : {T : Type 0} (result : Result T RunError) → kept_from k a ≡ k' → printed a ≡ due_from shows warns cmds k a → IsPrinted shows warns cmds k' result b → IsPrinted shows warns cmds k result (a ++ b)
   printed_on (Ok x) e p q = whole_then e p q
   printed_on (Err (ToolNotFound n)) e p q = next_then e p q
   printed_on (Err (StartFault n)) e p q = next_then e p q
@@ -183,58 +183,58 @@ module _ (shows : Shows) (tells : Bool) (cmds : List Planned) (k k' : Kept) (a b
   printed_on (Err TurnsSpent) e p q = whole_then e p q
 
 -- one call after another
-pub printed_then : {T : Type 0} (shows : Shows) (tells : Bool) (cmds : List Planned) (k k' : Kept) (old mid new : List Event) (result : Result T RunError) → mid ≡ old ++ since old mid → new ≡ mid ++ since mid new → kept_from k (since old mid) ≡ k' → printed (since old mid) ≡ due_from shows tells cmds k (since old mid) → IsPrinted shows tells cmds k' result (since mid new) → IsPrinted shows tells cmds k result (since old new)
-printed_then shows tells cmds k k' old mid new result x y e p q = subst (IsPrinted shows tells cmds k result) (sym (since_since old mid new x y)) (printed_on shows tells cmds k k' (since old mid) (since mid new) result e p q)
+pub printed_then : {T : Type 0} (shows : Shows) (warns : Bool) (cmds : List Planned) (k k' : Kept) (old mid new : List Event) (result : Result T RunError) → mid ≡ old ++ since old mid → new ≡ mid ++ since mid new → kept_from k (since old mid) ≡ k' → printed (since old mid) ≡ due_from shows warns cmds k (since old mid) → IsPrinted shows warns cmds k' result (since mid new) → IsPrinted shows warns cmds k result (since old new)
+printed_then shows warns cmds k k' old mid new result x y e p q = subst (IsPrinted shows warns cmds k result) (sym (since_since old mid new x y)) (printed_on shows warns cmds k k' (since old mid) (since mid new) result e p q)
 
 pub kept_then : (k k' k'' : Kept) (old mid new : List Event) → mid ≡ old ++ since old mid → new ≡ mid ++ since mid new → kept_from k (since old mid) ≡ k' → kept_from k' (since mid new) ≡ k'' → kept_from k (since old new) ≡ k''
 kept_then k k' k'' old mid new x y e f = ap (kept_from k) (since_since old mid new x y) ∙ kept_both k (since old mid) (since mid new) ∙ ap (λ q. kept_from q (since mid new)) e ∙ f
 
 -- A turn, and lines that were printed behind it.
-module _ (shows : Shows) (tells : Bool) (cmds : List Planned) (k : Kept) (ns : List News) where
+module _ (shows : Shows) (warns : Bool) (cmds : List Planned) (k : Kept) (ns : List News) where
   given : List Line
-  given = owed_from shows tells cmds k.children (flat_map told ns)
+  given = owed_from shows warns cmds k.children (flat_map reported ns)
 
   -- events that give nothing
   IsIdle : List Event → Type 0
-  IsIdle q = (x : Kept) → (kept_from x q ≡ x) × (due_from shows tells cmds x q ≡ []) × (printed q ≡ [])
+  IsIdle q = (x : Kept) → (kept_from x q ≡ x) × (due_from shows warns cmds x q ≡ []) × (printed q ≡ [])
 
-  turn_lines : (ls : List Line) (q : List Event) → IsIdle q → (kept_from k ((Turn 1 ∷ flat_map told ns) ++ (prints ls ++ q)) ≡ kept_from k (flat_map told ns)) × (due_from shows tells cmds k ((Turn 1 ∷ flat_map told ns) ++ (prints ls ++ q)) ≡ given) × (printed ((Turn 1 ∷ flat_map told ns) ++ (prints ls ++ q)) ≡ ls)
+  turn_lines : (ls : List Line) (q : List Event) → IsIdle q → (kept_from k ((Turn 1 ∷ flat_map reported ns) ++ (prints ls ++ q)) ≡ kept_from k (flat_map reported ns)) × (due_from shows warns cmds k ((Turn 1 ∷ flat_map reported ns) ++ (prints ls ++ q)) ≡ given) × (printed ((Turn 1 ∷ flat_map reported ns) ++ (prints ls ++ q)) ≡ ls)
   unfolding given IsIdle
   turn_lines ls q h =
-      let n = kept_from k (flat_map told ns) in
-      let behind : (kept_from n (prints ls ++ q) ≡ n) × (due_from shows tells cmds n (prints ls ++ q) ≡ []) = (
-        kept_both n (prints ls) q ∙ ap (λ x. kept_from x q) (prints_due shows tells cmds n ls).0 ∙ (h n).0,
-        due_both shows tells cmds n (prints ls) q ∙ ap (λ l. l ++ due_from shows tells cmds (kept_from n (prints ls)) q) (prints_due shows tells cmds n ls).1 ∙ (h (kept_from n (prints ls))).1,
+      let n = kept_from k (flat_map reported ns) in
+      let behind : (kept_from n (prints ls ++ q) ≡ n) × (due_from shows warns cmds n (prints ls ++ q) ≡ []) = (
+        kept_both n (prints ls) q ∙ ap (λ x. kept_from x q) (prints_due shows warns cmds n ls).0 ∙ (h n).0,
+        due_both shows warns cmds n (prints ls) q ∙ ap (λ l. l ++ due_from shows warns cmds (kept_from n (prints ls)) q) (prints_due shows warns cmds n ls).1 ∙ (h (kept_from n (prints ls))).1,
       ) in (
-        kept_both k (Turn 1 ∷ flat_map told ns) (prints ls ++ q) ∙ behind.0,
-        due_both shows tells cmds k (Turn 1 ∷ flat_map told ns) (prints ls ++ q) ∙ ap (λ l. due_from shows tells cmds k (flat_map told ns) ++ l) behind.1 ∙ append-nil _ ∙ (news_due shows tells cmds k ns).1,
-        flat_map-append printed_of (Turn 1 ∷ flat_map told ns) (prints ls ++ q) ∙ ap (λ l. l ++ printed (prints ls ++ q)) (news_printed ns)
+        kept_both k (Turn 1 ∷ flat_map reported ns) (prints ls ++ q) ∙ behind.0,
+        due_both shows warns cmds k (Turn 1 ∷ flat_map reported ns) (prints ls ++ q) ∙ ap (λ l. due_from shows warns cmds k (flat_map reported ns) ++ l) behind.1 ∙ append-nil _ ∙ (news_due shows warns cmds k ns).1,
+        flat_map-append printed_of (Turn 1 ∷ flat_map reported ns) (prints ls ++ q) ∙ ap (λ l. l ++ printed (prints ls ++ q)) (news_printed ns)
             ∙ flat_map-append printed_of (prints ls) q ∙ ap (λ l. l ++ printed q) (prints_printed ls) ∙ ap (λ l. ls ++ l) (h k).2 ∙ append-nil ls,
       )
 
-  turn_cut : (old mid new : List Event) → mid ≡ old ++ Turn 1 ∷ flat_map told ns → new ≡ mid ++ since mid new → since old new ≡ (Turn 1 ∷ flat_map told ns) ++ since mid new
+  turn_cut : (old mid new : List Event) → mid ≡ old ++ Turn 1 ∷ flat_map reported ns → new ≡ mid ++ since mid new → since old new ≡ (Turn 1 ∷ flat_map reported ns) ++ since mid new
   turn_cut old mid new a b = ap (since old) (b ∙ ap (λ m. m ++ since mid new) a ∙ append_assoc old _ _) ∙ since_append old _
 
   -- all of them were printed
-  pub turn_kept : {T : Type 0} (x : T) (k' : Kept) (old mid new : List Event) → mid ≡ old ++ Turn 1 ∷ flat_map told ns → new ≡ mid ++ since mid new → IsShown {T = T} (owed_from shows tells cmds k.children (flat_map told ns)) (Ok x) (since mid new) → k'.children ≡ children_from k.children (flat_map told ns) → run_of k' ≡ run_from (run_of k) (flat_map told ns) → (kept_from k (since old new) ≡ k') × (printed (since old new) ≡ due_from shows tells cmds k (since old new))
+  pub turn_kept : {T : Type 0} (x : T) (k' : Kept) (old mid new : List Event) → mid ≡ old ++ Turn 1 ∷ flat_map reported ns → new ≡ mid ++ since mid new → ArePrinted {T = T} (owed_from shows warns cmds k.children (flat_map reported ns)) (Ok x) (since mid new) → k'.children ≡ children_from k.children (flat_map reported ns) → run_of k' ≡ run_from (run_of k) (flat_map reported ns) → (kept_from k (since old new) ≡ k') × (printed (since old new) ≡ due_from shows warns cmds k (since old new))
   unfolding given IsIdle
   turn_kept x k' old mid new a b s cs r =
-      let cut : since old new ≡ (Turn 1 ∷ flat_map told ns) ++ (prints given ++ []) = turn_cut old mid new a b ∙ ap (λ l. (Turn 1 ∷ flat_map told ns) ++ l) (s ∙ sym (append-nil (prints given))) in
+      let cut : since old new ≡ (Turn 1 ∷ flat_map reported ns) ++ (prints given ++ []) = turn_cut old mid new a b ∙ ap (λ l. (Turn 1 ∷ flat_map reported ns) ++ l) (s ∙ sym (append-nil (prints given))) in
       let t = turn_lines given [] (λ x. (refl, refl, refl)) in
-      let same : k' ≡ kept_from k (flat_map told ns) = kept_same k' (kept_from k (flat_map told ns)) (cs ∙ sym (news_due shows tells cmds k ns).0) (r ∙ sym (kept_run k (flat_map told ns))) in (
+      let same : k' ≡ kept_from k (flat_map reported ns) = kept_same k' (kept_from k (flat_map reported ns)) (cs ∙ sym (news_due shows warns cmds k ns).0) (r ∙ sym (kept_run k (flat_map reported ns))) in (
         ap (kept_from k) cut ∙ t.0 ∙ sym same,
-        ap printed cut ∙ t.2 ∙ sym t.1 ∙ sym (ap (due_from shows tells cmds k) cut),
+        ap printed cut ∙ t.2 ∙ sym t.1 ∙ sym (ap (due_from shows warns cmds k) cut),
       )
 
-  some_shown : (n : ℕ) (e : RunError) (old mid new : List Event) → mid ≡ old ++ Turn 1 ∷ flat_map told ns → new ≡ mid ++ since mid new → n ≤ length given → since mid new ≡ prints (take n given) ++ print_fault e → printed (since old new) ≡ take n (due_next shows tells cmds k (since old new))
+  some_shown : (n : ℕ) (e : RunError) (old mid new : List Event) → mid ≡ old ++ Turn 1 ∷ flat_map reported ns → new ≡ mid ++ since mid new → n ≤ length given → since mid new ≡ prints (take n given) ++ print_fault e → printed (since old new) ≡ take n (due_next shows warns cmds k (since old new))
   unfolding given IsIdle
   some_shown n e old mid new a b le s =
-      let cut : since old new ≡ (Turn 1 ∷ flat_map told ns) ++ (prints (take n given) ++ print_fault e) = turn_cut old mid new a b ∙ ap (λ l. (Turn 1 ∷ flat_map told ns) ++ l) s in
-      let t = turn_lines (take n given) (print_fault e) (λ x. fault_due shows tells cmds x e) in
-      ap printed cut ∙ t.2 ∙ sym (take-append-le n given (next_lines shows cmds (kept_from k (since old new)).begun) le) ∙ ap (λ l. take n (l ++ next_lines shows cmds (kept_from k (since old new)).begun)) (sym t.1 ∙ sym (ap (due_from shows tells cmds k) cut))
+      let cut : since old new ≡ (Turn 1 ∷ flat_map reported ns) ++ (prints (take n given) ++ print_fault e) = turn_cut old mid new a b ∙ ap (λ l. (Turn 1 ∷ flat_map reported ns) ++ l) s in
+      let t = turn_lines (take n given) (print_fault e) (λ x. fault_due shows warns cmds x e) in
+      ap printed cut ∙ t.2 ∙ sym (take-append-le n given (next_lines shows cmds (kept_from k (since old new)).begun) le) ∙ ap (λ l. take n (l ++ next_lines shows cmds (kept_from k (since old new)).begun)) (sym t.1 ∙ sym (ap (due_from shows warns cmds k) cut))
 
   -- the first of them
-  pub turn_some : (U : Type 0) (e : RunError) (old mid new : List Event) → mid ≡ old ++ Turn 1 ∷ flat_map told ns → new ≡ mid ++ since mid new → IsShown {T = Unit {0}} (owed_from shows tells cmds k.children (flat_map told ns)) (Err e) (since mid new) → IsPrintError e → IsPrinted {T = U} shows tells cmds k (Err e) (since old new)
+  pub turn_some : (U : Type 0) (e : RunError) (old mid new : List Event) → mid ≡ old ++ Turn 1 ∷ flat_map reported ns → new ≡ mid ++ since mid new → ArePrinted {T = Unit {0}} (owed_from shows warns cmds k.children (flat_map reported ns)) (Err e) (since mid new) → IsPrintError e → IsPrinted {T = U} shows warns cmds k (Err e) (since old new)
   unfolding given
   turn_some U (HostFault call why) old mid new a b (n, (le, m, s)) h = (n, some_shown n (HostFault call why) old mid new a b le s)
   turn_some U NoMemory old mid new a b (n, (le, m, s)) h = (n, some_shown n NoMemory old mid new a b le s)
@@ -249,15 +249,15 @@ nothing_since : (log log' : List Event) → log' ≡ log → since log log' ≡ 
 nothing_since log log' e = ap (since log) (e ∙ sym (append-nil log)) ∙ since_append log []
 
 -- no turn was made
-pub unturned_printed : (U : Type 0) (shows : Shows) (tells : Bool) (cmds : List Planned) (k : Kept) (old new : List Event) (e : RunError) → IsUnturned old new e → IsPrinted {T = U} shows tells cmds k (Err e) (since old new)
-unturned_printed U shows tells cmds k old new TurnsSpent h = subst (λ p. printed p ≡ due_from shows tells cmds k p) (sym (nothing_since old new h)) refl
-unturned_printed U shows tells cmds k old new WaitFault (why, h) = subst (λ p. printed p ≡ due_from shows tells cmds k p) (sym (ap (since old) h ∙ since_append old _)) refl
-unturned_printed U shows tells cmds k old new NoMemory h = (0, ap printed (nothing_since old new h))
-unturned_printed U shows tells cmds k old new (HostFault call why) h = absurd h
-unturned_printed U shows tells cmds k old new (ToolNotFound n) h = absurd h
-unturned_printed U shows tells cmds k old new (Failed n s') h = absurd h
-unturned_printed U shows tells cmds k old new (StartFault n) h = absurd h
-unturned_printed U shows tells cmds k old new JobFault h = absurd h
+pub unturned_printed : (U : Type 0) (shows : Shows) (warns : Bool) (cmds : List Planned) (k : Kept) (old new : List Event) (e : RunError) → IsUnturned old new e → IsPrinted {T = U} shows warns cmds k (Err e) (since old new)
+unturned_printed U shows warns cmds k old new TurnsSpent h = subst (λ p. printed p ≡ due_from shows warns cmds k p) (sym (nothing_since old new h)) refl
+unturned_printed U shows warns cmds k old new WaitFault (why, h) = subst (λ p. printed p ≡ due_from shows warns cmds k p) (sym (ap (since old) h ∙ since_append old _)) refl
+unturned_printed U shows warns cmds k old new NoMemory h = (0, ap printed (nothing_since old new h))
+unturned_printed U shows warns cmds k old new (HostFault call why) h = absurd h
+unturned_printed U shows warns cmds k old new (ToolNotFound n) h = absurd h
+unturned_printed U shows warns cmds k old new (Failed n s') h = absurd h
+unturned_printed U shows warns cmds k old new (StartFault n) h = absurd h
+unturned_printed U shows warns cmds k old new JobFault h = absurd h
 
 -- the line before the command at a place
 next_at : (shows : Shows) (cmds : List Planned) (i : ℕ) (p : Planned) → i < length cmds → p ≡ get_or cmds i p → next_lines shows cmds i ≡ announced shows p.cmd
@@ -266,39 +266,39 @@ next_at shows (c ∷ cmds) (suc i) p lt at = next_at shows cmds i p (omega arith
 next_at shows [] i p lt at = absurd (omega arith)
 
 -- A start, and what it printed.
-module _ (shows : Shows) (tells : Bool) (cmds : List Planned) (p : Planned) (held : ℕ) (old new : Kept) (part : List Event) where
+module _ (shows : Shows) (warns : Bool) (cmds : List Planned) (p : Planned) (held : ℕ) (old new : Kept) (part : List Event) where
   begun : List Line
   begun = announced shows p.cmd
 
-  start_lines : (e : Event) → due shows tells cmds old e ≡ [] → kept_after old e ≡ old → printed_of e ≡ [] → part ≡ prints begun ++ e ∷ [] → old.begun < length cmds → p ≡ get_or cmds old.begun p → printed part ≡ due_next shows tells cmds old part
+  start_lines : (e : Event) → due shows warns cmds old e ≡ [] → kept_after old e ≡ old → printed_of e ≡ [] → part ≡ prints begun ++ e ∷ [] → old.begun < length cmds → p ≡ get_or cmds old.begun p → printed part ≡ due_next shows warns cmds old part
   unfolding begun
   start_lines e d k n x lt at =
-      let du : due_from shows tells cmds old part ≡ [] = ap (due_from shows tells cmds old) x ∙ due_both shows tells cmds old (prints begun) (e ∷ []) ∙ ap (λ l. l ++ due_from shows tells cmds (kept_from old (prints begun)) (e ∷ [])) (prints_due shows tells cmds old begun).1 ∙ ap (λ q. due_from shows tells cmds q (e ∷ [])) (prints_due shows tells cmds old begun).0 ∙ append-nil (due shows tells cmds old e) ∙ d in
-      let ke : kept_from old part ≡ old = ap (kept_from old) x ∙ kept_both old (prints begun) (e ∷ []) ∙ ap (λ q. kept_from q (e ∷ [])) (prints_due shows tells cmds old begun).0 ∙ k in
+      let du : due_from shows warns cmds old part ≡ [] = ap (due_from shows warns cmds old) x ∙ due_both shows warns cmds old (prints begun) (e ∷ []) ∙ ap (λ l. l ++ due_from shows warns cmds (kept_from old (prints begun)) (e ∷ [])) (prints_due shows warns cmds old begun).1 ∙ ap (λ q. due_from shows warns cmds q (e ∷ [])) (prints_due shows warns cmds old begun).0 ∙ append-nil (due shows warns cmds old e) ∙ d in
+      let ke : kept_from old part ≡ old = ap (kept_from old) x ∙ kept_both old (prints begun) (e ∷ []) ∙ ap (λ q. kept_from q (e ∷ [])) (prints_due shows warns cmds old begun).0 ∙ k in
       let pr : printed part ≡ begun = ap printed x ∙ flat_map-append printed_of (prints begun) (e ∷ []) ∙ ap (λ l. l ++ printed (e ∷ [])) (prints_printed begun) ∙ ap (λ l. begun ++ (l ++ [])) n ∙ append-nil begun in
       pr ∙ sym (ap (λ l. l ++ next_lines shows cmds (kept_from old part).begun) du ∙ ap (λ q. next_lines shows cmds q.begun) ke ∙ next_at shows cmds old.begun p lt at)
 
   -- all that it gives
-  pub start_kept : (id : ℕ) → IsStart shows p held old (Ok id) new part → (kept_from old part ≡ new) × (printed part ≡ due_from shows tells cmds old part)
+  pub start_kept : (id : ℕ) → IsStart shows p held old (Ok id) new part → (kept_from old part ≡ new) × (printed part ≡ due_from shows warns cmds old part)
   unfolding begun
   start_kept id s =
       let e = Started id p.role p.cmd (pipes_of shows) held in (
-        ap (kept_from old) s.0 ∙ kept_both old (prints begun) (e ∷ []) ∙ ap (λ q. kept_after q e) (prints_due shows tells cmds old begun).0 ∙ sym s.1,
+        ap (kept_from old) s.0 ∙ kept_both old (prints begun) (e ∷ []) ∙ ap (λ q. kept_after q e) (prints_due shows warns cmds old begun).0 ∙ sym s.1,
         ap printed s.0 ∙ flat_map-append printed_of (prints begun) (e ∷ []) ∙ append-nil (printed (prints begun)) ∙ prints_printed begun
-            ∙ sym (ap (due_from shows tells cmds old) s.0 ∙ due_both shows tells cmds old (prints begun) (e ∷ []) ∙ ap (λ l. l ++ due_from shows tells cmds (kept_from old (prints begun)) (e ∷ [])) (prints_due shows tells cmds old begun).1 ∙ append-nil begun),
+            ∙ sym (ap (due_from shows warns cmds old) s.0 ∙ due_both shows warns cmds old (prints begun) (e ∷ []) ∙ ap (λ l. l ++ due_from shows warns cmds (kept_from old (prints begun)) (e ∷ [])) (prints_due shows warns cmds old begun).1 ∙ append-nil begun),
       )
 
   -- or the line before it, where it couldn't be started
-  pub unstarted_printed : (U : Type 0) (e : RunError) → IsStart shows p held old (Err e) new part → old.begun < length cmds → p ≡ get_or cmds old.begun p → IsPrinted {T = U} shows tells cmds old (Err e) part
+  pub unstarted_printed : (U : Type 0) (e : RunError) → IsStart shows p held old (Err e) new part → old.begun < length cmds → p ≡ get_or cmds old.begun p → IsPrinted {T = U} shows warns cmds old (Err e) part
   unfolding begun
   unstarted_printed U (ToolNotFound n) s lt at = start_lines (Missing p.role p.cmd) refl refl refl s.0 lt at
   unstarted_printed U (StartFault n) (why, s) lt at = start_lines (Fault Start why) refl refl refl s.0 lt at
   unstarted_printed U (HostFault call why) s lt at = (0, ap printed s.0)
   unstarted_printed U NoMemory (inl n, s) lt at = (0, ap printed n)
   unstarted_printed U NoMemory (inr n, s) lt at =
-      let du : due_from shows tells cmds old part ≡ [] = ap (due_from shows tells cmds old) n ∙ (prints_due shows tells cmds old begun).1 in
-      let ke : kept_from old part ≡ old = ap (kept_from old) n ∙ (prints_due shows tells cmds old begun).0 in
-      let du_next : due_next shows tells cmds old part ≡ begun = ap (λ l. l ++ next_lines shows cmds (kept_from old part).begun) du ∙ ap (λ q. next_lines shows cmds q.begun) ke ∙ next_at shows cmds old.begun p lt at in
+      let du : due_from shows warns cmds old part ≡ [] = ap (due_from shows warns cmds old) n ∙ (prints_due shows warns cmds old begun).1 in
+      let ke : kept_from old part ≡ old = ap (kept_from old) n ∙ (prints_due shows warns cmds old begun).0 in
+      let du_next : due_next shows warns cmds old part ≡ begun = ap (λ l. l ++ next_lines shows cmds (kept_from old part).begun) du ∙ ap (λ q. next_lines shows cmds q.begun) ke ∙ next_at shows cmds old.begun p lt at in
       (length begun, ap printed n ∙ prints_printed begun ∙ sym (ap (take (length begun)) du_next ∙ take_all (length begun) begun (omega arith)))
   unstarted_printed U (Failed n s') s lt at = absurd s
   unstarted_printed U WaitFault s lt at = absurd s
@@ -306,17 +306,17 @@ module _ (shows : Shows) (tells : Bool) (cmds : List Planned) (p : Planned) (hel
   unstarted_printed U TurnsSpent s lt at = absurd s
 
 -- Children that are abandoned give no line.
-module _ (shows : Shows) (tells : Bool) (cmds : List Planned) (k : Kept) (part : List Event) (cs : List (ℕ × ℕ)) where
+module _ (shows : Shows) (warns : Bool) (cmds : List Planned) (k : Kept) (part : List Event) (cs : List (ℕ × ℕ)) where
   gone_printed : printed (part ++ gone cs) ≡ printed part
-  gone_printed = flat_map-append printed_of part (gone cs) ∙ ap (λ l. printed part ++ l) (gone_due shows tells cmds k cs).2 ∙ append-nil (printed part)
+  gone_printed = flat_map-append printed_of part (gone cs) ∙ ap (λ l. printed part ++ l) (gone_due shows warns cmds k cs).2 ∙ append-nil (printed part)
 
-  gone_from : due_from shows tells cmds k (part ++ gone cs) ≡ due_from shows tells cmds k part
-  gone_from = due_both shows tells cmds k part (gone cs) ∙ ap (λ l. due_from shows tells cmds k part ++ l) (gone_due shows tells cmds (kept_from k part) cs).1 ∙ append-nil (due_from shows tells cmds k part)
+  gone_from : due_from shows warns cmds k (part ++ gone cs) ≡ due_from shows warns cmds k part
+  gone_from = due_both shows warns cmds k part (gone cs) ∙ ap (λ l. due_from shows warns cmds k part ++ l) (gone_due shows warns cmds (kept_from k part) cs).1 ∙ append-nil (due_from shows warns cmds k part)
 
-  gone_next : due_next shows tells cmds k (part ++ gone cs) ≡ due_next shows tells cmds k part
-  gone_next = ap (λ l. l ++ next_lines shows cmds (kept_from k (part ++ gone cs)).begun) gone_from ∙ ap (λ n. due_from shows tells cmds k part ++ next_lines shows cmds n) (ap (λ q. q.begun) (kept_both k part (gone cs)) ∙ (gone_due shows tells cmds (kept_from k part) cs).0)
+  gone_next : due_next shows warns cmds k (part ++ gone cs) ≡ due_next shows warns cmds k part
+  gone_next = ap (λ l. l ++ next_lines shows cmds (kept_from k (part ++ gone cs)).begun) gone_from ∙ ap (λ n. due_from shows warns cmds k part ++ next_lines shows cmds n) (ap (λ q. q.begun) (kept_both k part (gone cs)) ∙ (gone_due shows warns cmds (kept_from k part) cs).0)
 
-  pub printed_gone : {T : Type 0} (result : Result T RunError) → IsPrinted shows tells cmds k result part → IsPrinted shows tells cmds k result (part ++ gone cs)
+  pub printed_gone : {T : Type 0} (result : Result T RunError) → IsPrinted shows warns cmds k result part → IsPrinted shows warns cmds k result (part ++ gone cs)
   printed_gone (Ok x) q = gone_printed ∙ q ∙ sym gone_from
   printed_gone (Err (ToolNotFound n)) q = gone_printed ∙ q ∙ sym gone_next
   printed_gone (Err (StartFault n)) q = gone_printed ∙ q ∙ sym gone_next
@@ -328,13 +328,13 @@ module _ (shows : Shows) (tells : Bool) (cmds : List Planned) (k : Kept) (part :
   printed_gone (Err TurnsSpent) q = gone_printed ∙ q ∙ sym gone_from
 
 -- behind a part, children were abandoned
-pub printed_dropped : {T : Type 0} (shows : Shows) (tells : Bool) (cmds : List Planned) (k : Kept) (old mid new : List Event) (cs : List (ℕ × ℕ)) (result : Result T RunError) → mid ≡ old ++ since old mid → new ≡ mid ++ gone cs → IsPrinted shows tells cmds k result (since old mid) → IsPrinted shows tells cmds k result (since old new)
-printed_dropped shows tells cmds k old mid new cs result x y q =
+pub printed_dropped : {T : Type 0} (shows : Shows) (warns : Bool) (cmds : List Planned) (k : Kept) (old mid new : List Event) (cs : List (ℕ × ℕ)) (result : Result T RunError) → mid ≡ old ++ since old mid → new ≡ mid ++ gone cs → IsPrinted shows warns cmds k result (since old mid) → IsPrinted shows warns cmds k result (since old new)
+printed_dropped shows warns cmds k old mid new cs result x y q =
     let cut : since old new ≡ since old mid ++ gone cs = ap (since old) (y ∙ ap (λ m. m ++ gone cs) x ∙ append_assoc old (since old mid) (gone cs)) ∙ since_append old (since old mid ++ gone cs) in
-    subst (IsPrinted shows tells cmds k result) (sym cut) (printed_gone shows tells cmds k (since old mid) cs result q)
+    subst (IsPrinted shows warns cmds k result) (sym cut) (printed_gone shows warns cmds k (since old mid) cs result q)
 
 -- an answer by the last failure leaves nothing unprinted
-pub printed_outcome : {T : Type 0} (shows : Shows) (tells : Bool) (cmds : List Planned) (k : Kept) (part : List Event) (failed : Option (ℕ × Status)) (result : Result T RunError) → IsOutcome failed result → printed part ≡ due_from shows tells cmds k part → IsPrinted shows tells cmds k result part
-printed_outcome shows tells cmds k part failed (Ok x) o q = q
-printed_outcome shows tells cmds k part None (Err e) o q = absurd o
-printed_outcome {T} shows tells cmds k part (Some f) (Err e) o q = subst (λ x. IsPrinted {T = T} shows tells cmds k (Err x) part) (sym o) q
+pub printed_outcome : {T : Type 0} (shows : Shows) (warns : Bool) (cmds : List Planned) (k : Kept) (part : List Event) (failed : Option (ℕ × Status)) (result : Result T RunError) → IsOutcome failed result → printed part ≡ due_from shows warns cmds k part → IsPrinted shows warns cmds k result part
+printed_outcome shows warns cmds k part failed (Ok x) o q = q
+printed_outcome shows warns cmds k part None (Err e) o q = absurd o
+printed_outcome {T} shows warns cmds k part (Some f) (Err e) o q = subst (λ x. IsPrinted {T = T} shows warns cmds k (Err x) part) (sym o) q

@@ -13,7 +13,7 @@ use Rattle.cc_run.specs.Paid.{starts, starts_of, loads, held_of}
 use Rattle.cc_run.specs.Part.{started, missing, missing_of, faults, fault_of, abandoned, abandoned_of, turns, turns_of, Fits, IsBusy, Greedy, Goes}
 use Rattle.cc_run.specs.Planned.{Asked}
 use Rattle.cc_run.specs.Run.{Run, run_from, Along}
-use Rattle.cc_run.specs.Shown.{prints}
+use Rattle.cc_run.specs.Prints.{prints}
 use Rattle.cc_run.specs.declared.print.Line.{Line}
 use Rattle.cc_run.proofs.LifeLemmas.{Others, lives_others}
 use Rattle.cc_run.proofs.Runs.{goes_by}

@@ -15,7 +15,7 @@ use Rattle.cc_run.proofs.LifeLemmas.{lives_then, lives_others, lives_start, live
 use Rattle.cc_host.specs.declared.event.Role.{Role}
 use Rattle.cc_host.specs.declared.event.Status.{Status}
 use Rattle.cc_host.specs.declared.event.Pipes.{Pipes}
-use Rattle.cc_host.specs.Event.{refused, IsCaused, told, heard, unread, ended}
+use Rattle.cc_host.specs.Event.{refused, IsCaused, told as reported, heard, unread, ended}
 use Rattle.cc_host.specs.declared.event.News.{News}
 use Rattle.cc_host.specs.declared.event.HostError.{HostError}
 use Rattle.cc_host.specs.declared.event.HostError.TheVariants.{Fault as Failed, NoMemory as WantsMemory}
@@ -25,7 +25,7 @@ use Rattle.cc_host.specs.declared.event.HostCall.TheVariants.{Start as Starting,
 use Rattle.cc_run.specs.Paid.{starts, starts_of, loads, held_of}
 use Rattle.cc_run.specs.Printing.{printed, printed_of}
 use Rattle.cc_run.specs.Run.{Run, run_after, run_from, ended_run, Along}
-use Rattle.cc_run.specs.Outcome.{IsTold, IsOpen, IsUnturned, EndsAt, start_error, turn_error}
+use Rattle.cc_run.specs.Outcome.{NamesCause, IsOpen, IsUnturned, EndsAt, start_error, turn_error}
 use Rattle.cc_run.specs.declared.error.RunError.{RunError}
 use Rattle.cc_run.specs.declared.error.RunError.TheVariants.{ToolNotFound, Failed as EndedBadly, StartFault, WaitFault, HostFault, JobFault, TurnsSpent, NoMemory}
 use Rattle.cc_run.specs.declared.error.Step.{Step}
@@ -119,8 +119,8 @@ goes_unturned t cmds old new r (HostFault call why) h = absurd h
 goes_unturned t cmds old new r JobFault h = absurd h
 
 -- an event of a kind that no projection here reads, and that changes no run but by an end
-told_run : (r : Run) (n : News) → run_from r (told n) ≡ ended_run r n.id n.ended
-told_run r n = said r n.id n.piece n.unread n.ended
+reported_run : (r : Run) (n : News) → run_from r (reported n) ≡ ended_run r n.id n.ended
+reported_run r n = said r n.id n.piece n.unread n.ended
   where
     said : (r : Run) (id : ℕ) (piece : Option (List ℕ)) (un : Bool) (end : Option Status) → run_from r (heard id piece ++ unread id un ++ ended id end) ≡ ended_run r id end
     said r id None false None = refl
@@ -133,15 +133,15 @@ told_run r n = said r n.id n.piece n.unread n.ended
     said r id (Some p) true (Some s) = refl
 
 -- the news one by one
-pub news_run : (r : Run) (news : List News) (i : ℕ) (d : News) → i < length news → run_from r (flat_map told (take (i + 1) news)) ≡ ended_run (run_from r (flat_map told (take i news))) (get_or news i d).id (get_or news i d).ended
+pub news_run : (r : Run) (news : List News) (i : ℕ) (d : News) → i < length news → run_from r (flat_map reported (take (i + 1) news)) ≡ ended_run (run_from r (flat_map reported (take i news))) (get_or news i d).id (get_or news i d).ended
 news_run r news i d lt =
-    ap (λ l. run_from r (flat_map told l)) (take_more news i d lt)
-    ∙ ap (run_from r) (flat_map-append told (take i news) (get_or news i d ∷ []) ∙ ap (λ l. flat_map told (take i news) ++ l) (append-nil (told (get_or news i d))))
-    ∙ run_from-append r (flat_map told (take i news)) (told (get_or news i d))
-    ∙ told_run (run_from r (flat_map told (take i news))) (get_or news i d)
+    ap (λ l. run_from r (flat_map reported l)) (take_more news i d lt)
+    ∙ ap (run_from r) (flat_map-append reported (take i news) (get_or news i d ∷ []) ∙ ap (λ l. flat_map reported (take i news) ++ l) (append-nil (reported (get_or news i d))))
+    ∙ run_from-append r (flat_map reported (take i news)) (reported (get_or news i d))
+    ∙ reported_run (run_from r (flat_map reported (take i news))) (get_or news i d)
 
 -- a projection that reads neither pieces nor ends
-silent_one : {X : Type 0} (f : Event → List X) → ((id : ℕ) (p : List ℕ) → f (Heard id p) ≡ []) → ((id : ℕ) → f (Unread id) ≡ []) → ((id : ℕ) (s : Status) → f (Ended id s) ≡ []) → (n : News) → flat_map f (told n) ≡ []
+silent_one : {X : Type 0} (f : Event → List X) → ((id : ℕ) (p : List ℕ) → f (Heard id p) ≡ []) → ((id : ℕ) → f (Unread id) ≡ []) → ((id : ℕ) (s : Status) → f (Ended id s) ≡ []) → (n : News) → flat_map f (reported n) ≡ []
 silent_one f a b c n = said n.id n.piece n.unread n.ended
   where
     said : (id : ℕ) (piece : Option (List ℕ)) (un : Bool) (end : Option Status) → flat_map f (heard id piece ++ unread id un ++ ended id end) ≡ []
@@ -154,27 +154,27 @@ silent_one f a b c n = said n.id n.piece n.unread n.ended
     said id (Some p) true None = grind (arith, common_steps, a, b, c)
     said id (Some p) true (Some s) = grind (arith, common_steps, a, b, c)
 
-silent : {X : Type 0} (f : Event → List X) → ((id : ℕ) (p : List ℕ) → f (Heard id p) ≡ []) → ((id : ℕ) → f (Unread id) ≡ []) → ((id : ℕ) (s : Status) → f (Ended id s) ≡ []) → (ns : List News) → flat_map f (flat_map told ns) ≡ []
+silent : {X : Type 0} (f : Event → List X) → ((id : ℕ) (p : List ℕ) → f (Heard id p) ≡ []) → ((id : ℕ) → f (Unread id) ≡ []) → ((id : ℕ) (s : Status) → f (Ended id s) ≡ []) → (ns : List News) → flat_map f (flat_map reported ns) ≡ []
 silent f a b c [] = refl
-silent f a b c (n ∷ ns) = flat_map-append f (told n) (flat_map told ns) ∙ ap (λ l. l ++ flat_map f (flat_map told ns)) (silent_one f a b c n) ∙ silent f a b c ns
+silent f a b c (n ∷ ns) = flat_map-append f (reported n) (flat_map reported ns) ∙ ap (λ l. l ++ flat_map f (flat_map reported ns)) (silent_one f a b c n) ∙ silent f a b c ns
 
-pub news_started : (ns : List News) → started (flat_map told ns) ≡ []
+pub news_started : (ns : List News) → started (flat_map reported ns) ≡ []
 news_started = silent started_of (λ id p. refl) (λ id. refl) (λ id s. refl)
 
-pub news_printed : (ns : List News) → printed (flat_map told ns) ≡ []
+pub news_printed : (ns : List News) → printed (flat_map reported ns) ≡ []
 news_printed = silent printed_of (λ id p. refl) (λ id. refl) (λ id s. refl)
 
-pub news_missing : (ns : List News) → missing (flat_map told ns) ≡ []
+pub news_missing : (ns : List News) → missing (flat_map reported ns) ≡ []
 news_missing = silent missing_of (λ id p. refl) (λ id. refl) (λ id s. refl)
 
-pub news_faults : (ns : List News) → faults (flat_map told ns) ≡ []
+pub news_faults : (ns : List News) → faults (flat_map reported ns) ≡ []
 news_faults = silent fault_of (λ id p. refl) (λ id. refl) (λ id s. refl)
 
-pub news_abandoned : (ns : List News) → abandoned (flat_map told ns) ≡ []
+pub news_abandoned : (ns : List News) → abandoned (flat_map reported ns) ≡ []
 news_abandoned = silent abandoned_of (λ id p. refl) (λ id. refl) (λ id s. refl)
 
-told_turns : (n : News) → turns (told n) ≡ 0
-told_turns n = said n.id n.piece n.unread n.ended
+reported_turns : (n : News) → turns (reported n) ≡ 0
+reported_turns n = said n.id n.piece n.unread n.ended
   where
     said : (id : ℕ) (piece : Option (List ℕ)) (un : Bool) (end : Option Status) → turns (heard id piece ++ unread id un ++ ended id end) ≡ 0
     said id None false None = refl
@@ -186,12 +186,12 @@ told_turns n = said n.id n.piece n.unread n.ended
     said id (Some p) true None = refl
     said id (Some p) true (Some s) = refl
 
-pub news_turns : (ns : List News) → turns (flat_map told ns) ≡ 0
+pub news_turns : (ns : List News) → turns (flat_map reported ns) ≡ 0
 news_turns [] = refl
-news_turns (n ∷ ns) = sum_by-append turns_of (told n) (flat_map told ns) ∙ ap (λ k. k + turns (flat_map told ns)) (told_turns n) ∙ zero-add (turns (flat_map told ns)) ∙ news_turns ns
+news_turns (n ∷ ns) = sum_by-append turns_of (reported n) (flat_map reported ns) ∙ ap (λ k. k + turns (flat_map reported ns)) (reported_turns n) ∙ zero-add (turns (flat_map reported ns)) ∙ news_turns ns
 
-along_told : (P : Run → Event → Type 0) → ((r : Run) (id : ℕ) (p : List ℕ) → P r (Heard id p)) → ((r : Run) (id : ℕ) → P r (Unread id)) → ((r : Run) (id : ℕ) (s : Status) → P r (Ended id s)) → (r : Run) (n : News) → Along P r (told n)
-along_told P a b c r n = said n.id n.piece n.unread n.ended
+along_reported : (P : Run → Event → Type 0) → ((r : Run) (id : ℕ) (p : List ℕ) → P r (Heard id p)) → ((r : Run) (id : ℕ) → P r (Unread id)) → ((r : Run) (id : ℕ) (s : Status) → P r (Ended id s)) → (r : Run) (n : News) → Along P r (reported n)
+along_reported P a b c r n = said n.id n.piece n.unread n.ended
   where
     said : (id : ℕ) (piece : Option (List ℕ)) (un : Bool) (end : Option Status) → Along P r (heard id piece ++ unread id un ++ ended id end)
     said id None false None = tt
@@ -203,38 +203,38 @@ along_told P a b c r n = said n.id n.piece n.unread n.ended
     said id (Some p) true None = (a r id p, (b r id, tt))
     said id (Some p) true (Some s) = (a r id p, (b r id, (c r id s, tt)))
 
-along_news : (P : Run → Event → Type 0) → ((r : Run) (id : ℕ) (p : List ℕ) → P r (Heard id p)) → ((r : Run) (id : ℕ) → P r (Unread id)) → ((r : Run) (id : ℕ) (s : Status) → P r (Ended id s)) → (r : Run) (ns : List News) → Along P r (flat_map told ns)
+along_news : (P : Run → Event → Type 0) → ((r : Run) (id : ℕ) (p : List ℕ) → P r (Heard id p)) → ((r : Run) (id : ℕ) → P r (Unread id)) → ((r : Run) (id : ℕ) (s : Status) → P r (Ended id s)) → (r : Run) (ns : List News) → Along P r (flat_map reported ns)
 along_news P a b c r [] = tt
-along_news P a b c r (n ∷ ns) = along-append P r (told n) (flat_map told ns) (along_told P a b c r n) (along_news P a b c (run_from r (told n)) ns)
+along_news P a b c r (n ∷ ns) = along-append P r (reported n) (flat_map reported ns) (along_reported P a b c r n) (along_news P a b c (run_from r (reported n)) ns)
 
-greedy_turn : (t : Option ℕ) (n : ℕ) (r : Run) (ns : List News) → BusyHere t n r → Greedy t n r (Turn 1 ∷ flat_map told ns)
+greedy_turn : (t : Option ℕ) (n : ℕ) (r : Run) (ns : List News) → BusyHere t n r → Greedy t n r (Turn 1 ∷ flat_map reported ns)
 greedy_turn None n r ns h = tt
 greedy_turn (Some t) n r ns h = (h, along_news (IsBusy t n) (λ _ _ _. tt) (λ _ _. tt) (λ _ _ _. tt) r ns)
 
 -- a turn
-pub goes_turn : (t : Option ℕ) (cmds : List Asked) (old new : List Event) (r r' : Run) (ns : List News) → new ≡ old ++ Turn 1 ∷ flat_map told ns → run_from r (flat_map told ns) ≡ r' → r'.begun ≡ r.begun → BusyHere t (length cmds) r → IsNews old ns → Goes t cmds old r new r'
+pub goes_turn : (t : Option ℕ) (cmds : List Asked) (old new : List Event) (r r' : Run) (ns : List News) → new ≡ old ++ Turn 1 ∷ flat_map reported ns → run_from r (flat_map reported ns) ≡ r' → r'.begun ≡ r.begun → BusyHere t (length cmds) r → IsNews old ns → Goes t cmds old r new r'
 goes_turn t cmds old new r r' ns e is same busy news =
-    goes_by t cmds old new (Turn 1 ∷ flat_map told ns) r r' e (record {
+    goes_by t cmds old new (Turn 1 ∷ flat_map reported ns) r r' e (record {
       run = is;
       asked = ap (λ l. take r.begun cmds ++ l) (news_started ns) ∙ append-nil (take r.begun cmds) ∙ ap (λ k. take k cmds) (sym same);
       within = (tt, along_news (Fits t) (λ _ _ _. tt) (λ _ _. tt) (λ _ _ _. tt) r ns);
       greedy = greedy_turn t (length cmds) r ns busy;
     }) (lives_turn old new ns e news)
 
-pub turns_turn : (old new : List Event) (ns : List News) → new ≡ old ++ Turn 1 ∷ flat_map told ns → turns (since old new) ≡ 1
+pub turns_turn : (old new : List Event) (ns : List News) → new ≡ old ++ Turn 1 ∷ flat_map reported ns → turns (since old new) ≡ 1
 turns_turn old new ns e =
-    let one : turns (Turn 1 ∷ flat_map told ns) ≡ 1 + turns (flat_map told ns) = sum_by-append turns_of (Turn 1 ∷ []) (flat_map told ns) in
-    let some : turns (since old new) ≡ turns (Turn 1 ∷ flat_map told ns) = ap (λ n. turns (since old n)) e ∙ ap turns (since_append old (Turn 1 ∷ flat_map told ns)) in
-    let none : turns (flat_map told ns) ≡ 0 = news_turns ns in
+    let one : turns (Turn 1 ∷ flat_map reported ns) ≡ 1 + turns (flat_map reported ns) = sum_by-append turns_of (Turn 1 ∷ []) (flat_map reported ns) in
+    let some : turns (since old new) ≡ turns (Turn 1 ∷ flat_map reported ns) = ap (λ n. turns (since old n)) e ∙ ap turns (since_append old (Turn 1 ∷ flat_map reported ns)) in
+    let none : turns (flat_map reported ns) ≡ 0 = news_turns ns in
     omega arith
 
 pub turns_both : {t t2 : Option ℕ} {cmds : List Asked} {old mid new : List Event} {r r' r'' : Run} → Goes t cmds old r mid r' → Goes t2 cmds mid r' new r'' → turns (since old new) ≡ turns (since old mid) + turns (since mid new)
 turns_both {t} {t2} {cmds} {old} {mid} {new} x y = ap turns (since_since old mid new x.extends y.extends) ∙ sum_by-append turns_of (since old mid) (since mid new)
 
 -- a call that went well, and then another
-pub told_then : {T U : Type 0} {t t2 : Option ℕ} {cmds : List Asked} {old mid new : List Event} {r r' r'' : Run} (x : T) (result : Result U RunError) → Goes t cmds old r mid r' → Goes t2 cmds mid r' new r'' → IsTold {T = T} cmds (Ok x) (since old mid) → IsTold cmds result (since mid new) → IsTold cmds result (since old new)
-told_then {T} {U} {t} {t2} {cmds} {old} {mid} {new} x result g h a b =
-    subst (λ p. IsTold cmds result p) (sym (since_since old mid new g.extends h.extends)) (
+pub named_then : {T U : Type 0} {t t2 : Option ℕ} {cmds : List Asked} {old mid new : List Event} {r r' r'' : Run} (x : T) (result : Result U RunError) → Goes t cmds old r mid r' → Goes t2 cmds mid r' new r'' → NamesCause {T = T} cmds (Ok x) (since old mid) → NamesCause cmds result (since mid new) → NamesCause cmds result (since old new)
+named_then {T} {U} {t} {t2} {cmds} {old} {mid} {new} x result g h a b =
+    subst (λ p. NamesCause cmds result p) (sym (since_since old mid new g.extends h.extends)) (
       flat_map-append missing_of (since old mid) (since mid new) ∙ ap (λ l. l ++ missing (since mid new)) a.0 ∙ b.0,
       flat_map-append fault_of (since old mid) (since mid new) ∙ ap (λ l. l ++ faults (since mid new)) a.1 ∙ b.1,
       flat_map-append abandoned_of (since old mid) (since mid new) ∙ ap (λ l. l ++ abandoned (since mid new)) a.2 ∙ b.2,
@@ -270,8 +270,8 @@ pub ends_turn : (old new : List Event) (a b : ℕ) (he : HostError) → new ≡ 
 ends_turn old new a b (Failed call why) e c = (old, (why, e ∙ ap (λ k. old ++ Fault k why ∷ []) c.0))
 ends_turn old new a b WantsMemory e c = tt
 
-told_starts : (n : News) → starts (told n) ≡ 0
-told_starts n = said n.id n.piece n.unread n.ended
+reported_starts : (n : News) → starts (reported n) ≡ 0
+reported_starts n = said n.id n.piece n.unread n.ended
   where
     said : (id : ℕ) (piece : Option (List ℕ)) (un : Bool) (end : Option Status) → starts (heard id piece ++ unread id un ++ ended id end) ≡ 0
     said id None false None = refl
@@ -283,12 +283,12 @@ told_starts n = said n.id n.piece n.unread n.ended
     said id (Some p) true None = refl
     said id (Some p) true (Some s) = refl
 
-pub news_starts : (ns : List News) → starts (flat_map told ns) ≡ 0
+pub news_starts : (ns : List News) → starts (flat_map reported ns) ≡ 0
 news_starts [] = refl
-news_starts (n ∷ ns) = sum_by-append starts_of (told n) (flat_map told ns) ∙ ap (λ k. k + starts (flat_map told ns)) (told_starts n) ∙ zero-add (starts (flat_map told ns)) ∙ news_starts ns
+news_starts (n ∷ ns) = sum_by-append starts_of (reported n) (flat_map reported ns) ∙ ap (λ k. k + starts (flat_map reported ns)) (reported_starts n) ∙ zero-add (starts (flat_map reported ns)) ∙ news_starts ns
 
-told_loads : (n : News) → loads (told n) ≡ 0
-told_loads n = said n.id n.piece n.unread n.ended
+reported_loads : (n : News) → loads (reported n) ≡ 0
+reported_loads n = said n.id n.piece n.unread n.ended
   where
     said : (id : ℕ) (piece : Option (List ℕ)) (un : Bool) (end : Option Status) → loads (heard id piece ++ unread id un ++ ended id end) ≡ 0
     said id None false None = refl
@@ -300,12 +300,12 @@ told_loads n = said n.id n.piece n.unread n.ended
     said id (Some p) true None = refl
     said id (Some p) true (Some s) = refl
 
-pub news_loads : (ns : List News) → loads (flat_map told ns) ≡ 0
+pub news_loads : (ns : List News) → loads (flat_map reported ns) ≡ 0
 news_loads [] = refl
-news_loads (n ∷ ns) = sum_by-append held_of (told n) (flat_map told ns) ∙ ap (λ k. k + loads (flat_map told ns)) (told_loads n) ∙ zero-add (loads (flat_map told ns)) ∙ news_loads ns
+news_loads (n ∷ ns) = sum_by-append held_of (reported n) (flat_map reported ns) ∙ ap (λ k. k + loads (flat_map reported ns)) (reported_loads n) ∙ zero-add (loads (flat_map reported ns)) ∙ news_loads ns
 
-pub starts_turn : (old new : List Event) (ns : List News) → new ≡ old ++ Turn 1 ∷ flat_map told ns → (starts (since old new) ≡ 0) × (loads (since old new) ≡ 0)
+pub starts_turn : (old new : List Event) (ns : List News) → new ≡ old ++ Turn 1 ∷ flat_map reported ns → (starts (since old new) ≡ 0) × (loads (since old new) ≡ 0)
 starts_turn old new ns e = (
-  ap (λ n. starts (since old n)) e ∙ ap starts (since_append old (Turn 1 ∷ flat_map told ns)) ∙ sum_by-append starts_of (Turn 1 ∷ []) (flat_map told ns) ∙ ap (λ k. 0 + k) (news_starts ns),
-  ap (λ n. loads (since old n)) e ∙ ap loads (since_append old (Turn 1 ∷ flat_map told ns)) ∙ sum_by-append held_of (Turn 1 ∷ []) (flat_map told ns) ∙ ap (λ k. 0 + k) (news_loads ns),
+  ap (λ n. starts (since old n)) e ∙ ap starts (since_append old (Turn 1 ∷ flat_map reported ns)) ∙ sum_by-append starts_of (Turn 1 ∷ []) (flat_map reported ns) ∙ ap (λ k. 0 + k) (news_starts ns),
+  ap (λ n. loads (since old n)) e ∙ ap loads (since_append old (Turn 1 ∷ flat_map reported ns)) ∙ sum_by-append held_of (Turn 1 ∷ []) (flat_map reported ns) ∙ ap (λ k. 0 + k) (news_loads ns),
 )

@@ -91,26 +91,26 @@ below_after n k (Listed vars) es h lt = h
 below_after n k (Fault call why) es h lt = h
 
 -- lines of one kind, event by event
-pub along_due : (p : Line → Bool) (f : Run → Event → List Line) (shows : Shows) (tells : Bool) (cmds : List Planned) → ((k : Kept) (e : Event) → AreBelow (length cmds) (map seat k.children) → filter p (due shows tells cmds k e) ≡ f (run_of k) e) → (k : Kept) (es : List Event) → AreBelow (length cmds) (map seat k.children) → k.begun + length (started es) ≤ length cmds → filter p (due_from shows tells cmds k es) ≡ lines_along f (run_of k) es
-along_due p f shows tells cmds one k [] h lt = refl
-along_due p f shows tells cmds one k (e ∷ es) h lt =
+pub along_due : (p : Line → Bool) (f : Run → Event → List Line) (shows : Shows) (warns : Bool) (cmds : List Planned) → ((k : Kept) (e : Event) → AreBelow (length cmds) (map seat k.children) → filter p (due shows warns cmds k e) ≡ f (run_of k) e) → (k : Kept) (es : List Event) → AreBelow (length cmds) (map seat k.children) → k.begun + length (started es) ≤ length cmds → filter p (due_from shows warns cmds k es) ≡ lines_along f (run_of k) es
+along_due p f shows warns cmds one k [] h lt = refl
+along_due p f shows warns cmds one k (e ∷ es) h lt =
     let few : (kept_after k e).begun + length (started es) ≤ length cmds = subst (λ n. n ≤ length cmds) (sym (begun_after k e es)) lt in
-    filter-append p (due shows tells cmds k e) (due_from shows tells cmds (kept_after k e) es)
-    ∙ ap (λ l. l ++ filter p (due_from shows tells cmds (kept_after k e) es)) (one k e h)
-    ∙ ap (λ l. f (run_of k) e ++ l) (along_due p f shows tells cmds one (kept_after k e) es (below_after (length cmds) k e es h lt) few ∙ ap (λ r. lines_along f r es) (kept_run_after k e))
+    filter-append p (due shows warns cmds k e) (due_from shows warns cmds (kept_after k e) es)
+    ∙ ap (λ l. l ++ filter p (due_from shows warns cmds (kept_after k e) es)) (one k e h)
+    ∙ ap (λ l. f (run_of k) e ++ l) (along_due p f shows warns cmds one (kept_after k e) es (below_after (length cmds) k e es h lt) few ∙ ap (λ r. lines_along f r es) (kept_run_after k e))
 
 -- What was printed of a kind that no line before a command has, by the answer.
-module _ (p : Line → Bool) (shows : Shows) (tells : Bool) (cmds : List Planned) (k : Kept) (part : List Event) (wanted : List Line) where
-  pub sifted : {T : Type 0} → ((cmd : CommandSeen) → filter p (announced shows cmd) ≡ []) → filter p (due_from shows tells cmds k part) ≡ wanted → (result : Result T RunError) → IsPrinted shows tells cmds k result part → IsForwarded result (filter p (printed part)) wanted
+module _ (p : Line → Bool) (shows : Shows) (warns : Bool) (cmds : List Planned) (k : Kept) (part : List Event) (wanted : List Line) where
+  pub sifted : {T : Type 0} → ((cmd : CommandSeen) → filter p (announced shows cmd) ≡ []) → filter p (due_from shows warns cmds k part) ≡ wanted → (result : Result T RunError) → IsPrinted shows warns cmds k result part → IsForwarded result (filter p (printed part)) wanted
   sifted none all result q = by result q
     where
-      next : filter p (due_next shows tells cmds k part) ≡ wanted
-      next = filter-append p (due_from shows tells cmds k part) _ ∙ ap (λ l. filter p (due_from shows tells cmds k part) ++ l) (filter_flat p (λ x. announced shows x.cmd) (λ x. none x.cmd) (take 1 (drop _ cmds))) ∙ append-nil _ ∙ all
+      next : filter p (due_next shows warns cmds k part) ≡ wanted
+      next = filter-append p (due_from shows warns cmds k part) _ ∙ ap (λ l. filter p (due_from shows warns cmds k part) ++ l) (filter_flat p (λ x. announced shows x.cmd) (λ x. none x.cmd) (take 1 (drop _ cmds))) ∙ append-nil _ ∙ all
 
-      some : (n : ℕ) → printed part ≡ take n (due_next shows tells cmds k part) → (m : ℕ) × (filter p (printed part) ≡ take m wanted)
-      some n e = let f = filter_first p n (due_next shows tells cmds k part) in (f.0, ap (filter p) e ∙ f.1 ∙ ap (take f.0) next)
+      some : (n : ℕ) → printed part ≡ take n (due_next shows warns cmds k part) → (m : ℕ) × (filter p (printed part) ≡ take m wanted)
+      some n e = let f = filter_first p n (due_next shows warns cmds k part) in (f.0, ap (filter p) e ∙ f.1 ∙ ap (take f.0) next)
 
-      by : {T : Type 0} (result : Result T RunError) → IsPrinted shows tells cmds k result part → IsForwarded result (filter p (printed part)) wanted
+      by : {T : Type 0} (result : Result T RunError) → IsPrinted shows warns cmds k result part → IsForwarded result (filter p (printed part)) wanted
       by (Ok x) q = ap (filter p) q ∙ all
       by (Err (ToolNotFound n)) q = ap (filter p) q ∙ next
       by (Err (StartFault n)) q = ap (filter p) q ∙ next

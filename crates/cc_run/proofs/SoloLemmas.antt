@@ -9,12 +9,12 @@ use Rattle.cc_host.proofs.Parts.{since_append, since_since, since_extends}
 use Rattle.cc_host.specs.declared.event.Event.{Event}
 use Rattle.cc_host.specs.declared.event.Event.TheVariants.{Started}
 use Rattle.cc_run.specs.Children.{Kept, run_of, seat, nothing_kept}
-use Rattle.cc_run.specs.Outcome.{IsTold, IsDone, IsRunError, EndsAt}
+use Rattle.cc_run.specs.Outcome.{NamesCause, IsDone, IsRunError, EndsAt}
 use Rattle.cc_run.specs.Paid.{loads, held_of}
 use Rattle.cc_run.specs.Part.{started, started_of, missing, missing_of, faults, fault_of, abandoned, abandoned_of, turns, turns_of, BusyHere, Goes}
 use Rattle.cc_run.specs.Planned.{Asked, asked, asked_by, pipes_of}
 use Rattle.cc_run.specs.Run.{Run, nothing, run_after, run_from, gone}
-use Rattle.cc_run.specs.Shown.{prints}
+use Rattle.cc_run.specs.Prints.{prints}
 use Rattle.cc_run.specs.Solo.{Alone, IsSolo}
 use Rattle.cc_run.specs.Started.{IsStart}
 use Rattle.cc_run.specs.Texts.{announced}
@@ -29,7 +29,7 @@ use Rattle.cc_run.proofs.LifeLemmas.{lives_then, lives_start, newcomer_behind}
 use Rattle.cc_run.proofs.Quiet.{prints_run, prints_started, prints_ids, lives_prints, behind_loads}
 use Rattle.cc_run.proofs.Runs.{run_from-append}
 use Rattle.cc_run.proofs.Drops.{begun_runs, lives_gone, gone_turns, gone_missing, gone_faults}
-use Rattle.cc_run.proofs.StartLemmas.{unstarted_same, unstarted_goes, unstarted_told, unstarted_counts, unstarted_ends}
+use Rattle.cc_run.proofs.StartLemmas.{unstarted_same, unstarted_goes, unstarted_named, unstarted_counts, unstarted_ends}
 
 -- where every command was started and a child runs, a turn may be made
 pub busy_whole : (t : Option ℕ) (shows : Shows) (cmds : List Planned) (k : Kept) → 0 < length k.children → k.begun ≡ length cmds → BusyHere t (length (asked shows cmds)) (run_of k)
@@ -72,9 +72,9 @@ alone_start shows p id old new log log' x none s fresh =
     }
 
 -- a part that went well, and then another
-pub told_pair : {T U : Type 0} (cmds : List Asked) (old mid new : List Event) (x : T) (result : Result U RunError) → mid ≡ old ++ since old mid → new ≡ mid ++ since mid new → IsTold {T = T} cmds (Ok x) (since old mid) → IsTold cmds result (since mid new) → IsTold cmds result (since old new)
-told_pair cmds old mid new x result e f a b =
-    subst (λ p. IsTold cmds result p) (sym (since_since old mid new e f)) (
+pub named_pair : {T U : Type 0} (cmds : List Asked) (old mid new : List Event) (x : T) (result : Result U RunError) → mid ≡ old ++ since old mid → new ≡ mid ++ since mid new → NamesCause {T = T} cmds (Ok x) (since old mid) → NamesCause cmds result (since mid new) → NamesCause cmds result (since old new)
+named_pair cmds old mid new x result e f a b =
+    subst (λ p. NamesCause cmds result p) (sym (since_since old mid new e f)) (
       flat_map-append missing_of (since old mid) (since mid new) ∙ ap (λ l. l ++ missing (since mid new)) a.0 ∙ b.0,
       flat_map-append fault_of (since old mid) (since mid new) ∙ ap (λ l. l ++ faults (since mid new)) a.1 ∙ b.1,
       flat_map-append abandoned_of (since old mid) (since mid new) ∙ ap (λ l. l ++ abandoned (since mid new)) a.2 ∙ b.2,
@@ -103,7 +103,7 @@ solo_unstarted shows p old new log log' e x z s =
     let g : Goes None (asked shows (p ∷ [])) log nothing log' nothing = subst (λ r. Goes None (asked shows (p ∷ [])) log nothing log' r) same (subst (λ k. Goes None (asked shows (p ∷ [])) log (run_of k) log' (run_of new)) z (unstarted_goes None shows (p ∷ []) p 0 old new log log' e x s)) in
     let first : old.begun ≡ 0 = ap (λ k. k.begun) z in
     let at : p ≡ get_or (p ∷ []) old.begun p = ap (λ n. get_or (p ∷ []) n p) (sym first) in
-    let k = unstarted_told shows p 0 old new (since log log') (p ∷ []) e s (omega (arith, first)) at in
+    let k = unstarted_named shows p 0 old new (since log log') (p ∷ []) e s (omega (arith, first)) at in
     record {
       run = nothing;
       mid = log';
@@ -135,10 +135,10 @@ module _ (log mid new : List Event) (l : List (ℕ × ℕ)) where
   solo_faults e f = ap faults (gone_part e f) ∙ flat_map-append fault_of (since log mid) (gone l) ∙ ap (λ x. faults (since log mid) ++ x) (gone_faults l) ∙ append-nil (faults (since log mid))
 
 -- the one command was started, and turns were made
-pub solo_whole : {t : Option ℕ} (cmds : List Asked) (st fin : Run) (log s w d : List Event) (result : Result (Unit {0}) RunError) → Alone cmds log s st → Goes t cmds s st w fin → loads (since s w) ≡ 0 → IsTold {T = Step} cmds (Ok Ready) (since log s) → IsTold cmds result (since s w) → d ≡ w ++ gone fin.live → OnOk result (IsDone (length cmds) fin × (fin.failed ≡ None)) → IfErr result (IsRunError (length cmds) fin) → IfErr result (EndsAt w) → result ≢ Err JobFault → IsSolo cmds log d result
+pub solo_whole : {t : Option ℕ} (cmds : List Asked) (st fin : Run) (log s w d : List Event) (result : Result (Unit {0}) RunError) → Alone cmds log s st → Goes t cmds s st w fin → loads (since s w) ≡ 0 → NamesCause {T = Step} cmds (Ok Ready) (since log s) → NamesCause cmds result (since s w) → d ≡ w ++ gone fin.live → OnOk result (IsDone (length cmds) fin × (fin.failed ≡ None)) → IfErr result (IsRunError (length cmds) fin) → IfErr result (EndsAt w) → result ≢ Err JobFault → IsSolo cmds log d result
 solo_whole cmds st fin log s w d result a g z k m f done cause ends tokenless =
     let b = alone_then cmds log s w st fin a g z in
-    let q = told_pair cmds log s w Ready result a.extends g.extends k m in
+    let q = named_pair cmds log s w Ready result a.extends g.extends k m in
     record {
       run = fin;
       mid = w;

@@ -15,11 +15,11 @@ use Rattle.cc_host.specs.declared.event.Status.{Status}
 use Rattle.cc_jobs.specs.Seats.{IsBounded}
 use Rattle.cc_run.specs.Children.{Kept, run_of, seat}
 use Rattle.cc_run.specs.Part.{Goes, missing, faults, abandoned, turns}
-use Rattle.cc_run.specs.Paid.{starts, loads}
-use Rattle.cc_run.specs.Outcome.{IsTold, EndsAt, missing_in}
+use Rattle.cc_run.specs.Paid.{starts, loads, IsStartError}
+use Rattle.cc_run.specs.Outcome.{NamesCause, EndsAt, missing_in}
 use Rattle.cc_run.specs.Planned.{asked, asked_by, pipes_of}
 use Rattle.cc_run.specs.Run.{Run, run_after}
-use Rattle.cc_run.specs.Shown.{IsShown, IsPrintError, print_fault, prints}
+use Rattle.cc_run.specs.Prints.{ArePrinted, IsPrintError, print_fault, prints}
 use Rattle.cc_run.specs.Started.{IsStart, with_child}
 use Rattle.cc_run.specs.declared.error.Step.{Step}
 use Rattle.cc_run.specs.declared.error.Step.TheVariants.{Ready}
@@ -38,20 +38,20 @@ run_with : List (ℕ × ℕ) → ℕ → Option (ℕ × Status) → Run
 run_with live begun failed = record { live = live; begun = begun; failed = failed }
 
 -- where there is one line at most, a print that faulted has printed none
-pub one_faulted : (wanted : Bool) (line : Line) (e : RunError) (part : List Event) → (e ≡ NoMemory → ⊥) → IsShown {T = Unit {0}} (when wanted (line ∷ [])) (Err e) part → part ≡ print_fault e
+pub one_faulted : (wanted : Bool) (line : Line) (e : RunError) (part : List Event) → (e ≡ NoMemory → ⊥) → ArePrinted {T = Unit {0}} (when wanted (line ∷ [])) (Err e) part → part ≡ print_fault e
 one_faulted wanted line e part never (n, (le, inl m, h)) = absurd (never m)
 one_faulted false line e part never (n, (le, inr lt, h)) = absurd (omega (arith, lt))
 one_faulted true line e part never (zero, (le, inr lt, h)) = h
 one_faulted true line e part never (suc n, (le, inr lt, h)) = absurd (omega (arith, lt))
 
 -- and one without memory has printed none or it
-pub one_unprinted : (wanted : Bool) (line : Line) (part : List Event) → IsShown {T = Unit {0}} (when wanted (line ∷ [])) (Err NoMemory) part → (part ≡ []) ⊎ (part ≡ prints (when wanted (line ∷ [])))
+pub one_unprinted : (wanted : Bool) (line : Line) (part : List Event) → ArePrinted {T = Unit {0}} (when wanted (line ∷ [])) (Err NoMemory) part → (part ≡ []) ⊎ (part ≡ prints (when wanted (line ∷ [])))
 one_unprinted wanted line part (zero, (le, m, h)) = inl h
 one_unprinted false line part (suc n, (le, m, h)) = absurd (omega (arith, le))
 one_unprinted true line part (suc zero, (le, m, h)) = inr h
 one_unprinted true line part (suc (suc n), (le, m, h)) = absurd (omega (arith, le))
 
-pub start_unprinted : (shows : Shows) (p : Planned) (held : ℕ) (old : Kept) (e : RunError) (part : List Event) → IsShown {T = Unit {0}} (announced shows p.cmd) (Err e) part → IsPrintError e → IsStart shows p held old (Err e) old part
+pub start_unprinted : (shows : Shows) (p : Planned) (held : ℕ) (old : Kept) (e : RunError) (part : List Event) → ArePrinted {T = Unit {0}} (announced shows p.cmd) (Err e) part → IsPrintError e → IsStart shows p held old (Err e) old part
 unfolding announced
 start_unprinted shows p held old (HostFault call why) part h k = (one_faulted shows.debug _ (HostFault call why) part (λ e. cc) h, k, refl)
 start_unprinted shows p held old NoMemory part h k = (one_unprinted shows.debug _ part h, refl)
@@ -113,19 +113,19 @@ module _ (shows : Shows) (p : Planned) (held : ℕ) (old new : Kept) (part : Lis
   ann : List Line
   ann = announced shows p.cmd
 
-  -- a start is told by no missing command and no fault
-  pub start_told : (cmds : List Planned) (id : ℕ) → IsStart shows p held old (Ok id) new part → IsTold {T = Step} (asked shows cmds) (Ok Ready) part
+  -- a start has no missing command and no fault
+  pub start_named : (cmds : List Planned) (id : ℕ) → IsStart shows p held old (Ok id) new part → NamesCause {T = Step} (asked shows cmds) (Ok Ready) part
   unfolding ann
-  start_told cmds id s = (
+  start_named cmds id s = (
     ap missing s.0 ∙ behind_missing ann _,
     ap faults s.0 ∙ behind_faults ann _,
     ap abandoned s.0 ∙ behind_abandoned ann _,
   )
 
   -- and its refusal by the one event that it left
-  pub unstarted_told : (cmds : List Planned) (e : RunError) → IsStart shows p held old (Err e) new part → old.begun < length cmds → p ≡ get_or cmds old.begun p → IsTold {T = Step} (asked shows cmds) (Err e) part
+  pub unstarted_named : (cmds : List Planned) (e : RunError) → IsStart shows p held old (Err e) new part → old.begun < length cmds → p ≡ get_or cmds old.begun p → NamesCause {T = Step} (asked shows cmds) (Err e) part
   unfolding ann
-  unstarted_told cmds (ToolNotFound n) s lt at = (
+  unstarted_named cmds (ToolNotFound n) s lt at = (
     ap missing s.0 ∙ behind_missing ann _ ∙ missed cmds old.begun lt at ∙ ap (λ k. missing_in (asked shows cmds) (ToolNotFound k)) (sym s.1),
     ap faults s.0 ∙ behind_faults ann _,
     ap abandoned s.0 ∙ behind_abandoned ann _,
@@ -135,18 +135,18 @@ module _ (shows : Shows) (p : Planned) (held : ℕ) (old new : Kept) (part : Lis
       missed (c ∷ cmds) zero lt at = ap (λ q. (q.role, q.cmd) ∷ []) at
       missed (c ∷ cmds) (suc i) lt at = missed cmds i (omega arith) at
       missed [] i lt at = absurd (omega arith)
-  unstarted_told cmds (StartFault n) (why, s) lt at = (
+  unstarted_named cmds (StartFault n) (why, s) lt at = (
     ap missing s.0 ∙ behind_missing ann _,
     ap faults s.0 ∙ behind_faults ann _,
     ap abandoned s.0 ∙ behind_abandoned ann _,
   )
-  unstarted_told cmds (HostFault call why) s lt at = (ap missing s.0, ap faults s.0, ap abandoned s.0)
-  unstarted_told cmds NoMemory (inl n, s) lt at = (ap missing n, ap faults n, ap abandoned n)
-  unstarted_told cmds NoMemory (inr n, s) lt at = (ap missing n ∙ prints_missing ann, ap faults n ∙ prints_faults ann, ap abandoned n ∙ prints_abandoned ann)
-  unstarted_told cmds (Failed n s') s lt at = absurd s
-  unstarted_told cmds WaitFault s lt at = absurd s
-  unstarted_told cmds JobFault s lt at = absurd s
-  unstarted_told cmds TurnsSpent s lt at = absurd s
+  unstarted_named cmds (HostFault call why) s lt at = (ap missing s.0, ap faults s.0, ap abandoned s.0)
+  unstarted_named cmds NoMemory (inl n, s) lt at = (ap missing n, ap faults n, ap abandoned n)
+  unstarted_named cmds NoMemory (inr n, s) lt at = (ap missing n ∙ prints_missing ann, ap faults n ∙ prints_faults ann, ap abandoned n ∙ prints_abandoned ann)
+  unstarted_named cmds (Failed n s') s lt at = absurd s
+  unstarted_named cmds WaitFault s lt at = absurd s
+  unstarted_named cmds JobFault s lt at = absurd s
+  unstarted_named cmds TurnsSpent s lt at = absurd s
 
   -- it makes no turn
   pub start_turns : (result : Result ℕ RunError) → IsStart shows p held old result new part → turns part ≡ 0
@@ -201,6 +201,17 @@ unstarted_same shows p held old new part (Failed n s') s = absurd s
 unstarted_same shows p held old new part WaitFault s = absurd s
 unstarted_same shows p held old new part JobFault s = absurd s
 unstarted_same shows p held old new part TurnsSpent s = absurd s
+
+-- only what a start meets refuses it
+pub unstarted_error : (shows : Shows) (p : Planned) (held : ℕ) (old new : Kept) (part : List Event) (e : RunError) → IsStart shows p held old (Err e) new part → IsStartError e
+unstarted_error shows p held old new part (ToolNotFound n) s = tt
+unstarted_error shows p held old new part (StartFault n) s = tt
+unstarted_error shows p held old new part (HostFault call why) s = tt
+unstarted_error shows p held old new part NoMemory s = tt
+unstarted_error shows p held old new part (Failed n s') s = absurd s
+unstarted_error shows p held old new part WaitFault s = absurd s
+unstarted_error shows p held old new part JobFault s = absurd s
+unstarted_error shows p held old new part TurnsSpent s = absurd s
 
 -- no more than the total are held
 pub most_of : (t t' : Option ℕ) (h k : ℕ) → t' ≡ t → k ≡ h → IsBounded t' h → IfSome t (λ n. k ≤ n)

@@ -127,12 +127,12 @@ module _ (id : ℕ) where
   unfolding announced
   announced_other shows cmd = filter_when (is_stderr id) shows.debug _ ∙ when_none shows.debug
 
-  ended_rest : (shows : Shows) (tells : Bool) (cmd : CommandSeen) (s : Status) (c : Child) → filter (is_stderr id) (ended_lines shows tells cmd s c) ≡ filter (is_stderr id) (rest_lines shows c)
+  ended_rest : (shows : Shows) (warns : Bool) (cmd : CommandSeen) (s : Status) (c : Child) → filter (is_stderr id) (ended_lines shows warns cmd s c) ≡ filter (is_stderr id) (rest_lines shows c)
   unfolding failed_line
-  ended_rest shows tells cmd s c =
+  ended_rest shows warns cmd s c =
       let a = filter (is_stderr id) (rest_lines shows c) in
-      filter-append (is_stderr id) (rest_lines shows c ++ when shows.debug (debug_line (ended_text s) ∷ [])) (when (tells && shows.warnings && not (is_success s)) (failed_line s cmd ∷ []))
-      ∙ ap (λ l. filter (is_stderr id) (rest_lines shows c ++ when shows.debug (debug_line (ended_text s) ∷ [])) ++ l) (filter_when (is_stderr id) (tells && shows.warnings && not (is_success s)) _ ∙ when_none (tells && shows.warnings && not (is_success s)))
+      filter-append (is_stderr id) (rest_lines shows c ++ when shows.debug (debug_line (ended_text s) ∷ [])) (when (warns && shows.warnings && not (is_success s)) (failed_line s cmd ∷ []))
+      ∙ ap (λ l. filter (is_stderr id) (rest_lines shows c ++ when shows.debug (debug_line (ended_text s) ∷ [])) ++ l) (filter_when (is_stderr id) (warns && shows.warnings && not (is_success s)) _ ∙ when_none (warns && shows.warnings && not (is_success s)))
       ∙ append-nil _
       ∙ filter-append (is_stderr id) (rest_lines shows c) (when shows.debug (debug_line (ended_text s) ∷ []))
       ∙ ap (λ l. a ++ l) (filter_when (is_stderr id) shows.debug _ ∙ when_none shows.debug)
@@ -156,48 +156,48 @@ module _ (id : ℕ) where
   heard_own : (shows : Shows) (c : Child) (p : List ℕ) → c.id ≡ id → filter (is_stderr id) (heard_lines shows c p) ≡ when shows.warnings (map (stderr_line id) (whole_lines (c.rest ++ p)))
   heard_own shows c p e = filter_when (is_stderr id) shows.warnings _ ∙ ap (when shows.warnings) (own_lines c.id (whole_lines (c.rest ++ p)) (own_is c.id e) ∙ ap (λ n. map (stderr_line n) (whole_lines (c.rest ++ p))) e)
 
-  end_own : (shows : Shows) (tells : Bool) (cmds : List Planned) (s : Status) (c : Child) → c.place < length cmds → filter (is_stderr id) (end_lines shows tells cmds s c) ≡ filter (is_stderr id) (rest_lines shows c)
-  end_own shows tells cmds s c lt = at cmds c.place lt
+  end_own : (shows : Shows) (warns : Bool) (cmds : List Planned) (s : Status) (c : Child) → c.place < length cmds → filter (is_stderr id) (end_lines shows warns cmds s c) ≡ filter (is_stderr id) (rest_lines shows c)
+  end_own shows warns cmds s c lt = at cmds c.place lt
     where
-      at : (cmds : List Planned) (place : ℕ) → place < length cmds → filter (is_stderr id) (flat_map (λ p. ended_lines shows tells p.cmd s c) (take 1 (drop place cmds))) ≡ filter (is_stderr id) (rest_lines shows c)
-      at (p ∷ cmds) zero lt = ap (filter (is_stderr id)) (append-nil (ended_lines shows tells p.cmd s c)) ∙ ended_rest shows tells p.cmd s c
+      at : (cmds : List Planned) (place : ℕ) → place < length cmds → filter (is_stderr id) (flat_map (λ p. ended_lines shows warns p.cmd s c) (take 1 (drop place cmds))) ≡ filter (is_stderr id) (rest_lines shows c)
+      at (p ∷ cmds) zero lt = ap (filter (is_stderr id)) (append-nil (ended_lines shows warns p.cmd s c)) ∙ ended_rest shows warns p.cmd s c
       at (p ∷ cmds) (suc place) lt = at cmds place (omega arith)
       at [] place lt = absurd (omega arith)
 
   -- an event of another child changes nothing for this one
-  other_event : (shows : Shows) (tells : Bool) (cmds : List Planned) (k : Kept) (e : Event) → is_of id e ≡ false → (mine id (kept_after k e).children ≡ mine id k.children) × (filter (is_stderr id) (due shows tells cmds k e) ≡ [])
-  other_event shows tells cmds k (Started n role cmd pipes held) ne = (filter-append (λ c. c.id == id) k.children _ ∙ ap (λ l. mine id k.children ++ l) (skip (record { id = n; place = k.begun; rest = [] }) [] ne) ∙ append-nil (mine id k.children), announced_other shows cmd)
-  other_event shows tells cmds k (Heard n p) ne = (other_at n (fed p) (λ c. refl) k.children ne, other_of n (λ c. heard_lines shows c p) k.children (λ c e. heard_other shows c p (foreign n c e ne)))
-  other_event shows tells cmds k (Unread n) ne = (other_at n emptied (λ c. refl) k.children ne, other_of n (unread_lines shows) k.children (λ c e. unread_rest shows c ∙ rest_other shows c (foreign n c e ne)))
-  other_event shows tells cmds k (Ended n s) ne = (other_without n k.children ne, other_of n (end_lines shows tells cmds s) k.children (λ c e. filter_flat (is_stderr id) (λ p. ended_lines shows tells p.cmd s c) (λ p. ended_rest shows tells p.cmd s c ∙ rest_other shows c (foreign n c e ne)) (take 1 (drop c.place cmds))))
-  other_event shows tells cmds k (Abandoned n) ne = (other_without n k.children ne, refl)
-  other_event shows tells cmds k (Turn n) ne = (refl, refl)
-  other_event shows tells cmds k (Answered q f o) ne = (refl, refl)
-  other_event shows tells cmds k (Reused q v) ne = (refl, refl)
-  other_event shows tells cmds k (Unasked q) ne = (refl, refl)
-  other_event shows tells cmds k (Drawn w) ne = (refl, refl)
-  other_event shows tells cmds k (Opened p b) ne = (refl, refl)
-  other_event shows tells cmds k (Taken p) ne = (refl, refl)
-  other_event shows tells cmds k (DroppedFiles p) ne = (refl, refl)
-  other_event shows tells cmds k (Ran role cmd pipes status out err) ne = (refl, refl)
-  other_event shows tells cmds k (Missing role cmd) ne = (refl, refl)
-  other_event shows tells cmds k (Made scope p) ne = (refl, refl)
-  other_event shows tells cmds k (Removed p how) ne = (refl, refl)
-  other_event shows tells cmds k (Printed kind b) ne = (refl, refl)
-  other_event shows tells cmds k (Listed vars) ne = (refl, refl)
-  other_event shows tells cmds k (Fault call why) ne = (refl, refl)
+  other_event : (shows : Shows) (warns : Bool) (cmds : List Planned) (k : Kept) (e : Event) → is_of id e ≡ false → (mine id (kept_after k e).children ≡ mine id k.children) × (filter (is_stderr id) (due shows warns cmds k e) ≡ [])
+  other_event shows warns cmds k (Started n role cmd pipes held) ne = (filter-append (λ c. c.id == id) k.children _ ∙ ap (λ l. mine id k.children ++ l) (skip (record { id = n; place = k.begun; rest = [] }) [] ne) ∙ append-nil (mine id k.children), announced_other shows cmd)
+  other_event shows warns cmds k (Heard n p) ne = (other_at n (fed p) (λ c. refl) k.children ne, other_of n (λ c. heard_lines shows c p) k.children (λ c e. heard_other shows c p (foreign n c e ne)))
+  other_event shows warns cmds k (Unread n) ne = (other_at n emptied (λ c. refl) k.children ne, other_of n (unread_lines shows) k.children (λ c e. unread_rest shows c ∙ rest_other shows c (foreign n c e ne)))
+  other_event shows warns cmds k (Ended n s) ne = (other_without n k.children ne, other_of n (end_lines shows warns cmds s) k.children (λ c e. filter_flat (is_stderr id) (λ p. ended_lines shows warns p.cmd s c) (λ p. ended_rest shows warns p.cmd s c ∙ rest_other shows c (foreign n c e ne)) (take 1 (drop c.place cmds))))
+  other_event shows warns cmds k (Abandoned n) ne = (other_without n k.children ne, refl)
+  other_event shows warns cmds k (Turn n) ne = (refl, refl)
+  other_event shows warns cmds k (Answered q f o) ne = (refl, refl)
+  other_event shows warns cmds k (Reused q v) ne = (refl, refl)
+  other_event shows warns cmds k (Unasked q) ne = (refl, refl)
+  other_event shows warns cmds k (Drawn w) ne = (refl, refl)
+  other_event shows warns cmds k (Opened p b) ne = (refl, refl)
+  other_event shows warns cmds k (Taken p) ne = (refl, refl)
+  other_event shows warns cmds k (DroppedFiles p) ne = (refl, refl)
+  other_event shows warns cmds k (Ran role cmd pipes status out err) ne = (refl, refl)
+  other_event shows warns cmds k (Missing role cmd) ne = (refl, refl)
+  other_event shows warns cmds k (Made scope p) ne = (refl, refl)
+  other_event shows warns cmds k (Removed p how) ne = (refl, refl)
+  other_event shows warns cmds k (Printed kind b) ne = (refl, refl)
+  other_event shows warns cmds k (Listed vars) ne = (refl, refl)
+  other_event shows warns cmds k (Fault call why) ne = (refl, refl)
 
 -- The lines of one child, event by event.
-module _ (shows : Shows) (tells : Bool) (cmds : List Planned) (id : ℕ) where
+module _ (shows : Shows) (warns : Bool) (cmds : List Planned) (id : ℕ) where
   given : Kept → List Event → List Line
-  given k es = filter (is_stderr id) (due_from shows tells cmds k es)
+  given k es = filter (is_stderr id) (due_from shows warns cmds k es)
 
-  given_more : (k : Kept) (e : Event) (es : List Event) → given k (e ∷ es) ≡ filter (is_stderr id) (due shows tells cmds k e) ++ given (kept_after k e) es
+  given_more : (k : Kept) (e : Event) (es : List Event) → given k (e ∷ es) ≡ filter (is_stderr id) (due shows warns cmds k e) ++ given (kept_after k e) es
   unfolding given
-  given_more k e es = filter-append (is_stderr id) (due shows tells cmds k e) (due_from shows tells cmds (kept_after k e) es)
+  given_more k e es = filter-append (is_stderr id) (due shows warns cmds k e) (due_from shows warns cmds (kept_after k e) es)
 
   given_skip : (k : Kept) (e : Event) (es : List Event) → is_of id e ≡ false → given k (e ∷ es) ≡ given (kept_after k e) es
-  given_skip k e es ne = given_more k e es ∙ ap (λ l. l ++ given (kept_after k e) es) (other_event id shows tells cmds k e ne).1
+  given_skip k e es ne = given_more k e es ∙ ap (λ l. l ++ given (kept_after k e) es) (other_event id shows warns cmds k e ne).1
 
   as_lines : List (List ℕ) → List Line
   as_lines ls = when shows.warnings (map (stderr_line id) ls)
@@ -256,7 +256,7 @@ module _ (shows : Shows) (tells : Bool) (cmds : List Planned) (id : ℕ) where
       at : (b : Bool) → is_of id e ≡ b → (Sound Closed es → mine id (kept_after k e).children ≡ [] → IsSilent (kept_after k e) es) → IsSilent k (e ∷ es)
       at true is further = absurd (unsound Closed e es (own_by id (λ x. life_after id Closed x ≡ Amiss) (λ _ _ _ _. own_if id Amiss Closed) (λ _. own_if id Amiss Closed) (own_if id Amiss Closed) (λ _. own_if id Amiss Closed) (own_if id Amiss Closed) e is) h)
       at false is further =
-          let s = further (sound_on Closed Closed e es ((skips id e is).life Closed) h) ((other_event id shows tells cmds k e is).0 ∙ none) in
+          let s = further (sound_on Closed Closed e es ((skips id e is).life Closed) h) ((other_event id shows warns cmds k e is).0 ∙ none) in
           let r = reads_other e is in
           record {
             none_given = given_skip k e es is ∙ s.none_given;
@@ -268,9 +268,9 @@ module _ (shows : Shows) (tells : Bool) (cmds : List Planned) (id : ℕ) where
   unfolding as_lines
   ended_child k es c s one is lt none =
       given_more k (Ended id s) es
-      ∙ ap (λ l. filter (is_stderr id) l ++ given (kept_after k (Ended id s)) es) (own_of id (end_lines shows tells cmds s) k.children c one)
-      ∙ ap (λ l. filter (is_stderr id) (end_lines shows tells cmds s c) ++ l) none
-      ∙ append-nil _ ∙ end_own id shows tells cmds s c lt ∙ rest_own id shows c is
+      ∙ ap (λ l. filter (is_stderr id) l ++ given (kept_after k (Ended id s)) es) (own_of id (end_lines shows warns cmds s) k.children c one)
+      ∙ ap (λ l. filter (is_stderr id) (end_lines shows warns cmds s c) ++ l) none
+      ∙ append-nil _ ∙ end_own id shows warns cmds s c lt ∙ rest_own id shows c is
 
   unread_child : (k : Kept) (es : List Event) (c : Child) → mine id k.children ≡ c ∷ [] → c.id ≡ id → given (kept_after k (Unread id)) es ≡ [] → given k (Unread id ∷ es) ≡ as_lines (option_to_list (last_line c.rest))
   unfolding as_lines
@@ -313,7 +313,7 @@ module _ (shows : Shows) (tells : Bool) (cmds : List Planned) (id : ℕ) where
       at : (b : Bool) → is_of id e ≡ b → ((d : Child) → Sound Unreadable es → mine id (kept_after k e).children ≡ d ∷ [] → d.id ≡ id → d.place < length cmds → d.rest ≡ [] → (given (kept_after k e) es ≡ []) × (heard id es ≡ [])) → (given k (e ∷ es) ≡ []) × (heard id (e ∷ es) ≡ [])
       at true own further = by e further own h
       at false other further =
-          let r = further c (sound_on Unreadable Unreadable e es ((skips id e other).life Unreadable) h) ((other_event id shows tells cmds k e other).0 ∙ one) is lt z in
+          let r = further c (sound_on Unreadable Unreadable e es ((skips id e other).life Unreadable) h) ((other_event id shows warns cmds k e other).0 ∙ one) is lt z in
           (given_skip k e es other ∙ r.0, ap (λ x. x ++ heard id es) (reads_other e other).0 ∙ r.1)
 
   as_rest : (r : List ℕ) → IsUncut r → as_lines (option_to_list (last_line r)) ≡ as_lines (lines r)
@@ -370,7 +370,7 @@ module _ (shows : Shows) (tells : Bool) (cmds : List Planned) (id : ℕ) where
       at true own further = by e further own h
       at false other further =
           let r = reads_other e other in
-          given_skip k e es other ∙ further c (sound_on Runs Runs e es ((skips id e other).life Runs) h) ((other_event id shows tells cmds k e other).0 ∙ one) is lt u
+          given_skip k e es other ∙ further c (sound_on Runs Runs e es ((skips id e other).life Runs) h) ((other_event id shows warns cmds k e other).0 ∙ one) is lt u
           ∙ ap (λ q. as_lines (lines_by (over es) (c.rest ++ (q ++ heard id es)))) (sym r.0)
           ∙ ap (λ b. as_lines (lines_by (b || over es) (c.rest ++ heard id (e ∷ es)))) (sym r.1)
 
@@ -398,18 +398,18 @@ module _ (shows : Shows) (tells : Bool) (cmds : List Planned) (id : ℕ) where
           e own h few
       at false other further =
           let r = reads_other e other in
-          given_skip k e es other ∙ further (sound_on Unstarted Unstarted e es ((skips id e other).life Unstarted) h) ((other_event id shows tells cmds k e other).0 ∙ none) (subst (λ n. n ≤ length cmds) (sym (begun_after k e es)) few)
+          given_skip k e es other ∙ further (sound_on Unstarted Unstarted e es ((skips id e other).life Unstarted) h) ((other_event id shows warns cmds k e other).0 ∙ none) (subst (λ n. n ≤ length cmds) (sym (begun_after k e es)) few)
           ∙ ap (λ q. as_lines (lines_by (over es) (q ++ heard id es))) (sym r.0)
           ∙ ap (λ b. as_lines (lines_by (b || over es) (heard id (e ∷ es)))) (sym r.1)
 
-  pub child_given : (k : Kept) (part : List Event) → (life_from id Unstarted part ≡ Amiss → ⊥) → k.children ≡ [] → k.begun + length (started part) ≤ length cmds → filter (is_stderr id) (due_from shows tells cmds k part) ≡ stderr_given shows id part
+  pub child_given : (k : Kept) (part : List Event) → (life_from id Unstarted part ≡ Amiss → ⊥) → k.children ≡ [] → k.begun + length (started part) ≤ length cmds → filter (is_stderr id) (due_from shows warns cmds k part) ≡ stderr_given shows id part
   unfolding given as_lines
   child_given k part h none few = starts k part h (ap (mine id) none) few
 
 -- What was printed of a child that was started, by the answer.
-pub child_printed : {T : Type 0} (shows : Shows) (tells : Bool) (cmds : List Planned) (id : ℕ) (old new : List Event) (result : Result T RunError) → LivesOn old new → Contains (started_ids (since old new)) id → IsPrinted shows tells cmds nothing_kept result (since old new) → 0 + length (started (since old new)) ≤ length cmds → IsForwarded result (stderr_printed id (since old new)) (stderr_given shows id (since old new))
-child_printed shows tells cmds id old new result lives has q few =
-    sifted (is_stderr id) shows tells cmds nothing_kept (since old new) (stderr_given shows id (since old new)) (announced_other id shows) (child_given shows tells cmds id nothing_kept (since old new) (part_sound id old new lives has) refl few) result q
+pub child_printed : {T : Type 0} (shows : Shows) (warns : Bool) (cmds : List Planned) (id : ℕ) (old new : List Event) (result : Result T RunError) → LivesOn old new → Contains (started_ids (since old new)) id → IsPrinted shows warns cmds nothing_kept result (since old new) → 0 + length (started (since old new)) ≤ length cmds → IsForwarded result (stderr_printed id (since old new)) (stderr_given shows id (since old new))
+child_printed shows warns cmds id old new result lives has q few =
+    sifted (is_stderr id) shows warns cmds nothing_kept (since old new) (stderr_given shows id (since old new)) (announced_other id shows) (child_given shows warns cmds id nothing_kept (since old new) (part_sound id old new lives has) refl few) result q
 
 take_short : {X : Type 0} (n : ℕ) (xs : List X) → length (take n xs) ≤ length xs
 take_short zero xs = omega arith

@@ -43,15 +43,15 @@ unread_one shows c =
     ∙ ap (λ l. l ++ filter is_warning (when shows.warnings (cargo_line Warning unread_text ∷ []))) (rest_none shows c)
     ∙ filter_when is_warning shows.warnings _
 
-ended_one : (shows : Shows) (tells : Bool) (cmd : CommandSeen) (s : Status) (c : Child) → filter is_warning (ended_lines shows tells cmd s c) ≡ when (tells && shows.warnings && not (is_success s)) (failed_line s cmd ∷ [])
+ended_one : (shows : Shows) (warns : Bool) (cmd : CommandSeen) (s : Status) (c : Child) → filter is_warning (ended_lines shows warns cmd s c) ≡ when (warns && shows.warnings && not (is_success s)) (failed_line s cmd ∷ [])
 unfolding failed_line
-ended_one shows tells cmd s c =
-    filter-append is_warning (rest_lines shows c ++ when shows.debug (debug_line (ended_text s) ∷ [])) (when (tells && shows.warnings && not (is_success s)) (failed_line s cmd ∷ []))
-    ∙ ap (λ l. l ++ filter is_warning (when (tells && shows.warnings && not (is_success s)) (failed_line s cmd ∷ [])))
+ended_one shows warns cmd s c =
+    filter-append is_warning (rest_lines shows c ++ when shows.debug (debug_line (ended_text s) ∷ [])) (when (warns && shows.warnings && not (is_success s)) (failed_line s cmd ∷ []))
+    ∙ ap (λ l. l ++ filter is_warning (when (warns && shows.warnings && not (is_success s)) (failed_line s cmd ∷ [])))
     (filter-append is_warning (rest_lines shows c) (when shows.debug (debug_line (ended_text s) ∷ []))
     ∙ ap (λ l. l ++ filter is_warning (when shows.debug (debug_line (ended_text s) ∷ []))) (rest_none shows c)
     ∙ filter_when is_warning shows.debug _ ∙ when_none shows.debug)
-    ∙ filter_when is_warning (tells && shows.warnings && not (is_success s)) _
+    ∙ filter_when is_warning (warns && shows.warnings && not (is_success s)) _
 
 announced_none : (shows : Shows) (cmd : CommandSeen) → filter is_warning (announced shows cmd) ≡ []
 unfolding announced
@@ -73,45 +73,45 @@ unread_of shows id (c ∷ cs) = at (c.id == id) (unread_of shows id cs)
     at true k = unread_one shows c
     at false k = k
 
-end_one : (shows : Shows) (tells : Bool) (s : Status) (c : Child) (ps : List Planned) → filter is_warning (flat_map (λ p. ended_lines shows tells p.cmd s c) ps) ≡ flat_map (λ p. when (tells && shows.warnings && not (is_success s)) (failed_line s p.cmd ∷ [])) ps
-end_one shows tells s c [] = refl
-end_one shows tells s c (p ∷ ps) =
-    filter-append is_warning (ended_lines shows tells p.cmd s c) (flat_map (λ q. ended_lines shows tells q.cmd s c) ps)
-    ∙ ap (λ l. l ++ filter is_warning (flat_map (λ q. ended_lines shows tells q.cmd s c) ps)) (ended_one shows tells p.cmd s c)
-    ∙ ap (λ l. when (tells && shows.warnings && not (is_success s)) (failed_line s p.cmd ∷ []) ++ l) (end_one shows tells s c ps)
+end_one : (shows : Shows) (warns : Bool) (s : Status) (c : Child) (ps : List Planned) → filter is_warning (flat_map (λ p. ended_lines shows warns p.cmd s c) ps) ≡ flat_map (λ p. when (warns && shows.warnings && not (is_success s)) (failed_line s p.cmd ∷ [])) ps
+end_one shows warns s c [] = refl
+end_one shows warns s c (p ∷ ps) =
+    filter-append is_warning (ended_lines shows warns p.cmd s c) (flat_map (λ q. ended_lines shows warns q.cmd s c) ps)
+    ∙ ap (λ l. l ++ filter is_warning (flat_map (λ q. ended_lines shows warns q.cmd s c) ps)) (ended_one shows warns p.cmd s c)
+    ∙ ap (λ l. when (warns && shows.warnings && not (is_success s)) (failed_line s p.cmd ∷ []) ++ l) (end_one shows warns s c ps)
 
-end_of : (shows : Shows) (tells : Bool) (cmds : List Planned) (id : ℕ) (s : Status) (cs : List Child) → filter is_warning (of_child id (end_lines shows tells cmds s) cs) ≡ failed_warned shows tells cmds s (place_of id (map seat cs))
-end_of shows tells cmds id s [] = refl
-end_of shows tells cmds id s (c ∷ cs) = at (c.id == id) (end_of shows tells cmds id s cs)
+end_of : (shows : Shows) (warns : Bool) (cmds : List Planned) (id : ℕ) (s : Status) (cs : List Child) → filter is_warning (of_child id (end_lines shows warns cmds s) cs) ≡ failed_warned shows warns cmds s (place_of id (map seat cs))
+end_of shows warns cmds id s [] = refl
+end_of shows warns cmds id s (c ∷ cs) = at (c.id == id) (end_of shows warns cmds id s cs)
   where
-    at : (b : Bool) → filter is_warning (of_child id (end_lines shows tells cmds s) cs) ≡ failed_warned shows tells cmds s (place_of id (map seat cs)) → filter is_warning (if b then end_lines shows tells cmds s c else of_child id (end_lines shows tells cmds s) cs) ≡ failed_warned shows tells cmds s (if b then Some c.place else place_of id (map seat cs))
-    at true k = end_one shows tells s c (take 1 (drop c.place cmds))
+    at : (b : Bool) → filter is_warning (of_child id (end_lines shows warns cmds s) cs) ≡ failed_warned shows warns cmds s (place_of id (map seat cs)) → filter is_warning (if b then end_lines shows warns cmds s c else of_child id (end_lines shows warns cmds s) cs) ≡ failed_warned shows warns cmds s (if b then Some c.place else place_of id (map seat cs))
+    at true k = end_one shows warns s c (take 1 (drop c.place cmds))
     at false k = k
 
 -- one event
-warned_due : (shows : Shows) (tells : Bool) (cmds : List Planned) (k : Kept) (e : Event) → AreBelow (length cmds) (map seat k.children) → filter is_warning (due shows tells cmds k e) ≡ warning_of shows tells cmds (run_of k) e
-warned_due shows tells cmds k (Started n role cmd pipes held) h = announced_none shows cmd
-warned_due shows tells cmds k (Heard n p) h = heard_of n (λ c. heard_lines shows c p) (heard_none shows p) k.children
-warned_due shows tells cmds k (Unread n) h = unread_of shows n k.children
-warned_due shows tells cmds k (Ended n s) h = end_of shows tells cmds n s k.children
-warned_due shows tells cmds k (Abandoned n) h = refl
-warned_due shows tells cmds k (Turn n) h = refl
-warned_due shows tells cmds k (Answered q f o) h = refl
-warned_due shows tells cmds k (Reused q v) h = refl
-warned_due shows tells cmds k (Unasked q) h = refl
-warned_due shows tells cmds k (Drawn w) h = refl
-warned_due shows tells cmds k (Opened p b) h = refl
-warned_due shows tells cmds k (Taken p) h = refl
-warned_due shows tells cmds k (Dropped p) h = refl
-warned_due shows tells cmds k (Ran role cmd pipes status out err) h = refl
-warned_due shows tells cmds k (Missing role cmd) h = refl
-warned_due shows tells cmds k (Made scope p) h = refl
-warned_due shows tells cmds k (Removed p how) h = refl
-warned_due shows tells cmds k (Printed kind b) h = refl
-warned_due shows tells cmds k (Listed vars) h = refl
-warned_due shows tells cmds k (Fault call why) h = refl
+warned_due : (shows : Shows) (warns : Bool) (cmds : List Planned) (k : Kept) (e : Event) → AreBelow (length cmds) (map seat k.children) → filter is_warning (due shows warns cmds k e) ≡ warning_of shows warns cmds (run_of k) e
+warned_due shows warns cmds k (Started n role cmd pipes held) h = announced_none shows cmd
+warned_due shows warns cmds k (Heard n p) h = heard_of n (λ c. heard_lines shows c p) (heard_none shows p) k.children
+warned_due shows warns cmds k (Unread n) h = unread_of shows n k.children
+warned_due shows warns cmds k (Ended n s) h = end_of shows warns cmds n s k.children
+warned_due shows warns cmds k (Abandoned n) h = refl
+warned_due shows warns cmds k (Turn n) h = refl
+warned_due shows warns cmds k (Answered q f o) h = refl
+warned_due shows warns cmds k (Reused q v) h = refl
+warned_due shows warns cmds k (Unasked q) h = refl
+warned_due shows warns cmds k (Drawn w) h = refl
+warned_due shows warns cmds k (Opened p b) h = refl
+warned_due shows warns cmds k (Taken p) h = refl
+warned_due shows warns cmds k (Dropped p) h = refl
+warned_due shows warns cmds k (Ran role cmd pipes status out err) h = refl
+warned_due shows warns cmds k (Missing role cmd) h = refl
+warned_due shows warns cmds k (Made scope p) h = refl
+warned_due shows warns cmds k (Removed p how) h = refl
+warned_due shows warns cmds k (Printed kind b) h = refl
+warned_due shows warns cmds k (Listed vars) h = refl
+warned_due shows warns cmds k (Fault call why) h = refl
 
 -- those that were printed, by the answer
-pub warned_all : {T : Type 0} (shows : Shows) (tells : Bool) (cmds : List Planned) (part : List Event) (result : Result T RunError) → IsPrinted shows tells cmds nothing_kept result part → 0 + length (started part) ≤ length cmds → IsForwarded result (warnings_printed part) (warnings_from shows tells cmds nothing part)
-warned_all shows tells cmds part result q few =
-    sifted is_warning shows tells cmds nothing_kept part (warnings_from shows tells cmds nothing part) (announced_none shows) (along_due is_warning (warning_of shows tells cmds) shows tells cmds (warned_due shows tells cmds) nothing_kept part tt few) result q
+pub warned_all : {T : Type 0} (shows : Shows) (warns : Bool) (cmds : List Planned) (part : List Event) (result : Result T RunError) → IsPrinted shows warns cmds nothing_kept result part → 0 + length (started part) ≤ length cmds → IsForwarded result (warnings_printed part) (warnings_from shows warns cmds nothing part)
+warned_all shows warns cmds part result q few =
+    sifted is_warning shows warns cmds nothing_kept part (warnings_from shows warns cmds nothing part) (announced_none shows) (along_due is_warning (warning_of shows warns cmds) shows warns cmds (warned_due shows warns cmds) nothing_kept part tt few) result q

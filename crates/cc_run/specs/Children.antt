@@ -1,5 +1,5 @@
 -- The children of a run that run, with the bytes that each gave since its last line feed.
-use Rattle.std.specs.Prelude.{◌≡◌, ◌≢◌, ◌<◌, ℕ, List, [], ◌∷◌, ◌==◌, length, map, if◌then◌else◌, Option, None, Some}
+use Rattle.std.specs.Prelude.{◌≡◌, ◌≢◌, ◌+◌, ◌<◌, ℕ, List, [], ◌∷◌, ◌==◌, length, map, if◌then◌else◌, Option, None, Some}
 use Rattle.std.specs.List.{slice_index_or, remove}
 use Rattle.cc_host.specs.declared.event.Status.{Status}
 use Rattle.cc_run.specs.Run.{Run, place_of}
@@ -33,6 +33,14 @@ AreBelow bound (c ∷ cs) = (c.1 < bound) × AreBelow bound cs
 -- the places of the children are below a bound
 abbrev pub ArePlaced : ℕ → Kept → Type 0
 ArePlaced bound kept = AreBelow bound (run_of kept).live
+
+-- no child has that id
+abbrev pub IsNoChild : ℕ → List Child → Type 0
+IsNoChild id cs = (place_of id (map seat cs) ≡ None) × (without_child id cs ≡ cs)
+
+-- one child fewer runs
+abbrev pub IsOneLess : Kept → Kept → Type 0
+IsOneLess old new = length new.children + 1 ≡ length old.children
 
 -- the first child of that id stands there
 pub record IsFirst (id : ℕ) (cs : List Child) (at : ℕ) : Type 0 where

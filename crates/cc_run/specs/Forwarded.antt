@@ -22,6 +22,10 @@ emptied child = record child { rest = [] }
 abbrev pub heard_lines : Shows → Child → List ℕ → List Line
 heard_lines shows child piece = when shows.warnings (map (stderr_line child.id) (whole_lines (child.rest ++ piece)))
 
+-- the same, of any child
+abbrev pub piece_lines : Shows → List ℕ → Child → List Line
+piece_lines shows piece child = heard_lines shows child piece
+
 -- what a child gave since its last line feed is a line
 abbrev pub rest_lines : Shows → Child → List Line
 rest_lines shows child = when shows.warnings (map (stderr_line child.id) (option_to_list (last_line child.rest)))
@@ -30,7 +34,8 @@ rest_lines shows child = when shows.warnings (map (stderr_line child.id) (option
 abbrev pub unread_lines : Shows → Child → List Line
 unread_lines shows child = rest_lines shows child ++ when shows.warnings (cargo_line Warning unread_text ∷ [])
 
--- the same, the end, and a warning of a failure, where it is to be told
+-- the same, the end, and a warning of a failure, where it is warned of
 abbrev pub ended_lines : Shows → Bool → CommandSeen → Status → Child → List Line
-ended_lines shows tells cmd status child =
-    rest_lines shows child ++ when shows.debug (debug_line (ended_text status) ∷ []) ++ when (tells && shows.warnings && not (is_success status)) (failed_line status cmd ∷ [])
+ended_lines shows warns cmd status child =
+    rest_lines shows child ++ when shows.debug (debug_line (ended_text status) ∷ [])
+    ++ when (warns && shows.warnings && not (is_success status)) (failed_line status cmd ∷ [])

@@ -1,7 +1,9 @@
 -- The lines that the news of a turn give, one after another.
-use Rattle.std.specs.Prelude.{ℕ, Bool, List, [], ◌∷◌, ◌++◌, ◌==◌, drop, take, flat_map, if◌then◌else◌, Option, None, Some}
+use Rattle.std.specs.Prelude.{◌≡◌, ℕ, Bool, List, [], ◌∷◌, ◌++◌, ◌==◌, drop, take, flat_map, if◌then◌else◌, Option, None, Some, Result, OnOk}
+use Rattle.cc_host.specs.Event.{heard, unread, told as reported}
 use Rattle.cc_host.specs.declared.event.Event.{Event}
 use Rattle.cc_host.specs.declared.event.Event.TheVariants.{Heard, Unread, Ended}
+use Rattle.cc_host.specs.declared.event.News.{News}
 use Rattle.cc_host.specs.declared.event.Status.{Status}
 use Rattle.cc_run.specs.Children.{without_child}
 use Rattle.cc_run.specs.Forwarded.{fed, emptied, heard_lines, unread_lines, ended_lines}
@@ -38,16 +40,31 @@ children_from cs (e ∷ es) = children_from (children_after cs e) es
 
 -- the lines of the end of a child, by its command
 abbrev pub end_lines : Shows → Bool → List Planned → Status → Child → List Line
-end_lines shows tells cmds status c = flat_map (λ p. ended_lines shows tells p.cmd status c) (take 1 (drop c.place cmds))
+end_lines shows warns cmds status c =
+    flat_map (λ p. ended_lines shows warns p.cmd status c) (take 1 (drop c.place cmds))
 
 -- the lines that an event gives
 abbrev pub owed : Shows → Bool → List Planned → List Child → Event → List Line
-owed shows tells cmds cs (Heard id piece) = of_child id (λ c. heard_lines shows c piece) cs
-owed shows tells cmds cs (Unread id) = of_child id (unread_lines shows) cs
-owed shows tells cmds cs (Ended id status) = of_child id (end_lines shows tells cmds status) cs
-owed shows tells cmds cs _ = []
+owed shows warns cmds cs (Heard id piece) = of_child id (λ c. heard_lines shows c piece) cs
+owed shows warns cmds cs (Unread id) = of_child id (unread_lines shows) cs
+owed shows warns cmds cs (Ended id status) = of_child id (end_lines shows warns cmds status) cs
+owed shows warns cmds cs _ = []
 
 -- the lines that these events give, in order
 abbrev pub owed_from : Shows → Bool → List Planned → List Child → List Event → List Line
-owed_from shows tells cmds cs [] = []
-owed_from shows tells cmds cs (e ∷ es) = owed shows tells cmds cs e ++ owed_from shows tells cmds (children_after cs e) es
+owed_from shows warns cmds cs [] = []
+owed_from shows warns cmds cs (e ∷ es) = owed shows warns cmds cs e
+    ++ owed_from shows warns cmds (children_after cs e) es
+
+-- what the news of a turn come to, as events
+abbrev pub reports : List News → List Event
+reports = flat_map reported
+
+-- what a child wrote in a turn, as events
+abbrev pub wrote : News → List Event
+wrote news = heard news.id news.piece ++ unread news.id news.unread
+
+-- on Ok the lines of these events were added, which are the same whether or not a failure is warned of
+abbrev pub AddsWritten : {T E : Type 0} → Shows → List Child → List Event → Result T E → List Line → List Line → Type 0
+AddsWritten shows cs events result old new =
+    (warns : Bool) (cmds : List Planned) → OnOk result (new ≡ old ++ owed_from shows warns cmds cs events)

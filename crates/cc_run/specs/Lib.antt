@@ -1,7 +1,9 @@
+pub mod Batch
 pub mod Children
 pub mod Debugging
 pub mod Forwarded
 pub mod Hearing
+pub mod Keeping
 pub mod Life
 pub mod Lines
 pub mod Outcome
@@ -12,8 +14,8 @@ pub mod Part
 pub mod Patience
 pub mod Planned
 pub mod Printing
+pub mod Prints
 pub mod Run
-pub mod Shown
 pub mod Solo
 pub mod Started
 pub mod Stderr

@@ -6,8 +6,8 @@ use Rattle.cc_host.specs.declared.event.Event.{Event}
 use Rattle.cc_host.specs.declared.event.Event.TheVariants.{Started, Heard, Unread, Ended, Abandoned}
 use Rattle.cc_host.specs.declared.event.Start.TheVariants.{Child}
 
--- Where a child is: not started yet; it runs; it runs, and its standard error can't be read any more; closed, as it ended or was abandoned;
--- started by somebody else. Where its events come in another order it is amiss.
+-- Where a child is: not started yet; it runs; it runs, and its standard error can't be read any more; closed, as it
+-- ended or was abandoned; started by somebody else. Where its events come in another order it is amiss.
 pub data Life : Type 0 where
   Unstarted : Life
   Runs : Life

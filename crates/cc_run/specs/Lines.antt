@@ -53,6 +53,7 @@ abbrev pub is_other : Option (List ℕ) → List ℕ → Bool
 is_other None line = nat_lt 0 (length line)
 is_other (Some ignored) line = nat_lt 0 (length line) && not (bytes_eq line ignored)
 
--- the lines of a standard error that are warnings: those that have a byte, without one carriage return at the end, and without an ignored line
+-- the lines of a standard error that are warnings: those that have a byte, without one carriage return at the end, and
+-- without an ignored line
 abbrev pub warnings : Option (List ℕ) → List ℕ → List (List ℕ)
 warnings ignored bytes = filter (is_other ignored) (map strip_carriage_return (pieces bytes))

@@ -6,6 +6,7 @@ use Rattle.cc_host.specs.declared.event.HostCall.{HostCall}
 use Rattle.cc_host.specs.declared.event.HostCall.TheVariants.{Start, Turn, Print}
 use Rattle.cc_host.specs.declared.event.HostError.{HostError}
 use Rattle.cc_host.specs.declared.event.HostError.TheVariants.{Fault, NoMemory as WantsMemory}
+use Rattle.cc_run.specs.Children.{Kept, run_of}
 use Rattle.cc_run.specs.Planned.{Asked}
 use Rattle.cc_run.specs.Run.{Run}
 use Rattle.cc_host.specs.declared.event.Event.{Event}
@@ -48,9 +49,10 @@ abbrev pub faults_by : {T : Type 0} → Result T RunError → List HostCall
 faults_by (Ok _) = []
 faults_by (Err e) = faults_in e
 
--- the part has the one missing command or fault that the answer tells, and no other
-abbrev pub IsTold : {T : Type 0} → List Asked → Result T RunError → List Event → Type 0
-IsTold cmds result part = (missing part ≡ missing_by cmds result) × (faults part ≡ faults_by result) × (abandoned part ≡ [])
+-- the part has the one missing command or fault that the answer names, and no other
+abbrev pub NamesCause : {T : Type 0} → List Asked → Result T RunError → List Event → Type 0
+NamesCause cmds result part = (missing part ≡ missing_by cmds result) × (faults part ≡ faults_by result)
+    × (abandoned part ≡ [])
 
 -- the refusals of a spawn: the command that was missing or couldn't be started is the one after those that were started
 abbrev pub IsSpawnError : ℕ → Run → RunError → Type 0
@@ -82,6 +84,10 @@ IsPassError count r _ = Unit {0}
 abbrev pub IsOpen : ℕ → Run → Type 0
 IsOpen count r = (0 < length r.live) ⊎ (r.begun < count)
 
+-- neither: no child runs, and every command was started
+abbrev pub IsOver : ℕ → Run → Type 0
+IsOver count r = IsOpen count r → ⊥
+
 -- every command was started and has ended
 abbrev pub IsDone : ℕ → Run → Type 0
 IsDone count r = (r.begun ≡ count) × (r.live ≡ [])
@@ -104,7 +110,8 @@ IsRunError count r _ = Unit {0}
 
 -- a fault or a missing program is the last event
 abbrev pub EndsAt : List Event → RunError → Type 0
-EndsAt log (ToolNotFound place) = (before : List Event) × ((role : Role) × ((cmd : CommandSeen) × (log ≡ before ++ Absent role cmd ∷ [])))
+EndsAt log (ToolNotFound place) = (before : List Event) × ((role : Role) × ((cmd : CommandSeen)
+    × (log ≡ before ++ Absent role cmd ∷ [])))
 EndsAt log (StartFault place) = (before : List Event) × ((why : Why) × (log ≡ before ++ Faulted Start why ∷ []))
 EndsAt log WaitFault = (before : List Event) × ((why : Why) × (log ≡ before ++ Faulted Turn why ∷ []))
 EndsAt log (HostFault call why) = (before : List Event) × (log ≡ before ++ Faulted call why ∷ [])
@@ -116,3 +123,7 @@ IsUnturned old new TurnsSpent = new ≡ old
 IsUnturned old new WaitFault = (why : Why) × (new ≡ old ++ Faulted Turn why ∷ [])
 IsUnturned old new NoMemory = new ≡ old
 IsUnturned old new _ = ⊥
+
+-- no turn was left where the run wasn't over, and nothing was done
+abbrev pub WantsTurns : ℕ → ℕ → Kept → Kept → Type 0
+WantsTurns count left old new = (left ≡ 0) × (new ≡ old) × IsOpen count (run_of old)

@@ -11,7 +11,7 @@ use Rattle.cc_host.specs.declared.event.OutputKind.TheVariants.{Discard}
 use Rattle.cc_host.specs.declared.event.Status.{Status}
 use Rattle.cc_host.specs.declared.event.Why.{Why}
 use Rattle.cc_run.specs.Lines.{warnings}
-use Rattle.cc_run.specs.Shown.{prints}
+use Rattle.cc_run.specs.Prints.{prints}
 use Rattle.cc_run.specs.Texts.{announced, cargo_line, debug_line, ended_text}
 use Rattle.cc_run.specs.declared.error.RunError.{RunError}
 use Rattle.cc_run.specs.declared.error.RunError.TheVariants.{ToolNotFound, Failed, StartFault, HostFault, NoMemory}
@@ -23,34 +23,48 @@ use Rattle.cc_run.specs.declared.print.Line.{Line}
 abbrev pub map_warnings : Option (List ℕ) → List ℕ → List Line
 map_warnings ignored stderr = map (cargo_line Warning) (warnings ignored stderr)
 
--- the lines behind a command: how it ended, and the warnings of its standard error
+-- the lines behind a command: the warnings of its standard error, and then how it ended
 unfoldable pub behind : Shows → Bool → Option (List ℕ) → Status → List ℕ → List Line
 behind shows always ignored status stderr =
-    when shows.debug (debug_line (ended_text status) ∷ []) ++ when (shows.warnings && (always || is_success status)) (map_warnings ignored stderr)
+    when (shows.warnings && (always || is_success status)) (map_warnings ignored stderr)
+    ++ when shows.debug (debug_line (ended_text status) ∷ [])
 
 -- a command as it ran, between the line before it and some of those behind it
-pub record RanWhole (shows : Shows) (p : Planned) (out : OutputKind) (always : Bool) (ignored : Option (List ℕ)) (part : List Event) : Type 0 where
+pub record RanWhole (shows : Shows) (p : Planned) (out : OutputKind) (always : Bool) (ignored : Option (List ℕ))
+    (part : List Event) : Type 0 where
   pub status : Status
   pub output : List ℕ
   pub stderr : List ℕ
   pub count : ℕ
   pub few : count ≤ length (behind shows always ignored status stderr)
   pub rest : List Event
-  pub is : part ≡ prints (announced shows p.cmd) ++ Ran p.role p.cmd (record { out = out; hear = shows.warnings }) status output stderr ∷ prints (take count (behind shows always ignored status stderr)) ++ rest
+  pub is : part ≡ prints (announced shows p.cmd)
+      ++ Ran p.role p.cmd (record { out = out; hear = shows.warnings }) status output stderr
+      ∷ prints (take count (behind shows always ignored status stderr)) ++ rest
 
 -- all of the lines behind it were printed
-pub record IsRanTo (shows : Shows) (p : Planned) (out : OutputKind) (always : Bool) (ignored : Option (List ℕ)) (status : Status) (output : List ℕ) (part : List Event) : Type 0 where
+pub record IsRanTo (shows : Shows) (p : Planned) (out : OutputKind) (always : Bool) (ignored : Option (List ℕ))
+    (status : Status) (output : List ℕ) (part : List Event) : Type 0 where
   pub stderr : List ℕ
-  pub is : part ≡ prints (announced shows p.cmd) ++ Ran p.role p.cmd (record { out = out; hear = shows.warnings }) status output stderr ∷ prints (behind shows always ignored status stderr)
+  pub is : part ≡ prints (announced shows p.cmd)
+      ++ Ran p.role p.cmd (record { out = out; hear = shows.warnings }) status output stderr
+      ∷ prints (behind shows always ignored status stderr)
 
 -- what a part says of the answer
-abbrev pub IsOutput : Shows → Planned → OutputKind → Bool → Option (List ℕ) → Result (List ℕ) RunError → List Event → Type 0
-IsOutput shows p out always ignored (Ok output) part = (status : Status) × ((is_success status ≡ true) × IsRanTo shows p out always ignored status output part)
-IsOutput shows p out always ignored (Err (Failed place status)) part = (place ≡ 0) × (is_success status ≡ false) × ((output : List ℕ) × IsRanTo shows p out always ignored status output part)
-IsOutput shows p out always ignored (Err (ToolNotFound place)) part = (place ≡ 0) × (part ≡ prints (announced shows p.cmd) ++ Missing p.role p.cmd ∷ [])
-IsOutput shows p out always ignored (Err (StartFault place)) part = (place ≡ 0) × ((why : Why) × (part ≡ prints (announced shows p.cmd) ++ Fault Output why ∷ []))
-IsOutput shows p out always ignored (Err (HostFault call why)) part = (call ≡ Print) × ((part ≡ Fault call why ∷ []) ⊎ ((w : RanWhole shows p out always ignored part) × (w.rest ≡ Fault call why ∷ [])))
-IsOutput shows p out always ignored (Err NoMemory) part = (part ≡ []) ⊎ (part ≡ prints (announced shows p.cmd)) ⊎ ((w : RanWhole shows p out always ignored part) × (w.rest ≡ []))
+abbrev pub IsOutput : Shows → Planned → OutputKind → Bool → Option (List ℕ) → Result (List ℕ) RunError → List Event
+    → Type 0
+IsOutput shows p out always ignored (Ok output) part = (status : Status) × ((is_success status ≡ true)
+    × IsRanTo shows p out always ignored status output part)
+IsOutput shows p out always ignored (Err (Failed place status)) part = (place ≡ 0) × (is_success status ≡ false)
+    × ((output : List ℕ) × IsRanTo shows p out always ignored status output part)
+IsOutput shows p out always ignored (Err (ToolNotFound place)) part = (place ≡ 0)
+    × (part ≡ prints (announced shows p.cmd) ++ Missing p.role p.cmd ∷ [])
+IsOutput shows p out always ignored (Err (StartFault place)) part = (place ≡ 0) × ((why : Why)
+    × (part ≡ prints (announced shows p.cmd) ++ Fault Output why ∷ []))
+IsOutput shows p out always ignored (Err (HostFault call why)) part = (call ≡ Print)
+    × ((part ≡ Fault call why ∷ []) ⊎ ((w : RanWhole shows p out always ignored part) × (w.rest ≡ Fault call why ∷ [])))
+IsOutput shows p out always ignored (Err NoMemory) part = (part ≡ []) ⊎ (part ≡ prints (announced shows p.cmd))
+    ⊎ ((w : RanWhole shows p out always ignored part) × (w.rest ≡ []))
 IsOutput shows p out always ignored (Err _) part = ⊥
 
 -- the same, where the standard output is not kept

@@ -7,6 +7,7 @@ use Rattle.cc_host.specs.declared.event.Role.{Role}
 use Rattle.cc_host.specs.declared.event.HostCall.{HostCall}
 use Rattle.cc_host.specs.declared.event.Event.{Event}
 use Rattle.cc_host.specs.declared.event.Event.TheVariants.{Started, Missing, Turn, Fault, Abandoned}
+use Rattle.cc_run.specs.Children.{Kept, run_of}
 use Rattle.cc_run.specs.Life.{LivesOn}
 use Rattle.cc_run.specs.Planned.{Asked}
 use Rattle.cc_run.specs.Run.{Run, run_from, Along}
@@ -81,7 +82,16 @@ pub record Steps (total : Option ℕ) (cmds : List Asked) (r : Run) (part : List
   pub greedy : Greedy total (length cmds) r part
 
 -- A log grew by such a part, which takes each child on.
-pub record Goes (total : Option ℕ) (cmds : List Asked) (old : List Event) (r : Run) (new : List Event) (r' : Run) : Type 0 where
+pub record Goes (total : Option ℕ) (cmds : List Asked) (old : List Event) (r : Run) (new : List Event)
+    (r' : Run) : Type 0 where
   pub extends : new ≡ old ++ since old new
   pub steps : Steps total cmds r (since old new) r'
   pub lives : LivesOn old new
+
+-- the same, of a host by its log and of a run by what is kept of it
+abbrev pub GoesOn : {X : Type 0} → (X → List Event) → Option ℕ → List Asked → X → Kept → X → Kept → Type 0
+GoesOn log total cmds old r new r' = Goes total cmds (log old) (run_of r) (log new) (run_of r')
+
+-- the same, where a turn may be made
+abbrev pub GoesFromBusy : {X : Type 0} → (X → List Event) → Option ℕ → List Asked → X → Kept → X → Kept → Type 0
+GoesFromBusy log total cmds old r new r' = BusyHere total (length cmds) (run_of r) → GoesOn log total cmds old r new r'

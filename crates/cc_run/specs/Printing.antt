@@ -28,7 +28,10 @@ abbrev pub kept_after : Kept → Event → Kept
 kept_after kept (Started id role cmd pipes held) = with_child id kept
 kept_after kept (Heard id piece) = record kept { children = at_child id (fed piece) kept.children }
 kept_after kept (Unread id) = record kept { children = at_child id emptied kept.children }
-kept_after kept (Ended id status) = record kept { children = without_child id kept.children; failed = failed_at (place_of id (map seat kept.children)) status kept.failed }
+kept_after kept (Ended id status) = record kept {
+  children = without_child id kept.children;
+  failed = failed_at (place_of id (map seat kept.children)) status kept.failed;
+}
 kept_after kept (Abandoned id) = record kept { children = without_child id kept.children }
 kept_after kept _ = kept
 
@@ -38,13 +41,14 @@ kept_from kept (e ∷ es) = kept_from (kept_after kept e) es
 
 -- the lines that an event gives: a start the one before its command, news what the child wrote and how it ended
 abbrev pub due : Shows → Bool → List Planned → Kept → Event → List Line
-due shows tells cmds kept (Started id role cmd pipes held) = announced shows cmd
-due shows tells cmds kept e = owed shows tells cmds kept.children e
+due shows warns cmds kept (Started id role cmd pipes held) = announced shows cmd
+due shows warns cmds kept e = owed shows warns cmds kept.children e
 
 -- the lines that these events give, in order
 abbrev pub due_from : Shows → Bool → List Planned → Kept → List Event → List Line
-due_from shows tells cmds kept [] = []
-due_from shows tells cmds kept (e ∷ es) = due shows tells cmds kept e ++ due_from shows tells cmds (kept_after kept e) es
+due_from shows warns cmds kept [] = []
+due_from shows warns cmds kept (e ∷ es) = due shows warns cmds kept e
+    ++ due_from shows warns cmds (kept_after kept e) es
 
 -- lines that each event gives to one who knows the run right before it
 abbrev pub lines_along : (Run → Event → List Line) → Run → List Event → List Line
@@ -57,14 +61,21 @@ next_lines shows cmds begun = flat_map (λ p. announced shows p.cmd) (take 1 (dr
 
 -- the lines that these events give, and that before the next command
 abbrev pub due_next : Shows → Bool → List Planned → Kept → List Event → List Line
-due_next shows tells cmds kept part = due_from shows tells cmds kept part ++ next_lines shows cmds (kept_from kept part).begun
+due_next shows warns cmds kept part = due_from shows warns cmds kept part
+    ++ next_lines shows cmds (kept_from kept part).begun
 
 -- What was printed, by the answer: all lines that the events give, with the one before a command that couldn't be
 -- started. Where a print or memory was refused, the first of these.
 abbrev pub IsPrinted : {T : Type 0} → Shows → Bool → List Planned → Kept → Result T RunError → List Event → Type 0
-IsPrinted shows tells cmds kept (Ok _) part = printed part ≡ due_from shows tells cmds kept part
-IsPrinted shows tells cmds kept (Err (ToolNotFound place)) part = printed part ≡ due_next shows tells cmds kept part
-IsPrinted shows tells cmds kept (Err (StartFault place)) part = printed part ≡ due_next shows tells cmds kept part
-IsPrinted shows tells cmds kept (Err (HostFault call why)) part = (count : ℕ) × (printed part ≡ take count (due_next shows tells cmds kept part))
-IsPrinted shows tells cmds kept (Err NoMemory) part = (count : ℕ) × (printed part ≡ take count (due_next shows tells cmds kept part))
-IsPrinted shows tells cmds kept (Err _) part = printed part ≡ due_from shows tells cmds kept part
+IsPrinted shows warns cmds kept (Ok _) part = printed part ≡ due_from shows warns cmds kept part
+IsPrinted shows warns cmds kept (Err (ToolNotFound place)) part = printed part ≡ due_next shows warns cmds kept part
+IsPrinted shows warns cmds kept (Err (StartFault place)) part = printed part ≡ due_next shows warns cmds kept part
+IsPrinted shows warns cmds kept (Err (HostFault call why)) part = (count : ℕ)
+    × (printed part ≡ take count (due_next shows warns cmds kept part))
+IsPrinted shows warns cmds kept (Err NoMemory) part = (count : ℕ)
+    × (printed part ≡ take count (due_next shows warns cmds kept part))
+IsPrinted shows warns cmds kept (Err _) part = printed part ≡ due_from shows warns cmds kept part
+
+-- the same of starts, whether or not a failure is warned of
+abbrev pub PrintsStarts : {T : Type 0} → Shows → List Planned → Kept → Result T RunError → List Event → Type 0
+PrintsStarts shows cmds kept result part = (warns : Bool) → IsPrinted shows warns cmds kept result part

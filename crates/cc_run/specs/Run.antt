@@ -31,8 +31,10 @@ failed_at None status last = last
 failed_at (Some place) status last = if is_success status then last else Some (place, status)
 
 abbrev pub run_after : Run → Event → Run
-run_after r (Started id role cmd pipes held) = record { live = r.live ++ (id, r.begun) ∷ []; begun = r.begun + 1; failed = r.failed }
-run_after r (Ended id status) = record { live = without id r.live; begun = r.begun; failed = failed_at (place_of id r.live) status r.failed }
+run_after r (Started id role cmd pipes held) =
+    record { live = r.live ++ (id, r.begun) ∷ []; begun = r.begun + 1; failed = r.failed }
+run_after r (Ended id status) =
+    record { live = without id r.live; begun = r.begun; failed = failed_at (place_of id r.live) status r.failed }
 run_after r (Abandoned id) = record { live = without id r.live; begun = r.begun; failed = r.failed }
 run_after r _ = r
 

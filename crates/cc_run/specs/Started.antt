@@ -6,7 +6,7 @@ use Rattle.cc_host.specs.declared.event.HostCall.TheVariants.{Start, Print}
 use Rattle.cc_host.specs.declared.event.Why.{Why}
 use Rattle.cc_run.specs.Children.{Kept}
 use Rattle.cc_run.specs.Planned.{pipes_of}
-use Rattle.cc_run.specs.Shown.{prints}
+use Rattle.cc_run.specs.Prints.{prints}
 use Rattle.cc_run.specs.Texts.{announced}
 use Rattle.cc_run.specs.declared.error.RunError.{RunError}
 use Rattle.cc_run.specs.declared.error.RunError.TheVariants.{ToolNotFound, StartFault, HostFault, NoMemory}
@@ -17,14 +17,22 @@ use Rattle.cc_run.specs.declared.planned.Shows.{Shows}
 
 -- what is kept after the start of the next command as the child of this id
 abbrev pub with_child : ℕ → Kept → Kept
-with_child id kept = record kept { children = kept.children ++ record { id = id; place = kept.begun; rest = [] } ∷ []; begun = kept.begun + 1 }
+with_child id kept = record kept {
+  children = kept.children ++ record { id = id; place = kept.begun; rest = [] } ∷ [];
+  begun = kept.begun + 1;
+}
 
 -- the line before a command, and then its start, or what came in its place
 abbrev pub IsStart : Shows → Planned → ℕ → Kept → Result ℕ RunError → Kept → List Event → Type 0
-IsStart shows p held old (Ok id) new part = (part ≡ prints (announced shows p.cmd) ++ Started id p.role p.cmd (pipes_of shows) held ∷ []) × (new ≡ with_child id old)
-IsStart shows p held old (Err (ToolNotFound place)) new part = (part ≡ prints (announced shows p.cmd) ++ Missing p.role p.cmd ∷ []) × (place ≡ old.begun) × (new ≡ old)
-IsStart shows p held old (Err (StartFault place)) new part = (why : Why) × ((part ≡ prints (announced shows p.cmd) ++ Fault Start why ∷ []) × (place ≡ old.begun) × (new ≡ old))
-IsStart shows p held old (Err (HostFault call why)) new part = (part ≡ Fault call why ∷ []) × (call ≡ Print) × (new ≡ old)
+IsStart shows p held old (Ok id) new part =
+    (part ≡ prints (announced shows p.cmd) ++ Started id p.role p.cmd (pipes_of shows) held ∷ [])
+    × (new ≡ with_child id old)
+IsStart shows p held old (Err (ToolNotFound place)) new part =
+    (part ≡ prints (announced shows p.cmd) ++ Missing p.role p.cmd ∷ []) × (place ≡ old.begun) × (new ≡ old)
+IsStart shows p held old (Err (StartFault place)) new part = (why : Why)
+    × ((part ≡ prints (announced shows p.cmd) ++ Fault Start why ∷ []) × (place ≡ old.begun) × (new ≡ old))
+IsStart shows p held old (Err (HostFault call why)) new part = (part ≡ Fault call why ∷ []) × (call ≡ Print)
+    × (new ≡ old)
 IsStart shows p held old (Err NoMemory) new part = ((part ≡ []) ⊎ (part ≡ prints (announced shows p.cmd))) × (new ≡ old)
 IsStart shows p held old (Err _) new part = ⊥
 

@@ -1,7 +1,8 @@
 -- What a part says of the standard error of one child.
 use Rattle.std.specs.Prelude.{◌≡◌, ℕ, Bool, true, false, List, [], ◌==◌, if◌then◌else◌, map, filter, take, Result, Err}
-use Rattle.std.specs.List.{flat_map, list_any}
+use Rattle.std.specs.List.{Contains, flat_map, list_any}
 use Rattle.cc_text.specs.Words.{when}
+use Rattle.cc_host.specs.Children.{started_ids}
 use Rattle.cc_host.specs.declared.event.Event.{Event}
 use Rattle.cc_host.specs.declared.event.Event.TheVariants.{Started, Heard, Unread, Ended, Abandoned}
 use Rattle.cc_host.specs.declared.event.LineKind.{LineKind}
@@ -53,13 +54,19 @@ is_stderr id line = is_own_kind id line.kind
 abbrev pub stderr_printed : ℕ → List Event → List Line
 stderr_printed id part = filter (is_stderr id) (printed part)
 
--- The lines that the standard error of that child gives: all of its bytes at once, split at line feeds. Where it was abandoned before it ended
--- and before its standard error failed to be read, the rest behind the last line feed is none.
+-- The lines that the standard error of that child gives: all of its bytes at once, split at line feeds. Where it was
+-- abandoned before it ended and before its standard error failed to be read, the rest behind the last line feed is none.
 abbrev pub stderr_given : Shows → ℕ → List Event → List Line
-stderr_given shows id part = when shows.warnings (map (stderr_line id) (lines_by (list_any (is_over id) part) (heard id part)))
+stderr_given shows id part =
+    when shows.warnings (map (stderr_line id) (lines_by (list_any (is_over id) part) (heard id part)))
 
 -- all of these lines, or the first of them, where a print or memory was refused
 abbrev pub IsForwarded : {T : Type 0} → Result T RunError → List Line → List Line → Type 0
 IsForwarded (Err (HostFault call why)) given wanted = (count : ℕ) × (given ≡ take count wanted)
 IsForwarded (Err NoMemory) given wanted = (count : ℕ) × (given ≡ take count wanted)
 IsForwarded _ given wanted = given ≡ wanted
+
+-- of each child that was started, the lines of its standard error were printed
+abbrev pub ForwardsEach : {T : Type 0} → Shows → Result T RunError → List Event → Type 0
+ForwardsEach shows result part =
+    (id : ℕ) → Contains (started_ids part) id → IsForwarded result (stderr_printed id part) (stderr_given shows id part)

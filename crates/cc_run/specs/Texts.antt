@@ -38,7 +38,8 @@ end_in_brackets NoCode = codes "(" ++ ended_text NoCode ++ codes ")"
 
 -- the message of a command that ended with another status than 0
 unfoldable pub failed_text : Status → CommandSeen → List ℕ
-failed_text status cmd = codes "command did not execute successfully " ++ end_in_brackets status ++ codes ": " ++ command_line cmd
+failed_text status cmd = codes "command did not execute successfully " ++ end_in_brackets status ++ codes ": "
+    ++ command_line cmd
 
 -- the warning of such a command, which is the error of a build
 unfoldable pub failed_line : Status → CommandSeen → Line

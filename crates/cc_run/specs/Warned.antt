@@ -1,5 +1,6 @@
--- The warnings that a run prints: where a standard error failed to be read, and where a command failed that is to be told.
-use Rattle.std.specs.Prelude.{ℕ, Bool, true, false, List, [], ◌∷◌, filter, not, ◌&&◌, take, drop, Option, None, Some}
+-- The warnings that a run prints: where a standard error failed to be read, and where a command failed that is to be
+-- warned of.
+use Rattle.std.specs.Prelude.{ℕ, Bool, true, false, List, [], ◌∷◌, filter, not, ◌&&◌, take, drop, Option, None, Some, Result}
 use Rattle.std.specs.List.{flat_map}
 use Rattle.cc_text.specs.Words.{when}
 use Rattle.cc_host.specs.Status.{is_success}
@@ -9,8 +10,10 @@ use Rattle.cc_host.specs.declared.event.LineKind.{LineKind}
 use Rattle.cc_host.specs.declared.event.LineKind.TheVariants.{Warning}
 use Rattle.cc_host.specs.declared.event.Status.{Status}
 use Rattle.cc_run.specs.Printing.{printed, lines_along}
-use Rattle.cc_run.specs.Run.{Run, place_of}
+use Rattle.cc_run.specs.Run.{Run, nothing, place_of}
+use Rattle.cc_run.specs.Stderr.{IsForwarded}
 use Rattle.cc_run.specs.Texts.{cargo_line, failed_line, unread_text}
+use Rattle.cc_run.specs.declared.error.RunError.{RunError}
 use Rattle.cc_run.specs.declared.planned.Planned.{Planned}
 use Rattle.cc_run.specs.declared.planned.Shows.{Shows}
 use Rattle.cc_run.specs.declared.print.Line.{Line}
@@ -31,16 +34,26 @@ abbrev pub unread_warned : Shows → Option ℕ → List Line
 unread_warned shows None = []
 unread_warned shows (Some place) = when shows.warnings (cargo_line Warning unread_text ∷ [])
 
+-- a command failed, where that is warned of
+abbrev pub failed_of : Shows → Bool → Status → Planned → List Line
+failed_of shows warns status p = when (warns && shows.warnings && not (is_success status)) (failed_line status p.cmd ∷ [])
+
 -- the command at that place failed
 abbrev pub failed_warned : Shows → Bool → List Planned → Status → Option ℕ → List Line
-failed_warned shows tells cmds status None = []
-failed_warned shows tells cmds status (Some place) = flat_map (λ p. when (tells && shows.warnings && not (is_success status)) (failed_line status p.cmd ∷ [])) (take 1 (drop place cmds))
+failed_warned shows warns cmds status None = []
+failed_warned shows warns cmds status (Some place) =
+    flat_map (failed_of shows warns status) (take 1 (drop place cmds))
 
 abbrev pub warning_of : Shows → Bool → List Planned → Run → Event → List Line
-warning_of shows tells cmds r (Unread id) = unread_warned shows (place_of id r.live)
-warning_of shows tells cmds r (Ended id status) = failed_warned shows tells cmds status (place_of id r.live)
-warning_of shows tells cmds r _ = []
+warning_of shows warns cmds r (Unread id) = unread_warned shows (place_of id r.live)
+warning_of shows warns cmds r (Ended id status) = failed_warned shows warns cmds status (place_of id r.live)
+warning_of shows warns cmds r _ = []
 
 -- the warnings that these events give, in order
 abbrev pub warnings_from : Shows → Bool → List Planned → Run → List Event → List Line
-warnings_from shows tells cmds = lines_along (warning_of shows tells cmds)
+warnings_from shows warns cmds = lines_along (warning_of shows warns cmds)
+
+-- the warnings of a run were printed, and no others
+abbrev pub WarnsAll : {T : Type 0} → Shows → Bool → List Planned → Result T RunError → List Event → Type 0
+WarnsAll shows warns cmds result part =
+    IsForwarded result (warnings_printed part) (warnings_from shows warns cmds nothing part)

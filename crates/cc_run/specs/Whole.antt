@@ -10,7 +10,8 @@ use Rattle.cc_run.specs.Paid.{Paid}
 use Rattle.cc_run.specs.declared.error.RunError.{RunError}
 
 -- The log grew to a place where the run came to its end, and from there on only by children that were abandoned.
-pub record IsRun {T : Type 0} (total : Option ℕ) (cmds : List Asked) (old new : List Event) (result : Result T RunError) (taken load taken' load' : ℕ) : Type 0 where
+pub record IsRun {T : Type 0} (total : Option ℕ) (cmds : List Asked) (old new : List Event)
+    (result : Result T RunError) (taken load taken' load' : ℕ) : Type 0 where
   pub run : Run
   pub mid : List Event
   pub work : Goes total cmds old nothing mid run
@@ -23,3 +24,9 @@ pub record IsRun {T : Type 0} (total : Option ℕ) (cmds : List Asked) (old new 
   pub cause : IfErr result (IsRunError (length cmds) run)
   pub ends : IfErr result (EndsAt mid)
   pub paid : Paid result (length run.live) (since old mid) taken load taken' load'
+
+-- the same, of a seat and a host by their counts and log
+abbrev pub HasRun : {S X T : Type 0} → (S → Option ℕ) → (S → ℕ) → (S → ℕ) → (X → List Event) → List Asked → S → S
+    → X → X → Result T RunError → Type 0
+HasRun total taken load log cmds seat seat' old new result =
+    IsRun (total seat) cmds (log old) (log new) result (taken seat) (load seat) (taken seat') (load seat')

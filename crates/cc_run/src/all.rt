@@ -1,77 +1,88 @@
 // Runs a list of commands to their ends.
-ghost use Rattle.std.specs.Prelude.{◌≡◌, ◌++◌, ◌+◌, ◌≤◌, ◌<◌, ◌^◌, ◌⊎◌, length, true, false, OnOk, IfErr, IfSome, None, ◌*◌, ℕ};
-ghost use Rattle.std.specs.List.{All, Contains, list_all};
+ghost use Rattle.std.specs.Prelude.{◌≡◌, ◌++◌, ◌+◌, ◌≤◌, ◌<◌, ◌^◌, ◌⊎◌, length, true, false, OnOk, IfErr, None, ◌*◌};
+ghost use Rattle.std.specs.List.{All, list_all};
 ghost use Rattle.cc_host.specs.Call.{part};
-ghost use Rattle.cc_host.specs.Children.{InOrder, running as running_on, started_ids};
+ghost use Rattle.cc_host.specs.Children.{InOrder, running as running_on};
 ghost use Rattle.cc_host.specs.declared.event.Role.TheVariants.{Compile};
 ghost use Rattle.cc_jobs.specs.Seats.{Rose};
-ghost use Rattle.cc_run.specs.Children.{ArePlaced, nothing_kept, run_of};
-ghost use Rattle.cc_run.specs.Debugging.{debug_printed, debug_from};
-ghost use Rattle.cc_run.specs.Outcome.{IsTold, IsPassError, IsRunError, IsOutcome, IsOpen, IsDone, EndsAt};
+ghost use Rattle.cc_run.specs.Batch.{asked_of, count_of, IsUnfinished, IsFinished, PrintsBatch};
+ghost use Rattle.cc_run.specs.Children.{nothing_kept, run_of};
+ghost use Rattle.cc_run.specs.Debugging.{DebugsAll, DebugsTimes};
+ghost use Rattle.cc_run.specs.Keeping.{IsIdle, IsOneRun, KeepsSeat, TookNone, TurnsMade};
+ghost use Rattle.cc_run.specs.Outcome.{NamesCause, IsPassError, IsRunError, IsOutcome, EndsAt};
 ghost use Rattle.cc_run.specs.Own.{is_of_run};
-ghost use Rattle.cc_run.specs.Paid.{Paid};
-ghost use Rattle.cc_run.specs.Part.{Goes, turns as turns_in};
-ghost use Rattle.cc_run.specs.Patience.{Bounded, Unspent, Waited, Lasts};
+ghost use Rattle.cc_run.specs.Paid.{IsPaid};
+ghost use Rattle.cc_run.specs.Part.{GoesOn};
+ghost use Rattle.cc_run.specs.Patience.{Bounded, Waited, WhereOwned, LastsOn, SpentEarlyOf};
 ghost use Rattle.cc_run.specs.Planned.{asked};
 ghost use Rattle.cc_run.specs.Printing.{IsPrinted, kept_from};
-ghost use Rattle.cc_run.specs.Run.{nothing, ids, gone};
-ghost use Rattle.cc_run.specs.Stderr.{IsForwarded, stderr_printed, stderr_given};
-ghost use Rattle.cc_run.specs.Warned.{warnings_printed, warnings_from};
-ghost use Rattle.cc_run.specs.Whole.{IsRun};
+ghost use Rattle.cc_run.specs.Run.{ids, gone};
+ghost use Rattle.cc_run.specs.Stderr.{ForwardsEach};
+ghost use Rattle.cc_run.specs.Warned.{WarnsAll};
+ghost use Rattle.cc_run.specs.Whole.{HasRun};
 
+use crate::planned::Batch;
 use crate::{Planned, RunError, Running, Shows, SpawnState, Step, Turns, WaitState};
 use cc_host::{Host, World};
 use cc_jobs::Jobs;
 use std::alloc::Global;
 
-// One pass: starts what it may, and then makes one turn. Tells whether all is done.
+// The two polls of a run.
+#[derive(Drop)]
+pub(crate) struct Polls {
+    pub spawn: SpawnState,
+    pub wait: WaitState,
+}
+
+// One pass: starts what it may, and then makes one turn. It answers whether all is done.
 pub(crate) fn pass<W: World, H: Host<W>, J: Jobs>(
-    alloc: Global,
     host: &mut H,
     jobs: &J,
     seat: &mut J::Seat,
     turns: &mut Turns,
-    cmds: &[Planned],
     running: &mut Running,
-    polls: &mut (SpawnState, WaitState),
-    shows: &Shows,
+    polls: &mut Polls,
+    batch: Batch<'_>,
 ) -> Result<bool, RunError>
-    requires fits { J.fits jobs.now seat.old }
-    requires one_run { (J.held seat.old ≡ length running.old.children) × (running.old.begun ≤ length cmds.now) }
-    requires placed { ArePlaced (length cmds.now) running.old }
-    requires unfinished { IsOpen (length (asked shows.now cmds.now)) (run_of running.old) }
+    requires one_run { IsOneRun J.fits J.held jobs.now seat.old (count_of batch) running.old }
+    requires within { running.old.begun ≤ count_of batch }
+    requires unfinished { IsUnfinished batch running.old }
     requires few { turns.old.left + turns.old.used < 2 ^ 64 }
-    ensures fits { J.fits jobs.now seat.new }
-    ensures one_run { (J.held seat.new ≡ length running.new.children) × (running.new.begun ≤ length cmds.now) }
-    ensures placed { ArePlaced (length cmds.now) running.new }
-    ensures total { J.total seat.new ≡ J.total seat.old }
-    ensures later { J.faults seat.old ≤ J.faults seat.new }
+    ensures one_run { IsOneRun J.fits J.held jobs.now seat.new (count_of batch.entry) running.new }
+    ensures within { running.new.begun ≤ count_of batch.entry }
+    ensures keeps { KeepsSeat J.total J.faults seat.old seat.new }
     ensures patient { H.patience host.new ≡ H.patience host.old }
-    ensures goes { Goes (J.total seat.old) (asked shows.now cmds.now) (H.log host.old) (run_of running.old) (H.log host.new) (run_of running.new) }
-    ensures told { IsTold (asked shows.now cmds.now) result (part H.log host.old host.new) }
-    ensures turns { turns.new.left + turns_in (part H.log host.old host.new) ≡ turns.old.left }
-    ensures used { turns.new.used ≡ turns.old.used + turns_in (part H.log host.old host.new) }
+    ensures goes { GoesOn H.log (J.total seat.old) (asked_of batch.entry)
+        host.old running.old host.new running.new }
+    ensures named { NamesCause (asked_of batch.entry) result (part H.log host.old host.new) }
+    ensures turns { TurnsMade turns.old turns.new (part H.log host.old host.new) }
     ensures waited { Waited (H.patience host.new) (H.log host.old) (H.log host.new) }
     ensures one_turn { OnOk result (turns.new.left + 1 ≡ turns.old.left) }
-    ensures unfinished { result ≡ Ok false → IsOpen (length (asked shows.now cmds.now)) (run_of running.new) }
-    ensures done { result ≡ Ok true → IsDone (length (asked shows.now cmds.now)) (run_of running.new) }
-    ensures next { IfErr result (IsPassError (length (asked shows.now cmds.now)) (run_of running.new)) }
-    ensures spent { result ≡ Err RunError.TurnsSpent → (turns.new.left ≡ 0) × IsOpen (length (asked shows.now cmds.now)) (run_of running.new) }
-    ensures paid { Paid result (length running.new.children) (part H.log host.old host.new) (J.taken seat.old) (J.load seat.old) (J.taken seat.new) (J.load seat.new) }
+    ensures unfinished { result ≡ Ok false → IsUnfinished batch.entry running.new }
+    ensures done { result ≡ Ok true → IsFinished batch.entry running.new }
+    ensures next { IfErr result (IsPassError (length (asked_of batch.entry)) (run_of running.new)) }
+    ensures spent { result ≡ Err RunError.TurnsSpent
+        → (turns.new.left ≡ 0) × IsUnfinished batch.entry running.new }
+    ensures paid { IsPaid J.taken J.load seat.old seat.new result
+        (length running.new.children) (part H.log host.old host.new) }
     ensures ends { IfErr result (EndsAt (H.log host.new)) }
-    ensures job_fault { result ≡ Err RunError.JobFault → Rose (J.faults seat.old) (J.faults seat.new) }
+    ensures job_fault { result ≡ Err RunError.JobFault
+        → Rose (J.faults seat.old) (J.faults seat.new) }
     ensures own { list_all is_of_run (part H.log host.old host.new) ≡ true }
-    ensures tells { polls.new.1.tells ≡ polls.old.1.tells }
-    ensures kept { OnOk result (kept_from running.old (part H.log host.old host.new) ≡ running.new) }
-    ensures lines { IsPrinted shows.now polls.old.1.tells cmds.now running.old result (part H.log host.old host.new) }
+    ensures kept { OnOk result (kept_from running.old (part H.log host.old host.new)
+        ≡ running.new) }
+    ensures lines { PrintsBatch batch.entry running.old result (part H.log host.old host.new) }
 {
-    let spawned = match polls.0.poll(alloc, host, jobs, seat, cmds, running, shows) {
+    let spawned = match polls
+        .spawn
+        .poll(host, jobs, seat, batch.cmds, running, batch.shows)
+    {
         Ok(step) => step,
         Err(e) => return Err(e),
     };
     match polls
-        .1
-        .poll(alloc, host, jobs, seat, turns, cmds, running, shows)
+        .wait
+        .poll_batch(host, jobs, seat, turns, running, batch)
     {
         Ok(waited) => Ok(both_ready(spawned, waited)),
         Err(e) => Err(e),
@@ -97,44 +108,44 @@ pub(crate) fn outcome_of(running: &Running) -> Result<(), RunError>
 
 // Runs passes until every command has ended, or the run can't go on.
 fn run_passes<W: World, H: Host<W>, J: Jobs>(
-    alloc: Global,
     host: &mut H,
     jobs: &J,
     seat: &mut J::Seat,
     turns: &mut Turns,
-    cmds: &[Planned],
     running: &mut Running,
-    shows: &Shows,
+    batch: Batch<'_>,
 ) -> Result<(), RunError>
-    requires fits { J.fits jobs.now seat.old }
-    requires empty { (J.held seat.old ≡ 0) × (running.old ≡ nothing_kept) }
-    requires some { 0 < length cmds.now }
+    requires idle { IsIdle J.fits J.held jobs.now seat.old }
+    requires none { running.old ≡ nothing_kept }
+    requires some { 0 < count_of batch }
     requires few { turns.old.left + turns.old.used < 2 ^ 64 }
-    ensures fits { J.fits jobs.now seat.new }
-    ensures one_run { J.held seat.new ≡ length running.new.children }
-    ensures total { J.total seat.new ≡ J.total seat.old }
-    ensures later { J.faults seat.old ≤ J.faults seat.new }
+    ensures one_run { IsOneRun J.fits J.held jobs.now seat.new (count_of batch.entry) running.new }
+    ensures within { running.new.begun ≤ count_of batch.entry }
+    ensures keeps { KeepsSeat J.total J.faults seat.old seat.new }
     ensures patient { H.patience host.new ≡ H.patience host.old }
-    ensures goes { Goes (J.total seat.old) (asked shows.now cmds.now) (H.log host.old) (run_of running.old) (H.log host.new) (run_of running.new) }
-    ensures told { IsTold (asked shows.now cmds.now) result (part H.log host.old host.new) }
-    ensures turns { turns.new.left + turns_in (part H.log host.old host.new) ≡ turns.old.left }
-    ensures used { turns.new.used ≡ turns.old.used + turns_in (part H.log host.old host.new) }
-    ensures within { running.new.begun ≤ length cmds.now }
-    ensures lasts { IfSome (J.total seat.old) (λ _. Lasts (H.patience host.old) (H.log host.old) (run_of running.old) (H.log host.new)) }
-    ensures done { OnOk result (IsDone (length (asked shows.now cmds.now)) (run_of running.new) × (running.new.failed ≡ None)) }
-    ensures cause { IfErr result (IsRunError (length (asked shows.now cmds.now)) (run_of running.new)) }
-    ensures paid { Paid result (length running.new.children) (part H.log host.old host.new) (J.taken seat.old) (J.load seat.old) (J.taken seat.new) (J.load seat.new) }
-    ensures ends { IfErr result (EndsAt (H.log host.new)) }
+    ensures goes { GoesOn H.log (J.total seat.old) (asked_of batch.entry)
+        host.old running.old host.new running.new }
+    ensures named { NamesCause (asked_of batch.entry) result (part H.log host.old host.new) }
+    ensures turns { TurnsMade turns.old turns.new (part H.log host.old host.new) }
+    ensures lasts { LastsOn H.patience H.log (J.total seat.old)
+        host.old (run_of running.old) host.new }
+    ensures done { OnOk result (IsFinished batch.entry running.new × (running.new.failed ≡ None)) }
+    ensures cause { IfErr result (IsRunError (length (asked_of batch.entry)) (run_of running.new)) }
     ensures spent { result ≡ Err RunError.TurnsSpent → turns.new.left ≡ 0 }
-    ensures job_fault { result ≡ Err RunError.JobFault → Rose (J.faults seat.old) (J.faults seat.new) }
+    ensures paid { IsPaid J.taken J.load seat.old seat.new result
+        (length running.new.children) (part H.log host.old host.new) }
+    ensures ends { IfErr result (EndsAt (H.log host.new)) }
+    ensures job_fault { result ≡ Err RunError.JobFault
+        → Rose (J.faults seat.old) (J.faults seat.new) }
     ensures own { list_all is_of_run (part H.log host.old host.new) ≡ true }
-    ensures lines { IsPrinted shows.now true cmds.now running.old result (part H.log host.old host.new) }
+    ensures lines { PrintsBatch batch.entry running.old result (part H.log host.old host.new) }
 {
-    let mut polls = (SpawnState::new(), WaitState::new());
+    let mut polls = Polls {
+        spawn: SpawnState::new(),
+        wait: WaitState::new(),
+    };
     'passes: loop {
-        match pass(
-            alloc, host, jobs, seat, turns, cmds, running, &mut polls, shows,
-        ) {
+        match pass(host, jobs, seat, turns, running, &mut polls, batch) {
             Ok(true) => break 'passes,
             Ok(false) => {}
             Err(e) => return Err(e),
@@ -154,11 +165,9 @@ pub(crate) fn drop_all<W: World, H: Host<W>, J: Jobs>(
     requires fits { J.fits jobs.now seat.old }
     requires one_run { J.held seat.old ≡ length running.now.children }
     requires own { InOrder (ids (run_of running.now).live) (running_on (H.log host.old)) }
-    ensures fits { J.fits jobs.now seat.new }
-    ensures empty { J.held seat.new ≡ 0 }
-    ensures total { J.total seat.new ≡ J.total seat.old }
-    ensures later { J.faults seat.old ≤ J.faults seat.new }
-    ensures counts { (J.taken seat.new ≡ J.taken seat.old) × (J.load seat.new ≡ J.load seat.old) }
+    ensures idle { IsIdle J.fits J.held jobs.now seat.new }
+    ensures keeps { KeepsSeat J.total J.faults seat.old seat.new }
+    ensures counts { TookNone J.taken J.load seat.old seat.new }
     ensures patient { H.patience host.new ≡ H.patience host.old }
     ensures adds { H.log host.new ≡ H.log host.old ++ gone (run_of running.now).live }
 {
@@ -168,10 +177,19 @@ pub(crate) fn drop_all<W: World, H: Host<W>, J: Jobs>(
     }
 }
 
-/// Runs each command to its end, each under a token, and as many side by side as there are tokens. A failed command
-/// stops no other: the refusal is that of the one that ended last. A missing program, a fault of the host or the pool,
-/// want of memory and the want of turns end the run at once: the children that run are abandoned. Printed are the line
-/// before each command, the lines of each standard error, how each command ended, and a warning of each failure.
+/// Runs two compile commands or more to their ends, each under a token, and as many side by side as there are tokens.
+/// They start in list order, and each start carries how many tokens the seat then holds. A failed command stops no
+/// other.
+///
+/// Refused are a failed command, by the one that ended last; a missing program; a fault of the host or of the pool; want
+/// of memory; and want of turns, where `turns` are used up and a command has no end. All but the first end the run at
+/// once: the children that run are abandoned. After each answer the seat holds nothing, and no child of the run is left.
+/// Both counts of the seat rose by the starts; where a start ended the run, the token of that start may stand in them too.
+///
+/// Printed are, as `shows` says, a line before each command, the lines of each standard error as they come, a line with
+/// the status of each that ended, and a warning of each that failed. A refused print or memory leaves the first of these.
+///
+/// Where one caller owns the pool, no more turns are made than the host's patience for each command.
 pub fn run_all<W: World, H: Host<W>, J: Jobs>(
     alloc: Global,
     host: &mut H,
@@ -181,33 +199,40 @@ pub fn run_all<W: World, H: Host<W>, J: Jobs>(
     cmds: &[Planned],
     shows: &Shows,
 ) -> Result<(), RunError>
-    requires fits { J.fits jobs.now seat.old }
-    requires empty { J.held seat.old ≡ 0 }
+    requires idle { IsIdle J.fits J.held jobs.now seat.old }
     requires some { 2 ≤ length cmds.now }
     requires compiles { All (λ p. p.role ≡ Compile) cmds.now }
     requires few { turns.old.left + turns.old.used < 2 ^ 64 }
-    ensures fits { J.fits jobs.now seat.new }
-    ensures empty { J.held seat.new ≡ 0 }
-    ensures total { J.total seat.new ≡ J.total seat.old }
-    ensures later { J.faults seat.old ≤ J.faults seat.new }
+    ensures idle { IsIdle J.fits J.held jobs.now seat.new }
+    ensures keeps { KeepsSeat J.total J.faults seat.old seat.new }
     ensures patient { H.patience host.new ≡ H.patience host.old }
-    ensures outcome { IsRun (J.total seat.old) (asked shows.now cmds.now) (H.log host.old) (H.log host.new) result (J.taken seat.old) (J.load seat.old) (J.taken seat.new) (J.load seat.new) }
-    ensures turns { turns.new.left + turns_in (part H.log host.old host.new) ≡ turns.old.left }
-    ensures used { turns.new.used ≡ turns.old.used + turns_in (part H.log host.old host.new) }
-    ensures bound { IfSome (J.total seat.old) (λ _. Bounded (H.patience host.old) (length cmds.now) (part H.log host.old host.new)) }
-    ensures enough { result ≡ Err RunError.TurnsSpent → IfSome (J.total seat.old) (λ _. Unspent (H.patience host.old) (length cmds.now) (part H.log host.old host.new)) }
-    ensures spent { result ≡ Err RunError.TurnsSpent → turns.new.left ≡ 0 }
-    ensures job_fault { result ≡ Err RunError.JobFault → Rose (J.faults seat.old) (J.faults seat.new) }
+    ensures outcome { HasRun J.total J.taken J.load H.log (asked shows.now cmds.now)
+        seat.old seat.new host.old host.new result }
+    ensures job_fault { result ≡ Err RunError.JobFault
+        → Rose (J.faults seat.old) (J.faults seat.new) }
     ensures own { list_all is_of_run (part H.log host.old host.new) ≡ true }
-    ensures lines { IsPrinted shows.now true cmds.now nothing_kept result (part H.log host.old host.new) }
-    ensures stderr { (id : ℕ) → Contains (started_ids (part H.log host.old host.new)) id → IsForwarded result (stderr_printed id (part H.log host.old host.new)) (stderr_given shows.now id (part H.log host.old host.new)) }
-    ensures debug { OnOk result (debug_printed (part H.log host.old host.new) ≡ debug_from shows.now nothing (part H.log host.old host.new)) }
-    ensures twice { shows.now.debug ≡ true → OnOk result (length (debug_printed (part H.log host.old host.new)) ≡ 2 * length cmds.now) }
-    ensures warnings { IsForwarded result (warnings_printed (part H.log host.old host.new)) (warnings_from shows.now true cmds.now nothing (part H.log host.old host.new)) }
+    ensures turns { TurnsMade turns.old turns.new (part H.log host.old host.new) }
+    ensures spent { result ≡ Err RunError.TurnsSpent → turns.new.left ≡ 0 }
+    ensures enough { SpentEarlyOf result (J.total seat.old) (H.patience host.old) (length cmds.now)
+        (part H.log host.old host.new) }
+    ensures bound { WhereOwned (J.total seat.old)
+        (Bounded (H.patience host.old) (length cmds.now) (part H.log host.old host.new)) }
+    ensures lines { IsPrinted shows.now true cmds.now nothing_kept result
+        (part H.log host.old host.new) }
+    ensures stderr { ForwardsEach shows.now result (part H.log host.old host.new) }
+    ensures debug { DebugsAll shows.now result (part H.log host.old host.new) }
+    ensures twice { DebugsTimes shows.now result (2 * length cmds.now)
+        (part H.log host.old host.new) }
+    ensures warnings { WarnsAll shows.now true cmds.now result (part H.log host.old host.new) }
 {
     let _least = host.log();
     let mut running = Running::new(alloc);
-    let result = run_passes(alloc, host, jobs, seat, turns, cmds, &mut running, shows);
+    let batch = Batch {
+        cmds,
+        shows,
+        warns: true,
+    };
+    let result = run_passes(host, jobs, seat, turns, &mut running, batch);
     drop_all(host, jobs, seat, &running);
     result
 }

@@ -16,22 +16,22 @@ pub enum Step {
     Pending,
 }
 
-/// Why a run ended without success. The first number is a place in the list of commands, from 0.
+/// Why a run ended without success. The number in the first three is a place in the list of commands, from 0.
 #[derive(Clone, Copy, PartialEq, Eq, Debug)]
 pub enum RunError {
-    /// The program can't be found.
+    /// The program of the command at that place can't be found.
     ToolNotFound(u64),
-    /// The command ended with another status than 0.
+    /// The command at that place ended with another status than 0. Of several it is the one that ended last.
     Failed(u64, Status),
-    /// The host couldn't start or run the command.
+    /// The host couldn't start or run the command at that place, for another cause.
     StartFault(u64),
     /// The host couldn't make a turn.
     WaitFault,
-    /// The host couldn't do another call.
+    /// The host couldn't do another call, such as the print of a line.
     HostFault(HostCall, Why),
-    /// The pool failed.
+    /// The pool of tokens failed: the seat's count of faults rose.
     JobFault,
-    /// No turn was left, and a command had no end.
+    /// No turn was left, and a command had no end. As many turns as the host's patience, for each command, are enough.
     TurnsSpent,
     /// Memory was refused.
     NoMemory,

@@ -7,7 +7,8 @@ use std::alloc::Global;
 use std::marker::Model;
 use std::mem;
 
-/// Lines that come in pieces. Contracts see the bytes that came since the last line feed.
+/// The lines of a standard error that comes in pieces, however it is cut. Contracts see the bytes that came since the
+/// last line feed.
 #[derive(Drop)]
 pub struct Forwarder {
     alloc: Global,

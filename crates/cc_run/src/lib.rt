@@ -3,7 +3,7 @@
 //! Stands on `cc_text`, `cc_host` and `cc_jobs`. A run starts its commands in list order, makes turns, forwards what the
 //! children write on their standard error line by line, and gives the token of each child that ended back. The crates
 //! above use one thing: the part of a run read place by place is a run whose children are paid for, and the answer is
-//! told by its last failure or by the event that ended it.
+//! that of its last failure or of the event that ended it.
 #![tactic(auto)]
 
 mod all;

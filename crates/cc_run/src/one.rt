@@ -1,23 +1,24 @@
 // Runs one command to its end, without a token.
-ghost use Rattle.std.specs.Prelude.{◌≡◌, ◌≢◌, ◌++◌, ◌+◌, ◌≤◌, ◌<◌, ◌^◌, ◌∷◌, [], length, OnOk, IfErr, IfSome, None, true, ℕ, false};
-ghost use Rattle.std.specs.List.{Contains, list_all};
+ghost use Rattle.std.specs.Prelude.{◌≡◌, ◌≢◌, ◌++◌, ◌+◌, ◌<◌, ◌^◌, ◌∷◌, [], length, OnOk, IfErr, None, true, false};
+ghost use Rattle.std.specs.List.{list_all};
 ghost use Rattle.cc_host.specs.Call.{part};
-ghost use Rattle.cc_host.specs.Children.{started_ids};
-ghost use Rattle.cc_run.specs.Children.{ArePlaced, nothing_kept, run_of};
-ghost use Rattle.cc_run.specs.Debugging.{debug_printed, debug_from};
-ghost use Rattle.cc_run.specs.Outcome.{IsTold, IsRunError, IsDone, EndsAt};
+ghost use Rattle.cc_run.specs.Batch.{asked_of, count_of, IsFinished, PrintsBatch};
+ghost use Rattle.cc_run.specs.Children.{nothing_kept, run_of};
+ghost use Rattle.cc_run.specs.Debugging.{DebugsAll, DebugsTimes};
+ghost use Rattle.cc_run.specs.Keeping.{IsOneRun, TurnsMade};
+ghost use Rattle.cc_run.specs.Outcome.{NamesCause, IsRunError, EndsAt};
 ghost use Rattle.cc_run.specs.Own.{is_of_run};
 ghost use Rattle.cc_run.specs.Paid.{loads};
-ghost use Rattle.cc_run.specs.Part.{Goes, turns as turns_in};
-ghost use Rattle.cc_run.specs.Patience.{Bounded, Unspent, Lasts};
+ghost use Rattle.cc_run.specs.Part.{GoesOn};
+ghost use Rattle.cc_run.specs.Patience.{Bounded, LastsOn, SpentEarly};
 ghost use Rattle.cc_run.specs.Planned.{asked};
 ghost use Rattle.cc_run.specs.Printing.{IsPrinted};
-ghost use Rattle.cc_run.specs.Run.{nothing};
 ghost use Rattle.cc_run.specs.Solo.{IsSolo};
-ghost use Rattle.cc_run.specs.Stderr.{IsForwarded, stderr_printed, stderr_given};
-ghost use Rattle.cc_run.specs.Warned.{warnings_printed, warnings_from};
+ghost use Rattle.cc_run.specs.Stderr.{ForwardsEach};
+ghost use Rattle.cc_run.specs.Warned.{WarnsAll};
 
 use crate::all::{drop_all, outcome_of};
+use crate::planned::Batch;
 use crate::spawn::start;
 use crate::{Planned, RunError, Running, Shows, Step, Turns, WaitState};
 use cc_host::{Host, World};
@@ -27,40 +28,38 @@ use std::slice;
 
 // Makes turns until the children of a run whose commands were all started have ended.
 fn wait_out<W: World, H: Host<W>, J: Jobs>(
-    alloc: Global,
     host: &mut H,
     jobs: &J,
     seat: &mut J::Seat,
     turns: &mut Turns,
-    cmds: &[Planned],
     running: &mut Running,
-    shows: &Shows,
+    batch: Batch<'_>,
 ) -> Result<(), RunError>
-    requires fits { J.fits jobs.now seat.old }
-    requires one_run { (J.held seat.old ≡ length running.old.children) × (running.old.begun ≡ length cmds.now) }
-    requires placed { ArePlaced (length cmds.now) running.old }
+    requires one_run { IsOneRun J.fits J.held jobs.now seat.old (count_of batch) running.old }
+    requires all { running.old.begun ≡ count_of batch }
     requires some { 0 < length running.old.children }
     requires few { turns.old.left + turns.old.used < 2 ^ 64 }
-    ensures fits { J.fits jobs.now seat.new }
-    ensures one_run { (J.held seat.new ≡ length running.new.children) × (running.new.begun ≡ length cmds.now) }
+    ensures one_run { IsOneRun J.fits J.held jobs.now seat.new (count_of batch.entry) running.new }
+    ensures all { running.new.begun ≡ count_of batch.entry }
     ensures patient { H.patience host.new ≡ H.patience host.old }
-    ensures goes { Goes (J.total seat.old) (asked shows.now cmds.now) (H.log host.old) (run_of running.old) (H.log host.new) (run_of running.new) }
-    ensures told { IsTold (asked shows.now cmds.now) result (part H.log host.old host.new) }
-    ensures turns { turns.new.left + turns_in (part H.log host.old host.new) ≡ turns.old.left }
-    ensures used { turns.new.used ≡ turns.old.used + turns_in (part H.log host.old host.new) }
-    ensures lasts { IfSome (J.total seat.old) (λ _. Lasts (H.patience host.old) (H.log host.old) (run_of running.old) (H.log host.new)) }
+    ensures goes { GoesOn H.log (J.total seat.old) (asked_of batch.entry)
+        host.old running.old host.new running.new }
+    ensures named { NamesCause (asked_of batch.entry) result (part H.log host.old host.new) }
+    ensures turns { TurnsMade turns.old turns.new (part H.log host.old host.new) }
+    ensures lasts { LastsOn H.patience H.log (J.total seat.old)
+        host.old (run_of running.old) host.new }
     ensures free { loads (part H.log host.old host.new) ≡ 0 }
-    ensures done { OnOk result (IsDone (length (asked shows.now cmds.now)) (run_of running.new) × (running.new.failed ≡ None)) }
-    ensures cause { IfErr result (IsRunError (length (asked shows.now cmds.now)) (run_of running.new)) }
+    ensures done { OnOk result (IsFinished batch.entry running.new × (running.new.failed ≡ None)) }
+    ensures cause { IfErr result (IsRunError (length (asked_of batch.entry)) (run_of running.new)) }
     ensures ends { IfErr result (EndsAt (H.log host.new)) }
     ensures spent { result ≡ Err RunError.TurnsSpent → turns.new.left ≡ 0 }
     ensures tokenless { result ≢ Err RunError.JobFault }
     ensures own { list_all is_of_run (part H.log host.old host.new) ≡ true }
-    ensures lines { IsPrinted shows.now false cmds.now running.old result (part H.log host.old host.new) }
+    ensures lines { PrintsBatch batch.entry running.old result (part H.log host.old host.new) }
 {
-    let mut wait = WaitState::silent();
+    let mut wait = WaitState::new();
     'turns: loop {
-        match wait.poll(alloc, host, jobs, seat, turns, cmds, running, shows) {
+        match wait.poll_batch(host, jobs, seat, turns, running, batch) {
             Ok(Step::Ready) => break 'turns,
             Ok(Step::Pending) => {}
             Err(e) => return Err(e),
@@ -69,9 +68,12 @@ fn wait_out<W: World, H: Host<W>, J: Jobs>(
     outcome_of(running)
 }
 
-/// Runs one command to its end, by a start and turns. It takes no token, and its start carries 0. A missing program, a
-/// fault of the host, want of memory and the want of turns end the run at once: a child that runs is abandoned. It
-/// prints as `run_all` does, without a warning of a failure.
+/// Runs one command to its end, by a start and turns. It takes no token, and its start carries 0.
+///
+/// Refused are its failure, a missing program, a fault of the host, want of memory and want of turns, with place 0. All
+/// but the first end the run at once: a child that runs is abandoned. After each answer no child of the run is left.
+///
+/// It prints as `run_all` does, without a warning of a failure, and makes no more turns than the host's patience.
 pub fn run_one<W: World, H: Host<W>>(
     alloc: Global,
     host: &mut H,
@@ -79,20 +81,22 @@ pub fn run_one<W: World, H: Host<W>>(
     cmd: &Planned,
     shows: &Shows,
 ) -> Result<(), RunError>
-    requires { turns.old.left + turns.old.used < 2 ^ 64 }
+    requires few { turns.old.left + turns.old.used < 2 ^ 64 }
     ensures patient { H.patience host.new ≡ H.patience host.old }
-    ensures outcome { IsSolo (asked shows.now (cmd.now ∷ [])) (H.log host.old) (H.log host.new) result }
-    ensures turns { turns.new.left + turns_in (part H.log host.old host.new) ≡ turns.old.left }
-    ensures used { turns.new.used ≡ turns.old.used + turns_in (part H.log host.old host.new) }
-    ensures bound { Bounded (H.patience host.old) 1 (part H.log host.old host.new) }
-    ensures enough { result ≡ Err RunError.TurnsSpent → Unspent (H.patience host.old) 1 (part H.log host.old host.new) }
-    ensures spent { result ≡ Err RunError.TurnsSpent → turns.new.left ≡ 0 }
+    ensures outcome { IsSolo (asked shows.now (cmd.now ∷ []))
+        (H.log host.old) (H.log host.new) result }
     ensures own { list_all is_of_run (part H.log host.old host.new) ≡ true }
-    ensures lines { IsPrinted shows.now false (cmd.now ∷ []) nothing_kept result (part H.log host.old host.new) }
-    ensures stderr { (id : ℕ) → Contains (started_ids (part H.log host.old host.new)) id → IsForwarded result (stderr_printed id (part H.log host.old host.new)) (stderr_given shows.now id (part H.log host.old host.new)) }
-    ensures debug { OnOk result (debug_printed (part H.log host.old host.new) ≡ debug_from shows.now nothing (part H.log host.old host.new)) }
-    ensures twice { shows.now.debug ≡ true → OnOk result (length (debug_printed (part H.log host.old host.new)) ≡ 2) }
-    ensures warnings { IsForwarded result (warnings_printed (part H.log host.old host.new)) (warnings_from shows.now false (cmd.now ∷ []) nothing (part H.log host.old host.new)) }
+    ensures turns { TurnsMade turns.old turns.new (part H.log host.old host.new) }
+    ensures spent { result ≡ Err RunError.TurnsSpent → turns.new.left ≡ 0 }
+    ensures enough { SpentEarly result (H.patience host.old) 1 (part H.log host.old host.new) }
+    ensures bound { Bounded (H.patience host.old) 1 (part H.log host.old host.new) }
+    ensures lines { IsPrinted shows.now false (cmd.now ∷ []) nothing_kept result
+        (part H.log host.old host.new) }
+    ensures stderr { ForwardsEach shows.now result (part H.log host.old host.new) }
+    ensures debug { DebugsAll shows.now result (part H.log host.old host.new) }
+    ensures twice { DebugsTimes shows.now result 2 (part H.log host.old host.new) }
+    ensures warnings { WarnsAll shows.now false (cmd.now ∷ []) result
+        (part H.log host.old host.new) }
 {
     let _least = host.log();
     let mut running = Running::new(alloc);
@@ -100,21 +104,16 @@ pub fn run_one<W: World, H: Host<W>>(
     let Ok(Take::Token) = jobs.take(&mut seat) else {
         unreachable!();
     };
-    match start(alloc, host, cmd, &mut running, shows, 0) {
+    match start(host, cmd, &mut running, shows, 0) {
         Ok(_) => {}
         Err(e) => return Err(e),
     }
-    let cmds = slice::from_ref(cmd);
-    let result = wait_out(
-        alloc,
-        host,
-        &jobs,
-        &mut seat,
-        turns,
-        cmds,
-        &mut running,
+    let batch = Batch {
+        cmds: slice::from_ref(cmd),
         shows,
-    );
+        warns: false,
+    };
+    let result = wait_out(host, &jobs, &mut seat, turns, &mut running, batch);
     drop_all(host, &jobs, &mut seat, &running);
     result
 }

@@ -4,27 +4,42 @@ ghost use Rattle.cc_run.specs.Planned.{pipes_of};
 
 use cc_host::{Command, CompileCommand, OutputKind, Pipes, Role};
 
-/// A command that is to be run, with the compile command that is told of it, where one is.
+/// A command that is to be run.
 #[derive(Drop, Debug)]
 pub struct Planned {
+    /// What it does in a build.
     pub role: Role,
+    /// Its program, words and variables.
     pub cmd: Command,
+    /// The compile command that a listening host hears of, where it compiles a source.
     pub message: Option<CompileCommand>,
 }
 
-/// What of a run is shown: warnings, lines for debugging, and the standard output of its commands.
+/// What of a run is shown.
 #[derive(Clone, Copy, Debug, PartialEq, Eq)]
 pub struct Shows {
+    /// The lines of each standard error, and a warning of each failure, as lines `cargo:warning=..`. Where it is off,
+    /// no standard error is read.
     pub warnings: bool,
+    /// A line before each command, and one with its status after it.
     pub debug: bool,
+    /// Where the standard output of a command goes.
     pub out: OutputKind,
 }
 
-/// How many turns may still be made, and how many were.
+/// How many turns a run may still make, and how many were made. A turn asks a host for the news of its children.
 #[derive(Clone, Copy, Debug, PartialEq, Eq)]
 pub struct Turns {
     pub left: u64,
     pub used: u64,
+}
+
+// What a run only reads: its commands, what of them is shown, and whether one that fails is warned of.
+#[derive(Clone, Copy)]
+pub(crate) struct Batch<'a> {
+    pub cmds: &'a [Planned],
+    pub shows: &'a Shows,
+    pub warns: bool,
 }
 
 // The pipes of a command that is started.

@@ -1,7 +1,7 @@
 // Lines, printed one after another.
 ghost use Rattle.std.specs.Prelude.{◌≡◌, ◌++◌, IfErr};
 ghost use Rattle.cc_host.specs.Call.{part};
-ghost use Rattle.cc_run.specs.Shown.{IsShown, IsPrintError};
+ghost use Rattle.cc_run.specs.Prints.{ArePrinted, IsPrintError};
 
 use crate::RunError;
 use crate::error::print_error;
@@ -20,7 +20,7 @@ pub struct Line {
 pub(crate) fn print_all<W: World, H: Host<W>>(host: &mut H, lines: &[Line]) -> Result<(), RunError>
     ensures extends { H.log host.new ≡ H.log host.old ++ part H.log host.old host.new }
     ensures patient { H.patience host.new ≡ H.patience host.old }
-    ensures shown { IsShown lines.now result (part H.log host.old host.new) }
+    ensures printed { ArePrinted lines.now result (part H.log host.old host.new) }
     ensures kind { IfErr result IsPrintError }
 {
     for line in lines {

@@ -1,16 +1,17 @@
 // Starts the commands of a run.
-ghost use Rattle.std.specs.Prelude.{◌≡◌, ◌++◌, ◌+◌, ◌-◌, ◌<◌, ◌≤◌, ◌^◌, ℕ, IfSome, IfErr, IfOk, OnErr, length, true, Bool, OnOk};
+ghost use Rattle.std.specs.Prelude.{◌≡◌, ◌++◌, ◌+◌, ◌-◌, ◌<◌, ◌≤◌, ◌^◌, ℕ, IfErr, IfOk, OnErr, length, true, Bool, OnOk};
 ghost use Rattle.std.specs.List.{list_all};
 ghost use Rattle.cc_host.specs.Call.{part};
 ghost use Rattle.cc_jobs.specs.Seats.{Rose};
 ghost use Rattle.cc_run.specs.Children.{ArePlaced, run_of};
+ghost use Rattle.cc_run.specs.Keeping.{IsOneRun, KeepsSeat, IsFull};
 ghost use Rattle.cc_run.specs.Life.{IsNewcomer};
-ghost use Rattle.cc_run.specs.Outcome.{IsTold, IsSpawnError, EndsAt};
+ghost use Rattle.cc_run.specs.Outcome.{NamesCause, IsSpawnError, EndsAt};
 ghost use Rattle.cc_run.specs.Own.{is_of_run};
-ghost use Rattle.cc_run.specs.Paid.{Paid};
-ghost use Rattle.cc_run.specs.Part.{Goes, turns};
+ghost use Rattle.cc_run.specs.Paid.{IsPaid};
+ghost use Rattle.cc_run.specs.Part.{GoesOn, turns};
 ghost use Rattle.cc_run.specs.Planned.{asked, asked_by};
-ghost use Rattle.cc_run.specs.Printing.{IsPrinted, kept_from};
+ghost use Rattle.cc_run.specs.Printing.{IsPrinted, PrintsStarts, kept_from};
 ghost use Rattle.cc_run.specs.Started.{IsStart, IsBegun};
 
 use crate::error::start_error;
@@ -21,12 +22,10 @@ use crate::texts::announced;
 use crate::{Forwarder, Planned, RunError, Running, Shows, Step};
 use cc_host::{Host, Start, World};
 use cc_jobs::{JobFault, Jobs, Take};
-use std::alloc::Global;
 
 // Starts one command, for a caller that holds so many tokens, and gives the id of its child.
 #[tactic(auto, using(crate::proofs::StartLemmas::start_unprinted, crate::proofs::ChildLemmas::placed_push))]
 pub(crate) fn start<W: World, H: Host<W>>(
-    alloc: Global,
     host: &mut H,
     planned: &Planned,
     running: &mut Running,
@@ -36,10 +35,13 @@ pub(crate) fn start<W: World, H: Host<W>>(
     requires room { running.old.begun < 2 ^ 64 - 1 }
     ensures extends { H.log host.new ≡ H.log host.old ++ part H.log host.old host.new }
     ensures patient { H.patience host.new ≡ H.patience host.old }
-    ensures part { IsStart shows.now planned.now held running.old result running.new (part H.log host.old host.new) }
+    ensures part { IsStart shows.now planned.now held running.old result running.new
+        (part H.log host.old host.new) }
     ensures fresh { IfOk result (λ id. IsNewcomer (H.log host.old) id) }
-    ensures placed { (bound : ℕ) → running.old.begun < bound → ArePlaced bound running.old → ArePlaced bound running.new }
+    ensures placed { (bound : ℕ) → running.old.begun < bound
+        → ArePlaced bound running.old → ArePlaced bound running.new }
 {
+    let alloc = running.alloc();
     running.children.reserve(1)?;
     let lines = announced(alloc, shows, &planned.cmd)?;
     if let Err(e) = print_all(host, &lines) {
@@ -66,7 +68,6 @@ pub(crate) fn start<W: World, H: Host<W>>(
 
 // Takes a token and starts the next command under it.
 fn start_next<W: World, H: Host<W>, J: Jobs>(
-    alloc: Global,
     host: &mut H,
     jobs: &J,
     seat: &mut J::Seat,
@@ -74,29 +75,29 @@ fn start_next<W: World, H: Host<W>, J: Jobs>(
     running: &mut Running,
     shows: &Shows,
 ) -> Result<Step, RunError>
-    requires fits { J.fits jobs.now seat.old }
-    requires one_run { J.held seat.old ≡ length running.old.children }
-    requires placed { ArePlaced (length cmds.now) running.old }
+    requires one_run { IsOneRun J.fits J.held jobs.now seat.old (length cmds.now) running.old }
     requires next { running.old.begun < length cmds.now }
-    ensures fits { J.fits jobs.now seat.new }
-    ensures one_run { J.held seat.new ≡ length running.new.children }
-    ensures placed { ArePlaced (length cmds.now) running.new }
-    ensures total { J.total seat.new ≡ J.total seat.old }
-    ensures later { J.faults seat.old ≤ J.faults seat.new }
+    ensures one_run { IsOneRun J.fits J.held jobs.now seat.new (length cmds.now) running.new }
+    ensures keeps { KeepsSeat J.total J.faults seat.old seat.new }
     ensures patient { H.patience host.new ≡ H.patience host.old }
-    ensures goes { Goes (J.total seat.old) (asked shows.now cmds.now) (H.log host.old) (run_of running.old) (H.log host.new) (run_of running.new) }
-    ensures told { IsTold (asked shows.now cmds.now) result (part H.log host.old host.new) }
+    ensures goes { GoesOn H.log (J.total seat.old) (asked shows.now cmds.now)
+        host.old running.old host.new running.new }
+    ensures named { NamesCause (asked shows.now cmds.now) result (part H.log host.old host.new) }
     ensures turns { turns (part H.log host.old host.new) ≡ 0 }
     ensures failed { running.new.failed ≡ running.old.failed }
     ensures next { IfErr result (IsSpawnError (length cmds.now) (run_of running.new)) }
     ensures begun { IsBegun result running.old running.new }
-    ensures pending { result ≡ Ok Step.Pending → IfSome (J.total seat.old) (λ t. (1 ≤ t) × (J.held seat.new ≡ t)) }
-    ensures paid { Paid result (length running.new.children) (part H.log host.old host.new) (J.taken seat.old) (J.load seat.old) (J.taken seat.new) (J.load seat.new) }
+    ensures pending { result ≡ Ok Step.Pending → IsFull (J.total seat.old) (J.held seat.new) }
+    ensures paid { IsPaid J.taken J.load seat.old seat.new result
+        (length running.new.children) (part H.log host.old host.new) }
     ensures ends { IfErr result (EndsAt (H.log host.new)) }
-    ensures job_fault { result ≡ Err RunError.JobFault → Rose (J.faults seat.old) (J.faults seat.new) }
+    ensures job_fault { result ≡ Err RunError.JobFault
+        → Rose (J.faults seat.old) (J.faults seat.new) }
     ensures own { list_all is_of_run (part H.log host.old host.new) ≡ true }
-    ensures kept { OnOk result (kept_from running.old (part H.log host.old host.new) ≡ running.new) }
-    ensures lines { (tells : Bool) → IsPrinted shows.now tells cmds.now running.old result (part H.log host.old host.new) }
+    ensures kept { OnOk result (kept_from running.old (part H.log host.old host.new)
+        ≡ running.new) }
+    ensures lines { PrintsStarts shows.now cmds.now running.old result
+        (part H.log host.old host.new) }
 {
     let planned = &cmds[running.started];
     match jobs.take(seat) {
@@ -105,7 +106,7 @@ fn start_next<W: World, H: Host<W>, J: Jobs>(
         Err(JobFault) => return Err(RunError::JobFault),
     }
     let held = jobs.held(seat);
-    match start(alloc, host, planned, running, shows, held) {
+    match start(host, planned, running, shows, held) {
         Ok(_) => Ok(Step::Ready),
         Err(e) => {
             jobs.give(seat);
@@ -124,11 +125,13 @@ impl SpawnState {
         SpawnState
     }
 
-    /// Starts the next command for each token, until none comes or all are started. It is ready exactly where all are
-    /// started.
+    /// Takes a token and starts the next command under it, again and again, until no token comes or all are started. It
+    /// is ready exactly where all are started; else, over a pool that one caller owns, the seat holds the pool's total.
+    ///
+    /// Refused are a missing program, a fault of the host or of the pool, and want of memory: no command more is started
+    /// then, and the token of the start that ended it was given back. Those that were started before run on.
     pub fn poll<W: World, H: Host<W>, J: Jobs>(
         &mut self,
-        alloc: Global,
         host: &mut H,
         jobs: &J,
         seat: &mut J::Seat,
@@ -136,34 +139,38 @@ impl SpawnState {
         running: &mut Running,
         shows: &Shows,
     ) -> Result<Step, RunError>
-        requires fits { J.fits jobs.now seat.old }
-        requires one_run { (J.held seat.old ≡ length running.old.children) × (running.old.begun ≤ length cmds.now) }
-        requires placed { ArePlaced (length cmds.now) running.old }
-        ensures fits { J.fits jobs.now seat.new }
-        ensures one_run { (J.held seat.new ≡ length running.new.children) × (running.new.begun ≤ length cmds.now) }
-        ensures placed { ArePlaced (length cmds.now) running.new }
-        ensures total { J.total seat.new ≡ J.total seat.old }
-        ensures later { J.faults seat.old ≤ J.faults seat.new }
+        requires one_run { IsOneRun J.fits J.held jobs.now seat.old (length cmds.now) running.old }
+        requires within { running.old.begun ≤ length cmds.now }
+        ensures one_run { IsOneRun J.fits J.held jobs.now seat.new (length cmds.now) running.new }
+        ensures within { running.new.begun ≤ length cmds.now }
+        ensures keeps { KeepsSeat J.total J.faults seat.old seat.new }
         ensures patient { H.patience host.new ≡ H.patience host.old }
-        ensures goes { Goes (J.total seat.old) (asked shows.now cmds.now) (H.log host.old) (run_of running.old) (H.log host.new) (run_of running.new) }
-        ensures told { IsTold (asked shows.now cmds.now) result (part H.log host.old host.new) }
+        ensures goes { GoesOn H.log (J.total seat.old) (asked shows.now cmds.now)
+            host.old running.old host.new running.new }
+        ensures named { NamesCause (asked shows.now cmds.now) result
+            (part H.log host.old host.new) }
         ensures turns { turns (part H.log host.old host.new) ≡ 0 }
-        ensures grew { length running.new.children + running.old.begun ≡ length running.old.children + running.new.begun }
+        ensures grew { length running.new.children + running.old.begun
+            ≡ length running.old.children + running.new.begun }
         ensures more { running.old.begun ≤ running.new.begun }
         ensures failed { running.new.failed ≡ running.old.failed }
         ensures next { IfErr result (IsSpawnError (length cmds.now) (run_of running.new)) }
         ensures ready { result ≡ Ok Step.Ready → running.new.begun ≡ length cmds.now }
         ensures unfinished { result ≡ Ok Step.Pending → running.new.begun < length cmds.now }
-        ensures pending { result ≡ Ok Step.Pending → IfSome (J.total seat.old) (λ t. (1 ≤ t) × (J.held seat.new ≡ t)) }
-        ensures paid { Paid result (length running.new.children) (part H.log host.old host.new) (J.taken seat.old) (J.load seat.old) (J.taken seat.new) (J.load seat.new) }
+        ensures pending { result ≡ Ok Step.Pending → IsFull (J.total seat.old) (J.held seat.new) }
+        ensures paid { IsPaid J.taken J.load seat.old seat.new result
+            (length running.new.children) (part H.log host.old host.new) }
         ensures ends { IfErr result (EndsAt (H.log host.new)) }
-        ensures job_fault { result ≡ Err RunError.JobFault → Rose (J.faults seat.old) (J.faults seat.new) }
+        ensures job_fault { result ≡ Err RunError.JobFault
+            → Rose (J.faults seat.old) (J.faults seat.new) }
         ensures own { list_all is_of_run (part H.log host.old host.new) ≡ true }
-        ensures kept { OnOk result (kept_from running.old (part H.log host.old host.new) ≡ running.new) }
-        ensures lines { (tells : Bool) → IsPrinted shows.now tells cmds.now running.old result (part H.log host.old host.new) }
+        ensures kept { OnOk result (kept_from running.old (part H.log host.old host.new)
+            ≡ running.new) }
+        ensures lines { PrintsStarts shows.now cmds.now running.old result
+            (part H.log host.old host.new) }
     {
         while running.started < cmds.len() {
-            match start_next(alloc, host, jobs, seat, cmds, running, shows) {
+            match start_next(host, jobs, seat, cmds, running, shows) {
                 Ok(Step::Ready) => {}
                 Ok(Step::Pending) => return Ok(Step::Pending),
                 Err(e) => return Err(e),

@@ -23,21 +23,17 @@ pub(crate) fn cargo_line(alloc: Global, kind: LineKind, text: &[u8]) -> Mem<Line
 }
 
 // Adds each of these texts as such a line.
-pub(crate) fn push_lines(
-    alloc: Global,
-    kind: LineKind,
-    texts: &[Bytes],
-    lines: &mut Vec<Line>,
-) -> Mem<()>
+pub(crate) fn push_lines(kind: LineKind, texts: &[Bytes], lines: &mut Vec<Line>) -> Mem<()>
     ensures { OnOk result (lines.new.items ≡ lines.old.items ++ map (cargo_line kind) texts.now) }
 {
+    let alloc = *lines.allocator();
     for text in texts {
         lines.push(cargo_line(alloc, kind, text.as_slice())?)?;
     }
     Ok(())
 }
 
-// A line that tells of a command that begins or ended.
+// A line for debugging.
 fn debug_line(alloc: Global, text: &[u8]) -> Mem<Line>
     ensures { IfOk result (λ line. line ≡ debug_line text.now) }
 {
@@ -106,7 +102,8 @@ fn end_in_brackets(alloc: Global, status: Status) -> Mem<Text>
     Ok(text)
 }
 
-/// The message of a command that ended with another status than 0: how it ended, and its line.
+/// The message of a command that ended with another status than 0: how it ended, and its line as `command_line` quotes
+/// it. The words are those of the crate `cc`.
 #[tactic(auto, unfolding(crate::specs::Texts::failed_text))]
 pub fn failed_text(alloc: Global, status: Status, cmd: &Command) -> Mem<Text>
     ensures { IfOk result (λ text. text ≡ failed_text status cmd.now) }

@@ -30,9 +30,10 @@ fn is_other(ignored: Option<&[u8]>, line: &[u8]) -> bool
 }
 
 /// The lines of a standard error that are warnings: split at line feeds, each without one carriage return at its end,
-/// and without those that are then empty or the ignored line.
+/// and without those that are then empty or the ignored line. So the crate `cc` forwards what was read at once.
 pub fn stderr_warnings(alloc: Global, stderr: &[u8], ignored: Option<&[u8]>) -> Mem<Vec<Bytes>>
-    ensures { IfOk result (λ lines. lines.items ≡ warnings (option_copied ignored.entry) stderr.now) }
+    ensures { IfOk result (λ lines. lines.items
+        ≡ warnings (option_copied ignored.entry) stderr.now) }
 {
     let mut lines = Vec::new(alloc);
     for part in &pieces_of(alloc, stderr)? {

@@ -13,7 +13,7 @@ use cc_host::{Host, LineKind, OutputKind, Pipes, Ran, Status, World};
 use cc_text::{Bytes, Mem};
 use std::alloc::Global;
 
-// The lines behind a command: how it ended, and the warnings of its standard error.
+// The lines behind a command: the warnings of its standard error, and then how it ended.
 #[tactic(auto, unfolding(crate::specs::Output::behind))]
 fn lines_behind(
     alloc: Global,
@@ -23,15 +23,16 @@ fn lines_behind(
     status: Status,
     stderr: &[u8],
 ) -> Mem<Vec<Line>>
-    ensures { IfOk result (λ lines. lines.items ≡ behind shows.now always (option_copied ignored.entry) status stderr.now) }
+    ensures { IfOk result (λ lines.
+        lines.items ≡ behind shows.now always (option_copied ignored.entry) status stderr.now) }
 {
     let mut lines = Vec::new(alloc);
-    if shows.debug {
-        lines.push(ended_line(alloc, status)?)?;
-    }
     if shows.warnings && (always || status.is_success()) {
         let texts = stderr_warnings(alloc, stderr, ignored)?;
-        push_lines(alloc, LineKind::Warning, &texts, &mut lines)?;
+        push_lines(LineKind::Warning, &texts, &mut lines)?;
+    }
+    if shows.debug {
+        lines.push(ended_line(alloc, status)?)?;
     }
     Ok(lines)
 }
@@ -49,7 +50,8 @@ fn run_whole<W: World, H: Host<W>>(
 ) -> Result<Bytes, RunError>
     ensures extends { H.log host.new ≡ H.log host.old ++ part H.log host.old host.new }
     ensures patient { H.patience host.new ≡ H.patience host.old }
-    ensures part { IsOutput shows.now planned.now out always (option_copied ignored.entry) result (part H.log host.old host.new) }
+    ensures part { IsOutput shows.now planned.now out always (option_copied ignored.entry) result
+        (part H.log host.old host.new) }
 {
     let pipes = Pipes {
         out,
@@ -81,8 +83,11 @@ fn run_whole<W: World, H: Host<W>>(
     }
 }
 
-/// Runs a command whose standard output nobody reads. The warnings of its standard error are shown only where it ended
-/// with 0.
+/// Runs a command to its end in one call of the host, with its standard output discarded. Printed are, as `shows` says,
+/// a line before it, the warnings of its standard error where it ended with 0, and then its status.
+///
+/// Refused are a missing program, a fault of the host, another status than 0 and want of memory, each with place 0. A
+/// refused print or memory leaves the first of the lines printed.
 pub fn run_silent<W: World, H: Host<W>>(
     alloc: Global,
     host: &mut H,
@@ -99,8 +104,11 @@ pub fn run_silent<W: World, H: Host<W>>(
     }
 }
 
-/// Runs a command and gives what it wrote on its standard output. The warnings of its standard error are shown, without
-/// an ignored line.
+/// Runs a command to its end in one call of the host, and gives all bytes of its standard output. Printed are, as
+/// `shows` says, a line before it, the warnings of its standard error however it ended, without the ignored line, and
+/// then its status. `ignored` is for a compiler that names each source on its standard error, as Visual Studio's does.
+///
+/// It is refused as `run_silent` is; its output is then lost.
 pub fn run_output<W: World, H: Host<W>>(
     alloc: Global,
     host: &mut H,
@@ -110,7 +118,8 @@ pub fn run_output<W: World, H: Host<W>>(
 ) -> Result<Bytes, RunError>
     ensures extends { H.log host.new ≡ H.log host.old ++ part H.log host.old host.new }
     ensures patient { H.patience host.new ≡ H.patience host.old }
-    ensures part { IsOutput shows.now cmd.now Capture true (option_copied ignored.entry) result (part H.log host.old host.new) }
+    ensures part { IsOutput shows.now cmd.now Capture true (option_copied ignored.entry) result
+        (part H.log host.old host.new) }
 {
     run_whole(alloc, host, cmd, OutputKind::Capture, shows, true, ignored)
 }

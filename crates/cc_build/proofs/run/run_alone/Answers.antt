@@ -14,7 +14,7 @@ returns-in-Ok-clause-outcome g c = λ total faults taken load.
     let y = means c.run_one.new.turns.left faults taken load in (
       refl,
       alone_done t c.args.cmd.now (since (g.H.Host.log c.args.host.now) (g.H.Host.log c.run_one.new.host)) x y
-          (ran_one t c.args.cmd.now (g.H.Host.log c.args.host.now) (g.H.Host.log c.run_one.new.host) x y (Ok tt) c.in-Ok.ensures.outcome c.run_one.ensures.own c.run_one.ensures.turns c.in-Ok.ensures.spent c.run_one.ensures.bound c.in-Ok.ensures.enough (refl, refl, refl) c.in-Ok.ensures.lines),
+          (ran_one t c.args.cmd.now (g.H.Host.log c.args.host.now) (g.H.Host.log c.run_one.new.host) x y (Ok tt) c.in-Ok.ensures.outcome c.run_one.ensures.own c.run_one.ensures.turns.left c.in-Ok.ensures.spent c.run_one.ensures.bound c.in-Ok.ensures.enough (refl, refl, refl) c.in-Ok.ensures.lines),
     )
 
 pub returns-in-Err-clause-outcome : goal.returns-in-Err-clause-outcome
@@ -23,7 +23,7 @@ returns-in-Err-clause-outcome g c = λ total faults taken load.
     let x = means c.args.turns.now.left faults taken load in
     let y = means c.run_one.new.turns.left faults taken load in
     alone_refused t c.args.cmd.now (since (g.H.Host.log c.args.host.now) (g.H.Host.log c.run_one.new.host)) x y c.in-Err.e c.of_run.result
-    (ran_one t c.args.cmd.now (g.H.Host.log c.args.host.now) (g.H.Host.log c.run_one.new.host) x y (Err c.in-Err.e) c.in-Err.ensures.outcome c.run_one.ensures.own c.run_one.ensures.turns c.in-Err.ensures.spent c.run_one.ensures.bound c.in-Err.ensures.enough (refl, refl, refl) c.in-Err.ensures.lines)
+    (ran_one t c.args.cmd.now (g.H.Host.log c.args.host.now) (g.H.Host.log c.run_one.new.host) x y (Err c.in-Err.e) c.in-Err.ensures.outcome c.run_one.ensures.own c.run_one.ensures.turns.left c.in-Err.ensures.spent c.run_one.ensures.bound c.in-Err.ensures.enough (refl, refl, refl) c.in-Err.ensures.lines)
     (subst (λ (l : List Planned). (c.of_run.result ≡ run_error l c.in-Err.e) ⊎ (c.of_run.result ≡ no_memory)) c.from_ref.ensures.value c.of_run.ensures)
 
 pub returns-in-Ok-clause-aside : goal.returns-in-Ok-clause-aside

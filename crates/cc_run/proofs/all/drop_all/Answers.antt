@@ -12,8 +12,10 @@ loop-child-preserved g c =
     record {
       fits = c.give.ensures.fits;
       held = grind (arith, common_steps);
-      total = c.give.ensures.total ∙ c.loop-child.invariant.total;
-      later = omega (arith, c.give.ensures.later, c.loop-child.invariant.later);
+      keeps = record {
+        same_total = c.give.ensures.total ∙ c.loop-child.invariant.keeps.same_total;
+        later = omega (arith, c.give.ensures.later, c.loop-child.invariant.keeps.later);
+      };
       counts = grind (arith, common_steps);
       patient = c.abandon.ensures.keeps.1 ∙ c.loop-child.invariant.patient;
       adds = s.0;

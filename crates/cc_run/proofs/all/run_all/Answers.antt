@@ -23,12 +23,7 @@ drop_all-requires-clause-own g c = λ _ _. (goes_runs {r = nothing} (subst (λ k
 pub returns-clause-turns : goal.returns-clause-turns
 returns-clause-turns g c =
     let t : turns (since (g.H.Host.log c.args.host.now) (g.H.Host.log c.drop_all.new.host)) ≡ turns (since (g.H.Host.log c.args.host.now) (g.H.Host.log c.run_passes-result.new.host)) = turns_gone (run_of c.run_passes-result.new.running).live c.run_passes-result.ensures.goes c.drop_all.ensures.adds in
-    omega (arith, t, c.run_passes-result.ensures.turns)
-
-pub returns-clause-used : goal.returns-clause-used
-returns-clause-used g c =
-    let t : turns (since (g.H.Host.log c.args.host.now) (g.H.Host.log c.drop_all.new.host)) ≡ turns (since (g.H.Host.log c.args.host.now) (g.H.Host.log c.run_passes-result.new.host)) = turns_gone (run_of c.run_passes-result.new.running).live c.run_passes-result.ensures.goes c.drop_all.ensures.adds in
-    omega (arith, t, c.run_passes-result.ensures.used)
+    record { left = omega (arith, t, c.run_passes-result.ensures.turns.left); used = omega (arith, t, c.run_passes-result.ensures.turns.used) }
 
 pub returns-clause-outcome : goal.returns-clause-outcome
 returns-clause-outcome g c =
@@ -39,11 +34,11 @@ returns-clause-outcome g c =
       run = run_of c.run_passes-result.new.running;
       mid = g.H.Host.log c.run_passes-result.new.host;
       work = w;
-      kept = c.run_passes-result.ensures.told.2;
+      kept = c.run_passes-result.ensures.named.2;
       dropped = c.drop_all.ensures.adds;
       whole = goes_gone w c.drop_all.ensures.adds tt;
-      missing_is = missing_gone live w c.drop_all.ensures.adds ∙ c.run_passes-result.ensures.told.0;
-      faults_are = faults_gone live w c.drop_all.ensures.adds ∙ c.run_passes-result.ensures.told.1;
+      missing_is = missing_gone live w c.drop_all.ensures.adds ∙ c.run_passes-result.ensures.named.0;
+      faults_are = faults_gone live w c.drop_all.ensures.adds ∙ c.run_passes-result.ensures.named.1;
       done = c.run_passes-result.ensures.done;
       ends = c.run_passes-result.ensures.ends;
       paid = subst (λ n. Paid c.run_passes-result.result n (since (g.H.Host.log c.args.host.now) (g.H.Host.log c.run_passes-result.new.host)) (g.J.Jobs.taken c.args.seat.now) (g.J.Jobs.load c.args.seat.now) (g.J.Jobs.taken c.drop_all.new.seat) (g.J.Jobs.load c.drop_all.new.seat)) (sym (as_many c.run_passes-result.new.running)) paid;
@@ -83,4 +78,4 @@ returns-clause-warnings g c =
 pub returns-clause-twice : goal.returns-clause-twice
 returns-clause-twice g c =
     let w : Goes (g.J.Jobs.total c.args.seat.now) (asked c.args.shows.now c.args.cmds.now) (g.H.Host.log c.args.host.now) nothing (g.H.Host.log c.run_passes-result.new.host) (run_of c.run_passes-result.new.running) = subst (λ k. Goes (g.J.Jobs.total c.args.seat.now) (asked c.args.shows.now c.args.cmds.now) (g.H.Host.log c.args.host.now) (run_of k) (g.H.Host.log c.run_passes-result.new.host) (run_of c.run_passes-result.new.running)) c.new-running.ensures c.run_passes-result.ensures.goes in
-    debug_twice c.args.shows.now c.args.cmds.now (g.H.Host.log c.args.host.now) (g.H.Host.log c.run_passes-result.new.host) (g.H.Host.log c.drop_all.new.host) (run_of c.run_passes-result.new.running) c.run_passes-result.result (returns-clause-debug g c) c.drop_all.ensures.adds w.steps.run w.steps.asked c.run_passes-result.ensures.done c.run_passes-result.ensures.told.2
+    debug_twice c.args.shows.now c.args.cmds.now (g.H.Host.log c.args.host.now) (g.H.Host.log c.run_passes-result.new.host) (g.H.Host.log c.drop_all.new.host) (run_of c.run_passes-result.new.running) c.run_passes-result.result (returns-clause-debug g c) c.drop_all.ensures.adds w.steps.run w.steps.asked c.run_passes-result.ensures.done c.run_passes-result.ensures.named.2

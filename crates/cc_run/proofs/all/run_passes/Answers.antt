@@ -1,14 +1,13 @@
-use Rattle.std.proofs.Common.{◌≡◌, ◌+◌, Ok, Err, Bool, true, false, length, arith, subst, ◌∙◌}
+use Rattle.std.proofs.Common.{◌≡◌, ◌+◌, Ok, Err, Bool, true, false, length, arith, ◌∙◌}
 use Rattle.std.proofs.lemmas.Grind.{common_steps}
 use Rattle.cc_host.specs.Part.{since}
 use Rattle.cc_run.specs.Part.{turns}
-use Rattle.cc_run.proofs.Runs.{goes_on, turns_both, told_then}
+use Rattle.cc_run.proofs.Runs.{goes_on, turns_both, named_then}
 use Rattle.cc_run.specs.Paid.{PaidAnd}
-use Rattle.cc_run.specs.declared.error.RunError.{RunError}
+use Rattle.cc_run.proofs.KeepingLemmas.{keeps_then, made_then}
 use Rattle.cc_run.proofs.Payments.{paid_then, paid_any}
 use Rattle.cc_run.proofs.PatienceLemmas.{lasts_then}
 use Rattle.cc_run.proofs.OwnLemmas.{own_then}
-use Rattle.cc_run.specs.Printing.{IsPrinted}
 use Rattle.cc_run.proofs.PrintingLemmas.{kept_then, printed_then, printed_outcome}
 use Rattle.cc_run.proofs.all.run_passes.Goals as goal
 
@@ -16,45 +15,40 @@ pub passes-preserved : goal.passes-preserved
 passes-preserved g c =
     let both : turns (since (g.H.Host.log c.args.host.now) (g.H.Host.log c.pass.new.host)) ≡ turns (since (g.H.Host.log c.args.host.now) (g.H.Host.log c.passes.host)) + turns (since (g.H.Host.log c.passes.host) (g.H.Host.log c.pass.new.host)) = turns_both c.passes.invariant.goes c.pass.ensures.goes in
     record {
-      fits = c.pass.ensures.fits;
-      held = c.pass.ensures.one_run.0;
-      within = c.pass.ensures.one_run.1;
-      placed = c.pass.ensures.placed;
-      total = c.pass.ensures.total ∙ c.passes.invariant.total;
-      later = omega (arith, c.pass.ensures.later, c.passes.invariant.later);
+      one_run = c.pass.ensures.one_run;
+      within = c.pass.ensures.within;
+      keeps = keeps_then c.passes.invariant.keeps c.pass.ensures.keeps;
       patient = c.pass.ensures.patient ∙ c.passes.invariant.patient;
-      goes = goes_on c.passes.invariant.total c.passes.invariant.goes c.pass.ensures.goes;
+      goes = goes_on c.passes.invariant.keeps.same_total c.passes.invariant.goes c.pass.ensures.goes;
       unfinished = grind (arith, common_steps);
-      told = told_then (tt {0}) (Ok false) c.passes.invariant.goes c.pass.ensures.goes c.passes.invariant.told (grind (arith, common_steps));
-      paid = paid_then {T = Bool} {E = RunError} (g.H.Host.log c.args.host.now) (g.H.Host.log c.passes.host) (g.H.Host.log c.pass.new.host) (Ok false) (length c.pass.new.running.children) (g.J.Jobs.taken c.args.seat.now) (g.J.Jobs.load c.args.seat.now) (g.J.Jobs.taken c.passes.seat) (g.J.Jobs.load c.passes.seat) (g.J.Jobs.taken c.pass.new.seat) (g.J.Jobs.load c.pass.new.seat) c.passes.invariant.goes.extends c.pass.ensures.goes.extends c.passes.invariant.paid (grind (arith, common_steps, c.pass.ensures.paid));
-      lasts = lasts_then (g.H.Host.patience c.args.host.now) (g.H.Host.patience c.pass.new.host) c.passes.invariant.total (c.pass.ensures.patient ∙ c.passes.invariant.patient) c.passes.invariant.goes c.pass.ensures.goes c.passes.invariant.lasts c.pass.ensures.waited;
-      left = omega (arith, both, c.pass.ensures.turns, c.passes.invariant.left);
-      used = omega (arith, both, c.pass.ensures.used, c.passes.invariant.used);
+      named = named_then (tt {0}) (Ok false) c.passes.invariant.goes c.pass.ensures.goes c.passes.invariant.named (grind (arith, common_steps));
+      paid = paid_then {T = Bool} (g.H.Host.log c.args.host.now) (g.H.Host.log c.passes.host) (g.H.Host.log c.pass.new.host) (Ok false) (length c.pass.new.running.children) (g.J.Jobs.taken c.args.seat.now) (g.J.Jobs.load c.args.seat.now) (g.J.Jobs.taken c.passes.seat) (g.J.Jobs.load c.passes.seat) (g.J.Jobs.taken c.pass.new.seat) (g.J.Jobs.load c.pass.new.seat) c.passes.invariant.goes.extends c.pass.ensures.goes.extends c.passes.invariant.paid (grind (arith, common_steps, c.pass.ensures.paid));
+      lasts = lasts_then (g.H.Host.patience c.args.host.now) (g.H.Host.patience c.pass.new.host) c.passes.invariant.keeps.same_total (c.pass.ensures.patient ∙ c.passes.invariant.patient) c.passes.invariant.goes c.pass.ensures.goes c.passes.invariant.lasts c.pass.ensures.waited;
+      turns = made_then (since (g.H.Host.log c.args.host.now) (g.H.Host.log c.pass.new.host)) (since (g.H.Host.log c.args.host.now) (g.H.Host.log c.passes.host)) (since (g.H.Host.log c.passes.host) (g.H.Host.log c.pass.new.host)) both c.passes.invariant.turns c.pass.ensures.turns;
       own = own_then (g.H.Host.log c.args.host.now) (g.H.Host.log c.passes.host) (g.H.Host.log c.pass.new.host) c.passes.invariant.goes.extends c.pass.ensures.goes.extends c.passes.invariant.own c.pass.ensures.own;
-      tells = c.pass.ensures.tells ∙ c.passes.invariant.tells;
       kept = kept_then c.args.running.now c.passes.running c.pass.new.running (g.H.Host.log c.args.host.now) (g.H.Host.log c.passes.host) (g.H.Host.log c.pass.new.host) c.passes.invariant.goes.extends c.pass.ensures.goes.extends c.passes.invariant.kept c.in-Ok-false.ensures.kept;
-      lines = printed_then {T = Bool} c.args.shows.now true c.args.cmds.now c.args.running.now c.passes.running (g.H.Host.log c.args.host.now) (g.H.Host.log c.passes.host) (g.H.Host.log c.pass.new.host) (Ok false) c.passes.invariant.goes.extends c.pass.ensures.goes.extends c.passes.invariant.kept c.passes.invariant.lines (subst (λ t. IsPrinted {T = Bool} c.args.shows.now t c.args.cmds.now c.passes.running (Ok false) (since (g.H.Host.log c.passes.host) (g.H.Host.log c.pass.new.host))) c.passes.invariant.tells c.in-Ok-false.ensures.lines);
+      lines = printed_then {T = Bool} c.args.batch.shows.now c.args.batch.warns c.args.batch.cmds.now c.args.running.now c.passes.running (g.H.Host.log c.args.host.now) (g.H.Host.log c.passes.host) (g.H.Host.log c.pass.new.host) (Ok false) c.passes.invariant.goes.extends c.pass.ensures.goes.extends c.passes.invariant.kept c.passes.invariant.lines c.in-Ok-false.ensures.lines;
     }
 
 pub returns-in-Err-clause-goes : goal.returns-in-Err-clause-goes
-returns-in-Err-clause-goes g c = goes_on c.passes.invariant.total c.passes.invariant.goes c.pass.ensures.goes
+returns-in-Err-clause-goes g c = goes_on c.passes.invariant.keeps.same_total c.passes.invariant.goes c.pass.ensures.goes
 
 pub returns-clause-goes : goal.returns-clause-goes
-returns-clause-goes g c = goes_on c.passes.invariant.total c.passes.invariant.goes c.pass.ensures.goes
+returns-clause-goes g c = goes_on c.passes.invariant.keeps.same_total c.passes.invariant.goes c.pass.ensures.goes
 
 pub returns-in-Err-clause-paid : goal.returns-in-Err-clause-paid
-returns-in-Err-clause-paid g c = paid_then {T = Unit {0}} {E = RunError} (g.H.Host.log c.args.host.now) (g.H.Host.log c.passes.host) (g.H.Host.log c.pass.new.host) (Err c.in-Err.e) (length c.pass.new.running.children) (g.J.Jobs.taken c.args.seat.now) (g.J.Jobs.load c.args.seat.now) (g.J.Jobs.taken c.passes.seat) (g.J.Jobs.load c.passes.seat) (g.J.Jobs.taken c.pass.new.seat) (g.J.Jobs.load c.pass.new.seat) c.passes.invariant.goes.extends c.pass.ensures.goes.extends c.passes.invariant.paid (grind (arith, common_steps, c.in-Err.ensures.paid))
+returns-in-Err-clause-paid g c = paid_then {T = Unit {0}} (g.H.Host.log c.args.host.now) (g.H.Host.log c.passes.host) (g.H.Host.log c.pass.new.host) (Err c.in-Err.e) (length c.pass.new.running.children) (g.J.Jobs.taken c.args.seat.now) (g.J.Jobs.load c.args.seat.now) (g.J.Jobs.taken c.passes.seat) (g.J.Jobs.load c.passes.seat) (g.J.Jobs.taken c.pass.new.seat) (g.J.Jobs.load c.pass.new.seat) c.passes.invariant.goes.extends c.pass.ensures.goes.extends c.passes.invariant.paid (grind (arith, common_steps, c.in-Err.ensures.paid))
 
 pub returns-clause-paid : goal.returns-clause-paid
 returns-clause-paid g c =
-    let p : PaidAnd 0 0 (since (g.H.Host.log c.args.host.now) (g.H.Host.log c.pass.new.host)) (g.J.Jobs.taken c.args.seat.now) (g.J.Jobs.load c.args.seat.now) (g.J.Jobs.taken c.pass.new.seat) (g.J.Jobs.load c.pass.new.seat) = paid_then {T = Bool} {E = RunError} (g.H.Host.log c.args.host.now) (g.H.Host.log c.passes.host) (g.H.Host.log c.pass.new.host) (Ok true) (length c.pass.new.running.children) (g.J.Jobs.taken c.args.seat.now) (g.J.Jobs.load c.args.seat.now) (g.J.Jobs.taken c.passes.seat) (g.J.Jobs.load c.passes.seat) (g.J.Jobs.taken c.pass.new.seat) (g.J.Jobs.load c.pass.new.seat) c.passes.invariant.goes.extends c.pass.ensures.goes.extends c.passes.invariant.paid (grind (arith, common_steps, c.pass.ensures.paid)) in
+    let p : PaidAnd 0 0 (since (g.H.Host.log c.args.host.now) (g.H.Host.log c.pass.new.host)) (g.J.Jobs.taken c.args.seat.now) (g.J.Jobs.load c.args.seat.now) (g.J.Jobs.taken c.pass.new.seat) (g.J.Jobs.load c.pass.new.seat) = paid_then {T = Bool} (g.H.Host.log c.args.host.now) (g.H.Host.log c.passes.host) (g.H.Host.log c.pass.new.host) (Ok true) (length c.pass.new.running.children) (g.J.Jobs.taken c.args.seat.now) (g.J.Jobs.load c.args.seat.now) (g.J.Jobs.taken c.passes.seat) (g.J.Jobs.load c.passes.seat) (g.J.Jobs.taken c.pass.new.seat) (g.J.Jobs.load c.pass.new.seat) c.passes.invariant.goes.extends c.pass.ensures.goes.extends c.passes.invariant.paid (grind (arith, common_steps, c.pass.ensures.paid)) in
     paid_any (since (g.H.Host.log c.args.host.now) (g.H.Host.log c.pass.new.host)) (g.J.Jobs.taken c.args.seat.now) (g.J.Jobs.load c.args.seat.now) (g.J.Jobs.taken c.pass.new.seat) (g.J.Jobs.load c.pass.new.seat) c.outcome_of.result (length c.pass.new.running.children) p
 
 pub returns-in-Err-clause-lasts : goal.returns-in-Err-clause-lasts
-returns-in-Err-clause-lasts g c = lasts_then (g.H.Host.patience c.args.host.now) (g.H.Host.patience c.pass.new.host) c.passes.invariant.total (c.pass.ensures.patient ∙ c.passes.invariant.patient) c.passes.invariant.goes c.pass.ensures.goes c.passes.invariant.lasts c.pass.ensures.waited
+returns-in-Err-clause-lasts g c = lasts_then (g.H.Host.patience c.args.host.now) (g.H.Host.patience c.pass.new.host) c.passes.invariant.keeps.same_total (c.pass.ensures.patient ∙ c.passes.invariant.patient) c.passes.invariant.goes c.pass.ensures.goes c.passes.invariant.lasts c.pass.ensures.waited
 
 pub returns-clause-lasts : goal.returns-clause-lasts
-returns-clause-lasts g c = lasts_then (g.H.Host.patience c.args.host.now) (g.H.Host.patience c.pass.new.host) c.passes.invariant.total (c.pass.ensures.patient ∙ c.passes.invariant.patient) c.passes.invariant.goes c.pass.ensures.goes c.passes.invariant.lasts c.pass.ensures.waited
+returns-clause-lasts g c = lasts_then (g.H.Host.patience c.args.host.now) (g.H.Host.patience c.pass.new.host) c.passes.invariant.keeps.same_total (c.pass.ensures.patient ∙ c.passes.invariant.patient) c.passes.invariant.goes c.pass.ensures.goes c.passes.invariant.lasts c.pass.ensures.waited
 
 pub returns-in-Err-clause-own : goal.returns-in-Err-clause-own
 returns-in-Err-clause-own g c = own_then (g.H.Host.log c.args.host.now) (g.H.Host.log c.passes.host) (g.H.Host.log c.pass.new.host) c.passes.invariant.goes.extends c.pass.ensures.goes.extends c.passes.invariant.own c.pass.ensures.own
@@ -63,7 +57,7 @@ pub returns-clause-own : goal.returns-clause-own
 returns-clause-own g c = own_then (g.H.Host.log c.args.host.now) (g.H.Host.log c.passes.host) (g.H.Host.log c.pass.new.host) c.passes.invariant.goes.extends c.pass.ensures.goes.extends c.passes.invariant.own c.pass.ensures.own
 
 pub returns-in-Err-clause-lines : goal.returns-in-Err-clause-lines
-returns-in-Err-clause-lines g c = printed_then {T = Bool} c.args.shows.now true c.args.cmds.now c.args.running.now c.passes.running (g.H.Host.log c.args.host.now) (g.H.Host.log c.passes.host) (g.H.Host.log c.pass.new.host) (Err c.in-Err.e) c.passes.invariant.goes.extends c.pass.ensures.goes.extends c.passes.invariant.kept c.passes.invariant.lines (subst (λ t. IsPrinted {T = Bool} c.args.shows.now t c.args.cmds.now c.passes.running (Err c.in-Err.e) (since (g.H.Host.log c.passes.host) (g.H.Host.log c.pass.new.host))) c.passes.invariant.tells c.in-Err.ensures.lines)
+returns-in-Err-clause-lines g c = printed_then {T = Bool} c.args.batch.shows.now c.args.batch.warns c.args.batch.cmds.now c.args.running.now c.passes.running (g.H.Host.log c.args.host.now) (g.H.Host.log c.passes.host) (g.H.Host.log c.pass.new.host) (Err c.in-Err.e) c.passes.invariant.goes.extends c.pass.ensures.goes.extends c.passes.invariant.kept c.passes.invariant.lines c.in-Err.ensures.lines
 
 pub returns-clause-lines : goal.returns-clause-lines
-returns-clause-lines g c = printed_outcome c.args.shows.now true c.args.cmds.now c.args.running.now (since (g.H.Host.log c.args.host.now) (g.H.Host.log c.pass.new.host)) c.pass.new.running.failed c.outcome_of.result c.outcome_of.ensures (printed_then {T = Bool} c.args.shows.now true c.args.cmds.now c.args.running.now c.passes.running (g.H.Host.log c.args.host.now) (g.H.Host.log c.passes.host) (g.H.Host.log c.pass.new.host) (Ok true) c.passes.invariant.goes.extends c.pass.ensures.goes.extends c.passes.invariant.kept c.passes.invariant.lines (subst (λ t. IsPrinted {T = Bool} c.args.shows.now t c.args.cmds.now c.passes.running (Ok true) (since (g.H.Host.log c.passes.host) (g.H.Host.log c.pass.new.host))) c.passes.invariant.tells c.in-Ok-true.ensures.lines))
+returns-clause-lines g c = printed_outcome c.args.batch.shows.now c.args.batch.warns c.args.batch.cmds.now c.args.running.now (since (g.H.Host.log c.args.host.now) (g.H.Host.log c.pass.new.host)) c.pass.new.running.failed c.outcome_of.result c.outcome_of.ensures (printed_then {T = Bool} c.args.batch.shows.now c.args.batch.warns c.args.batch.cmds.now c.args.running.now c.passes.running (g.H.Host.log c.args.host.now) (g.H.Host.log c.passes.host) (g.H.Host.log c.pass.new.host) (Ok true) c.passes.invariant.goes.extends c.pass.ensures.goes.extends c.passes.invariant.kept c.passes.invariant.lines c.in-Ok-true.ensures.lines)

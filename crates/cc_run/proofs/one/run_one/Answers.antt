@@ -3,14 +3,14 @@ use Rattle.std.specs.Prelude.{Some, None, OnOk, IfErr, length}
 use Rattle.cc_host.specs.Part.{since}
 use Rattle.cc_host.proofs.Parts.{since_extends}
 use Rattle.cc_run.specs.Children.{run_of}
-use Rattle.cc_run.specs.Outcome.{IsTold, IsDone, IsRunError}
+use Rattle.cc_run.specs.Outcome.{NamesCause, IsDone, IsRunError}
 use Rattle.cc_run.specs.Part.{Goes, turns}
 use Rattle.cc_run.specs.Planned.{asked}
 use Rattle.cc_run.proofs.Drops.{goes_runs, begun_runs}
 use Rattle.cc_run.specs.Patience.{Lasts}
 use Rattle.cc_run.proofs.PatienceLemmas.{whole_bound, whole_unspent, open_at, calm_bound, calm_unspent}
-use Rattle.cc_run.proofs.SoloLemmas.{alone_start, solo_lives, solo_unstarted, solo_whole, solo_turns, turns_pair, alone_then, told_pair}
-use Rattle.cc_run.proofs.StartLemmas.{start_told, start_turns}
+use Rattle.cc_run.proofs.SoloLemmas.{alone_start, solo_lives, solo_unstarted, solo_whole, solo_turns, turns_pair, alone_then, named_pair}
+use Rattle.cc_run.proofs.StartLemmas.{start_named, start_turns}
 use Rattle.cc_run.proofs.OwnLemmas.{own_start, own_then, own_dropped}
 use Rattle.cc_run.specs.Printing.{IsPrinted}
 use Rattle.cc_run.proofs.DebugLemmas.{debug_all, debug_twice}
@@ -24,10 +24,7 @@ pub returns-in-Err-clause-outcome : goal.returns-in-Err-clause-outcome
 returns-in-Err-clause-outcome g c = solo_unstarted c.args.shows.now c.args.cmd.now c.new-running.result c.start.new.running (g.H.Host.log c.args.host.now) (g.H.Host.log c.start.new.host) c.in-Err.e c.start.ensures.extends c.new-running.ensures c.in-Err.ensures.part
 
 pub returns-in-Err-clause-turns : goal.returns-in-Err-clause-turns
-returns-in-Err-clause-turns g c = let none : turns (since (g.H.Host.log c.args.host.now) (g.H.Host.log c.start.new.host)) ≡ 0 = start_turns c.args.shows.now c.args.cmd.now 0 c.new-running.result c.start.new.running (since (g.H.Host.log c.args.host.now) (g.H.Host.log c.start.new.host)) (Err c.in-Err.e) c.in-Err.ensures.part in omega (arith, none)
-
-pub returns-in-Err-clause-used : goal.returns-in-Err-clause-used
-returns-in-Err-clause-used g c = let none : turns (since (g.H.Host.log c.args.host.now) (g.H.Host.log c.start.new.host)) ≡ 0 = start_turns c.args.shows.now c.args.cmd.now 0 c.new-running.result c.start.new.running (since (g.H.Host.log c.args.host.now) (g.H.Host.log c.start.new.host)) (Err c.in-Err.e) c.in-Err.ensures.part in omega (arith, none)
+returns-in-Err-clause-turns g c = let none : turns (since (g.H.Host.log c.args.host.now) (g.H.Host.log c.start.new.host)) ≡ 0 = start_turns c.args.shows.now c.args.cmd.now 0 c.new-running.result c.start.new.running (since (g.H.Host.log c.args.host.now) (g.H.Host.log c.start.new.host)) (Err c.in-Err.e) c.in-Err.ensures.part in record { left = omega (arith, none); used = omega (arith, none) }
 
 pub drop_all-requires-clause-own : goal.drop_all-requires-clause-own
 drop_all-requires-clause-own g c = λ _ _. goes_runs c.wait_out-result.ensures.goes (begun_runs (g.H.Host.log c.args.host.now) (g.H.Host.log c.start.new.host) (run_of c.start.new.running) c.start.ensures.extends (alone_start c.args.shows.now c.args.cmd.now c.in-Ok.field-0 c.new-running.result c.start.new.running (g.H.Host.log c.args.host.now) (g.H.Host.log c.start.new.host) c.start.ensures.extends c.new-running.ensures c.in-Ok.ensures.part c.in-Ok.ensures.fresh).run)
@@ -37,13 +34,13 @@ returns-clause-outcome g c =
     let r = c.wait_out-result.result in
     let fin = run_of c.wait_out-result.new.running in
     solo_whole (asked c.args.shows.now (c.args.cmd.now ∷ [])) (run_of c.start.new.running) fin (g.H.Host.log c.args.host.now) (g.H.Host.log c.start.new.host) (g.H.Host.log c.wait_out-result.new.host) (g.H.Host.log c.drop_all.new.host) r (alone_start c.args.shows.now c.args.cmd.now c.in-Ok.field-0 c.new-running.result c.start.new.running (g.H.Host.log c.args.host.now) (g.H.Host.log c.start.new.host) c.start.ensures.extends c.new-running.ensures c.in-Ok.ensures.part c.in-Ok.ensures.fresh)
-    (subst (λ l. Goes (Some c.take.new.seat.total) (asked c.args.shows.now l) (g.H.Host.log c.start.new.host) (run_of c.start.new.running) (g.H.Host.log c.wait_out-result.new.host) fin) c.from_ref-cmds.ensures.value c.wait_out-result.ensures.goes)
+    (subst (λ l. Goes (Some c.take.new.seat.total) (asked c.args.shows.now l) (g.H.Host.log c.start.new.host) (run_of c.start.new.running) (g.H.Host.log c.wait_out-result.new.host) fin) c.from_ref.ensures.value c.wait_out-result.ensures.goes)
     c.wait_out-result.ensures.free
-    (start_told c.args.shows.now c.args.cmd.now 0 c.new-running.result c.start.new.running (since (g.H.Host.log c.args.host.now) (g.H.Host.log c.start.new.host)) (c.args.cmd.now ∷ []) c.in-Ok.field-0 c.in-Ok.ensures.part)
-    (subst (λ l. IsTold (asked c.args.shows.now l) r (since (g.H.Host.log c.start.new.host) (g.H.Host.log c.wait_out-result.new.host))) c.from_ref-cmds.ensures.value c.wait_out-result.ensures.told)
+    (start_named c.args.shows.now c.args.cmd.now 0 c.new-running.result c.start.new.running (since (g.H.Host.log c.args.host.now) (g.H.Host.log c.start.new.host)) (c.args.cmd.now ∷ []) c.in-Ok.field-0 c.in-Ok.ensures.part)
+    (subst (λ l. NamesCause (asked c.args.shows.now l) r (since (g.H.Host.log c.start.new.host) (g.H.Host.log c.wait_out-result.new.host))) c.from_ref.ensures.value c.wait_out-result.ensures.named)
     c.drop_all.ensures.adds
-    (subst (λ l. OnOk r (IsDone (length (asked c.args.shows.now l)) fin × (fin.failed ≡ None))) c.from_ref-cmds.ensures.value c.wait_out-result.ensures.done)
-    (subst (λ l. IfErr r (IsRunError (length (asked c.args.shows.now l)) fin)) c.from_ref-cmds.ensures.value c.wait_out-result.ensures.cause)
+    (subst (λ l. OnOk r (IsDone (length (asked c.args.shows.now l)) fin × (fin.failed ≡ None))) c.from_ref.ensures.value c.wait_out-result.ensures.done)
+    (subst (λ l. IfErr r (IsRunError (length (asked c.args.shows.now l)) fin)) c.from_ref.ensures.value c.wait_out-result.ensures.cause)
     c.wait_out-result.ensures.ends
     c.wait_out-result.ensures.tokenless
 
@@ -53,15 +50,7 @@ returns-clause-turns g c =
     let total : turns (since (g.H.Host.log c.args.host.now) (g.H.Host.log c.wait_out-result.new.host)) ≡ turns (since (g.H.Host.log c.args.host.now) (g.H.Host.log c.start.new.host)) + turns (since (g.H.Host.log c.start.new.host) (g.H.Host.log c.wait_out-result.new.host)) = turns_pair (g.H.Host.log c.args.host.now) (g.H.Host.log c.start.new.host) (g.H.Host.log c.wait_out-result.new.host) st.extends c.wait_out-result.ensures.goes.extends in
     let none : turns (since (g.H.Host.log c.args.host.now) (g.H.Host.log c.start.new.host)) ≡ 0 = start_turns c.args.shows.now c.args.cmd.now 0 c.new-running.result c.start.new.running (since (g.H.Host.log c.args.host.now) (g.H.Host.log c.start.new.host)) (Ok c.in-Ok.field-0) c.in-Ok.ensures.part in
     let dropped : turns (since (g.H.Host.log c.args.host.now) (g.H.Host.log c.drop_all.new.host)) ≡ turns (since (g.H.Host.log c.args.host.now) (g.H.Host.log c.wait_out-result.new.host)) = solo_turns (g.H.Host.log c.args.host.now) (g.H.Host.log c.wait_out-result.new.host) (g.H.Host.log c.drop_all.new.host) (run_of c.wait_out-result.new.running).live (since_extends (g.H.Host.log c.args.host.now) (g.H.Host.log c.start.new.host) (g.H.Host.log c.wait_out-result.new.host) st.extends c.wait_out-result.ensures.goes.extends) c.drop_all.ensures.adds in
-    omega (arith, total, none, dropped, c.wait_out-result.ensures.turns)
-
-pub returns-clause-used : goal.returns-clause-used
-returns-clause-used g c =
-    let st = alone_start c.args.shows.now c.args.cmd.now c.in-Ok.field-0 c.new-running.result c.start.new.running (g.H.Host.log c.args.host.now) (g.H.Host.log c.start.new.host) c.start.ensures.extends c.new-running.ensures c.in-Ok.ensures.part c.in-Ok.ensures.fresh in
-    let total : turns (since (g.H.Host.log c.args.host.now) (g.H.Host.log c.wait_out-result.new.host)) ≡ turns (since (g.H.Host.log c.args.host.now) (g.H.Host.log c.start.new.host)) + turns (since (g.H.Host.log c.start.new.host) (g.H.Host.log c.wait_out-result.new.host)) = turns_pair (g.H.Host.log c.args.host.now) (g.H.Host.log c.start.new.host) (g.H.Host.log c.wait_out-result.new.host) st.extends c.wait_out-result.ensures.goes.extends in
-    let none : turns (since (g.H.Host.log c.args.host.now) (g.H.Host.log c.start.new.host)) ≡ 0 = start_turns c.args.shows.now c.args.cmd.now 0 c.new-running.result c.start.new.running (since (g.H.Host.log c.args.host.now) (g.H.Host.log c.start.new.host)) (Ok c.in-Ok.field-0) c.in-Ok.ensures.part in
-    let dropped : turns (since (g.H.Host.log c.args.host.now) (g.H.Host.log c.drop_all.new.host)) ≡ turns (since (g.H.Host.log c.args.host.now) (g.H.Host.log c.wait_out-result.new.host)) = solo_turns (g.H.Host.log c.args.host.now) (g.H.Host.log c.wait_out-result.new.host) (g.H.Host.log c.drop_all.new.host) (run_of c.wait_out-result.new.running).live (since_extends (g.H.Host.log c.args.host.now) (g.H.Host.log c.start.new.host) (g.H.Host.log c.wait_out-result.new.host) st.extends c.wait_out-result.ensures.goes.extends) c.drop_all.ensures.adds in
-    omega (arith, total, none, dropped, c.wait_out-result.ensures.used)
+    record { left = omega (arith, total, none, dropped, c.wait_out-result.ensures.turns.left); used = omega (arith, total, none, dropped, c.wait_out-result.ensures.turns.used) }
 
 pub returns-in-Err-clause-bound : goal.returns-in-Err-clause-bound
 returns-in-Err-clause-bound g c = let none : turns (since (g.H.Host.log c.args.host.now) (g.H.Host.log c.start.new.host)) ≡ 0 = start_turns c.args.shows.now c.args.cmd.now 0 c.new-running.result c.start.new.running (since (g.H.Host.log c.args.host.now) (g.H.Host.log c.start.new.host)) (Err c.in-Err.e) c.in-Err.ensures.part in calm_bound (g.H.Host.patience c.args.host.now) (since (g.H.Host.log c.args.host.now) (g.H.Host.log c.start.new.host)) none
@@ -74,7 +63,7 @@ returns-clause-bound g c =
     let st = alone_start c.args.shows.now c.args.cmd.now c.in-Ok.field-0 c.new-running.result c.start.new.running (g.H.Host.log c.args.host.now) (g.H.Host.log c.start.new.host) c.start.ensures.extends c.new-running.ensures c.in-Ok.ensures.part c.in-Ok.ensures.fresh in
     let none : turns (since (g.H.Host.log c.args.host.now) (g.H.Host.log c.start.new.host)) ≡ 0 = start_turns c.args.shows.now c.args.cmd.now 0 c.new-running.result c.start.new.running (since (g.H.Host.log c.args.host.now) (g.H.Host.log c.start.new.host)) (Ok c.in-Ok.field-0) c.in-Ok.ensures.part in
     let fin = run_of c.wait_out-result.new.running in
-    let one : c.wait_out-result.new.running.begun ≤ 1 = omega (arith, c.wait_out-result.ensures.one_run.1, ap length c.from_ref-cmds.ensures.value) in
+    let one : c.wait_out-result.new.running.begun ≤ 1 = omega (arith, c.wait_out-result.ensures.all, ap length c.from_ref.ensures.value) in
     let lasts = subst (λ p. Lasts p (g.H.Host.log c.start.new.host) (run_of c.start.new.running) (g.H.Host.log c.wait_out-result.new.host)) c.start.ensures.patient c.wait_out-result.ensures.lasts in
     whole_bound 1 (g.H.Host.log c.args.host.now) (g.H.Host.log c.start.new.host) (g.H.Host.log c.wait_out-result.new.host) (g.H.Host.log c.drop_all.new.host) (run_of c.start.new.running) fin c.start.ensures.extends st.run none c.wait_out-result.ensures.goes.extends c.wait_out-result.ensures.goes.steps.run one c.drop_all.ensures.adds (g.H.Host.patience c.args.host.now) c.log-least.ensures.least lasts
 
@@ -83,9 +72,9 @@ returns-clause-enough g c =
     let st = alone_start c.args.shows.now c.args.cmd.now c.in-Ok.field-0 c.new-running.result c.start.new.running (g.H.Host.log c.args.host.now) (g.H.Host.log c.start.new.host) c.start.ensures.extends c.new-running.ensures c.in-Ok.ensures.part c.in-Ok.ensures.fresh in
     let none : turns (since (g.H.Host.log c.args.host.now) (g.H.Host.log c.start.new.host)) ≡ 0 = start_turns c.args.shows.now c.args.cmd.now 0 c.new-running.result c.start.new.running (since (g.H.Host.log c.args.host.now) (g.H.Host.log c.start.new.host)) (Ok c.in-Ok.field-0) c.in-Ok.ensures.part in
     let fin = run_of c.wait_out-result.new.running in
-    let one : c.wait_out-result.new.running.begun ≤ 1 = omega (arith, c.wait_out-result.ensures.one_run.1, ap length c.from_ref-cmds.ensures.value) in
+    let one : c.wait_out-result.new.running.begun ≤ 1 = omega (arith, c.wait_out-result.ensures.all, ap length c.from_ref.ensures.value) in
     let lasts = subst (λ p. Lasts p (g.H.Host.log c.start.new.host) (run_of c.start.new.running) (g.H.Host.log c.wait_out-result.new.host)) c.start.ensures.patient c.wait_out-result.ensures.lasts in
-    λ e. whole_unspent 1 (g.H.Host.log c.args.host.now) (g.H.Host.log c.start.new.host) (g.H.Host.log c.wait_out-result.new.host) (g.H.Host.log c.drop_all.new.host) (run_of c.start.new.running) fin c.start.ensures.extends st.run none c.wait_out-result.ensures.goes.extends c.wait_out-result.ensures.goes.steps.run one c.drop_all.ensures.adds (g.H.Host.patience c.args.host.now) c.log-least.ensures.least lasts (open_at 1 fin c.wait_out-result.result e (subst (λ l. IfErr c.wait_out-result.result (IsRunError (length (asked c.args.shows.now l)) fin)) c.from_ref-cmds.ensures.value c.wait_out-result.ensures.cause))
+    λ e. whole_unspent 1 (g.H.Host.log c.args.host.now) (g.H.Host.log c.start.new.host) (g.H.Host.log c.wait_out-result.new.host) (g.H.Host.log c.drop_all.new.host) (run_of c.start.new.running) fin c.start.ensures.extends st.run none c.wait_out-result.ensures.goes.extends c.wait_out-result.ensures.goes.steps.run one c.drop_all.ensures.adds (g.H.Host.patience c.args.host.now) c.log-least.ensures.least lasts (open_at 1 fin c.wait_out-result.result e (subst (λ l. IfErr c.wait_out-result.result (IsRunError (length (asked c.args.shows.now l)) fin)) c.from_ref.ensures.value c.wait_out-result.ensures.cause))
 
 pub returns-in-Err-clause-own : goal.returns-in-Err-clause-own
 returns-in-Err-clause-own g c = own_start c.args.shows.now c.args.cmd.now 0 c.new-running.result c.start.new.running (since (g.H.Host.log c.args.host.now) (g.H.Host.log c.start.new.host)) (Err c.in-Err.e) c.in-Err.ensures.part
@@ -112,7 +101,7 @@ returns-clause-lines g c =
     let s = g.H.Host.log c.start.new.host in
     let w = g.H.Host.log c.wait_out-result.new.host in
     let k = start_kept c.args.shows.now false (c.args.cmd.now ∷ []) c.args.cmd.now 0 c.new-running.result c.start.new.running (since log s) c.in-Ok.field-0 c.in-Ok.ensures.part in
-    let q = subst (λ l. IsPrinted c.args.shows.now false l c.start.new.running r (since s w)) c.from_ref-cmds.ensures.value c.wait_out-result.ensures.lines in
+    let q = subst (λ l. IsPrinted c.args.shows.now false l c.start.new.running r (since s w)) c.from_ref.ensures.value c.wait_out-result.ensures.lines in
     let a = printed_then c.args.shows.now false (c.args.cmd.now ∷ []) c.new-running.result c.start.new.running log s w r c.start.ensures.extends c.wait_out-result.ensures.goes.extends k.0 k.1 q in
     subst (λ k. IsPrinted c.args.shows.now false (c.args.cmd.now ∷ []) k r (since log (g.H.Host.log c.drop_all.new.host))) c.new-running.ensures
     (printed_dropped c.args.shows.now false (c.args.cmd.now ∷ []) c.new-running.result log w (g.H.Host.log c.drop_all.new.host) (run_of c.wait_out-result.new.running).live r (since_extends log s w c.start.ensures.extends c.wait_out-result.ensures.goes.extends) c.drop_all.ensures.adds a)
@@ -154,7 +143,7 @@ returns-clause-twice g c =
     let s = g.H.Host.log c.start.new.host in
     let w = g.H.Host.log c.wait_out-result.new.host in
     let st = alone_start c.args.shows.now c.args.cmd.now c.in-Ok.field-0 c.new-running.result c.start.new.running log s c.start.ensures.extends c.new-running.ensures c.in-Ok.ensures.part c.in-Ok.ensures.fresh in
-    let go = subst (λ l. Goes (Some c.take.new.seat.total) (asked c.args.shows.now l) s (run_of c.start.new.running) w fin) c.from_ref-cmds.ensures.value c.wait_out-result.ensures.goes in
+    let go = subst (λ l. Goes (Some c.take.new.seat.total) (asked c.args.shows.now l) s (run_of c.start.new.running) w fin) c.from_ref.ensures.value c.wait_out-result.ensures.goes in
     let a = alone_then all log s w (run_of c.start.new.running) fin st go c.wait_out-result.ensures.free in
-    let told = told_pair all log s w Ready r st.extends go.extends (start_told c.args.shows.now c.args.cmd.now 0 c.new-running.result c.start.new.running (since log s) cmds c.in-Ok.field-0 c.in-Ok.ensures.part) (subst (λ l. IsTold (asked c.args.shows.now l) r (since s w)) c.from_ref-cmds.ensures.value c.wait_out-result.ensures.told) in
-    debug_twice c.args.shows.now cmds log w (g.H.Host.log c.drop_all.new.host) fin r (returns-clause-debug g c) c.drop_all.ensures.adds a.run a.begun (subst (λ l. OnOk r (IsDone (length (asked c.args.shows.now l)) fin × (fin.failed ≡ None))) c.from_ref-cmds.ensures.value c.wait_out-result.ensures.done) told.2
+    let reported = named_pair all log s w Ready r st.extends go.extends (start_named c.args.shows.now c.args.cmd.now 0 c.new-running.result c.start.new.running (since log s) cmds c.in-Ok.field-0 c.in-Ok.ensures.part) (subst (λ l. NamesCause (asked c.args.shows.now l) r (since s w)) c.from_ref.ensures.value c.wait_out-result.ensures.named) in
+    debug_twice c.args.shows.now cmds log w (g.H.Host.log c.drop_all.new.host) fin r (returns-clause-debug g c) c.drop_all.ensures.adds a.run a.begun (subst (λ l. OnOk r (IsDone (length (asked c.args.shows.now l)) fin × (fin.failed ≡ None))) c.from_ref.ensures.value c.wait_out-result.ensures.done) reported.2

@@ -1,8 +1,9 @@
 use Rattle.std.proofs.Common.{◌≡◌, ◌+◌, ◌-◌, ◌≤◌, length, Ok, true, Bool}
 use Rattle.std.specs.List.{list_all}
 use Rattle.cc_host.specs.Part.{since}
-use Rattle.cc_run.specs.Children.{ArePlaced, run_of}
-use Rattle.cc_run.specs.Outcome.{IsTold}
+use Rattle.cc_run.specs.Children.{run_of}
+use Rattle.cc_run.specs.Keeping.{IsOneRun, KeepsSeat}
+use Rattle.cc_run.specs.Outcome.{NamesCause}
 use Rattle.cc_run.specs.Own.{is_of_run}
 use Rattle.cc_run.specs.Paid.{PaidAnd}
 use Rattle.cc_run.specs.Part.{Goes, turns}
@@ -14,15 +15,12 @@ abbrev pub invariant-loop-running : goal.invariant-loop-running
 invariant-loop-running g l =
     let part = since (g.H.Host.log l.fn.host) (g.H.Host.log l.host) in
     record {
-      fits : g.J.Jobs.fits l.jobs l.seat;
-      held : g.J.Jobs.held l.seat ≡ length l.running.children;
+      one_run : IsOneRun g.J.Jobs.fits g.J.Jobs.held l.jobs l.seat (length l.cmds) l.running;
       within : l.running.begun ≤ length l.cmds;
-      placed : ArePlaced (length l.cmds) l.running;
-      total : g.J.Jobs.total l.seat ≡ g.J.Jobs.total l.fn.seat;
-      later : g.J.Jobs.faults l.fn.seat ≤ g.J.Jobs.faults l.seat;
+      keeps : KeepsSeat g.J.Jobs.total g.J.Jobs.faults l.fn.seat l.seat;
       patient : g.H.Host.patience l.host ≡ g.H.Host.patience l.fn.host;
       goes : Goes (g.J.Jobs.total l.fn.seat) (asked l.shows l.cmds) (g.H.Host.log l.fn.host) (run_of l.fn.running) (g.H.Host.log l.host) (run_of l.running);
-      told : IsTold {T = Unit {0}} (asked l.shows l.cmds) (Ok tt) part;
+      named : NamesCause {T = Unit {0}} (asked l.shows l.cmds) (Ok tt) part;
       turns : turns part ≡ 0;
       grew : length l.running.children + l.fn.running.begun ≡ length l.fn.running.children + l.running.begun;
       more : l.fn.running.begun ≤ l.running.begun;
@@ -30,7 +28,7 @@ invariant-loop-running g l =
       paid : PaidAnd 0 0 part (g.J.Jobs.taken l.fn.seat) (g.J.Jobs.load l.fn.seat) (g.J.Jobs.taken l.seat) (g.J.Jobs.load l.seat);
       own : list_all is_of_run part ≡ true;
       kept : kept_from l.fn.running part ≡ l.running;
-      lines : (tells : Bool) → printed part ≡ due_from l.shows tells l.cmds l.fn.running part;
+      lines : (warns : Bool) → printed part ≡ due_from l.shows warns l.cmds l.fn.running part;
     }
 
 abbrev pub decreases-loop-running : goal.decreases-loop-running

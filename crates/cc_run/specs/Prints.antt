@@ -20,9 +20,10 @@ print_fault (HostFault call why) = Fault call why ∷ []
 print_fault _ = []
 
 -- all of these lines were printed, or the first ones and then one was refused
-abbrev pub IsShown : {T : Type 0} → List Line → Result T RunError → List Event → Type 0
-IsShown lines (Ok _) part = part ≡ prints lines
-IsShown lines (Err e) part = (count : ℕ) × ((count ≤ length lines) × ((e ≡ NoMemory) ⊎ (count < length lines)) × (part ≡ prints (take count lines) ++ print_fault e))
+abbrev pub ArePrinted : {T : Type 0} → List Line → Result T RunError → List Event → Type 0
+ArePrinted lines (Ok _) part = part ≡ prints lines
+ArePrinted lines (Err e) part = (count : ℕ) × ((count ≤ length lines) × ((e ≡ NoMemory) ⊎ (count < length lines))
+    × (part ≡ prints (take count lines) ++ print_fault e))
 
 -- the refusals of a print
 abbrev pub IsPrintError : RunError → Type 0
