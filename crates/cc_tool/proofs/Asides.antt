@@ -20,7 +20,9 @@ use Rattle.cc_host.specs.Question.{Answer, answers, answer_of, NoTwice}
 use Rattle.cc_tool.specs.Asked.{question_event, question_events, start, Asked}
 use Rattle.cc_tool.specs.Asks.{Asks, IsWorlds}
 use Rattle.cc_tool.specs.Excused.{Excused, IsExcused, weight, weight_after}
+use Rattle.cc_tool.specs.Founded.{Founded, IsFounded, is_probe_fault}
 use Rattle.cc_host.specs.declared.question.Verdict.{Verdict}
+use Rattle.cc_tool.proofs.ProbingLemmas.{founded_then}
 use Rattle.cc_tool.specs.Probing.{is_asked, Follows, May, Stand, stand, stand_after}
 
 -- an event that no question leaves
@@ -87,6 +89,15 @@ aside_excused : (n : ℕ) (part : List Event) → question_events part ≡ [] �
 aside_excused n [] e = tt
 aside_excused n (event ∷ part) e = let k = aside event part e in (no_excuse n event k.0, aside_excused (weight_after n event) part k.1)
 
+founded_event : (failed : Bool) (event : Event) → IsAside event → IsFounded failed event
+founded_event failed (Answered question files outcome) h = absurd (cc)
+founded_event failed (Reused question verdict) h = absurd (cc)
+founded_event failed event h = tt
+
+aside_founded : (failed : Bool) (part : List Event) → question_events part ≡ [] → Founded failed part
+aside_founded failed [] e = tt
+aside_founded failed (event ∷ part) e = let k = aside event part e in (founded_event failed event k.0, aside_founded (is_probe_fault event) part k.1)
+
 may_aside : (dir : List ℕ) (s : Stand) (event : Event) → IsAside event → May dir s event
 may_aside dir s (Answered question files outcome) h = absurd (cc)
 may_aside dir s (Opened path bytes) h = absurd (cc)
@@ -138,6 +149,7 @@ asked_none steady world dir part e =
       once = subst NoTwice (sym none) tt;
       closed = aside_drops part e ∙ sym (aside_opens part e);
       excused = aside_excused 0 part e;
+      founded = aside_founded false part e;
       probing = aside_follows dir start part e;
       dropped = aside_files start part e;
       honest = λ _. subst (All (IsWorlds world)) (sym none) (search rules);
@@ -162,6 +174,7 @@ module _ (steady : Bool) (world : Question → Outcome) (dir : List ℕ) (a b c 
     once = subst NoTwice (sym told) k.once;
     closed = closed_too ∙ k.closed ∙ sym opened;
     excused = excused_on 0 a (b ++ c) (aside_excused 0 a first) (subst (λ (n : ℕ). Excused n (b ++ c)) (sym (aside_weight 0 a first)) (excused_on 0 b c k.excused (aside_excused (weight 0 b) c last)));
+    founded = founded_then a (b ++ c) (aside_founded false a first) (founded_then b c k.founded (aside_founded false c last));
     probing = follows_on dir start a (b ++ c) (aside_follows dir start a first) (subst (λ (s : Stand). Follows dir s (b ++ c)) (sym (aside_stand a first)) (follows_on dir start b c k.probing (aside_follows dir (stand start b) c last)));
     dropped = ap (λ (s : Stand). s.files) (stand_on start a (b ++ c) ∙ ap (λ s. stand s (b ++ c)) (aside_stand a first) ∙ stand_on start b c) ∙ aside_files (stand start b) c last ∙ k.dropped;
     honest = λ h. subst (All (IsWorlds world)) (sym told) (k.honest h);
@@ -171,7 +184,7 @@ module _ (steady : Bool) (world : Question → Outcome) (dir : List ℕ) (a b c 
 pub asked_by : (steady : Bool) (world : Question → Outcome) (dir : List ℕ) (before after : List Event) (new : List (Question × Verdict)) → Asks steady world dir before after [] new → Asked steady world dir (since before after) × (new ≡ answers (since before after))
 asked_by steady world dir before after new k =
     let part : since before after ≡ k.part = ap (λ l. since before l) k.extends ∙ drop-append_seam before k.part in
-    let all : Asked steady world dir k.part = record { once = subst NoTwice k.tells (k.once tt); closed = k.closed; excused = k.excused; probing = k.probing; dropped = k.dropped; honest = k.honest } in
+    let all : Asked steady world dir k.part = record { once = subst NoTwice k.tells (k.once tt); closed = k.closed; excused = k.excused; founded = k.founded; probing = k.probing; dropped = k.dropped; honest = k.honest } in
     (subst (λ (p : List Event). Asked steady world dir p) (sym part) all, k.tells ∙ ap answers (sym part))
 
 fault_quiet : (b : Bool) (event : Event) → b ≡ true → (if b then [] else event ∷ []) ≡ []

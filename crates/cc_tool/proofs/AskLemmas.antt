@@ -25,7 +25,7 @@ use Rattle.cc_tool.specs.Known.{Has, as_asked, asked}
 use Rattle.cc_tool.specs.Asks.{Asks, IsWorlds}
 use Rattle.cc_tool.specs.Probing.{is_asked, Probes}
 use Rattle.cc_tool.proofs.KnownLemmas.{once_last, settles_has, settles_last}
-use Rattle.cc_tool.proofs.ProbingLemmas.{follows_then, excused_then, probes_found}
+use Rattle.cc_tool.proofs.ProbingLemmas.{follows_then, excused_then, founded_then, probes_found}
 
 -- no question
 pub asks_none : {steady : Bool} {world : Question → Outcome} {dir : List ℕ} (log : List Event) (known : List Answer) → Asks steady world dir log log known known
@@ -37,6 +37,7 @@ asks_none log known = record {
   asked = refl;
   closed = refl;
   excused = tt;
+  founded = tt;
   probing = tt;
   dropped = refl;
   honest = λ s k d l. absurd (omega (arith, l));
@@ -52,6 +53,7 @@ asks_of {steady} {world} {dir} {before} {after} {old} {new} {told} p e once hone
   asked = p.asked;
   closed = sym (append-nil (drops p.part)) ∙ sym p.queue;
   excused = p.excused;
+  founded = p.founded;
   probing = p.follows;
   dropped = p.files;
   honest = λ s. subst (λ (l : List Answer). All (IsWorlds world) l) (sym p.tells) (honest s);
@@ -81,6 +83,7 @@ asks_then {steady} {world} {dir} {l} {m} {n} {a} {b} {c} s t =
       asked = list_all-append is_asked s.part t.part ∙ and_from _ _ s.asked t.asked;
       closed = flat_map-append drop_of s.part t.part ∙ ap (λ x. x ++ drops t.part) s.closed ∙ ap (λ x. opens s.part ++ x) t.closed ∙ sym (flat_map-append open_of s.part t.part);
       excused = excused_then s.part t.part s.excused t.excused;
+      founded = founded_then s.part t.part s.founded t.founded;
       probing = f.0;
       dropped = f.1;
       honest = λ e. subst (λ (x : List Answer). All (IsWorlds world) x) (sym (flat_map-append answer_of s.part t.part)) (All-append (IsWorlds world) (answers s.part) (answers t.part) (s.honest e) (t.honest e));
@@ -131,9 +134,6 @@ asked_command q n = as_itself q.ask q n
 
 pub settles_asked : (known : List Answer) (r : Result Verdict NoMemory) (p : Question) (q : Question) → p ≡ asked q → IfOk r (λ v. Settles known (λ look. look p) v) → IfOk r (λ v. Settles known (λ look. look (asked q)) v)
 settles_asked known r p q is s = subst (λ (x : Question). IfOk r (λ v. Settles known (λ look. look x) v)) is s
-
-pub isnt : {P : Type 0} → (IsTrue false ↔ P) → P → ⊥
-isnt both p = let t = both.1 p in (cc)
 
 -- ---- a call that asks is quiet
 

@@ -5,6 +5,7 @@ pub mod FamilyLemmas
 pub mod KnownLemmas
 pub mod LevelLemmas
 pub mod OpenLemmas
+pub mod OwnLemmas
 pub mod ProbeLemmas
 pub mod ProbingLemmas
 pub mod SettleLemmas

@@ -23,6 +23,8 @@ use Rattle.cc_host.specs.Question.{Answer, answers, answer_of, exists_question}
 use Rattle.cc_host.specs.Verdict.{verdict_of}
 use Rattle.cc_tool.specs.declared.kinds.FileKind.{FileKind}
 use Rattle.cc_tool.specs.Excused.{weight_of, weight_after, weight, IsExcused, Excused}
+use Rattle.cc_tool.specs.Founded.{Founded, IsFounded, is_probe_fault}
+use Rattle.cc_tool.specs.Known.{MayKeep}
 use Rattle.cc_tool.specs.Files.{suffix_of, contents_of, needs_files, probe_path}
 use Rattle.cc_tool.specs.Probing.{is_asked, File, without, Stand, stand_after, stand, May, Follows, IsServed, paths, Probes, heard}
 
@@ -128,6 +130,25 @@ weight_shift n m (e ∷ part) none =
 weight_adds : (n : ℕ) (part : List Event) → answers part ≡ [] → n + weight 0 part ≤ weight n part
 weight_adds n part none = let zero_more : n + 0 ≡ n = omega arith in subst (λ (k : ℕ). n + weight 0 part ≤ weight k part) zero_more (weight_shift n 0 part none)
 
+-- ---- what verdicts rest on
+
+is_founded_more : (failed : Bool) (e : Event) → IsFounded false e → IsFounded failed e
+is_founded_more failed (Answered q f Unanswered) h = absurd (cc)
+is_founded_more failed (Reused q v) h = h
+is_founded_more failed e h = tt
+
+founded_more : (failed : Bool) (part : List Event) → Founded false part → Founded failed part
+founded_more failed [] h = tt
+founded_more failed (e ∷ part) h = (is_founded_more failed e h.0, h.1)
+
+founded_both : (failed : Bool) (a b : List Event) → Founded failed a → Founded false b → Founded failed (a ++ b)
+founded_both failed [] b h k = founded_more failed b k
+founded_both failed (e ∷ a) b h k = (h.0, founded_both (is_probe_fault e) a b h.1 k)
+
+-- what is founded in two parts is in both together
+pub founded_then : (a b : List Event) → Founded false a → Founded false b → Founded false (a ++ b)
+founded_then a b h k = founded_both false a b h k
+
 -- ---- parts one after the other
 
 queue_then : (f m t oa ob da db : List (List ℕ)) → f ++ oa ≡ da ++ m → m ++ ob ≡ db ++ t → f ++ (oa ++ ob) ≡ (da ++ db) ++ t
@@ -147,6 +168,7 @@ both_excuse {dir} {l} {m} {n} {a} {b} {c} {t} {u} {i} {j} {k} p q w =
           ap (λ x. paths a ++ x) (flat_map-append open_of p.part q.part) ∙ queue_then (paths a) (paths b) (paths c) (opens p.part) (opens q.part) (drops p.part) (drops q.part) p.queue q.queue ∙ ap (λ x. x ++ paths c) (sym (flat_map-append drop_of p.part q.part));
       excused = excused_then p.part q.part p.excused q.excused;
       weighs = subst (λ (x : ℕ). k ≤ x) (sym (weight_both 0 p.part q.part)) w;
+      founded = founded_then p.part q.part p.founded q.founded;
       tells = flat_map-append answer_of p.part q.part ∙ ap (λ x. x ++ answers q.part) p.tells ∙ ap (λ x. t ++ x) q.tells;
     }
 
@@ -164,10 +186,10 @@ probes_more {dir} {l} {m} {n} {a} {b} {c} {t} {i} {j} p q =
 -- ---- single events
 
 pub probes_none : {dir : List ℕ} (log : List Event) (files : List File) → Probes dir log log files files [] 0
-probes_none log files = record { part = []; extends = sym (append-nil log); asked = refl; follows = tt; files = refl; queue = append-nil (paths files); excused = tt; weighs = omega arith; tells = refl }
+probes_none log files = record { part = []; extends = sym (append-nil log); asked = refl; follows = tt; files = refl; queue = append-nil (paths files); excused = tt; weighs = omega arith; founded = tt; tells = refl }
 
 pub probes_drawn : {dir : List ℕ} {before after : List Event} (files : List File) (word : ℕ) → after ≡ before ++ Drawn word ∷ [] → Probes dir before after files files [] 0
-probes_drawn files word e = record { part = Drawn word ∷ []; extends = e; asked = refl; follows = (tt, tt); files = refl; queue = append-nil (paths files); excused = (tt, tt); weighs = omega arith; tells = refl }
+probes_drawn files word e = record { part = Drawn word ∷ []; extends = e; asked = refl; follows = (tt, tt); files = refl; queue = append-nil (paths files); excused = (tt, tt); weighs = omega arith; founded = (tt, tt); tells = refl }
 
 pub probes_opened : {dir : List ℕ} {before after : List Event} {path bytes : List ℕ} (files : List File) (word : ℕ) (kind : FileKind) → path ≡ probe_path dir word (suffix_of kind) → bytes ≡ contents_of kind → after ≡ before ++ Drawn word ∷ Opened path bytes ∷ [] → Probes dir before after files (files ++ (path, contents_of kind) ∷ []) [] 0
 probes_opened {dir} {before} {after} {path} {bytes} files word kind p b e = record {
@@ -179,6 +201,7 @@ probes_opened {dir} {before} {after} {path} {bytes} files word kind p b e = reco
   queue = sym (map-append (λ (f : File). f.0) files ((path, contents_of kind) ∷ []));
   excused = (tt, (tt, tt));
   weighs = omega arith;
+  founded = (tt, (tt, tt));
   tells = refl;
 }
 
@@ -192,6 +215,7 @@ probes_taken {dir} {before} {after} {path} files word kind p e = record {
   queue = append-nil (paths files);
   excused = (tt, (tt, tt));
   weighs = omega arith;
+  founded = (tt, (tt, tt));
   tells = refl;
 }
 
@@ -205,14 +229,15 @@ probes_file_fault files word why e = record {
   queue = append-nil (paths files);
   excused = (tt, (tt, tt));
   weighs = omega arith;
+  founded = (tt, (tt, tt));
   tells = refl;
 }
 
 pub probes_folder : {dir : List ℕ} {before after : List Event} (files : List File) → after ≡ before ++ Made ForProbes dir ∷ [] → Probes dir before after files files [] 0
-probes_folder {dir} files e = record { part = Made ForProbes dir ∷ []; extends = e; asked = refl; follows = (refl, tt); files = refl; queue = append-nil (paths files); excused = (tt, tt); weighs = omega arith; tells = refl }
+probes_folder {dir} files e = record { part = Made ForProbes dir ∷ []; extends = e; asked = refl; follows = (refl, tt); files = refl; queue = append-nil (paths files); excused = (tt, tt); weighs = omega arith; founded = (tt, tt); tells = refl }
 
 pub probes_folder_fault : {dir : List ℕ} {before after : List Event} (files : List File) (why : Why) → after ≡ before ++ Fault (MakeDir ForProbes) why ∷ [] → Probes dir before after files files [] 10
-probes_folder_fault files why e = record { part = Fault (MakeDir ForProbes) why ∷ []; extends = e; asked = refl; follows = (tt, tt); files = refl; queue = append-nil (paths files); excused = (tt, tt); weighs = omega arith; tells = refl }
+probes_folder_fault files why e = record { part = Fault (MakeDir ForProbes) why ∷ []; extends = e; asked = refl; follows = (tt, tt); files = refl; queue = append-nil (paths files); excused = (tt, tt); weighs = omega arith; founded = (tt, tt); tells = refl }
 
 same_path : (path : List ℕ) → bytes_eq path path ≡ true
 same_path path = (bytes_eq-Decides path path).1 refl
@@ -231,24 +256,25 @@ probes_dropped path bytes rest e = record {
   queue = append-nil (paths ((path, bytes) ∷ rest));
   excused = (tt, tt);
   weighs = omega arith;
+  founded = (tt, tt);
   tells = refl;
 }
 
-pub probes_reused : {dir : List ℕ} {before after : List Event} (files : List File) (q : Question) (v : Verdict) → after ≡ before ++ Reused q v ∷ [] → Probes dir before after files files ((q, v) ∷ []) 0
-probes_reused files q v e = record { part = Reused q v ∷ []; extends = e; asked = refl; follows = (tt, tt); files = refl; queue = append-nil (paths files); excused = (tt, tt); weighs = omega arith; tells = refl }
+pub probes_reused : {dir : List ℕ} {before after : List Event} (files : List File) (q : Question) (v : Verdict) → MayKeep q v → after ≡ before ++ Reused q v ∷ [] → Probes dir before after files files ((q, v) ∷ []) 0
+probes_reused files q v may e = record { part = Reused q v ∷ []; extends = e; asked = refl; follows = (tt, tt); files = refl; queue = append-nil (paths files); excused = (tt, tt); weighs = omega arith; founded = (may, tt); tells = refl }
 
 pub probes_found : {dir : List ℕ} {before after : List Event} (path : List ℕ) (there : Bool) → after ≡ before ++ Answered (exists_question path) None (Exists there) ∷ [] → Probes dir before after [] [] ((exists_question path, verdict_of (exists_question path) (Exists there)) ∷ []) 0
-probes_found path there e = record { part = Answered (exists_question path) None (Exists there) ∷ []; extends = e; asked = refl; follows = (refl, tt); files = refl; queue = refl; excused = (tt, tt); weighs = omega arith; tells = refl }
+probes_found path there e = record { part = Answered (exists_question path) None (Exists there) ∷ []; extends = e; asked = refl; follows = (refl, tt); files = refl; queue = refl; excused = (tt, tt); weighs = omega arith; founded = (tt, tt); tells = refl }
 
-probes_answered : {dir : List ℕ} {before after : List Event} (files : List File) (q : Question) (carried : ProbeFiles) (o : Outcome) → IsServed dir files q (Some carried) → after ≡ before ++ Answered q (Some carried) o ∷ [] → Probes dir before after files files ((q, verdict_of q o) ∷ []) 0
-probes_answered files q carried o s e = record { part = Answered q (Some carried) o ∷ []; extends = e; asked = refl; follows = (s, tt); files = refl; queue = append-nil (paths files); excused = (tt, tt); weighs = omega arith; tells = refl }
+probes_answered : {dir : List ℕ} {before after : List Event} (files : List File) (q : Question) (carried : ProbeFiles) (o : Outcome) → IsFounded false (Answered q (Some carried) o) → IsServed dir files q (Some carried) → after ≡ before ++ Answered q (Some carried) o ∷ [] → Probes dir before after files files ((q, verdict_of q o) ∷ []) 0
+probes_answered files q carried o founded s e = record { part = Answered q (Some carried) o ∷ []; extends = e; asked = refl; follows = (s, tt); files = refl; queue = append-nil (paths files); excused = (tt, tt); weighs = omega arith; founded = (founded, tt); tells = refl }
 
 -- a question that was asked with its files
 pub probes_probed : {dir : List ℕ} {before after : List Event} (files : List File) (q : Question) (carried : ProbeFiles) (why : Why) (result : Result Outcome NoMemory) → IsServed dir files q (Some carried) → after ≡ before ++ probed q carried why result → Probes dir before after files files (heard q result) 0
-probes_probed {dir} {before} {after} files q carried why (Ok Unanswered) s e = record { part = probed q carried why (Ok Unanswered); extends = e; asked = refl; follows = (tt, (s, tt)); files = refl; queue = append-nil (paths files); excused = (tt, (tt, tt)); weighs = omega arith; tells = refl }
-probes_probed files q carried why (Ok NoTool) s e = probes_answered files q carried NoTool s e
-probes_probed files q carried why (Ok (Exists there)) s e = probes_answered files q carried (Exists there) s e
-probes_probed files q carried why (Ok (Done status out err)) s e = probes_answered files q carried (Done status out err) s e
+probes_probed {dir} {before} {after} files q carried why (Ok Unanswered) s e = record { part = probed q carried why (Ok Unanswered); extends = e; asked = refl; follows = (tt, (s, tt)); files = refl; queue = append-nil (paths files); excused = (tt, (tt, tt)); weighs = omega arith; founded = (tt, (refl, tt)); tells = refl }
+probes_probed files q carried why (Ok NoTool) s e = probes_answered files q carried NoTool tt s e
+probes_probed files q carried why (Ok (Exists there)) s e = probes_answered files q carried (Exists there) tt s e
+probes_probed files q carried why (Ok (Done status out err)) s e = probes_answered files q carried (Done status out err) tt s e
 probes_probed {dir} {before} {after} files q carried why (Err x) s e = subst (λ (l : List Event). Probes dir before l files files [] 0) (sym (e ∙ append-nil before)) (probes_none before files)
 
 -- behind its cause, a question that couldn't be asked
@@ -265,6 +291,7 @@ probes_unasked {dir} {l} {m} {n} {a} {b} {t} {i} q p ten needs e =
           ap (λ x. paths a ++ x) (flat_map-append open_of p.part (Unasked q ∷ []) ∙ append-nil (opens p.part)) ∙ p.queue ∙ ap (λ x. x ++ paths b) (sym (flat_map-append drop_of p.part (Unasked q ∷ []) ∙ append-nil (drops p.part)));
       excused = excused_both 0 p.part (Unasked q ∷ []) p.excused ((omega (arith, ten, p.weighs), needs), tt);
       weighs = omega arith;
+      founded = founded_then p.part (Unasked q ∷ []) p.founded (tt, tt);
       tells = flat_map-append answer_of p.part (Unasked q ∷ []) ∙ ap (λ x. x ++ (q, NoVerdict) ∷ []) p.tells;
     }
 
@@ -274,4 +301,4 @@ probes_last {dir} {l} {m} {n} {a} {b} {c} {t} {i} {j} p q = subst (λ (x : List 
 
 -- what a part excuses need not be used
 pub probes_less : {dir : List ℕ} {l m : List Event} {a b : List File} {t : List Answer} {i : ℕ} → Probes dir l m a b t i → Probes dir l m a b t 0
-probes_less {dir} {l} {m} {a} {b} {t} {i} p = record { part = p.part; extends = p.extends; asked = p.asked; follows = p.follows; files = p.files; queue = p.queue; excused = p.excused; weighs = omega arith; tells = p.tells }
+probes_less {dir} {l} {m} {a} {b} {t} {i} p = record { part = p.part; extends = p.extends; asked = p.asked; follows = p.follows; files = p.files; queue = p.queue; excused = p.excused; weighs = omega arith; founded = p.founded; tells = p.tells }

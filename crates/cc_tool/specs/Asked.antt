@@ -1,5 +1,5 @@
 -- What the questions of a whole call leave in its part of the log.
-use Rattle.std.specs.Prelude.{◌≡◌, ℕ, Bool, true, List, [], ◌∷◌, None, if◌then◌else◌}
+use Rattle.std.specs.Prelude.{◌≡◌, ℕ, Bool, true, false, List, [], ◌∷◌, None, if◌then◌else◌}
 use Rattle.std.specs.List.{All, flat_map}
 use Rattle.cc_host.specs.declared.event.Event.{Event}
 use Rattle.cc_host.specs.declared.question.Outcome.{Outcome}
@@ -8,6 +8,7 @@ use Rattle.cc_host.specs.Probe.{opens, drops}
 use Rattle.cc_host.specs.Question.{answers, NoTwice}
 use Rattle.cc_tool.specs.Asks.{IsWorlds}
 use Rattle.cc_tool.specs.Excused.{Excused}
+use Rattle.cc_tool.specs.Founded.{Founded}
 use Rattle.cc_tool.specs.Probing.{is_asked, Follows, Stand, stand}
 
 abbrev pub question_event : Event → List Event
@@ -22,11 +23,13 @@ abbrev pub start : Stand
 start = record { word = None; files = [] }
 
 -- No question is told twice. Each probe file was made in this folder by a word drawn right before, with its own contents, and dropped. Each question
--- was asked with the files that it needs, and each that couldn't be asked has its cause. In a steady world each verdict is the world's.
+-- was asked with the files that it needs, and each that has no answer has its cause. What was told from earlier is a verdict that the caches
+-- keep, of a question that isn't for a file. In a steady world each verdict is the world's.
 pub record Asked (steady : Bool) (world : Question → Outcome) (dir : List ℕ) (part : List Event) : Type 0 where
   pub once : NoTwice (answers part)
   pub closed : drops part ≡ opens part
   pub excused : Excused 0 part
+  pub founded : Founded false part
   pub probing : Follows dir start part
   pub dropped : (stand start part).files ≡ []
   pub honest : steady ≡ true → All (IsWorlds world) (answers part)

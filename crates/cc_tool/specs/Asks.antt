@@ -1,5 +1,5 @@
 -- What a call that asks does to the log of its host and to the answers of its public call.
-use Rattle.std.specs.Prelude.{◌≡◌, ◌≢◌, ◌++◌, ℕ, Bool, true, List, [], None}
+use Rattle.std.specs.Prelude.{◌≡◌, ◌≢◌, ◌++◌, ℕ, Bool, true, false, List, [], None}
 use Rattle.std.specs.List.{All, list_all}
 use Rattle.cc_host.specs.declared.event.Event.{Event}
 use Rattle.cc_host.specs.declared.question.Ask.TheVariants.{Exists as AsksExists}
@@ -10,6 +10,7 @@ use Rattle.cc_host.specs.Probe.{opens, drops}
 use Rattle.cc_host.specs.Question.{Answer, answers, NoTwice}
 use Rattle.cc_host.specs.Verdict.{verdict_of}
 use Rattle.cc_tool.specs.Excused.{Excused}
+use Rattle.cc_tool.specs.Founded.{Founded}
 use Rattle.cc_tool.specs.Probing.{is_asked, Follows, stand}
 
 -- the verdict is the world's, unless there is none or a file was asked for
@@ -25,6 +26,7 @@ pub record Asks (steady : Bool) (world : Question → Outcome) (dir : List ℕ) 
   pub asked : list_all is_asked part ≡ true
   pub closed : drops part ≡ opens part
   pub excused : Excused 0 part
+  pub founded : Founded false part
   pub probing : Follows dir (record { word = None; files = [] }) part
   pub dropped : (stand (record { word = None; files = [] }) part).files ≡ []
   pub honest : steady ≡ true → All (IsWorlds world) (answers part)

@@ -13,7 +13,10 @@ use Rattle.cc_host.specs.declared.question.Question.{Question}
 use Rattle.cc_host.specs.declared.question.Verdict.{Verdict}
 use Rattle.cc_host.specs.declared.question.Verdict.TheVariants.{Marks as Shows}
 use Rattle.cc_host.specs.Question.{Look, is_yes}
+use Rattle.cc_env.specs.Snapshot.{child_of}
+use Rattle.cc_env.specs.Env.{EnvSeen}
 use Rattle.cc_tool.specs.declared.family.Detected.{Detected}
+use Rattle.cc_tool.specs.declared.family.Program.{Program}
 use Rattle.cc_tool.specs.declared.family.Detected.TheVariants.{Marks as ByMarks, NoMarks, Failed}
 use Prim.Native.String.{String}
 
@@ -23,6 +26,9 @@ Vars = List (List ℕ × List ℕ)
 -- a question to the compiler at a path
 abbrev pub question : Ask → List ℕ → List (List ℕ) → Vars → Question
 question ask path words vars = record { ask = ask; program = path; words = words; vars = vars }
+
+abbrev pub question_to : Ask → Program → Question
+question_to ask of = question ask of.path.now of.words.now of.vars.now
 
 -- ---- by the name of its file
 
@@ -103,6 +109,10 @@ abbrev pub with_zig : ToolFamily → Bool → ToolFamily
 with_zig (Clang zig_cc) zig = Clang (zig_cc || zig)
 with_zig family zig = family
 
+-- a Clang, and whether it is that of Zig, by its version and by its path
+abbrev pub clang_by : Bool → List ℕ → ToolFamily
+clang_by version path = Clang (version || has_either (name_of path) "zig")
+
 unfoldable pub is_zig : Look → List ℕ → Vars → Bool
 is_zig look path vars = is_yes (look (question Version path [] vars)) || has_either (name_of path) "zig"
 
@@ -120,6 +130,10 @@ settled_family seen named zig = (with_zig (family_or seen.0 named) zig, seen.1)
 -- the family of the compiler at a path, given arguments, in an environment; and how it was detected
 unfoldable pub family_of : Look → List ℕ → List (List ℕ) → Vars → ToolFamily × Detected
 family_of look path args vars = settled_family (detection look path args vars) (family_of_file (name_of path) args) (is_zig look path vars)
+
+-- the family in an environment
+abbrev pub family_in : Look → List ℕ → List (List ℕ) → EnvSeen → ToolFamily × Detected
+family_in look path args env = family_of look path args (child_of env.inherited env.explicit)
 
 -- the warnings of a detection, for the quoted path
 abbrev pub detection_warnings : Detected → List ℕ → List (List ℕ)

@@ -4,8 +4,10 @@ pub mod Emitted
 pub mod Excused
 pub mod Family
 pub mod Files
+pub mod Founded
 pub mod Heard
 pub mod Known
+pub mod Own
 pub mod Probing
 pub mod Tempfile
 pub mod Tool

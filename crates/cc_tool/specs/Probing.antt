@@ -1,19 +1,22 @@
 -- What questions do to the log of a host: the words that are drawn, and the probe files that are made, used and dropped.
-use Rattle.std.specs.Prelude.{◌≡◌, ◌≤◌, ◌++◌, ◌+◌, ℕ, Bool, true, false, List, [], ◌∷◌, Option, Some, None, Result, Ok, Err, map, bytes_eq, if◌then◌else◌}
+use Rattle.std.specs.Prelude.{◌≡◌, ◌≢◌, IfOk, ◌≤◌, ◌++◌, ◌+◌, ℕ, Bool, true, false, List, [], ◌∷◌, Option, Some, None, Result, Ok, Err, map, bytes_eq, if◌then◌else◌}
 use Rattle.std.specs.List.{Contains, list_all}
 use Rattle.cc_host.specs.declared.event.Event.{Event}
 use Rattle.cc_host.specs.declared.event.Event.TheVariants.{Answered, Reused, Unasked, Drawn, Opened, Taken, Dropped, Made, Fault}
 use Rattle.cc_host.specs.declared.event.Scope.TheVariants.{Probe as ForProbes}
+use Rattle.cc_host.specs.declared.question.Ask.TheVariants.{Exists as AsksExists}
 use Rattle.cc_host.specs.declared.question.Question.{Question}
 use Rattle.cc_host.specs.declared.question.ProbeFiles.{ProbeFiles}
 use Rattle.cc_host.specs.Part.{is_probing}
 use Rattle.cc_host.specs.Probe.{opens, drops, times}
 use Rattle.cc_host.specs.Verdict.{verdict_of}
 use Rattle.cc_host.specs.declared.question.Outcome.{Outcome}
+use Rattle.cc_host.specs.declared.question.Outcome.TheVariants.{Unanswered}
 use Rattle.cc_text.specs.declared.memory.NoMemory.{NoMemory}
 use Rattle.cc_host.specs.Question.{Answer, answers}
 use Rattle.cc_tool.specs.declared.kinds.FileKind.{FileKind}
 use Rattle.cc_tool.specs.Excused.{Excused, weight}
+use Rattle.cc_tool.specs.Founded.{Founded}
 use Rattle.cc_tool.specs.Files.{suffix_of, contents_of, source_of, object_of, probe_path, IsPath}
 
 -- an event that a question leaves
@@ -100,6 +103,7 @@ pub record Probes (dir : List ℕ) (before after : List Event) (from to : List F
   pub queue : paths from ++ opens part ≡ drops part ++ paths to
   pub excused : Excused 0 part
   pub weighs : excuse ≤ weight 0 part
+  pub founded : Founded false part
   pub tells : answers part ≡ told
 
 -- These files were made and not yet dropped: beside those that were dropped each path was made once more for each file of it.
@@ -128,3 +132,19 @@ lack (Err e) = 0
 abbrev pub heard : Question → Result Outcome NoMemory → List Answer
 heard q (Ok outcome) = (q, verdict_of q outcome) ∷ []
 heard q (Err e) = []
+
+-- a file of a kind was made, or couldn't be for a cause; those that were open before are open still
+abbrev pub MakesFile : List ℕ → FileKind → List Event → List Event → Result (Option (List ℕ)) NoMemory → Type 0
+MakesFile dir kind before after made = (from : List File) → Probes dir before after from (from ++ made_of kind made) [] (lack made)
+
+-- a question for a command, which needs this source and this object
+abbrev pub Needs : Question → Option FileKind → Option FileKind → Type 0
+Needs q source object = (q.ask ≢ AsksExists) × (source_of q.ask ≡ source) × (object_of q.ask ≡ object)
+
+-- a file of a kind
+abbrev pub file_of : FileKind → List ℕ → File
+file_of kind path = (path, contents_of kind)
+
+-- where the world is steady, an outcome is the world's, unless the question couldn't be asked
+abbrev pub IsHonest : Bool → (Question → Outcome) → Question → Result Outcome NoMemory → Type 0
+IsHonest steady world q result = steady ≡ true → IfOk result (λ outcome. outcome ≢ Unanswered → outcome ≡ world q)

@@ -40,6 +40,30 @@ abbrev pub path_words : Option (List ℕ) → List ℕ → List (List ℕ)
 path_words (Some wrapper) path = path ∷ []
 path_words None path = []
 
+-- a tool with one more arg
+abbrev pub with_arg : ToolSeen → List ℕ → ToolSeen
+with_arg tool word = record tool { args = tool.args ++ word ∷ [] }
+
+-- with one more variable
+abbrev pub with_entry : ToolSeen → List ℕ → List ℕ → ToolSeen
+with_entry tool name value = record tool { entries = tool.entries ++ (name, value) ∷ [] }
+
+-- with one more word that is kept out of its command
+abbrev pub with_removed : ToolSeen → List ℕ → ToolSeen
+with_removed tool word = record tool { removed = tool.removed ++ word ∷ [] }
+
+-- behind a wrapper
+abbrev pub with_wrapper : ToolSeen → List ℕ → ToolSeen
+with_wrapper tool wrapper = record tool { wrapper = Some wrapper }
+
+-- with one more word before its args
+abbrev pub with_wrapper_word : ToolSeen → List ℕ → ToolSeen
+with_wrapper_word tool word = record tool { wrapper_words = tool.wrapper_words ++ word ∷ [] }
+
+-- the program of a tool, with the path behind a wrapper
+abbrev pub bare_command : ToolSeen → CommandSeen
+bare_command tool = record { program = program_of tool.wrapper tool.path; args = path_words tool.wrapper tool.path; env = []; dir = None }
+
 -- the command of a tool
 unfoldable pub tool_command : ToolSeen → CommandSeen
 tool_command tool = record {

@@ -42,7 +42,7 @@ impl Answers {
         }
     }
 
-    /// The verdict of a question, or none where it wasn't asked. It takes no memory.
+    /// The verdict of a question, the first that was told, or none where it wasn't asked. It takes no memory.
     pub fn get(&self, q: &Question) -> Option<&Verdict>
         ensures { MatchOption result (Lacks self.now q.now) (λ v. Has self.now q.now v.now) }
     {
@@ -52,6 +52,10 @@ impl Answers {
             }
         }
         None
+    }
+
+    pub(crate) fn allocator(&self) -> Global {
+        *self.entries.allocator()
     }
 
     // Makes room for the verdict of a question, which has none until it comes.
@@ -65,14 +69,16 @@ impl Answers {
 
     // Takes back the question that was begun last.
     pub(crate) fn give_up(&mut self)
-        ensures { (known : List Answer) (a : Answer) → self.old ≡ known ++ a ∷ [] → self.new ≡ known }
+        ensures { (known : List Answer) (a : Answer) → self.old ≡ known ++ a ∷ []
+            → self.new ≡ known }
     {
         let _ = self.entries.pop();
     }
 
     // Sets the verdict of the question that was begun last.
     pub(crate) fn end(&mut self, verdict: Verdict)
-        ensures { (known : List Answer) (a : Answer) → self.old ≡ known ++ a ∷ [] → self.new ≡ known ++ (a.0, verdict) ∷ [] }
+        ensures { (known : List Answer) (a : Answer) → self.old ≡ known ++ a ∷ []
+            → self.new ≡ known ++ (a.0, verdict) ∷ [] }
     {
         let count = self.entries.len();
         if 0 < count {

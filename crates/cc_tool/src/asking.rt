@@ -1,18 +1,20 @@
 // Questions, behind the answers of a public call and what is kept of the world.
 ghost use Rattle.std.specs.Prelude.{◌≡◌, ◌≢◌, ◌++◌, ◌∷◌, [], List, true, IfOk, IsTrue, ◌↔◌};
+ghost use Rattle.cc_host.specs.Call.{part};
 ghost use Rattle.cc_host.specs.Question.{Answer, Settles, exists_question};
 ghost use Rattle.cc_host.specs.Verdict.{verdict_of, yes_if as yes};
 ghost use Rattle.cc_host.specs.declared.question.Ask.TheVariants.{Exists as AsksExists};
 ghost use Rattle.cc_host.specs.declared.question.Verdict.TheVariants.{Unanswered};
 ghost use Rattle.cc_tool.specs.Asks.{Asks};
-ghost use Rattle.cc_tool.specs.Known.{IsSteady, asked, is_kept as keeps};
+ghost use Rattle.cc_tool.specs.Known.{IsHeard, asked, is_kept as keeps};
+ghost use Rattle.cc_tool.specs.Own.{AnswersOnly, WhyUnanswered, OnlyForFiles, Looks};
 ghost use Rattle.cc_tool.specs.Probing.{Probes};
 ghost use Rattle.cc_tool.specs.Heard.{told};
 
 use crate::probes::ask_host;
-use crate::{Answers, Caches};
+use crate::{Answers, Caches, exists_of};
 use cc_host::{Ask, Host, Question, Verdict, World, into_verdict};
-use cc_text::{Mem, NoMemory, Text, Vars, Words};
+use cc_text::{Mem, NoMemory};
 use std::alloc::Global;
 use std::sync::Wait;
 
@@ -54,7 +56,8 @@ fn hear<W: World, H: Host<W>>(
 ) -> Mem<Heard>
     requires { q.now.ask ≢ AsksExists }
     ensures probes { Probes dir.now (H.log host.old) (H.log host.new) [] [] (told q.now result) 0 }
-    ensures steady { IfOk result (λ heard. heard.verdict ≢ Unanswered → IsSteady W.steady W.answer q.now heard.verdict) }
+    ensures bare { OnlyForFiles q.now (part H.log host.old host.new) }
+    ensures steady { IfOk result (λ heard. IsHeard W.steady W.answer q.now heard.verdict) }
     ensures patient { H.patience host.new ≡ H.patience host.old }
 {
     if let Some(verdict) = caches.find(rt, q)? {
@@ -73,7 +76,8 @@ fn hear<W: World, H: Host<W>>(
 
 // Keeps what was heard.
 fn keep<W: World>(rt: &impl Wait, caches: &Caches<W>, q: &Question, heard: &Heard) -> Mem<()>
-    requires { heard.now.verdict ≢ Unanswered → IsSteady W.steady W.answer q.now heard.now.verdict }
+    requires command { q.now.ask ≢ AsksExists }
+    requires steady { IsHeard W.steady W.answer q.now heard.now.verdict }
 {
     if heard.fresh && is_kept(&heard.verdict) {
         caches.keep(rt, q, &heard.verdict)?;
@@ -89,8 +93,10 @@ fn finish<W: World>(
     q: &Question,
     heard: Heard,
 ) -> Mem<Verdict>
-    requires { heard.verdict ≢ Unanswered → IsSteady W.steady W.answer q.now heard.verdict }
-    ensures ends { (known : List Answer) (a : Answer) → answers.old ≡ known ++ a ∷ [] → answers.new ≡ known ++ (a.0, heard.verdict) ∷ [] }
+    requires command { q.now.ask ≢ AsksExists }
+    requires steady { IsHeard W.steady W.answer q.now heard.verdict }
+    ensures ends { (known : List Answer) (a : Answer) → answers.old ≡ known ++ a ∷ []
+        → answers.new ≡ known ++ (a.0, heard.verdict) ∷ [] }
     ensures same { IfOk result (λ v. v ≡ heard.verdict) }
 {
     let kept = keep(rt, caches, q, &heard);
@@ -111,8 +117,11 @@ fn ask_command<W: World, H: Host<W>>(
     dir: &str,
 ) -> Mem<Verdict>
     requires { q.now.ask ≢ AsksExists }
-    ensures asks { Asks W.steady W.answer dir.now (H.log host.old) (H.log host.new) answers.old answers.new }
-    ensures settles { IfOk result (λ v. Settles answers.new (λ look. look q.now) v) }
+    ensures asks { Asks W.steady W.answer dir.now (H.log host.old) (H.log host.new)
+        answers.old answers.new }
+    ensures settles { IfOk result (Settles answers.new (λ look. look q.now)) }
+    ensures own { AnswersOnly q.now answers.old (part H.log host.old host.new) result }
+    ensures bare { OnlyForFiles q.now (part H.log host.old host.new) }
     ensures patient { H.patience host.new ≡ H.patience host.old }
 {
     match answers.get(q) {
@@ -129,17 +138,6 @@ fn ask_command<W: World, H: Host<W>>(
     }
 }
 
-fn exists_of(alloc: Global, path: &str) -> Mem<Question>
-    ensures { IfOk result (λ q. q ≡ exists_question path.now) }
-{
-    Ok(Question {
-        ask: Ask::Exists,
-        program: Text::of(alloc, path)?,
-        words: Words::new(alloc),
-        vars: Vars::new(alloc),
-    })
-}
-
 // Whether a file of this path is there.
 fn ask_exists<W: World, H: Host<W>>(
     alloc: Global,
@@ -148,8 +146,10 @@ fn ask_exists<W: World, H: Host<W>>(
     path: &str,
     dir: &str,
 ) -> Mem<Verdict>
-    ensures asks { Asks W.steady W.answer dir.now (H.log host.old) (H.log host.new) answers.old answers.new }
-    ensures settles { IfOk result (λ v. Settles answers.new (λ look. look (exists_question path.now)) v) }
+    ensures asks { Asks W.steady W.answer dir.now (H.log host.old) (H.log host.new)
+        answers.old answers.new }
+    ensures settles { IfOk result (Settles answers.new (λ look. look (exists_question path.now))) }
+    ensures looks { Looks path.now answers.old (part H.log host.old host.new) result }
     ensures patient { H.patience host.new ≡ H.patience host.old }
 {
     let _ = dir;
@@ -178,9 +178,12 @@ fn is_exists(ask: Ask) -> bool
 }
 
 /// The verdict of a question: that of this public call, else the one that is kept, else the host's. A question for a
-/// file is one for its path alone. A question whose files can't be made isn't asked, and has no answer.
+/// file is one for its path alone, and the disk is looked at. Files for a question are made in `dir`, and dropped.
 ///
-/// The caches keep each verdict of a command that ran. No lock is held while it runs.
+/// It answers this question and no other. The verdict is `Unanswered` where the answers of this public call had it so, where the
+/// command couldn't be run for another cause than absence, and where its files couldn't be made, so that it isn't asked at all.
+/// The caches keep each verdict of a command that ran. No lock is held while it runs. Refused for memory, the question has no answer,
+/// or the one that came before the refusal.
 pub fn ask<W: World, H: Host<W>>(
     rt: &impl Wait,
     alloc: Global,
@@ -190,8 +193,13 @@ pub fn ask<W: World, H: Host<W>>(
     q: &Question,
     dir: &str,
 ) -> Mem<Verdict>
-    ensures asks { Asks W.steady W.answer dir.now (H.log host.old) (H.log host.new) answers.old answers.new }
-    ensures settles { IfOk result (λ v. Settles answers.new (λ look. look (asked q.now)) v) }
+    ensures asks { Asks W.steady W.answer dir.now (H.log host.old) (H.log host.new)
+        answers.old answers.new }
+    ensures settles { IfOk result (Settles answers.new (λ look. look (asked q.now))) }
+    ensures own { AnswersOnly (asked q.now) answers.old (part H.log host.old host.new) result }
+    ensures cause { IfOk result (WhyUnanswered (asked q.now) answers.old
+        (part H.log host.old host.new)) }
+    ensures bare { OnlyForFiles (asked q.now) (part H.log host.old host.new) }
     ensures patient { H.patience host.new ≡ H.patience host.old }
 {
     if is_exists(q.ask) {
@@ -201,7 +209,7 @@ pub fn ask<W: World, H: Host<W>>(
     }
 }
 
-/// The verdict of a question on a flag, as `ask` gives it.
+/// The verdict of a question on a flag, as `ask` gives it, with all that it promises.
 pub fn ask_flag<W: World, H: Host<W>>(
     rt: &impl Wait,
     alloc: Global,
@@ -211,8 +219,13 @@ pub fn ask_flag<W: World, H: Host<W>>(
     q: &Question,
     dir: &str,
 ) -> Mem<Verdict>
-    ensures asks { Asks W.steady W.answer dir.now (H.log host.old) (H.log host.new) answers.old answers.new }
-    ensures settles { IfOk result (λ v. Settles answers.new (λ look. look (asked q.now)) v) }
+    ensures asks { Asks W.steady W.answer dir.now (H.log host.old) (H.log host.new)
+        answers.old answers.new }
+    ensures settles { IfOk result (Settles answers.new (λ look. look (asked q.now))) }
+    ensures own { AnswersOnly (asked q.now) answers.old (part H.log host.old host.new) result }
+    ensures cause { IfOk result (WhyUnanswered (asked q.now) answers.old
+        (part H.log host.old host.new)) }
+    ensures bare { OnlyForFiles (asked q.now) (part H.log host.old host.new) }
     ensures patient { H.patience host.new ≡ H.patience host.old }
 {
     ask(rt, alloc, host, caches, answers, q, dir)

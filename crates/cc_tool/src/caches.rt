@@ -1,6 +1,6 @@
 // What threads share of a world's verdicts.
 ghost use Rattle.std.specs.Prelude.{◌≡◌, IfOk, IfSome};
-ghost use Rattle.cc_tool.specs.Known.{IsSteady};
+ghost use Rattle.cc_tool.specs.Known.{IsSteady, MayKeep};
 
 use crate::Known;
 use cc_host::{Question, Verdict, World};
@@ -32,9 +32,10 @@ impl<W: World> Caches<W> {
         })
     }
 
-    /// The verdict that is kept of a question, or none.
+    /// The verdict that is kept of a question, or none. It waits for the lock. Refused for memory, it tells nothing.
     pub fn find(&self, rt: &impl Wait, q: &Question) -> Mem<Option<Verdict>>
-        ensures { IfOk result (λ found. IfSome found (IsSteady W.steady W.answer q.now)) }
+        ensures steady { IfOk result (λ found. IfSome found (IsSteady W.steady W.answer q.now)) }
+        ensures kept { IfOk result (λ found. IfSome found (MayKeep q.now)) }
     {
         let known = self.known.lock(rt);
         match known.find_on(q) {
@@ -43,9 +44,11 @@ impl<W: World> Caches<W> {
         }
     }
 
-    /// Keeps the verdict of a question.
+    /// Keeps the verdict of a question that isn't for a file, for all that share these caches. It waits for the lock. The verdict is
+    /// neither `Unanswered` nor `Missing`. Refused for memory, what is kept stays as it was.
     pub fn keep(&self, rt: &impl Wait, q: &Question, v: &Verdict) -> Mem<()>
-        requires { IsSteady W.steady W.answer q.now v.now }
+        requires steady { IsSteady W.steady W.answer q.now v.now }
+        requires kept { MayKeep q.now v.now }
     {
         let mut known = self.known.lock(rt);
         known.keep_on(q, v)

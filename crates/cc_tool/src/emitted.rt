@@ -43,7 +43,8 @@ impl Emitted {
     /// Adds a text last where it isn't there, and answers whether it was added. Refused for memory, the texts stay as they were.
     pub fn push_if_new(&mut self, value: &str) -> Mem<bool>
         ensures new { IfOk result (λ b. b ≡ not (is_among self.old.list.items value.now)) }
-        ensures texts { IfOk result (λ b. self.new.list.items ≡ self.old.list.items ++ when b (value.now ∷ [])) }
+        ensures texts { IfOk result
+            (λ b. self.new.list.items ≡ self.old.list.items ++ when b (value.now ∷ [])) }
         ensures err { OnErr result (self.new.list.items ≡ self.old.list.items) }
     {
         if is_among(self.list.as_slice(), value) {

@@ -1,6 +1,5 @@
 // The family of a compiler, by what its preprocessor shows, else by the name of its file.
 ghost use Rattle.std.specs.Prelude.{◌≡◌, ◌≢◌, [], IfOk, codes, bytes_eq, true, false, if◌then◌else◌, ◌||◌};
-ghost use Rattle.cc_env.specs.Snapshot.{child_of};
 ghost use Rattle.cc_host.specs.Question.{Settles, is_yes as yes};
 ghost use Rattle.cc_host.specs.declared.question.Ask.TheVariants.{Exists as AsksExists};
 ghost use Rattle.cc_host.specs.declared.question.Verdict.TheVariants.{Marks as Shows};
@@ -10,9 +9,9 @@ ghost use Rattle.cc_text.specs.declared.family.ToolFamily.TheVariants.{Clang, Ms
 ghost use Rattle.cc_tool.specs.Asks.{Asks};
 ghost use Rattle.cc_tool.specs.Family as families;
 
-use crate::{Answers, Caches, ask};
+use crate::{Answers, Caches, ask, question_of};
 use cc_env::BuildEnv;
-use cc_host::{Ask, Host, Marks, Question, Verdict, World};
+use cc_host::{Ask, Host, Marks, Verdict, World};
 use cc_text::{
     Mem, Text, ToolFamily, Vars, Words, contains_ignore_ascii_case, ends_with_ignore_ascii_case,
     file_name,
@@ -128,36 +127,33 @@ fn is_yes(verdict: &Verdict) -> bool
     }
 }
 
-fn question(ask: Ask, path: &str, words: &Words, vars: &Vars, alloc: Global) -> Mem<Question>
-    ensures { IfOk result (λ q. q ≡ families.question ask path.now words.now vars.now) }
-{
-    Ok(Question {
-        ask,
-        program: Text::of(alloc, path)?,
-        words: words.try_clone()?,
-        vars: vars.try_clone()?,
-    })
+// A compiler, as it is asked: its path, its words and the variables of its environment.
+#[derive(Clone, Copy)]
+struct Program<'a> {
+    path: &'a str,
+    words: &'a Words,
+    vars: &'a Vars,
 }
 
-// Asks the compiler at a path.
+// Asks a compiler.
 fn ask_path<W: World, H: Host<W>>(
     rt: &impl Wait,
-    alloc: Global,
     host: &mut H,
     caches: &Caches<W>,
     answers: &mut Answers,
     asked: Ask,
-    path: &str,
-    words: &Words,
-    vars: &Vars,
+    of: &Program<'_>,
     dir: &str,
 ) -> Mem<Verdict>
     requires { asked ≢ AsksExists }
-    ensures asks { Asks W.steady W.answer dir.now (H.log host.old) (H.log host.new) answers.old answers.new }
-    ensures settles { IfOk result (λ v. Settles answers.new (λ look. look (families.question asked path.now words.now vars.now)) v) }
+    ensures asks { Asks W.steady W.answer dir.now (H.log host.old) (H.log host.new)
+        answers.old answers.new }
+    ensures settles { IfOk result (Settles answers.new
+        (λ look. look (families.question_to asked of.now))) }
     ensures patient { H.patience host.new ≡ H.patience host.old }
 {
-    let q = question(asked, path, words, vars, alloc)?;
+    let alloc = answers.allocator();
+    let q = question_of(alloc, asked, of.path, of.words, of.vars)?;
     ask(rt, alloc, host, caches, answers, &q, dir)
 }
 
@@ -178,44 +174,27 @@ fn reads_option(verdict: &Verdict) -> bool
 #[tactic(auto, unfolding(crate::specs::Family::shown))]
 fn ask_shown<W: World, H: Host<W>>(
     rt: &impl Wait,
-    alloc: Global,
     host: &mut H,
     caches: &Caches<W>,
     answers: &mut Answers,
-    path: &str,
-    vars: &Vars,
+    of: &Program<'_>,
     dir: &str,
 ) -> Mem<Verdict>
-    ensures asks { Asks W.steady W.answer dir.now (H.log host.old) (H.log host.new) answers.old answers.new }
-    ensures settles { IfOk result (λ v. Settles answers.new (λ look. families.shown look path.now vars.now) v) }
+    ensures asks { Asks W.steady W.answer dir.now (H.log host.old) (H.log host.new)
+        answers.old answers.new }
+    ensures settles { IfOk result (Settles answers.new
+        (λ look. families.shown look of.now.path.now of.now.vars.now)) }
     ensures patient { H.patience host.new ≡ H.patience host.old }
 {
-    let none = Words::new(alloc);
-    let first = ask_path(
-        rt,
-        alloc,
-        host,
-        caches,
-        answers,
-        Ask::Preprocess,
-        path,
-        &none,
-        vars,
-        dir,
-    )?;
+    let none = Words::new(answers.allocator());
+    let bare = Program {
+        path: of.path,
+        words: &none,
+        vars: of.vars,
+    };
+    let first = ask_path(rt, host, caches, answers, Ask::Preprocess, &bare, dir)?;
     if reads_option(&first) {
-        return ask_path(
-            rt,
-            alloc,
-            host,
-            caches,
-            answers,
-            Ask::PreprocessDashes,
-            path,
-            &none,
-            vars,
-            dir,
-        );
+        return ask_path(rt, host, caches, answers, Ask::PreprocessDashes, &bare, dir);
     }
     Ok(first)
 }
@@ -245,34 +224,22 @@ fn marks_in(verdict: &Verdict) -> Option<Marks>
 // What the preprocessor tells of the family.
 fn ask_detection<W: World, H: Host<W>>(
     rt: &impl Wait,
-    alloc: Global,
     host: &mut H,
     caches: &Caches<W>,
     answers: &mut Answers,
-    path: &str,
-    args: &Words,
-    vars: &Vars,
+    of: &Program<'_>,
     dir: &str,
 ) -> Mem<(Option<ToolFamily>, Detected)>
-    ensures asks { Asks W.steady W.answer dir.now (H.log host.old) (H.log host.new) answers.old answers.new }
-    ensures settles { IfOk result (λ d. Settles answers.new (λ look. families.detection look path.now args.now vars.now) d) }
+    ensures asks { Asks W.steady W.answer dir.now (H.log host.old) (H.log host.new)
+        answers.old answers.new }
+    ensures settles { IfOk result (Settles answers.new
+        (λ look. families.detection look of.now.path.now of.now.words.now of.now.vars.now)) }
     ensures patient { H.patience host.new ≡ H.patience host.old }
 {
-    let shown = ask_shown(rt, alloc, host, caches, answers, path, vars, dir)?;
+    let shown = ask_shown(rt, host, caches, answers, of, dir)?;
     match marks_in(&shown) {
         Some(marks) => {
-            let help = ask_path(
-                rt,
-                alloc,
-                host,
-                caches,
-                answers,
-                Ask::HelpFlag,
-                path,
-                args,
-                vars,
-                dir,
-            )?;
+            let help = ask_path(rt, host, caches, answers, Ask::HelpFlag, of, dir)?;
             Ok(found(family_of_marks(is_yes(&help), marks)))
         }
         None => Ok((None, Detected::NoMarks)),
@@ -291,7 +258,7 @@ fn is_plain_clang(family: ToolFamily) -> bool
 
 // A Clang of this version.
 fn clang_of_version(version: &Verdict, path: &str) -> ToolFamily
-    ensures { result ≡ Clang (yes version.now || families.has_either (families.name_of path.now) "zig") }
+    ensures { result ≡ families.clang_by (yes version.now) path.now }
 {
     let zig_cc = is_yes(version) || has_either(name_of(path), "zig");
     ToolFamily::Clang { zig_cc }
@@ -300,40 +267,37 @@ fn clang_of_version(version: &Verdict, path: &str) -> ToolFamily
 // The same family, as that of Zig where its version or its file's name tells so.
 fn ask_zig<W: World, H: Host<W>>(
     rt: &impl Wait,
-    alloc: Global,
     host: &mut H,
     caches: &Caches<W>,
     answers: &mut Answers,
     family: ToolFamily,
-    path: &str,
-    vars: &Vars,
+    of: &Program<'_>,
     dir: &str,
 ) -> Mem<ToolFamily>
-    ensures asks { Asks W.steady W.answer dir.now (H.log host.old) (H.log host.new) answers.old answers.new }
-    ensures settles { IfOk result (λ f. Settles answers.new (λ look. families.with_zig family (families.is_zig look path.now vars.now)) f) }
+    ensures asks { Asks W.steady W.answer dir.now (H.log host.old) (H.log host.new)
+        answers.old answers.new }
+    ensures settles { IfOk result (Settles answers.new
+        (λ look. families.with_zig family (families.is_zig look of.now.path.now of.now.vars.now))) }
     ensures patient { H.patience host.new ≡ H.patience host.old }
 {
     if is_plain_clang(family) {
-        let none = Words::new(alloc);
-        let version = ask_path(
-            rt,
-            alloc,
-            host,
-            caches,
-            answers,
-            Ask::Version,
-            path,
-            &none,
-            vars,
-            dir,
-        )?;
-        return Ok(clang_of_version(&version, path));
+        let none = Words::new(answers.allocator());
+        let bare = Program {
+            path: of.path,
+            words: &none,
+            vars: of.vars,
+        };
+        let version = ask_path(rt, host, caches, answers, Ask::Version, &bare, dir)?;
+        return Ok(clang_of_version(&version, of.path));
     }
     Ok(family)
 }
 
 /// The family of the compiler at a path, and how it was detected. The preprocessor is asked for the macros that it
-/// defines; where it shows no known one, the name of the file tells. A Clang is asked for its version too.
+/// defines (`__clang__`, `__GNUC__`, `__EMSCRIPTEN__`, `__VXWORKS__`); where it shows no known one, the name of the file tells.
+/// A compiler that shows marks is asked with `args` for `-?`, which that of Visual Studio takes alone, and a Clang for its version,
+/// since `zig cc` says there what it is. Files for the questions are made in `dir`, and dropped. Nothing but memory is refused: a
+/// question without an answer tells nothing.
 pub fn ask_family<W: World, H: Host<W>>(
     rt: &impl Wait,
     alloc: Global,
@@ -345,14 +309,21 @@ pub fn ask_family<W: World, H: Host<W>>(
     env: &BuildEnv,
     dir: &str,
 ) -> Mem<(ToolFamily, Detected)>
-    ensures asks { Asks W.steady W.answer dir.now (H.log host.old) (H.log host.new) answers.old answers.new }
-    ensures settles { IfOk result (λ f. Settles answers.new (λ look. families.family_of look path.now args.now (child_of env.now.inherited env.now.explicit)) f) }
+    ensures asks { Asks W.steady W.answer dir.now (H.log host.old) (H.log host.new)
+        answers.old answers.new }
+    ensures settles { IfOk result (Settles answers.new
+        (λ look. families.family_in look path.now args.now env.now)) }
     ensures patient { H.patience host.new ≡ H.patience host.old }
 {
     let vars = env.child_vars(alloc)?;
-    let (seen, how) = ask_detection(rt, alloc, host, caches, answers, path, args, &vars, dir)?;
+    let of = Program {
+        path,
+        words: args,
+        vars: &vars,
+    };
+    let (seen, how) = ask_detection(rt, host, caches, answers, &of, dir)?;
     let family = family_or(seen, family_of_file(name_of(path), args));
-    let family = ask_zig(rt, alloc, host, caches, answers, family, path, &vars, dir)?;
+    let family = ask_zig(rt, host, caches, answers, family, &of, dir)?;
     Ok((family, how))
 }
 

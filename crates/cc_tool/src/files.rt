@@ -40,7 +40,8 @@ fn attempt<W: World, H: Host<W>>(
     suffix: &str,
     contents: &[u8],
 ) -> Result<Option<Text>, HostError>
-    ensures tried { Attempted dir.now suffix.now contents.now (H.log host.old) (H.log host.new) result }
+    ensures tried { Attempted dir.now suffix.now contents.now (H.log host.old) (H.log host.new)
+        result }
     ensures patient { H.patience host.new ≡ H.patience host.old }
 {
     let word = host.random()?;
@@ -61,7 +62,8 @@ impl NamedTempfile {
         suffix: &str,
         contents: &[u8],
     ) -> Result<Option<NamedTempfile>, HostError>
-        ensures tried { Tried dir.now suffix.now contents.now (H.log host.old) (H.log host.new) result }
+        ensures tried { Tried dir.now suffix.now contents.now (H.log host.old) (H.log host.new)
+            result }
         ensures open { IfOk result (λ file. IfSome file (λ path. IsOpen path (H.log host.new))) }
         ensures patient { H.patience host.new ≡ H.patience host.old }
     {

@@ -14,6 +14,7 @@ mod files;
 mod kinds;
 mod known;
 mod probes;
+mod question;
 mod tool;
 
 pub use answers::Answers;
@@ -25,4 +26,5 @@ pub use family::{Detected, ask_family};
 pub use files::NamedTempfile;
 pub use kinds::FileKind;
 pub use known::Known;
+pub use question::{exists_of, question_of};
 pub use tool::Tool;

@@ -1,10 +1,12 @@
 // Questions to a host, and the probe files that they need.
-ghost use Rattle.std.specs.Prelude.{◌≡◌, ◌≢◌, ◌++◌, ◌∷◌, [], List, Some, None, true, IfOk};
+ghost use Rattle.std.specs.Prelude.{◌≡◌, ◌≢◌, ◌++◌, ◌∷◌, [], Some, None, IfOk};
+ghost use Rattle.cc_host.specs.Call.{part};
 ghost use Rattle.cc_host.specs.Event.{probed, unasked as noted};
 ghost use Rattle.cc_host.specs.declared.question.Ask.TheVariants.{Exists as AsksExists};
 ghost use Rattle.cc_host.specs.declared.question.Outcome.TheVariants.{Unanswered};
 ghost use Rattle.cc_tool.specs.Files as kinds;
-ghost use Rattle.cc_tool.specs.Probing.{File, Probes, AreOpen, IsMade, made_of, lack, heard};
+ghost use Rattle.cc_tool.specs.Own.{OnlyForFiles};
+ghost use Rattle.cc_tool.specs.Probing.{Probes, AreOpen, IsMade, MakesFile, Needs, IsHonest, file_of, heard};
 
 use crate::kinds::{object_of, source_of};
 use crate::{FileKind, NamedTempfile};
@@ -19,7 +21,7 @@ fn make_file<W: World, H: Host<W>>(
     dir: &str,
     kind: FileKind,
 ) -> Mem<Option<NamedTempfile>>
-    ensures probes { (from : List File) → Probes dir.now (H.log host.old) (H.log host.new) from (from ++ made_of kind result) [] (lack result) }
+    ensures makes { MakesFile dir.now kind (H.log host.old) (H.log host.new) result }
     ensures made { IsMade dir.now kind result }
     ensures patient { H.patience host.new ≡ H.patience host.old }
 {
@@ -38,7 +40,7 @@ fn make_source<W: World, H: Host<W>>(
     dir: &str,
     kind: FileKind,
 ) -> Mem<Option<NamedTempfile>>
-    ensures probes { Probes dir.now (H.log host.old) (H.log host.new) [] (made_of kind result) [] (lack result) }
+    ensures makes { MakesFile dir.now kind (H.log host.old) (H.log host.new) result }
     ensures made { IsMade dir.now kind result }
     ensures patient { H.patience host.new ≡ H.patience host.old }
 {
@@ -67,11 +69,13 @@ fn ask_source<W: World, H: Host<W>>(
     q: &Question,
     files: ProbeFiles,
 ) -> Mem<Outcome>
-    requires needs { (q.now.ask ≢ AsksExists) × (kinds.source_of q.now.ask ≡ Some kind) × (kinds.object_of q.now.ask ≡ None) × (files.dir ≡ dir.now) × (files.object ≡ []) }
-    requires open { AreOpen ((files.source, kinds.contents_of kind) ∷ []) (H.log host.old) }
+    requires needs { Needs q.now (Some kind) None }
+    requires given { (files.dir ≡ dir.now) × (files.object ≡ []) }
+    requires open { AreOpen (file_of kind files.source ∷ []) (H.log host.old) }
     requires named { kinds.IsPath dir.now kind files.source }
-    ensures probes { Probes dir.now (H.log host.old) (H.log host.new) ((files.source, kinds.contents_of kind) ∷ []) [] (heard q.now result) 0 }
-    ensures steady { W.steady ≡ true → IfOk result (λ outcome. outcome ≢ Unanswered → outcome ≡ W.answer q.now) }
+    ensures probes { Probes dir.now (H.log host.old) (H.log host.new)
+        (file_of kind files.source ∷ []) [] (heard q.now result) 0 }
+    ensures steady { IsHonest W.steady W.answer q.now result }
     ensures patient { H.patience host.new ≡ H.patience host.old }
 {
     let outcome = host.probe(q, &files);
@@ -88,11 +92,15 @@ fn ask_both<W: World, H: Host<W>>(
     q: &Question,
     files: ProbeFiles,
 ) -> Mem<Outcome>
-    requires needs { (q.now.ask ≢ AsksExists) × (kinds.source_of q.now.ask ≡ Some kind) × (kinds.object_of q.now.ask ≡ Some object) × (files.dir ≡ dir.now) }
-    requires open { AreOpen ((files.source, kinds.contents_of kind) ∷ (files.object, kinds.contents_of object) ∷ []) (H.log host.old) }
-    requires named { kinds.IsPath dir.now kind files.source × kinds.IsPath dir.now object files.object }
-    ensures probes { Probes dir.now (H.log host.old) (H.log host.new) ((files.source, kinds.contents_of kind) ∷ (files.object, kinds.contents_of object) ∷ []) [] (heard q.now result) 0 }
-    ensures steady { W.steady ≡ true → IfOk result (λ outcome. outcome ≢ Unanswered → outcome ≡ W.answer q.now) }
+    requires needs { Needs q.now (Some kind) (Some object) }
+    requires given { files.dir ≡ dir.now }
+    requires open { AreOpen (file_of kind files.source ∷ file_of object files.object ∷ [])
+        (H.log host.old) }
+    requires source { kinds.IsPath dir.now kind files.source }
+    requires object { kinds.IsPath dir.now object files.object }
+    ensures probes { Probes dir.now (H.log host.old) (H.log host.new)
+        (file_of kind files.source ∷ file_of object files.object ∷ []) [] (heard q.now result) 0 }
+    ensures steady { IsHonest W.steady W.answer q.now result }
     ensures patient { H.patience host.new ≡ H.patience host.old }
 {
     let outcome = host.probe(q, &files);
@@ -109,32 +117,33 @@ fn ask_object<W: World, H: Host<W>>(
     kind: FileKind,
     object: FileKind,
     q: &Question,
-    folder: Text,
-    source: Text,
+    files: ProbeFiles,
 ) -> Mem<Outcome>
-    requires needs { (q.now.ask ≢ AsksExists) × (kinds.source_of q.now.ask ≡ Some kind) × (kinds.object_of q.now.ask ≡ Some object) × (folder ≡ dir.now) }
-    requires open { AreOpen ((source, kinds.contents_of kind) ∷ []) (H.log host.old) }
-    requires named { kinds.IsPath dir.now kind source }
-    ensures probes { Probes dir.now (H.log host.old) (H.log host.new) ((source, kinds.contents_of kind) ∷ []) [] (heard q.now result) 0 }
-    ensures steady { W.steady ≡ true → IfOk result (λ outcome. outcome ≢ Unanswered → outcome ≡ W.answer q.now) }
+    requires needs { Needs q.now (Some kind) (Some object) }
+    requires given { files.dir ≡ dir.now }
+    requires open { AreOpen (file_of kind files.source ∷ []) (H.log host.old) }
+    requires named { kinds.IsPath dir.now kind files.source }
+    ensures probes { Probes dir.now (H.log host.old) (H.log host.new)
+        (file_of kind files.source ∷ []) [] (heard q.now result) 0 }
+    ensures steady { IsHonest W.steady W.answer q.now result }
     ensures patient { H.patience host.new ≡ H.patience host.old }
 {
     match make_file(alloc, host, dir, object) {
         Ok(Some(file)) => {
-            let files = ProbeFiles {
-                dir: folder,
-                source,
+            let both = ProbeFiles {
+                dir: files.dir,
+                source: files.source,
                 object: file.into_path(),
             };
-            ask_both(host, dir, kind, object, q, files)
+            ask_both(host, dir, kind, object, q, both)
         }
         Ok(None) => {
             let outcome = leave(host, q);
-            host.drop_probe(source.as_str());
+            host.drop_probe(files.source.as_str());
             outcome
         }
         Err(NoMemory) => {
-            host.drop_probe(source.as_str());
+            host.drop_probe(files.source.as_str());
             Err(NoMemory)
         }
     }
@@ -148,9 +157,10 @@ fn ask_with_files<W: World, H: Host<W>>(
     kind: FileKind,
     q: &Question,
 ) -> Mem<Outcome>
-    requires { (q.now.ask ≢ AsksExists) × (kinds.source_of q.now.ask ≡ Some kind) }
+    requires command { q.now.ask ≢ AsksExists }
+    requires needs { kinds.source_of q.now.ask ≡ Some kind }
     ensures probes { Probes dir.now (H.log host.old) (H.log host.new) [] [] (heard q.now result) 0 }
-    ensures steady { W.steady ≡ true → IfOk result (λ outcome. outcome ≢ Unanswered → outcome ≡ W.answer q.now) }
+    ensures steady { IsHonest W.steady W.answer q.now result }
     ensures patient { H.patience host.new ≡ H.patience host.old }
 {
     let folder = Text::of(alloc, dir)?;
@@ -158,17 +168,14 @@ fn ask_with_files<W: World, H: Host<W>>(
     match make_source(alloc, host, dir, kind)? {
         None => leave(host, q),
         Some(file) => {
-            let source = file.into_path();
+            let files = ProbeFiles {
+                dir: folder,
+                source: file.into_path(),
+                object: Text::new(alloc),
+            };
             match object_of(q.ask) {
-                Some(object) => ask_object(alloc, host, dir, kind, object, q, folder, source),
-                None => {
-                    let files = ProbeFiles {
-                        dir: folder,
-                        source,
-                        object: Text::new(alloc),
-                    };
-                    ask_source(host, dir, kind, q, files)
-                }
+                Some(object) => ask_object(alloc, host, dir, kind, object, q, files),
+                None => ask_source(host, dir, kind, q, files),
             }
         }
     }
@@ -181,9 +188,11 @@ fn ask_bare<W: World, H: Host<W>>(
     dir: &str,
     q: &Question,
 ) -> Mem<Outcome>
-    requires { (q.now.ask ≢ AsksExists) × (kinds.source_of q.now.ask ≡ None) }
+    requires command { q.now.ask ≢ AsksExists }
+    requires needs { kinds.source_of q.now.ask ≡ None }
     ensures probes { Probes dir.now (H.log host.old) (H.log host.new) [] [] (heard q.now result) 0 }
-    ensures steady { W.steady ≡ true → IfOk result (λ outcome. outcome ≢ Unanswered → outcome ≡ W.answer q.now) }
+    ensures bare { OnlyForFiles q.now (part H.log host.old host.new) }
+    ensures steady { IsHonest W.steady W.answer q.now result }
     ensures patient { H.patience host.new ≡ H.patience host.old }
 {
     let _ = dir;
@@ -204,7 +213,8 @@ pub(crate) fn ask_host<W: World, H: Host<W>>(
 ) -> Mem<Outcome>
     requires { q.now.ask ≢ AsksExists }
     ensures probes { Probes dir.now (H.log host.old) (H.log host.new) [] [] (heard q.now result) 0 }
-    ensures steady { W.steady ≡ true → IfOk result (λ outcome. outcome ≢ Unanswered → outcome ≡ W.answer q.now) }
+    ensures bare { OnlyForFiles q.now (part H.log host.old host.new) }
+    ensures steady { IsHonest W.steady W.answer q.now result }
     ensures patient { H.patience host.new ≡ H.patience host.old }
 {
     match source_of(q.ask) {

@@ -1,8 +1,8 @@
 // A tool: a compiler or archiver with its words and its environment.
-ghost use Rattle.std.specs.Prelude.{◌≡◌, ◌++◌, ◌∷◌, [], Some, None, IfOk, OnOk, OnErr};
+ghost use Rattle.std.specs.Prelude.{◌≡◌, [], Some, None, IfOk, OnOk, OnErr};
 ghost use Rattle.std.specs.List.{list_any};
 ghost use Rattle.cc_tool.specs.Tool as tools;
-ghost use Rattle.cc_tool.specs.Tool.{ToolSeen, new_tool, tool_command, wrapped_text, spaced, is_gnu, is_clang, is_msvc, is_clang_cl, is_level, is_duplicate_level};
+ghost use Rattle.cc_tool.specs.Tool.{ToolSeen, new_tool, with_arg, with_entry, with_removed, with_wrapper, with_wrapper_word, tool_command, wrapped_text, spaced, is_gnu, is_clang, is_msvc, is_clang_cl, is_level, is_duplicate_level};
 
 use crate::Envs;
 use cc_env::EnvSnapshot;
@@ -28,7 +28,16 @@ pub struct Tool {
 impl Model for Tool {
     ghost Value = { ToolSeen };
 
-    ghost view = { λ t. record { path = t.path; family = t.family; inherited = t.inherited; wrapper = t.wrapper; wrapper_words = t.wrapper_words; args = t.args; removed = t.removed; entries = t.entries } };
+    ghost view = { λ t. record {
+      path = t.path;
+      family = t.family;
+      inherited = t.inherited;
+      wrapper = t.wrapper;
+      wrapper_words = t.wrapper_words;
+      args = t.args;
+      removed = t.removed;
+      entries = t.entries;
+    } };
 }
 
 fn clone_wrapper(wrapper: &Option<Text>) -> Mem<Option<Text>>
@@ -124,7 +133,7 @@ impl Tool {
 
     /// Adds a word last. Refused for memory, the tool stays as it was.
     pub fn push_arg(&mut self, word: &str) -> Mem<()>
-        ensures ok { OnOk result (self.new ≡ record self.old { args = self.old.args ++ word.now ∷ [] }) }
+        ensures ok { OnOk result (self.new ≡ with_arg self.old word.now) }
         ensures err { OnErr result (self.new ≡ self.old) }
     {
         self.args.push(word)
@@ -132,7 +141,7 @@ impl Tool {
 
     /// Adds a variable last. Refused for memory, the tool stays as it was.
     pub fn push_env(&mut self, name: &str, value: &str) -> Mem<()>
-        ensures ok { OnOk result (self.new ≡ record self.old { entries = self.old.entries ++ (name.now, value.now) ∷ [] }) }
+        ensures ok { OnOk result (self.new ≡ with_entry self.old name.now value.now) }
         ensures err { OnErr result (self.new ≡ self.old) }
     {
         self.entries.push(name, value)
@@ -140,7 +149,7 @@ impl Tool {
 
     /// Keeps a word out of the command, each time that it is among the args. Refused for memory, the tool stays as it was.
     pub fn remove_arg(&mut self, word: &str) -> Mem<()>
-        ensures ok { OnOk result (self.new ≡ record self.old { removed = self.old.removed ++ word.now ∷ [] }) }
+        ensures ok { OnOk result (self.new ≡ with_removed self.old word.now) }
         ensures err { OnErr result (self.new ≡ self.old) }
     {
         self.removed.push(word)
@@ -148,7 +157,7 @@ impl Tool {
 
     /// Sets the wrapper that runs the tool. Refused for memory, the tool stays as it was.
     pub fn set_wrapper(&mut self, wrapper: &str) -> Mem<()>
-        ensures ok { OnOk result (self.new ≡ record self.old { wrapper = Some wrapper.now }) }
+        ensures ok { OnOk result (self.new ≡ with_wrapper self.old wrapper.now) }
         ensures err { OnErr result (self.new ≡ self.old) }
     {
         self.wrapper = Some(Text::of(self.alloc, wrapper)?);
@@ -157,7 +166,7 @@ impl Tool {
 
     /// Adds a word last to those before the args. Refused for memory, the tool stays as it was.
     pub fn push_wrapper_arg(&mut self, word: &str) -> Mem<()>
-        ensures ok { OnOk result (self.new ≡ record self.old { wrapper_words = self.old.wrapper_words ++ word.now ∷ [] }) }
+        ensures ok { OnOk result (self.new ≡ with_wrapper_word self.old word.now) }
         ensures err { OnErr result (self.new ≡ self.old) }
     {
         self.wrapper_words.push(word)
@@ -214,7 +223,7 @@ impl Tool {
 
     // A command of the program alone, with the path behind a wrapper.
     fn program(&self) -> Mem<Command>
-        ensures { IfOk result (λ c. c ≡ record { program = tools.program_of self.now.wrapper self.now.path; args = tools.path_words self.now.wrapper self.now.path; env = []; dir = None }) }
+        ensures { IfOk result (λ c. c ≡ tools.bare_command self.now) }
     {
         match &self.wrapper {
             Some(wrapper) => {
@@ -241,7 +250,8 @@ impl Tool {
 
     /// The wrapper, the path and the words before the args, with spaces between; empty without a wrapper.
     pub fn cc_env(&self) -> Mem<Text>
-        ensures { IfOk result (λ text. text ≡ wrapped_text self.now.wrapper self.now.path self.now.wrapper_words) }
+        ensures { IfOk result
+            (λ text. text ≡ wrapped_text self.now.wrapper self.now.path self.now.wrapper_words) }
     {
         match &self.wrapper {
             Some(wrapper) => {

@@ -7,7 +7,7 @@ pub returns-then-reads_option-clause-asks : goal.returns-then-reads_option-claus
 returns-then-reads_option-clause-asks g c = asks_then c.ask_path.ensures.asks c.ask_path-then-reads_option.ensures.asks
 
 pub returns-then-reads_option-clause-settles : goal.returns-then-reads_option-clause-settles
-returns-then-reads_option-clause-settles g c = shown_anew c.ask_path-then-reads_option.result c.args.path.now c.new-none.result c.args.vars.now c.in_ok-first.first c.new-none.ensures (sym c.if-reads_option.ensures) c.in_ok-first.ensures.settles (asks_grows c.ask_path-then-reads_option.ensures.asks) c.ask_path-then-reads_option.ensures.settles
+returns-then-reads_option-clause-settles g c = shown_anew c.ask_path-then-reads_option.result c.args.of.now.path.now c.new-none.result c.args.of.now.vars.now c.in_ok-first.first c.new-none.ensures (sym c.if-reads_option.ensures) c.in_ok-first.ensures.settles (asks_grows c.ask_path-then-reads_option.ensures.asks) c.ask_path-then-reads_option.ensures.settles
 
 pub returns-clause-settles : goal.returns-clause-settles
-returns-clause-settles g c = shown_first c.args.path.now c.new-none.result c.args.vars.now c.in_ok-first.first c.new-none.ensures (sym c.if-reads_option.ensures) c.in_ok-first.ensures.settles
+returns-clause-settles g c = shown_first c.args.of.now.path.now c.new-none.result c.args.of.now.vars.now c.in_ok-first.first c.new-none.ensures (sym c.if-reads_option.ensures) c.in_ok-first.ensures.settles

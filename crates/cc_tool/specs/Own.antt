@@ -1,0 +1,43 @@
+-- What a call does for its one question.
+use Rattle.std.specs.Prelude.{◌≡◌, ◌⊎◌, ℕ, Bool, true, false, List, [], ◌∷◌, None, Result, Ok, Err}
+use Rattle.std.specs.List.{Contains, list_any}
+use Rattle.cc_text.specs.declared.memory.NoMemory.{NoMemory}
+use Rattle.cc_host.specs.declared.event.Event.{Event}
+use Rattle.cc_host.specs.declared.event.Event.TheVariants.{Answered, Unasked, Drawn, Made}
+use Rattle.cc_host.specs.declared.event.Scope.TheVariants.{Probe as ForProbes}
+use Rattle.cc_host.specs.declared.question.Outcome.TheVariants.{Exists}
+use Rattle.cc_host.specs.declared.question.Question.{Question}
+use Rattle.cc_host.specs.declared.question.Verdict.{Verdict}
+use Rattle.cc_host.specs.declared.question.Verdict.TheVariants.{Unanswered}
+use Rattle.cc_host.specs.Question.{Answer, Lacks, answers, exists_question}
+use Rattle.cc_host.specs.Verdict.{yes_if}
+use Rattle.cc_tool.specs.Files.{needs_files}
+use Rattle.cc_tool.specs.Founded.{is_probe_fault}
+use Rattle.cc_tool.specs.Known.{Has}
+
+-- The part answers this question, which the answers before it lack, and no other one. Where they have it their verdict is told, and nothing
+-- is done. Only want of memory keeps the question from its answer.
+abbrev pub AnswersOnly : Question → List Answer → List Event → Result Verdict NoMemory → Type 0
+AnswersOnly q known part (Ok v) = (Has known q v × (part ≡ [])) ⊎ (Lacks known q × (answers part ≡ (q, v) ∷ []))
+AnswersOnly q known part (Err e) = (answers part ≡ []) ⊎ (Lacks known q × ((v : Verdict) × (answers part ≡ (q, v) ∷ [])))
+
+-- why a question has no answer: it had none before, its command couldn't be run, or its files couldn't be made
+abbrev pub WhyUnanswered : Question → List Answer → List Event → Verdict → Type 0
+WhyUnanswered q known part v = v ≡ Unanswered → Has known q Unanswered ⊎ ((list_any is_probe_fault part ≡ true) ⊎ Contains part (Unasked q))
+
+-- a word is drawn for the name of a file, or the folder of such files is made
+abbrev pub is_for_files : Event → Bool
+is_for_files (Drawn word) = true
+is_for_files (Made ForProbes path) = true
+is_for_files _ = false
+
+-- that happens only for a question that needs files
+abbrev pub OnlyForFiles : Question → List Event → Type 0
+OnlyForFiles q part = list_any is_for_files part ≡ true → needs_files q.ask ≡ true
+
+-- whether a file is there: the answers before have it, or the disk was looked at once
+abbrev pub Looks : List ℕ → List Answer → List Event → Result Verdict NoMemory → Type 0
+Looks path known part (Ok v) =
+    (Has known (exists_question path) v × (part ≡ []))
+    ⊎ (Lacks known (exists_question path) × ((there : Bool) × (v ≡ yes_if there) × (part ≡ Answered (exists_question path) None (Exists there) ∷ [])))
+Looks path known part (Err e) = part ≡ []
