@@ -1,9 +1,9 @@
 // The compile command of an object.
-ghost use Rattle.std.specs.Prelude.{◌≡◌, ◌++◌, IfOk, IfErr, OnOk, None, unwrap_or, if◌then◌else◌};
+ghost use Rattle.std.specs.Prelude.{◌≡◌, IfOk, IfErr, OnOk, None, unwrap_or, if◌then◌else◌};
 ghost use Rattle.std.specs.Option.{option_copied};
 ghost use Rattle.cc_target.specs.Targets.{info_seen};
 ghost use Rattle.cc_tool.specs.Tool.{tool_command};
-ghost use Rattle.cc_plan.specs.Compile.{tool_for, object_words, compile_of, compiles_of};
+ghost use Rattle.cc_plan.specs.Compile.{tool_for, with_object, compile_of, compiles_of};
 ghost use Rattle.cc_plan.specs.declared.error.PlanError.TheVariants.{NoMemory as WantsMemory};
 
 use crate::words::{compile_words, is_masm};
@@ -40,9 +40,8 @@ fn push_object(
     family: ToolFamily,
     object: &Object,
 ) -> Mem<()>
-    ensures words { OnOk result (cmd.new ≡ record cmd.old {
-      args = cmd.old.args ++ object_words set.now (info_seen target.now) family object.now;
-    }) }
+    ensures { OnOk result (cmd.new ≡
+        with_object set.now (info_seen target.now) family object.now cmd.old) }
 {
     let words = compile_words(
         alloc,
@@ -67,7 +66,7 @@ pub fn compile_command(
     assembler: Option<&Tool>,
     object: &Object,
 ) -> Result<Command, PlanError>
-    ensures command { IfOk result (λ cmd. cmd ≡ compile_of set.now (info_seen target.now)
+    ensures command { IfOk result (λ c. c ≡ compile_of set.now (info_seen target.now)
         tool.now (option_copied assembler.entry) object.now) }
     ensures refused { IfErr result (λ e. e ≡ WantsMemory) }
 {

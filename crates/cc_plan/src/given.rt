@@ -40,8 +40,8 @@ pub fn host_of<'a>(set: &'a BuildConfig, env: &'a BuildEnv) -> Option<&'a str>
     or_variable(&set.host, env, "HOST")
 }
 
-/// The optimisation level as text, lent: the set one, else `OPT_LEVEL`, or none. It takes no memory.
-pub fn level_of<'a>(set: &'a BuildConfig, env: &'a BuildEnv) -> Option<&'a str>
+// The optimisation level as text: the set one, else `OPT_LEVEL`, or none.
+pub(crate) fn level_of<'a>(set: &'a BuildConfig, env: &'a BuildEnv) -> Option<&'a str>
     ensures { option_copied result ≡ level_of set.now env.now }
 {
     or_variable(&set.opt_level, env, "OPT_LEVEL")
