@@ -14,7 +14,7 @@ tool_for info tool assembler object = if is_masm info object.src then unwrap_or 
 abbrev pub compile_of : BuildConfig → Info → ToolSeen → Option ToolSeen → Object → CommandSeen
 compile_of set info tool assembler object =
     let cmd = tool_command (tool_for info tool assembler object) in
-    record cmd { args = cmd.args ++ compile_words set.cpp set.reproducible_codeview set.asm_flags tool.family info object }
+    record cmd { args = cmd.args ++ compile_words set tool.family info object }
 
 -- one command an object, in order
 abbrev pub compiles_of : BuildConfig → Info → ToolSeen → List Object → List CommandSeen

@@ -42,15 +42,7 @@ pub fn compile_command(
     ensures command { IfOk result (λ cmd. cmd ≡ compile_of set.now (info_seen target.now) tool.now (option_copied assembler.entry) object.now) }
     ensures refused { IfErr result (λ e. e ≡ WantsMemory) }
 {
-    let words = compile_words(
-        alloc,
-        set.cpp,
-        set.reproducible_codeview,
-        &set.asm_flags,
-        tool.family(),
-        target,
-        object,
-    )?;
+    let words = compile_words(alloc, set, tool.family(), target, object)?;
     let mut cmd = tool_for(target, tool, assembler, object).to_command()?;
     cmd.args(&words)?;
     Ok(cmd)
