@@ -5,7 +5,7 @@ use Rattle.cc_host.specs.Question.{Look}
 use Rattle.cc_host.specs.declared.event.Event.{Event}
 use Rattle.cc_text.specs.declared.family.ToolFamily.{ToolFamily}
 use Rattle.cc_plan.specs.Compiler.{compiler_of}
-use Rattle.cc_plan.specs.Planned.{warnings_of, supported_of}
+use Rattle.cc_plan.specs.Planned.{planned, warnings_of, supported_of}
 use Rattle.cc_plan.specs.Tool.{link_warnings, other_warnings}
 use Rattle.cc_plan.specs.declared.settings.BuildConfig.{BuildConfig}
 use Rattle.cc_build.specs.Error.{ErrorSeen}
@@ -41,7 +41,7 @@ link_same set env family told repeats = rw repeats refl
 
 warnings_same : (set : BuildConfig) (env : EnvSeen) (told : Bool) (look : Look) → set.repeat_lines ≡ true → warnings_of set env told look ≡ warnings_of set env true look
 warnings_same set env told look repeats =
-    ap (λ w. other_warnings set env (compiler_of set env look) (supported_of set env look) ++ w) (link_same set env (compiler_of set env look).family told repeats)
+    ap (λ w. other_warnings (planned set env look) (supported_of set env look) ++ w) (link_same set env (compiler_of set env look).family told repeats)
 
 compile_same : (set : BuildConfig) (env : EnvSeen) (told : Bool) (look : Look) → set.repeat_lines ≡ true → compile_stages set env told look ≡ compile_stages set env true look
 unfolding compile_stages

@@ -1,5 +1,6 @@
 pub mod AskingLemmas
 pub mod BeforeLemmas
+pub mod CompilationLemmas
 pub mod CompileLemmas
 pub mod CutTextLemmas
 pub mod FindLemmas

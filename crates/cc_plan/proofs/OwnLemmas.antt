@@ -9,15 +9,14 @@ use Rattle.cc_flags.specs.declared.error.FlagError.{FlagError}
 use Rattle.cc_flags.specs.declared.error.FlagError.TheVariants.{InvalidFlag, NoMemory as FlagMemory}
 use Rattle.cc_plan.specs.Inherited.{inherited_refusal, inherited_text, plan_refusal}
 use Rattle.cc_plan.specs.Asking.{IsOwn}
-use Rattle.cc_env.specs.Snapshot.{last_value}
-use Rattle.cc_flags.specs.DefaultWords.{lacks_qnx_variant, is_wasm_linux, is_told_target}
+use Rattle.cc_flags.specs.DefaultWords.{lacks_qnx_variant, is_wasm_linux}
 use Rattle.cc_plan.specs.Given.{target_of, host_of, level_of, has_no_defaults}
-use Rattle.cc_plan.specs.Target.{target_info}
+use Rattle.cc_plan.specs.Compilation.{CompilationSeen, compilation_of}
 use Rattle.cc_plan.specs.Refusal.{first_of, unset, target_refusal, given_refusal, refusal_by}
-use Rattle.cc_plan.specs.FlagSupport.{verdict_refusal}
-use Rattle.cc_plan.specs.Support.{flag_settings, flag_compiler, is_for_linker}
+use Rattle.cc_plan.specs.FlagSupport.{question_refusal, verdict_refusal}
+use Rattle.cc_plan.specs.Support.{is_for_linker, plain_of}
 use Rattle.cc_plan.specs.Tool.{defaults_refusal_by}
-use Rattle.cc_plan.specs.ToolWords.{qnx_refusal, sysroot_refusal, first_refusal, clang_refusal, defaults_refusal}
+use Rattle.cc_plan.specs.ToolWords.{qnx_refusal, sysroot_refusal, first_refusal, clang_refusal, defaults_refusal, musl_sysroot, names_target}
 use Rattle.cc_plan.specs.declared.compiler.Compiler.{Compiler}
 use Rattle.cc_plan.specs.declared.error.PlanError.{PlanError}
 use Rattle.cc_plan.specs.declared.error.PlanError.TheVariants.{NotSet, UnknownTarget, QnxArch, NoMemory as WantsMemory}
@@ -68,23 +67,21 @@ inherited_own : (inherits : Bool) (env : List (List ℕ × List ℕ)) → AreOwn
 unfolding inherited_refusal
 inherited_own inherits env = flag_own (option_and_then flags_refusal (inherited_text inherits env))
 
-defaults_own : (no_defaults : Bool) (set : BuildConfig) (env : List (List ℕ × List ℕ)) (target : Info) (family : ToolFamily) (program : List ℕ) → AreOwn (defaults_refusal no_defaults set env target family program)
+defaults_own : (c : CompilationSeen) → AreOwn (defaults_refusal c)
 unfolding defaults_refusal clang_refusal
-defaults_own no_defaults set env target family program =
-    let sysroot = sysroot_refusal target (last_value env (codes "WASM_MUSL_SYSROOT")) in
-    let told = is_told_target family set.compiler target program in
-    choice_own no_defaults None (first_refusal (qnx_refusal family target) (if told then sysroot else None)) tt
-    (first_words_own (qnx_refusal family target) (if told then sysroot else None) (qnx_own family target) (choice_own told sysroot None (sysroot_own target (last_value env (codes "WASM_MUSL_SYSROOT"))) tt))
+defaults_own c =
+    let qnx = qnx_refusal c.compiler.family c.target in
+    let sysroot = sysroot_refusal c.target (musl_sysroot c) in
+    let clang = if names_target c then sysroot else None in
+    choice_own (has_no_defaults c.set c.env) None (first_refusal qnx clang) tt
+    (first_words_own qnx clang (qnx_own c.compiler.family c.target) (choice_own (names_target c) sysroot None (sysroot_own c.target (musl_sysroot c)) tt))
 
 by_own : (set : BuildConfig) (env : EnvSeen) (compiler : Compiler) → AreOwn (refusal_by set env compiler)
 unfolding refusal_by defaults_refusal_by
 by_own set env compiler =
     let host = unset (codes "HOST") (host_of set env) in
     let inherited = inherited_refusal set.inherit_rustflags env.inherited in
-    first_own
-    (defaults_refusal (has_no_defaults set env) set env.inherited (target_info set env) compiler.family compiler.choice.path)
-    (first_of host inherited)
-    (defaults_own (has_no_defaults set env) set env.inherited (target_info set env) compiler.family compiler.choice.path)
+    first_own (defaults_refusal (compilation_of set env compiler)) (first_of host inherited) (defaults_own (compilation_of set env compiler))
     (first_own host inherited (unset_own (codes "HOST") (host_of set env)) (inherited_own set.inherit_rustflags env.inherited))
 
 own : (refusal : Option PlanError) (e : PlanError) → AreOwn refusal → (e ≡ WantsMemory) ⊎ (refusal ≡ Some e) → IsOwn e
@@ -97,13 +94,13 @@ given_is_own set env e h = own (given_refusal set env) e (given_own set env) h
 pub built_is_own : (set : BuildConfig) (env : EnvSeen) (compiler : Compiler) (e : PlanError) → (e ≡ WantsMemory) ⊎ (refusal_by set env compiler ≡ Some e) → IsOwn e
 built_is_own set env compiler e h = own (refusal_by set env compiler) e (by_own set env compiler) h
 
-verdict_own : (set : BuildConfig) (env : EnvSeen) (family : ToolFamily) (path flag : List ℕ) → AreOwn (verdict_refusal set env family path flag)
+verdict_own : (c : CompilationSeen) (flag : List ℕ) → AreOwn (verdict_refusal c flag)
 unfolding verdict_refusal
-verdict_own set env family path flag =
-    choice_own (is_for_linker family flag) None (refusal_by (flag_settings set path flag) env (flag_compiler path family)) tt (by_own (flag_settings set path flag) env (flag_compiler path family))
+verdict_own c flag =
+    choice_own (is_for_linker c.compiler.family flag) None (question_refusal c flag) tt (by_own (plain_of c flag).set c.env c.compiler)
 
-pub verdict_is_own : (set : BuildConfig) (env : EnvSeen) (family : ToolFamily) (path flag : List ℕ) (e : PlanError) → (e ≡ WantsMemory) ⊎ (verdict_refusal set env family path flag ≡ Some e) → IsOwn e
-verdict_is_own set env family path flag e h = own (verdict_refusal set env family path flag) e (verdict_own set env family path flag) h
+pub verdict_is_own : (c : CompilationSeen) (flag : List ℕ) (e : PlanError) → (e ≡ WantsMemory) ⊎ (verdict_refusal c flag ≡ Some e) → IsOwn e
+verdict_is_own c flag e h = own (verdict_refusal c flag) e (verdict_own c flag) h
 
 pub target_is_own : (set : BuildConfig) (env : EnvSeen) (e : PlanError) → (e ≡ WantsMemory) ⊎ (target_refusal (target_of set env) ≡ Some e) → IsOwn e
 target_is_own set env e h = own (target_refusal (target_of set env)) e (target_own (target_of set env)) h

@@ -15,7 +15,7 @@ tool_for info tool assembler object = if is_masm info object.src then unwrap_or 
 -- a command with the words of an object and its source behind its own, in the form of a family
 abbrev pub with_object : BuildConfig → Info → ToolFamily → Object → CommandSeen → CommandSeen
 with_object set info family object cmd =
-    record cmd { args = cmd.args ++ compile_words set.cpp set.reproducible_codeview set.asm_flags family info object }
+    record cmd { args = cmd.args ++ compile_words set family info object }
 
 abbrev pub compile_of : BuildConfig → Info → ToolSeen → Option ToolSeen → Object → CommandSeen
 compile_of set info tool assembler object = with_object set info tool.family object (tool_command (tool_for info tool assembler object))

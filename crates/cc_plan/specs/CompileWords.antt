@@ -9,6 +9,7 @@ use Rattle.cc_target.specs.Targets.{Info, is_arm}
 use Rattle.cc_plan.specs.declared.object.Object.{Object}
 use Rattle.cc_text.specs.Families.{is_visual_studio, is_clang_cl, is_cl}
 use Rattle.cc_flags.specs.CompilerNames.{name_of}
+use Rattle.cc_plan.specs.declared.settings.BuildConfig.{BuildConfig}
 use Rattle.cc_flags.specs.Texts.{is, word}
 
 abbrev pub is_asm_extension : List ℕ → Bool
@@ -56,10 +57,11 @@ source_words family cpp source =
     if is_cl family && cpp && has_extension_cc source then (codes "-Tp" ++ source) ∷ []
     else when (is_clang_cl family) (word "--") ++ source ∷ []
 
-abbrev pub compile_words : Bool → Bool → List (List ℕ) → ToolFamily → Info → Object → List (List ℕ)
-compile_words cpp reproducible_codeview asm_flags family target object =
+-- the words of a compile command that follow those of the tool
+abbrev pub compile_words : BuildConfig → ToolFamily → Info → Object → List (List ℕ)
+compile_words set family target object =
     object_words family target object
-    ++ codeview_words family reproducible_codeview object
+    ++ codeview_words family set.reproducible_codeview object
     ++ word "-c"
-    ++ when (is_asm object.src) asm_flags
-    ++ source_words family cpp object.src
+    ++ when (is_asm object.src) set.asm_flags
+    ++ source_words family set.cpp object.src

@@ -13,6 +13,7 @@ use Rattle.cc_text.specs.Quoted.{quoted}
 use Rattle.cc_text.specs.declared.family.ToolFamily.{ToolFamily}
 use Rattle.cc_text.specs.Words.{is_among}
 use Rattle.cc_plan.specs.declared.error.PlanError.{PlanError}
+use Rattle.cc_plan.specs.declared.inherited.Rustflags.{Rustflags}
 use Rattle.cc_plan.specs.declared.error.PlanError.TheVariants.{Flag, NoMemory}
 
 -- the text of the flags, where they are taken
@@ -31,9 +32,21 @@ abbrev pub plan_refusal : FlagError → PlanError
 plan_refusal (InvalidFlag flag) = Flag flag
 plan_refusal WantsMemory = NoMemory
 
+-- what is wrong with them
+abbrev pub inherited_wrong : Bool → List (List ℕ × List ℕ) → Option FlagError
+inherited_wrong inherits env = option_and_then refusal_of (inherited_text inherits env)
+
+-- the flags and what is wrong with them, as they are read once a run
+abbrev pub rustflags : Bool → List (List ℕ × List ℕ) → Rustflags
+rustflags inherits env = record { flags = inherited_flags inherits env; wrong = inherited_wrong inherits env }
+
+-- why flags that were read are refused
+abbrev pub wrong_refusal : Rustflags → Option PlanError
+wrong_refusal flags = option_map plan_refusal flags.wrong
+
 -- why they are refused
 unfoldable pub inherited_refusal : Bool → List (List ℕ × List ℕ) → Option PlanError
-inherited_refusal inherits env = option_map plan_refusal (option_and_then refusal_of (inherited_text inherits env))
+inherited_refusal inherits env = option_map plan_refusal (inherited_wrong inherits env)
 
 -- the processor that they name
 unfoldable pub inherited_cpu : Bool → List (List ℕ × List ℕ) → Option (List ℕ)
@@ -41,7 +54,8 @@ inherited_cpu inherits env = option_and_then (λ flags. flags.target_cpu) (inher
 
 -- the words of a compiler that say the same
 unfoldable pub inherited_words : Bool → List (List ℕ × List ℕ) → ToolFamily → Info → List (List ℕ)
-inherited_words inherits env family target = option_map_or (λ flags. wanted flags family target) (inherited_flags inherits env) []
+inherited_words inherits env family target =
+    option_map_or (λ flags. wanted flags family target) (inherited_flags inherits env) []
 
 -- those that the compiler takes
 abbrev pub taken_words : List (List ℕ) → List (List ℕ) → List (List ℕ)

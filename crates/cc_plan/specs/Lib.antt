@@ -3,6 +3,7 @@ pub mod Archive
 pub mod Asking
 pub mod Blanks
 pub mod Choice
+pub mod Compilation
 pub mod Compile
 pub mod CompileWords
 pub mod Compiler

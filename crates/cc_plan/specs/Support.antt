@@ -1,5 +1,5 @@
 -- Words that a compiler is given only where it takes them.
-use Rattle.std.specs.Prelude.{ℕ, Bool, false, not, ◌&&◌, List, [], ◌∷◌, ◌++◌, Some, is_none, bytes_eq, codes, filter, if◌then◌else◌}
+use Rattle.std.specs.Prelude.{ℕ, Bool, false, not, ◌&&◌, List, [], ◌∷◌, ◌++◌, Option, Some, None, is_none, bytes_eq, codes, filter, if◌then◌else◌}
 use Rattle.cc_env.specs.Env.{EnvSeen}
 use Rattle.cc_env.specs.Snapshot.{child_of}
 use Rattle.cc_host.specs.Question.{Look, is_yes}
@@ -10,12 +10,15 @@ use Rattle.cc_tool.specs.Family.{family_of}
 use Rattle.cc_tool.specs.declared.family.Detected.TheVariants.{Marks as ByMarks}
 use Rattle.cc_plan.specs.Choice.{bare}
 use Rattle.cc_text.specs.Families.{is_clang, is_visual_studio}
+use Rattle.cc_plan.specs.Compilation.{CompilationSeen}
 use Rattle.cc_plan.specs.Refusal.{refusal_by}
 use Rattle.cc_plan.specs.SettingWords.{is_link}
 use Rattle.cc_plan.specs.Settings.{unset_settings}
 use Rattle.cc_flags.specs.Texts.{word}
-use Rattle.cc_plan.specs.Tool.{words_by, asks_by, language_variable}
+use Rattle.cc_plan.specs.Tool.{language_variable}
+use Rattle.cc_plan.specs.ToolWords.{asked_words, tool_words}
 use Rattle.cc_plan.specs.declared.compiler.Compiler.{Compiler}
+use Rattle.cc_plan.specs.declared.error.PlanError.{PlanError}
 use Rattle.cc_plan.specs.declared.flags.BuildFlag.TheVariants.{Always}
 use Rattle.cc_plan.specs.declared.settings.BuildConfig.{BuildConfig}
 
@@ -47,43 +50,70 @@ abbrev pub asking_words : ToolFamily → List (List ℕ) → List (List ℕ)
 asking_words family words = if is_clang family then quiet_words words ++ word "-Wno-unused-command-line-argument" else words
 
 -- the words of a question on a flag, by its settings
-unfoldable pub question_words : BuildConfig → EnvSeen → Compiler → List (List ℕ)
-question_words plain env compiler = asking_words compiler.family (words_by plain env compiler [])
+unfoldable pub question_words : CompilationSeen → List (List ℕ)
+question_words plain = asking_words plain.compiler.family (tool_words plain [])
+
+-- the variables of a question on a flag: those of the tool
+abbrev pub flag_vars : EnvSeen → ToolFamily → List (List ℕ × List ℕ)
+flag_vars env family = child_of env.inherited (language_variable family ∷ env.explicit)
 
 -- the question by its settings
-abbrev pub plain_question : BuildConfig → EnvSeen → Compiler → Question
-plain_question plain env compiler = record {
-  ask = Flag plain.cpp compiler.family;
-  program = compiler.choice.path;
-  words = question_words plain env compiler;
-  vars = child_of env.inherited (language_variable compiler.family ∷ env.explicit);
+abbrev pub plain_question : CompilationSeen → Question
+plain_question plain = record {
+  ask = Flag plain.set.cpp plain.compiler.family;
+  program = plain.compiler.choice.path;
+  words = question_words plain;
+  vars = flag_vars plain.env plain.compiler.family;
 }
 
--- whether the compiler at a path takes a flag
-abbrev pub flag_question : BuildConfig → EnvSeen → ToolFamily → List ℕ → List ℕ → Question
-flag_question set env family path flag = plain_question (flag_settings set path flag) env (flag_compiler path family)
+-- a compilation with the settings of a question on a flag
+abbrev pub plain_of : CompilationSeen → List ℕ → CompilationSeen
+plain_of c flag = record c { set = flag_settings c.set c.compiler.choice.path flag }
+
+-- whether the compiler takes a flag
+abbrev pub flag_question : CompilationSeen → List ℕ → Question
+flag_question c flag = plain_question (plain_of c flag)
+
+-- why a compiler has no words
+abbrev pub compiler_refusal : CompilationSeen → Option PlanError
+compiler_refusal c = refusal_by c.set c.env c.compiler
 
 -- the flag is for the linker of Visual Studio
 abbrev pub is_for_linker : ToolFamily → List ℕ → Bool
 is_for_linker family flag = is_visual_studio family && is_link flag
 
 -- what the linker is told isn't asked about, and neither is a flag for which there is no command
-unfoldable pub is_asked_of : BuildConfig → EnvSeen → ToolFamily → List ℕ → List ℕ → Bool
-is_asked_of set env family path flag =
-    not (is_for_linker family flag) && is_none (refusal_by (flag_settings set path flag) env (flag_compiler path family))
+unfoldable pub is_asked_of : CompilationSeen → List ℕ → Bool
+is_asked_of c flag = not (is_for_linker c.compiler.family flag) && is_none (compiler_refusal (plain_of c flag))
 
--- the compiler of a family at a path takes the flag
-unfoldable pub takes : BuildConfig → EnvSeen → ToolFamily → List ℕ → Look → List ℕ → Bool
-takes set env family path look flag = is_asked_of set env family path flag && is_yes (look (flag_question set env family path flag))
+-- the question on a flag, where it is asked about
+abbrev pub asked_question : CompilationSeen → List ℕ → Option Question
+asked_question c flag = if is_asked_of c flag then Some (flag_question c flag) else None
+
+-- the compiler takes the flag
+unfoldable pub takes : CompilationSeen → Look → List ℕ → Bool
+takes c look flag = is_asked_of c flag && is_yes (look (flag_question c flag))
 
 -- the family that a question on a flag is asked with: that of the path alone
 abbrev pub bare_family : EnvSeen → List ℕ → Look → ToolFamily
 bare_family env path look = (family_of look path [] (child_of env.inherited env.explicit)).0
 
--- those of some words that the compiler takes
-abbrev pub supported_among : BuildConfig → EnvSeen → List ℕ → List (List ℕ) → Look → List (List ℕ)
-supported_among set env path words look = filter (takes set env (bare_family env path look) path look) words
+-- the compiler that a question on a flag is asked of
+abbrev pub bare_compiler : EnvSeen → List ℕ → Look → Compiler
+bare_compiler env path look = flag_compiler path (bare_family env path look)
 
--- those that the compiler takes of the words it is asked about
-abbrev pub supported_by : BuildConfig → EnvSeen → Compiler → Look → List (List ℕ)
-supported_by set env compiler look = supported_among set env compiler.choice.path (asks_by set env compiler) look
+-- those of some words that the compiler takes
+abbrev pub taken_among : CompilationSeen → List (List ℕ) → Look → List (List ℕ)
+taken_among c words look = filter (takes c look) words
+
+-- the compiler at the path of this one, with the family of the path alone
+abbrev pub bare_of : CompilationSeen → Look → CompilationSeen
+bare_of c look = record c { compiler = bare_compiler c.env c.compiler.choice.path look }
+
+-- those of some words that it takes
+abbrev pub supported_among : CompilationSeen → List (List ℕ) → Look → List (List ℕ)
+supported_among c words look = taken_among (bare_of c look) words look
+
+-- those that it takes of the words it is asked about
+abbrev pub supported : CompilationSeen → Look → List (List ℕ)
+supported c look = supported_among c (asked_words c) look

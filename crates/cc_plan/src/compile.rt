@@ -43,15 +43,7 @@ fn push_object(
     ensures { OnOk result (cmd.new ≡
         with_object set.now (info_seen target.now) family object.now cmd.old) }
 {
-    let words = compile_words(
-        alloc,
-        set.cpp,
-        set.reproducible_codeview,
-        &set.asm_flags,
-        family,
-        target,
-        object,
-    )?;
+    let words = compile_words(alloc, set, family, target, object)?;
     cmd.args(&words)
 }
 

@@ -4,78 +4,77 @@ ghost use Rattle.cc_host.specs.Question.{Settles};
 ghost use Rattle.cc_host.specs.declared.event.HostCall.TheVariants.{Print};
 ghost use Rattle.cc_host.specs.declared.event.Why.{Why};
 ghost use Rattle.cc_plan.specs.Asking.{AsksThen, Warns, IsOwn, OnlyAsks};
+ghost use Rattle.cc_plan.specs.Compilation.{seen, folder_of};
 ghost use Rattle.cc_plan.specs.Compiler.{compiler_of};
 ghost use Rattle.cc_plan.specs.FlagSupport as spec;
 ghost use Rattle.cc_plan.specs.Given.{probe_folder};
-ghost use Rattle.cc_plan.specs.Refusal.{refusal_by};
-ghost use Rattle.cc_plan.specs.Support.{flag_settings, flag_compiler, flag_question as question_on, bare_family};
+ghost use Rattle.cc_plan.specs.Support.{flag_question as question_on};
 ghost use Rattle.cc_plan.specs.Target.{target_info};
 ghost use Rattle.cc_plan.specs.declared.error.PlanError.TheVariants.{NoMemory as WantsMemory, Host as HostFault};
 ghost use Rattle.cc_target.specs.Targets.{info_seen};
 
+use crate::compilation::Compilation;
 use crate::compiler::{Compiler, compiler_of};
 use crate::given::probe_folder;
+use crate::inherited::read_rustflags;
 use crate::printing::{print_warnings, wanted_lines};
-use crate::support::{bare_family, flag_compiler, flag_question, flag_settings, is_for_linker};
-use crate::tool::{check_compiler, detection_warnings, known_target, push_gnu_warning};
+use crate::support::{bare_compiler, flag_settings, is_for_linker, plain_question};
+use crate::tool::{check_compiler, found_warnings, known_target};
 use crate::{BuildConfig, PlanError, Sight};
 use cc_env::BuildEnv;
 use cc_host::{Host, Question, Verdict, World};
 use cc_target::TargetInfo;
-use cc_text::{Mem, ToolFamily, Words};
+use cc_text::{Mem, Words};
 use cc_tool::ask_flag;
 use std::alloc::Global;
 use std::sync::Wait;
 
 // The question on a flag, where it has words.
-fn checked_question(
-    alloc: Global,
-    set: &BuildConfig,
-    env: &BuildEnv,
-    target: &TargetInfo,
-    family: ToolFamily,
-    path: &str,
-    flag: &str,
-) -> Result<Question, PlanError>
-    requires { info_seen target.now ≡ target_info set.now env.now }
-    ensures question { IfOk result (λ q. q ≡ question_on set.now env.now family path.now flag.now) }
-    ensures allowed { OnOk result (refusal_by (flag_settings set.now path.now flag.now) env.now (flag_compiler path.now family) ≡ None) }
-    ensures refused { IfErr result (λ e. (e ≡ WantsMemory) ⊎ (refusal_by (flag_settings set.now path.now flag.now) env.now (flag_compiler path.now family) ≡ Some e)) }
+fn checked_question(given: &Compilation<'_>, flag: &str) -> Result<Question, PlanError>
+    ensures question { IfOk result (λ q. q ≡ question_on (seen given.now) flag.now) }
+    ensures allowed { OnOk result (spec.question_refusal (seen given.now) flag.now ≡ None) }
+    ensures refused { IfErr result (λ e.
+        (e ≡ WantsMemory) ⊎ (spec.question_refusal (seen given.now) flag.now ≡ Some e)) }
 {
-    let plain = flag_settings(alloc, set, path, flag)?;
-    let compiler = flag_compiler(alloc, path, family)?;
-    check_compiler(alloc, &plain, env, target, &compiler)?;
-    let question = flag_question(alloc, env, target, &plain, &compiler)?;
+    let path = given.compiler.choice.path.as_str();
+    let settings = flag_settings(given.alloc, given.set, path, flag)?;
+    let inherits = settings.inherit_rustflags;
+    let rustflags = read_rustflags(given.alloc, inherits, given.env.inherited())?;
+    let plain = Compilation {
+        alloc: given.alloc,
+        set: &settings,
+        env: given.env,
+        rustflags: &rustflags,
+        target: given.target,
+        compiler: given.compiler,
+    };
+    check_compiler(&plain)?;
+    let question = plain_question(&plain)?;
     Ok(question)
 }
 
-// The verdict on a flag for the compiler of a family at a path.
+// The verdict of a compiler on a flag.
 #[tactic(auto, unfolding(crate::specs::FlagSupport::verdict_on, crate::specs::FlagSupport::verdict_refusal))]
 fn verdict_on<W: World, H: Host<W>>(
     rt: &impl Wait,
-    alloc: Global,
-    set: &BuildConfig,
-    env: &BuildEnv,
-    target: &TargetInfo,
-    family: ToolFamily,
-    path: &str,
+    given: &Compilation<'_>,
     flag: &str,
     sight: &mut Sight<'_, W, H>,
 ) -> Result<Verdict, PlanError>
-    requires { info_seen target.now ≡ target_info set.now env.now }
-    ensures asks { OnlyAsks W.steady W.answer H.log H.patience (probe_folder set.now env.now) sight.old sight.new }
-    ensures verdict { IfOk result (Settles sight.new.answers.now (spec.verdict_on set.now env.now family path.now flag.now)) }
-    ensures allowed { OnOk result (spec.verdict_refusal set.now env.now family path.now flag.now ≡ None) }
-    ensures refused { IfErr result (λ e. (e ≡ WantsMemory) ⊎ (spec.verdict_refusal set.now env.now family path.now flag.now ≡ Some e)) }
+    ensures asks { OnlyAsks W.steady W.answer H.log H.patience (folder_of (seen given.now)) sight.old sight.new }
+    ensures verdict { IfOk result (Settles sight.new.answers.now (spec.verdict_on (seen given.now) flag.now)) }
+    ensures allowed { OnOk result (spec.verdict_refusal (seen given.now) flag.now ≡ None) }
+    ensures refused { IfErr result (λ e.
+        (e ≡ WantsMemory) ⊎ (spec.verdict_refusal (seen given.now) flag.now ≡ Some e)) }
 {
-    if is_for_linker(family, flag) {
+    if is_for_linker(given.compiler.family, flag) {
         return Ok(Verdict::No);
     }
-    let question = checked_question(alloc, set, env, target, family, path, flag)?;
-    let dir = probe_folder(set, env);
+    let question = checked_question(given, flag)?;
+    let dir = probe_folder(given.set, given.env);
     let verdict = ask_flag(
         rt,
-        alloc,
+        given.alloc,
         sight.host,
         sight.caches,
         sight.answers,
@@ -83,23 +82,6 @@ fn verdict_on<W: World, H: Host<W>>(
         dir,
     )?;
     Ok(verdict)
-}
-
-// How the compiler was found, and that it isn't one for the target, where a user is warned of it.
-fn found_warnings(
-    alloc: Global,
-    set: &BuildConfig,
-    env: &BuildEnv,
-    target: &TargetInfo,
-    compiler: &Compiler,
-) -> Mem<Words>
-    requires { info_seen target.now ≡ target_info set.now env.now }
-    ensures { IfOk result (λ warnings. warnings ≡ spec.found_warnings set.now env.now compiler.now) }
-{
-    let _ = env;
-    let mut warnings = detection_warnings(alloc, compiler)?;
-    push_gnu_warning(&mut warnings, set, target, compiler.family)?;
-    Ok(warnings)
 }
 
 /// The verdict of a compiler on a flag.
@@ -116,7 +98,7 @@ struct Support {
     warnings: Words,
 }
 
-// The compiler, and the family of its path alone.
+// The compiler, and the one that is asked: that of its path alone.
 fn found_compiler<W: World, H: Host<W>>(
     rt: &impl Wait,
     alloc: Global,
@@ -124,14 +106,15 @@ fn found_compiler<W: World, H: Host<W>>(
     env: &BuildEnv,
     target: &TargetInfo,
     sight: &mut Sight<'_, W, H>,
-) -> Mem<(Compiler, ToolFamily)>
+) -> Mem<(Compiler, Compiler)>
     requires { info_seen target.now ≡ target_info set.now env.now }
-    ensures asks { OnlyAsks W.steady W.answer H.log H.patience (probe_folder set.now env.now) sight.old sight.new }
-    ensures settles { IfOk result (λ found. Settles sight.new.answers.now (λ look. (compiler_of set.now env.now look, bare_family env.now (spec.path_of set.now env.now look) look)) found) }
+    ensures asks { OnlyAsks W.steady W.answer H.log H.patience (probe_folder set.now env.now)
+        sight.old sight.new }
+    ensures settles { IfOk result (λ found. Settles sight.new.answers.now (spec.found set.now env.now) found) }
 {
     let compiler = compiler_of(rt, alloc, set, env, target, sight)?;
-    let family = bare_family(rt, alloc, set, env, compiler.choice.path.as_str(), sight)?;
-    Ok((compiler, family))
+    let bare = bare_compiler(rt, alloc, set, env, compiler.choice.path.as_str(), sight)?;
+    Ok((compiler, bare))
 }
 
 // The verdict on a flag. It asks, and prints nothing.
@@ -143,19 +126,41 @@ fn plan_support<W: World, H: Host<W>>(
     flag: &str,
     sight: &mut Sight<'_, W, H>,
 ) -> Result<Support, PlanError>
-    ensures asks { OnlyAsks W.steady W.answer H.log H.patience (probe_folder set.now env.now) sight.old sight.new }
-    ensures verdict { IfOk result (λ support. Settles sight.new.answers.now (spec.flag_verdict set.now env.now flag.now) support.found.verdict) }
-    ensures compiler { IfOk result (λ support. Settles sight.new.answers.now (compiler_of set.now env.now) support.found.compiler) }
-    ensures warnings { IfOk result (λ support. Settles sight.new.answers.now (λ look. spec.found_warnings set.now env.now (compiler_of set.now env.now look)) support.warnings) }
-    ensures allowed { OnOk result (Settles sight.new.answers.now (spec.support_refusal set.now env.now flag.now) None) }
-    ensures refused { IfErr result (λ e. (e ≡ WantsMemory) ⊎ Settles sight.new.answers.now (spec.support_refusal set.now env.now flag.now) (Some e)) }
+    ensures asks { OnlyAsks W.steady W.answer H.log H.patience (probe_folder set.now env.now)
+        sight.old sight.new }
+    ensures verdict { IfOk result (λ support. Settles sight.new.answers.now
+        (spec.flag_verdict set.now env.now flag.now) support.found.verdict) }
+    ensures compiler { IfOk result (λ support. Settles sight.new.answers.now
+        (compiler_of set.now env.now) support.found.compiler) }
+    ensures warnings { IfOk result (λ support. Settles sight.new.answers.now
+        (spec.support_warnings set.now env.now) support.warnings) }
+    ensures allowed { OnOk result (Settles sight.new.answers.now
+        (spec.support_refusal set.now env.now flag.now) None) }
+    ensures refused { IfErr result (λ e. (e ≡ WantsMemory) ⊎ Settles sight.new.answers.now
+        (spec.support_refusal set.now env.now flag.now) (Some e)) }
     ensures own { IfErr result IsOwn }
 {
     let target = known_target(alloc, set, env)?;
-    let (compiler, family) = found_compiler(rt, alloc, set, env, &target, sight)?;
-    let path = compiler.choice.path.as_str();
-    let verdict = verdict_on(rt, alloc, set, env, &target, family, path, flag, sight)?;
-    let warnings = found_warnings(alloc, set, env, &target, &compiler)?;
+    let rustflags = read_rustflags(alloc, set.inherit_rustflags, env.inherited())?;
+    let (compiler, bare) = found_compiler(rt, alloc, set, env, &target, sight)?;
+    let asked = Compilation {
+        alloc,
+        set,
+        env,
+        rustflags: &rustflags,
+        target: &target,
+        compiler: &bare,
+    };
+    let verdict = verdict_on(rt, &asked, flag, sight)?;
+    let given = Compilation {
+        alloc,
+        set,
+        env,
+        rustflags: &rustflags,
+        target: &target,
+        compiler: &compiler,
+    };
+    let warnings = found_warnings(&given)?;
     Ok(Support {
         found: FlagSupport { compiler, verdict },
         warnings,
@@ -176,11 +181,20 @@ pub fn flag_support<W: World, H: Host<W>>(
 ) -> Result<FlagSupport, PlanError>
     ensures same_host { sight.new.host.ghost_name ≡ sight.old.host.ghost_name }
     ensures same_answers { sight.new.answers.ghost_name ≡ sight.old.answers.ghost_name }
-    ensures asks { AsksThen W.steady W.answer (probe_folder set.now env.now) (H.log sight.old.host.now) (H.log sight.new.host.now) sight.old.answers.now sight.new.answers.now (Warns sight.new.answers.now (λ told. spec.support_lines set.now env.now) result) }
-    ensures compiler { IfOk result (λ found. Settles sight.new.answers.now (compiler_of set.now env.now) found.compiler) }
-    ensures verdict { IfOk result (λ found. Settles sight.new.answers.now (spec.flag_verdict set.now env.now flag.now) found.verdict) }
-    ensures allowed { OnOk result (Settles sight.new.answers.now (spec.support_refusal set.now env.now flag.now) None) }
-    ensures refused { IfErr result (λ e. (e ≡ WantsMemory) ⊎ (((why : Why) × (e ≡ HostFault Print why)) ⊎ Settles sight.new.answers.now (spec.support_refusal set.now env.now flag.now) (Some e))) }
+    ensures asks { AsksThen W.steady W.answer (probe_folder set.now env.now)
+        (H.log sight.old.host.now) (H.log sight.new.host.now)
+        sight.old.answers.now sight.new.answers.now
+        (Warns sight.new.answers.now (λ told. spec.support_lines set.now env.now) result) }
+    ensures compiler { IfOk result (λ found. Settles sight.new.answers.now
+        (compiler_of set.now env.now) found.compiler) }
+    ensures verdict { IfOk result (λ found. Settles sight.new.answers.now
+        (spec.flag_verdict set.now env.now flag.now) found.verdict) }
+    ensures allowed { OnOk result (Settles sight.new.answers.now
+        (spec.support_refusal set.now env.now flag.now) None) }
+    ensures refused { IfErr result (λ e. (e ≡ WantsMemory)
+        ⊎ (((why : Why) × (e ≡ HostFault Print why))
+        ⊎ Settles sight.new.answers.now
+        (spec.support_refusal set.now env.now flag.now) (Some e))) }
     ensures patient { H.patience sight.new.host.now ≡ H.patience sight.old.host.now }
 {
     let support = plan_support(rt, alloc, set, env, flag, sight)?;

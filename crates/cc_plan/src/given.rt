@@ -10,7 +10,11 @@ use cc_text::{Mem, Text, Words};
 use std::alloc::Global;
 
 // A value that is set, else that of a variable.
-fn or_variable<'a>(value: &'a Option<Text>, env: &'a BuildEnv, name: &str) -> Option<&'a str>
+pub(crate) fn or_variable<'a>(
+    value: &'a Option<Text>,
+    env: &'a BuildEnv,
+    name: &str,
+) -> Option<&'a str>
     ensures { option_copied result ≡ or_variable value.now env.now name.now }
 {
     match value {

@@ -1,15 +1,13 @@
 // The flags of Rust code that Cargo hands down.
 ghost use Rattle.std.specs.Prelude.{◌≡◌, ◌⊎◌, ◌++◌, None, Some, IfOk, IfErr, OnOk};
 ghost use Rattle.std.specs.Option.{option_copied};
-ghost use Rattle.cc_target.specs.Targets.{info_seen};
 ghost use Rattle.cc_plan.specs.declared.error.PlanError.TheVariants.{NoMemory as WantsMemory};
 ghost use Rattle.cc_plan.specs.Inherited as spec;
 
 use crate::PlanError;
 use cc_env::EnvSnapshot;
 use cc_flags::{FlagError, RustcCodegenFlags, is_among};
-use cc_target::TargetInfo;
-use cc_text::{Mem, NoMemory, Text, ToolFamily, Words, quoted};
+use cc_text::{Mem, NoMemory, Text, Words, quoted};
 use std::alloc::Global;
 
 // The text of the flags, where they are taken.
@@ -23,8 +21,42 @@ fn inherited_text(inherits: bool, env: &EnvSnapshot) -> Option<&str>
     }
 }
 
-/// The flags; those with a wrong one count as none.
+/// The flags of Rust code that Cargo hands down, as they are read once a run.
+#[derive(Drop, Debug)]
+pub(crate) struct Rustflags {
+    /// The flags: none where they aren't taken, none is set, or one is wrong.
+    pub flags: Option<RustcCodegenFlags>,
+    /// Why they are refused, where one is wrong.
+    pub wrong: Option<FlagError>,
+}
+
+/// Reads the flags from `CARGO_ENCODED_RUSTFLAGS`, where they are taken: Cargo's book says in "Environment variables", "Environment
+/// variables Cargo sets for build scripts", that a build script finds them there, with a byte 0x1f between each two. Want of memory
+/// refuses.
 #[tactic(auto, unfolding(crate::specs::Inherited::inherited_flags))]
+pub(crate) fn read_rustflags(alloc: Global, inherits: bool, env: &EnvSnapshot) -> Mem<Rustflags>
+    ensures { IfOk result (λ flags. flags ≡ spec.rustflags inherits env.now) }
+{
+    match inherited_text(inherits, env) {
+        None => Ok(Rustflags {
+            flags: None,
+            wrong: None,
+        }),
+        Some(text) => match RustcCodegenFlags::parse(alloc, text) {
+            Ok(flags) => Ok(Rustflags {
+                flags: Some(flags),
+                wrong: None,
+            }),
+            Err(FlagError::InvalidFlag(flag)) => Ok(Rustflags {
+                flags: None,
+                wrong: Some(FlagError::InvalidFlag(flag)),
+            }),
+            Err(FlagError::NoMemory) => Err(NoMemory),
+        },
+    }
+}
+
+/// The flags alone: none where they aren't taken, none is set, or one is wrong. Only want of memory refuses.
 pub(crate) fn inherited_flags(
     alloc: Global,
     inherits: bool,
@@ -32,54 +64,24 @@ pub(crate) fn inherited_flags(
 ) -> Mem<Option<RustcCodegenFlags>>
     ensures { IfOk result (λ flags. flags ≡ spec.inherited_flags inherits env.now) }
 {
-    match inherited_text(inherits, env) {
-        None => Ok(None),
-        Some(text) => match RustcCodegenFlags::parse(alloc, text) {
-            Ok(flags) => Ok(Some(flags)),
-            Err(FlagError::InvalidFlag(_)) => Ok(None),
-            Err(FlagError::NoMemory) => Err(NoMemory),
-        },
-    }
+    let read = read_rustflags(alloc, inherits, env)?;
+    Ok(read.flags)
 }
 
-/// Whether the flags have no wrong one.
-#[tactic(auto, unfolding(crate::specs::Inherited::inherited_refusal))]
-pub(crate) fn check_inherited(
-    alloc: Global,
-    inherits: bool,
-    env: &EnvSnapshot,
-) -> Result<(), PlanError>
-    ensures allowed { OnOk result (spec.inherited_refusal inherits env.now ≡ None) }
-    ensures refused { IfErr result (λ e. (e ≡ WantsMemory) ⊎ (spec.inherited_refusal inherits env.now ≡ Some e)) }
+/// Whether the flags have no wrong one. The refusal has the key of the first wrong one.
+pub(crate) fn check_rustflags(flags: &Rustflags) -> Result<(), PlanError>
+    ensures allowed { OnOk result (spec.wrong_refusal flags.now ≡ None) }
+    ensures refused { IfErr result (λ e. (e ≡ WantsMemory) ⊎ (spec.wrong_refusal flags.now ≡ Some e)) }
 {
-    if let Some(text) = inherited_text(inherits, env) {
-        match RustcCodegenFlags::parse(alloc, text) {
-            Ok(_) => {}
-            Err(FlagError::InvalidFlag(flag)) => return Err(PlanError::Flag(flag)),
-            Err(FlagError::NoMemory) => return Err(PlanError::NoMemory),
-        }
-    }
-    Ok(())
-}
-
-/// The words of a compiler that say the same.
-#[tactic(auto, unfolding(crate::specs::Inherited::inherited_words))]
-pub(crate) fn inherited_words(
-    alloc: Global,
-    inherits: bool,
-    env: &EnvSnapshot,
-    family: ToolFamily,
-    target: &TargetInfo,
-) -> Mem<Words>
-    ensures { IfOk result (λ words. words ≡ spec.inherited_words inherits env.now family (info_seen target.now)) }
-{
-    match inherited_flags(alloc, inherits, env)? {
-        Some(flags) => flags.wanted(alloc, family, target),
-        None => Ok(Words::new(alloc)),
+    match &flags.wrong {
+        None => Ok(()),
+        Some(FlagError::InvalidFlag(flag)) => Err(PlanError::Flag(flag.try_clone()?)),
+        Some(FlagError::NoMemory) => Err(PlanError::NoMemory),
     }
 }
 
-/// Adds those of some words that the compiler takes.
+/// Adds those of some words that the compiler takes: a compiler older than rustc may not know a flag that says the same. Refused for
+/// memory.
 pub(crate) fn push_taken(words: &mut Words, supported: &[Text], wanted: &[Text]) -> Mem<()>
     ensures { OnOk result (words.new ≡ words.old ++ spec.taken_words supported.now wanted.now) }
 {
@@ -101,7 +103,7 @@ fn lost_word(alloc: Global, word: &str) -> Mem<Text>
     Ok(text)
 }
 
-/// Adds a warning of each that it doesn't take.
+/// Adds a warning of each that it doesn't take. Refused for memory.
 pub(crate) fn push_lost(
     warnings: &mut Words,
     alloc: Global,

@@ -10,6 +10,7 @@ mod android;
 mod archive;
 mod blanks;
 mod choice;
+mod compilation;
 mod compile;
 mod compiler;
 mod env_tool;

@@ -150,7 +150,7 @@ fn tool_compiles<W: World, H: Host<W>>(
     let warnings = wanted_lines(alloc, set, &plan.warned.warnings)?;
     let cmds = compile_commands(alloc, set, &plan.target, &plan.tool, objects)?;
     Ok(Compiles {
-        told: plan.warned.told,
+        told: plan.warned.is_first,
         warnings,
         cmds,
     })

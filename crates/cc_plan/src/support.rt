@@ -1,27 +1,23 @@
 // Words that a compiler is given only where it takes them.
-ghost use Rattle.std.specs.Prelude.{◌≡◌, ◌++◌, [], ◌∷◌, IfOk, OnOk, Some, None, filter, is_none, if◌then◌else◌};
-ghost use Rattle.cc_env.specs.Snapshot.{child_of};
+ghost use Rattle.std.specs.Prelude.{◌≡◌, ◌++◌, [], ◌∷◌, IfOk, OnOk, is_none};
 ghost use Rattle.cc_host.specs.Question.{Settles};
-ghost use Rattle.cc_target.specs.Targets.{info_seen};
 ghost use Rattle.cc_plan.specs.Asking.{OnlyAsks};
+ghost use Rattle.cc_plan.specs.Compilation.{seen, folder_of};
 ghost use Rattle.cc_plan.specs.Given.{probe_folder};
-ghost use Rattle.cc_plan.specs.Target.{target_info};
-ghost use Rattle.cc_plan.specs.Refusal.{refusal_by};
-ghost use Rattle.cc_plan.specs.Tool.{language_variable};
-ghost use Rattle.cc_plan.specs.Support.{supported_by};
 ghost use Rattle.cc_plan.specs.Support as spec;
 ghost use Rattle.cc_text.specs.Words.{when};
 
+use crate::compilation::Compilation;
 use crate::compiler::Compiler;
-use crate::given::{has_no_defaults, probe_folder};
+use crate::given::probe_folder;
+use crate::inherited::read_rustflags;
 use crate::sight::is_yes;
-use crate::tool::{check_compiler, language_variable, words_by};
-use crate::words::{asked_words, is_link};
+use crate::tool::{check_compiler, language_variable};
+use crate::words::{asked_words, is_link, tool_words};
 use crate::{BuildConfig, BuildFlag, Choice, Flags, PlanError, Sight};
 use cc_env::BuildEnv;
 use cc_flags::{is_clang, is_visual_studio};
 use cc_host::{Ask, Host, Question, World};
-use cc_target::TargetInfo;
 use cc_text::{Mem, NoMemory, Text, ToolFamily, Vars, Words};
 use cc_tool::{Detected, ask_family, ask_flag};
 use std::alloc::Global;
@@ -36,7 +32,8 @@ fn second(alloc: Global, text: &Option<Text>) -> Mem<Option<Text>>
     }
 }
 
-// The settings of a question on a flag.
+/// The settings of a question on a flag: the compiler and the flag, level 0, no debug information, and nothing that Cargo hands down, so that
+/// the verdict speaks of the flag alone. Only want of memory refuses.
 pub(crate) fn flag_settings(
     alloc: Global,
     set: &BuildConfig,
@@ -60,6 +57,7 @@ pub(crate) fn flag_settings(
     Ok(plain)
 }
 
+/// The compiler of a question on a flag: the path with its family, without a wrapper. Only want of memory refuses.
 pub(crate) fn flag_compiler(alloc: Global, path: &str, family: ToolFamily) -> Mem<Compiler>
     ensures { IfOk result (λ compiler. compiler ≡ spec.flag_compiler path.now family) }
 {
@@ -90,7 +88,7 @@ fn quiet_words(alloc: Global, words: &Words) -> Mem<Words>
 
 // The variables of a question on a flag: those of the tool.
 fn flag_vars(alloc: Global, env: &BuildEnv, family: ToolFamily) -> Mem<Vars>
-    ensures { IfOk result (λ vars. vars ≡ child_of env.now.inherited (language_variable family ∷ env.now.explicit)) }
+    ensures { IfOk result (λ vars. vars ≡ spec.flag_vars env.now family) }
 {
     let (name, value) = language_variable(family);
     let mut entries = Vars::new(alloc);
@@ -99,7 +97,8 @@ fn flag_vars(alloc: Global, env: &BuildEnv, family: ToolFamily) -> Mem<Vars>
     env.inherited().child_vars(alloc, &entries)
 }
 
-// The words that a compiler is asked with.
+// The words that a compiler is asked with. Clang would write on standard error at `-v`, and warns of a word that it has no use for
+// (`-Wunused-command-line-argument` of Clang's "Diagnostic flags in Clang"): either would count as a no.
 fn asking_words(alloc: Global, family: ToolFamily, words: Words) -> Mem<Words>
     ensures { IfOk result (λ asking. asking ≡ spec.asking_words family words) }
 {
@@ -114,39 +113,24 @@ fn asking_words(alloc: Global, family: ToolFamily, words: Words) -> Mem<Words>
 
 // The words of a question on a flag, by its settings.
 #[tactic(auto, unfolding(crate::specs::Support::question_words))]
-fn question_words(
-    alloc: Global,
-    env: &BuildEnv,
-    target: &TargetInfo,
-    plain: &BuildConfig,
-    compiler: &Compiler,
-) -> Mem<Words>
-    requires { info_seen target.now ≡ target_info plain.now env.now }
-    ensures { IfOk result (λ words. words ≡ spec.question_words plain.now env.now compiler.now) }
+fn question_words(plain: &Compilation<'_>) -> Mem<Words>
+    ensures { IfOk result (λ words. words ≡ spec.question_words (seen plain.now)) }
 {
-    let words = words_by(alloc, plain, env, target, compiler, &[])?;
-    asking_words(alloc, compiler.family, words)
+    let words = tool_words(plain, &[])?;
+    asking_words(plain.alloc, plain.compiler.family, words)
 }
 
-// The question whether the compiler at a path takes a flag.
-pub(crate) fn flag_question(
-    alloc: Global,
-    env: &BuildEnv,
-    target: &TargetInfo,
-    plain: &BuildConfig,
-    compiler: &Compiler,
-) -> Mem<Question>
-    requires { info_seen target.now ≡ target_info plain.now env.now }
-    ensures { IfOk result (λ q. q ≡ spec.plain_question plain.now env.now compiler.now) }
+/// The question whether a compiler takes a flag, by its settings. Only want of memory refuses.
+pub(crate) fn plain_question(plain: &Compilation<'_>) -> Mem<Question>
+    ensures { IfOk result (λ q. q ≡ spec.plain_question (seen plain.now)) }
 {
-    let words = question_words(alloc, env, target, plain, compiler)?;
-    let vars = flag_vars(alloc, env, compiler.family)?;
-    let program = Text::of(alloc, compiler.choice.path.as_str())?;
+    let family = plain.compiler.family;
+    let words = question_words(plain)?;
+    let vars = flag_vars(plain.alloc, plain.env, family)?;
+    let program = Text::of(plain.alloc, plain.compiler.choice.path.as_str())?;
+    let cpp = plain.set.cpp;
     Ok(Question {
-        ask: Ask::Flag {
-            cpp: plain.cpp,
-            family: compiler.family,
-        },
+        ask: Ask::Flag { cpp, family },
         program,
         words,
         vars,
@@ -154,24 +138,17 @@ pub(crate) fn flag_question(
 }
 
 // Whether there is a command of a question on a flag.
-fn can_ask(
-    alloc: Global,
-    env: &BuildEnv,
-    target: &TargetInfo,
-    plain: &BuildConfig,
-    compiler: &Compiler,
-) -> Mem<bool>
-    requires { info_seen target.now ≡ target_info plain.now env.now }
-    ensures { IfOk result (λ b. b ≡ is_none (refusal_by plain.now env.now compiler.now)) }
+fn can_ask(plain: &Compilation<'_>) -> Mem<bool>
+    ensures { IfOk result (λ b. b ≡ is_none (spec.compiler_refusal (seen plain.now))) }
 {
-    match check_compiler(alloc, plain, env, target, compiler) {
+    match check_compiler(plain) {
         Ok(()) => Ok(true),
         Err(PlanError::NoMemory) => Err(NoMemory),
         Err(_) => Ok(false),
     }
 }
 
-/// The flag is for the linker of Visual Studio.
+/// Whether the flag is for the linker of Visual Studio. It takes no memory.
 pub(crate) fn is_for_linker(family: ToolFamily, flag: &str) -> bool
     ensures { result ≡ spec.is_for_linker family flag.now }
 {
@@ -180,54 +157,50 @@ pub(crate) fn is_for_linker(family: ToolFamily, flag: &str) -> bool
 
 // The question on a flag, where it is asked about.
 #[tactic(auto, unfolding(crate::specs::Support::is_asked_of))]
-fn question_of(
-    alloc: Global,
-    set: &BuildConfig,
-    env: &BuildEnv,
-    target: &TargetInfo,
-    family: ToolFamily,
-    path: &str,
-    flag: &str,
-) -> Mem<Option<Question>>
-    requires { info_seen target.now ≡ target_info set.now env.now }
-    ensures { IfOk result (λ q. q ≡ (if spec.is_asked_of set.now env.now family path.now flag.now then Some (spec.flag_question set.now env.now family path.now flag.now) else None)) }
+fn question_of(given: &Compilation<'_>, flag: &str) -> Mem<Option<Question>>
+    ensures { IfOk result (λ q. q ≡ spec.asked_question (seen given.now) flag.now) }
 {
-    if is_for_linker(family, flag) {
+    if is_for_linker(given.compiler.family, flag) {
         return Ok(None);
     }
-    let plain = flag_settings(alloc, set, path, flag)?;
-    let compiler = flag_compiler(alloc, path, family)?;
-    if can_ask(alloc, env, target, &plain, &compiler)? {
-        let question = flag_question(alloc, env, target, &plain, &compiler)?;
+    let path = given.compiler.choice.path.as_str();
+    let settings = flag_settings(given.alloc, given.set, path, flag)?;
+    let inherits = settings.inherit_rustflags;
+    let rustflags = read_rustflags(given.alloc, inherits, given.env.inherited())?;
+    let plain = Compilation {
+        alloc: given.alloc,
+        set: &settings,
+        env: given.env,
+        rustflags: &rustflags,
+        target: given.target,
+        compiler: given.compiler,
+    };
+    if can_ask(&plain)? {
+        let question = plain_question(&plain)?;
         Ok(Some(question))
     } else {
         Ok(None)
     }
 }
 
-// Whether the compiler of a family at a path takes a flag.
+// Whether the compiler takes a flag.
 fn takes<W: World, H: Host<W>>(
     rt: &impl Wait,
-    alloc: Global,
-    set: &BuildConfig,
-    env: &BuildEnv,
-    target: &TargetInfo,
-    family: ToolFamily,
-    path: &str,
+    given: &Compilation<'_>,
     flag: &str,
     sight: &mut Sight<'_, W, H>,
 ) -> Mem<bool>
-    requires { info_seen target.now ≡ target_info set.now env.now }
-    ensures asks { OnlyAsks W.steady W.answer H.log H.patience (probe_folder set.now env.now) sight.old sight.new }
-    ensures settles { IfOk result (Settles sight.new.answers.now (λ look. spec.takes set.now env.now family path.now look flag.now)) }
+    ensures asks { OnlyAsks W.steady W.answer H.log H.patience (folder_of (seen given.now)) sight.old sight.new }
+    ensures settles { IfOk result (Settles sight.new.answers.now
+        (λ look. spec.takes (seen given.now) look flag.now)) }
 {
-    let dir = probe_folder(set, env);
-    match question_of(alloc, set, env, target, family, path, flag)? {
+    let dir = probe_folder(given.set, given.env);
+    match question_of(given, flag)? {
         None => Ok(false),
         Some(question) => {
             let verdict = ask_flag(
                 rt,
-                alloc,
+                given.alloc,
                 sight.host,
                 sight.caches,
                 sight.answers,
@@ -248,51 +221,37 @@ fn push_if(words: &mut Words, wanted: bool, word: &str) -> Mem<()>
     Ok(())
 }
 
-// Those of some words that the compiler of a family at a path takes.
+// Those of some words that the compiler takes.
 fn taken_among<W: World, H: Host<W>>(
     rt: &impl Wait,
-    alloc: Global,
-    set: &BuildConfig,
-    env: &BuildEnv,
-    target: &TargetInfo,
-    family: ToolFamily,
-    path: &str,
+    given: &Compilation<'_>,
     words: &Words,
     sight: &mut Sight<'_, W, H>,
 ) -> Mem<Words>
-    requires { info_seen target.now ≡ target_info set.now env.now }
-    ensures asks { OnlyAsks W.steady W.answer H.log H.patience (probe_folder set.now env.now) sight.old sight.new }
-    ensures settles { IfOk result (Settles sight.new.answers.now (λ look. filter (spec.takes set.now env.now family path.now look) words.now)) }
+    ensures asks { OnlyAsks W.steady W.answer H.log H.patience (folder_of (seen given.now)) sight.old sight.new }
+    ensures settles { IfOk result (Settles sight.new.answers.now (spec.taken_among (seen given.now) words.now)) }
 {
-    let mut taken = Words::new(alloc);
+    let mut taken = Words::new(given.alloc);
     for word in words.as_slice() {
-        let is_taken = takes(
-            rt,
-            alloc,
-            set,
-            env,
-            target,
-            family,
-            path,
-            word.as_str(),
-            sight,
-        )?;
+        let is_taken = takes(rt, given, word.as_str(), sight)?;
         push_if(&mut taken, is_taken, word.as_str())?;
     }
     Ok(taken)
 }
 
-/// The family that a question on a flag is asked with: that of the path alone.
-pub(crate) fn bare_family<W: World, H: Host<W>>(
+/// The compiler that a question on a flag is asked of: the one at a path, with the family of the path alone. Only want of memory refuses; what
+/// was asked until then is kept.
+pub(crate) fn bare_compiler<W: World, H: Host<W>>(
     rt: &impl Wait,
     alloc: Global,
     set: &BuildConfig,
     env: &BuildEnv,
     path: &str,
     sight: &mut Sight<'_, W, H>,
-) -> Mem<ToolFamily>
-    ensures asks { OnlyAsks W.steady W.answer H.log H.patience (probe_folder set.now env.now) sight.old sight.new }
-    ensures settles { IfOk result (Settles sight.new.answers.now (spec.bare_family env.now path.now)) }
+) -> Mem<Compiler>
+    ensures asks { OnlyAsks W.steady W.answer H.log H.patience (probe_folder set.now env.now)
+        sight.old sight.new }
+    ensures settles { IfOk result (Settles sight.new.answers.now (spec.bare_compiler env.now path.now)) }
 {
     let none = Words::new(alloc);
     let (family, _) = ask_family(
@@ -306,54 +265,48 @@ pub(crate) fn bare_family<W: World, H: Host<W>>(
         env,
         probe_folder(set, env),
     )?;
-    Ok(family)
+    let compiler = flag_compiler(alloc, path, family)?;
+    Ok(compiler)
 }
 
-// Those of some words that the compiler at a path takes.
+// Those of some words that the compiler at the path of this one takes.
 fn supported_among<W: World, H: Host<W>>(
     rt: &impl Wait,
-    alloc: Global,
-    set: &BuildConfig,
-    env: &BuildEnv,
-    target: &TargetInfo,
-    path: &str,
+    given: &Compilation<'_>,
     words: &Words,
     sight: &mut Sight<'_, W, H>,
 ) -> Mem<Words>
-    requires { info_seen target.now ≡ target_info set.now env.now }
-    ensures asks { OnlyAsks W.steady W.answer H.log H.patience (probe_folder set.now env.now) sight.old sight.new }
-    ensures settles { IfOk result (Settles sight.new.answers.now (spec.supported_among set.now env.now path.now words.now)) }
+    ensures asks { OnlyAsks W.steady W.answer H.log H.patience (folder_of (seen given.now)) sight.old sight.new }
+    ensures settles { IfOk result (Settles sight.new.answers.now
+        (spec.supported_among (seen given.now) words.now)) }
 {
-    let family = bare_family(rt, alloc, set, env, path, sight)?;
-    let taken = taken_among(rt, alloc, set, env, target, family, path, words, sight)?;
+    let path = given.compiler.choice.path.as_str();
+    let compiler = bare_compiler(rt, given.alloc, given.set, given.env, path, sight)?;
+    let bare = Compilation {
+        alloc: given.alloc,
+        set: given.set,
+        env: given.env,
+        rustflags: given.rustflags,
+        target: given.target,
+        compiler: &compiler,
+    };
+    let taken = taken_among(rt, &bare, words, sight)?;
     Ok(taken)
 }
 
-/// Those that the compiler takes of the words it is asked about. Its family is asked for by its path alone.
+/// Those that the compiler takes of the words it is asked about. Its family is asked for by its path alone. Only want of memory refuses; what
+/// was asked until then is kept.
 pub(crate) fn supported_words<W: World, H: Host<W>>(
     rt: &impl Wait,
-    alloc: Global,
-    set: &BuildConfig,
-    env: &BuildEnv,
-    target: &TargetInfo,
-    compiler: &Compiler,
+    given: &Compilation<'_>,
     sight: &mut Sight<'_, W, H>,
 ) -> Mem<Words>
-    requires { info_seen target.now ≡ target_info set.now env.now }
-    ensures asks { OnlyAsks W.steady W.answer H.log H.patience (probe_folder set.now env.now) sight.old sight.new }
-    ensures settles { IfOk result (Settles sight.new.answers.now (supported_by set.now env.now compiler.now)) }
+    ensures asks { OnlyAsks W.steady W.answer H.log H.patience (folder_of (seen given.now)) sight.old sight.new }
+    ensures settles { IfOk result (Settles sight.new.answers.now (spec.supported (seen given.now))) }
 {
-    let words = asked_words(
-        alloc,
-        has_no_defaults(set, env),
-        set,
-        env.inherited(),
-        target,
-        compiler.family,
-    )?;
+    let words = asked_words(given)?;
     if words.is_empty() {
         return Ok(words);
     }
-    let path = compiler.choice.path.as_str();
-    supported_among(rt, alloc, set, env, target, path, &words, sight)
+    supported_among(rt, given, &words, sight)
 }

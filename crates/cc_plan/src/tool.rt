@@ -1,34 +1,32 @@
 // The tool of a compile command: the compiler with the words and variables that all sources share.
-ghost use Rattle.std.specs.Prelude.{◌≡◌, ◌++◌, ◌∷◌, [], ◌&&◌, ◌||◌, IfOk, IfErr, OnOk, ◌⊎◌, Some, None, ℕ, codes};
-ghost use Rattle.cc_text.specs.Words.{when};
+ghost use Rattle.std.specs.Prelude.{◌≡◌, ◌++◌, ◌&&◌, ◌||◌, IfOk, IfErr, OnOk, ◌⊎◌, Some, None};
 ghost use Rattle.std.specs.Option.{option_copied};
 ghost use Rattle.cc_host.specs.Question.{Settles};
 ghost use Rattle.cc_host.specs.declared.event.HostCall.TheVariants.{Print};
 ghost use Rattle.cc_host.specs.declared.event.Why.{Why};
-ghost use Rattle.cc_target.specs.Targets.{info_seen, info_of};
+ghost use Rattle.cc_target.specs.Targets.{info_seen};
+ghost use Rattle.cc_plan.specs.Compilation.{seen};
 ghost use Rattle.cc_plan.specs.Asking.{AsksThen, Warns, IsOwn, OnlyAsks};
 ghost use Rattle.cc_plan.specs.Given.{target_of, probe_folder};
 ghost use Rattle.cc_plan.specs.Plan.{tool_lines, wanted_lines as lines_of};
-ghost use Rattle.cc_plan.specs.Refusal.{unset, target_refusal, platform_refusal, given_refusal, refusal_by, tool_refusal};
-ghost use Rattle.cc_plan.specs.Target.{target_name, target_info};
+ghost use Rattle.cc_plan.specs.Refusal.{unset, target_refusal, platform_refusal, given_refusal, tool_refusal};
+ghost use Rattle.cc_plan.specs.Target.{target_info};
 ghost use Rattle.cc_plan.specs.Planned.{warnings_of, tool_of};
-ghost use Rattle.cc_plan.specs.Tool.{language_variable, gnu_warnings, lacks_by, other_warnings, words_by, defaults_refusal_by, warnings_by, wrapped_tool, tool_by};
-ghost use Rattle.cc_text.specs.Quoted.{quoted as quoted_path};
-ghost use Rattle.cc_tool.specs.Family.{detection_warnings};
+ghost use Rattle.cc_plan.specs.Support.{compiler_refusal};
+ghost use Rattle.cc_plan.specs.Tool.{language_variable, gnu_warnings, lacks_by, lacks_of, detected_warnings, found_warnings, other_warnings, link_warning, warnings_by, wrapped_tool, tool_by};
 ghost use Rattle.cc_plan.specs.declared.error.PlanError.TheVariants.{NoMemory as WantsMemory, NotSet, Host as HostFault};
 
+use crate::compilation::Compilation;
 use crate::compiler::{Compiler, compiler_of};
-use crate::given::{
-    environment_flags, has_no_defaults, host_of, is_cargos_target, level_of, target_of,
-};
-use crate::inherited::{check_inherited, inherited_words, push_lost};
+use crate::given::{host_of, level_of, target_of};
+use crate::inherited::{check_rustflags, push_lost, read_rustflags};
 use crate::link_warning::{is_told, leaves_off};
 use crate::printing::{print_warnings, wanted_lines};
 use crate::support::supported_words;
-use crate::words::{check_defaults, tool_warnings, tool_words};
+use crate::words::{check_defaults, remapped, rust_words, tool_warnings, tool_words, trimmed};
 use crate::{BuildConfig, PlanError, Sight};
 use cc_env::BuildEnv;
-use cc_flags::{cargo_maps, is_cl, is_gnu, push_map_lacks, set_maps};
+use cc_flags::{Maps, is_cl, is_gnu, push_map_lacks};
 use cc_host::{Host, World};
 use cc_target::TargetInfo;
 use cc_text::{Mem, Text, ToolFamily, Words, quoted};
@@ -36,7 +34,7 @@ use cc_tool::{Caches, Detected, Tool};
 use std::alloc::Global;
 use std::sync::Wait;
 
-// A tool with what it is for and what a user is warned of.
+/// A tool with what it is for and what a user is warned of.
 #[derive(Drop)]
 pub(crate) struct ToolPlan {
     pub target: TargetInfo,
@@ -44,10 +42,10 @@ pub(crate) struct ToolPlan {
     pub warned: Warned,
 }
 
-/// Warnings, and whether the call is the one of its caches that is told of flags for the linker.
+/// Warnings, and whether the call is the first of its caches that leaves off flags for the linker, which warns of it for all.
 #[derive(Drop, Debug)]
 pub(crate) struct Warned {
-    pub told: bool,
+    pub is_first: bool,
     pub warnings: Words,
 }
 
@@ -64,7 +62,8 @@ fn not_set(alloc: Global, name: &str) -> PlanError
 fn demand<'a>(alloc: Global, name: &str, value: Option<&'a str>) -> Result<&'a str, PlanError>
     ensures value { IfOk result (λ text. option_copied value.entry ≡ Some text.now) }
     ensures allowed { OnOk result (unset name.now (option_copied value.entry) ≡ None) }
-    ensures refused { IfErr result (λ e. (e ≡ WantsMemory) ⊎ (unset name.now (option_copied value.entry) ≡ Some e)) }
+    ensures refused { IfErr result (λ e. (e ≡ WantsMemory)
+        ⊎ (unset name.now (option_copied value.entry) ≡ Some e)) }
 {
     match value {
         Some(text) => Ok(text),
@@ -72,7 +71,7 @@ fn demand<'a>(alloc: Global, name: &str, value: Option<&'a str>) -> Result<&'a s
     }
 }
 
-// What is known of the target, which is set and known.
+/// What is known of the target. Refused where it is set nowhere or isn't known, and for memory.
 pub(crate) fn known_target(
     alloc: Global,
     set: &BuildConfig,
@@ -80,7 +79,8 @@ pub(crate) fn known_target(
 ) -> Result<TargetInfo, PlanError>
     ensures info { IfOk result (λ target. info_seen target ≡ target_info set.now env.now) }
     ensures allowed { OnOk result (target_refusal (target_of set.now env.now) ≡ None) }
-    ensures refused { IfErr result (λ e. (e ≡ WantsMemory) ⊎ (target_refusal (target_of set.now env.now) ≡ Some e)) }
+    ensures refused { IfErr result (λ e. (e ≡ WantsMemory)
+        ⊎ (target_refusal (target_of set.now env.now) ≡ Some e)) }
 {
     let name = match target_of(set, env) {
         Some(name) => name,
@@ -92,7 +92,7 @@ pub(crate) fn known_target(
     }
 }
 
-// Whether the target is set and known, and the host set.
+/// Whether the target is set and known, and the host set. Refused where one isn't, with the variable or the name, and for memory.
 #[tactic(auto, unfolding(crate::specs::Refusal::platform_refusal))]
 pub(crate) fn check_platform(
     alloc: Global,
@@ -119,6 +119,8 @@ fn given_target(alloc: Global, set: &BuildConfig, env: &BuildEnv) -> Result<Targ
     Ok(target)
 }
 
+/// The variable with its value by which a compiler writes its messages in English, as they are read: `LC_ALL` of GCC's "Environment Variables
+/// Affecting GCC", and `VSLANG` for Visual Studio.
 pub(crate) fn language_variable(family: ToolFamily) -> (&'static str, &'static str)
     ensures { (result.0.now, result.1.now) ≡ language_variable family }
 {
@@ -129,75 +131,16 @@ pub(crate) fn language_variable(family: ToolFamily) -> (&'static str, &'static s
     }
 }
 
-// The words of a compiler for a target, where these are supported of those that it is asked about.
-#[tactic(auto, unfolding(crate::specs::Tool::words_by))]
-pub(crate) fn words_by(
-    alloc: Global,
-    set: &BuildConfig,
-    env: &BuildEnv,
-    target: &TargetInfo,
-    compiler: &Compiler,
-    supported: &[Text],
-) -> Mem<Words>
-    requires { info_seen target.now ≡ target_info set.now env.now }
-    ensures { IfOk result (λ words. words ≡ words_by set.now env.now compiler.now supported.now) }
+/// Whether a compiler has words. Refused by the words of the target and the level; then where the host is set nowhere, which flags of the
+/// environment are looked up by; then by a wrong flag of Rust code; and for memory.
+#[tactic(auto, unfolding(crate::specs::Refusal::refusal_by, crate::specs::Tool::defaults_refusal_by, crate::specs::Inherited::inherited_refusal))]
+pub(crate) fn check_compiler(given: &Compilation<'_>) -> Result<(), PlanError>
+    ensures allowed { OnOk result (compiler_refusal (seen given.now) ≡ None) }
+    ensures refused { IfErr result (λ e. (e ≡ WantsMemory) ⊎ (compiler_refusal (seen given.now) ≡ Some e)) }
 {
-    let environment = environment_flags(alloc, set, env)?;
-    tool_words(
-        alloc,
-        has_no_defaults(set, env),
-        set,
-        env.inherited(),
-        is_cargos_target(set, env),
-        target_of(set, env).unwrap_or(""),
-        target,
-        compiler.family,
-        compiler.choice.path.as_str(),
-        supported,
-        environment.as_ref(),
-    )
-}
-
-// Whether a compiler has the words of the target and the level.
-#[tactic(auto, unfolding(crate::specs::Tool::defaults_refusal_by))]
-fn check_defaults_by(
-    alloc: Global,
-    set: &BuildConfig,
-    env: &BuildEnv,
-    target: &TargetInfo,
-    compiler: &Compiler,
-) -> Result<(), PlanError>
-    requires { info_seen target.now ≡ target_info set.now env.now }
-    ensures allowed { OnOk result (defaults_refusal_by set.now env.now compiler.now ≡ None) }
-    ensures refused { IfErr result (λ e. (e ≡ WantsMemory) ⊎ (defaults_refusal_by set.now env.now compiler.now ≡ Some e)) }
-{
-    check_defaults(
-        alloc,
-        has_no_defaults(set, env),
-        set,
-        env.inherited(),
-        target,
-        compiler.family,
-        compiler.choice.path.as_str(),
-    )
-}
-
-// Whether a compiler has words. Flags of the environment, which are looked up by the host too, come before those of Rust code.
-#[tactic(auto, unfolding(crate::specs::Refusal::refusal_by))]
-pub(crate) fn check_compiler(
-    alloc: Global,
-    set: &BuildConfig,
-    env: &BuildEnv,
-    target: &TargetInfo,
-    compiler: &Compiler,
-) -> Result<(), PlanError>
-    requires { info_seen target.now ≡ target_info set.now env.now }
-    ensures allowed { OnOk result (refusal_by set.now env.now compiler.now ≡ None) }
-    ensures refused { IfErr result (λ e. (e ≡ WantsMemory) ⊎ (refusal_by set.now env.now compiler.now ≡ Some e)) }
-{
-    check_defaults_by(alloc, set, env, target, compiler)?;
-    demand(alloc, "HOST", host_of(set, env))?;
-    check_inherited(alloc, set.inherit_rustflags, env.inherited())?;
+    check_defaults(given)?;
+    demand(given.alloc, "HOST", host_of(given.set, given.env))?;
+    check_rustflags(given.rustflags)?;
     Ok(())
 }
 
@@ -215,7 +158,8 @@ fn wrapped_tool(alloc: Global, env: &BuildEnv, compiler: &Compiler) -> Mem<Tool>
 }
 
 fn push_wrapper_words(tool: &mut Tool, words: &Words) -> Mem<()>
-    ensures { OnOk result (tool.new ≡ record tool.old { wrapper_words = tool.old.wrapper_words ++ words.now }) }
+    ensures { OnOk result (tool.new
+        ≡ record tool.old { wrapper_words = tool.old.wrapper_words ++ words.now }) }
 {
     for word in words.as_slice() {
         tool.push_wrapper_arg(word.as_str())?;
@@ -241,47 +185,36 @@ fn push_entries(tool: &mut Tool, env: &BuildEnv) -> Mem<()>
     Ok(())
 }
 
-// The tool of a compiler with these words.
-fn tool_by(
-    alloc: Global,
-    set: &BuildConfig,
-    env: &BuildEnv,
-    target: &TargetInfo,
-    compiler: &Compiler,
-    supported: &[Text],
-) -> Mem<Tool>
-    requires { info_seen target.now ≡ target_info set.now env.now }
-    ensures { IfOk result (λ tool. tool ≡ tool_by set.now env.now compiler.now supported.now) }
+// The tool of a compiler, where these words are supported.
+fn tool_by(given: &Compilation<'_>, supported: &[Text]) -> Mem<Tool>
+    ensures { IfOk result (λ tool. tool ≡ tool_by (seen given.now) supported.now) }
 {
-    let words = words_by(alloc, set, env, target, compiler, supported)?;
+    let compiler = given.compiler;
+    let words = tool_words(given, supported)?;
     let (name, value) = language_variable(compiler.family);
-    let mut tool = wrapped_tool(alloc, env, compiler)?;
+    let mut tool = wrapped_tool(given.alloc, given.env, compiler)?;
     push_wrapper_words(&mut tool, &compiler.choice.words)?;
     push_args(&mut tool, &words)?;
     tool.push_env(name, value)?;
-    push_entries(&mut tool, env)?;
+    push_entries(&mut tool, given.env)?;
     Ok(tool)
 }
 
 // GCC was found for a target of the Visual Studio tools.
 #[tactic(auto, unfolding(crate::specs::Tool::gnu_warnings))]
-pub(crate) fn push_gnu_warning(
-    warnings: &mut Words,
-    set: &BuildConfig,
-    target: &TargetInfo,
-    family: ToolFamily,
-) -> Mem<()>
-    ensures { OnOk result (warnings.new ≡ warnings.old ++ gnu_warnings set.now (info_seen target.now) family) }
+fn push_gnu_warning(warnings: &mut Words, given: &Compilation<'_>) -> Mem<()>
+    ensures { OnOk result (warnings.new ≡ warnings.old ++ gnu_warnings (seen given.now)) }
 {
-    if set.compiler.is_none() && target.env == "msvc" && is_gnu(family) {
+    let is_found = given.set.compiler.is_none();
+    if is_found && given.target.env == "msvc" && is_gnu(given.compiler.family) {
         warnings.push("GNU compiler is not supported for this target")?;
     }
     Ok(())
 }
 
 // How the family of the compiler was found, where a user is warned of it.
-pub(crate) fn detection_warnings(alloc: Global, compiler: &Compiler) -> Mem<Words>
-    ensures { IfOk result (λ warnings. warnings ≡ detection_warnings compiler.now.detected (quoted_path compiler.now.choice.path)) }
+fn detection_warnings(alloc: Global, compiler: &Compiler) -> Mem<Words>
+    ensures { IfOk result (λ warnings. warnings ≡ detected_warnings compiler.now) }
 {
     let mut warnings = Words::new(alloc);
     match compiler.detected {
@@ -296,29 +229,45 @@ pub(crate) fn detection_warnings(alloc: Global, compiler: &Compiler) -> Mem<Word
     Ok(warnings)
 }
 
+/// How the compiler was found, and that it isn't one for the target, where a user is warned of it. Only want of memory refuses.
+pub(crate) fn found_warnings(given: &Compilation<'_>) -> Mem<Words>
+    ensures { IfOk result (λ warnings. warnings ≡ found_warnings (seen given.now)) }
+{
+    let mut warnings = detection_warnings(given.alloc, given.compiler)?;
+    push_gnu_warning(&mut warnings, given)?;
+    Ok(warnings)
+}
+
+// What the compiler lacks of some maps of paths.
+fn push_lacks_of(
+    warnings: &mut Words,
+    given: &Compilation<'_>,
+    supported: &[Text],
+    maps: Maps,
+) -> Mem<()>
+    ensures { OnOk result (warnings.new ≡ warnings.old ++ lacks_of (seen given.now) supported.now maps) }
+{
+    let path = given.compiler.choice.path.as_str();
+    push_map_lacks(
+        warnings,
+        given.alloc,
+        path,
+        given.compiler.family,
+        supported,
+        maps,
+    )
+}
+
 // What the compiler lacks of what it is asked about.
 #[tactic(auto, unfolding(crate::specs::Tool::lacks_by))]
-fn push_lacks(
-    warnings: &mut Words,
-    alloc: Global,
-    set: &BuildConfig,
-    env: &BuildEnv,
-    target: &TargetInfo,
-    compiler: &Compiler,
-    supported: &[Text],
-) -> Mem<()>
-    requires { info_seen target.now ≡ target_info set.now env.now }
-    ensures { OnOk result (warnings.new ≡ warnings.old ++ lacks_by set.now env.now compiler.now supported.now) }
+fn push_lacks(warnings: &mut Words, given: &Compilation<'_>, supported: &[Text]) -> Mem<()>
+    ensures { OnOk result (warnings.new ≡ warnings.old ++ lacks_by (seen given.now) supported.now) }
 {
-    let family = compiler.family;
-    let inherited = env.inherited();
-    let path = compiler.choice.path.as_str();
-    let wanted = inherited_words(alloc, set.inherit_rustflags, inherited, family, target)?;
-    push_lost(warnings, alloc, supported, wanted.as_slice())?;
-    let cargos = cargo_maps(set.inherit_trim_paths, inherited, family);
-    push_map_lacks(warnings, alloc, path, family, supported, cargos)?;
-    let own = set_maps(family, &set.remap_source_paths);
-    push_map_lacks(warnings, alloc, path, family, supported, own)
+    let wanted = rust_words(given)?;
+    push_lost(warnings, given.alloc, supported, wanted.as_slice())?;
+    push_lacks_of(warnings, given, supported, trimmed(given))?;
+    push_lacks_of(warnings, given, supported, remapped(given))?;
+    Ok(())
 }
 
 // Flags are left off, and a user is told of it.
@@ -327,33 +276,25 @@ fn push_link_warning(
     warnings: &mut Words,
     set: &BuildConfig,
     leaves_off: bool,
-    told: bool,
+    is_first: bool,
 ) -> Mem<()>
-    ensures { OnOk result (warnings.new ≡ warnings.old ++ when (leaves_off && (set.now.repeat_lines || told)) (codes "Ignoring linker flags after /link" ∷ [])) }
+    ensures { OnOk result (warnings.new ≡ warnings.old
+        ++ link_warning (leaves_off && (set.now.repeat_lines || is_first))) }
 {
-    if leaves_off && (set.repeat_lines || told) {
+    if leaves_off && (set.repeat_lines || is_first) {
         warnings.push("Ignoring linker flags after /link")?;
     }
     Ok(())
 }
 
 // What a user is warned of, but for flags that are left off.
-fn other_warnings(
-    alloc: Global,
-    set: &BuildConfig,
-    env: &BuildEnv,
-    target: &TargetInfo,
-    compiler: &Compiler,
-    supported: &[Text],
-) -> Mem<Words>
-    requires { info_seen target.now ≡ target_info set.now env.now }
-    ensures { IfOk result (λ warnings. warnings ≡ other_warnings set.now env.now compiler.now supported.now) }
+fn other_warnings(given: &Compilation<'_>, supported: &[Text]) -> Mem<Words>
+    ensures { IfOk result (λ warnings. warnings ≡ other_warnings (seen given.now) supported.now) }
 {
-    let mut warnings = detection_warnings(alloc, compiler)?;
-    push_gnu_warning(&mut warnings, set, target, compiler.family)?;
-    let own = tool_warnings(alloc, has_no_defaults(set, env), set, compiler.family)?;
+    let mut warnings = found_warnings(given)?;
+    let own = tool_warnings(given)?;
     warnings.append(own)?;
-    push_lacks(&mut warnings, alloc, set, env, target, compiler, supported)?;
+    push_lacks(&mut warnings, given, supported)?;
     Ok(warnings)
 }
 
@@ -361,22 +302,19 @@ fn other_warnings(
 #[tactic(auto, unfolding(crate::specs::Tool::link_warnings))]
 fn warnings_by<W: World>(
     rt: &impl Wait,
-    alloc: Global,
     caches: &Caches<W>,
-    set: &BuildConfig,
-    env: &BuildEnv,
-    target: &TargetInfo,
-    compiler: &Compiler,
+    given: &Compilation<'_>,
     supported: &[Text],
 ) -> Mem<Warned>
-    requires { info_seen target.now ≡ target_info set.now env.now }
-    ensures { IfOk result (λ warned. warned.warnings ≡ warnings_by set.now env.now compiler.now supported.now warned.told) }
+    ensures { IfOk result (λ warned.
+        warned.warnings ≡ warnings_by (seen given.now) supported.now warned.is_first) }
 {
-    let mut warnings = other_warnings(alloc, set, env, target, compiler, supported)?;
-    let leaves_off = leaves_off(alloc, set, env, compiler.family)?;
-    let told = is_told(rt, caches, set, leaves_off);
-    push_link_warning(&mut warnings, set, leaves_off, told)?;
-    Ok(Warned { told, warnings })
+    let set = given.set;
+    let mut warnings = other_warnings(given, supported)?;
+    let leaves_off = leaves_off(given.alloc, set, given.env, given.compiler.family)?;
+    let is_first = is_told(rt, caches, set, leaves_off);
+    push_link_warning(&mut warnings, set, leaves_off, is_first)?;
+    Ok(Warned { is_first, warnings })
 }
 
 /// The tool of these settings in this environment, with its target and its warnings. It asks, and prints nothing.
@@ -387,30 +325,33 @@ pub(crate) fn plan_tool<W: World, H: Host<W>>(
     env: &BuildEnv,
     sight: &mut Sight<'_, W, H>,
 ) -> Result<ToolPlan, PlanError>
-    ensures asks { OnlyAsks W.steady W.answer H.log H.patience (probe_folder set.now env.now) sight.old sight.new }
+    ensures asks { OnlyAsks W.steady W.answer H.log H.patience (probe_folder set.now env.now)
+        sight.old sight.new }
     ensures info { IfOk result (λ plan. info_seen plan.target ≡ target_info set.now env.now) }
     ensures tool { IfOk result (λ plan. Settles sight.new.answers.now (tool_of set.now env.now) plan.tool) }
-    ensures warnings { IfOk result (λ plan. Settles sight.new.answers.now (warnings_of set.now env.now plan.warned.told) plan.warned.warnings) }
+    ensures warnings { IfOk result (λ plan. Settles sight.new.answers.now
+        (warnings_of set.now env.now plan.warned.is_first) plan.warned.warnings) }
     ensures allowed { OnOk result (Settles sight.new.answers.now (tool_refusal set.now env.now) None) }
-    ensures refused { IfErr result (λ e. (e ≡ WantsMemory) ⊎ Settles sight.new.answers.now (tool_refusal set.now env.now) (Some e)) }
+    ensures refused { IfErr result (λ e. (e ≡ WantsMemory)
+        ⊎ Settles sight.new.answers.now (tool_refusal set.now env.now) (Some e)) }
     ensures own { IfErr result IsOwn }
 {
     let target = given_target(alloc, set, env)?;
+    let rustflags = read_rustflags(alloc, set.inherit_rustflags, env.inherited())?;
     let compiler = compiler_of(rt, alloc, set, env, &target, sight)?;
-    check_compiler(alloc, set, env, &target, &compiler)?;
-    let supported = supported_words(rt, alloc, set, env, &target, &compiler, sight)?;
-    let supported = supported.as_slice();
-    let tool = tool_by(alloc, set, env, &target, &compiler, supported)?;
-    let warned = warnings_by(
-        rt,
+    let given = Compilation {
         alloc,
-        sight.caches,
         set,
         env,
-        &target,
-        &compiler,
-        supported,
-    )?;
+        rustflags: &rustflags,
+        target: &target,
+        compiler: &compiler,
+    };
+    check_compiler(&given)?;
+    let supported = supported_words(rt, &given, sight)?;
+    let supported = supported.as_slice();
+    let tool = tool_by(&given, supported)?;
+    let warned = warnings_by(rt, sight.caches, &given, supported)?;
     Ok(ToolPlan {
         target,
         tool,
@@ -431,10 +372,15 @@ pub fn tool_of<W: World, H: Host<W>>(
 ) -> Result<Tool, PlanError>
     ensures same_host { sight.new.host.ghost_name ≡ sight.old.host.ghost_name }
     ensures same_answers { sight.new.answers.ghost_name ≡ sight.old.answers.ghost_name }
-    ensures asks { AsksThen W.steady W.answer (probe_folder set.now env.now) (H.log sight.old.host.now) (H.log sight.new.host.now) sight.old.answers.now sight.new.answers.now (Warns sight.new.answers.now (tool_lines set.now env.now) result) }
+    ensures asks { AsksThen W.steady W.answer (probe_folder set.now env.now)
+        (H.log sight.old.host.now) (H.log sight.new.host.now)
+        sight.old.answers.now sight.new.answers.now
+        (Warns sight.new.answers.now (tool_lines set.now env.now) result) }
     ensures tool { IfOk result (Settles sight.new.answers.now (tool_of set.now env.now)) }
     ensures allowed { OnOk result (Settles sight.new.answers.now (tool_refusal set.now env.now) None) }
-    ensures refused { IfErr result (λ e. (e ≡ WantsMemory) ⊎ (((why : Why) × (e ≡ HostFault Print why)) ⊎ Settles sight.new.answers.now (tool_refusal set.now env.now) (Some e))) }
+    ensures refused { IfErr result (λ e. (e ≡ WantsMemory)
+        ⊎ (((why : Why) × (e ≡ HostFault Print why))
+        ⊎ Settles sight.new.answers.now (tool_refusal set.now env.now) (Some e))) }
     ensures patient { H.patience sight.new.host.now ≡ H.patience sight.old.host.now }
 {
     let plan = plan_tool(rt, alloc, set, env, sight)?;

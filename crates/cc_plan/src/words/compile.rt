@@ -1,10 +1,10 @@
-// The words of a compile command that are an object's own.
+// The words of a compile command that are an object's own, a function a group. Each group adds its words last; only memory refuses.
 ghost use Rattle.std.specs.Prelude.{◌≡◌, ◌++◌, IfOk, OnOk};
 ghost use Rattle.std.specs.Option.{option_copied};
 ghost use Rattle.cc_target.specs.Targets.{info_seen};
 ghost use Rattle.cc_plan.specs.CompileWords as spec;
 
-use crate::Object;
+use crate::{BuildConfig, Object};
 use cc_flags::{is_cl, is_clang_cl, is_visual_studio, name_of};
 use cc_target::TargetInfo;
 use cc_text::{Mem, ToolFamily, Words, extension};
@@ -47,7 +47,8 @@ pub(crate) fn is_masm(target: &TargetInfo, source: &str) -> bool
     }
 }
 
-// The object, which the Visual Studio compilers take in one word, but for assembly for Arm.
+// The object: `-o` of GCC's "Options Controlling the Kind of Output". The Visual Studio compilers take it in one word, Microsoft's "/Fo
+// (Object File Name)", but for assembly for Arm, whose assembler takes `-o`.
 #[tactic(auto, unfolding(crate::specs::CompileWords::object_words))]
 fn push_object_words(
     words: &mut Words,
@@ -55,7 +56,8 @@ fn push_object_words(
     target: &TargetInfo,
     object: &Object,
 ) -> Mem<()>
-    ensures { OnOk result (words.new ≡ words.old ++ spec.object_words family (info_seen target.now) object.now) }
+    ensures { OnOk result (words.new ≡ words.old
+        ++ spec.object_words family (info_seen target.now) object.now) }
 {
     if is_visual_studio(family) && !(is_asm(object.src.as_str()) && target.is_arm()) {
         words.push_joined("-Fo", object.dst.as_str())?;
@@ -66,7 +68,8 @@ fn push_object_words(
     Ok(())
 }
 
-// The name that stands for the object.
+// The name that stands for the object in debug information, which is its path where nothing else is said: `-object-file-name=` of Clang's
+// own options.
 #[tactic(auto, unfolding(crate::specs::CompileWords::object_name_words))]
 fn push_object_name_words(words: &mut Words, name: &str) -> Mem<()>
     ensures { OnOk result (words.new ≡ words.old ++ spec.object_name_words name.now) }
@@ -76,7 +79,8 @@ fn push_object_name_words(words: &mut Words, name: &str) -> Mem<()>
     Ok(())
 }
 
-// Debug information in which no folder and no command line stands.
+// Debug information in which no folder and no command line stands, so that two builds of the same sources are the same byte for byte:
+// `-gno-codeview-command-line` and `-fdebug-compilation-dir` of Clang's "Clang command line argument reference".
 #[tactic(auto, unfolding(crate::specs::CompileWords::same_codeview_words))]
 fn push_same_codeview_words(words: &mut Words, object: &str) -> Mem<()>
     ensures { OnOk result (words.new ≡ words.old ++ spec.same_codeview_words object.now) }
@@ -113,7 +117,9 @@ fn has_extension_cc(source: &str) -> bool
     }
 }
 
-// The source, last.
+// The source, last. Visual Studio doesn't know the extension `cc` for C++, and is told by Microsoft's "/Tc, /Tp, /TC, /TP (Specify Source
+// File Type)"; for Clang in its form a path that begins with a slash would be an option, so that `--` ends those (Clang's "Users Manual",
+// "clang-cl").
 #[tactic(auto, unfolding(crate::specs::CompileWords::source_words))]
 fn push_source_words(words: &mut Words, family: ToolFamily, cpp: bool, source: &str) -> Mem<()>
     ensures { OnOk result (words.new ≡ words.old ++ spec.source_words family cpp source.now) }
@@ -129,25 +135,25 @@ fn push_source_words(words: &mut Words, family: ToolFamily, cpp: bool, source: &
     Ok(())
 }
 
-/// The words of a compile command that follow those of the tool: the object, the flags of its own, and the source.
+/// The words of a compile command that follow those of the tool: the object, `-c`, which compiles and links nothing (GCC's "Options
+/// Controlling the Kind of Output"), the flags of sources in assembly, and the source. Only want of memory refuses.
 pub(crate) fn compile_words(
     alloc: Global,
-    cpp: bool,
-    reproducible_codeview: bool,
-    asm_flags: &Words,
+    set: &BuildConfig,
     family: ToolFamily,
     target: &TargetInfo,
     object: &Object,
 ) -> Mem<Words>
-    ensures { IfOk result (λ words. words ≡ spec.compile_words cpp reproducible_codeview asm_flags.now family (info_seen target.now) object.now) }
+    ensures { IfOk result (λ words. words
+        ≡ spec.compile_words set.now family (info_seen target.now) object.now) }
 {
     let mut words = Words::new(alloc);
     push_object_words(&mut words, family, target, object)?;
-    push_codeview_words(&mut words, family, reproducible_codeview, object)?;
+    push_codeview_words(&mut words, family, set.reproducible_codeview, object)?;
     words.push("-c")?;
     if is_asm(object.src.as_str()) {
-        words.extend(asm_flags)?;
+        words.extend(&set.asm_flags)?;
     }
-    push_source_words(&mut words, family, cpp, object.src.as_str())?;
+    push_source_words(&mut words, family, set.cpp, object.src.as_str())?;
     Ok(words)
 }

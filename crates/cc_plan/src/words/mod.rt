@@ -1,8 +1,10 @@
 // The words of a tool and of a compile command, put together of the groups that `cc_flags` has and of those that settings bring.
 mod compile;
+mod defaults;
 mod settings;
 mod tool;
 
 pub(crate) use compile::{compile_words, is_masm};
+pub(crate) use defaults::check_defaults;
 pub(crate) use settings::{is_link, is_link_flag};
-pub(crate) use tool::{asked_words, check_defaults, tool_warnings, tool_words};
+pub(crate) use tool::{asked_words, remapped, rust_words, tool_warnings, tool_words, trimmed};

@@ -1,4 +1,6 @@
-// The words that settings bring, whatever the target, a function a group.
+// The words that settings bring, whatever the target, a function a group. Each group adds its words last; only memory refuses. What a flag
+// means is told by GCC's manual in the section that stands at the group, by Clang's "Clang command line argument reference", and by
+// Microsoft's page "MSVC compiler options".
 ghost use Rattle.std.specs.Prelude.{◌≡◌, ◌++◌, ◌≤◌, [], ◌∷◌, length, OnOk, IfSome};
 ghost use Rattle.std.specs.List.{position};
 ghost use Rattle.std.specs.Option.{option_copied};
@@ -19,14 +21,15 @@ fn standard_flag(family: ToolFamily) -> &'static str
     }
 }
 
-// The standard of the language.
+// The standard of the language: GCC's "Options Controlling C Dialect", `-std=`; Microsoft's "/std (Specify Language Standard Version)".
 #[tactic(auto, unfolding(crate::specs::SettingWords::standard_words))]
 pub(super) fn push_standard_words(
     words: &mut Words,
     family: ToolFamily,
     standard: Option<&str>,
 ) -> Mem<()>
-    ensures { OnOk result (words.new ≡ words.old ++ spec.standard_words family (option_copied standard.entry)) }
+    ensures { OnOk result (words.new ≡ words.old
+        ++ spec.standard_words family (option_copied standard.entry)) }
 {
     if let Some(standard) = standard {
         words.push_joined(standard_flag(family), standard)?;
@@ -34,7 +37,8 @@ pub(super) fn push_standard_words(
     Ok(())
 }
 
-// `-I` and the folder, for each.
+// The folders of headers, in which a compiler looks in this order: `-I` of GCC's "Options for Directory Search" and of Microsoft's "/I
+// (Additional include directories)". The folder is a word of its own, so that no path is taken for a flag.
 #[tactic(auto, unfolding(crate::specs::SettingWords::include_words))]
 pub(super) fn push_include_words(words: &mut Words, folders: &[Text]) -> Mem<()>
     ensures { OnOk result (words.new ≡ words.old ++ spec.include_words folders.now) }
@@ -46,7 +50,7 @@ pub(super) fn push_include_words(words: &mut Words, folders: &[Text]) -> Mem<()>
     Ok(())
 }
 
-// Warnings are errors.
+// Warnings are errors: `-Werror` of GCC's "Options to Request or Suppress Warnings"; Microsoft's "/WX".
 #[tactic(auto, unfolding(crate::specs::SettingWords::error_words))]
 pub(super) fn push_error_words(words: &mut Words, family: ToolFamily, into_errors: bool) -> Mem<()>
     ensures { OnOk result (words.new ≡ words.old ++ spec.error_words family into_errors) }
@@ -61,7 +65,9 @@ pub(super) fn push_error_words(words: &mut Words, family: ToolFamily, into_error
     Ok(())
 }
 
-// The usual warnings, where they are on; none at all, where they are off.
+// The usual warnings, where they are on, `-Wall`; none at all, where they are off, `-w`: GCC's "Options to Request or Suppress Warnings".
+// For Visual Studio the levels 4 and 0 of Microsoft's "/w, /W0, /W1, /W2, /W3, /W4, /Wall, .. (Warning level)": its `/Wall` warns of its own
+// headers.
 #[tactic(auto, unfolding(crate::specs::SettingWords::warnings_word))]
 fn push_warnings_word(words: &mut Words, family: ToolFamily, on: bool) -> Mem<()>
     ensures { OnOk result (words.new ≡ words.old ++ spec.warnings_word family on) }
@@ -88,7 +94,8 @@ pub(super) fn push_warning_words(
     warnings: Option<bool>,
     environment: Option<&Words>,
 ) -> Mem<()>
-    ensures { OnOk result (words.new ≡ words.old ++ spec.warning_words family warnings (option_copied environment.entry)) }
+    ensures { OnOk result (words.new ≡ words.old
+        ++ spec.warning_words family warnings (option_copied environment.entry)) }
 {
     match warnings {
         Some(on) => push_warnings_word(words, family, on)?,
@@ -101,6 +108,7 @@ pub(super) fn push_warning_words(
     Ok(())
 }
 
+// More warnings, `-Wextra` of GCC's "Options to Request or Suppress Warnings": where it isn't set, as above.
 #[tactic(auto, unfolding(crate::specs::SettingWords::extra_warning_words))]
 pub(super) fn push_extra_warning_words(
     words: &mut Words,
@@ -108,7 +116,8 @@ pub(super) fn push_extra_warning_words(
     extra: Option<bool>,
     environment: Option<&Words>,
 ) -> Mem<()>
-    ensures { OnOk result (words.new ≡ words.old ++ spec.extra_warning_words family extra (option_copied environment.entry)) }
+    ensures { OnOk result (words.new ≡ words.old
+        ++ spec.extra_warning_words family extra (option_copied environment.entry)) }
 {
     if is_gnu_like(family) && extra.unwrap_or(environment.is_none()) {
         words.push("-Wextra")?;
@@ -116,13 +125,14 @@ pub(super) fn push_extra_warning_words(
     Ok(())
 }
 
-// What follows is for the linker.
+/// What follows is for the linker: Microsoft's "/link (Pass Options to Linker)". No archive is linked, so it is left off.
 pub(crate) fn is_link(text: &str) -> bool
     ensures { result ≡ spec.is_link text.now }
 {
     text == "/link" || text == "-link"
 }
 
+/// Whether the flag is that word.
 pub(crate) fn is_link_flag(flag: &BuildFlag) -> bool
     ensures { result ≡ spec.is_link_flag flag.now }
 {
@@ -177,6 +187,7 @@ fn compiler_flags(family: ToolFamily, flags: &[BuildFlag]) -> &[BuildFlag]
     }
 }
 
+// The flags that a user gave, behind the words that they may override: of two flags that contradict each other a compiler takes the last.
 #[tactic(auto, unfolding(crate::specs::SettingWords::flag_words))]
 pub(super) fn push_flag_words(
     words: &mut Words,
@@ -213,7 +224,8 @@ pub(super) fn push_flag_asks(words: &mut Words, family: ToolFamily, flags: &[Bui
     Ok(())
 }
 
-// `-D` and the name of the macro, with `=` and the value where it has one.
+// `-D` and the name of the macro, with `=` and the value where it has one: GCC's "Options Controlling the Preprocessor"; Microsoft's "/D
+// (Preprocessor Definitions)".
 fn push_definition(words: &mut Words, alloc: Global, definition: &Definition) -> Mem<()>
     ensures { OnOk result (words.new ≡ words.old ++ spec.definition_word definition.now ∷ []) }
 {
@@ -227,6 +239,7 @@ fn push_definition(words: &mut Words, alloc: Global, definition: &Definition) ->
     Ok(())
 }
 
+// The macros, in the order added: a compiler takes the last of a name.
 #[tactic(auto, unfolding(crate::specs::SettingWords::definition_words))]
 pub(super) fn push_definition_words(
     words: &mut Words,
@@ -269,14 +282,16 @@ fn push_before_link(words: &mut Words, list: &[Text]) -> Mem<()>
     Ok(())
 }
 
-// The flags of the environment.
+// The flags of the environment, last, so that who builds has the last word over who wrote the build: `CFLAGS` and its like by GNU make's
+// manual, "Variables Used by Implicit Rules".
 #[tactic(auto, unfolding(crate::specs::SettingWords::environment_words, crate::specs::SettingWords::compiler_words))]
 pub(super) fn push_environment_words(
     words: &mut Words,
     family: ToolFamily,
     environment: Option<&Words>,
 ) -> Mem<()>
-    ensures { OnOk result (words.new ≡ words.old ++ spec.environment_words family (option_copied environment.entry)) }
+    ensures { OnOk result (words.new ≡ words.old
+        ++ spec.environment_words family (option_copied environment.entry)) }
 {
     if let Some(environment) = environment {
         if is_visual_studio(family) {

@@ -3,7 +3,10 @@ use Rattle.cc_host.specs.Question.{Settles}
 use Rattle.cc_tool.proofs.AskLemmas.{asks_grows}
 use Rattle.cc_plan.proofs.AskingLemmas.{only_then}
 use Rattle.cc_tool.proofs.SettleLemmas.{settles_on, settles_so}
-use Rattle.cc_plan.specs.FlagSupport.{found_warnings, verdict_on, verdict_refusal}
+use Rattle.cc_plan.specs.Compilation.{compilation_of}
+use Rattle.cc_plan.specs.FlagSupport.{verdict_on, verdict_refusal}
+use Rattle.cc_plan.specs.Tool.{found_warnings}
+use Rattle.cc_plan.proofs.CompilationLemmas.{is_known}
 use Rattle.cc_plan.specs.declared.error.PlanError.TheVariants.{NoMemory as WantsMemory}
 use Rattle.cc_plan.proofs.OwnLemmas.{verdict_is_own}
 use Rattle.cc_plan.proofs.VerdictLemmas.{verdict_settled, support_settled, support_refused}
@@ -15,13 +18,14 @@ returns-in_err-verdict-clause-asks g c = only_then c.found_compiler.ensures.asks
 pub returns-in_err-verdict-clause-refused : goal.returns-in_err-verdict-clause-refused
 returns-in_err-verdict-clause-refused g c =
     let r : c.from_residual-in_err-verdict.result ≡ Err c.in_err-verdict.field-0.0 = search rules in
-    let refused = subst (λ p. (c.in_err-verdict.field-0.0 ≡ WantsMemory) ⊎ (verdict_refusal c.args.set.now c.args.env.now c.in_ok-compiler.family p c.args.flag.now ≡ Some c.in_err-verdict.field-0.0)) c.as_str-path.ensures c.in_err-verdict.ensures.refused in
+    let known = is_known c.args.set.now c.args.env.now c.in_ok-compiler.bare c.in_ok-target.ensures.info in
+    let refused = subst (λ k. (c.in_err-verdict.field-0.0 ≡ WantsMemory) ⊎ (verdict_refusal k c.args.flag.now ≡ Some c.in_err-verdict.field-0.0)) known c.in_err-verdict.ensures.refused in
     rw r (support_refused c.args.set.now c.args.env.now c.args.flag.now c.in_err-verdict.field-0.0 c.in_ok-target.ensures.allowed (settles_on (asks_grows c.verdict_on.ensures.asks.asks) c.in_ok-compiler.ensures.settles) refused)
 
 pub returns-in_err-verdict-clause-own : goal.returns-in_err-verdict-clause-own
 returns-in_err-verdict-clause-own g c =
     let r : c.from_residual-in_err-verdict.result ≡ Err c.in_err-verdict.field-0.0 = search rules in
-    rw r (verdict_is_own c.args.set.now c.args.env.now c.in_ok-compiler.family c.as_str-path.result.now c.args.flag.now c.in_err-verdict.field-0.0 c.in_err-verdict.ensures.refused)
+    rw r (verdict_is_own _ c.args.flag.now c.in_err-verdict.field-0.0 c.in_err-verdict.ensures.refused)
 
 pub returns-in_err-warnings-clause-asks : goal.returns-in_err-warnings-clause-asks
 returns-in_err-warnings-clause-asks g c = only_then c.found_compiler.ensures.asks c.verdict_on.ensures.asks
@@ -31,17 +35,21 @@ returns-clause-asks g c = only_then c.found_compiler.ensures.asks c.verdict_on.e
 
 pub returns-clause-verdict : goal.returns-clause-verdict
 returns-clause-verdict g c =
+    let known = is_known c.args.set.now c.args.env.now c.in_ok-compiler.bare c.in_ok-target.ensures.info in
     verdict_settled c.args.set.now c.args.env.now c.args.flag.now (settles_on (asks_grows c.verdict_on.ensures.asks.asks) c.in_ok-compiler.ensures.settles)
-    (subst (λ p. Settles c.verdict_on.new.sight.answers.now (verdict_on c.args.set.now c.args.env.now c.in_ok-compiler.family p c.args.flag.now) c.in_ok-verdict.verdict) c.as_str-path.ensures c.in_ok-verdict.ensures.verdict)
+    (subst (λ k. Settles c.verdict_on.new.sight.answers.now (verdict_on k c.args.flag.now) c.in_ok-verdict.verdict) known c.in_ok-verdict.ensures.verdict)
 
 pub returns-clause-compiler : goal.returns-clause-compiler
 returns-clause-compiler g c = settles_so (settles_on (asks_grows c.verdict_on.ensures.asks.asks) c.in_ok-compiler.ensures.settles) (λ look a. ap (λ f. f.0) a)
 
 pub returns-clause-warnings : goal.returns-clause-warnings
 returns-clause-warnings g c =
-    settles_so (settles_on (asks_grows c.verdict_on.ensures.asks.asks) c.in_ok-compiler.ensures.settles) (λ look a. ap (λ f. found_warnings c.args.set.now c.args.env.now f.0) a ∙ sym c.in_ok-warnings.ensures)
+    let known = is_known c.args.set.now c.args.env.now c.in_ok-compiler.compiler c.in_ok-target.ensures.info in
+    settles_so (settles_on (asks_grows c.verdict_on.ensures.asks.asks) c.in_ok-compiler.ensures.settles)
+    (λ look a. ap (λ f. found_warnings (compilation_of c.args.set.now c.args.env.now f.0)) a ∙ ap found_warnings (sym known) ∙ sym c.in_ok-warnings.ensures)
 
 pub returns-clause-allowed : goal.returns-clause-allowed
 returns-clause-allowed g c =
+    let known = is_known c.args.set.now c.args.env.now c.in_ok-compiler.bare c.in_ok-target.ensures.info in
     support_settled c.args.set.now c.args.env.now c.args.flag.now c.in_ok-target.ensures.allowed (settles_on (asks_grows c.verdict_on.ensures.asks.asks) c.in_ok-compiler.ensures.settles)
-    (subst (λ p. verdict_refusal c.args.set.now c.args.env.now c.in_ok-compiler.family p c.args.flag.now ≡ None) c.as_str-path.ensures c.in_ok-verdict.ensures.allowed)
+    (subst (λ k. verdict_refusal k c.args.flag.now ≡ None) known c.in_ok-verdict.ensures.allowed)

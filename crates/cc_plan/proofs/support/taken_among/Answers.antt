@@ -3,6 +3,7 @@ use Rattle.cc_text.specs.Words.{when}
 use Rattle.cc_tool.proofs.AskLemmas.{asks_grows}
 use Rattle.cc_plan.proofs.AskingLemmas.{only_none, only_then}
 use Rattle.cc_tool.proofs.SettleLemmas.{settles_on, settles_two}
+use Rattle.cc_plan.specs.Compilation.{seen}
 use Rattle.cc_plan.specs.Support.{takes}
 use Rattle.cc_plan.proofs.SupportLemmas.{keep_more}
 use Rattle.cc_plan.proofs.support.taken_among.Goals as goal
@@ -23,7 +24,7 @@ pub loop-word-preserved : goal.loop-word-preserved
 loop-word-preserved g c = record {
   asks = only_then c.loop-word.invariant.asks c.takes.ensures.asks;
   taken = settles_two (settles_on (asks_grows c.takes.ensures.asks.asks) c.loop-word.invariant.taken) c.in_ok-is_taken.ensures.settles
-      (λ look a b. keep_more (takes c.args.set.now c.args.env.now c.args.family c.args.path.now look) c.args.words.now c.loop-word.word-index c.word-item.result c.loop-word.taken _ c.in_ok-is_taken.is_taken (omega (arith, ap length c.as_slice-word-items.ensures)) (c.word-item.is ∙ ap (λ xs. slice_index_or xs c.loop-word.word-index c.word-item.result) c.as_slice-word-items.ensures) a
-      (ap (takes c.args.set.now c.args.env.now c.args.family c.args.path.now look) (sym c.as_str.ensures) ∙ b)
+      (λ look a b. keep_more (takes (seen c.args.given.now) look) c.args.words.now c.loop-word.word-index c.word-item.result c.loop-word.taken _ c.in_ok-is_taken.is_taken (omega (arith, ap length c.as_slice-word-items.ensures)) (c.word-item.is ∙ ap (λ xs. slice_index_or xs c.loop-word.word-index c.word-item.result) c.as_slice-word-items.ensures) a
+      (ap (takes (seen c.args.given.now) look) (sym c.as_str.ensures) ∙ b)
       (c.in_ok-push_if.ensures ∙ ap (λ w. c.loop-word.taken ++ when c.in_ok-is_taken.is_taken (w ∷ [])) c.as_str-in-loop-word.ensures));
 }

@@ -2,8 +2,11 @@ use Rattle.std.proofs.Common.{rules, ◌≡◌, Err, sym, ap, ◌∙◌}
 use Rattle.cc_tool.proofs.AskLemmas.{asks_grows}
 use Rattle.cc_plan.proofs.AskingLemmas.{only_then}
 use Rattle.cc_tool.proofs.SettleLemmas.{settles_on, settles_two}
-use Rattle.cc_plan.specs.Support.{supported_by}
+use Rattle.cc_target.specs.Targets.{info_seen}
+use Rattle.cc_plan.specs.Compilation.{compilation_of}
+use Rattle.cc_plan.specs.Support.{supported}
 use Rattle.cc_plan.specs.Tool.{tool_by, warnings_by}
+use Rattle.cc_plan.proofs.CompilationLemmas.{is_known, with_target}
 use Rattle.cc_plan.proofs.ResultLemmas.{allowed_by}
 use Rattle.cc_plan.proofs.OwnLemmas.{given_is_own, built_is_own}
 use Rattle.cc_plan.proofs.tool.plan_tool.Goals as goal
@@ -32,18 +35,22 @@ returns-clause-asks g c = only_then c.compiler_of.ensures.asks c.supported_words
 
 pub returns-clause-tool : goal.returns-clause-tool
 returns-clause-tool g c =
+    let known = is_known c.args.set.now c.args.env.now c.in_ok-compiler.compiler c.in_ok-target.ensures.info in
     settles_two (settles_on (asks_grows c.supported_words.ensures.asks.asks) c.in_ok-compiler.ensures.settles) c.in_ok-supported.ensures.settles
     (λ look a b.
-    ap (λ k. tool_by c.args.set.now c.args.env.now k (supported_by c.args.set.now c.args.env.now k look)) a
-    ∙ ap (λ s. tool_by c.args.set.now c.args.env.now c.in_ok-compiler.compiler s) (b ∙ sym c.as_slice-supported.ensures)
+    ap (λ k. tool_by (compilation_of c.args.set.now c.args.env.now k) (supported (compilation_of c.args.set.now c.args.env.now k) look)) a
+    ∙ ap (λ k. tool_by k (supported k look)) (sym known)
+    ∙ ap (tool_by (with_target c.args.set.now c.args.env.now c.in_ok-compiler.compiler (info_seen c.in_ok-target.target))) (b ∙ sym c.as_slice-supported.ensures)
     ∙ sym c.in_ok-tool.ensures)
 
 pub returns-clause-warnings : goal.returns-clause-warnings
 returns-clause-warnings g c =
+    let known = is_known c.args.set.now c.args.env.now c.in_ok-compiler.compiler c.in_ok-target.ensures.info in
     settles_two (settles_on (asks_grows c.supported_words.ensures.asks.asks) c.in_ok-compiler.ensures.settles) c.in_ok-supported.ensures.settles
     (λ look a b.
-    ap (λ k. warnings_by c.args.set.now c.args.env.now k (supported_by c.args.set.now c.args.env.now k look) c.in_ok-warned.warned.told) a
-    ∙ ap (λ s. warnings_by c.args.set.now c.args.env.now c.in_ok-compiler.compiler s c.in_ok-warned.warned.told) (b ∙ sym c.as_slice-supported.ensures)
+    ap (λ k. warnings_by (compilation_of c.args.set.now c.args.env.now k) (supported (compilation_of c.args.set.now c.args.env.now k) look) c.in_ok-warned.warned.is_first) a
+    ∙ ap (λ k. warnings_by k (supported k look) c.in_ok-warned.warned.is_first) (sym known)
+    ∙ ap (λ s. warnings_by (with_target c.args.set.now c.args.env.now c.in_ok-compiler.compiler (info_seen c.in_ok-target.target)) s c.in_ok-warned.warned.is_first) (b ∙ sym c.as_slice-supported.ensures)
     ∙ sym c.in_ok-warned.ensures)
 
 pub returns-clause-allowed : goal.returns-clause-allowed

@@ -18,10 +18,10 @@ returns-in_err-lines-clause-asks g c =
 pub returns-in_err-print_warnings-clause-asks : goal.returns-in_err-print_warnings-clause-asks
 returns-in_err-print_warnings-clause-asks g c =
     let r : c.from_residual-in_err-print_warnings.result ≡ Err c.in_err-print_warnings.field-0.0 = search rules in
-    rw r (warns_printed c.in_ok-plan.plan.warned.told c.in_ok-lines.lines _ c.plan_tool.ensures.asks.asks c.print_warnings.ensures.extends
+    rw r (warns_printed c.in_ok-plan.plan.warned.is_first c.in_ok-lines.lines _ c.plan_tool.ensures.asks.asks c.print_warnings.ensures.extends
     (settles_so c.in_ok-plan.ensures.warnings (λ look a. ap (wanted_lines c.args.set.now) a ∙ sym c.in_ok-lines.ensures)) c.in_err-print_warnings.ensures.prints c.print_warnings.ensures.silent)
 
 pub returns-clause-asks : goal.returns-clause-asks
 returns-clause-asks g c =
-    warns_printed c.in_ok-plan.plan.warned.told c.in_ok-lines.lines _ c.plan_tool.ensures.asks.asks c.print_warnings.ensures.extends
+    warns_printed c.in_ok-plan.plan.warned.is_first c.in_ok-lines.lines _ c.plan_tool.ensures.asks.asks c.print_warnings.ensures.extends
     (settles_so c.in_ok-plan.ensures.warnings (λ look a. ap (wanted_lines c.args.set.now) a ∙ sym c.in_ok-lines.ensures)) c.in_ok-print_warnings.ensures.prints c.print_warnings.ensures.silent

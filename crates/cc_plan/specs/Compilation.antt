@@ -1,0 +1,27 @@
+-- A compilation: the settings in their environment, the target, and a compiler.
+use Rattle.std.specs.Prelude.{ℕ, List}
+use Rattle.cc_env.specs.Env.{EnvSeen}
+use Rattle.cc_target.specs.Targets.{Info, info_seen}
+use Rattle.cc_plan.specs.Given.{probe_folder}
+use Rattle.cc_plan.specs.Target.{target_info}
+use Rattle.cc_plan.specs.declared.compilation.Compilation.{Compilation}
+use Rattle.cc_plan.specs.declared.compiler.Compiler.{Compiler}
+use Rattle.cc_plan.specs.declared.settings.BuildConfig.{BuildConfig}
+
+pub record CompilationSeen : Type 0 where
+  pub set : BuildConfig
+  pub env : EnvSeen
+  pub target : Info
+  pub compiler : Compiler
+
+-- what is behind the borrows
+abbrev pub seen : Compilation → CompilationSeen
+seen c = record { set = c.set.now; env = c.env.now; target = info_seen c.target.now; compiler = c.compiler.now }
+
+-- the compilation of these settings by a compiler
+abbrev pub compilation_of : BuildConfig → EnvSeen → Compiler → CompilationSeen
+compilation_of set env compiler = record { set = set; env = env; target = target_info set env; compiler = compiler }
+
+-- the folder of its probe files
+abbrev pub folder_of : CompilationSeen → List ℕ
+folder_of c = probe_folder c.set c.env

@@ -1,0 +1,25 @@
+// A compilation: what the words of a tool, its warnings and the questions on its flags are made of.
+ghost use Rattle.std.specs.Prelude.{◌≡◌};
+ghost use Rattle.cc_plan.specs.Inherited.{rustflags as read_flags};
+ghost use Rattle.cc_plan.specs.Target.{target_info};
+ghost use Rattle.cc_target.specs.Targets.{info_seen};
+
+use crate::BuildConfig;
+use crate::compiler::Compiler;
+use crate::inherited::Rustflags;
+use cc_env::BuildEnv;
+use cc_target::TargetInfo;
+use std::alloc::Global;
+
+/// The settings in their environment, the flags of Rust code that are read from it, what is known of the target, and a compiler.
+#[derive(Clone, Copy)]
+pub(crate) struct Compilation<'a> {
+    pub alloc: Global,
+    pub set: &'a BuildConfig,
+    pub env: &'a BuildEnv,
+    pub rustflags: &'a Rustflags,
+    pub target: &'a TargetInfo,
+    pub compiler: &'a Compiler,
+    ghost read: { rustflags.now ≡ read_flags set.now.inherit_rustflags env.now.inherited },
+    ghost known: { info_seen target.now ≡ target_info set.now env.now },
+}
