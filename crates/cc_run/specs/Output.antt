@@ -1,5 +1,6 @@
 -- What a part says of one command that was run in one call of the host.
 use Rattle.std.specs.Prelude.{◌≡◌, ◌⊎◌, ◌≤◌, ℕ, Bool, true, false, List, [], ◌∷◌, ◌++◌, length, map, take, ◌&&◌, ◌||◌, Option, None, Result, Ok, Err}
+use Rattle.std.specs.Option.{option_copied}
 use Rattle.cc_text.specs.Words.{when}
 use Rattle.cc_host.specs.Status.{is_success}
 use Rattle.cc_host.specs.declared.event.Event.{Event}
@@ -18,6 +19,7 @@ use Rattle.cc_run.specs.declared.error.RunError.TheVariants.{ToolNotFound, Faile
 use Rattle.cc_run.specs.declared.planned.Planned.{Planned}
 use Rattle.cc_run.specs.declared.planned.Shows.{Shows}
 use Rattle.cc_run.specs.declared.print.Line.{Line}
+use Rattle.cc_run.specs.declared.whole.Outputs.{Outputs}
 
 -- the warnings of a standard error, each as a line for Cargo
 abbrev pub map_warnings : Option (List ℕ) → List ℕ → List Line
@@ -71,3 +73,10 @@ IsOutput shows p out always ignored (Err _) part = ⊥
 abbrev pub IsSilentRun : Shows → Planned → Result (Unit {0}) RunError → List Event → Type 0
 IsSilentRun shows p (Ok _) part = (output : List ℕ) × IsOutput shows p Discard false None (Ok output) part
 IsSilentRun shows p (Err e) part = IsOutput shows p Discard false None (Err e) part
+
+-- the lines behind a command, and what a part says of the answer, by what is done with the outputs
+abbrev pub behind_by : Shows → Outputs → Status → List ℕ → List Line
+behind_by shows outputs = behind shows outputs.always (option_copied outputs.ignored)
+
+abbrev pub IsOutputBy : Shows → Planned → Outputs → Result (List ℕ) RunError → List Event → Type 0
+IsOutputBy shows p outputs = IsOutput shows p outputs.out outputs.always (option_copied outputs.ignored)

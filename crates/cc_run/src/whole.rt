@@ -3,7 +3,7 @@ ghost use Rattle.std.specs.Prelude.{◌≡◌, ◌++◌, IfOk, true};
 ghost use Rattle.std.specs.Option.{option_copied};
 ghost use Rattle.cc_host.specs.Call.{part};
 ghost use Rattle.cc_host.specs.declared.event.OutputKind.TheVariants.{Capture};
-ghost use Rattle.cc_run.specs.Output.{IsOutput, IsSilentRun, behind};
+ghost use Rattle.cc_run.specs.Output.{IsOutput, IsOutputBy, IsSilentRun, behind_by};
 
 use crate::error::start_error;
 use crate::print::{Line, print_all};
@@ -13,22 +13,30 @@ use cc_host::{Host, LineKind, OutputKind, Pipes, Ran, Status, World};
 use cc_text::{Bytes, Mem};
 use std::alloc::Global;
 
+// What is done with the outputs of a command: where its standard output goes, whether the warnings of its standard error
+// are printed where it failed too, and which line of them isn't.
+#[derive(Clone, Copy)]
+struct Outputs<'a> {
+    out: OutputKind,
+    always: bool,
+    ignored: Option<&'a [u8]>,
+}
+
 // The lines behind a command: the warnings of its standard error, and then how it ended.
 #[tactic(auto, unfolding(crate::specs::Output::behind))]
 fn lines_behind(
     alloc: Global,
     shows: &Shows,
-    always: bool,
-    ignored: Option<&[u8]>,
+    outputs: Outputs<'_>,
     status: Status,
     stderr: &[u8],
 ) -> Mem<Vec<Line>>
     ensures { IfOk result (λ lines.
-        lines.items ≡ behind shows.now always (option_copied ignored.entry) status stderr.now) }
+        lines.items ≡ behind_by shows.now outputs.entry status stderr.now) }
 {
     let mut lines = Vec::new(alloc);
-    if shows.warnings && (always || status.is_success()) {
-        let texts = stderr_warnings(alloc, stderr, ignored)?;
+    if shows.warnings && (outputs.always || status.is_success()) {
+        let texts = stderr_warnings(alloc, stderr, outputs.ignored)?;
         push_lines(LineKind::Warning, &texts, &mut lines)?;
     }
     if shows.debug {
@@ -43,18 +51,16 @@ fn run_whole<W: World, H: Host<W>>(
     alloc: Global,
     host: &mut H,
     planned: &Planned,
-    out: OutputKind,
     shows: &Shows,
-    always: bool,
-    ignored: Option<&[u8]>,
+    outputs: Outputs<'_>,
 ) -> Result<Bytes, RunError>
     ensures extends { H.log host.new ≡ H.log host.old ++ part H.log host.old host.new }
     ensures patient { H.patience host.new ≡ H.patience host.old }
-    ensures part { IsOutput shows.now planned.now out always (option_copied ignored.entry) result
+    ensures part { IsOutputBy shows.now planned.now outputs.entry result
         (part H.log host.old host.new) }
 {
     let pipes = Pipes {
-        out,
+        out: outputs.out,
         hear: shows.warnings,
     };
     let before = announced(alloc, shows, &planned.cmd)?;
@@ -65,7 +71,7 @@ fn run_whole<W: World, H: Host<W>>(
     match host.output(planned.role, &planned.cmd, pipes) {
         Ok(Ran::Missing) => Err(RunError::ToolNotFound(0)),
         Ok(Ran::Done { status, out, err }) => {
-            let behind = lines_behind(alloc, shows, always, ignored, status, err.as_slice());
+            let behind = lines_behind(alloc, shows, outputs, status, err.as_slice());
             let Ok(lines) = behind else {
                 return Err(RunError::NoMemory);
             };
@@ -98,7 +104,12 @@ pub fn run_silent<W: World, H: Host<W>>(
     ensures patient { H.patience host.new ≡ H.patience host.old }
     ensures part { IsSilentRun shows.now cmd.now result (part H.log host.old host.new) }
 {
-    match run_whole(alloc, host, cmd, OutputKind::Discard, shows, false, None) {
+    let outputs = Outputs {
+        out: OutputKind::Discard,
+        always: false,
+        ignored: None,
+    };
+    match run_whole(alloc, host, cmd, shows, outputs) {
         Ok(_) => Ok(()),
         Err(e) => Err(e),
     }
@@ -121,5 +132,10 @@ pub fn run_output<W: World, H: Host<W>>(
     ensures part { IsOutput shows.now cmd.now Capture true (option_copied ignored.entry) result
         (part H.log host.old host.new) }
 {
-    run_whole(alloc, host, cmd, OutputKind::Capture, shows, true, ignored)
+    let outputs = Outputs {
+        out: OutputKind::Capture,
+        always: true,
+        ignored,
+    };
+    run_whole(alloc, host, cmd, shows, outputs)
 }
