@@ -19,13 +19,13 @@ use Rattle.cc_host.specs.declared.question.Verdict.TheVariants.{Unanswered as No
 use Rattle.cc_host.specs.Event.{probed, reused}
 use Rattle.cc_host.specs.Part.{since}
 use Rattle.cc_host.specs.Status.{is_success}
-use Rattle.cc_host.specs.Question.{Answer, Lacks, answers, exists_question}
+use Rattle.cc_host.specs.Question.{Answer, answers, exists_question}
 use Rattle.cc_host.specs.Verdict as verdicts
 use Rattle.cc_host.specs.Verdict.{verdict_of, yes_if, existence, ended_verdict, dirs_in, read_as_option, marks_of}
 use Rattle.cc_host.proofs.Parts.{since_append}
 use Rattle.cc_tool.specs.declared.kinds.FileKind.{FileKind}
 use Rattle.cc_tool.specs.Asks.{Asks}
-use Rattle.cc_tool.specs.Files.{source_of, needs_files}
+use Rattle.cc_tool.specs.Files.{source_of}
 use Rattle.cc_tool.specs.Founded.{Founded, IsFounded, is_probe_fault}
 use Rattle.cc_tool.specs.Known.{Has, MayKeep}
 use Rattle.cc_tool.specs.Own.{AnswersOnly, WhyUnanswered, is_for_files, OnlyForFiles, Looks}

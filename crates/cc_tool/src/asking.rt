@@ -45,7 +45,28 @@ fn yes_if(there: bool) -> Verdict
     if there { Verdict::Yes } else { Verdict::No }
 }
 
+// Asks a question of the host.
+fn ask_anew<W: World, H: Host<W>>(
+    alloc: Global,
+    host: &mut H,
+    q: &Question,
+    dir: &str,
+) -> Mem<Heard>
+    requires { q.now.ask ≢ AsksExists }
+    ensures probes { Probes dir.now (H.log host.old) (H.log host.new) [] [] (told q.now result) 0 }
+    ensures bare { OnlyForFiles q.now (part H.log host.old host.new) }
+    ensures steady { IfOk result (λ heard. IsHeard W.steady W.answer q.now heard.verdict) }
+    ensures patient { H.patience host.new ≡ H.patience host.old }
+{
+    let outcome = ask_host(alloc, host, dir, q)?;
+    Ok(Heard {
+        verdict: into_verdict(q, outcome),
+        fresh: true,
+    })
+}
+
 // Takes a verdict that is kept, or asks.
+#[tactic(auto, using(crate::proofs::ProbingLemmas::probes_reused))]
 fn hear<W: World, H: Host<W>>(
     rt: &impl Wait,
     alloc: Global,
@@ -67,11 +88,7 @@ fn hear<W: World, H: Host<W>>(
             fresh: false,
         });
     }
-    let outcome = ask_host(alloc, host, dir, q)?;
-    Ok(Heard {
-        verdict: into_verdict(q, outcome),
-        fresh: true,
-    })
+    ask_anew(alloc, host, q, dir)
 }
 
 // Keeps what was heard.

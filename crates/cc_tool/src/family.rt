@@ -19,7 +19,7 @@ use cc_text::{
 use std::alloc::Global;
 use std::sync::Wait;
 
-/// How a family was detected.
+/// How a family was detected, which decides what is warned of.
 #[derive(Clone, Copy, Debug, PartialEq, Eq)]
 pub enum Detected {
     /// The preprocessor showed a known macro. No warning follows.
