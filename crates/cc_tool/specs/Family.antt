@@ -116,6 +116,10 @@ clang_by version path = Clang (version || has_either (name_of path) "zig")
 unfoldable pub is_zig : Look → List ℕ → Vars → Bool
 is_zig look path vars = is_yes (look (question Version path [] vars)) || has_either (name_of path) "zig"
 
+-- a family, as that of Zig where that is what the compiler is
+abbrev pub zig_family : Look → ToolFamily → Program → ToolFamily
+zig_family look family of = with_zig family (is_zig look of.path.now of.vars.now)
+
 unfoldable pub takes_help : Look → List ℕ → List (List ℕ) → Vars → Bool
 takes_help look path args vars = is_yes (look (question HelpFlag path args vars))
 

@@ -126,7 +126,6 @@ fn finish<W: World>(
 // The verdict of a question that is asked by a command.
 fn ask_command<W: World, H: Host<W>>(
     rt: &impl Wait,
-    alloc: Global,
     host: &mut H,
     caches: &Caches<W>,
     answers: &mut Answers,
@@ -146,7 +145,7 @@ fn ask_command<W: World, H: Host<W>>(
         None => {}
     }
     answers.begin(q.try_clone()?)?;
-    match hear(rt, alloc, host, caches, q, dir) {
+    match hear(rt, answers.allocator(), host, caches, q, dir) {
         Ok(heard) => finish(rt, caches, answers, q, heard),
         Err(NoMemory) => {
             answers.give_up();
@@ -222,7 +221,7 @@ pub fn ask<W: World, H: Host<W>>(
     if is_exists(q.ask) {
         ask_exists(alloc, host, answers, q.program.as_str(), dir)
     } else {
-        ask_command(rt, alloc, host, caches, answers, q, dir)
+        ask_command(rt, host, caches, answers, q, dir)
     }
 }
 

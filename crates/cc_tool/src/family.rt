@@ -283,7 +283,7 @@ fn ask_zig<W: World, H: Host<W>>(
     ensures asks { Asks W.steady W.answer dir.now (H.log host.old) (H.log host.new)
         answers.old answers.new }
     ensures settles { IfOk result (Settles answers.new
-        (λ look. families.with_zig family (families.is_zig look of.now.path.now of.now.vars.now))) }
+        (λ look. families.zig_family look family of.now)) }
     ensures own { AnswersAmong (families.IsOf of.now) (part H.log host.old host.new) }
     ensures patient { H.patience host.new ≡ H.patience host.old }
 {
