@@ -1,4 +1,6 @@
 // Commands, and what questions come to.
+ghost use Rattle.std.specs.Prelude.{◌≡◌, IfOk};
+
 use crate::CallError;
 use crate::answer::{Answer, one, push, push_words, strs};
 use crate::given::Read;
@@ -77,7 +79,9 @@ fn ask_of(word: &str) -> Read<Ask> {
 }
 
 /// What is asked of `cc` with these words, in no environment.
-pub fn question(alloc: Global, ask: Ask, words: Words) -> Mem<Question> {
+pub fn question(alloc: Global, ask: Ask, words: Words) -> Mem<Question>
+    ensures { IfOk result (λ q. q.ask ≡ ask) }
+{
     Ok(Question {
         ask,
         program: Text::of(alloc, "cc")?,

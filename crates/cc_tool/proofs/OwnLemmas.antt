@@ -1,6 +1,8 @@
 -- Laws on what a call does for its one question.
 use Rattle.std.proofs.Common.{◌≡◌, ◌⊎◌, inl, inr, ℕ, suc, Bool, true, false, ◌||◌, if◌then◌else◌, List, [], ◌∷◌, ◌++◌, Option, Some, None, is_some, Result, Ok, Err, IfOk, refl, sym, ap, subst, ◌∙◌, append-nil, arith}
-use Rattle.std.specs.List.{Contains, list_any}
+use Rattle.std.specs.List.{All, Contains, list_any}
+use Rattle.std.proofs.lemmas.List.Elements.{All-append}
+use Rattle.std.proofs.lemmas.Grind.{flat_map-append}
 use Rattle.cc_text.specs.declared.memory.NoMemory.{NoMemory}
 use Rattle.cc_host.specs.declared.event.Event.{Event}
 use Rattle.cc_host.specs.declared.event.Event.TheVariants.{Answered, Reused, Unasked, Fault}
@@ -19,16 +21,17 @@ use Rattle.cc_host.specs.declared.question.Verdict.TheVariants.{Unanswered as No
 use Rattle.cc_host.specs.Event.{probed, reused}
 use Rattle.cc_host.specs.Part.{since}
 use Rattle.cc_host.specs.Status.{is_success}
-use Rattle.cc_host.specs.Question.{Answer, Lacks, answers, exists_question}
+use Rattle.cc_host.specs.Question.{Answer, answers, answer_of, exists_question}
 use Rattle.cc_host.specs.Verdict as verdicts
 use Rattle.cc_host.specs.Verdict.{verdict_of, yes_if, existence, ended_verdict, dirs_in, read_as_option, marks_of}
-use Rattle.cc_host.proofs.Parts.{since_append}
+use Rattle.cc_host.proofs.Parts.{since_append, since_since}
+use Rattle.cc_tool.proofs.Asides.{asks_extends}
 use Rattle.cc_tool.specs.declared.kinds.FileKind.{FileKind}
 use Rattle.cc_tool.specs.Asks.{Asks}
-use Rattle.cc_tool.specs.Files.{source_of, needs_files}
+use Rattle.cc_tool.specs.Files.{source_of}
 use Rattle.cc_tool.specs.Founded.{Founded, IsFounded, is_probe_fault}
 use Rattle.cc_tool.specs.Known.{Has, MayKeep}
-use Rattle.cc_tool.specs.Own.{AnswersOnly, WhyUnanswered, is_for_files, OnlyForFiles, Looks}
+use Rattle.cc_tool.specs.Own.{AnswersOnly, AnswersAmong, WhyUnanswered, is_for_files, OnlyForFiles, Looks}
 use Rattle.cc_tool.specs.Probing.{File, Probes}
 
 -- ---- the part of a call
@@ -168,3 +171,31 @@ why known q part (Ok v) (inr own) h = λ none. inr (now (cause_in false part q h
     now (inl off) = absurd (cc)
     now (inr cause) = cause
 why known q part (Err e) own h = tt
+
+-- ---- some questions, and no other ones
+
+module _ (P : Question → Type 0) where
+  pub among_none : (log : List Event) → AnswersAmong P (since log log)
+  among_none log = subst (λ (p : List Event). AnswersAmong P p) (sym (since_none log)) (λ k d l. absurd (omega (arith, l)))
+
+  of_none : (l : List Answer) → l ≡ [] → All (λ a. P a.0) l
+  of_none l e = subst (λ (x : List Answer). All (λ a. P a.0) x) (sym e) (λ k d l. absurd (omega (arith, l)))
+
+  of_one : (q : Question) (v : Verdict) (l : List Answer) → P q → l ≡ (q, v) ∷ [] → All (λ a. P a.0) l
+  of_one q v l h e = subst (λ (x : List Answer). All (λ a. P a.0) x) (sym e) (λ k d l. let z : k ≡ 0 = omega (arith, l) in rw z h)
+
+  -- one question
+  pub among_own : (q : Question) (known : List Answer) (part : List Event) (r : Result Verdict NoMemory) → P q → AnswersOnly q known part r → AnswersAmong P part
+  among_own q known part (Ok v) h (inl had) = of_none (answers part) (ap answers had.1)
+  among_own q known part (Ok v) h (inr own) = of_one q v (answers part) h own.1
+  among_own q known part (Err e) h (inl none) = of_none (answers part) none
+  among_own q known part (Err e) h (inr own) = of_one q own.1.0 (answers part) h own.1.1
+
+  -- some questions, and then some more
+  pub among_then : (steady : Bool) (world : Question → Outcome) (dir : List ℕ) (l m n : List Event) (a b c : List Answer) → Asks steady world dir l m a b → Asks steady world dir m n b c → AnswersAmong P (since l m) → AnswersAmong P (since m n) → AnswersAmong P (since l n)
+  among_then steady world dir l m n a b c s t h k =
+      subst (λ (p : List Event). AnswersAmong P p) (sym (since_since l m n (asks_extends steady world dir l m a b s) (asks_extends steady world dir m n b c t)))
+      (subst (λ (x : List Answer). All (λ a. P a.0) x) (sym (flat_map-append answer_of (since l m) (since m n))) (All-append (λ a. P a.0) (answers (since l m)) (answers (since m n)) h k))
+
+  pub among_more : (Q : Question → Type 0) (part : List Event) → ((q : Question) → P q → Q q) → AnswersAmong P part → AnswersAmong Q part
+  among_more Q part so h = λ k d l. so _ (h k d l)

@@ -1,5 +1,5 @@
 -- The family of a compiler: what its preprocessor shows, else what its file's name says.
-use Rattle.std.specs.Prelude.{ℕ, Bool, true, false, not, ◌&&◌, ◌||◌, List, [], ◌∷◌, ◌++◌, Option, Some, None, unwrap_or, codes, bytes_eq, if◌then◌else◌}
+use Rattle.std.specs.Prelude.{◌≡◌, ◌⊎◌, ℕ, Bool, true, false, not, ◌&&◌, ◌||◌, List, [], ◌∷◌, ◌++◌, Option, Some, None, unwrap_or, codes, bytes_eq, if◌then◌else◌}
 use Rattle.std.specs.List.{list_any}
 use Rattle.std.specs.Path.{path_file_name}
 use Rattle.cc_text.specs.Case.{lowered, ends_ignoring_case}
@@ -116,6 +116,10 @@ clang_by version path = Clang (version || has_either (name_of path) "zig")
 unfoldable pub is_zig : Look → List ℕ → Vars → Bool
 is_zig look path vars = is_yes (look (question Version path [] vars)) || has_either (name_of path) "zig"
 
+-- a family, as that of Zig where that is what the compiler is
+abbrev pub zig_family : Look → ToolFamily → Program → ToolFamily
+zig_family look family of = with_zig family (is_zig look of.path.now of.vars.now)
+
 unfoldable pub takes_help : Look → List ℕ → List (List ℕ) → Vars → Bool
 takes_help look path args vars = is_yes (look (question HelpFlag path args vars))
 
@@ -130,6 +134,18 @@ settled_family seen named zig = (with_zig (family_or seen.0 named) zig, seen.1)
 -- the family of the compiler at a path, given arguments, in an environment; and how it was detected
 unfoldable pub family_of : Look → List ℕ → List (List ℕ) → Vars → ToolFamily × Detected
 family_of look path args vars = settled_family (detection look path args vars) (family_of_file (name_of path) args) (is_zig look path vars)
+
+-- a question by which the family of the compiler at a path is detected
+abbrev pub IsOfFamily : List ℕ → List (List ℕ) → Vars → Question → Type 0
+IsOfFamily path args vars q =
+    ((q ≡ question Preprocess path [] vars) ⊎ (q ≡ question PreprocessDashes path [] vars))
+    ⊎ ((q ≡ question HelpFlag path args vars) ⊎ (q ≡ question Version path [] vars))
+
+abbrev pub IsOf : Program → Question → Type 0
+IsOf of = IsOfFamily of.path.now of.words.now of.vars.now
+
+abbrev pub IsOfFamilyIn : List ℕ → List (List ℕ) → EnvSeen → Question → Type 0
+IsOfFamilyIn path args env = IsOfFamily path args (child_of env.inherited env.explicit)
 
 -- the family in an environment
 abbrev pub family_in : Look → List ℕ → List (List ℕ) → EnvSeen → ToolFamily × Detected

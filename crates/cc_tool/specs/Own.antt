@@ -1,6 +1,6 @@
 -- What a call does for its one question.
 use Rattle.std.specs.Prelude.{◌≡◌, ◌⊎◌, ℕ, Bool, true, false, List, [], ◌∷◌, None, Result, Ok, Err}
-use Rattle.std.specs.List.{Contains, list_any}
+use Rattle.std.specs.List.{All, Contains, list_any}
 use Rattle.cc_text.specs.declared.memory.NoMemory.{NoMemory}
 use Rattle.cc_host.specs.declared.event.Event.{Event}
 use Rattle.cc_host.specs.declared.event.Event.TheVariants.{Answered, Unasked, Drawn, Made}
@@ -20,6 +20,10 @@ use Rattle.cc_tool.specs.Known.{Has}
 abbrev pub AnswersOnly : Question → List Answer → List Event → Result Verdict NoMemory → Type 0
 AnswersOnly q known part (Ok v) = (Has known q v × (part ≡ [])) ⊎ (Lacks known q × (answers part ≡ (q, v) ∷ []))
 AnswersOnly q known part (Err e) = (answers part ≡ []) ⊎ (Lacks known q × ((v : Verdict) × (answers part ≡ (q, v) ∷ [])))
+
+-- each question that the part answers is one of these
+abbrev pub AnswersAmong : (Question → Type 0) → List Event → Type 0
+AnswersAmong asked part = All (λ a. asked a.0) (answers part)
 
 -- why a question has no answer: it had none before, its command couldn't be run, or its files couldn't be made
 abbrev pub WhyUnanswered : Question → List Answer → List Event → Verdict → Type 0

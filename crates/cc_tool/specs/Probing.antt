@@ -145,6 +145,10 @@ Needs q source object = (q.ask ≢ AsksExists) × (source_of q.ask ≡ source) �
 abbrev pub file_of : FileKind → List ℕ → File
 file_of kind path = (path, contents_of kind)
 
+-- the source and the object that a question carries
+abbrev pub both_of : FileKind → FileKind → ProbeFiles → List File
+both_of kind object files = file_of kind files.source ∷ file_of object files.object ∷ []
+
 -- where the world is steady, an outcome is the world's, unless the question couldn't be asked
 abbrev pub IsHonest : Bool → (Question → Outcome) → Question → Result Outcome NoMemory → Type 0
 IsHonest steady world q result = steady ≡ true → IfOk result (λ outcome. outcome ≢ Unanswered → outcome ≡ world q)

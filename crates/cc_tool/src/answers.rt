@@ -10,7 +10,8 @@ use cc_text::Mem;
 use std::alloc::Global;
 use std::marker::Model;
 
-/// The questions of one public call with their verdicts, in the order in which they were asked.
+/// The questions of one public call with their verdicts, in the order in which they were asked. It is seen as a list of pairs. A
+/// question that is there isn't asked again in this call, whatever its verdict.
 #[derive(Drop, Debug)]
 pub struct Answers {
     entries: Vec<(Question, Verdict)>,
@@ -33,7 +34,7 @@ fn set_verdict(answer: &mut (Question, Verdict), verdict: Verdict)
 }
 
 impl Answers {
-    /// No answers.
+    /// No answers. It takes no memory.
     pub fn new(alloc: Global) -> Answers
         ensures { result ≡ [] }
     {

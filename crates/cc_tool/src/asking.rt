@@ -45,7 +45,28 @@ fn yes_if(there: bool) -> Verdict
     if there { Verdict::Yes } else { Verdict::No }
 }
 
+// Asks a question of the host.
+fn ask_anew<W: World, H: Host<W>>(
+    alloc: Global,
+    host: &mut H,
+    q: &Question,
+    dir: &str,
+) -> Mem<Heard>
+    requires { q.now.ask ≢ AsksExists }
+    ensures probes { Probes dir.now (H.log host.old) (H.log host.new) [] [] (told q.now result) 0 }
+    ensures bare { OnlyForFiles q.now (part H.log host.old host.new) }
+    ensures steady { IfOk result (λ heard. IsHeard W.steady W.answer q.now heard.verdict) }
+    ensures patient { H.patience host.new ≡ H.patience host.old }
+{
+    let outcome = ask_host(alloc, host, dir, q)?;
+    Ok(Heard {
+        verdict: into_verdict(q, outcome),
+        fresh: true,
+    })
+}
+
 // Takes a verdict that is kept, or asks.
+#[tactic(auto, using(crate::proofs::ProbingLemmas::probes_reused))]
 fn hear<W: World, H: Host<W>>(
     rt: &impl Wait,
     alloc: Global,
@@ -67,11 +88,7 @@ fn hear<W: World, H: Host<W>>(
             fresh: false,
         });
     }
-    let outcome = ask_host(alloc, host, dir, q)?;
-    Ok(Heard {
-        verdict: into_verdict(q, outcome),
-        fresh: true,
-    })
+    ask_anew(alloc, host, q, dir)
 }
 
 // Keeps what was heard.
@@ -109,7 +126,6 @@ fn finish<W: World>(
 // The verdict of a question that is asked by a command.
 fn ask_command<W: World, H: Host<W>>(
     rt: &impl Wait,
-    alloc: Global,
     host: &mut H,
     caches: &Caches<W>,
     answers: &mut Answers,
@@ -129,7 +145,7 @@ fn ask_command<W: World, H: Host<W>>(
         None => {}
     }
     answers.begin(q.try_clone()?)?;
-    match hear(rt, alloc, host, caches, q, dir) {
+    match hear(rt, answers.allocator(), host, caches, q, dir) {
         Ok(heard) => finish(rt, caches, answers, q, heard),
         Err(NoMemory) => {
             answers.give_up();
@@ -205,7 +221,7 @@ pub fn ask<W: World, H: Host<W>>(
     if is_exists(q.ask) {
         ask_exists(alloc, host, answers, q.program.as_str(), dir)
     } else {
-        ask_command(rt, alloc, host, caches, answers, q, dir)
+        ask_command(rt, host, caches, answers, q, dir)
     }
 }
 

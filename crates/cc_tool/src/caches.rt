@@ -8,7 +8,8 @@ use cc_text::Mem;
 use std::alloc::Global;
 use std::sync::{Arc, Mutex, Wait};
 
-/// The verdicts that are kept of a world, and whether a warning was given. Shared ones are the same, on all threads.
+/// The verdicts that are kept of a world, and whether a warning was given. Shared ones are the same, on all threads: what one call
+/// keeps another finds, so that a question is asked once in a program, unless its verdict may change.
 #[derive(Drop)]
 pub struct Caches<W: World> {
     known: Arc<Mutex<Known<W>>, Global>,
@@ -16,7 +17,7 @@ pub struct Caches<W: World> {
 }
 
 impl<W: World> Caches<W> {
-    /// Caches in which nothing is kept.
+    /// Caches in which nothing is kept, of their own. Refused for memory, there are none.
     pub fn new(alloc: Global) -> Mem<Caches<W>> {
         Ok(Caches {
             known: Arc::new(alloc, Mutex::new(Known::new(alloc)))?,
@@ -24,7 +25,7 @@ impl<W: World> Caches<W> {
         })
     }
 
-    /// The same caches for another owner.
+    /// The same caches for another owner. Refused for memory, there are none, and these stay.
     pub fn share(&self) -> Mem<Caches<W>> {
         Ok(Caches {
             known: Arc::try_clone(&self.known)?,
@@ -54,7 +55,7 @@ impl<W: World> Caches<W> {
         known.keep_on(q, v)
     }
 
-    /// Whether this is the first call, over all that share these caches. It takes no memory.
+    /// Whether this is the first call, over all that share these caches. It waits for the lock and takes no memory.
     pub fn warn_once(&self, rt: &impl Wait) -> bool {
         let mut warned = self.warned.lock(rt);
         let first = !*warned;

@@ -6,7 +6,7 @@ ghost use Rattle.cc_tool.specs.Tool.{is_among};
 use cc_text::{Mem, Text};
 use std::alloc::Global;
 
-/// Distinct texts, in the order in which they came.
+/// Distinct texts, in the order in which they came, as the lines that a build has printed once.
 #[derive(Drop)]
 pub struct Emitted {
     pub(crate) list: Vec<Text>,
@@ -23,7 +23,7 @@ impl Emitted {
     ghost use Rattle.std.specs.Prelude.{◌++◌, ◌∷◌, not, IfOk, OnErr};
     ghost use Rattle.cc_text.specs.Words.{when};
 
-    /// No texts.
+    /// No texts. It takes no memory.
     pub fn new(alloc: Global) -> Emitted
         ensures { result.list.items ≡ [] }
     {

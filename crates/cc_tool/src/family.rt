@@ -1,5 +1,6 @@
 // The family of a compiler, by what its preprocessor shows, else by the name of its file.
 ghost use Rattle.std.specs.Prelude.{◌≡◌, ◌≢◌, [], IfOk, codes, bytes_eq, true, false, if◌then◌else◌, ◌||◌};
+ghost use Rattle.cc_host.specs.Call.{part};
 ghost use Rattle.cc_host.specs.Question.{Settles, is_yes as yes};
 ghost use Rattle.cc_host.specs.declared.question.Ask.TheVariants.{Exists as AsksExists};
 ghost use Rattle.cc_host.specs.declared.question.Verdict.TheVariants.{Marks as Shows};
@@ -8,6 +9,7 @@ ghost use Rattle.cc_text.specs.Within.{is_within};
 ghost use Rattle.cc_text.specs.declared.family.ToolFamily.TheVariants.{Clang, Msvc};
 ghost use Rattle.cc_tool.specs.Asks.{Asks};
 ghost use Rattle.cc_tool.specs.Family as families;
+ghost use Rattle.cc_tool.specs.Own.{AnswersAmong};
 
 use crate::{Answers, Caches, ask, question_of};
 use cc_env::BuildEnv;
@@ -19,7 +21,7 @@ use cc_text::{
 use std::alloc::Global;
 use std::sync::Wait;
 
-/// How a family was detected.
+/// How a family was detected, which decides what is warned of.
 #[derive(Clone, Copy, Debug, PartialEq, Eq)]
 pub enum Detected {
     /// The preprocessor showed a known macro. No warning follows.
@@ -150,6 +152,8 @@ fn ask_path<W: World, H: Host<W>>(
         answers.old answers.new }
     ensures settles { IfOk result (Settles answers.new
         (λ look. look (families.question_to asked of.now))) }
+    ensures own { AnswersAmong (λ q. q ≡ families.question_to asked of.now)
+        (part H.log host.old host.new) }
     ensures patient { H.patience host.new ≡ H.patience host.old }
 {
     let alloc = answers.allocator();
@@ -184,6 +188,7 @@ fn ask_shown<W: World, H: Host<W>>(
         answers.old answers.new }
     ensures settles { IfOk result (Settles answers.new
         (λ look. families.shown look of.now.path.now of.now.vars.now)) }
+    ensures own { AnswersAmong (families.IsOf of.now) (part H.log host.old host.new) }
     ensures patient { H.patience host.new ≡ H.patience host.old }
 {
     let none = Words::new(answers.allocator());
@@ -234,6 +239,7 @@ fn ask_detection<W: World, H: Host<W>>(
         answers.old answers.new }
     ensures settles { IfOk result (Settles answers.new
         (λ look. families.detection look of.now.path.now of.now.words.now of.now.vars.now)) }
+    ensures own { AnswersAmong (families.IsOf of.now) (part H.log host.old host.new) }
     ensures patient { H.patience host.new ≡ H.patience host.old }
 {
     let shown = ask_shown(rt, host, caches, answers, of, dir)?;
@@ -277,7 +283,8 @@ fn ask_zig<W: World, H: Host<W>>(
     ensures asks { Asks W.steady W.answer dir.now (H.log host.old) (H.log host.new)
         answers.old answers.new }
     ensures settles { IfOk result (Settles answers.new
-        (λ look. families.with_zig family (families.is_zig look of.now.path.now of.now.vars.now))) }
+        (λ look. families.zig_family look family of.now)) }
+    ensures own { AnswersAmong (families.IsOf of.now) (part H.log host.old host.new) }
     ensures patient { H.patience host.new ≡ H.patience host.old }
 {
     if is_plain_clang(family) {
@@ -296,7 +303,7 @@ fn ask_zig<W: World, H: Host<W>>(
 /// The family of the compiler at a path, and how it was detected. The preprocessor is asked for the macros that it
 /// defines (`__clang__`, `__GNUC__`, `__EMSCRIPTEN__`, `__VXWORKS__`); where it shows no known one, the name of the file tells.
 /// A compiler that shows marks is asked with `args` for `-?`, which that of Visual Studio takes alone, and a Clang for its version,
-/// since `zig cc` says there what it is. Files for the questions are made in `dir`, and dropped. Nothing but memory is refused: a
+/// since `zig cc` says there what it is; nothing else is asked. Files for the questions are made in `dir`, and dropped. Nothing but memory is refused: a
 /// question without an answer tells nothing.
 pub fn ask_family<W: World, H: Host<W>>(
     rt: &impl Wait,
@@ -313,6 +320,8 @@ pub fn ask_family<W: World, H: Host<W>>(
         answers.old answers.new }
     ensures settles { IfOk result (Settles answers.new
         (λ look. families.family_in look path.now args.now env.now)) }
+    ensures own { AnswersAmong (families.IsOfFamilyIn path.now args.now env.now)
+        (part H.log host.old host.new) }
     ensures patient { H.patience host.new ≡ H.patience host.old }
 {
     let vars = env.child_vars(alloc)?;

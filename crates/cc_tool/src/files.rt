@@ -10,7 +10,7 @@ use cc_text::{Mem, Text, join};
 use std::alloc::Global;
 use std::marker::Model;
 
-/// A file that was made for a question. It is seen as its path.
+/// A file that was made for a question, and is to be dropped on its host. It is seen as its path.
 #[derive(Drop, Debug)]
 pub struct NamedTempfile {
     path: Text,
@@ -53,8 +53,9 @@ fn attempt<W: World, H: Host<W>>(
 }
 
 impl NamedTempfile {
-    /// Makes a file in a folder, whose name is a random word in decimal and the suffix. It tries ten names at most, and
-    /// answers none where files of all ten stand. The caller drops it.
+    /// Makes a file of these bytes in a folder, whose name is a random word in decimal and the suffix. It tries ten names at most, and
+    /// answers none where files of all ten stand. No file that stands is touched. The caller drops it. Refused by a fault of the host
+    /// or for memory, no file was made; the words that were drawn stand in the log.
     pub fn create<W: World, H: Host<W>>(
         alloc: Global,
         host: &mut H,
@@ -78,7 +79,7 @@ impl NamedTempfile {
         Ok(None)
     }
 
-    /// The path of the file.
+    /// The path of the file: the folder, joined with the name.
     pub fn path(&self) -> &str
         ensures { result.now ≡ self.now }
     {
@@ -92,7 +93,8 @@ impl NamedTempfile {
         self.path
     }
 
-    /// Drops the file. It takes no memory, and what can't be removed stays.
+    /// Drops the file, which must be one that this host made and hasn't dropped. It takes no memory and refuses nothing: what can't be
+    /// removed stays on the disk.
     pub fn drop_on<W: World, H: Host<W>>(self, host: &mut H)
         requires { IsOpen self (H.log host.old) }
         ensures adds { H.log host.new ≡ H.log host.old ++ Dropped self ∷ [] }

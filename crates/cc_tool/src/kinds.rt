@@ -4,7 +4,7 @@ ghost use Rattle.cc_tool.specs.Files as files;
 
 use cc_host::Ask;
 
-/// A kind of probe file.
+/// A kind of probe file: a file that is made for one question, and dropped behind it.
 #[derive(Clone, Copy, Debug, PartialEq, Eq)]
 pub enum FileKind {
     /// The source that shows the macros of a family.
@@ -20,7 +20,8 @@ pub enum FileKind {
 }
 
 impl FileKind {
-    /// What the name of a file of this kind ends with.
+    /// What the name of a file of this kind ends with, behind the word that was drawn for it. From its ending a compiler takes the
+    /// language of a source.
     pub fn suffix(self) -> &'static str
         ensures { result.now ≡ files.suffix_of self }
     {
@@ -33,7 +34,7 @@ impl FileKind {
         }
     }
 
-    /// What a file of this kind holds.
+    /// What a file of this kind holds, as text. An object is made empty, and the compiler writes it.
     #[tactic(auto, unfolding(crate::specs::Files::family_source, crate::specs::Files::libcxx_source, crate::specs::Files::flag_source))]
     pub fn contents(self) -> &'static str
         ensures { result.now ≡ files.contents_of self }

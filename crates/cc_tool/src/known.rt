@@ -21,7 +21,7 @@ impl<W: World> Known<W> {
     ghost use Rattle.cc_host.specs.Question.{Lacks};
     ghost use Rattle.cc_tool.specs.Known.{Has, IsSteady, MayKeep};
 
-    /// Nothing kept.
+    /// Nothing kept. It takes no memory.
     pub fn new(alloc: Global) -> Known<W>
         ensures { result.entries.items ≡ [] }
     {

@@ -6,7 +6,7 @@ ghost use Rattle.cc_host.specs.declared.question.Ask.TheVariants.{Exists as Asks
 ghost use Rattle.cc_host.specs.declared.question.Outcome.TheVariants.{Unanswered};
 ghost use Rattle.cc_tool.specs.Files as kinds;
 ghost use Rattle.cc_tool.specs.Own.{OnlyForFiles};
-ghost use Rattle.cc_tool.specs.Probing.{Probes, AreOpen, IsMade, MakesFile, Needs, IsHonest, file_of, heard};
+ghost use Rattle.cc_tool.specs.Probing.{Probes, AreOpen, IsMade, MakesFile, Needs, IsHonest, file_of, both_of, heard};
 
 use crate::kinds::{object_of, source_of};
 use crate::{FileKind, NamedTempfile};
@@ -94,12 +94,11 @@ fn ask_both<W: World, H: Host<W>>(
 ) -> Mem<Outcome>
     requires needs { Needs q.now (Some kind) (Some object) }
     requires given { files.dir ≡ dir.now }
-    requires open { AreOpen (file_of kind files.source ∷ file_of object files.object ∷ [])
-        (H.log host.old) }
+    requires open { AreOpen (both_of kind object files) (H.log host.old) }
     requires source { kinds.IsPath dir.now kind files.source }
     requires object { kinds.IsPath dir.now object files.object }
     ensures probes { Probes dir.now (H.log host.old) (H.log host.new)
-        (file_of kind files.source ∷ file_of object files.object ∷ []) [] (heard q.now result) 0 }
+        (both_of kind object files) [] (heard q.now result) 0 }
     ensures steady { IsHonest W.steady W.answer q.now result }
     ensures patient { H.patience host.new ≡ H.patience host.old }
 {

@@ -11,7 +11,8 @@ use cc_text::{Mem, Text, ToolFamily, Vars, Words, begins_with, join_texts};
 use std::alloc::Global;
 use std::marker::Model;
 
-/// A tool: its path and family, a wrapper that runs it where one is set, words and variables.
+/// A tool, as a compiler or an archiver: its path and family, a wrapper that runs it where one is set (as `ccache`), its words,
+/// and the variables that it adds to the environment that it inherits. It is seen as these.
 #[derive(Drop)]
 pub struct Tool {
     alloc: Global,
@@ -92,7 +93,8 @@ fn level_mark(family: ToolFamily) -> &'static str
 }
 
 impl Tool {
-    /// A tool of a path, without words, in an environment.
+    /// A tool of a path and a family, without a wrapper, words and variables of its own, in an environment. Refused for memory, there is
+    /// none, and the environment is dropped.
     pub fn with_family(
         alloc: Global,
         path: &str,
@@ -114,7 +116,7 @@ impl Tool {
         })
     }
 
-    /// A second tool, equal to this one.
+    /// A second tool, equal to this one. Refused for memory, there is none.
     pub fn try_clone(&self) -> Mem<Tool>
         ensures { IfOk result (λ t. t ≡ self.now) }
     {
@@ -131,7 +133,7 @@ impl Tool {
         })
     }
 
-    /// Adds a word last. Refused for memory, the tool stays as it was.
+    /// Adds an arg last, as it is: it isn't parted at blanks. Refused for memory, the tool stays as it was.
     pub fn push_arg(&mut self, word: &str) -> Mem<()>
         ensures ok { OnOk result (self.new ≡ with_arg self.old word.now) }
         ensures err { OnErr result (self.new ≡ self.old) }
@@ -139,7 +141,7 @@ impl Tool {
         self.args.push(word)
     }
 
-    /// Adds a variable last. Refused for memory, the tool stays as it was.
+    /// Adds a variable last. Of two with the same name the later one counts. Refused for memory, the tool stays as it was.
     pub fn push_env(&mut self, name: &str, value: &str) -> Mem<()>
         ensures ok { OnOk result (self.new ≡ with_entry self.old name.now value.now) }
         ensures err { OnErr result (self.new ≡ self.old) }
@@ -155,7 +157,7 @@ impl Tool {
         self.removed.push(word)
     }
 
-    /// Sets the wrapper that runs the tool. Refused for memory, the tool stays as it was.
+    /// Sets the wrapper that runs the tool, in place of one that was set before. Refused for memory, the tool stays as it was.
     pub fn set_wrapper(&mut self, wrapper: &str) -> Mem<()>
         ensures ok { OnOk result (self.new ≡ with_wrapper self.old wrapper.now) }
         ensures err { OnErr result (self.new ≡ self.old) }
@@ -164,7 +166,7 @@ impl Tool {
         Ok(())
     }
 
-    /// Adds a word last to those before the args. Refused for memory, the tool stays as it was.
+    /// Adds a word last to those that stand between the path and the args. Refused for memory, the tool stays as it was.
     pub fn push_wrapper_arg(&mut self, word: &str) -> Mem<()>
         ensures ok { OnOk result (self.new ≡ with_wrapper_word self.old word.now) }
         ensures err { OnErr result (self.new ≡ self.old) }
@@ -179,14 +181,14 @@ impl Tool {
         self.path.as_str()
     }
 
-    /// The args, lent, with those that were removed.
+    /// The args, lent, in order, with those that were removed and that the command leaves out.
     pub fn args(&self) -> &Words
         ensures { result.now ≡ self.now.args }
     {
         &self.args
     }
 
-    /// The variables that it adds, lent.
+    /// The variables that it adds, lent, as pairs of name and value, in order.
     pub fn env(&self) -> &Vars
         ensures { result.now ≡ self.now.entries }
     {
@@ -236,7 +238,7 @@ impl Tool {
     }
 
     /// The command: the wrapper and the path, or the path; the words before the args; the args that weren't removed; in
-    /// the inherited environment, to which the tool's variables are applied in order.
+    /// the inherited environment, to which the tool's variables are applied in order. Refused for memory, there is none.
     #[tactic(auto, unfolding(crate::specs::Tool::tool_command))]
     pub fn to_command(&self) -> Mem<Command>
         ensures { IfOk result (λ c. c ≡ tool_command self.now) }
@@ -248,7 +250,8 @@ impl Tool {
         Ok(cmd)
     }
 
-    /// The wrapper, the path and the words before the args, with spaces between; empty without a wrapper.
+    /// The wrapper, the path and the words before the args, with spaces between, as `CC` takes them; empty without a wrapper. Nothing is
+    /// quoted. Refused for memory, there is none.
     pub fn cc_env(&self) -> Mem<Text>
         ensures { IfOk result
             (λ text. text ≡ wrapped_text self.now.wrapper self.now.path self.now.wrapper_words) }
@@ -265,7 +268,7 @@ impl Tool {
         }
     }
 
-    /// The args, with spaces between.
+    /// The args, with spaces between, as `CFLAGS` takes them. Nothing is quoted. Refused for memory, there is none.
     pub fn cflags_env(&self) -> Mem<Text>
         ensures { IfOk result (λ text. text ≡ spaced self.now.args) }
     {

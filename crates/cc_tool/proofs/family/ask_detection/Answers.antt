@@ -1,3 +1,8 @@
+use Rattle.std.proofs.Common.{◌≡◌, inl, inr}
+use Rattle.cc_host.specs.Call.{part}
+use Rattle.cc_host.specs.declared.question.Ask.TheVariants.{HelpFlag}
+use Rattle.cc_tool.specs.Family.{question, IsOf}
+use Rattle.cc_tool.proofs.OwnLemmas.{among_then, among_more}
 use Rattle.std.proofs.Common.{sym}
 use Rattle.cc_tool.proofs.AskLemmas.{asks_then, asks_grows}
 use Rattle.cc_tool.proofs.FamilyLemmas.{detection_none, detection_some}
@@ -14,3 +19,15 @@ returns-in-Some-clause-settles g c = detection_some c.args.of.now.path.now c.arg
 
 pub returns-clause-settles : goal.returns-clause-settles
 returns-clause-settles g c = detection_none c.args.of.now.path.now c.args.of.now.words.now c.args.of.now.vars.now c.in_ok-shown.shown (sym c.in-None.ensures) c.in_ok-shown.ensures.settles
+
+pub returns-in_err-help-in-Some-clause-own : goal.returns-in_err-help-in-Some-clause-own
+returns-in_err-help-in-Some-clause-own g c =
+    among_then (IsOf c.args.of.now) _ _ _ _ _ _ _ _ _ c.ask_shown.ensures.asks c.ask_path.ensures.asks c.ask_shown.ensures.own
+    (among_more (λ q. q ≡ question HelpFlag c.args.of.now.path.now c.args.of.now.words.now c.args.of.now.vars.now) (IsOf c.args.of.now) (part g.H.Host.log c.ask_shown.new.host c.ask_path.new.host)
+    (λ q e. inr (inl e)) c.ask_path.ensures.own)
+
+pub returns-in-Some-clause-own : goal.returns-in-Some-clause-own
+returns-in-Some-clause-own g c =
+    among_then (IsOf c.args.of.now) _ _ _ _ _ _ _ _ _ c.ask_shown.ensures.asks c.ask_path.ensures.asks c.ask_shown.ensures.own
+    (among_more (λ q. q ≡ question HelpFlag c.args.of.now.path.now c.args.of.now.words.now c.args.of.now.vars.now) (IsOf c.args.of.now) (part g.H.Host.log c.ask_shown.new.host c.ask_path.new.host)
+    (λ q e. inr (inl e)) c.ask_path.ensures.own)

@@ -1,3 +1,8 @@
+use Rattle.std.proofs.Common.{subst}
+use Rattle.cc_host.specs.Call.{part}
+use Rattle.cc_tool.specs.Family.{Vars, IsOfFamily, IsOfFamilyIn}
+use Rattle.cc_tool.specs.Own.{AnswersAmong}
+use Rattle.cc_tool.proofs.OwnLemmas.{among_then}
 use Rattle.std.proofs.Common.{◌∙◌, ap}
 use Rattle.cc_tool.specs.Family.{family_or, family_of_file}
 use Rattle.cc_tool.proofs.AskLemmas.{asks_then, asks_grows}
@@ -12,3 +17,19 @@ returns-clause-asks g c = asks_then c.ask_detection.ensures.asks c.ask_zig.ensur
 
 pub returns-clause-settles : goal.returns-clause-settles
 returns-clause-settles g c = family_settles c.args.path.now c.args.args.now c.in_ok-vars.vars _ c.in_ok-seen.seen c.in_ok-seen.how c.family_or-family.result c.in_ok-family.family c.in_ok-vars.ensures.child c.in_ok-seen.ensures.settles (c.family_or-family.ensures ∙ ap (family_or c.in_ok-seen.seen) (c.family_of_file.ensures ∙ ap (λ n. family_of_file n c.args.args.now) c.name_of.ensures)) (asks_grows c.ask_zig.ensures.asks) c.in_ok-family.ensures.settles
+
+pub returns-in_err-family-clause-own : goal.returns-in_err-family-clause-own
+returns-in_err-family-clause-own g c =
+    let path = c.args.path.now in
+    let words = c.args.args.now in
+    among_then (IsOfFamilyIn path words c.args.env.now) _ _ _ _ _ _ _ _ _ c.ask_detection.ensures.asks c.ask_zig.ensures.asks
+    (subst (λ (v : Vars). AnswersAmong (IsOfFamily path words v) (part g.H.Host.log c.args.host.now c.ask_detection.new.host)) c.in_ok-vars.ensures.child c.ask_detection.ensures.own)
+    (subst (λ (v : Vars). AnswersAmong (IsOfFamily path words v) (part g.H.Host.log c.ask_detection.new.host c.ask_zig.new.host)) c.in_ok-vars.ensures.child c.ask_zig.ensures.own)
+
+pub returns-clause-own : goal.returns-clause-own
+returns-clause-own g c =
+    let path = c.args.path.now in
+    let words = c.args.args.now in
+    among_then (IsOfFamilyIn path words c.args.env.now) _ _ _ _ _ _ _ _ _ c.ask_detection.ensures.asks c.ask_zig.ensures.asks
+    (subst (λ (v : Vars). AnswersAmong (IsOfFamily path words v) (part g.H.Host.log c.args.host.now c.ask_detection.new.host)) c.in_ok-vars.ensures.child c.ask_detection.ensures.own)
+    (subst (λ (v : Vars). AnswersAmong (IsOfFamily path words v) (part g.H.Host.log c.ask_detection.new.host c.ask_zig.new.host)) c.in_ok-vars.ensures.child c.ask_zig.ensures.own)

@@ -1,3 +1,8 @@
+use Rattle.std.proofs.Common.{◌≡◌, ◌∙◌, inl, inr, ap}
+use Rattle.cc_host.specs.Call.{part}
+use Rattle.cc_host.specs.declared.question.Ask.TheVariants.{Preprocess, PreprocessDashes}
+use Rattle.cc_tool.specs.Family.{question, IsOf}
+use Rattle.cc_tool.proofs.OwnLemmas.{among_then, among_more}
 use Rattle.std.proofs.Common.{sym}
 use Rattle.cc_tool.proofs.AskLemmas.{asks_then, asks_grows}
 use Rattle.cc_tool.proofs.FamilyLemmas.{shown_first, shown_anew}
@@ -11,3 +16,14 @@ returns-then-reads_option-clause-settles g c = shown_anew c.ask_path-then-reads_
 
 pub returns-clause-settles : goal.returns-clause-settles
 returns-clause-settles g c = shown_first c.args.of.now.path.now c.new-none.result c.args.of.now.vars.now c.in_ok-first.first c.new-none.ensures (sym c.if-reads_option.ensures) c.in_ok-first.ensures.settles
+
+pub returns-then-reads_option-clause-own : goal.returns-then-reads_option-clause-own
+returns-then-reads_option-clause-own g c =
+    let path = c.args.of.now.path.now in
+    let vars = c.args.of.now.vars.now in
+    let none = c.new-none.result in
+    among_then (IsOf c.args.of.now) _ _ _ _ _ _ _ _ _ c.ask_path.ensures.asks c.ask_path-then-reads_option.ensures.asks
+    (among_more (λ q. q ≡ question Preprocess path none vars) (IsOf c.args.of.now) (part g.H.Host.log c.args.host.now c.ask_path.new.host)
+    (λ q e. inl (inl (e ∙ ap (λ w. question Preprocess path w vars) c.new-none.ensures))) c.ask_path.ensures.own)
+    (among_more (λ q. q ≡ question PreprocessDashes path none vars) (IsOf c.args.of.now) (part g.H.Host.log c.ask_path.new.host c.ask_path-then-reads_option.new.host)
+    (λ q e. inl (inr (e ∙ ap (λ w. question PreprocessDashes path w vars) c.new-none.ensures))) c.ask_path-then-reads_option.ensures.own)
