@@ -17,9 +17,13 @@ abbrev pub ended_extension : Option (List ℕ) → List ℕ
 ended_extension None = []
 ended_extension (Some extension) = ended extension
 
+-- the folder less a text that it begins with
+abbrev pub after_text : Option (List ℕ) → List ℕ → Option (List ℕ)
+after_text start folder = option_and_then (λ text. after_prefix folder text) start
+
 -- the folder less the text of a variable that it begins with
 abbrev pub after_variable : List (List ℕ × List ℕ) → List ℕ → List ℕ → Option (List ℕ)
-after_variable env name folder = option_and_then (λ value. after_prefix folder value) (last_value env name)
+after_variable env name folder = after_text (last_value env name) folder
 
 -- the folder from a root on, by components
 abbrev pub after_root : Option (List ℕ) → List ℕ → Option (List ℕ)

@@ -52,7 +52,7 @@ warning_line text = codes "cargo:warning=" ++ text
 abbrev pub wanted_lines : BuildConfig → List (List ℕ) → List (List ℕ)
 wanted_lines set warnings = if set.cargo_warnings then map warning_line warnings else []
 
--- the warnings of the tool, where they are wanted; `told` tells whether the call is told of flags for the linker
+-- the warnings of the tool, where they are wanted; `told` says whether the call is the one that warns of flags for the linker
 abbrev pub tool_lines : BuildConfig → EnvSeen → Bool → Look → List (List ℕ)
 tool_lines set env told look = wanted_lines set (warnings_of set env told look)
 
