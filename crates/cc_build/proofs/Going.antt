@@ -1,6 +1,7 @@
 -- How parts of one list of stages after another make up the part of a run.
-use Rattle.std.specs.Prelude.{IfErr}
+use Rattle.std.specs.Prelude.{is_some, true}
 use Rattle.std.proofs.Common.{◌≡◌, ◌⊎◌, inl, inr, ℕ, List, [], ◌∷◌, ◌++◌, Option, Some, None, Result, Ok, Err, refl, sym, ◌∙◌, ap, subst, append_assoc, append-nil}
+use Rattle.std.proofs.lemmas.Bool.{true≢false}
 use Rattle.cc_host.specs.Part.{Step, since, step_of, Refuses}
 use Rattle.cc_host.specs.Event.{refused, IsCaused}
 use Rattle.cc_host.specs.declared.event.Event.{Event}
@@ -17,6 +18,10 @@ use Rattle.cc_build.specs.Stop.{stop_error, fault_error, host_error}
 use Rattle.cc_run.specs.declared.planned.Shows.{Shows}
 use Rattle.cc_build.specs.Went.{Terms, Means, terms, Did, Went, IsOf, Stops, Halts, Halted, Ends}
 
+-- where no stage is left, the settings are refused
+abbrev pub IsOpen : Option ErrorSeen → List Stage → Type 0
+IsOpen refusal stages = stages ≡ [] → is_some refusal ≡ true
+
 module _ (t : Terms) where
   -- these stages were done, and then those
   pub went_then : (a b : List Stage) (p q : List Event) (x y z : Means) → Went t a p x y → Went t b q y z → Went t (a ++ b) (p ++ q) x z
@@ -31,16 +36,16 @@ module _ (t : Terms) where
   pub went_one : (s : Stage) (part : List Event) (x y : Means) → Did t s part x y → Went t (s ∷ []) part x y
   went_one s part x y d = (part, [], y, (sym (append-nil part), d, (refl, refl)))
 
-  halts_first : (refusal : Option ErrorSeen) (stages : List Stage) (part : List Event) (e : ErrorSeen) (x y : Means) → (e ≡ no_memory) ⊎ (refusal ≡ Some e) → part ≡ [] → y ≡ x → Halts t refusal stages part e x y
-  halts_first refusal [] part e x y cause none same = (cause, none, same)
-  halts_first refusal (s ∷ ss) part e x y cause none same = inl (cause, none, same)
+  halts_first : (refusal : Option ErrorSeen) (stages : List Stage) (part : List Event) (e : ErrorSeen) (x y : Means) → (e ≡ no_memory) ⊎ (refusal ≡ Some e) → IsOpen refusal stages → part ≡ [] → y ≡ x → Halts t refusal stages part e x y
+  halts_first refusal [] part e x y cause owed none same = (cause, none, same, owed refl)
+  halts_first refusal (s ∷ ss) part e x y cause owed none same = inl (cause, none, same)
 
   no_refusal : (refusal : Option ErrorSeen) (e : ErrorSeen) → (e ≡ no_memory) ⊎ (None ≡ Some e) → (e ≡ no_memory) ⊎ (refusal ≡ Some e)
   no_refusal refusal e (inl memory) = inl memory
   no_refusal refusal e (inr refused) = absurd (cc)
 
   halts_more : (refusal : Option ErrorSeen) (a b : List Stage) (part : List Event) (e : ErrorSeen) (x y : Means) → Halts t None a part e x y → Halts t refusal (a ++ b) part e x y
-  halts_more refusal [] b part e x y h = halts_first refusal b part e x y (no_refusal refusal e h.0) h.1 h.2
+  halts_more refusal [] b part e x y h = absurd (true≢false (sym h.3))
   halts_more refusal (s ∷ a) b part e x y (inl h) = inl (no_refusal refusal e h.0, h.1, h.2)
   halts_more refusal (s ∷ a) b part e x y (inr h) = inr h
 
@@ -73,8 +78,8 @@ module _ (t : Terms) where
   }
 
   -- the run ended before the first of these stages
-  pub halted_none : (refusal : Option ErrorSeen) (stages : List Stage) (part : List Event) (e : ErrorSeen) (x : Means) → part ≡ [] → (e ≡ no_memory) ⊎ (refusal ≡ Some e) → Halted t refusal stages part e x x
-  halted_none refusal stages part e x none cause = record {
+  pub halted_none : (refusal : Option ErrorSeen) (stages : List Stage) (part : List Event) (e : ErrorSeen) (x : Means) → part ≡ [] → (e ≡ no_memory) ⊎ (refusal ≡ Some e) → IsOpen refusal stages → Halted t refusal stages part e x x
+  halted_none refusal stages part e x none cause owed = record {
     before = [];
     after = stages;
     front = [];
@@ -83,12 +88,12 @@ module _ (t : Terms) where
     stages_are = refl;
     cut = refl;
     went = (refl, refl);
-    halts = halts_first refusal stages part e x x cause none refl;
+    halts = halts_first refusal stages part e x x cause owed none refl;
   }
 
   -- these stages were done, and the run ended before those behind them
-  pub halted_among : (refusal : Option ErrorSeen) (a b : List Stage) (part : List Event) (e : ErrorSeen) (x y : Means) → Went t a part x y → (e ≡ no_memory) ⊎ (refusal ≡ Some e) → Halted t refusal (a ++ b) part e x y
-  halted_among refusal a b part e x y w cause = record {
+  pub halted_among : (refusal : Option ErrorSeen) (a b : List Stage) (part : List Event) (e : ErrorSeen) (x y : Means) → Went t a part x y → (e ≡ no_memory) ⊎ (refusal ≡ Some e) → IsOpen refusal b → Halted t refusal (a ++ b) part e x y
+  halted_among refusal a b part e x y w cause owed = record {
     before = a;
     after = b;
     front = part;
@@ -97,7 +102,7 @@ module _ (t : Terms) where
     stages_are = refl;
     cut = sym (append-nil part);
     went = w;
-    halts = halts_first refusal b [] e y y cause refl refl;
+    halts = halts_first refusal b [] e y y cause owed refl refl;
   }
 
   -- the first of these stages was refused
@@ -141,8 +146,8 @@ IsFaultOf step WantsMemory = Unit {0}
 pub refused_call : (t : Terms) (step : Step) (error : HostError) (subject : List ℕ) (part : List Event) (e : ErrorSeen) (x : Means) → part ≡ refused error → IsFaultOf step error → ((call : HostCall) (why : Why) → stop_error step (Fault call why) ≡ fault_error call why subject) → (e ≡ no_memory) ⊎ (e ≡ host_error error subject) → Halted t None (Calls step ∷ []) part e x x
 refused_call t step (Faulted call why) subject part e x one of is (inl memory) = uncalled t step (Fault call why) part e x one of (inl memory)
 refused_call t step (Faulted call why) subject part e x one of is (inr same) = uncalled t step (Fault call why) part e x one of (inr (same ∙ sym (is call why)))
-refused_call t step WantsMemory subject part e x one of is (inl memory) = halted_none t None (Calls step ∷ []) part e x one (inl memory)
-refused_call t step WantsMemory subject part e x one of is (inr same) = halted_none t None (Calls step ∷ []) part e x one (inl same)
+refused_call t step WantsMemory subject part e x one of is (inl memory) = halted_none t None (Calls step ∷ []) part e x one (inl memory) (λ none. absurd (cc))
+refused_call t step WantsMemory subject part e x one of is (inr same) = halted_none t None (Calls step ∷ []) part e x one (inl same) (λ none. absurd (cc))
 
 -- a fault that a call caused is one of its step
 pub fault_of : (step : Step) (call : HostCall) (before now : ℕ) (error : HostError) → ((c : HostCall) (why : Why) → c ≡ call → Refuses step (Fault c why)) → IsCaused call before now error → IsFaultOf step error
@@ -156,8 +161,3 @@ part_is old new events e = ap (since old) e ∙ since_append old events
 -- the same, by another name of the patience
 pub same_patience : {T : Type 0} (shows : Shows) (total m n : Option ℕ) (refusal : Option ErrorSeen) (stages : List Stage) (part : List Event) (r : Result T ErrorSeen) (x y : Means) → m ≡ n → Ends (terms shows total m) refusal stages part r x y → Ends (terms shows total n) refusal stages part r x y
 same_patience shows total m n refusal stages part r x y e o = subst (λ (p : Option ℕ). Ends (terms shows total p) refusal stages part r x y) e o
-
--- these stages were done, and no more; memory may be wanted behind them
-pub ends_behind : {T : Type 0} (t : Terms) (a : List Stage) (part : List Event) (r : Result T ErrorSeen) (x y : Means) → Went t a part x y → IfErr r (λ e. e ≡ no_memory) → Ends t None a part r x y
-ends_behind t a part (Ok v) x y w memory = (refl, w)
-ends_behind t a part (Err e) x y w memory = subst (λ (s : List Stage). Halted t None s part e x y) (append-nil a) (halted_among t None a [] part e x y w (inl memory))

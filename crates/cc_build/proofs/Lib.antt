@@ -1,12 +1,15 @@
 pub mod Asking
+pub mod BesideLaws
 pub mod BuiltLaws
 pub mod Doing
+pub mod FailedLaws
 pub mod Going
 pub mod Keeping
 pub mod Lines
 pub mod Looks
 pub mod OrderLaws
 pub mod Outcomes
+pub mod PromiseLaws
 pub mod RunLaws
 pub mod Running
 pub mod SettledLaws

@@ -1,8 +1,11 @@
 -- How the outcomes of one stage of a run after another make up that of the run.
-use Rattle.std.proofs.Common.{MatchResult, IfOk, ◌≡◌, ◌⊎◌, inl, inr, List, ◌++◌, Option, Result, Ok, Err, sym, ◌∙◌, ap, subst}
+use Rattle.std.proofs.Common.{MatchResult, IfOk, IfErr, ◌≡◌, ◌⊎◌, inl, inr, List, [], ◌∷◌, ◌++◌, Option, Result, Ok, Err, sym, ◌∙◌, ap, subst}
 use Rattle.cc_host.specs.Part.{Step, since, stops, left, IsWhole}
 use Rattle.cc_host.proofs.Parts.{since_since, partly_then, left_then, stops_then, whole_then}
 use Rattle.cc_host.specs.declared.event.Event.{Event}
+use Rattle.cc_host.specs.Part.Step.{Lists}
+use Rattle.cc_build.specs.Captured.{CaptureEnds}
+use Rattle.cc_build.specs.Course.{CallsEnd}
 use Rattle.cc_build.specs.Error.{ErrorSeen, no_memory}
 use Rattle.cc_build.specs.Stop.{stopped_by}
 use Rattle.cc_build.specs.Outcome.{IsCausedBy, Outcome}
@@ -27,3 +30,8 @@ outcome_from refusal old mid new first second r e f w o =
 pub told : {E : Type 0} (made : Result ErrorSeen E) (e is : ErrorSeen) → MatchResult made (λ x. e ≡ x) (λ _. e ≡ no_memory) → IfOk made (λ x. x ≡ is) → (e ≡ no_memory) ⊎ (e ≡ is)
 told (Ok x) e is h k = inr (h ∙ k)
 told (Err x) e is h k = inl h
+
+-- the variables were listed; memory may be wanted behind it
+pub captured : (part : List Event) (r : Result (Unit {0}) ErrorSeen) → CallsEnd {T = Unit {0}} (Lists ∷ []) part (Ok tt) → IfErr r (λ e. e ≡ no_memory) → CaptureEnds part r
+captured part (Ok done) listed memory = listed
+captured part (Err e) listed memory = inr (memory, listed)

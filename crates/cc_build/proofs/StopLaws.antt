@@ -54,7 +54,7 @@ or_none : (x y : Bool) → x ≡ false → y ≡ false → (x || y) ≡ false
 or_none true y p q = absurd (true≢false p)
 or_none false y p q = q
 
-or_right : (x y : Bool) → y ≡ true → (x || y) ≡ true
+pub or_right : (x y : Bool) → y ≡ true → (x || y) ≡ true
 or_right true y h = refl
 or_right false y h = h
 
@@ -92,7 +92,7 @@ no_fault (Fault call why ∷ part) h = absurd (cc)
 no_fault (_ ∷ part) h = no_fault part h
 
 -- a fault of this call, but of none of what a question wants
-some_fault : (part : List Event) (call : HostCall) (more : List HostCall) → faults part ≡ call ∷ more → is_probing call ≡ false → HasFault part
+pub some_fault : (part : List Event) (call : HostCall) (more : List HostCall) → faults part ≡ call ∷ more → is_probing call ≡ false → HasFault part
 some_fault [] call more h k = absurd (cc)
 some_fault (Fault c why ∷ part) call more h k =
     let same : c ≡ call = cc in
@@ -169,7 +169,7 @@ said_one t p part result x y r = record {
 }
 
 -- where no child runs at the end, nothing was abandoned
-whole_work : (part work : List Event) (live : List (ℕ × ℕ)) → part ≡ work ++ gone live → live ≡ [] → part ≡ work
+pub whole_work : (part work : List Event) (live : List (ℕ × ℕ)) → part ≡ work ++ gone live → live ≡ [] → part ≡ work
 whole_work part work live cut none = cut ∙ ap (λ l. work ++ gone l) none ∙ append-nil work
 
 run_kept : (cmds : List Asked) (part : List Event) → Said cmds part (Ok tt) → abandoned part ≡ []
@@ -452,7 +452,7 @@ module _ (t : Terms) (refusal : Option ErrorSeen) (before : List Stage) (front r
       let count = length (commands_in before) in
       let begun : run_from nothing front ≡ ended_well count = went_run t before front x y 0 w ∙ ap ended_well (zero-add count) in
       let same : run_from nothing part ≡ run_from (ended_well count) rest = ap (run_from nothing) cut ∙ run_from-append nothing front rest ∙ ap (λ r. run_from r rest) begun in
-      inr (inr (inr (inl (inr (λ none. failed (sym (ap (λ r. r.failed) same) ∙ none))))))
+      inr (inr (inr (inl (inr (inl (λ none. failed (sym (ap (λ r. r.failed) same) ∙ none)))))))
   behind_cause (inr (inr (inr (inr (inl rose))))) = let first : x.faults ≤ y.faults = went_faults t before front x y w in inr (inr (inr (inr (inl (λ below. let more : y.faults < z.faults = rose below in omega arith)))))
   behind_cause (inr (inr (inr (inr (inr spent))))) = inr (inr (inr (inr (inr spent))))
 

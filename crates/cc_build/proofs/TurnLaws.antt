@@ -31,7 +31,7 @@ asked_still : (event : Event) → is_asked event ≡ true → turns_of event ≡
 asked_still (Turn n) h = absurd (cc)
 asked_still _ h = refl
 
-asked_turns : (part : List Event) → list_all is_asked part ≡ true → turns part ≡ 0
+pub asked_turns : (part : List Event) → list_all is_asked part ≡ true → turns part ≡ 0
 asked_turns [] h = refl
 asked_turns (event ∷ part) h =
     let k = and_parts (is_asked event) (list_all is_asked part) h in
@@ -40,11 +40,11 @@ asked_turns (event ∷ part) h =
     let more : turns part ≡ 0 = asked_turns part k.1 in
     omega arith
 
-step_turns : (step : Step) (event : Event) → step_of event ≡ step ∷ [] → turns (event ∷ []) ≡ 0
+pub step_turns : (step : Step) (event : Event) → step_of event ≡ step ∷ [] → turns (event ∷ []) ≡ 0
 step_turns step (Turn n) h = absurd (cc)
 step_turns step _ h = refl
 
-refused_turns : (step : Step) (event : Event) → Refuses step event → turns (event ∷ []) ≡ 0
+pub refused_turns : (step : Step) (event : Event) → Refuses step event → turns (event ∷ []) ≡ 0
 refused_turns (Runs role cmd) (Turn n) h = absurd h
 refused_turns (Makes scope path) (Turn n) h = absurd h
 refused_turns (Removes path) (Turn n) h = absurd h

@@ -1,8 +1,41 @@
--- What a build is seen as.
+-- What a build is seen as, and what its setters do.
+use Rattle.std.specs.Prelude.{◌≡◌, ℕ, List, [], ◌∷◌, ◌++◌, Option, unwrap_or}
 use Rattle.cc_env.specs.Env.{EnvSeen}
+use Rattle.cc_env.specs.Snapshot.{snapshot_of}
+use Rattle.cc_plan.specs.Given.{variable_flags, probe_folder}
+use Rattle.cc_plan.specs.Settings.{unset_settings}
+use Rattle.cc_plan.specs.declared.flags.Definition.{Definition}
 use Rattle.cc_plan.specs.declared.settings.BuildConfig.{BuildConfig}
 
 -- its plain settings, and the variables that it inherits and sets
 pub record BuildSeen : Type 0 where
   pub config : BuildConfig
   pub env : EnvSeen
+
+-- the settings are changed so, and all else stays
+abbrev pub Sets : BuildSeen → BuildSeen → (BuildConfig → BuildConfig) → Type 0
+Sets old new change = new ≡ record old { config = change old.config }
+
+-- the commands are given one variable more, and all else stays
+abbrev pub AddsVariable : BuildSeen → BuildSeen → List ℕ → List ℕ → Type 0
+AddsVariable old new name value = new ≡ record old { env = record old.env { explicit = old.env.explicit ++ (name, value) ∷ [] } }
+
+-- these variables are inherited, and all else stays
+abbrev pub TakesVars : BuildSeen → BuildSeen → List (List ℕ × List ℕ) → Type 0
+TakesVars old new vars = new ≡ record old { env = record old.env { inherited = snapshot_of vars } }
+
+-- a macro, with its value where it has one
+abbrev pub defined : List ℕ → Option (List ℕ) → Definition
+defined name value = record { name = name; value = value }
+
+-- the flags of a variable, where one of its names is set
+abbrev pub flags_in : BuildSeen → List ℕ → List (List ℕ)
+flags_in b name = unwrap_or (variable_flags b.config b.env name) []
+
+-- the folder of the probe files of a build's questions
+abbrev pub probes : BuildSeen → List ℕ
+probes b = probe_folder b.config b.env
+
+-- no source, nothing set and an empty environment
+abbrev pub fresh_build : BuildSeen
+fresh_build = record { config = unset_settings; env = record { inherited = []; explicit = [] } }

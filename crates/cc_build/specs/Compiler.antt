@@ -1,14 +1,18 @@
 -- The compiler of a build: why it is refused, and what its plan prints.
-use Rattle.std.specs.Prelude.{Bool, List, [], Option}
+use Rattle.std.specs.Prelude.{◌≡◌, Bool, List, [], Option, Result}
 use Rattle.std.specs.Option.{option_map}
 use Rattle.cc_env.specs.Env.{EnvSeen}
 use Rattle.cc_host.specs.Question.{Look}
 use Rattle.cc_host.specs.Part.{Step}
+use Rattle.cc_host.specs.declared.event.Event.{Event}
 use Rattle.cc_host.specs.declared.event.LineKind.TheVariants.{Warning}
 use Rattle.cc_plan.specs.declared.settings.BuildConfig.{BuildConfig}
 use Rattle.cc_plan.specs.Plan.{prints, tool_lines}
+use Rattle.cc_plan.specs.Planned.{tool_of}
 use Rattle.cc_plan.specs.Refusal.{tool_refusal}
+use Rattle.cc_tool.specs.Tool.{ToolSeen}
 use Rattle.cc_build.specs.Error.{ErrorSeen}
+use Rattle.cc_build.specs.Outcome.{Outcome}
 use Rattle.cc_build.specs.Refusal.{plan_error}
 
 -- the error of settings that have no compiler
@@ -18,3 +22,11 @@ tool_error set env look = option_map (plan_error set env []) (tool_refusal set e
 -- its warnings are printed, where they are wanted; `told` tells whether the call is told of flags for the linker
 abbrev pub tool_steps : BuildConfig → EnvSeen → Bool → Look → List Step
 tool_steps set env told look = prints Warning (tool_lines set env told look)
+
+-- this is the planned tool
+abbrev pub IsTool : BuildConfig → EnvSeen → ToolSeen → Look → Type 0
+IsTool set env tool look = tool ≡ tool_of set env look
+
+-- its warnings were printed, or the error has its cause
+abbrev pub ToolEnds : {T : Type 0} → BuildConfig → EnvSeen → Result T ErrorSeen → Look → List Event → Type 0
+ToolEnds set env result look part = (told : Bool) × Outcome (tool_error set env look) (tool_steps set env told look) part result

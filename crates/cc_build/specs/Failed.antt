@@ -3,13 +3,19 @@ use Rattle.std.specs.Prelude.{◌≡◌, ◌≢◌, ◌⊎◌, List, [], None, B
 use Rattle.std.specs.List.{list_any}
 use Rattle.cc_host.specs.Part.{is_probing}
 use Rattle.cc_host.specs.declared.event.Event.{Event}
-use Rattle.cc_host.specs.declared.event.Event.TheVariants.{Fault}
+use Rattle.cc_host.specs.Status.{is_success}
+use Rattle.cc_host.specs.declared.event.Event.TheVariants.{Fault, Ran}
 use Rattle.cc_run.specs.Part.{missing}
 use Rattle.cc_run.specs.Run.{run_from, nothing}
 
--- some command of the part is missing, or was started in it and ended with another status than 0
+-- a command was run to another end than 0
+abbrev pub ran_badly : Event → Bool
+ran_badly (Ran role cmd pipes status out err) = not (is_success status)
+ran_badly _ = false
+
+-- some command of the part is missing, was started in it and ended with another status than 0, or was run to such an end
 abbrev pub Failed : List Event → Type 0
-Failed part = (missing part ≢ []) ⊎ ((run_from nothing part).failed ≢ None)
+Failed part = (missing part ≢ []) ⊎ (((run_from nothing part).failed ≢ None) ⊎ (list_any ran_badly part ≡ true))
 
 -- a fault, but one of what a question wants
 abbrev pub is_fault : Event → Bool

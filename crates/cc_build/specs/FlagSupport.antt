@@ -1,9 +1,10 @@
 -- Whether the compiler of a build takes a flag: what it answers, and why there is no answer.
-use Rattle.std.specs.Prelude.{ℕ, List, [], ◌++◌, Bool, true, false, Option, Some, None, codes, if◌then◌else◌}
+use Rattle.std.specs.Prelude.{◌≡◌, ℕ, List, [], ◌++◌, Bool, true, false, Option, Some, None, Result, codes, if◌then◌else◌}
 use Rattle.std.specs.Option.{option_map}
 use Rattle.cc_env.specs.Env.{EnvSeen}
 use Rattle.cc_host.specs.Part.{Step}
-use Rattle.cc_host.specs.Question.{Look}
+use Rattle.cc_host.specs.Question.{Look, is_yes}
+use Rattle.cc_host.specs.declared.event.Event.{Event}
 use Rattle.cc_host.specs.declared.event.LineKind.TheVariants.{Warning}
 use Rattle.cc_host.specs.declared.question.Verdict.{Verdict}
 use Rattle.cc_host.specs.declared.question.Verdict.TheVariants.{Unanswered, Missing}
@@ -13,6 +14,7 @@ use Rattle.cc_plan.specs.Plan.{prints}
 use Rattle.cc_plan.specs.Refusal.{first_of}
 use Rattle.cc_plan.specs.declared.settings.BuildConfig.{BuildConfig}
 use Rattle.cc_build.specs.Error.{ErrorSeen}
+use Rattle.cc_build.specs.Outcome.{Outcome}
 use Rattle.cc_build.specs.Refusal.{plan_error}
 use Rattle.cc_build.specs.declared.error.ErrorKind.TheVariants.{IOError}
 
@@ -37,3 +39,11 @@ support_error set env flag look =
 -- the warnings of how the compiler was found are printed, where they are wanted
 abbrev pub support_steps : BuildConfig → EnvSeen → Look → List Step
 support_steps set env look = prints Warning (support_lines set env look)
+
+-- the answer is the verdict on the flag
+abbrev pub IsVerdict : BuildConfig → EnvSeen → List ℕ → Bool → Look → Type 0
+IsVerdict set env flag answer look = answer ≡ is_yes (flag_verdict set env flag look)
+
+-- the question was answered and the warnings were printed, or the error has its cause
+abbrev pub SupportEnds : {T : Type 0} → BuildConfig → EnvSeen → List ℕ → Result T ErrorSeen → Look → List Event → Type 0
+SupportEnds set env flag result look part = Outcome (support_error set env flag look) (support_steps set env look) part result

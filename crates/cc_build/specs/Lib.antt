@@ -3,6 +3,7 @@ pub mod Build
 pub mod Built
 pub mod Captured
 pub mod Compiler
+pub mod Course
 pub mod Error
 pub mod ErrorFields
 pub mod ErrorText
@@ -12,6 +13,7 @@ pub mod Flags
 pub mod Kept
 pub mod Order
 pub mod Outcome
+pub mod Promises
 pub mod Questions
 pub mod Refusal
 pub mod RunErrors

@@ -1,5 +1,5 @@
 -- What a part says of the stages of a run.
-use Rattle.std.specs.Prelude.{◌≡◌, ◌⊎◌, ◌≤◌, ◌+◌, ℕ, true, false, List, [], ◌∷◌, ◌++◌, Option, Some, None, IfSome, length, Result, Ok, Err}
+use Rattle.std.specs.Prelude.{◌≡◌, ◌⊎◌, ◌≤◌, ◌+◌, ℕ, true, false, List, [], ◌∷◌, ◌++◌, Option, Some, None, IfSome, is_some, length, Result, Ok, Err}
 use Rattle.std.specs.List.{list_all}
 use Rattle.cc_host.specs.Part.{step_of, Refuses}
 use Rattle.cc_host.specs.declared.event.Event.{Event}
@@ -91,8 +91,9 @@ Stops t (RunsOne p) part e x y = (error : RunError) × (RanOne t p part (Err err
 Stops t (RunsAll ps) part e x y = (error : RunError) × (RanAll t ps part (Err error) x y × IsOf (run_error ps error) e)
 
 -- The run ended before these stages: the settings are refused or memory was wanted, and nothing was done; or the first of them was refused.
+-- Behind the last stage nothing ends it but refused settings.
 abbrev pub Halts : Terms → Option ErrorSeen → List Stage → List Event → ErrorSeen → Means → Means → Type 0
-Halts t refusal [] part e x y = ((e ≡ no_memory) ⊎ (refusal ≡ Some e)) × (part ≡ []) × (y ≡ x)
+Halts t refusal [] part e x y = ((e ≡ no_memory) ⊎ (refusal ≡ Some e)) × (part ≡ []) × (y ≡ x) × (is_some refusal ≡ true)
 Halts t refusal (s ∷ ss) part e x y = (((e ≡ no_memory) ⊎ (refusal ≡ Some e)) × (part ≡ []) × (y ≡ x)) ⊎ Stops t s part e x y
 
 -- the first stages were done, and there the run ended

@@ -1,31 +1,18 @@
 // A build: its settings and its environment, and the compile run.
-ghost use Rattle.std.specs.Prelude.{◌≡◌, ◌++◌, ℕ, Bool, [], ◌∷◌, None, IfOk, IfErr, OnOk, OnErr, ◌⊎◌, Some, unwrap_or};
-ghost use Rattle.cc_env.specs.Snapshot.{snapshot_of};
+ghost use Rattle.std.specs.Prelude.{◌≡◌, ◌++◌, ◌⊎◌, [], Some, None, IfOk, IfErr, OnOk, OnErr};
 ghost use Rattle.cc_host.specs.Call.{part, ByAnswers};
-ghost use Rattle.cc_host.specs.Question.{answers, is_yes};
-ghost use Rattle.cc_host.specs.Part.Step.{Lists};
-ghost use Rattle.cc_plan.specs.FlagSupport.{flag_verdict};
-ghost use Rattle.cc_plan.specs.Given.{variable_flags};
-ghost use Rattle.cc_plan.specs.Settings.{unset_settings};
-ghost use Rattle.cc_plan.specs.Given.{probe_folder};
-ghost use Rattle.cc_plan.specs.Planned.{tool_of};
-ghost use Rattle.cc_build.specs.Built.{Built};
-ghost use Rattle.cc_build.specs.Captured.{Captures};
-ghost use Rattle.cc_build.specs.Error.{no_memory};
-ghost use Rattle.cc_build.specs.FlagSupport.{support_error, support_steps};
-ghost use Rattle.cc_build.specs.Flags.{always, flags_error};
-ghost use Rattle.cc_build.specs.Order.{ArchivesLast};
-ghost use Rattle.cc_build.specs.Outcome.{Outcome};
 ghost use Rattle.cc_tool.specs.Asked.{question_events, Asked};
-ghost use Rattle.cc_build.specs.Refusal.{refusal_error};
-ghost use Rattle.cc_build.specs.Compiler.{tool_error, tool_steps};
-ghost use Rattle.cc_build.specs.Shows.{shows_of};
-ghost use Rattle.cc_build.specs.Stage.{calls, planned_stages};
-ghost use Rattle.cc_build.specs.Went.{Terms, Means, terms, means, Ends};
+ghost use Rattle.cc_build.specs.Build.{Sets, TakesVars, flags_in, fresh_build, probes};
+ghost use Rattle.cc_build.specs.Captured.{Captures, CaptureEnds};
+ghost use Rattle.cc_build.specs.Compiler.{IsTool, ToolEnds};
+ghost use Rattle.cc_build.specs.Course.{ByPart, ByRun};
+ghost use Rattle.cc_build.specs.Error.{no_memory};
+ghost use Rattle.cc_build.specs.FlagSupport.{IsVerdict, SupportEnds};
+ghost use Rattle.cc_build.specs.Flags.{always, flags_error};
+ghost use Rattle.cc_build.specs.Promises.{IsBuilt, Promises, NothingRuns, FaultsEnd};
 
 use crate::Error;
 use crate::compiler::compiler;
-use crate::compiling::compile;
 use crate::environment::flags_of_variable;
 use crate::lists::always;
 use crate::run::list_vars;
@@ -34,7 +21,6 @@ use cc_env::{BuildEnv, EnvSnapshot};
 use cc_host::{Host, World};
 use cc_jobs::Jobs;
 use cc_plan::BuildConfig;
-use cc_run::Turns;
 use cc_text::{Vars, Words};
 use cc_tool::{Caches, Tool};
 use std::alloc::Global;
@@ -47,7 +33,7 @@ pub struct Build<W: World> {
     pub(crate) alloc: Global,
     pub(crate) config: BuildConfig,
     pub(crate) env: BuildEnv,
-    caches: Caches<W>,
+    pub(crate) caches: Caches<W>,
 }
 
 impl<W: World> Model for Build<W> {
@@ -61,7 +47,7 @@ impl<W: World> Model for Build<W> {
 impl<W: World> Build<W> {
     /// A build with no source, nothing set and an empty environment.
     pub fn new(alloc: Global) -> Result<Build<W>, Error>
-        ensures fresh { IfOk result (λ b. b ≡ record { config = unset_settings; env = record { inherited = []; explicit = [] } }) }
+        ensures fresh { IfOk result (λ b. b ≡ fresh_build) }
         ensures refused { IfErr result (λ e. e ≡ no_memory) }
     {
         Ok(Build {
@@ -109,7 +95,7 @@ impl<W: World> Build<W> {
     /// Takes these variables as the environment that the build inherits. Of a name that is given more than once the last value counts.
     /// Refused for memory, the build stays as it was.
     pub fn set_envs_snapshot(&mut self, vars: &Vars) -> Result<(), Error>
-        ensures ok { OnOk result (self.new ≡ record self.old { env = record self.old.env { inherited = snapshot_of vars.now } }) }
+        ensures ok { OnOk result (TakesVars self.old self.new vars.now) }
         ensures err { OnErr result (self.new ≡ self.old) }
         ensures refused { IfErr result (λ e. e ≡ no_memory) }
     {
@@ -125,7 +111,7 @@ impl<W: World> Build<W> {
         ensures captured { OnOk result (Captures self.old self.new (part H.log host.old host.new)) }
         ensures err { OnErr result (self.new ≡ self.old) }
         ensures patient { H.patience host.new ≡ H.patience host.old }
-        ensures outcome { (t : Terms) (x : Means) → Ends t None (calls (Lists ∷ [])) (part H.log host.old host.new) result x x }
+        ensures outcome { CaptureEnds (part H.log host.old host.new) result }
     {
         let vars = list_vars(self.alloc, host)?;
         self.set_envs_snapshot(&vars)
@@ -141,10 +127,13 @@ impl<W: World> Build<W> {
         environ_key: &str,
     ) -> Result<(), Error>
         ensures quiet { H.log host.new ≡ H.log host.old }
-        ensures ok { OnOk result (self.new ≡ record self.old { config = record self.old.config { flags = self.old.config.flags ++ always (unwrap_or (variable_flags self.old.config self.old.env environ_key.now) []) } }) }
+        ensures ok { OnOk result (Sets self.old self.new (λ c. record c {
+          flags = c.flags ++ always (flags_in self.old environ_key.now);
+        })) }
         ensures allowed { OnOk result (flags_error self.old.config self.old.env environ_key.now ≡ None) }
         ensures err { OnErr result (self.new ≡ self.old) }
-        ensures refused { IfErr result (λ e. (e ≡ no_memory) ⊎ (flags_error self.old.config self.old.env environ_key.now ≡ Some e)) }
+        ensures refused { IfErr result (λ e. (e ≡ no_memory)
+            ⊎ (flags_error self.old.config self.old.env environ_key.now ≡ Some e)) }
     {
         let _ = host.log();
         let words = flags_of_variable(self.alloc, &self.config, &self.env, environ_key)?;
@@ -165,9 +154,11 @@ impl<W: World> Build<W> {
         flag: &str,
     ) -> Result<bool, Error>
         ensures extends { H.log host.new ≡ H.log host.old ++ part H.log host.old host.new }
-        ensures asked { Asked W.steady W.answer (probe_folder self.now.config self.now.env) (part H.log host.old host.new) }
-        ensures supported { IfOk result (λ b. ByAnswers H.log host.old host.new (λ look. b ≡ is_yes (flag_verdict self.now.config self.now.env flag.now look))) }
-        ensures outcome { ByAnswers H.log host.old host.new (λ look. Outcome (support_error self.now.config self.now.env flag.now look) (support_steps self.now.config self.now.env look) (part H.log host.old host.new) result) }
+        ensures asked { Asked W.steady W.answer (probes self.now) (part H.log host.old host.new) }
+        ensures supported { IfOk result (λ b. ByAnswers H.log host.old host.new
+            (IsVerdict self.now.config self.now.env flag.now b)) }
+        ensures outcome { ByPart H.log host.old host.new
+            (SupportEnds self.now.config self.now.env flag.now result) }
     {
         is_flag_supported(
             rt,
@@ -187,9 +178,10 @@ impl<W: World> Build<W> {
     /// or a warning couldn't be printed.
     pub fn try_get_compiler<H: Host<W>>(&self, rt: &impl Wait, host: &mut H) -> Result<Tool, Error>
         ensures extends { H.log host.new ≡ H.log host.old ++ part H.log host.old host.new }
-        ensures asked { Asked W.steady W.answer (probe_folder self.now.config self.now.env) (part H.log host.old host.new) }
-        ensures tool { IfOk result (λ tool. ByAnswers H.log host.old host.new (λ look. tool ≡ tool_of self.now.config self.now.env look)) }
-        ensures outcome { ByAnswers H.log host.old host.new (λ look. (told : Bool) × Outcome (tool_error self.now.config self.now.env look) (tool_steps self.now.config self.now.env told look) (part H.log host.old host.new) result) }
+        ensures asked { Asked W.steady W.answer (probes self.now) (part H.log host.old host.new) }
+        ensures tool { IfOk result (λ tool. ByAnswers H.log host.old host.new
+            (IsTool self.now.config self.now.env tool)) }
+        ensures outcome { ByPart H.log host.old host.new (ToolEnds self.now.config self.now.env result) }
     {
         compiler(rt, self.alloc, host, &self.caches, &self.config, &self.env)
     }
@@ -218,26 +210,18 @@ impl<W: World> Build<W> {
         ensures total { J.total seat.new ≡ J.total seat.old }
         ensures patient { H.patience host.new ≡ H.patience host.old }
         ensures extends { H.log host.new ≡ H.log host.old ++ part H.log host.old host.new }
-        ensures asked { Asked W.steady W.answer (probe_folder self.now.config self.now.env) (part H.log host.old host.new) }
-        ensures built { OnOk result (ByAnswers H.log host.old host.new (λ look. Built (terms (shows_of self.now.config self.now.env) (J.total seat.old) (H.patience host.old)) self.now.config self.now.env look output.now (part H.log host.old host.new))) }
-        ensures order { ByAnswers H.log host.old host.new (λ look. ArchivesLast (terms (shows_of self.now.config self.now.env) (J.total seat.old) (H.patience host.old)) self.now.config self.now.env look (part H.log host.old host.new)) }
-        ensures outcome { ByAnswers H.log host.old host.new (λ look. (told : Bool) × (left : ℕ) × Ends (terms (shows_of self.now.config self.now.env) (J.total seat.old) (H.patience host.old)) (refusal_error self.now.config self.now.env look output.now) (planned_stages self.now.config self.now.env told look output.now) (part H.log host.old host.new) result (means turns (J.faults seat.old) (J.taken seat.old) (J.load seat.old)) (means left (J.faults seat.new) (J.taken seat.new) (J.load seat.new))) }
+        ensures asked { Asked W.steady W.answer (probes self.now) (part H.log host.old host.new) }
+
+        // Ok: the library is built.
+        ensures built { ByRun H.log H.patience J.total J.faults J.taken J.load turns
+            host.old host.new seat.old seat.new (IsBuilt self.now output.now result) }
+
+        // Each answer has its cause, and what follows from it, sentence by sentence.
+        ensures promises { ByRun H.log H.patience J.total J.faults J.taken J.load turns
+            host.old host.new seat.old seat.new (Promises self.now output.now result) }
+        ensures settled { NothingRuns (part H.log host.old host.new) }
+        ensures faults_last { FaultsEnd (part H.log host.old host.new) }
     {
-        let mut turns = Turns {
-            left: turns,
-            used: 0,
-        };
-        compile(
-            rt,
-            self.alloc,
-            host,
-            jobs,
-            seat,
-            &mut turns,
-            &self.caches,
-            &self.config,
-            &self.env,
-            output,
-        )
+        self.compile(rt, host, jobs, seat, turns, output)
     }
 }

@@ -1,11 +1,10 @@
 // The compiler of a build.
-ghost use Rattle.std.specs.Prelude.{◌≡◌, ◌++◌, Bool, IfOk};
+ghost use Rattle.std.specs.Prelude.{◌≡◌, ◌++◌, IfOk};
 ghost use Rattle.cc_host.specs.Call.{part, ByAnswers};
 ghost use Rattle.cc_host.specs.Question.{answers};
 ghost use Rattle.cc_plan.specs.Given.{probe_folder};
-ghost use Rattle.cc_plan.specs.Planned.{tool_of};
-ghost use Rattle.cc_build.specs.Compiler.{tool_error, tool_steps};
-ghost use Rattle.cc_build.specs.Outcome.{Outcome};
+ghost use Rattle.cc_build.specs.Compiler.{IsTool, ToolEnds};
+ghost use Rattle.cc_build.specs.Course.{ByPart};
 ghost use Rattle.cc_tool.specs.Asked.{Asked};
 
 use crate::Error;
@@ -30,8 +29,8 @@ pub(crate) fn compiler<W: World, H: Host<W>>(
 ) -> Result<Tool, Error>
     ensures extends { H.log host.new ≡ H.log host.old ++ part H.log host.old host.new }
     ensures asked { Asked W.steady W.answer (probe_folder set.now env.now) (part H.log host.old host.new) }
-    ensures tool { IfOk result (λ tool. ByAnswers H.log host.old host.new (λ look. tool ≡ tool_of set.now env.now look)) }
-    ensures outcome { ByAnswers H.log host.old host.new (λ look. (told : Bool) × Outcome (tool_error set.now env.now look) (tool_steps set.now env.now told look) (part H.log host.old host.new) result) }
+    ensures tool { IfOk result (λ tool. ByAnswers H.log host.old host.new (IsTool set.now env.now tool)) }
+    ensures outcome { ByPart H.log host.old host.new (ToolEnds set.now env.now result) }
 {
     let mut answers = Answers::new(alloc);
     let mut sight = Sight {

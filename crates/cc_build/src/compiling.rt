@@ -1,29 +1,25 @@
 // The stages of a compile run.
-ghost use Rattle.std.specs.Prelude.{◌≡◌, ◌⊎◌, ◌+◌, ◌<◌, ◌^◌, Bool, true, ◌++◌, Option, None, Some, IfOk, IfErr};
+ghost use Rattle.std.specs.Prelude.{◌≡◌, ◌++◌, true, IfOk, IfErr};
 ghost use Rattle.std.specs.List.{list_all};
-ghost use Rattle.std.specs.Option.{option_map};
 ghost use Rattle.cc_host.specs.Call.{part, ByAnswers};
-ghost use Rattle.cc_host.specs.Question.{answers};
+ghost use Rattle.cc_plan.specs.Given.{is_disabled, probe_folder};
 ghost use Rattle.cc_plan.specs.Names.{library_name};
 ghost use Rattle.cc_plan.specs.Plan.{objects_of, library_of, folder_steps};
-ghost use Rattle.cc_plan.specs.Refusal.{late_refusal};
-ghost use Rattle.cc_plan.specs.Given.{probe_folder};
 ghost use Rattle.cc_tool.specs.Asked.{Asked};
 ghost use Rattle.cc_tool.specs.Probing.{is_asked};
-ghost use Rattle.cc_build.specs.Error.{no_memory};
-ghost use Rattle.cc_build.specs.Kept.{left_at, Aside, Idle};
-ghost use Rattle.cc_build.specs.Questions.{Plans};
-ghost use Rattle.cc_build.specs.Refusal.{late_error, refusal_error, plan_error};
-ghost use Rattle.cc_build.specs.Shows.{shows_of};
-ghost use Rattle.cc_build.specs.Stage.{calls, late_stages, planned_stages};
-ghost use Rattle.cc_build.specs.Went.{Terms, Means, terms, Ends};
+ghost use Rattle.cc_build.specs.Build.{probes};
+ghost use Rattle.cc_build.specs.Course.{CallsEnd, ByRun};
+ghost use Rattle.cc_build.specs.Kept.{Aside, Idle};
+ghost use Rattle.cc_build.specs.Promises.{RunEnds};
+ghost use Rattle.cc_build.specs.Questions.{AsksOnly, Plans, IsPlanError, Drafts, IsLateError};
+ghost use Rattle.cc_build.specs.Seen.{stages_seen};
 
-use crate::Error;
 use crate::message::or_no_memory;
 use crate::refusal::{dir_of, disabled, plan_error};
 use crate::run::make_folder;
 use crate::shows::shows_of;
-use crate::stage::{do_stages, stages_of};
+use crate::stage::{Stage, do_stages, stages_of};
+use crate::{Build, Error};
 use cc_env::BuildEnv;
 use cc_host::{Host, World};
 use cc_jobs::Jobs;
@@ -37,7 +33,6 @@ use std::sync::Wait;
 #[tactic(auto, using(cc_host::proofs::Parts::since_append))]
 fn plan_run<W: World, H: Host<W>>(
     rt: &impl Wait,
-    alloc: Global,
     host: &mut H,
     caches: &Caches<W>,
     set: &BuildConfig,
@@ -52,9 +47,12 @@ fn plan_run<W: World, H: Host<W>>(
     ensures patient { H.patience host.new ≡ H.patience host.old }
     ensures quiet { list_all is_asked (part H.log host.old host.new) ≡ true }
     ensures asked { Asked W.steady W.answer (probe_folder set.now env.now) (part H.log host.old host.new) }
-    ensures planned { IfOk result (λ plan. ByAnswers H.log host.old host.new (λ look. Plans set.now env.now look output.now plan)) }
-    ensures refused { IfErr result (λ e. ByAnswers H.log host.old host.new (λ look. (e ≡ no_memory) ⊎ (option_map (plan_error set.now env.now output.now) (late_refusal set.now env.now look) ≡ Some e))) }
+    ensures planned { IfOk result
+        (λ plan. ByAnswers H.log host.old host.new (Plans set.now env.now output.now plan)) }
+    ensures refused { IfErr result
+        (λ e. ByAnswers H.log host.old host.new (IsPlanError set.now env.now output.now e)) }
 {
+    let alloc = *sources.objects.allocator();
     let mut answers = Answers::new(alloc);
     let mut sight = Sight {
         host,
@@ -67,46 +65,41 @@ fn plan_run<W: World, H: Host<W>>(
     }
 }
 
-// Plans the commands where they may run, and runs the plan.
+// The stages behind the folder of the objects, by questions to the host. No question is asked where no command may run.
 #[tactic(auto, using(cc_host::proofs::Parts::since_append))]
-fn compile_sources<W: World, H: Host<W>, J: Jobs>(
+fn plan_stages<W: World, H: Host<W>>(
     rt: &impl Wait,
-    alloc: Global,
     host: &mut H,
-    jobs: &J,
-    seat: &mut J::Seat,
-    turns: &mut Turns,
     caches: &Caches<W>,
     set: &BuildConfig,
     env: &BuildEnv,
     output: &str,
     sources: &Sources,
-) -> Result<(), Error>
+) -> Result<Vec<Stage>, Error>
     requires name { sources.now.name ≡ library_name output.now }
     requires library { sources.now.library ≡ library_of set.now env.now output.now }
     requires objects { sources.now.objects.items ≡ objects_of set.now env.now }
-    requires idle { Idle J.fits J.held jobs.now seat.old }
-    requires few { turns.old.left + turns.old.used < 2 ^ 64 }
-    ensures idle { Idle J.fits J.held jobs.now seat.new }
-    ensures total { J.total seat.new ≡ J.total seat.old }
-    ensures patient { H.patience host.new ≡ H.patience host.old }
-    ensures sum { turns.new.left + turns.new.used ≡ turns.old.left + turns.old.used }
     ensures extends { H.log host.new ≡ H.log host.old ++ part H.log host.old host.new }
+    ensures patient { H.patience host.new ≡ H.patience host.old }
+    ensures quiet { AsksOnly (is_disabled env.now) (part H.log host.old host.new) }
     ensures asked { Asked W.steady W.answer (probe_folder set.now env.now) (part H.log host.old host.new) }
-    ensures outcome { ByAnswers H.log host.old host.new (λ look. (told : Bool) × Ends (terms (shows_of set.now env.now) (J.total seat.old) (H.patience host.old)) (late_error set.now env.now look output.now) (late_stages set.now env.now told look output.now) (part H.log host.old host.new) result (left_at J.faults J.taken J.load turns.old seat.old) (left_at J.faults J.taken J.load turns.new seat.new)) }
+    ensures planned { IfOk result (λ stages. ByAnswers H.log host.old host.new
+        (Drafts set.now env.now output.now (stages_seen stages.items))) }
+    ensures refused { IfErr result
+        (λ e. ByAnswers H.log host.old host.new (IsLateError set.now env.now output.now e)) }
 {
+    let alloc = *sources.objects.allocator();
     if is_disabled(env) {
         return Err(or_no_memory(disabled(alloc)));
     }
-    let plan = match plan_run(rt, alloc, host, caches, set, env, output, sources) {
+    let plan = match plan_run(rt, host, caches, set, env, output, sources) {
         Ok(plan) => plan,
         Err(error) => return Err(error),
     };
-    let Ok(stages) = stages_of(alloc, plan, sources.library.as_str()) else {
-        return Err(Error::no_memory());
-    };
-    let shows = shows_of(set, env);
-    do_stages(alloc, host, jobs, seat, turns, &stages, &shows)
+    match stages_of(alloc, plan, sources.library.as_str()) {
+        Ok(stages) => Ok(stages),
+        Err(_) => Err(Error::no_memory()),
+    }
 }
 
 // Makes the folder of the objects, where there is a source.
@@ -118,7 +111,7 @@ fn prepare_folder<W: World, H: Host<W>>(
     env: &BuildEnv,
 ) -> Result<(), Error>
     ensures aside { Aside H.log H.patience host.old host.new }
-    ensures outcome { (t : Terms) (x : Means) → Ends t None (calls (folder_steps set.now env.now)) (part H.log host.old host.new) result x x }
+    ensures outcome { CallsEnd (folder_steps set.now env.now) (part H.log host.old host.new) result }
 {
     if set.files.is_empty() {
         return Ok(());
@@ -126,36 +119,42 @@ fn prepare_folder<W: World, H: Host<W>>(
     make_folder(alloc, host, dir_of(set, env))
 }
 
-/// Checks the settings, makes the folder, plans the commands and runs them.
-#[tactic(auto, using(cc_host::proofs::Parts::since_append))]
-pub(crate) fn compile<W: World, H: Host<W>, J: Jobs>(
-    rt: &impl Wait,
-    alloc: Global,
-    host: &mut H,
-    jobs: &J,
-    seat: &mut J::Seat,
-    turns: &mut Turns,
-    caches: &Caches<W>,
-    set: &BuildConfig,
-    env: &BuildEnv,
-    output: &str,
-) -> Result<(), Error>
-    requires idle { Idle J.fits J.held jobs.now seat.old }
-    requires few { turns.old.left + turns.old.used < 2 ^ 64 }
-    ensures idle { Idle J.fits J.held jobs.now seat.new }
-    ensures total { J.total seat.new ≡ J.total seat.old }
-    ensures patient { H.patience host.new ≡ H.patience host.old }
-    ensures sum { turns.new.left + turns.new.used ≡ turns.old.left + turns.old.used }
-    ensures extends { H.log host.new ≡ H.log host.old ++ part H.log host.old host.new }
-    ensures asked { Asked W.steady W.answer (probe_folder set.now env.now) (part H.log host.old host.new) }
-    ensures outcome { ByAnswers H.log host.old host.new (λ look. (told : Bool) × Ends (terms (shows_of set.now env.now) (J.total seat.old) (H.patience host.old)) (refusal_error set.now env.now look output.now) (planned_stages set.now env.now told look output.now) (part H.log host.old host.new) result (left_at J.faults J.taken J.load turns.old seat.old) (left_at J.faults J.taken J.load turns.new seat.new)) }
-{
-    let sources = match plan_sources(alloc, set, env, output) {
-        Ok(sources) => sources,
-        Err(error) => return Err(or_no_memory(plan_error(alloc, set, env, output, error))),
-    };
-    prepare_folder(alloc, host, set, env)?;
-    compile_sources(
-        rt, alloc, host, jobs, seat, turns, caches, set, env, output, &sources,
-    )
+impl<W: World> Build<W> {
+    // Checks the settings, makes the folder, plans the stages behind it and does them.
+    #[tactic(auto, using(cc_host::proofs::Parts::since_append))]
+    pub(crate) fn compile<H: Host<W>, J: Jobs>(
+        &self,
+        rt: &impl Wait,
+        host: &mut H,
+        jobs: &J,
+        seat: &mut J::Seat,
+        turns: u64,
+        output: &str,
+    ) -> Result<(), Error>
+        requires idle { Idle J.fits J.held jobs.now seat.old }
+        ensures idle { Idle J.fits J.held jobs.now seat.new }
+        ensures total { J.total seat.new ≡ J.total seat.old }
+        ensures patient { H.patience host.new ≡ H.patience host.old }
+        ensures extends { H.log host.new ≡ H.log host.old ++ part H.log host.old host.new }
+        ensures asked { Asked W.steady W.answer (probes self.now) (part H.log host.old host.new) }
+        ensures outcome { ByRun H.log H.patience J.total J.faults J.taken J.load turns
+            host.old host.new seat.old seat.new (RunEnds self.now output.now result) }
+    {
+        let (alloc, set, env) = (self.alloc, &self.config, &self.env);
+        let sources = match plan_sources(alloc, set, env, output) {
+            Ok(sources) => sources,
+            Err(error) => return Err(or_no_memory(plan_error(alloc, set, env, output, error))),
+        };
+        prepare_folder(alloc, host, set, env)?;
+        let stages = match plan_stages(rt, host, &self.caches, set, env, output, &sources) {
+            Ok(stages) => stages,
+            Err(error) => return Err(error),
+        };
+        let mut turns = Turns {
+            left: turns,
+            used: 0,
+        };
+        let shows = shows_of(set, env);
+        do_stages(alloc, host, jobs, seat, &mut turns, &stages, &shows)
+    }
 }

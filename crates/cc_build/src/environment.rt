@@ -32,7 +32,8 @@ fn absent(alloc: Global, name: &str) -> Mem<Error>
 // A value that is wanted.
 fn want(alloc: Global, name: &str, value: Option<&str>) -> Result<(), Error>
     ensures allowed { OnOk result (wanted_error name.now (option_copied value.entry) ≡ None) }
-    ensures refused { IfErr result (λ e. (e ≡ no_memory) ⊎ (wanted_error name.now (option_copied value.entry) ≡ Some e)) }
+    ensures refused { IfErr result
+        (λ e. (e ≡ no_memory) ⊎ (wanted_error name.now (option_copied value.entry) ≡ Some e)) }
 {
     match value {
         Some(_) => Ok(()),

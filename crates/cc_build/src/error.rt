@@ -63,7 +63,8 @@ impl Error {
     /// An error of this kind, subject and message. Want of memory has neither.
     pub fn of(alloc: Global, kind: ErrorKind, subject: &str, message: &str) -> Mem<Error>
         requires { kind ≡ OutOfMemory → (subject.now ≡ []) × (message.now ≡ []) }
-        ensures { IfOk result (λ e. e ≡ record { kind = kind; subject = subject.now; message = message.now }) }
+        ensures { IfOk result
+            (λ e. e ≡ record { kind = kind; subject = subject.now; message = message.now }) }
     {
         let subject = Text::of(alloc, subject)?;
         let message = Text::of(alloc, message)?;

@@ -3,6 +3,7 @@ ghost use Rattle.std.specs.Prelude.{◌≡◌, ◌++◌, [], ◌∷◌, true, If
 ghost use Rattle.std.specs.Option.{option_copied};
 ghost use Rattle.cc_plan.specs.Flags.{without};
 ghost use Rattle.cc_plan.specs.declared.flags.BuildFlag.TheVariants.{Always, IfSupported};
+ghost use Rattle.cc_build.specs.Build.{Sets, AddsVariable, defined};
 ghost use Rattle.cc_build.specs.Error.{no_memory};
 ghost use Rattle.cc_build.specs.Flags.{always};
 ghost use Rattle.cc_build.specs.Values.{lacks_equals};
@@ -17,7 +18,7 @@ use std::alloc::Global;
 impl<W: World> Build<W> {
     /// Adds a source last: a path, as the compiler is given it. Refused for memory, the build stays as it was.
     pub fn file(&mut self, p: &str) -> Result<(), Error>
-        ensures ok { OnOk result (self.new ≡ record self.old { config = record self.old.config { files = self.old.config.files ++ p.now ∷ [] } }) }
+        ensures ok { OnOk result (Sets self.old self.new (λ c. record c { files = c.files ++ p.now ∷ [] })) }
         ensures err { OnErr result (self.new ≡ self.old) }
         ensures refused { IfErr result (λ e. e ≡ no_memory) }
     {
@@ -27,7 +28,8 @@ impl<W: World> Build<W> {
 
     /// Adds a folder of headers last. Refused for memory, the build stays as it was.
     pub fn include(&mut self, dir: &str) -> Result<(), Error>
-        ensures ok { OnOk result (self.new ≡ record self.old { config = record self.old.config { includes = self.old.config.includes ++ dir.now ∷ [] } }) }
+        ensures ok { OnOk result (Sets self.old self.new
+            (λ c. record c { includes = c.includes ++ dir.now ∷ [] })) }
         ensures err { OnErr result (self.new ≡ self.old) }
         ensures refused { IfErr result (λ e. e ≡ no_memory) }
     {
@@ -37,7 +39,8 @@ impl<W: World> Build<W> {
 
     /// Adds a flag of sources in assembly last. Refused for memory, the build stays as it was.
     pub fn asm_flag(&mut self, flag: &str) -> Result<(), Error>
-        ensures ok { OnOk result (self.new ≡ record self.old { config = record self.old.config { asm_flags = self.old.config.asm_flags ++ flag.now ∷ [] } }) }
+        ensures ok { OnOk result (Sets self.old self.new
+            (λ c. record c { asm_flags = c.asm_flags ++ flag.now ∷ [] })) }
         ensures err { OnErr result (self.new ≡ self.old) }
         ensures refused { IfErr result (λ e. e ≡ no_memory) }
     {
@@ -47,7 +50,7 @@ impl<W: World> Build<W> {
 
     /// Adds sources last, in order. Refused for memory, the build stays as it was.
     pub fn files(&mut self, p: &Words) -> Result<(), Error>
-        ensures ok { OnOk result (self.new ≡ record self.old { config = record self.old.config { files = self.old.config.files ++ p.now } }) }
+        ensures ok { OnOk result (Sets self.old self.new (λ c. record c { files = c.files ++ p.now })) }
         ensures err { OnErr result (self.new ≡ self.old) }
         ensures refused { IfErr result (λ e. e ≡ no_memory) }
     {
@@ -57,7 +60,8 @@ impl<W: World> Build<W> {
 
     /// Adds folders of headers last, in order. Refused for memory, the build stays as it was.
     pub fn includes(&mut self, dirs: &Words) -> Result<(), Error>
-        ensures ok { OnOk result (self.new ≡ record self.old { config = record self.old.config { includes = self.old.config.includes ++ dirs.now } }) }
+        ensures ok { OnOk result (Sets self.old self.new
+            (λ c. record c { includes = c.includes ++ dirs.now })) }
         ensures err { OnErr result (self.new ≡ self.old) }
         ensures refused { IfErr result (λ e. e ≡ no_memory) }
     {
@@ -67,7 +71,8 @@ impl<W: World> Build<W> {
 
     /// Adds a flag of the compiler last, which is always given. Refused for memory, the build stays as it was.
     pub fn flag(&mut self, flag: &str) -> Result<(), Error>
-        ensures ok { OnOk result (self.new ≡ record self.old { config = record self.old.config { flags = self.old.config.flags ++ Always flag.now ∷ [] } }) }
+        ensures ok { OnOk result (Sets self.old self.new
+            (λ c. record c { flags = c.flags ++ Always flag.now ∷ [] })) }
         ensures err { OnErr result (self.new ≡ self.old) }
         ensures refused { IfErr result (λ e. e ≡ no_memory) }
     {
@@ -78,7 +83,8 @@ impl<W: World> Build<W> {
 
     /// Adds a flag of the compiler last, which is given where the compiler takes it. Refused for memory, the build stays as it was.
     pub fn flag_if_supported(&mut self, flag: &str) -> Result<(), Error>
-        ensures ok { OnOk result (self.new ≡ record self.old { config = record self.old.config { flags = self.old.config.flags ++ IfSupported flag.now ∷ [] } }) }
+        ensures ok { OnOk result (Sets self.old self.new
+            (λ c. record c { flags = c.flags ++ IfSupported flag.now ∷ [] })) }
         ensures err { OnErr result (self.new ≡ self.old) }
         ensures refused { IfErr result (λ e. e ≡ no_memory) }
     {
@@ -91,7 +97,9 @@ impl<W: World> Build<W> {
     /// build stays as it was.
     pub fn remap_source_path(&mut self, from: &str, to: &str) -> Result<(), Error>
         requires { lacks_equals from.now ≡ true }
-        ensures ok { OnOk result (self.new ≡ record self.old { config = record self.old.config { remap_source_paths = self.old.config.remap_source_paths ++ (from.now, to.now) ∷ [] } }) }
+        ensures ok { OnOk result (Sets self.old self.new (λ c. record c {
+          remap_source_paths = c.remap_source_paths ++ (from.now, to.now) ∷ [];
+        })) }
         ensures err { OnErr result (self.new ≡ self.old) }
         ensures refused { IfErr result (λ e. e ≡ no_memory) }
     {
@@ -101,7 +109,8 @@ impl<W: World> Build<W> {
 
     /// Adds flags of the compiler last, in order, which are always given. Refused for memory, the build stays as it was.
     pub fn flags(&mut self, flags: &Words) -> Result<(), Error>
-        ensures ok { OnOk result (self.new ≡ record self.old { config = record self.old.config { flags = self.old.config.flags ++ always flags.now } }) }
+        ensures ok { OnOk result (Sets self.old self.new
+            (λ c. record c { flags = c.flags ++ always flags.now })) }
         ensures err { OnErr result (self.new ≡ self.old) }
         ensures refused { IfErr result (λ e. e ≡ no_memory) }
     {
@@ -112,14 +121,16 @@ impl<W: World> Build<W> {
 
     /// Takes out every flag of this word that is always given, and no other. It takes no memory.
     pub fn remove_flag(&mut self, flag: &str)
-        ensures { self.new ≡ record self.old { config = record self.old.config { flags = without flag.now self.old.config.flags } } }
+        ensures { Sets self.old self.new (λ c. record c { flags = without flag.now c.flags }) }
     {
         self.config.flags.remove(flag);
     }
 
     /// Adds a macro last, with its value where it has one. Refused for memory, the build stays as it was.
     pub fn define(&mut self, var: &str, val: Option<&str>) -> Result<(), Error>
-        ensures ok { OnOk result (self.new ≡ record self.old { config = record self.old.config { definitions = self.old.config.definitions ++ record { name = var.now; value = option_copied val.entry } ∷ [] } }) }
+        ensures ok { OnOk result (Sets self.old self.new (λ c. record c {
+          definitions = c.definitions ++ defined var.now (option_copied val.entry) ∷ [];
+        })) }
         ensures err { OnErr result (self.new ≡ self.old) }
         ensures refused { IfErr result (λ e. e ≡ no_memory) }
     {
@@ -131,7 +142,7 @@ impl<W: World> Build<W> {
 
     /// Sets a variable of the commands that the build runs. Refused for memory, the build stays as it was.
     pub fn env(&mut self, key: &str, val: &str) -> Result<(), Error>
-        ensures ok { OnOk result (self.new ≡ record self.old { env = record self.old.env { explicit = self.old.env.explicit ++ (key.now, val.now) ∷ [] } }) }
+        ensures ok { OnOk result (AddsVariable self.old self.new key.now val.now) }
         ensures err { OnErr result (self.new ≡ self.old) }
         ensures refused { IfErr result (λ e. e ≡ no_memory) }
     {
@@ -141,7 +152,7 @@ impl<W: World> Build<W> {
 
     /// Does what `env` does. Refused for memory, the build stays as it was.
     pub fn set_env(&mut self, key: &str, val: &str) -> Result<(), Error>
-        ensures ok { OnOk result (self.new ≡ record self.old { env = record self.old.env { explicit = self.old.env.explicit ++ (key.now, val.now) ∷ [] } }) }
+        ensures ok { OnOk result (AddsVariable self.old self.new key.now val.now) }
         ensures err { OnErr result (self.new ≡ self.old) }
         ensures refused { IfErr result (λ e. e ≡ no_memory) }
     {

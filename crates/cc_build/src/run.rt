@@ -1,5 +1,5 @@
 // The stages of a run, asked of a host one after another up to the first that is refused.
-ghost use Rattle.std.specs.Prelude.{◌≡◌, ◌+◌, ◌<◌, ◌≤◌, ◌^◌, ℕ, [], ◌∷◌, length, Option, None, IfOk};
+ghost use Rattle.std.specs.Prelude.{◌≡◌, ◌+◌, ◌<◌, ◌≤◌, ◌^◌, [], ◌∷◌, length, IfOk};
 ghost use Rattle.std.specs.List.{All};
 ghost use Rattle.cc_host.specs.Call.{part};
 ghost use Rattle.cc_host.specs.Part.Step.{Makes, Removes, Prints, Lists};
@@ -7,10 +7,10 @@ ghost use Rattle.cc_host.specs.declared.event.Event.TheVariants.{Listed};
 ghost use Rattle.cc_host.specs.declared.event.Role.TheVariants.{Compile};
 ghost use Rattle.cc_host.specs.declared.event.Scope.TheVariants.{Build};
 ghost use Rattle.cc_plan.specs.Link.{printed_line as line_of};
-ghost use Rattle.cc_build.specs.Stage.{calls, planned};
-ghost use Rattle.cc_build.specs.Kept.{left_at, Aside, Idle};
+ghost use Rattle.cc_build.specs.Course.{OnCourse, DoesAlone, Does, CallsEnd};
+ghost use Rattle.cc_build.specs.Kept.{Aside, Idle};
+ghost use Rattle.cc_build.specs.Stage.{planned};
 ghost use Rattle.cc_build.specs.Stage.Stage.{RunsOne, RunsAll};
-ghost use Rattle.cc_build.specs.Went.{Terms, Means, terms, means, Ends};
 
 use crate::Error;
 use crate::message::{host_error, or_no_memory};
@@ -48,7 +48,8 @@ pub(crate) fn run_alone<W: World, H: Host<W>>(
     requires few { turns.old.left + turns.old.used < 2 ^ 64 }
     ensures aside { Aside H.log H.patience host.old host.new }
     ensures sum { turns.new.left + turns.new.used ≡ turns.old.left + turns.old.used }
-    ensures outcome { (total : Option ℕ) (faults taken load : ℕ) → Ends (terms shows.now total (H.patience host.old)) None (RunsOne cmd.now ∷ []) (part H.log host.old host.new) result (means turns.old.left faults taken load) (means turns.new.left faults taken load) }
+    ensures outcome { DoesAlone H.log H.patience turns.old.left turns.new.left host.old host.new
+        shows.now (RunsOne cmd.now ∷ []) result }
 {
     match run_one(alloc, host, turns, cmd, shows) {
         Ok(()) => Ok(()),
@@ -75,7 +76,8 @@ pub(crate) fn run_together<W: World, H: Host<W>, J: Jobs>(
     ensures total { J.total seat.new ≡ J.total seat.old }
     ensures aside { Aside H.log H.patience host.old host.new }
     ensures sum { turns.new.left + turns.new.used ≡ turns.old.left + turns.old.used }
-    ensures outcome { Ends (terms shows.now (J.total seat.old) (H.patience host.old)) None (RunsAll cmds.now ∷ []) (part H.log host.old host.new) result (left_at J.faults J.taken J.load turns.old seat.old) (left_at J.faults J.taken J.load turns.new seat.new) }
+    ensures outcome { OnCourse H.log H.patience J.total J.faults J.taken J.load turns.old.left turns.new.left
+        host.old host.new seat.old seat.new (Does shows.now (RunsAll cmds.now ∷ []) result) }
 {
     match run_all(alloc, host, jobs, seat, turns, cmds, shows) {
         Ok(()) => Ok(()),
@@ -91,7 +93,7 @@ pub(crate) fn make_folder<W: World, H: Host<W>>(
     path: &str,
 ) -> Result<(), Error>
     ensures aside { Aside H.log H.patience host.old host.new }
-    ensures outcome { (t : Terms) (x : Means) → Ends t None (calls (Makes Build path.now ∷ [])) (part H.log host.old host.new) result x x }
+    ensures outcome { CallsEnd (Makes Build path.now ∷ []) (part H.log host.old host.new) result }
 {
     match host.make_dir(Scope::Build, path) {
         Ok(()) => Ok(()),
@@ -107,7 +109,7 @@ pub(crate) fn remove_library<W: World, H: Host<W>>(
     path: &str,
 ) -> Result<(), Error>
     ensures aside { Aside H.log H.patience host.old host.new }
-    ensures outcome { (t : Terms) (x : Means) → Ends t None (calls (Removes path.now ∷ [])) (part H.log host.old host.new) result x x }
+    ensures outcome { CallsEnd (Removes path.now ∷ []) (part H.log host.old host.new) result }
 {
     match host.remove_file(path) {
         Ok(_) => Ok(()),
@@ -120,7 +122,7 @@ pub(crate) fn remove_library<W: World, H: Host<W>>(
 pub(crate) fn list_vars<W: World, H: Host<W>>(alloc: Global, host: &mut H) -> Result<Vars, Error>
     ensures aside { Aside H.log H.patience host.old host.new }
     ensures listed { IfOk result (λ vars. part H.log host.old host.new ≡ Listed vars ∷ []) }
-    ensures outcome { (t : Terms) (x : Means) → Ends t None (calls (Lists ∷ [])) (part H.log host.old host.new) result x x }
+    ensures outcome { CallsEnd (Lists ∷ []) (part H.log host.old host.new) result }
 {
     match host.vars() {
         Ok(vars) => Ok(vars),
@@ -144,7 +146,7 @@ pub(crate) fn print_line<W: World, H: Host<W>>(
     line: &str,
 ) -> Result<(), Error>
     ensures aside { Aside H.log H.patience host.old host.new }
-    ensures outcome { (t : Terms) (x : Means) → Ends t None (calls (Prints kind (line_of line.now) ∷ [])) (part H.log host.old host.new) result x x }
+    ensures outcome { CallsEnd (Prints kind (line_of line.now) ∷ []) (part H.log host.old host.new) result }
 {
     let text = printed_line(alloc, line)?;
     match host.print(kind, text.as_str().as_bytes()) {

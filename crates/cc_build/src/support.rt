@@ -1,11 +1,10 @@
 // Whether the compiler of a build takes a flag.
 ghost use Rattle.std.specs.Prelude.{◌≡◌, ◌++◌, ◌⊎◌, [], Some, false, IfOk, IfErr, OnOk};
+ghost use Rattle.cc_build.specs.Course.{ByPart};
 ghost use Rattle.cc_build.specs.Error.{no_memory};
 ghost use Rattle.cc_build.specs.FlagSupport as spec;
-ghost use Rattle.cc_build.specs.Outcome.{Outcome};
 ghost use Rattle.cc_host.specs.Call.{part, ByAnswers};
 ghost use Rattle.cc_host.specs.Question.{answers, is_yes as yes};
-ghost use Rattle.cc_plan.specs.FlagSupport.{flag_verdict};
 ghost use Rattle.cc_plan.specs.Given.{probe_folder};
 ghost use Rattle.cc_tool.specs.Asked.{Asked};
 
@@ -49,7 +48,8 @@ fn untried(alloc: Global, path: &str) -> Mem<Error>
 fn verdict_answer(alloc: Global, support: &FlagSupport) -> Result<bool, Error>
     ensures yes { IfOk result (λ b. b ≡ yes support.now.verdict) }
     ensures tried { OnOk result (spec.is_untried support.now.verdict ≡ false) }
-    ensures untried { IfErr result (λ e. (e ≡ no_memory) ⊎ (spec.verdict_error support.now.compiler.choice.path support.now.verdict ≡ Some e)) }
+    ensures untried { IfErr result (λ e. (e ≡ no_memory)
+        ⊎ (spec.verdict_error support.now.compiler.choice.path support.now.verdict ≡ Some e)) }
 {
     if is_untried(&support.verdict) {
         let path = support.compiler.choice.path.as_str();
@@ -71,8 +71,9 @@ pub(crate) fn is_flag_supported<W: World, H: Host<W>>(
 ) -> Result<bool, Error>
     ensures extends { H.log host.new ≡ H.log host.old ++ part H.log host.old host.new }
     ensures asked { Asked W.steady W.answer (probe_folder set.now env.now) (part H.log host.old host.new) }
-    ensures supported { IfOk result (λ b. ByAnswers H.log host.old host.new (λ look. b ≡ yes (flag_verdict set.now env.now flag.now look))) }
-    ensures outcome { ByAnswers H.log host.old host.new (λ look. Outcome (spec.support_error set.now env.now flag.now look) (spec.support_steps set.now env.now look) (part H.log host.old host.new) result) }
+    ensures supported { IfOk result
+        (λ b. ByAnswers H.log host.old host.new (spec.IsVerdict set.now env.now flag.now b)) }
+    ensures outcome { ByPart H.log host.old host.new (spec.SupportEnds set.now env.now flag.now result) }
 {
     let mut answers = Answers::new(alloc);
     let mut sight = Sight {

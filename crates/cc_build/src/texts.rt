@@ -2,6 +2,7 @@
 ghost use Rattle.std.specs.Prelude.{◌≡◌, Some, None, IfOk, IfErr, OnOk, OnErr, string_bytes};
 ghost use Rattle.std.specs.Fmt.{decimal};
 ghost use Rattle.std.specs.Option.{option_copied};
+ghost use Rattle.cc_build.specs.Build.{Sets};
 ghost use Rattle.cc_build.specs.Error.{no_memory};
 ghost use Rattle.cc_build.specs.Values.{truth_text};
 
@@ -13,7 +14,8 @@ use std::alloc::Global;
 impl<W: World> Build<W> {
     /// Sets the folder that the folders of sources count from in the names of objects. Refused for memory, the build stays as it was.
     pub fn source_root(&mut self, source_root: &str) -> Result<(), Error>
-        ensures ok { OnOk result (self.new ≡ record self.old { config = record self.old.config { source_root = Some source_root.now } }) }
+        ensures ok { OnOk result (Sets self.old self.new
+            (λ c. record c { source_root = Some source_root.now })) }
         ensures err { OnErr result (self.new ≡ self.old) }
         ensures refused { IfErr result (λ e. e ≡ no_memory) }
     {
@@ -23,7 +25,7 @@ impl<W: World> Build<W> {
 
     /// Sets the standard of the language, as `c11` or `c++17`. Refused for memory, the build stays as it was.
     pub fn std(&mut self, std: &str) -> Result<(), Error>
-        ensures ok { OnOk result (self.new ≡ record self.old { config = record self.old.config { std = Some std.now } }) }
+        ensures ok { OnOk result (Sets self.old self.new (λ c. record c { std = Some std.now })) }
         ensures err { OnErr result (self.new ≡ self.old) }
         ensures refused { IfErr result (λ e. e ≡ no_memory) }
     {
@@ -33,7 +35,7 @@ impl<W: World> Build<W> {
 
     /// Sets the target, as Rust's compiler names it. Refused for memory, the build stays as it was.
     pub fn target(&mut self, target: &str) -> Result<(), Error>
-        ensures ok { OnOk result (self.new ≡ record self.old { config = record self.old.config { target = Some target.now } }) }
+        ensures ok { OnOk result (Sets self.old self.new (λ c. record c { target = Some target.now })) }
         ensures err { OnErr result (self.new ≡ self.old) }
         ensures refused { IfErr result (λ e. e ≡ no_memory) }
     {
@@ -43,7 +45,7 @@ impl<W: World> Build<W> {
 
     /// Sets the host, as Rust's compiler names it. Refused for memory, the build stays as it was.
     pub fn host(&mut self, host: &str) -> Result<(), Error>
-        ensures ok { OnOk result (self.new ≡ record self.old { config = record self.old.config { host = Some host.now } }) }
+        ensures ok { OnOk result (Sets self.old self.new (λ c. record c { host = Some host.now })) }
         ensures err { OnErr result (self.new ≡ self.old) }
         ensures refused { IfErr result (λ e. e ≡ no_memory) }
     {
@@ -53,7 +55,7 @@ impl<W: World> Build<W> {
 
     /// Sets the optimisation level, as `0` or `z`. Refused for memory, the build stays as it was.
     pub fn opt_level_str(&mut self, opt_level: &str) -> Result<(), Error>
-        ensures ok { OnOk result (self.new ≡ record self.old { config = record self.old.config { opt_level = Some opt_level.now } }) }
+        ensures ok { OnOk result (Sets self.old self.new (λ c. record c { opt_level = Some opt_level.now })) }
         ensures err { OnErr result (self.new ≡ self.old) }
         ensures refused { IfErr result (λ e. e ≡ no_memory) }
     {
@@ -63,7 +65,7 @@ impl<W: World> Build<W> {
 
     /// Sets how much debug information is wanted, as `2` or `line-tables-only`. Refused for memory, the build stays as it was.
     pub fn debug_str(&mut self, debug: &str) -> Result<(), Error>
-        ensures ok { OnOk result (self.new ≡ record self.old { config = record self.old.config { debug = Some debug.now } }) }
+        ensures ok { OnOk result (Sets self.old self.new (λ c. record c { debug = Some debug.now })) }
         ensures err { OnErr result (self.new ≡ self.old) }
         ensures refused { IfErr result (λ e. e ≡ no_memory) }
     {
@@ -73,7 +75,7 @@ impl<W: World> Build<W> {
 
     /// Sets whether debug information is wanted. Refused for memory, the build stays as it was.
     pub fn debug(&mut self, debug: bool) -> Result<(), Error>
-        ensures ok { OnOk result (self.new ≡ record self.old { config = record self.old.config { debug = Some (truth_text debug) } }) }
+        ensures ok { OnOk result (Sets self.old self.new (λ c. record c { debug = Some (truth_text debug) })) }
         ensures err { OnErr result (self.new ≡ self.old) }
         ensures refused { IfErr result (λ e. e ≡ no_memory) }
     {
@@ -82,7 +84,7 @@ impl<W: World> Build<W> {
 
     /// Sets the folder of the objects and of the library. Refused for memory, the build stays as it was.
     pub fn out_dir(&mut self, out_dir: &str) -> Result<(), Error>
-        ensures ok { OnOk result (self.new ≡ record self.old { config = record self.old.config { out_dir = Some out_dir.now } }) }
+        ensures ok { OnOk result (Sets self.old self.new (λ c. record c { out_dir = Some out_dir.now })) }
         ensures err { OnErr result (self.new ≡ self.old) }
         ensures refused { IfErr result (λ e. e ≡ no_memory) }
     {
@@ -92,7 +94,7 @@ impl<W: World> Build<W> {
 
     /// Sets the compiler: a program, or its path. Refused for memory, the build stays as it was.
     pub fn compiler(&mut self, compiler: &str) -> Result<(), Error>
-        ensures ok { OnOk result (self.new ≡ record self.old { config = record self.old.config { compiler = Some compiler.now } }) }
+        ensures ok { OnOk result (Sets self.old self.new (λ c. record c { compiler = Some compiler.now })) }
         ensures err { OnErr result (self.new ≡ self.old) }
         ensures refused { IfErr result (λ e. e ≡ no_memory) }
     {
@@ -102,7 +104,7 @@ impl<W: World> Build<W> {
 
     /// Sets the archiver: a program, or its path. Refused for memory, the build stays as it was.
     pub fn archiver(&mut self, archiver: &str) -> Result<(), Error>
-        ensures ok { OnOk result (self.new ≡ record self.old { config = record self.old.config { archiver = Some archiver.now } }) }
+        ensures ok { OnOk result (Sets self.old self.new (λ c. record c { archiver = Some archiver.now })) }
         ensures err { OnErr result (self.new ≡ self.old) }
         ensures refused { IfErr result (λ e. e ≡ no_memory) }
     {
@@ -112,7 +114,8 @@ impl<W: World> Build<W> {
 
     /// Sets the optimisation level to a number, which is kept in decimal. Refused for memory, the build stays as it was.
     pub fn opt_level(&mut self, opt_level: u32) -> Result<(), Error>
-        ensures ok { OnOk result (self.new ≡ record self.old { config = record self.old.config { opt_level = Some (decimal opt_level) } }) }
+        ensures ok { OnOk result (Sets self.old self.new
+            (λ c. record c { opt_level = Some (decimal opt_level) })) }
         ensures err { OnErr result (self.new ≡ self.old) }
         ensures refused { IfErr result (λ e. e ≡ no_memory) }
     {
@@ -123,7 +126,8 @@ impl<W: World> Build<W> {
 
     /// Sets the C++ library that the compiler is told of, or none. Refused for memory, the build stays as it was.
     pub fn cpp_set_stdlib(&mut self, cpp_set_stdlib: Option<&str>) -> Result<(), Error>
-        ensures ok { OnOk result (self.new ≡ record self.old { config = record self.old.config { cpp_set_stdlib = option_copied cpp_set_stdlib.entry } }) }
+        ensures ok { OnOk result (Sets self.old self.new
+            (λ c. record c { cpp_set_stdlib = option_copied cpp_set_stdlib.entry })) }
         ensures err { OnErr result (self.new ≡ self.old) }
         ensures refused { IfErr result (λ e. e ≡ no_memory) }
     {

@@ -1,112 +1,97 @@
 -- What the answers of the program say.
 use Rattle.std.proofs.Common.{◌≡◌, ◌⊎◌, inl, inr, ℕ, List, [], ◌∷◌, ◌++◌, Bool, true, Option, Some, None, Result, Ok, Err, refl, sym, ◌∙◌, ap, subst, append-nil}
-use Rattle.cc_env.specs.Env.{EnvSeen}
 use Rattle.cc_host.specs.Question.{Look}
 use Rattle.cc_host.specs.Part.{since}
 use Rattle.cc_host.specs.Part.Step.{Lists}
 use Rattle.cc_host.proofs.Parts.{since_since}
 use Rattle.cc_host.specs.declared.event.Event.{Event}
 use Rattle.cc_host.specs.declared.event.Event.TheVariants.{Listed}
-use Rattle.cc_plan.specs.declared.settings.BuildConfig.{BuildConfig}
 use Rattle.cc_build.specs.Build.{BuildSeen}
-use Rattle.cc_build.specs.Captured.{with_vars, Captures}
-use Rattle.cc_build.specs.Error.{ErrorSeen}
+use Rattle.cc_build.specs.Built.{Built}
+use Rattle.cc_build.specs.Captured.{with_vars, Captures, CaptureEnds}
+use Rattle.cc_build.specs.Course.{Course, course}
+use Rattle.cc_build.specs.Error.{ErrorSeen, no_memory}
+use Rattle.cc_build.specs.Promises.{terms_for, Promises}
 use Rattle.cc_build.specs.Refusal.{refusal_error}
 use Rattle.cc_build.specs.Stage.{planned_stages}
 use Rattle.cc_build.specs.Stage.Stage.{Calls}
-use Rattle.cc_build.specs.Went.{Terms, Means, Did, Went, Halted, Partly}
-use Rattle.cc_build.proofs.Going.{called, halted_then, halted_more, part_is}
-use Rattle.cc_build.proofs.OrderLaws.{halted_partly}
+use Rattle.cc_build.specs.Went.{Terms, Means, Did, Went, Halted}
+use Rattle.cc_build.proofs.Going.{called, halted_none, halted_among, halted_then, halted_more, part_is}
+use Rattle.cc_build.proofs.Stages.{planned_open}
 use Rattle.cc_host.specs.declared.question.Outcome.{Outcome}
 use Rattle.cc_host.specs.declared.question.Question.{Question}
 use Rattle.cc_tool.specs.Asked.{Asked}
 use Rattle.cc_tool.proofs.Asides.{asked_around}
 use Rattle.cc_plan.specs.Given.{probe_folder}
 use Rattle.cc_command.specs.Asks.{AsksFor}
-use Rattle.cc_command.specs.Answer.{Course, course, terms_of, RunAnswers, Answers, AnswersError, AnswersWords, terms_in, error_of, stages_of, ended_wanting}
+use Rattle.cc_command.specs.Answer.{IsHalted, Answers, AnswersError, AnswersWords, env_in, terms_in, error_of, stages_of, ended_well, ended_wanting}
+use Rattle.cc_command.proofs.RepeatLaws.{went_same, halted_same}
 use Rattle.cc_command.specs.Read.{Request, refusal_of}
 use Rattle.cc_command.specs.declared.top.Ended.{Ended}
 use Rattle.cc_command.specs.declared.words.BadWord.{BadWord}
 use Rattle.cc_command.specs.declared.words.ReadError.{ReadError}
 use Rattle.cc_command.specs.declared.words.ReadError.TheVariants.{Bad, NoMemory as WantsMemory}
 
-module _ (set : BuildConfig) (env : EnvSeen) (look : Look) (name : List ℕ) (c : Course) where
-  -- a run that was refused, and the line behind it
-  run_refused : (run line part : List Event) (e : ErrorSeen) (ended : Ended) → part ≡ run ++ line → Halted (terms_of set env c) (refusal_error set env look name) (planned_stages set env true look name) run e c.before c.after → AnswersError e line ended → RunAnswers set env look name part ended c
-  run_refused run line part e ended cut refused (inl told) =
-      inr (inl (record { error = e; run = run; line = line; cut = cut; told = told.2; refused = refused; known = told.1; is = told.0 }))
-  run_refused run line part e ended cut refused (inr wanting) =
-      let same : part ≡ run = cut ∙ ap (λ l. run ++ l) wanting.1 ∙ append-nil run in
-      inr (inr (
-        wanting.0,
-        subst (λ (p : List Event). Partly (terms_of set env c) (planned_stages set env true look name) p c.before c.after) (sym same)
-            (halted_partly (terms_of set env c) (refusal_error set env look name) (planned_stages set env true look name) run e c.before c.after refused),
-      ))
+-- a request that was refused, and the line behind it
+pub answers_refused : (look : Look) (q : Request) (run line part : List Event) (e : ErrorSeen) (ended : Ended) (c : Course) → part ≡ run ++ line → Halted (terms_in q run c) (error_of look q run) (stages_of look q run) run e c.before c.after → AnswersError e line ended → Answers look q part ended c
+answers_refused look q run line part e ended c cut refused (inl printed) =
+    inr (inl (record { error = e; run = run; line = line; cut = cut; printed = printed.2; refused = refused; known = printed.1; is = printed.0 }))
+answers_refused look q run line part e ended c cut refused (inr wanting) =
+    let same : part ≡ run = cut ∙ ap (λ l. run ++ l) wanting.1 ∙ append-nil run in
+    inr (inr (
+      wanting.0,
+      subst (λ (p : List Event). IsHalted (terms_in q p c) (error_of look q p) (stages_of look q p) p c.before c.after) (sym same) (e, refused),
+    ))
 
-  -- the same of the parts of two calls
-  pub run_behind : (old mid new : List Event) (e : ErrorSeen) (ended : Ended) → mid ≡ old ++ since old mid → new ≡ mid ++ since mid new → Halted (terms_of set env c) (refusal_error set env look name) (planned_stages set env true look name) (since old mid) e c.before c.after → AnswersError e (since mid new) ended → RunAnswers set env look name (since old new) ended c
-  run_behind old mid new e ended f h refused told =
-      run_refused (since old mid) (since mid new) (since old new) e ended (since_since old mid new f h) refused told
+-- the variables were not listed, or memory for their snapshot was wanted
+pub uncaptured : (look : Look) (q : Request) (run : List Event) (e : ErrorSeen) (t : Terms) (x : Means) → CaptureEnds run (Err e) → Halted t (error_of look q run) (stages_of look q run) run e x x
+uncaptured look q run e t x (inl h) = halted_more t (error_of look q run) (Calls Lists ∷ []) (planned_stages q.1.config (env_in q run) true look q.0) run e x x (h t x)
+uncaptured look q run e t x (inr w) =
+    halted_among t (error_of look q run) (Calls Lists ∷ []) (planned_stages q.1.config (env_in q run) true look q.0) run e x x (w.1 t x).1 (inl w.0) (planned_open q.1.config (env_in q run) true look q.0)
 
 -- the host listed its variables
 listing_done : (t : Terms) (vars : List (List ℕ × List ℕ)) (x : Means) → Did t (Calls Lists) (Listed vars ∷ []) x x
 listing_done t vars x = (Listed vars, (refl, refl, refl))
 
-module _ (look : Look) (q : Request) (vars : List (List ℕ × List ℕ)) (c : Course) where
-  went : (t : Terms) (run : List Event) → Went t (planned_stages q.1.config (with_vars q.1.env vars) true look q.0) run c.before c.after → Went t (Calls Lists ∷ planned_stages q.1.config (with_vars q.1.env vars) true look q.0) (Listed vars ∷ run) c.before c.after
-  went t run w = (Listed vars ∷ [], run, c.before, (refl, listing_done t vars c.before, w))
+module _ (look : Look) (name : List ℕ) (before after : BuildSeen) (old mid new : List Event) (first : mid ≡ old ++ since old mid) (last : new ≡ mid ++ since mid new) (k : Captures before after (since old mid)) (total p q : Option ℕ) (same : p ≡ q) (x y : Means) (repeats : before.config.repeat_lines ≡ true) where
+  -- the build with the variables that were listed
+  taken : BuildSeen
+  taken = record before { env = with_vars before.env k.vars }
 
-  partly : (t : Terms) (run : List Event) → Partly t (planned_stages q.1.config (with_vars q.1.env vars) true look q.0) run c.before c.after → Partly t (Calls Lists ∷ planned_stages q.1.config (with_vars q.1.env vars) true look q.0) (Listed vars ∷ run) c.before c.after
-  partly t run p = inr (inr (Listed vars ∷ [], run, c.before, (refl, listing_done t vars c.before, p)))
+  listed : since old new ≡ Listed k.vars ∷ since mid new
+  listed = since_since old mid new first last ∙ ap (λ l. l ++ since mid new) k.listed
 
-  halted : (t : Terms) (refusal : Option ErrorSeen) (run : List Event) (e : ErrorSeen) → Halted t refusal (planned_stages q.1.config (with_vars q.1.env vars) true look q.0) run e c.before c.after → Halted t refusal (Calls Lists ∷ planned_stages q.1.config (with_vars q.1.env vars) true look q.0) (Listed vars ∷ run) e c.before c.after
-  halted t refusal run e h =
-      halted_then t refusal (Calls Lists ∷ []) (planned_stages q.1.config (with_vars q.1.env vars) true look q.0) (Listed vars ∷ []) run e c.before c.before c.after
-      (called t Lists (Listed vars) (Listed vars ∷ []) c.before refl refl) h
+  t : Terms
+  t = terms_for taken (course total q x y)
 
-  -- what was answered behind the listing is the answer to the request
-  pub answers_listed : (run : List Event) (ended : Ended) → RunAnswers q.1.config (with_vars q.1.env vars) look q.0 run ended c → Answers look q (Listed vars ∷ run) ended c
-  answers_listed run ended (inl well) =
-      inl (well.0, (record { vars = vars; run = run; cut = refl; built = well.1.0 }, went (terms_of q.1.config (with_vars q.1.env vars) c) run well.1.1))
-  answers_listed run ended (inr (inl r)) =
-      inr (inl (record {
-        error = r.error;
-        run = Listed vars ∷ r.run;
-        line = r.line;
-        cut = ap (λ l. Listed vars ∷ l) r.cut;
-        told = r.told;
-        refused = halted (terms_of q.1.config (with_vars q.1.env vars) c) (refusal_error q.1.config (with_vars q.1.env vars) look q.0) r.run r.error r.refused;
-        known = r.known;
-        is = r.is;
-      }))
-  answers_listed run ended (inr (inr wanting)) = inr (inr (wanting.0, partly (terms_of q.1.config (with_vars q.1.env vars) c) run wanting.1))
+  -- the run is that of the listed variables, with the patience that the host had before
+  as_taken : {T : Type 0} (r : Result T ErrorSeen) → Promises after name r look (since mid new) (course total p x y) → Promises taken name r look (since mid new) (course total q x y)
+  as_taken r h =
+      subst (λ (patience : Option ℕ). Promises taken name r look (since mid new) (course total patience x y)) same
+      (subst (λ (b : BuildSeen). Promises b name r look (since mid new) (course total p x y)) k.is h)
 
--- the patience of a host stays
-pub patient_answers : (set : BuildConfig) (env : EnvSeen) (look : Look) (name : List ℕ) (part : List Event) (ended : Ended) (total p q : Option ℕ) (x y : Means) → p ≡ q → RunAnswers set env look name part ended (course total p x y) → RunAnswers set env look name part ended (course total q x y)
-patient_answers set env look name part ended total p q x y same a = subst (λ (patience : Option ℕ). RunAnswers set env look name part ended (course total patience x y)) same a
+  built_taken : Built (terms_for after (course total p x y)) after.config after.env look name (since mid new) → Built t taken.config taken.env look name (since mid new)
+  built_taken h =
+      subst (λ (patience : Option ℕ). Built (terms_for taken (course total patience x y)) taken.config taken.env look name (since mid new)) same
+      (subst (λ (b : BuildSeen). Built (terms_for b (course total p x y)) b.config b.env look name (since mid new)) k.is h)
 
--- the same of the parts of two calls
-pub answers_captured : (look : Look) (name : List ℕ) (before after : BuildSeen) (old mid new : List Event) (ended : Ended) (c : Course) → mid ≡ old ++ since old mid → new ≡ mid ++ since mid new → Captures before after (since old mid) → RunAnswers after.config after.env look name (since mid new) ended c → Answers look (name, before) (since old new) ended c
-answers_captured look name before after old mid new ended c f h k a =
-    let part : since old new ≡ Listed k.vars ∷ since mid new = since_since old mid new f h ∙ ap (λ l. l ++ since mid new) k.listed in
-    let run : RunAnswers before.config (with_vars before.env k.vars) look name (since mid new) ended c = subst (λ (b : BuildSeen). RunAnswers b.config b.env look name (since mid new) ended c) k.is a in
-    subst (λ (p : List Event). Answers look (name, before) p ended c) (sym part) (answers_listed look (name, before) k.vars c (since mid new) ended run)
+  -- the library was built
+  pub answers_built : (ended : Ended) → ended ≡ ended_well → Built (terms_for after (course total p x y)) after.config after.env look name (since mid new) → Promises {T = Unit {0}} after name (Ok tt) look (since mid new) (course total p x y) → Answers look (name, before) (since old new) ended (course total q x y)
+  answers_built ended is built h =
+      let promises = as_taken {T = Unit {0}} (Ok tt) h in
+      let run : Went t (planned_stages before.config taken.env true look name) (since mid new) x y = went_same before.config taken.env promises.told look name t (since mid new) x y repeats promises.outcome.1 in
+      let went : Went t (Calls Lists ∷ planned_stages before.config taken.env true look name) (Listed k.vars ∷ since mid new) x y = (Listed k.vars ∷ [], since mid new, x, (refl, listing_done t k.vars x, run)) in
+      subst (λ (part : List Event). Answers look (name, before) part ended (course total q x y)) (sym listed)
+      (inl (is, (record { vars = k.vars; run = since mid new; cut = refl; built = built_taken built }, went)))
 
--- the variables were not listed, or memory for their snapshot was wanted, and the line is behind that
-capture_refused : (look : Look) (q : Request) (run line part : List Event) (e : ErrorSeen) (ended : Ended) (c : Course) → part ≡ run ++ line → ((t : Terms) → Halted t None (Calls Lists ∷ []) run e c.before c.after) → AnswersError e line ended → Answers look q part ended c
-capture_refused look q run line part e ended c cut r (inl told) =
-    inr (inl (record { error = e; run = run; line = line; cut = cut; told = told.2; refused = halted_more (terms_in q run c) (error_of look q run) (Calls Lists ∷ []) _ run e c.before c.after (r (terms_in q run c)); known = told.1; is = told.0 }))
-capture_refused look q run line part e ended c cut r (inr wanting) =
-    let same : part ≡ run = cut ∙ ap (λ l. run ++ l) wanting.1 ∙ append-nil run in
-    inr (inr (
-      wanting.0,
-      subst (λ (p : List Event). Partly (terms_in q p c) (stages_of look q p) p c.before c.after) (sym same)
-          (halted_partly (terms_in q run c) (error_of look q run) (stages_of look q run) run e c.before c.after (halted_more (terms_in q run c) (error_of look q run) (Calls Lists ∷ []) _ run e c.before c.after (r (terms_in q run c)))),
-    ))
-
-pub answers_uncaptured : (look : Look) (q : Request) (old mid new : List Event) (e : ErrorSeen) (ended : Ended) (c : Course) → mid ≡ old ++ since old mid → new ≡ mid ++ since mid new → ((t : Terms) → Halted t None (Calls Lists ∷ []) (since old mid) e c.before c.after) → AnswersError e (since mid new) ended → Answers look q (since old new) ended c
-answers_uncaptured look q old mid new e ended c f h r told =
-    capture_refused look q (since old mid) (since mid new) (since old new) e ended c (since_since old mid new f h) r told
+  -- it was refused behind the listing
+  pub halted_listed : (e : ErrorSeen) → Promises {T = Unit {0}} after name (Err e) look (since mid new) (course total p x y) → Halted (terms_in (name, before) (since old new) (course total q x y)) (error_of look (name, before) (since old new)) (stages_of look (name, before) (since old new)) (since old new) e x y
+  halted_listed e h =
+      let promises = as_taken {T = Unit {0}} (Err e) h in
+      let refusal = refusal_error before.config taken.env look name in
+      let run : Halted t refusal (planned_stages before.config taken.env true look name) (since mid new) e x y = halted_same before.config taken.env promises.told look name t refusal (since mid new) e x y repeats promises.outcome in
+      subst (λ (part : List Event). Halted (terms_in (name, before) part (course total q x y)) (error_of look (name, before) part) (stages_of look (name, before) part) part e x y) (sym listed)
+      (halted_then t refusal (Calls Lists ∷ []) (planned_stages before.config taken.env true look name) (Listed k.vars ∷ []) (since mid new) e x x y (called t Lists (Listed k.vars) (Listed k.vars ∷ []) x refl refl) run)
 
 -- the same request, by its name
 pub answers_named : (look : Look) (a b : List ℕ) (build : BuildSeen) (part : List Event) (ended : Ended) (c : Course) → a ≡ b → Answers look (a, build) part ended c → Answers look (b, build) part ended c
@@ -124,7 +109,13 @@ bad_read (Err found) e bad is (inr refused) = let same : Some (Bad found) ≡ So
 
 -- memory was wanted before anything was done
 pub answers_wanting : (look : Look) (words : Result Request BadWord) (log : List Event) (ended : Ended) (c : Course) → ended ≡ ended_wanting → c.after ≡ c.before → AnswersWords look words (since log log) ended c
-answers_wanting look (Ok q) log ended c is same = inr (inr (is, inl (part_is log log [] (sym (append-nil log)), same)))
+answers_wanting look (Ok q) log ended c is same =
+    let none : since log log ≡ [] = part_is log log [] (sym (append-nil log)) in
+    inr (inr (
+      is,
+      subst (λ (y : Means). IsHalted (terms_in q (since log log) c) (error_of look q (since log log)) (stages_of look q (since log log)) (since log log) c.before y) (sym same)
+          (no_memory, halted_none (terms_in q (since log log) c) (error_of look q (since log log)) (stages_of look q (since log log)) (since log log) no_memory c.before none (inl refl) (λ empty. absurd (cc))),
+    ))
 answers_wanting look (Err bad) log ended c is same = (inr (is, part_is log log [] (sym (append-nil log))), same)
 
 -- what a call asks behind the listing of the variables, it asks for the request

@@ -7,29 +7,29 @@ use Rattle.cc_build.specs.Values.{lacks_equals, truth_text}
 use Prim.Native.String.{String}
 use Rattle.std.proofs.lemmas.Slice.Eq.{bytes_eq-Decides}
 use Rattle.cc_command.specs.Read.{is, cause_unless, is_number, is_truth, key_cause, is_text_key, is_item_key, is_choice_key, is_switch_key}
-use Rattle.cc_command.specs.Sets.{Sets}
+use Rattle.cc_command.specs.SetsKey.{SetsKey}
 use Rattle.cc_command.specs.Step.{with_key}
 use Rattle.cc_command.specs.declared.words.WordCause.{WordCause}
 use Rattle.cc_command.specs.declared.words.WordCause.TheVariants.{UnknownKey, BadValue}
 
 -- what was done for a key that is this one
-pub sets_key : (old new : BuildSeen) (key is value : List ℕ) (cause : Option WordCause) → key ≡ is → Sets old new is value cause → Sets old new key value cause
-sets_key old new key is value cause e s = subst (λ (k : List ℕ). Sets old new k value cause) (sym e) s
+pub sets_key : (old new : BuildSeen) (key is value : List ℕ) (cause : Option WordCause) → key ≡ is → SetsKey old new is value cause → SetsKey old new key value cause
+sets_key old new key is value cause e s = subst (λ (k : List ℕ). SetsKey old new k value cause) (sym e) s
 
 -- a setter refuses nothing but for memory
-pub set_done : {T E F : Type 0} (old new : BuildSeen) (key is value : List ℕ) (answer : Result T E) (result : Result (Option WordCause) F) → key ≡ is → key_cause is value ≡ None → MatchResult answer (λ _. result ≡ Ok None) (λ _. IsErr result) → OnOk answer (new ≡ with_key old is value) → IfOk result (Sets old new key value)
+pub set_done : {T E F : Type 0} (old new : BuildSeen) (key is value : List ℕ) (answer : Result T E) (result : Result (Option WordCause) F) → key ≡ is → key_cause is value ≡ None → MatchResult answer (λ _. result ≡ Ok None) (λ _. IsErr result) → OnOk answer (new ≡ with_key old is value) → IfOk result (SetsKey old new key value)
 set_done old new key is value (Ok x) result e fine is_set done =
-    subst (λ r. IfOk r (Sets old new key value)) (sym is_set) (sets_key old new key is value None e (sym fine, λ _. done))
+    subst (λ r. IfOk r (SetsKey old new key value)) (sym is_set) (sets_key old new key is value None e (sym fine, λ _. done))
 set_done old new key is value (Err x) (Ok cause) e fine is_set done = absurd (cc)
 set_done old new key is value (Err x) (Err y) e fine is_set done = tt
 
 -- what a call for one key did, for a key that is that one
-pub sets_on : {F : Type 0} (old new : BuildSeen) (key is value : List ℕ) (result : Result (Option WordCause) F) → key ≡ is → IfOk result (Sets old new is value) → IfOk result (Sets old new key value)
+pub sets_on : {F : Type 0} (old new : BuildSeen) (key is value : List ℕ) (result : Result (Option WordCause) F) → key ≡ is → IfOk result (SetsKey old new is value) → IfOk result (SetsKey old new key value)
 sets_on old new key is value (Ok cause) e s = sets_key old new key is value cause e s
 sets_on old new key is value (Err x) e s = tt
 
 -- the setter of the level refuses what is no number
-pub set_level : {F : Type 0} (old new : BuildSeen) (key value : List ℕ) (result : Result (Option WordCause) F) → key ≡ codes "opt_level" → IfOk result (λ cause. (cause ≡ cause_unless (is_number value)) × (cause ≡ None → new ≡ record old { config = record old.config { opt_level = Some value } })) → IfOk result (Sets old new key value)
+pub set_level : {F : Type 0} (old new : BuildSeen) (key value : List ℕ) (result : Result (Option WordCause) F) → key ≡ codes "opt_level" → IfOk result (λ cause. (cause ≡ cause_unless (is_number value)) × (cause ≡ None → new ≡ record old { config = record old.config { opt_level = Some value } })) → IfOk result (SetsKey old new key value)
 unfolding key_cause is_text_key is_item_key is_choice_key is_switch_key
 set_level old new key value (Ok cause) e h = sets_key old new key (codes "opt_level") value cause e h
 set_level old new key value (Err x) e h = tt
@@ -63,7 +63,7 @@ unfolding is_switch_key
 no_switch_key key n1 n2 n3 n4 n5 n6 n7 n8 n9 n10 = rw (is_not key "no_default_flags" n1, is_not key "reproducible_codeview" n2, is_not key "cpp" n3, is_not key "warnings_into_errors" n4, is_not key "cargo_warnings" n5, is_not key "cargo_output" n6, is_not key "emit_rerun_if_env_changed" n7, is_not key "prefer_clang_cl_over_msvc" n8, is_not key "inherit_rustflags" n9, is_not key "inherit_trim_paths" n10) refl
 
 -- a key of no kind is unknown
-pub unknown_key : (old : BuildSeen) (key value : List ℕ) → is_text_key key ≡ false → is_item_key key ≡ false → is_choice_key key ≡ false → is_switch_key key ≡ false → (key ≡ codes "opt_level" → ⊥) → (key ≡ codes "debug" → ⊥) → (key ≡ codes "env" → ⊥) → (key ≡ codes "remap_source_path" → ⊥) → Sets old old key value (Some UnknownKey)
+pub unknown_key : (old : BuildSeen) (key value : List ℕ) → is_text_key key ≡ false → is_item_key key ≡ false → is_choice_key key ≡ false → is_switch_key key ≡ false → (key ≡ codes "opt_level" → ⊥) → (key ≡ codes "debug" → ⊥) → (key ≡ codes "env" → ⊥) → (key ≡ codes "remap_source_path" → ⊥) → SetsKey old old key value (Some UnknownKey)
 unfolding key_cause
 unknown_key old key value text item choice switch n1 n2 n3 n4 =
     (rw (text, item, choice, switch, is_not key "opt_level" n1, is_not key "debug" n2, is_not key "env" n3, is_not key "remap_source_path" n4) refl, λ e. absurd (cc))
@@ -81,26 +81,26 @@ truth_key key value text item truth =
     rw (text, item, on) refl
 
 -- the setter of a variable, of a value that has one
-pub set_pair : {T E F : Type 0} (old new : BuildSeen) (value : List ℕ) (pair : List ℕ × List ℕ) (answer : Result T E) (result : Result (Option WordCause) F) → key_and_value value ≡ Some pair → MatchResult answer (λ _. result ≡ Ok None) (λ _. IsErr result) → OnOk answer (new ≡ record old { env = record old.env { explicit = old.env.explicit ++ pair ∷ [] } }) → IfOk result (Sets old new (codes "env") value)
+pub set_pair : {T E F : Type 0} (old new : BuildSeen) (value : List ℕ) (pair : List ℕ × List ℕ) (answer : Result T E) (result : Result (Option WordCause) F) → key_and_value value ≡ Some pair → MatchResult answer (λ _. result ≡ Ok None) (λ _. IsErr result) → OnOk answer (new ≡ record old { env = record old.env { explicit = old.env.explicit ++ pair ∷ [] } }) → IfOk result (SetsKey old new (codes "env") value)
 unfolding key_cause is_text_key is_item_key is_choice_key is_switch_key
 set_pair old new value pair answer result e m done =
     set_done old new (codes "env") (codes "env") value answer result refl (rw e refl) m
     (subst (λ (p : List ℕ × List ℕ). OnOk answer (new ≡ record old { env = record old.env { explicit = old.env.explicit ++ p ∷ [] } })) (sym (ap (λ k. unwrap_or k (value, [])) e)) done)
 
 -- and of one that has none
-pub no_pair : (old : BuildSeen) (value : List ℕ) → key_and_value value ≡ None → Sets old old (codes "env") value (Some BadValue)
+pub no_pair : (old : BuildSeen) (value : List ℕ) → key_and_value value ≡ None → SetsKey old old (codes "env") value (Some BadValue)
 unfolding key_cause is_text_key is_item_key is_choice_key is_switch_key
 no_pair old value e = (rw e refl, λ h. absurd (cc))
 
 -- the setter of a folder that is told as another, of a value that has both
-pub set_map : {T E F : Type 0} (old new : BuildSeen) (value : List ℕ) (pair : List ℕ × List ℕ) (answer : Result T E) (result : Result (Option WordCause) F) → key_and_value value ≡ Some pair → MatchResult answer (λ _. result ≡ Ok None) (λ _. IsErr result) → OnOk answer (new ≡ record old { config = record old.config { remap_source_paths = old.config.remap_source_paths ++ pair ∷ [] } }) → IfOk result (Sets old new (codes "remap_source_path") value)
+pub set_map : {T E F : Type 0} (old new : BuildSeen) (value : List ℕ) (pair : List ℕ × List ℕ) (answer : Result T E) (result : Result (Option WordCause) F) → key_and_value value ≡ Some pair → MatchResult answer (λ _. result ≡ Ok None) (λ _. IsErr result) → OnOk answer (new ≡ record old { config = record old.config { remap_source_paths = old.config.remap_source_paths ++ pair ∷ [] } }) → IfOk result (SetsKey old new (codes "remap_source_path") value)
 unfolding key_cause is_text_key is_item_key is_choice_key is_switch_key
 set_map old new value pair answer result e m done =
     set_done old new (codes "remap_source_path") (codes "remap_source_path") value answer result refl (rw e refl) m
     (subst (λ (p : List ℕ × List ℕ). OnOk answer (new ≡ record old { config = record old.config { remap_source_paths = old.config.remap_source_paths ++ p ∷ [] } })) (sym (ap (λ k. unwrap_or k (value, [])) e)) done)
 
 -- and of one that has not
-pub no_map : (old : BuildSeen) (value : List ℕ) → key_and_value value ≡ None → Sets old old (codes "remap_source_path") value (Some BadValue)
+pub no_map : (old : BuildSeen) (value : List ℕ) → key_and_value value ≡ None → SetsKey old old (codes "remap_source_path") value (Some BadValue)
 unfolding key_cause is_text_key is_item_key is_choice_key is_switch_key
 no_map old value e = (rw e refl, λ h. absurd (cc))
 
@@ -129,13 +129,13 @@ text_of true value e h = sym ((bytes_eq-Decides value (codes "true")).0 (sym e))
 text_of false value e h = sym ((bytes_eq-Decides value (codes "false")).0 (rw (sym e) at h))
 
 -- the setter of debug information, of a truth value
-pub set_debug : {T E F : Type 0} (old new : BuildSeen) (value : List ℕ) (on : Bool) (answer : Result T E) (result : Result (Option WordCause) F) → is_truth value ≡ true → on ≡ is value "true" → MatchResult answer (λ _. result ≡ Ok None) (λ _. IsErr result) → OnOk answer (new ≡ record old { config = record old.config { debug = Some (truth_text on) } }) → IfOk result (Sets old new (codes "debug") value)
+pub set_debug : {T E F : Type 0} (old new : BuildSeen) (value : List ℕ) (on : Bool) (answer : Result T E) (result : Result (Option WordCause) F) → is_truth value ≡ true → on ≡ is value "true" → MatchResult answer (λ _. result ≡ Ok None) (λ _. IsErr result) → OnOk answer (new ≡ record old { config = record old.config { debug = Some (truth_text on) } }) → IfOk result (SetsKey old new (codes "debug") value)
 unfolding key_cause is_text_key is_item_key is_choice_key is_switch_key
 set_debug old new value on answer result truth is m done =
     set_done old new (codes "debug") (codes "debug") value answer result refl (rw truth refl) m
     (subst (λ (t : List ℕ). OnOk answer (new ≡ record old { config = record old.config { debug = Some t } })) (text_of on value is truth) done)
 
 -- and of another value
-pub no_debug : (old : BuildSeen) (value : List ℕ) → is_truth value ≡ false → Sets old old (codes "debug") value (Some BadValue)
+pub no_debug : (old : BuildSeen) (value : List ℕ) → is_truth value ≡ false → SetsKey old old (codes "debug") value (Some BadValue)
 unfolding key_cause is_text_key is_item_key is_choice_key is_switch_key
 no_debug old value e = (rw e refl, λ h. absurd (cc))

@@ -1,6 +1,6 @@
 -- What follows from an answer.
 use Rattle.std.proofs.Common.{◌≡◌, ◌⊎◌, inl, inr, ℕ, ◌+◌, ◌<◌, List, [], ◌∷◌, ◌++◌, length, map, Bool, true, false, not, ◌||◌, None, Some, Result, Ok, Err, refl, sym, ◌∙◌, ap, subst, append-nil, arith}
-use Rattle.std.specs.Prelude.{◌≤◌, ◌*◌}
+use Rattle.std.specs.Prelude.{◌≤◌, ◌*◌, IfOk}
 use Rattle.std.specs.List.{list_any}
 use Rattle.std.proofs.Math.Nat.{mul-le-mul_left}
 use Rattle.std.proofs.lemmas.Grind.{flat_map-append}
@@ -25,19 +25,20 @@ use Rattle.cc_run.specs.Run.{Run, run_from, nothing}
 use Rattle.cc_run.proofs.Runs.{run_from-append}
 use Rattle.cc_build.specs.Captured.{with_vars}
 use Rattle.cc_build.specs.Error.{ErrorSeen, no_memory}
-use Rattle.cc_build.specs.Failed.{Failed, HasFault, is_fault}
+use Rattle.cc_build.specs.Course.{Course}
+use Rattle.cc_build.specs.Failed.{Failed, HasFault, is_fault, ran_badly}
 use Rattle.cc_build.specs.Order.{is_archive_event}
 use Rattle.cc_build.specs.Refusal.{refusal_error}
 use Rattle.cc_build.specs.Stage.{Stage, commands_in, folder_stages, compile_stages, planned_stages}
 use Rattle.cc_build.specs.Stage.Stage.{Asks, Calls}
 use Rattle.cc_build.specs.Went.{Terms, Means, Partly, Goes}
 use Rattle.cc_build.specs.declared.error.ErrorKind.TheVariants.{TurnsSpent}
-use Rattle.cc_build.proofs.Going.{went_one}
 use Rattle.cc_build.proofs.OrderLaws.{NoArchive, planned, archives_behind, no_source_archives, went_partly, halted_partly}
-use Rattle.cc_build.proofs.StopLaws.{HasCause, went_faultless, stop_faults, planned_plain, halted_cause}
+use Rattle.cc_build.proofs.PromiseLaws.{none_inside, fault_ends}
+use Rattle.cc_build.proofs.StopLaws.{HasCause, planned_plain, halted_cause}
 use Rattle.cc_build.proofs.TurnLaws.{halted_turns, halted_bound}
-use Rattle.cc_command.specs.Answer.{Answers, AnswersWords, BuiltBy, Refused, Course, Tells, first_listing, heard, env_in, terms_of, terms_in, stages_of, error_of, error_line, word_line, is_wanting, ended_well, ended_refused, ended_wanting}
-use Rattle.cc_command.specs.Promises.{Headline, TellsLast, IsLine, Begun, IsBegun, ArchivesBehind, CompilesFirst, EndsAlone, FaultsLast, EndsSpent, IsComplete, IsEnough}
+use Rattle.cc_command.specs.Answer.{Answers, AnswersWords, BuiltBy, Refused, PrintsLine, first_listing, heard, env_in, terms_of, terms_in, stages_of, error_of, error_line, word_line, is_wanting, ended_well, ended_refused, ended_wanting}
+use Rattle.cc_command.specs.Promises.{PrintsLast, IsLine, Begun, IsBegun, ArchivesBehind, CompilesFirst, EndsAlone, FaultsLast, EndsSpent, IsComplete, IsEnough}
 use Rattle.cc_command.specs.Read.{Request}
 use Rattle.cc_command.specs.declared.top.Ended.{Ended}
 use Rattle.cc_command.specs.declared.words.BadWord.{BadWord}
@@ -50,45 +51,47 @@ built_of look q part ended c (inl well) zero_is = well.1.0
 built_of look q part ended c (inr (inl r)) zero_is = let s : ended.status ≡ 1 = ap (λ (x : Ended). x.status) r.is in absurd (cc)
 built_of look q part ended c (inr (inr wanting)) zero_is = let s : ended.status ≡ 3 = ap (λ (x : Ended). x.status) wanting.0 in absurd (cc)
 
-pub headline : (look : Look) (words : Result Request BadWord) (part : List Event) (ended : Ended) (c : Course) → AnswersWords look words part ended c → Headline look words part ended c
+pub headline : (look : Look) (words : Result Request BadWord) (part : List Event) (ended : Ended) (c : Course) → AnswersWords look words part ended c → IfOk words (λ request. ended.status ≡ 0 → BuiltBy look request part c)
 headline look (Ok q) part ended c a = built_of look q part ended c a
 headline look (Err bad) part ended c a = tt
 
--- ---- the line that tells it is last
+-- ---- the line of it is last
 
-pub tells_last : (look : Look) (words : Result Request BadWord) (part : List Event) (ended : Ended) (c : Course) → AnswersWords look words part ended c → TellsLast part ended
-tells_last look (Ok q) part ended c (inl well) = inl well.0
-tells_last look (Ok q) part ended c (inr (inl r)) = inr (inl (r.error, (r.is, record { before = r.run; end = r.line; cut = r.cut; told = r.told })))
-tells_last look (Ok q) part ended c (inr (inr wanting)) = inr (inr (inr wanting.0))
-tells_last look (Err bad) part ended c (inl told, same) = inr (inr (inl (bad, (told.0, record { before = []; end = part; cut = refl; told = told.1 }))))
-tells_last look (Err bad) part ended c (inr wanting, same) = inr (inr (inr wanting.0))
+pub prints_last : (look : Look) (words : Result Request BadWord) (part : List Event) (ended : Ended) (c : Course) → AnswersWords look words part ended c → PrintsLast part ended
+prints_last look (Ok q) part ended c (inl well) = inl well.0
+prints_last look (Ok q) part ended c (inr (inl r)) = inr (inl (r.error, (r.is, record { before = r.run; end = r.line; cut = r.cut; printed = r.printed })))
+prints_last look (Ok q) part ended c (inr (inr wanting)) = inr (inr (inr wanting.0))
+prints_last look (Err bad) part ended c (inl printed, same) = inr (inr (inl (bad, (printed.0, record { before = []; end = part; cut = refl; printed = printed.1 }))))
+prints_last look (Err bad) part ended c (inr wanting, same) = inr (inr (inr wanting.0))
 
-pub line_of : (line : List ℕ) (part : List Event) → Tells line part → IsLine part
+pub line_of : (line : List ℕ) (part : List Event) → PrintsLine line part → IsLine part
 line_of line part (inl printed) = inr (inl (line, printed))
 line_of line part (inr faulted) = inr (inr faulted)
 
 -- ---- the first stages were done
 
 begun_of : (look : Look) (q : Request) (part : List Event) (ended : Ended) (c : Course) → Answers look q part ended c → Begun look q part c
-begun_of look q part ended c (inl well) = record { run = part; line = []; cut = sym (append-nil part); partly = went_partly (terms_in q part c) (stages_of look q part) part c.before c.after well.1.1; told = inl refl }
+begun_of look q part ended c (inl well) = record { run = part; line = []; cut = sym (append-nil part); partly = went_partly (terms_in q part c) (stages_of look q part) part c.before c.after well.1.1; printed = inl refl }
 begun_of look q part ended c (inr (inl r)) = record {
   run = r.run;
   line = r.line;
   cut = r.cut;
   partly = halted_partly (terms_in q r.run c) (error_of look q r.run) (stages_of look q r.run) r.run r.error c.before c.after r.refused;
-  told = line_of (error_line r.error) r.line r.told;
+  printed = line_of (error_line r.error) r.line r.printed;
 }
-begun_of look q part ended c (inr (inr wanting)) = record { run = part; line = []; cut = sym (append-nil part); partly = wanting.1; told = inl refl }
+begun_of look q part ended c (inr (inr wanting)) = record {
+  run = part;
+  line = [];
+  cut = sym (append-nil part);
+  partly = halted_partly (terms_in q part c) (error_of look q part) (stages_of look q part) part wanting.1.0 c.before c.after wanting.1.1;
+  printed = inl refl;
+}
 
 pub is_begun : (look : Look) (words : Result Request BadWord) (part : List Event) (ended : Ended) (c : Course) → AnswersWords look words part ended c → IsBegun look words part c
 is_begun look (Ok q) part ended c a = begun_of look q part ended c a
 is_begun look (Err bad) part ended c a = tt
 
 -- ---- the line behind a run
-
-none_inside : (before after : List Event) (event : Event) → [] ≡ before ++ event ∷ after → ⊥
-none_inside [] after event h = cc
-none_inside (b ∷ before) after event h = cc
 
 -- an event of a list with one more behind it is the last one, or stands before it
 module _ (event x : Event) (after : List Event) where
@@ -122,8 +125,8 @@ no_listing line (inr (inr faulted)) = ap listings faulted.1
 
 -- a line behind a run lists no variables
 pub heard_same : (part run line : List Event) → part ≡ run ++ line → IsLine line → heard part ≡ heard run
-heard_same part run line cut told =
-    ap first_listing (ap listings cut ∙ listings_then run line ∙ ap (λ l. listings run ++ l) (no_listing line told) ∙ append-nil (listings run))
+heard_same part run line cut printed =
+    ap first_listing (ap listings cut ∙ listings_then run line ∙ ap (λ l. listings run ++ l) (no_listing line printed) ∙ append-nil (listings run))
 
 no_turn : (line : List Event) → IsLine line → turns line ≡ 0
 no_turn line (inl none) = ap turns none
@@ -132,9 +135,9 @@ no_turn line (inr (inr faulted)) = ap turns faulted.1
 
 -- nor is a turn made
 turns_same : (part run line : List Event) → part ≡ run ++ line → IsLine line → turns part ≡ turns run
-turns_same part run line cut told =
+turns_same part run line cut printed =
     let all : turns part ≡ turns run + turns line = ap turns cut ∙ sum_by-append turns_of run line in
-    let none : turns line ≡ 0 = no_turn line told in
+    let none : turns line ≡ 0 = no_turn line printed in
     omega arith
 
 pub no_child : (r : Run) (line : List Event) → IsLine line → run_from r line ≡ r
@@ -144,7 +147,7 @@ no_child r line (inr (inr faulted)) = ap (run_from r) faulted.1
 
 -- nor does it change what became of the commands
 pub run_same : (part run line : List Event) → part ≡ run ++ line → IsLine line → run_from nothing part ≡ run_from nothing run
-run_same part run line cut told = ap (run_from nothing) cut ∙ run_from-append nothing run line ∙ no_child (run_from nothing run) line told
+run_same part run line cut printed = ap (run_from nothing) cut ∙ run_from-append nothing run line ∙ no_child (run_from nothing run) line printed
 
 -- ---- the sources are compiled first
 
@@ -182,8 +185,8 @@ order_in look q run c p =
 order_of : (look : Look) (q : Request) (part : List Event) (c : Course) → Begun look q part c → ArchivesBehind look q part c
 order_of look q part c b before after event is archive =
     let order : Behind (terms_in q part c) (first_stages look q (heard part)) part =
-    subst (λ (vars : List (List ℕ × List ℕ)). Behind (terms_of q.1.config (with_vars q.1.env vars) c) (first_stages look q vars) part) (sym (heard_same part b.run b.line b.cut b.told))
-    (still_behind (terms_in q b.run c) (first_stages look q (heard b.run)) part b.run b.line b.cut b.told (order_in look q b.run c b.partly)) in
+    subst (λ (vars : List (List ℕ × List ℕ)). Behind (terms_of q.1.config (with_vars q.1.env vars) c) (first_stages look q vars) part) (sym (heard_same part b.run b.line b.cut b.printed))
+    (still_behind (terms_in q b.run c) (first_stages look q (heard b.run)) part b.run b.line b.cut b.printed (order_in look q b.run c b.partly)) in
     let found = order before after event is archive in
     record { runs = found.0; rest = found.1; cut = found.2.0; compiled = found.2.1 }
 
@@ -193,39 +196,12 @@ compiles_first look (Err bad) part ended c a = tt
 
 -- ---- a fault is last
 
-no_clash : (a b : Bool) → (a || b) ≡ false → a ≡ true → ⊥
-no_clash true b none is = cc
-no_clash false b none is = cc
-
-or_second : (a b : Bool) → (a || b) ≡ false → b ≡ false
-or_second true b none = absurd (cc)
-or_second false b none = none
-
--- a fault of a list stands behind its first events, of which none is one
-beyond : (front rest before after : List Event) (event : Event) → list_any is_fault front ≡ false → is_fault event ≡ true → front ++ rest ≡ before ++ event ∷ after → (more : List Event) × (rest ≡ more ++ event ∷ after)
-beyond [] rest before after event none fault e = (before, e)
-beyond (x ∷ front) rest [] after event none fault e =
-    let same : x ≡ event = cc in
-    absurd (no_clash (is_fault x) (list_any is_fault front) none (ap is_fault same ∙ fault))
-beyond (x ∷ front) rest (b ∷ before) after event none fault e =
-    let others : front ++ rest ≡ before ++ event ∷ after = cc in
-    beyond front rest before after event (or_second (is_fault x) (list_any is_fault front) none) fault others
-
--- behind a fault of a run children are abandoned, and nothing else is done
-fault_ends : (t : Terms) (stages : List Stage) (run : List Event) (x z : Means) (before after : List Event) (call : HostCall) (why : Why) → is_probing call ≡ false → run ≡ before ++ Fault call why ∷ after → Partly t stages run x z → (ids : List ℕ) × (after ≡ map Abandoned ids)
-fault_ends t [] run x z before after call why real is p = absurd (none_inside before after (Fault call why) (sym p.0 ∙ is))
-fault_ends t (s ∷ stages) run x z before after call why real is (inl p) = absurd (none_inside before after (Fault call why) (sym p.0 ∙ is))
-fault_ends t (s ∷ stages) run x z before after call why real is (inr (inl stop)) = stop_faults t s run stop.0 x z stop.1 before after call why real is
-fault_ends t (s ∷ stages) run x z before after call why real is (inr (inr d)) =
-    let found = beyond d.0 d.1 before after (Fault call why) (went_faultless t (s ∷ []) d.0 x d.2 (went_one t s d.0 x d.2 d.3.1)) (ap not real) (sym d.3.0 ∙ is) in
-    fault_ends t stages d.1 d.2 z found.0 after call why real found.1 d.3.2
-
 -- children that were abandoned behind a fault, and then a line
 line_behind : (ids : List ℕ) (rest after : List Event) (x : Event) → rest ≡ map Abandoned ids → after ≡ rest ++ x ∷ [] → IsLine (x ∷ []) → EndsAlone after
 line_behind ids rest after x ends is line = (ids, x ∷ [], (is ∙ ap (λ l. l ++ x ∷ []) ends, line))
 
 faults_behind : (look : Look) (q : Request) (part : List Event) (c : Course) → Begun look q part c → FaultsLast part
-faults_behind look q part c b before after call why real is = by_line b.told
+faults_behind look q part c b before after call why real is = by_line b.printed
   where
     in_it : (rest : List Event) → b.run ≡ before ++ Fault call why ∷ rest → (ids : List ℕ) × (rest ≡ map Abandoned ids)
     in_it rest e = fault_ends (terms_in q b.run c) (stages_of look q b.run) b.run c.before c.after before rest call why real e b.partly
@@ -271,34 +247,35 @@ or_first : (a b d : Bool) → (b ≡ true → d ≡ true) → (a || b) ≡ true 
 or_first true b d h is = refl
 or_first false b d h is = h is
 
--- a fault of a list is one of a longer list
-fault_before : (a b : List Event) → list_any is_fault a ≡ true → list_any is_fault (a ++ b) ≡ true
-fault_before [] b h = absurd (cc)
-fault_before (x ∷ a) b h = or_first (is_fault x) (list_any is_fault a) (list_any is_fault (a ++ b)) (fault_before a b) h
+-- an event of a list is one of a longer list
+any_before : (f : Event → Bool) (a b : List Event) → list_any f a ≡ true → list_any f (a ++ b) ≡ true
+any_before f [] b h = absurd (cc)
+any_before f (x ∷ a) b h = or_first (f x) (list_any f a) (list_any f (a ++ b)) (any_before f a b) h
 
 valid_in : (look : Look) (q : Request) (part : List Event) (ended : Ended) (c : Course) (r : Refused look q part ended c) → Valid q.1.config (env_in q part) look q.0 → Valid q.1.config (env_in q r.run) look q.0
 valid_in look q part ended c r valid =
-    subst (λ (vars : List (List ℕ × List ℕ)). Valid q.1.config (with_vars q.1.env vars) look q.0) (heard_same part r.run r.line r.cut (line_of (error_line r.error) r.line r.told)) valid
+    subst (λ (vars : List (List ℕ × List ℕ)). Valid q.1.config (with_vars q.1.env vars) look q.0) (heard_same part r.run r.line r.cut (line_of (error_line r.error) r.line r.printed)) valid
 
 known_memory : (e : ErrorSeen) → is_wanting e.kind ≡ false → e ≡ no_memory → ⊥
 known_memory e known memory = let t : true ≡ false = sym (ap (λ (x : ErrorSeen). is_wanting x.kind) memory) ∙ known in cc
 
 module _ (look : Look) (q : Request) (part : List Event) (ended : Ended) (c : Course) (r : Refused look q part ended c) (valid : Valid q.1.config (env_in q r.run) look q.0) (nothing_failed : Failed part → ⊥) (no_fault : HasFault part → ⊥) (none_rose : Rose c.before.faults c.after.faults → ⊥) where
-  told : IsLine r.line
-  told = line_of (error_line r.error) r.line r.told
+  printed : IsLine r.line
+  printed = line_of (error_line r.error) r.line r.printed
 
   -- what the run has, the part with its line has
   fault_in : HasFault r.run → HasFault part
-  fault_in h = ap (list_any is_fault) r.cut ∙ fault_before r.run r.line h
+  fault_in h = ap (list_any is_fault) r.cut ∙ any_before is_fault r.run r.line h
 
   failed_in : Failed r.run → Failed part
   failed_in (inl some) = inl (λ none. some (front_empty (missing r.run) (missing r.line) (sym (flat_map-append missing_of r.run r.line) ∙ sym (ap missing r.cut) ∙ none)))
-  failed_in (inr some) = inr (λ none. some (sym (ap (λ (s : Run). s.failed) (run_same part r.run r.line r.cut told)) ∙ none))
+  failed_in (inr (inl some)) = inr (inl (λ none. some (sym (ap (λ (s : Run). s.failed) (run_same part r.run r.line r.cut printed)) ∙ none)))
+  failed_in (inr (inr some)) = inr (inr (ap (list_any ran_badly) r.cut ∙ any_before ran_badly r.run r.line some))
 
   spent_of : (r.error.kind ≡ TurnsSpent) × (c.after.left ≡ 0) → EndsSpent c.before.left part ended
   spent_of spent =
       let sum : c.after.left + turns r.run ≡ c.before.left = halted_turns (terms_in q r.run c) (error_of look q r.run) (stages_of look q r.run) r.run r.error c.before c.after r.refused in
-      let all : turns part ≡ turns r.run = turns_same part r.run r.line r.cut told in
+      let all : turns part ≡ turns r.run = turns_same part r.run r.line r.cut printed in
       let none : c.after.left ≡ 0 = spent.1 in
       (r.error, (r.is, spent.0, omega arith))
 
@@ -336,21 +313,21 @@ too_few p n files most turned few count enough same =
     omega arith
 
 enough_of : (look : Look) (q : Request) (part : List Event) (ended : Ended) (c : Course) → Answers look q part ended c → (total p : ℕ) → c.total ≡ Some total → c.patience ≡ Some p → p * (2 * length q.1.config.files + 2) ≤ c.before.left → EndsSpent c.before.left part ended → ⊥
-enough_of look q part ended c (inl well) total p one told enough spent =
+enough_of look q part ended c (inl well) total p one patient enough spent =
     let s : ended.status ≡ 0 = ap (λ (x : Ended). x.status) well.0 in
     let r : ended.status ≡ 1 = ap (λ (x : Ended). x.status) spent.1.0 in
     cc
-enough_of look q part ended c (inr (inr wanting)) total p one told enough spent =
+enough_of look q part ended c (inr (inr wanting)) total p one patient enough spent =
     let s : ended.status ≡ 3 = ap (λ (x : Ended). x.status) wanting.0 in
     let r : ended.status ≡ 1 = ap (λ (x : Ended). x.status) spent.1.0 in
     cc
-enough_of look q part ended c (inr (inl r)) total p one told enough spent =
+enough_of look q part ended c (inr (inl r)) total p one patient enough spent =
     let same : r.error ≡ spent.0 = same_error r.error spent.0 ended r.is spent.1.0 in
     let few : turns r.run < p * length (commands_in (stages_of look q r.run)) =
-    halted_bound (terms_in q r.run c) (error_of look q r.run) (stages_of look q r.run) r.run r.error c.before c.after total p one told
+    halted_bound (terms_in q r.run c) (error_of look q r.run) (stages_of look q r.run) r.run r.error c.before c.after total p one patient
     (never_spent q.1.config (env_in q r.run) look q.0) r.refused (ap (λ (x : ErrorSeen). x.kind) same ∙ spent.1.1) in
     too_few p (length (commands_in (stages_of look q r.run))) (length q.1.config.files) c.before.left (turns r.run) few (planned_count q.1.config (env_in q r.run) true look q.0) enough
-    (sym (turns_same part r.run r.line r.cut (line_of (error_line r.error) r.line r.told)) ∙ spent.1.2)
+    (sym (turns_same part r.run r.line r.cut (line_of (error_line r.error) r.line r.printed)) ∙ spent.1.2)
 
 pub enough : (look : Look) (words : Result Request BadWord) (part : List Event) (ended : Ended) (c : Course) → AnswersWords look words part ended c → IsEnough look words part ended c
 enough look (Ok q) part ended c a = enough_of look q part ended c a

@@ -1,5 +1,6 @@
 -- No child runs behind a request, and its commands are the first of the planned ones.
 use Rattle.std.proofs.Common.{◌≡◌, inl, inr, ℕ, List, [], ◌∷◌, ◌++◌, map, true, Result, Ok, Err, sym, ◌∙◌, ap, append-nil}
+use Rattle.std.specs.Prelude.{String}
 use Rattle.std.proofs.lemmas.Grind.{flat_map-append}
 use Rattle.cc_host.specs.Part.Step.{Lists}
 use Rattle.cc_host.specs.Question.{Look}
@@ -11,18 +12,20 @@ use Rattle.cc_build.specs.Stage.{commands_in, planned_stages}
 use Rattle.cc_build.specs.Stage.Stage.{Calls}
 use Rattle.cc_build.proofs.SettledLaws.{partly_settled, partly_first}
 use Rattle.cc_build.proofs.StopLaws.{planned_plain}
-use Rattle.cc_command.specs.Answer.{AnswersWords, Course, env_in, terms_in, stages_of, word_line}
-use Rattle.cc_command.specs.Promises.{Begun, IsLine, NothingRuns, IsPrefix}
+use Rattle.cc_build.specs.Course.{Course}
+use Rattle.cc_build.specs.Promises.{NothingRuns}
+use Rattle.cc_command.specs.Answer.{AnswersWords, asked_for, env_in, terms_in, stages_of, word_line}
+use Rattle.cc_command.specs.Promises.{Begun, IsLine, IsPrefix, Promises}
 use Rattle.cc_command.specs.Read.{Request}
 use Rattle.cc_command.specs.declared.top.Ended.{Ended}
 use Rattle.cc_command.specs.declared.words.BadWord.{BadWord}
-use Rattle.cc_command.proofs.PromiseLaws.{is_begun, line_of, heard_same, run_same, no_child}
+use Rattle.cc_command.proofs.PromiseLaws.{is_begun, compiles_first, complete, enough, line_of, heard_same, run_same, no_child}
 
 -- ---- no child runs
 
 settled_of : (look : Look) (q : Request) (part : List Event) (c : Course) → Begun look q part c → NothingRuns part
 settled_of look q part c b =
-    ap (λ (r : Run). r.live) (run_same part b.run b.line b.cut b.told)
+    ap (λ (r : Run). r.live) (run_same part b.run b.line b.cut b.printed)
     ∙ partly_settled (terms_in q b.run c) (stages_of look q b.run) b.run c.before c.after 0 b.partly
 
 line_settled : (part : List Event) → IsLine part → NothingRuns part
@@ -30,7 +33,7 @@ line_settled part line = ap (λ (r : Run). r.live) (no_child nothing part line)
 
 pub settled : (look : Look) (words : Result Request BadWord) (part : List Event) (ended : Ended) (c : Course) → AnswersWords look words part ended c → NothingRuns part
 settled look (Ok q) part ended c a = settled_of look q part c (is_begun look (Ok q) part ended c a)
-settled look (Err bad) part ended c (inl told, same) = line_settled part (line_of (word_line bad) part told.1)
+settled look (Err bad) part ended c (inl printed, same) = line_settled part (line_of (word_line bad) part printed.1)
 settled look (Err bad) part ended c (inr wanting, same) = line_settled part (inl wanting.1)
 
 -- ---- one attempt for each command
@@ -42,17 +45,30 @@ no_attempt line (inr (inr faulted)) = ap attempts faulted.1
 
 -- a line behind a run tries no command
 attempts_same : (part run line : List Event) → part ≡ run ++ line → IsLine line → attempts part ≡ attempts run
-attempts_same part run line cut told =
-    ap attempts cut ∙ flat_map-append attempt_of run line ∙ ap (λ l. attempts run ++ l) (no_attempt line told) ∙ append-nil (attempts run)
+attempts_same part run line cut printed =
+    ap attempts cut ∙ flat_map-append attempt_of run line ∙ ap (λ l. attempts run ++ l) (no_attempt line printed) ∙ append-nil (attempts run)
 
 pub first : (look : Look) (words : Result Request BadWord) (part : List Event) (ended : Ended) (c : Course) → AnswersWords look words part ended c → IsPrefix look words part
 first look (Ok q) part ended c a =
     let b : Begun look q part c = is_begun look (Ok q) part ended c a in
     let p = partly_first (terms_in q b.run c) (stages_of look q b.run) b.run c.before c.after (tt, planned_plain q.1.config (env_in q b.run) true look q.0) b.partly in
-    let same = attempts_same part b.run b.line b.cut b.told in (
+    let same = attempts_same part b.run b.line b.cut b.printed in (
       p.0,
-      ap (λ (vars : List (List ℕ × List ℕ)). map to_attempt (commands_in (Calls Lists ∷ planned_stages q.1.config (with_vars q.1.env vars) true look q.0))) (heard_same part b.run b.line b.cut b.told)
+      ap (λ (vars : List (List ℕ × List ℕ)). map to_attempt (commands_in (Calls Lists ∷ planned_stages q.1.config (with_vars q.1.env vars) true look q.0))) (heard_same part b.run b.line b.cut b.printed)
           ∙ p.1
           ∙ ap (λ l. l ++ p.0) (sym same),
     )
 first look (Err bad) part ended c a = tt
+
+-- ---- all of it
+
+-- what an answer promises
+pub promised : {Z : Type 0} (words : List (String Z)) (ended : Ended) (look : Look) (part : List Event) (c : Course) → AnswersWords look (asked_for words) part ended c → Promises words ended look part c
+promised words ended look part c a = record {
+  answer = a;
+  begun = is_begun look (asked_for words) part ended c a;
+  order = compiles_first look (asked_for words) part ended c a;
+  prefix = first look (asked_for words) part ended c a;
+  complete = complete look (asked_for words) part ended c a;
+  enough = enough look (asked_for words) part ended c a;
+}

@@ -1,5 +1,5 @@
 -- What the program answers to its words, and what it did for them.
-use Rattle.std.specs.Prelude.{◌≡◌, ◌⊎◌, ℕ, List, [], ◌∷◌, ◌++◌, Bool, true, false, Option, Some, None, Result, Ok, Err, codes}
+use Rattle.std.specs.Prelude.{◌≡◌, ◌⊎◌, ℕ, List, [], ◌∷◌, ◌++◌, map, Bool, true, false, Option, Some, None, Result, Ok, Err, String, string_bytes, codes}
 use Rattle.std.specs.Fmt.{decimal}
 use Rattle.cc_env.specs.Env.{EnvSeen}
 use Rattle.cc_host.specs.Question.{Look}
@@ -13,15 +13,16 @@ use Rattle.cc_host.specs.declared.event.Why.{Why}
 use Rattle.cc_plan.specs.declared.settings.BuildConfig.{BuildConfig}
 use Rattle.cc_build.specs.Built.{Built}
 use Rattle.cc_build.specs.Captured.{with_vars}
+use Rattle.cc_build.specs.Course.{Course}
 use Rattle.cc_build.specs.Error.{ErrorSeen}
 use Rattle.cc_build.specs.Shows.{shows_of}
 use Rattle.cc_build.specs.Stage.{Stage, planned_stages}
 use Rattle.cc_build.specs.Stage.Stage.{Calls}
-use Rattle.cc_build.specs.Went.{Terms, Means, terms, Went, Halted, Partly}
+use Rattle.cc_build.specs.Went.{Terms, Means, terms, Went, Halted}
 use Rattle.cc_build.specs.declared.error.ErrorKind.{ErrorKind}
 use Rattle.cc_build.specs.declared.error.ErrorKind.TheVariants.{NoMemory}
 use Rattle.cc_build.specs.Refusal.{refusal_error}
-use Rattle.cc_command.specs.Read.{Request}
+use Rattle.cc_command.specs.Read.{Request, name_of, read}
 use Rattle.cc_command.specs.declared.words.BadWord.{BadWord}
 use Rattle.cc_command.specs.declared.words.WordCause.{WordCause}
 use Rattle.cc_command.specs.declared.words.WordCause.TheVariants.{NoCommand, UnknownCommand, NoName, NoValue, UnknownKey, BadValue}
@@ -44,8 +45,8 @@ abbrev pub error_line : ErrorSeen → List ℕ
 error_line e = codes "error occurred in cc-rs: " ++ e.message ++ 10 ∷ []
 
 -- the line was printed, or its print faulted
-abbrev pub Tells : List ℕ → List Event → Type 0
-Tells line part = (part ≡ Printed FaultLine line ∷ []) ⊎ ((why : Why) × (part ≡ Fault Print why ∷ []))
+abbrev pub PrintsLine : List ℕ → List Event → Type 0
+PrintsLine line part = (part ≡ Printed FaultLine line ∷ []) ⊎ ((why : Why) × (part ≡ Fault Print why ∷ []))
 
 -- status 0: neither an error nor a word
 abbrev pub ended_well : Ended
@@ -71,39 +72,15 @@ is_wanting _ = false
 -- the line of an error was printed last, or memory for it was wanted
 abbrev pub AnswersError : ErrorSeen → List Event → Ended → Type 0
 AnswersError e part ended =
-    ((ended ≡ ended_refused e) × (is_wanting e.kind ≡ false) × Tells (error_line e) part) ⊎ ((ended ≡ ended_wanting) × (part ≡ []))
-
--- how a run went: the total of its pool and the patience of its host, where they are told, and what was left of its means before and after
-pub record Course : Type 0 where
-  pub total : Option ℕ
-  pub patience : Option ℕ
-  pub before : Means
-  pub after : Means
-
-abbrev pub course : Option ℕ → Option ℕ → Means → Means → Course
-course total patience before after = record { total = total; patience = patience; before = before; after = after }
+    ((ended ≡ ended_refused e) × (is_wanting e.kind ≡ false) × PrintsLine (error_line e) part) ⊎ ((ended ≡ ended_wanting) × (part ≡ []))
 
 -- the terms of a compile run with these settings
 abbrev pub terms_of : BuildConfig → EnvSeen → Course → Terms
 terms_of set env c = terms (shows_of set env) c.total c.patience
 
--- a compile run that was refused: its first stages were done, and the line of its error was printed last
-pub record RunRefused (set : BuildConfig) (env : EnvSeen) (look : Look) (name : List ℕ) (part : List Event) (ended : Ended) (c : Course) : Type 0 where
-  pub error : ErrorSeen
-  pub run : List Event
-  pub line : List Event
-  pub cut : part ≡ run ++ line
-  pub told : Tells (error_line error) line
-  pub refused : Halted (terms_of set env c) (refusal_error set env look name) (planned_stages set env true look name) run error c.before c.after
-  pub known : is_wanting error.kind ≡ false
-  pub is : ended ≡ ended_refused error
-
--- a compile run: it is built by its stages, or refused, or memory was wanted behind its first stages
-abbrev pub RunAnswers : BuildConfig → EnvSeen → Look → List ℕ → List Event → Ended → Course → Type 0
-RunAnswers set env look name part ended c =
-    ((ended ≡ ended_well) × (Built (terms_of set env c) set env look name part × Went (terms_of set env c) (planned_stages set env true look name) part c.before c.after))
-    ⊎ (RunRefused set env look name part ended c
-    ⊎ ((ended ≡ ended_wanting) × Partly (terms_of set env c) (planned_stages set env true look name) part c.before c.after))
+-- a run that was refused, with some error
+abbrev pub IsHalted : Terms → Option ErrorSeen → List Stage → List Event → Means → Means → Type 0
+IsHalted t refusal stages part x y = (e : ErrorSeen) × Halted t refusal stages part e x y
 
 abbrev pub first_listing : List (List (List ℕ × List ℕ)) → List (List ℕ × List ℕ)
 first_listing [] = []
@@ -143,23 +120,35 @@ pub record Refused (look : Look) (request : Request) (part : List Event) (ended 
   pub run : List Event
   pub line : List Event
   pub cut : part ≡ run ++ line
-  pub told : Tells (error_line error) line
+  pub printed : PrintsLine (error_line error) line
   pub refused : Halted (terms_in request run c) (error_of look request run) (stages_of look request run) run error c.before c.after
   pub known : is_wanting error.kind ≡ false
   pub is : ended ≡ ended_refused error
 
--- a request: it is built by its stages, or refused, or memory was wanted behind its first stages
+-- a request: it is built by its stages, or refused, or refused with an error that no memory could tell
 abbrev pub Answers : Look → Request → List Event → Ended → Course → Type 0
 Answers look request part ended c =
     ((ended ≡ ended_well) × (BuiltBy look request part c × Went (terms_in request part c) (stages_of look request part) part c.before c.after))
     ⊎ (Refused look request part ended c
-    ⊎ ((ended ≡ ended_wanting) × Partly (terms_in request part c) (stages_of look request part) part c.before c.after))
+    ⊎ ((ended ≡ ended_wanting) × IsHalted (terms_in request part c) (error_of look request part) (stages_of look request part) part c.before c.after))
 
 -- bad words: their line alone was printed, or memory for it was wanted
 abbrev pub AnswersBad : BadWord → List Event → Ended → Type 0
-AnswersBad bad part ended = ((ended ≡ ended_bad bad) × Tells (word_line bad) part) ⊎ ((ended ≡ ended_wanting) × (part ≡ []))
+AnswersBad bad part ended = ((ended ≡ ended_bad bad) × PrintsLine (word_line bad) part) ⊎ ((ended ≡ ended_wanting) × (part ≡ []))
 
 -- What the words ask for was answered. Words that can't be read for want of memory ask for nothing.
 abbrev pub AnswersWords : Look → Result Request BadWord → List Event → Ended → Course → Type 0
 AnswersWords look (Ok request) part ended c = Answers look request part ended c
 AnswersWords look (Err bad) part ended c = AnswersBad bad part ended × (c.after ≡ c.before)
+
+-- what the words ask for, or the first bad one
+abbrev pub asked_for : {Z : Type 0} → List (String Z) → Result Request BadWord
+asked_for words = read (map string_bytes words)
+
+-- this answers a request
+abbrev pub IsAnswer : Request → Ended → Look → List Event → Course → Type 0
+IsAnswer request ended look part c = Answers look request part ended c
+
+-- this answers the words
+abbrev pub IsAnswerTo : {Z : Type 0} → List (String Z) → Ended → Look → List Event → Course → Type 0
+IsAnswerTo words ended look part c = AnswersWords look (asked_for words) part ended c

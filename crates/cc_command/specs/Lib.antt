@@ -2,5 +2,5 @@ pub mod Answer
 pub mod Asks
 pub mod Promises
 pub mod Read
-pub mod Sets
+pub mod SetsKey
 pub mod Step

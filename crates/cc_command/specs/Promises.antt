@@ -1,6 +1,5 @@
 -- What follows from an answer, each in one sentence.
-use Rattle.std.specs.Prelude.{◌≡◌, ◌⊎◌, ◌≤◌, ◌*◌, ◌+◌, ℕ, List, [], ◌∷◌, ◌++◌, length, map, Some, true, false, Result, IfOk}
-use Rattle.cc_host.specs.Command.{CommandSeen}
+use Rattle.std.specs.Prelude.{◌≡◌, ◌⊎◌, ◌≤◌, ◌*◌, ◌+◌, ℕ, List, [], ◌∷◌, ◌++◌, length, map, Some, true, false, Result, IfOk, String}
 use Rattle.cc_host.specs.Question.{Look}
 use Rattle.cc_host.specs.Part.{is_probing}
 use Rattle.cc_host.specs.Part.Step.{Lists}
@@ -9,39 +8,38 @@ use Rattle.cc_host.specs.declared.event.Event.TheVariants.{Printed, Fault, Aband
 use Rattle.cc_host.specs.declared.event.HostCall.{HostCall}
 use Rattle.cc_host.specs.declared.event.HostCall.TheVariants.{Print}
 use Rattle.cc_host.specs.declared.event.LineKind.TheVariants.{Fault as FaultLine}
-use Rattle.cc_host.specs.declared.event.Role.{Role}
 use Rattle.cc_host.specs.declared.event.Why.{Why}
 use Rattle.cc_jobs.specs.Seats.{Rose}
 use Rattle.cc_plan.specs.Valid.{Valid}
 use Rattle.cc_run.specs.Part.{turns}
-use Rattle.cc_run.specs.Run.{run_from, nothing}
-use Rattle.cc_build.specs.Attempts.{attempts, to_attempt}
+use Rattle.cc_build.specs.Course.{Course}
 use Rattle.cc_build.specs.Error.{ErrorSeen}
 use Rattle.cc_build.specs.Failed.{Failed, HasFault}
 use Rattle.cc_build.specs.Order.{is_archive_event}
-use Rattle.cc_build.specs.Stage.{commands_in, folder_stages, compile_stages}
+use Rattle.cc_build.specs.Promises.{AreFirst}
+use Rattle.cc_build.specs.Stage.{folder_stages, compile_stages}
 use Rattle.cc_build.specs.Stage.Stage.{Asks, Calls}
 use Rattle.cc_build.specs.Went.{Goes, Partly}
 use Rattle.cc_build.specs.declared.error.ErrorKind.TheVariants.{TurnsSpent}
-use Rattle.cc_command.specs.Answer.{Tells, BuiltBy, Course, env_in, terms_in, stages_of, error_line, word_line, ended_well, ended_refused, ended_bad, ended_wanting}
+use Rattle.cc_command.specs.Answer.{PrintsLine, AnswersWords, BuiltBy, asked_for, env_in, terms_in, stages_of, error_line, word_line, ended_well, ended_refused, ended_bad, ended_wanting}
 use Rattle.cc_command.specs.Read.{Request}
 use Rattle.cc_command.specs.declared.top.Ended.{Ended}
 use Rattle.cc_command.specs.declared.words.BadWord.{BadWord}
 
 -- Status 0 means that the host listed its variables, and that the library of the words is built with their snapshot.
-abbrev pub Headline : Look → Result Request BadWord → List Event → Ended → Course → Type 0
-Headline look words part ended c = IfOk words (λ request. ended.status ≡ 0 → BuiltBy look request part c)
+abbrev pub Headline : {Z : Type 0} → List (String Z) → Ended → Look → List Event → Course → Type 0
+Headline words ended look part c = IfOk (asked_for words) (λ request. ended.status ≡ 0 → BuiltBy look request part c)
 
 -- the part ends with this line of kind Fault, or with the fault of its print
 pub record EndsWith (line : List ℕ) (part : List Event) : Type 0 where
   pub before : List Event
   pub end : List Event
   pub cut : part ≡ before ++ end
-  pub told : Tells line end
+  pub printed : PrintsLine line end
 
--- With status 1 there is the error and no word, with 2 the word and no error, and the part ends with the line that tells it. Else there is neither.
-abbrev pub TellsLast : List Event → Ended → Type 0
-TellsLast part ended =
+-- With status 1 there is the error and no word, with 2 the word and no error, and the part ends with the line of it. Else there is neither.
+abbrev pub PrintsLast : List Event → Ended → Type 0
+PrintsLast part ended =
     (ended ≡ ended_well)
     ⊎ (((e : ErrorSeen) × ((ended ≡ ended_refused e) × EndsWith (error_line e) part))
     ⊎ (((bad : BadWord) × ((ended ≡ ended_bad bad) × EndsWith (word_line bad) part))
@@ -60,7 +58,7 @@ pub record Begun (look : Look) (request : Request) (part : List Event) (c : Cour
   pub line : List Event
   pub cut : part ≡ run ++ line
   pub partly : Partly (terms_in request run c) (stages_of look request run) run c.before c.after
-  pub told : IsLine line
+  pub printed : IsLine line
 
 abbrev pub IsBegun : Look → Result Request BadWord → List Event → Course → Type 0
 IsBegun look words part c = IfOk words (λ request. Begun look request part c)
@@ -87,13 +85,9 @@ EndsAlone part = (ids : List ℕ) × (line : List Event) × ((part ≡ map Aband
 abbrev pub FaultsLast : List Event → Type 0
 FaultsLast part = (before after : List Event) (call : HostCall) (why : Why) → is_probing call ≡ false → part ≡ before ++ Fault call why ∷ after → EndsAlone after
 
--- On every exit each command that was started has ended or was left alone.
-abbrev pub NothingRuns : List Event → Type 0
-NothingRuns part = (run_from nothing part).live ≡ []
-
 -- The commands of the part, those that are missing among them, are the first of the planned ones: one attempt for each, and no other command.
 abbrev pub IsPrefix : Look → Result Request BadWord → List Event → Type 0
-IsPrefix look words part = IfOk words (λ request. (rest : List (Role × CommandSeen)) × (map to_attempt (commands_in (stages_of look request part)) ≡ attempts part ++ rest))
+IsPrefix look words part = IfOk words (λ request. AreFirst (stages_of look request part) part)
 
 -- the turns are spent: as many were made as there are
 abbrev pub EndsSpent : ℕ → List Event → Ended → Type 0
@@ -106,3 +100,18 @@ IsComplete look words part ended c = IfOk words (λ request. Valid request.1.con
 -- The turns are enough where one caller owns the pool, the host tells its patience, and there are as many times that as twice the sources and two.
 abbrev pub IsEnough : Look → Result Request BadWord → List Event → Ended → Course → Type 0
 IsEnough look words part ended c = IfOk words (λ request. (total p : ℕ) → c.total ≡ Some total → c.patience ≡ Some p → p * (2 * length request.1.config.files + 2) ≤ c.before.left → EndsSpent c.before.left part ended → ⊥)
+
+-- What a run of the words promises of its answer, its part and its course.
+pub record Promises {Z : Type 0} (words : List (String Z)) (ended : Ended) (look : Look) (part : List Event) (c : Course) : Type 0 where
+  -- the whole answer: each status with its cause
+  pub answer : AnswersWords look (asked_for words) part ended c
+  -- on every exit the first stages were done, each once and in order
+  pub begun : IsBegun look (asked_for words) part c
+  -- no archive command stands in the part unless every source was compiled before it
+  pub order : CompilesFirst look (asked_for words) part c
+  -- one attempt for each of the first planned commands, and no other
+  pub prefix : IsPrefix look (asked_for words) part
+  -- valid settings, no failed command, no fault of the host and none of the pool: it is done, the turns are spent, or memory was wanted
+  pub complete : IsComplete look (asked_for words) part ended c
+  -- where one caller owns the pool and the host tells its patience, so many turns are enough
+  pub enough : IsEnough look (asked_for words) part ended c

@@ -1,9 +1,11 @@
 // Reads the words of the program.
-ghost use Rattle.std.specs.Prelude.{◌≡◌, ◌⊎◌, ◌++◌, [], ◌∷◌, List, ℕ, Ok, Err, Some, None, map, true, false, IfOk, IfErr, OnOk, MatchResult, IsErr, string_bytes, codes};
+ghost use Rattle.std.specs.Prelude.{◌≡◌, ◌⊎◌, ◌++◌, [], ◌∷◌, Ok, Err, Some, None, map, true, false, IfOk, IfErr, OnOk, MatchResult, IsErr, string_bytes, codes};
 ghost use Rattle.std.specs.Option.{option_copied};
-ghost use Rattle.cc_command.specs.Read.{bad_at, is, IsNumberOf, IsTruthOf, is_truth, is_text_key, is_item_key, is_choice_key, is_switch_key, is_number, cause_unless, definition_of, unless_empty, key_cause, word_cause, first_bad, bad_word, read, name_of, refusal_of, settings_of};
-ghost use Rattle.cc_command.specs.Step.{with_key, with_word};
-ghost use Rattle.cc_command.specs.Sets.{Sets};
+ghost use Rattle.cc_build.specs.Build.{Sets};
+ghost use Rattle.cc_command.specs.Answer.{asked_for};
+ghost use Rattle.cc_command.specs.Read.{bad_at, IsNumberOf, IsTruthOf, is_truth, is_text_key, is_item_key, is_choice_key, is_switch_key, cause_unless, definition_of, unless_empty, first_bad, bad_word, name_of, refusal_of};
+ghost use Rattle.cc_command.specs.SetsKey.{SetsKey, SetsTruth, SetsLevel, SetsWord, ReadsSettings};
+ghost use Rattle.cc_command.specs.Step.{with_key};
 ghost use Rattle.cc_command.specs.declared.words.ReadError.TheVariants.{Bad, NoMemory as WantsMemory};
 
 use crate::words::{BadWord, Job, ReadError, Request, WordCause};
@@ -65,7 +67,7 @@ fn set_key<W: World>(
     key: &str,
     value: &str,
 ) -> Mem<Option<WordCause>>
-    ensures { IfOk result (Sets build.old build.new key.now value.now) }
+    ensures { IfOk result (SetsKey build.old build.new key.now value.now) }
 {
     match key {
         "source_root" => set(build.source_root(value)),
@@ -84,7 +86,11 @@ fn set_key<W: World>(
 
 // Adds the macro of `K` or `K=V`.
 fn define<W: World>(build: &mut Build<W>, value: &str) -> Result<(), Error>
-    ensures { OnOk result (build.new ≡ record build.old { config = record build.old.config { definitions = build.old.config.definitions ++ definition_of value.now ∷ [] } }) }
+    ensures {
+        OnOk result (Sets build.old build.new (λ c. record c {
+            definitions = c.definitions ++ definition_of value.now ∷ []
+        }))
+    }
 {
     match key_and_value(value) {
         Some((name, value)) => build.define(name, Some(value)),
@@ -99,7 +105,10 @@ fn set_item<W: World>(
     key: &str,
     value: &str,
 ) -> Mem<Option<WordCause>>
-    ensures { is_text_key key.now ≡ false → IfOk result (Sets build.old build.new key.now value.now) }
+    ensures {
+        is_text_key key.now ≡ false →
+            IfOk result (SetsKey build.old build.new key.now value.now)
+    }
 {
     match key {
         "file" => set(build.file(value)),
@@ -154,10 +163,10 @@ fn is_switch_key(key: &str) -> bool
     )
 }
 
-// Sets what is on or off, or unset, where this is such a key.
+// SetsKey what is on or off, or unset, where this is such a key.
 fn set_choice<W: World>(build: &mut Build<W>, key: &str, on: bool) -> bool
     ensures known { result ≡ is_choice_key key.now }
-    ensures set { result ≡ true → (value : List ℕ) → is value "true" ≡ on → build.new ≡ with_key build.old key.now value }
+    ensures set { result ≡ true → SetsTruth build.old build.new key.now on }
     ensures other { result ≡ false → build.new ≡ build.old }
 {
     match key {
@@ -205,10 +214,10 @@ fn set_choice<W: World>(build: &mut Build<W>, key: &str, on: bool) -> bool
     }
 }
 
-// Sets what is on or off, where this is such a key.
+// SetsKey what is on or off, where this is such a key.
 fn set_switch<W: World>(build: &mut Build<W>, key: &str, on: bool) -> bool
     ensures known { result ≡ is_switch_key key.now }
-    ensures set { result ≡ true → (value : List ℕ) → is value "true" ≡ on → build.new ≡ with_key build.old key.now value }
+    ensures set { result ≡ true → SetsTruth build.old build.new key.now on }
     ensures other { result ≡ false → build.new ≡ build.old }
 {
     match key {
@@ -257,7 +266,7 @@ fn set_switch<W: World>(build: &mut Build<W>, key: &str, on: bool) -> bool
 }
 
 fn set_level<W: World>(alloc: Global, build: &mut Build<W>, value: &str) -> Mem<Option<WordCause>>
-    ensures { IfOk result (λ cause. (cause ≡ cause_unless (is_number value.now)) × (cause ≡ None → build.new ≡ record build.old { config = record build.old.config { opt_level = Some value.now } })) }
+    ensures { IfOk result (SetsLevel build.old build.new value.now) }
 {
     match number_of(alloc, value)? {
         Some(n) => set(build.opt_level(n)),
@@ -265,9 +274,9 @@ fn set_level<W: World>(alloc: Global, build: &mut Build<W>, value: &str) -> Mem<
     }
 }
 
-// Sets the variable of `K=V`.
+// SetsKey the variable of `K=V`.
 fn set_variable<W: World>(build: &mut Build<W>, value: &str) -> Mem<Option<WordCause>>
-    ensures { IfOk result (Sets build.old build.new (codes "env") value.now) }
+    ensures { IfOk result (SetsKey build.old build.new (codes "env") value.now) }
 {
     match key_and_value(value) {
         Some((name, value)) => set(build.env(name, value)),
@@ -276,7 +285,7 @@ fn set_variable<W: World>(build: &mut Build<W>, value: &str) -> Mem<Option<WordC
 }
 
 fn set_debug<W: World>(build: &mut Build<W>, value: &str) -> Mem<Option<WordCause>>
-    ensures { IfOk result (Sets build.old build.new (codes "debug") value.now) }
+    ensures { IfOk result (SetsKey build.old build.new (codes "debug") value.now) }
 {
     match truth_of(value) {
         Some(on) => set(build.debug(on)),
@@ -286,7 +295,7 @@ fn set_debug<W: World>(build: &mut Build<W>, value: &str) -> Mem<Option<WordCaus
 
 // Tells the folder of `FROM=TO` as another.
 fn set_remap<W: World>(build: &mut Build<W>, value: &str) -> Mem<Option<WordCause>>
-    ensures { IfOk result (Sets build.old build.new (codes "remap_source_path") value.now) }
+    ensures { IfOk result (SetsKey build.old build.new (codes "remap_source_path") value.now) }
 {
     match key_and_value(value) {
         Some((from, to)) => set(build.remap_source_path(from, to)),
@@ -301,7 +310,10 @@ fn set_other<W: World>(
     key: &str,
     value: &str,
 ) -> Mem<Option<WordCause>>
-    ensures { is_text_key key.now ≡ false → is_item_key key.now ≡ false → IfOk result (Sets build.old build.new key.now value.now) }
+    ensures {
+        is_text_key key.now ≡ false → is_item_key key.now ≡ false →
+            IfOk result (SetsKey build.old build.new key.now value.now)
+    }
 {
     if is_choice_key(key) || is_switch_key(key) {
         return Ok(set_truth(build, key, value));
@@ -315,7 +327,7 @@ fn set_other<W: World>(
     }
 }
 
-// Sets what is on or off by a truth value.
+// SetsKey what is on or off by a truth value.
 fn set_truth<W: World>(build: &mut Build<W>, key: &str, value: &str) -> Option<WordCause>
     requires { (is_choice_key key.now ≡ true) ⊎ (is_switch_key key.now ≡ true) }
     ensures cause { result ≡ cause_unless (is_truth value.now) }
@@ -334,7 +346,7 @@ fn set_truth<W: World>(build: &mut Build<W>, key: &str, value: &str) -> Option<W
 
 // Calls the setter of a word behind the name.
 fn set_word<W: World>(alloc: Global, build: &mut Build<W>, word: &str) -> Mem<Option<WordCause>>
-    ensures { IfOk result (λ cause. (cause ≡ word_cause word.now) × (cause ≡ None → build.new ≡ with_word build.old word.now)) }
+    ensures { IfOk result (SetsWord build.old build.new word.now) }
 {
     match key_and_value(word) {
         Some((key, value)) => set_key(alloc, build, key, value),
@@ -350,8 +362,11 @@ fn bad(place: u64, cause: WordCause) -> ReadError
 
 // Calls the setters of the words behind the name, in their order, up to the first bad word.
 fn read_settings<W: World>(alloc: Global, words: &[String]) -> Result<Build<W>, ReadError>
-    ensures ok { IfOk result (λ build. (first_bad 2 (map string_bytes words.now) ≡ None) × (build ≡ settings_of (map string_bytes words.now))) }
-    ensures refused { IfErr result (λ e. (e ≡ WantsMemory) ⊎ (bad_word (first_bad 2 (map string_bytes words.now)) ≡ Some e)) }
+    ensures ok { IfOk result (ReadsSettings (map string_bytes words.now)) }
+    ensures refused {
+        IfErr result (λ e. (e ≡ WantsMemory)
+            ⊎ (bad_word (first_bad 2 (map string_bytes words.now)) ≡ Some e))
+    }
 {
     let mut build = match Build::new(alloc) {
         Ok(build) => build,
@@ -371,8 +386,12 @@ fn read_settings<W: World>(alloc: Global, words: &[String]) -> Result<Build<W>, 
 /// Refused at the first bad word, with its place from 0 and the first cause that holds. A list setting takes the values of its key in
 /// order, a single one the last.
 pub fn read_words<W: World>(alloc: Global, words: &[String]) -> Result<Request<W>, ReadError>
-    ensures ok { IfOk result (λ request. read (map string_bytes words.now) ≡ Ok (name_of request.job, request.build)) }
-    ensures refused { IfErr result (λ e. (e ≡ WantsMemory) ⊎ (refusal_of (read (map string_bytes words.now)) ≡ Some e)) }
+    ensures ok {
+        IfOk result (λ request. asked_for words.now ≡ Ok (name_of request.job, request.build))
+    }
+    ensures refused {
+        IfErr result (λ e. (e ≡ WantsMemory) ⊎ (refusal_of (asked_for words.now) ≡ Some e))
+    }
 {
     match words {
         [] => Err(bad(0, WordCause::NoCommand)),

@@ -1,15 +1,14 @@
 // The top call of the program.
-ghost use Rattle.std.specs.Prelude.{◌≡◌, ◌++◌, ℕ, [], true, false, map, string_bytes, IfOk, OnOk, OnErr};
+ghost use Rattle.std.specs.Prelude.{◌≡◌, ◌++◌, [], true, false, string_bytes, IfOk, OnOk, OnErr};
 ghost use Rattle.std.specs.Fmt.{decimal};
-ghost use Rattle.cc_tool.specs.Asked.{question_events, Asked};
-ghost use Rattle.cc_host.specs.Call.{part, ByAnswers};
-ghost use Rattle.cc_host.specs.Question.{answers};
-ghost use Rattle.cc_plan.specs.Given.{probe_folder};
+ghost use Rattle.cc_tool.specs.Asked.{question_events};
+ghost use Rattle.cc_host.specs.Call.{part};
+ghost use Rattle.cc_build.specs.Course.{ByRun};
+ghost use Rattle.cc_build.specs.Promises.{NothingRuns};
+ghost use Rattle.cc_command.specs.Answer.{PrintsLine, AnswersError, AnswersBad, is_wanting, ended_well, ended_wanting as wanting, cause_text as text_of, word_line as line_of_word, error_line as line_of_error, asked_for, IsAnswer, IsAnswerTo};
 ghost use Rattle.cc_command.specs.Asks.{AsksFor, AsksWords};
-ghost use Rattle.cc_build.specs.Went.{means};
-ghost use Rattle.cc_command.specs.Answer.{Tells, course, RunAnswers, Answers, AnswersError, AnswersBad, AnswersWords, is_wanting, ended_wanting as wanting, cause_text as text_of, word_line as line_of_word, error_line as line_of_error};
-ghost use Rattle.cc_command.specs.Promises.{Headline, TellsLast, IsBegun, CompilesFirst, FaultsLast, NothingRuns, IsPrefix, IsComplete, IsEnough};
-ghost use Rattle.cc_command.specs.Read.{name_of, read};
+ghost use Rattle.cc_command.specs.Promises.{Headline, Promises, PrintsLast, FaultsLast};
+ghost use Rattle.cc_command.specs.Read.{name_of};
 
 use crate::reading::read_words;
 use crate::words::{BadWord, Job, ReadError, Request, WordCause};
@@ -28,6 +27,16 @@ pub struct Ended {
     pub status: u8,
     pub error: Option<Error>,
     pub word: Option<BadWord>,
+}
+
+fn ended_done() -> Ended
+    ensures { result ≡ ended_well }
+{
+    Ended {
+        status: 0,
+        error: None,
+        word: None,
+    }
 }
 
 fn ended_wanting() -> Ended
@@ -83,10 +92,10 @@ fn error_line(alloc: Global, error: &Error) -> Mem<Text>
 
 // Prints a line of kind Fault. A fault of the print changes nothing.
 #[tactic(auto, using(cc_host::proofs::Parts::since_append))]
-fn tell<W: World, H: Host<W>>(host: &mut H, line: &Text) -> Mem<()>
+fn print_fault<W: World, H: Host<W>>(host: &mut H, line: &Text) -> Mem<()>
     ensures extends { H.log host.new ≡ H.log host.old ++ part H.log host.old host.new }
     ensures asks_none { question_events (part H.log host.old host.new) ≡ [] }
-    ensures told { OnOk result (Tells line.now (part H.log host.old host.new)) }
+    ensures printed { OnOk result (PrintsLine line.now (part H.log host.old host.new)) }
     ensures wanting { OnErr result (part H.log host.old host.new ≡ []) }
 {
     match host.print(LineKind::Fault, line.as_str().as_bytes()) {
@@ -106,7 +115,7 @@ fn refuse_word<W: World, H: Host<W>>(alloc: Global, host: &mut H, bad: BadWord) 
     let Ok(line) = word_line(alloc, bad) else {
         return ended_wanting();
     };
-    match tell(host, &line) {
+    match print_fault(host, &line) {
         Ok(()) => Ended {
             status: 2,
             error: None,
@@ -124,18 +133,20 @@ fn is_wanting(kind: ErrorKind) -> bool
 
 // Prints the line of an error, but for want of memory, which has none.
 #[tactic(auto, using(cc_host::proofs::Parts::since_append))]
-fn tell_error<W: World, H: Host<W>>(alloc: Global, host: &mut H, error: &Error) -> Mem<()>
+fn print_error<W: World, H: Host<W>>(alloc: Global, host: &mut H, error: &Error) -> Mem<()>
     ensures extends { H.log host.new ≡ H.log host.old ++ part H.log host.old host.new }
     ensures asks_none { question_events (part H.log host.old host.new) ≡ [] }
     ensures kind { OnOk result (is_wanting error.now.kind ≡ false) }
-    ensures told { OnOk result (Tells (line_of_error error.now) (part H.log host.old host.new)) }
+    ensures printed {
+        OnOk result (PrintsLine (line_of_error error.now) (part H.log host.old host.new))
+    }
     ensures wanting { OnErr result (part H.log host.old host.new ≡ []) }
 {
     if is_wanting(error.kind()) {
         return Err(NoMemory);
     }
     let line = error_line(alloc, error)?;
-    tell(host, &line)
+    print_fault(host, &line)
 }
 
 // The end of a run that was refused.
@@ -145,7 +156,7 @@ fn refuse<W: World, H: Host<W>>(alloc: Global, host: &mut H, error: Error) -> En
     ensures asks_none { question_events (part H.log host.old host.new) ≡ [] }
     ensures answer { AnswersError error (part H.log host.old host.new) result }
 {
-    match tell_error(alloc, host, &error) {
+    match print_error(alloc, host, &error) {
         Ok(()) => Ended {
             status: 1,
             error: Some(error),
@@ -158,65 +169,8 @@ fn refuse<W: World, H: Host<W>>(alloc: Global, host: &mut H, error: Error) -> En
     }
 }
 
-// Compiles the sources of the build, whose environment was captured, into the library of this name.
-#[tactic(auto, using(cc_host::proofs::Parts::since_append))]
-fn compile<W: World, H: Host<W>, J: Jobs>(
-    rt: &impl Wait,
-    alloc: Global,
-    build: &Build<W>,
-    name: &str,
-    turns: u64,
-    host: &mut H,
-    jobs: &J,
-    seat: &mut J::Seat,
-) -> Ended
-    requires fits { J.fits jobs.now seat.old }
-    requires empty { J.held seat.old ≡ 0 }
-    requires repeats { build.now.config.repeat_lines ≡ true }
-    ensures fits { J.fits jobs.now seat.new }
-    ensures empty { J.held seat.new ≡ 0 }
-    ensures extends { H.log host.new ≡ H.log host.old ++ part H.log host.old host.new }
-    ensures asked { Asked W.steady W.answer (probe_folder build.now.config build.now.env) (part H.log host.old host.new) }
-    ensures answer { ByAnswers H.log host.old host.new (λ look. (left : ℕ) × RunAnswers build.now.config build.now.env look name.now (part H.log host.old host.new) result (course (J.total seat.old) (H.patience host.old) (means turns (J.faults seat.old) (J.taken seat.old) (J.load seat.old)) (means left (J.faults seat.new) (J.taken seat.new) (J.load seat.new)))) }
-{
-    match build.try_compile(rt, host, jobs, seat, turns, name) {
-        Ok(()) => Ended {
-            status: 0,
-            error: None,
-            word: None,
-        },
-        Err(error) => refuse(alloc, host, error),
-    }
-}
-
 // Takes the host's variables, and compiles.
 #[tactic(auto, using(cc_host::proofs::Parts::since_append))]
-fn capture_and_compile<W: World, H: Host<W>, J: Jobs>(
-    rt: &impl Wait,
-    alloc: Global,
-    build: &mut Build<W>,
-    name: &str,
-    turns: u64,
-    host: &mut H,
-    jobs: &J,
-    seat: &mut J::Seat,
-) -> Ended
-    requires fits { J.fits jobs.now seat.old }
-    requires empty { J.held seat.old ≡ 0 }
-    requires repeats { build.old.config.repeat_lines ≡ true }
-    ensures fits { J.fits jobs.now seat.new }
-    ensures empty { J.held seat.new ≡ 0 }
-    ensures extends { H.log host.new ≡ H.log host.old ++ part H.log host.old host.new }
-    ensures asked { AsksFor W.steady W.answer (name.now, build.old) (part H.log host.old host.new) }
-    ensures answer { ByAnswers H.log host.old host.new (λ look. (left : ℕ) × Answers look (name.now, build.old) (part H.log host.old host.new) result (course (J.total seat.old) (H.patience host.old) (means turns (J.faults seat.old) (J.taken seat.old) (J.load seat.old)) (means left (J.faults seat.new) (J.taken seat.new) (J.load seat.new)))) }
-{
-    match build.capture(host) {
-        Ok(()) => compile(rt, alloc, build, name, turns, host, jobs, seat),
-        Err(error) => refuse(alloc, host, error),
-    }
-}
-
-// Does what was asked for.
 fn serve<W: World, H: Host<W>, J: Jobs>(
     rt: &impl Wait,
     alloc: Global,
@@ -232,13 +186,26 @@ fn serve<W: World, H: Host<W>, J: Jobs>(
     ensures fits { J.fits jobs.now seat.new }
     ensures empty { J.held seat.new ≡ 0 }
     ensures extends { H.log host.new ≡ H.log host.old ++ part H.log host.old host.new }
-    ensures asked { AsksFor W.steady W.answer (name_of request.old.job, request.old.build) (part H.log host.old host.new) }
-    ensures answer { ByAnswers H.log host.old host.new (λ look. (left : ℕ) × Answers look (name_of request.old.job, request.old.build) (part H.log host.old host.new) result (course (J.total seat.old) (H.patience host.old) (means turns (J.faults seat.old) (J.taken seat.old) (J.load seat.old)) (means left (J.faults seat.new) (J.taken seat.new) (J.load seat.new)))) }
+    ensures asked {
+        AsksFor W.steady W.answer (name_of request.old.job, request.old.build)
+            (part H.log host.old host.new)
+    }
+    ensures answer {
+        ByRun H.log H.patience J.total J.faults J.taken J.load turns
+            host.old host.new seat.old seat.new
+            (IsAnswer (name_of request.old.job, request.old.build) result)
+    }
 {
     match &request.job {
         Job::Compile(name) => {
             let build = &mut request.build;
-            capture_and_compile(rt, alloc, build, name.as_str(), turns, host, jobs, seat)
+            match build.capture(host) {
+                Ok(()) => match build.try_compile(rt, host, jobs, seat, turns, name.as_str()) {
+                    Ok(()) => ended_done(),
+                    Err(error) => refuse(alloc, host, error),
+                },
+                Err(error) => refuse(alloc, host, error),
+            }
         }
     }
 }
@@ -259,8 +226,11 @@ fn run<W: World, H: Host<W>, J: Jobs>(
     ensures fits { J.fits jobs.now seat.new }
     ensures empty { J.held seat.new ≡ 0 }
     ensures extends { H.log host.new ≡ H.log host.old ++ part H.log host.old host.new }
-    ensures asked { AsksWords W.steady W.answer (read (map string_bytes words.now)) (part H.log host.old host.new) }
-    ensures answer { ByAnswers H.log host.old host.new (λ look. (left : ℕ) × AnswersWords look (read (map string_bytes words.now)) (part H.log host.old host.new) result (course (J.total seat.old) (H.patience host.old) (means turns (J.faults seat.old) (J.taken seat.old) (J.load seat.old)) (means left (J.faults seat.new) (J.taken seat.new) (J.load seat.new)))) }
+    ensures asked { AsksWords W.steady W.answer (asked_for words.now) (part H.log host.old host.new) }
+    ensures answer {
+        ByRun H.log H.patience J.total J.faults J.taken J.load turns
+            host.old host.new seat.old seat.new (IsAnswerTo words.now result)
+    }
 {
     match read_words::<W>(alloc, words) {
         Ok(mut request) => serve(rt, alloc, &mut request, turns, host, jobs, seat),
@@ -292,23 +262,22 @@ pub fn drive<W: World, H: Host<W>, J: Jobs>(
     ensures extends { H.log host.new ≡ H.log host.old ++ part H.log host.old host.new }
 
     // The headline.
-    ensures built { ByAnswers H.log host.old host.new (λ look. (left : ℕ) × Headline look (read (map string_bytes words.now)) (part H.log host.old host.new) result (course (J.total seat.old) (H.patience host.old) (means turns (J.faults seat.old) (J.taken seat.old) (J.load seat.old)) (means left (J.faults seat.new) (J.taken seat.new) (J.load seat.new)))) }
+    ensures built {
+        ByRun H.log H.patience J.total J.faults J.taken J.load turns
+            host.old host.new seat.old seat.new (Headline words.now result)
+    }
 
-    // The whole answer: each status with its cause.
-    ensures answer { ByAnswers H.log host.old host.new (λ look. (left : ℕ) × AnswersWords look (read (map string_bytes words.now)) (part H.log host.old host.new) result (course (J.total seat.old) (H.patience host.old) (means turns (J.faults seat.old) (J.taken seat.old) (J.load seat.old)) (means left (J.faults seat.new) (J.taken seat.new) (J.load seat.new)))) }
-
-    // What questions leave in the log: each is told once, and no probe file stays.
-    ensures asked { AsksWords W.steady W.answer (read (map string_bytes words.now)) (part H.log host.old host.new) }
-
-    // What follows from the answer, sentence by sentence.
-    ensures told { TellsLast (part H.log host.old host.new) result }
-    ensures begun { ByAnswers H.log host.old host.new (λ look. (left : ℕ) × IsBegun look (read (map string_bytes words.now)) (part H.log host.old host.new) (course (J.total seat.old) (H.patience host.old) (means turns (J.faults seat.old) (J.taken seat.old) (J.load seat.old)) (means left (J.faults seat.new) (J.taken seat.new) (J.load seat.new)))) }
-    ensures order { ByAnswers H.log host.old host.new (λ look. (left : ℕ) × CompilesFirst look (read (map string_bytes words.now)) (part H.log host.old host.new) (course (J.total seat.old) (H.patience host.old) (means turns (J.faults seat.old) (J.taken seat.old) (J.load seat.old)) (means left (J.faults seat.new) (J.taken seat.new) (J.load seat.new)))) }
+    // The whole answer, each status with its cause, and what follows from it, sentence by sentence.
+    ensures promises {
+        ByRun H.log H.patience J.total J.faults J.taken J.load turns
+            host.old host.new seat.old seat.new (Promises words.now result)
+    }
+    ensures printed { PrintsLast (part H.log host.old host.new) result }
     ensures faults_last { FaultsLast (part H.log host.old host.new) }
     ensures settled { NothingRuns (part H.log host.old host.new) }
-    ensures prefix { ByAnswers H.log host.old host.new (λ look. IsPrefix look (read (map string_bytes words.now)) (part H.log host.old host.new)) }
-    ensures complete { ByAnswers H.log host.old host.new (λ look. (left : ℕ) × IsComplete look (read (map string_bytes words.now)) (part H.log host.old host.new) result (course (J.total seat.old) (H.patience host.old) (means turns (J.faults seat.old) (J.taken seat.old) (J.load seat.old)) (means left (J.faults seat.new) (J.taken seat.new) (J.load seat.new)))) }
-    ensures enough { ByAnswers H.log host.old host.new (λ look. (left : ℕ) × IsEnough look (read (map string_bytes words.now)) (part H.log host.old host.new) result (course (J.total seat.old) (H.patience host.old) (means turns (J.faults seat.old) (J.taken seat.old) (J.load seat.old)) (means left (J.faults seat.new) (J.taken seat.new) (J.load seat.new)))) }
+
+    // What questions leave in the log: each is answered once, and no probe file stays.
+    ensures asked { AsksWords W.steady W.answer (asked_for words.now) (part H.log host.old host.new) }
 {
     run(rt, alloc, words, turns, host, jobs, seat)
 }

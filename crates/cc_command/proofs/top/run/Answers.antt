@@ -1,22 +1,25 @@
-use Rattle.std.proofs.Common.{map, string_bytes, Ok, Err, sym, subst, refl}
+use Rattle.std.proofs.Common.{Ok, Err, sym, subst, refl}
 use Rattle.cc_host.specs.Part.{since}
+use Rattle.cc_build.specs.Course.{course}
 use Rattle.cc_build.specs.Went.{means}
-use Rattle.cc_command.specs.Answer.{course}
+use Rattle.cc_command.specs.Answer.{asked_for}
 use Rattle.cc_command.specs.Asks.{AsksWords}
-use Rattle.cc_command.specs.Read.{name_of, read}
+use Rattle.cc_command.specs.Read.{name_of}
 use Rattle.cc_command.proofs.AnswerLaws.{answers_read, bad_read, answers_wanting}
 use Rattle.cc_command.proofs.top.run.Goals as goal
 
 pub returns-in-Ok-clause-answer : goal.returns-in-Ok-clause-answer
-returns-in-Ok-clause-answer g c = record {
-  under = λ look agree.
-      let served = c.serve.ensures.answer.under look agree in (
-        served.0,
-        answers_read look (read (map string_bytes c.args.words.now)) (Ok (name_of c.in-Ok.request.job, c.in-Ok.request.build)) (since (g.H.Host.log c.args.host.now) (g.H.Host.log c.serve.new.host)) c.serve.result
-            (course (g.J.Jobs.total c.args.seat.now) (g.H.Host.patience c.args.host.now) (means c.args.turns (g.J.Jobs.faults c.args.seat.now) (g.J.Jobs.taken c.args.seat.now) (g.J.Jobs.load c.args.seat.now)) (means served.0 (g.J.Jobs.faults c.serve.new.seat) (g.J.Jobs.taken c.serve.new.seat) (g.J.Jobs.load c.serve.new.seat)))
-            c.in-Ok.ensures.ok served.1,
-      );
-}
+returns-in-Ok-clause-answer g c =
+    let before = means c.args.turns (g.J.Jobs.faults c.args.seat.now) (g.J.Jobs.taken c.args.seat.now) (g.J.Jobs.load c.args.seat.now) in
+    record {
+      under = λ look agree.
+          let served = c.serve.ensures.answer.under look agree in
+          let after = means served.0 (g.J.Jobs.faults c.serve.new.seat) (g.J.Jobs.taken c.serve.new.seat) (g.J.Jobs.load c.serve.new.seat) in (
+            served.0,
+            answers_read look (asked_for c.args.words.now) (Ok (name_of c.in-Ok.request.job, c.in-Ok.request.build)) (since (g.H.Host.log c.args.host.now) (g.H.Host.log c.serve.new.host)) c.serve.result
+                (course (g.J.Jobs.total c.args.seat.now) (g.H.Host.patience c.args.host.now) before after) c.in-Ok.ensures.ok served.1,
+          );
+    }
 
 pub returns-in-Ok-clause-asked : goal.returns-in-Ok-clause-asked
 returns-in-Ok-clause-asked g c =
@@ -24,22 +27,24 @@ returns-in-Ok-clause-asked g c =
     subst (λ request. AsksWords g.W.World.steady g.W.World.answer request part) (sym c.in-Ok.ensures.ok) c.serve.ensures.asked
 
 pub returns-in-Err-Bad-clause-answer : goal.returns-in-Err-Bad-clause-answer
-returns-in-Err-Bad-clause-answer g c = record {
-  under = λ look agree.
-      let words = read (map string_bytes c.args.words.now) in
-      let start = means c.args.turns (g.J.Jobs.faults c.args.seat.now) (g.J.Jobs.taken c.args.seat.now) (g.J.Jobs.load c.args.seat.now) in (
+returns-in-Err-Bad-clause-answer g c =
+    let words = asked_for c.args.words.now in
+    let start = means c.args.turns (g.J.Jobs.faults c.args.seat.now) (g.J.Jobs.taken c.args.seat.now) (g.J.Jobs.load c.args.seat.now) in
+    record {
+      under = λ look agree. (
         c.args.turns,
         answers_read look words (Err c.in-Err-Bad.bad) (since (g.H.Host.log c.args.host.now) (g.H.Host.log c.refuse_word.new.host)) c.refuse_word.result (course (g.J.Jobs.total c.args.seat.now) (g.H.Host.patience c.args.host.now) start start)
             (bad_read words c.in-Err-Bad.field-0 c.in-Err-Bad.bad c.in-Err-Bad.field-0-is c.in-Err-Bad.ensures.refused) (c.refuse_word.ensures.answer, refl),
       );
-}
+    }
 
 pub returns-in-Err-NoMemory-clause-answer : goal.returns-in-Err-NoMemory-clause-answer
-returns-in-Err-NoMemory-clause-answer g c = record {
-  under = λ look agree.
-      let start = means c.args.turns (g.J.Jobs.faults c.args.seat.now) (g.J.Jobs.taken c.args.seat.now) (g.J.Jobs.load c.args.seat.now) in (
+returns-in-Err-NoMemory-clause-answer g c =
+    let start = means c.args.turns (g.J.Jobs.faults c.args.seat.now) (g.J.Jobs.taken c.args.seat.now) (g.J.Jobs.load c.args.seat.now) in
+    record {
+      under = λ look agree. (
         c.args.turns,
-        answers_wanting look (read (map string_bytes c.args.words.now)) (g.H.Host.log c.args.host.now) c.ended_wanting.result (course (g.J.Jobs.total c.args.seat.now) (g.H.Host.patience c.args.host.now) start start)
+        answers_wanting look (asked_for c.args.words.now) (g.H.Host.log c.args.host.now) c.ended_wanting.result (course (g.J.Jobs.total c.args.seat.now) (g.H.Host.patience c.args.host.now) start start)
             c.ended_wanting.ensures refl,
       );
-}
+    }

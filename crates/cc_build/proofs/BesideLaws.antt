@@ -1,0 +1,276 @@
+-- Sources that are compiled beside each other: where in the part they are, and that a failed child stops no later start.
+use Rattle.std.proofs.Common.{◌≡◌, ◌≢◌, ◌⊎◌, inl, inr, ℕ, ◌+◌, ◌≤◌, List, [], ◌∷◌, ◌++◌, length, map, take, Bool, true, false, ◌||◌, if◌then◌else◌, is_some, Option, Some, None, option_map, Result, Ok, Err, refl, sym, ◌∙◌, ap, ap₂, subst, append_assoc, append-nil, arith}
+use Rattle.std.specs.List.{list_all, list_any, flat_map}
+use Rattle.std.proofs.lemmas.Grind.{flat_map-append}
+use Rattle.std.proofs.lemmas.List.{length-map, map-append}
+use Rattle.std.proofs.lemmas.List.Folds.{list_any-append}
+use Rattle.std.proofs.lemmas.List.Sums.{sum_by-append}
+use Rattle.cc_env.specs.Env.{EnvSeen}
+use Rattle.cc_host.specs.Command.{CommandSeen}
+use Rattle.cc_host.specs.Part.{Step, since}
+use Rattle.cc_host.specs.Question.{Look}
+use Rattle.cc_host.specs.declared.event.Event.{Event}
+use Rattle.cc_host.specs.declared.event.Role.{Role}
+use Rattle.cc_host.specs.declared.event.Role.TheVariants.{Compile, Archive, Index}
+use Rattle.cc_host.proofs.Parts.{since_append}
+use Rattle.cc_plan.specs.Given.{is_disabled}
+use Rattle.cc_plan.specs.Plan.{prints, compiles_of, archives_of, indexes_of, warning_lines, objects_of, folder_steps, removal_steps, link_steps}
+use Rattle.cc_plan.specs.Refusal.{early_refusal, late_refusal}
+use Rattle.cc_plan.specs.declared.settings.BuildConfig.{BuildConfig}
+use Rattle.cc_host.specs.declared.event.LineKind.TheVariants.{Warning}
+use Rattle.cc_run.specs.Part.{turns, turns_of, Within, Greedy}
+use Rattle.cc_run.specs.Planned.{asked, asked_by}
+use Rattle.cc_run.specs.Run.{nothing}
+use Rattle.cc_run.specs.declared.error.RunError.{RunError}
+use Rattle.cc_run.specs.declared.planned.Planned.{Planned}
+use Rattle.cc_build.specs.Attempts.{attempt_of, attempts, to_attempt}
+use Rattle.cc_build.specs.Error.{ErrorSeen}
+use Rattle.cc_build.specs.Promises.{is_compiling, RunBeside}
+use Rattle.cc_build.specs.Stage.{Stage, commands_of, commands_in, calls, planned, beside, in_turn, folder_stages, compile_stages, removal_stages, archive_stages, link_stages, late_stages, planned_stages}
+use Rattle.cc_build.specs.Stage.Stage.{Calls, Asks, RunsOne, RunsAll}
+use Rattle.cc_build.specs.Went.{Terms, Means, RanAll, Did, Stops, Partly}
+use Rattle.cc_build.proofs.RunLaws.{commands_then, commands_calls, commands_in_turn}
+use Rattle.cc_build.proofs.SettledLaws.{partly_first}
+use Rattle.cc_build.proofs.StopLaws.{IsPlain, ArePlain}
+use Rattle.cc_build.proofs.TurnLaws.{step_turns, asked_turns, refused_turns}
+
+-- ---- stages without a command
+
+abbrev pub is_quiet : Stage → Bool
+is_quiet (Calls step) = true
+is_quiet Asks = true
+is_quiet (RunsOne p) = false
+is_quiet (RunsAll ps) = false
+
+abbrev pub AreQuiet : List Stage → Type 0
+AreQuiet [] = Unit {0}
+AreQuiet (s ∷ ss) = (is_quiet s ≡ true) × AreQuiet ss
+
+pub quiet_commands : (stages : List Stage) → AreQuiet stages → commands_in stages ≡ []
+quiet_commands [] q = refl
+quiet_commands (Calls step ∷ ss) q = quiet_commands ss q.1
+quiet_commands (Asks ∷ ss) q = quiet_commands ss q.1
+quiet_commands (RunsOne p ∷ ss) q = absurd (let k : false ≡ true = q.0 in cc)
+quiet_commands (RunsAll ps ∷ ss) q = absurd (let k : false ≡ true = q.0 in cc)
+
+pub quiet_then : (a b : List Stage) → AreQuiet a → AreQuiet b → AreQuiet (a ++ b)
+quiet_then [] b p q = q
+quiet_then (s ∷ a) b p q = (p.0, quiet_then a b p.1 q)
+
+quiet_calls : (steps : List Step) → AreQuiet (calls steps)
+quiet_calls [] = tt
+quiet_calls (step ∷ steps) = (refl, quiet_calls steps)
+
+did_turnless : (t : Terms) (s : Stage) (part : List Event) (x y : Means) → is_quiet s ≡ true → Did t s part x y → turns part ≡ 0
+did_turnless t (Calls step) part x y q d = ap turns d.1.0 ∙ step_turns step d.0 d.1.1
+did_turnless t Asks part x y q d = asked_turns part d.0
+did_turnless t (RunsOne p) part x y q d = absurd (let k : false ≡ true = q in cc)
+did_turnless t (RunsAll ps) part x y q d = absurd (let k : false ≡ true = q in cc)
+
+stop_turnless : (t : Terms) (s : Stage) (part : List Event) (e : ErrorSeen) (x y : Means) → is_quiet s ≡ true → Stops t s part e x y → turns part ≡ 0
+stop_turnless t (Calls step) part e x y q d = ap turns d.1.0 ∙ refused_turns step d.0 d.1.1
+stop_turnless t Asks part e x y q d = absurd d
+stop_turnless t (RunsOne p) part e x y q d = absurd (let k : false ≡ true = q in cc)
+stop_turnless t (RunsAll ps) part e x y q d = absurd (let k : false ≡ true = q in cc)
+
+both_none : (part a b : List Event) → part ≡ a ++ b → turns a ≡ 0 → turns b ≡ 0 → turns part ≡ 0
+both_none part a b cut p q = let all : turns part ≡ turns a + turns b = ap turns cut ∙ sum_by-append turns_of a b in omega arith
+
+partly_turnless : (t : Terms) (stages : List Stage) (part : List Event) (x z : Means) → AreQuiet stages → Partly t stages part x z → turns part ≡ 0
+partly_turnless t [] part x z q p = ap turns p.0
+partly_turnless t (s ∷ ss) part x z q (inl p) = ap turns p.0
+partly_turnless t (s ∷ ss) part x z q (inr (inl stop)) = stop_turnless t s part stop.0 x z q.0 stop.1
+partly_turnless t (s ∷ ss) part x z q (inr (inr d)) = both_none part d.0 d.1 d.3.0 (did_turnless t s d.0 x d.2 q.0 d.3.1) (partly_turnless t ss d.1 d.2 z q.1 d.3.2)
+
+front_none : {X : Type 0} (a b : List X) → a ++ b ≡ [] → a ≡ []
+front_none [] b h = refl
+front_none (x ∷ a) b h = absurd (cc)
+
+partly_untried : (t : Terms) (stages : List Stage) (part : List Event) (x z : Means) → AreQuiet stages → ArePlain stages → Partly t stages part x z → attempts part ≡ []
+partly_untried t stages part x z q plain p =
+    let r = partly_first t stages part x z plain p in
+    front_none (attempts part) r.0 (sym r.1 ∙ ap (map to_attempt) (quiet_commands stages q))
+
+-- ---- the stretch of the compile commands
+
+greedy_none : (total : Option ℕ) (count : ℕ) → Greedy total count nothing []
+greedy_none None count = tt
+greedy_none (Some most) count = tt
+
+-- nothing was tried
+resting : (total : Option ℕ) (count : ℕ) (part : List Event) → attempts part ≡ [] → turns part ≡ 0 → RunBeside total count part
+resting total count part untried turnless = record {
+  front = part;
+  run = [];
+  rest = [];
+  cut = sym (append-nil part);
+  idle = untried;
+  still = turnless;
+  within = tt;
+  greedy = greedy_none total count;
+  others = refl;
+}
+
+none_resting : (total : Option ℕ) (count : ℕ) (part : List Event) → part ≡ [] → RunBeside total count part
+none_resting total count part none = resting total count part (ap attempts none) (ap turns none)
+
+or_kept : (k m n : Bool) → (m ≡ false → n ≡ false) → (k || m) ≡ false → (k || n) ≡ false
+or_kept true m n h e = absurd (cc)
+or_kept false m n h e = h e
+
+front_false : (f : Role × CommandSeen → Bool) (a b : List (Role × CommandSeen)) → list_any f (a ++ b) ≡ false → list_any f a ≡ false
+front_false f [] b h = refl
+front_false f (x ∷ a) b h = or_kept (f x) (list_any f (a ++ b)) (list_any f a) (front_false f a b) h
+
+-- none of these stages compiles
+abbrev CompileNone : List Stage → Type 0
+CompileNone stages = list_any is_compiling (map to_attempt (commands_in stages)) ≡ false
+
+module _ (t : Terms) (ps : List Planned) where
+  -- they ran here, and nothing was compiled behind them
+  ran_here : (result : Result (Unit {0}) RunError) (part run rest : List Event) (x y : Means) → RanAll t ps run result x y → part ≡ run ++ rest → list_any is_compiling (attempts rest) ≡ false → RunBeside t.total (length ps) part
+  ran_here result part run rest x y h cut none = record {
+    front = [];
+    run = run;
+    rest = rest;
+    cut = cut;
+    idle = refl;
+    still = refl;
+    within = subst (λ (l : List Event). Within t.total nothing l) (since_append h.log run) h.run.whole.steps.within;
+    greedy =
+        subst (λ (n : ℕ). Greedy t.total n nothing run) (length-map ps (asked_by t.shows))
+        (subst (λ (l : List Event). Greedy t.total (length (asked t.shows ps)) nothing l) (since_append h.log run) h.run.whole.steps.greedy);
+    others = none;
+  }
+
+  -- the same with quiet events before it
+  later : (part front rest : List Event) → part ≡ front ++ rest → attempts front ≡ [] → turns front ≡ 0 → RunBeside t.total (length ps) rest → RunBeside t.total (length ps) part
+  later part front rest cut untried turnless r = record {
+    front = front ++ r.front;
+    run = r.run;
+    rest = r.rest;
+    cut = cut ∙ ap (λ l. front ++ l) r.cut ∙ sym (append_assoc front r.front (r.run ++ r.rest));
+    idle = flat_map-append attempt_of front r.front ∙ ap₂ (λ u v. u ++ v) untried r.idle;
+    still = both_none (front ++ r.front) front r.front refl turnless r.still;
+    within = r.within;
+    greedy = r.greedy;
+    others = r.others;
+  }
+
+  beside_in : (first more : List Stage) (part : List Event) (x z : Means) → AreQuiet first → ArePlain (first ++ RunsAll ps ∷ more) → CompileNone more → Partly t (first ++ RunsAll ps ∷ more) part x z → RunBeside t.total (length ps) part
+  beside_in [] more part x z q plain none (inl p) = none_resting t.total (length ps) part p.0
+  beside_in [] more part x z q plain none (inr (inl stop)) = ran_here (Err stop.1.0) part part [] x z stop.1.1.0 (sym (append-nil part)) refl
+  beside_in [] more part x z q plain none (inr (inr d)) =
+      let r = partly_first t more d.1 d.2 z plain.1 d.3.2 in
+      ran_here (Ok tt) part d.0 d.1 x d.2 d.3.1 d.3.0 (front_false is_compiling (attempts d.1) r.0 (ap (list_any is_compiling) (sym r.1) ∙ none))
+  beside_in (s ∷ first) more part x z q plain none (inl p) = none_resting t.total (length ps) part p.0
+  beside_in (s ∷ first) more part x z q plain none (inr (inl stop)) =
+      resting t.total (length ps) part (partly_untried t (s ∷ []) part x z (q.0, tt) (plain.0, tt) (inr (inl stop))) (stop_turnless t s part stop.0 x z q.0 stop.1)
+  beside_in (s ∷ first) more part x z q plain none (inr (inr d)) =
+      later part d.0 d.1 d.3.0
+      (partly_untried t (s ∷ []) d.0 x d.2 (q.0, tt) (plain.0, tt) (inr (inr (d.0, [], d.2, (sym (append-nil d.0), d.3.1, (refl, refl))))))
+      (did_turnless t s d.0 x d.2 q.0 d.3.1)
+      (beside_in first more d.1 d.2 z q.1 plain.1 none d.3.2)
+
+-- ---- the stages of a compile run
+
+-- these commands run beside each other behind quiet stages, and nothing is compiled behind them
+pub record Shape (ps : List Planned) (stages : List Stage) : Type 0 where
+  pub first : List Stage
+  pub more : List Stage
+  pub are : stages ≡ first ++ RunsAll ps ∷ more
+  pub quiet : AreQuiet first
+  pub others : CompileNone more
+
+two_beside : (ps : List Planned) → 2 ≤ length ps → beside ps ≡ RunsAll ps ∷ []
+two_beside [] h = absurd (omega arith)
+two_beside (p ∷ []) h = absurd (omega arith)
+two_beside (p ∷ q ∷ ps) h = refl
+
+by_checks : (early disabled late : Bool) (folder lines : List Stage) (ps : List Planned) (more : List Stage) → AreQuiet folder → AreQuiet lines → CompileNone more → AreQuiet (if early then [] else folder ++ (if disabled then [] else Asks ∷ (if late then [] else (lines ++ RunsAll ps ∷ []) ++ more))) ⊎ Shape ps (if early then [] else folder ++ (if disabled then [] else Asks ∷ (if late then [] else (lines ++ RunsAll ps ∷ []) ++ more)))
+by_checks true disabled late folder lines ps more f l none = inl tt
+by_checks false true late folder lines ps more f l none = inl (quiet_then folder [] f tt)
+by_checks false false true folder lines ps more f l none = inl (quiet_then folder (Asks ∷ []) f (refl, tt))
+by_checks false false false folder lines ps more f l none = inr (record {
+  first = folder ++ Asks ∷ lines;
+  more = more;
+  are = ap (λ k. folder ++ Asks ∷ k) (append_assoc lines (RunsAll ps ∷ []) more) ∙ sym (append_assoc folder (Asks ∷ lines) (RunsAll ps ∷ more));
+  quiet = quiet_then folder (Asks ∷ lines) f (refl, l);
+  others = none;
+})
+
+none_archive : (cmds : List CommandSeen) → list_any is_compiling (map to_attempt (planned Archive cmds)) ≡ false
+none_archive [] = refl
+none_archive (cmd ∷ cmds) = none_archive cmds
+
+none_index : (cmds : List CommandSeen) → list_any is_compiling (map to_attempt (planned Index cmds)) ≡ false
+none_index [] = refl
+none_index (cmd ∷ cmds) = none_index cmds
+
+none_calls : (steps : List Step) → CompileNone (calls steps)
+none_calls steps = ap (λ l. list_any is_compiling (map to_attempt l)) (commands_calls steps)
+
+or_none : (a b : Bool) → a ≡ false → b ≡ false → (a || b) ≡ false
+or_none true b p q = absurd (cc)
+or_none false b p q = q
+
+none_then : (a b : List Stage) → CompileNone a → CompileNone b → CompileNone (a ++ b)
+none_then a b p q =
+    ap (λ l. list_any is_compiling (map to_attempt l)) (commands_then a b)
+    ∙ ap (list_any is_compiling) (map-append to_attempt (commands_in a) (commands_in b))
+    ∙ list_any-append is_compiling (map to_attempt (commands_in a)) (map to_attempt (commands_in b))
+    ∙ or_none (list_any is_compiling (map to_attempt (commands_in a))) (list_any is_compiling (map to_attempt (commands_in b))) p q
+
+module _ (set : BuildConfig) (env : EnvSeen) (output : List ℕ) where
+  none_removal : CompileNone (removal_stages set env output)
+  unfolding removal_stages
+  none_removal = none_calls (removal_steps set env output)
+
+  none_links : CompileNone (link_stages set env output)
+  unfolding link_stages
+  none_links = none_calls (link_steps set env output)
+
+  none_archives : CompileNone (archive_stages set env output)
+  unfolding archive_stages
+  none_archives =
+      none_then (in_turn (planned Archive (archives_of set env output))) (in_turn (planned Index (indexes_of set env output)))
+      (ap (λ l. list_any is_compiling (map to_attempt l)) (commands_in_turn (planned Archive (archives_of set env output))) ∙ none_archive (archives_of set env output))
+      (ap (λ l. list_any is_compiling (map to_attempt l)) (commands_in_turn (planned Index (indexes_of set env output))) ∙ none_index (indexes_of set env output))
+
+  none_behind : CompileNone (removal_stages set env output ++ (archive_stages set env output ++ link_stages set env output))
+  none_behind = none_then (removal_stages set env output) (archive_stages set env output ++ link_stages set env output) none_removal (none_then (archive_stages set env output) (link_stages set env output) none_archives none_links)
+
+quiet_folder : (set : BuildConfig) (env : EnvSeen) → AreQuiet (folder_stages set env)
+unfolding folder_stages
+quiet_folder set env = quiet_calls (folder_steps set env)
+
+module _ (set : BuildConfig) (env : EnvSeen) (told : Bool) (look : Look) (output : List ℕ) where
+  abbrev pub sources : List Planned
+  sources = planned Compile (compiles_of set env look)
+
+  -- one command a source
+  pub source_count : length sources ≡ length set.files
+  source_count = length-map (compiles_of set env look) _ ∙ length-map (objects_of set env) _ ∙ length-map set.files _
+
+  compiled : 2 ≤ length set.files → compile_stages set env told look ≡ calls (prints Warning (warning_lines set env told look)) ++ RunsAll sources ∷ []
+  unfolding compile_stages
+  compiled many = ap (λ l. calls (prints Warning (warning_lines set env told look)) ++ l) (two_beside sources (subst (λ (n : ℕ). 2 ≤ n) (sym source_count) many))
+
+  pub shape_of : 2 ≤ length set.files → AreQuiet (planned_stages set env told look output) ⊎ Shape sources (planned_stages set env told look output)
+  unfolding planned_stages late_stages
+  shape_of many =
+      let same = compiled many in
+      rw same
+      (by_checks (is_some (early_refusal set env output)) (is_disabled env) (is_some (late_refusal set env look)) (folder_stages set env) (calls (prints Warning (warning_lines set env told look))) sources
+      (removal_stages set env output ++ (archive_stages set env output ++ link_stages set env output))
+      (quiet_folder set env) (quiet_calls (prints Warning (warning_lines set env told look))) (none_behind set env output))
+
+-- the sources are compiled in one stretch of the part
+pub compiled_beside : (t : Terms) (set : BuildConfig) (env : EnvSeen) (told : Bool) (look : Look) (output : List ℕ) (part : List Event) (x z : Means) → ArePlain (planned_stages set env told look output) → 2 ≤ length set.files → Partly t (planned_stages set env told look output) part x z → RunBeside t.total (length set.files) part
+compiled_beside t set env told look output part x z plain many p = by_shape (shape_of set env told look output many)
+  where
+    by_shape : AreQuiet (planned_stages set env told look output) ⊎ Shape (sources set env told look output) (planned_stages set env told look output) → RunBeside t.total (length set.files) part
+    by_shape (inl q) = resting t.total (length set.files) part (partly_untried t (planned_stages set env told look output) part x z q plain p) (partly_turnless t (planned_stages set env told look output) part x z q p)
+    by_shape (inr s) =
+        subst (λ (n : ℕ). RunBeside t.total n part) (source_count set env told look output)
+        (beside_in t (sources set env told look output) s.first s.more part x z s.quiet (subst ArePlain s.are plain) s.others (subst (λ (l : List Stage). Partly t l part x z) s.are p))

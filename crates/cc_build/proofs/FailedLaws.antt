@@ -1,0 +1,207 @@
+-- A failed child stops no later start.
+use Rattle.std.proofs.Common.{◌≡◌, ◌⊎◌, inl, inr, ℕ, ◌≤◌, List, [], ◌∷◌, ◌++◌, length, map, take, drop, Bool, true, false, if◌then◌else◌, Option, Some, None, option_map, Result, Ok, Err, refl, sym, ◌∙◌, ap, ap₂, subst, append_assoc, append-nil, take_all, le_refl}
+use Rattle.std.specs.List.{list_any}
+use Rattle.std.proofs.lemmas.List.Folds.{list_any-append}
+use Rattle.std.proofs.lemmas.Grind.{flat_map-append}
+use Rattle.std.proofs.lemmas.List.{map-append}
+use Rattle.cc_env.specs.Env.{EnvSeen}
+use Rattle.cc_host.specs.Command.{CommandSeen}
+use Rattle.cc_host.specs.Part.{Step, Refuses}
+use Rattle.cc_host.specs.Part.Step.{Runs, Makes, Removes, Prints, Lists}
+use Rattle.cc_host.specs.Question.{Look}
+use Rattle.cc_host.specs.declared.event.Event.{Event}
+use Rattle.cc_host.specs.declared.event.Event.TheVariants.{Ran, Missing, Fault}
+use Rattle.cc_host.specs.declared.event.HostCall.TheVariants.{Start, Turn as Turning}
+use Rattle.cc_plan.specs.Given.{is_disabled}
+use Rattle.cc_plan.specs.Refusal.{first_of, early_refusal, late_refusal}
+use Rattle.cc_plan.specs.declared.error.ArgumentCause.TheVariants.{Output, OutDir, NoFileName, SameObject}
+use Rattle.cc_plan.specs.declared.error.PlanError.{PlanError}
+use Rattle.cc_plan.specs.declared.error.PlanError.TheVariants.{Argument, NotSet, UnknownTarget, QnxArch, Flag, Host, NoMemory as WantsMemory}
+use Rattle.cc_plan.specs.declared.settings.BuildConfig.{BuildConfig}
+use Rattle.cc_plan.specs.Plan.{compiles_of}
+use Rattle.cc_run.specs.Part.{started, started_of, abandoned, abandoned_of}
+use Rattle.cc_run.specs.Planned.{Asked, asked, asked_by}
+use Rattle.cc_run.specs.declared.error.RunError.{RunError}
+use Rattle.cc_run.specs.declared.error.RunError.TheVariants.{ToolNotFound, Failed, StartFault, WaitFault, HostFault, JobFault, TurnsSpent, NoMemory}
+use Rattle.cc_run.specs.declared.planned.Planned.{Planned}
+use Rattle.cc_run.specs.declared.planned.Shows.{Shows}
+use Rattle.cc_build.specs.Error.{ErrorSeen, no_memory}
+use Rattle.cc_build.specs.Failed.{HasFault, is_fault}
+use Rattle.cc_build.specs.Promises.{AllStarted}
+use Rattle.cc_build.specs.Refusal.{plan_error, disabled_error, early_error, late_error, refusal_error}
+use Rattle.cc_build.specs.RunErrors.{command_at, error_of, run_error}
+use Rattle.cc_build.specs.Stage.{Stage, commands_of, commands_in, planned_stages}
+use Rattle.cc_build.specs.Stage.Stage.{Calls, Asks, RunsOne, RunsAll}
+use Rattle.cc_build.specs.Stop.{missing_error, failed_error, unstarted_error, fault_error, stop_error}
+use Rattle.cc_build.specs.Went.{Terms, Means, IsOf, Stops, Halts, Halted}
+use Rattle.cc_build.specs.declared.error.ErrorKind.TheVariants.{ToolExecError}
+use Rattle.cc_build.proofs.BesideLaws.{is_quiet, AreQuiet, Shape, quiet_commands, sources, shape_of}
+use Rattle.cc_build.proofs.RunLaws.{commands_then, went_started}
+use Rattle.cc_build.proofs.StopLaws.{Said, said_all, said_one, IsPlain, ArePlain, plain_behind, or_right, some_fault, whole_work, went_kept}
+
+-- ---- the error of a command that ended badly
+
+-- an error of that kind is no want of memory
+ended_badly : (is e : ErrorSeen) → e.kind ≡ ToolExecError → IsOf is e → is.kind ≡ ToolExecError
+ended_badly is e h (inl memory) = absurd (let k : no_memory.kind ≡ ToolExecError = ap (λ o. o.kind) (sym memory) ∙ h in cc)
+ended_badly is e h (inr same) = ap (λ o. o.kind) (sym same) ∙ h
+
+call_kind : (step : Step) (event : Event) → IsPlain (Calls step) → Refuses step event → (stop_error step event).kind ≡ ToolExecError → ⊥
+unfolding missing_error failed_error unstarted_error fault_error
+call_kind (Runs role cmd) event plain r h = absurd plain
+call_kind (Makes scope path) (Fault call why) plain r h = cc
+call_kind (Removes path) (Fault call why) plain r h = cc
+call_kind (Prints kind bytes) (Fault call why) plain r h = cc
+call_kind Lists (Fault call why) plain r h = cc
+call_kind _ _ plain r h = absurd r
+
+of_kind : (f : CommandSeen → ErrorSeen) → ((cmd : CommandSeen) → (f cmd).kind ≡ ToolExecError → ⊥) → (o : Option CommandSeen) → (error_of f o).kind ≡ ToolExecError → ⊥
+of_kind f h (Some cmd) e = h cmd e
+of_kind f h None e = cc
+
+-- a run of commands that ended for such an error, and without a fault, started them all, and left none alone
+run_all_started : (cmds : List Asked) (ps : List Planned) (part : List Event) (error : RunError) → Said cmds part (Err error) → (run_error ps error).kind ≡ ToolExecError → (HasFault part → ⊥) → (started part ≡ cmds) × (abandoned part ≡ [])
+unfolding missing_error failed_error unstarted_error fault_error
+run_all_started cmds ps part (ToolNotFound place) s h sound = absurd (of_kind missing_error (λ cmd k. cc) (command_at ps place) h)
+run_all_started cmds ps part (Failed place status) s h sound =
+    let whole : part ≡ s.work = whole_work part s.work s.run.live s.cut s.cause.1.1 in (
+      ap started whole ∙ s.begun ∙ ap (λ n. take n cmds) s.cause.1.0 ∙ take_all (length cmds) cmds (le_refl (length cmds)),
+      ap abandoned whole ∙ s.kept,
+    )
+run_all_started cmds ps part (StartFault place) s h sound = absurd (sound (some_fault part Start [] s.faults_are refl))
+run_all_started cmds ps part WaitFault s h sound = absurd (sound (some_fault part Turning [] s.faults_are refl))
+run_all_started cmds ps part (HostFault call why) s h sound = absurd (cc)
+run_all_started cmds ps part JobFault s h sound = absurd (cc)
+run_all_started cmds ps part TurnsSpent s h sound = absurd (cc)
+run_all_started cmds ps part NoMemory s h sound = absurd (cc)
+
+-- such a stage is one of commands, which were all started
+stop_started : (t : Terms) (s : Stage) (part : List Event) (e : ErrorSeen) (x y : Means) → IsPlain s → Stops t s part e x y → e.kind ≡ ToolExecError → (HasFault part → ⊥) → (is_quiet s ≡ false) × (started part ≡ asked t.shows (commands_of s)) × (abandoned part ≡ [])
+stop_started t (Calls step) part e x y plain d h sound = absurd (call_kind step d.0 plain d.1.1 (ended_badly (stop_error step d.0) e h d.1.2))
+stop_started t Asks part e x y plain d h sound = absurd d
+stop_started t (RunsOne p) part e x y plain d h sound =
+    let r = run_all_started (asked t.shows (p ∷ [])) (p ∷ []) part d.0 (said_one t p part (Err d.0) x y d.1.0) (ended_badly (run_error (p ∷ []) d.0) e h d.1.1) sound in
+    (refl, r.0, r.1)
+stop_started t (RunsAll ps) part e x y plain d h sound =
+    let r = run_all_started (asked t.shows ps) ps part d.0 (said_all t ps part (Err d.0) x y d.1.0) (ended_badly (run_error ps d.0) e h d.1.1) sound in
+    (refl, r.0, r.1)
+
+-- ---- no refusal of settings is such an error
+
+abbrev NeverRan : Option ErrorSeen → Type 0
+NeverRan refusal = (e : ErrorSeen) → refusal ≡ Some e → e.kind ≡ ToolExecError → ⊥
+
+plan_kind : (set : BuildConfig) (env : EnvSeen) (output : List ℕ) (error : PlanError) → (plan_error set env output error).kind ≡ ToolExecError → ⊥
+unfolding plan_error fault_error
+plan_kind set env output (Argument Output) h = cc
+plan_kind set env output (Argument OutDir) h = cc
+plan_kind set env output (Argument (NoFileName place)) h = cc
+plan_kind set env output (Argument (SameObject first second)) h = cc
+plan_kind set env output (NotSet name) h = cc
+plan_kind set env output (UnknownTarget target) h = cc
+plan_kind set env output (QnxArch arch) h = cc
+plan_kind set env output (Flag flag) h = cc
+plan_kind set env output (Host call why) h = cc
+plan_kind set env output WantsMemory h = cc
+
+mapped : (set : BuildConfig) (env : EnvSeen) (output : List ℕ) (refusal : Option PlanError) → NeverRan (option_map (plan_error set env output) refusal)
+mapped set env output None e is h = cc
+mapped set env output (Some error) e is h =
+    let same : plan_error set env output error ≡ e = cc in
+    plan_kind set env output error (ap (λ (x : ErrorSeen). x.kind) same ∙ h)
+
+disabled_or : (b : Bool) (refusal : Option ErrorSeen) → NeverRan refusal → NeverRan (if b then Some disabled_error else refusal)
+disabled_or true refusal f e is h =
+    let same : disabled_error ≡ e = cc in
+    let kind : disabled_error.kind ≡ ToolExecError = ap (λ (x : ErrorSeen). x.kind) same ∙ h in
+    cc
+disabled_or false refusal f e is h = f e is h
+
+first_never : (a b : Option ErrorSeen) → NeverRan a → NeverRan b → NeverRan (first_of a b)
+first_never None b f g e is h = g e is h
+first_never (Some x) b f g e is h = f e is h
+
+never_ran : (set : BuildConfig) (env : EnvSeen) (look : Look) (output : List ℕ) → NeverRan (refusal_error set env look output)
+never_ran set env look output =
+    first_never (early_error set env output) (late_error set env look output)
+    (mapped set env output (early_refusal set env output))
+    (disabled_or (is_disabled env) _ (mapped set env output (late_refusal set env look)))
+
+-- ---- the stage at which it ended
+
+unmemory : (refusal : Option ErrorSeen) (e : ErrorSeen) → NeverRan refusal → (e ≡ no_memory) ⊎ (refusal ≡ Some e) → e.kind ≡ ToolExecError → ⊥
+unmemory refusal e f (inl memory) h = let k : no_memory.kind ≡ ToolExecError = ap (λ o. o.kind) (sym memory) ∙ h in cc
+unmemory refusal e f (inr refused) h = f e refused h
+
+-- the stages up to the one that ended badly, whose commands were all started
+record Reached (shows : Shows) (before after : List Stage) (rest : List Event) : Type 0 where
+  stage : Stage
+  more : List Stage
+  are : after ≡ stage ∷ more
+  loud : is_quiet stage ≡ false
+  begun : started rest ≡ asked shows (commands_of stage)
+  kept : abandoned rest ≡ []
+
+reached : (t : Terms) (refusal : Option ErrorSeen) (before after : List Stage) (rest : List Event) (e : ErrorSeen) (x y : Means) → NeverRan refusal → ArePlain after → Halts t refusal after rest e x y → e.kind ≡ ToolExecError → (HasFault rest → ⊥) → Reached t.shows before after rest
+reached t refusal before [] rest e x y f plain h k sound = absurd (unmemory refusal e f h.0 k)
+reached t refusal before (s ∷ ss) rest e x y f plain (inl h) k sound = absurd (unmemory refusal e f h.0 k)
+reached t refusal before (s ∷ ss) rest e x y f plain (inr stop) k sound =
+    let r = stop_started t s rest e x y plain.0 stop k sound in
+    record { stage = s; more = ss; are = refl; loud = r.0; begun = r.1; kept = r.2 }
+
+loud_in : (before more : List Stage) (s : Stage) → is_quiet s ≡ false → AreQuiet (before ++ s ∷ more) → ⊥
+loud_in [] more s loud q = let k : false ≡ true = sym loud ∙ q.0 in cc
+loud_in (b ∷ before) more s loud q = loud_in before more s loud q.1
+
+first_eq : {X : Type 0} (x y : X) (xs ys : List X) → x ∷ xs ≡ y ∷ ys → x ≡ y
+first_eq x y xs ys e = cc
+
+rest_eq : {X : Type 0} (x y : X) (xs ys : List X) → x ∷ xs ≡ y ∷ ys → xs ≡ ys
+rest_eq x y xs ys e = cc
+
+quiet_none : (s : Stage) → is_quiet s ≡ true → commands_of s ≡ []
+quiet_none (Calls step) q = refl
+quiet_none Asks q = refl
+quiet_none (RunsOne p) q = absurd (let k : false ≡ true = q in cc)
+quiet_none (RunsAll ps) q = absurd (let k : false ≡ true = q in cc)
+
+-- a stage of commands stands at the first one of these, or behind it
+behind_shape : (ps : List Planned) (first more before after : List Stage) (s : Stage) → AreQuiet first → is_quiet s ≡ false → before ++ s ∷ after ≡ first ++ RunsAll ps ∷ more → (rest : List Planned) × (commands_in before ++ commands_of s ≡ ps ++ rest)
+behind_shape ps [] more [] after s q loud e = ([], ap commands_of (first_eq s (RunsAll ps) after more e) ∙ sym (append-nil ps))
+behind_shape ps [] more (b ∷ before) after s q loud e =
+    let same : b ≡ RunsAll ps = first_eq b (RunsAll ps) (before ++ s ∷ after) more e in (
+      commands_in before ++ commands_of s,
+      ap (λ l. (l ++ commands_in before) ++ commands_of s) (ap commands_of same) ∙ append_assoc ps (commands_in before) (commands_of s),
+    )
+behind_shape ps (f ∷ first) more [] after s q loud e =
+    let same : s ≡ f = first_eq s f after (first ++ RunsAll ps ∷ more) e in
+    let k : false ≡ true = sym loud ∙ ap is_quiet same ∙ q.0 in
+    absurd (cc)
+behind_shape ps (f ∷ first) more (b ∷ before) after s q loud e =
+    let same : b ≡ f = first_eq b f (before ++ s ∷ after) (first ++ RunsAll ps ∷ more) e in
+    let none : commands_of b ≡ [] = quiet_none b (ap is_quiet same ∙ q.0) in
+    let r = behind_shape ps first more before after s q.1 loud (rest_eq b f (before ++ s ∷ after) (first ++ RunsAll ps ∷ more) e) in
+    (r.0, ap (λ l. (l ++ commands_in before) ++ commands_of s) none ∙ r.1)
+
+module _ (t : Terms) (set : BuildConfig) (env : EnvSeen) (told : Bool) (look : Look) (output : List ℕ) (part : List Event) (e : ErrorSeen) (x z : Means) (plain : ArePlain (planned_stages set env told look output)) (many : 2 ≤ length set.files) (h : Halted t (refusal_error set env look output) (planned_stages set env told look output) part e x z) (badly : e.kind ≡ ToolExecError) where
+  all_by : (r : Reached t.shows h.before h.after h.rest) → AreQuiet (planned_stages set env told look output) ⊎ Shape (sources set env told look output) (planned_stages set env told look output) → AllStarted t.shows (compiles_of set env look) part
+  all_by r (inl q) = absurd (loud_in h.before r.more r.stage r.loud (subst AreQuiet (h.stages_are ∙ ap (λ l. h.before ++ l) r.are) q))
+  all_by r (inr s) =
+      let k = behind_shape (sources set env told look output) s.first s.more h.before r.more r.stage s.quiet r.loud (sym (h.stages_are ∙ ap (λ l. h.before ++ l) r.are) ∙ s.are) in (
+        (
+          map (asked_by t.shows) k.0,
+          ap started h.cut
+              ∙ flat_map-append started_of h.front h.rest
+              ∙ ap₂ (λ u v. u ++ v) (went_started t h.before h.front x h.y h.went) r.begun
+              ∙ sym (map-append (asked_by t.shows) (commands_in h.before) (commands_of r.stage))
+              ∙ ap (map (asked_by t.shows)) k.1
+              ∙ map-append (asked_by t.shows) (sources set env told look output) k.0,
+        ),
+        ap abandoned h.cut ∙ flat_map-append abandoned_of h.front h.rest ∙ ap₂ (λ u v. u ++ v) (went_kept t h.before h.front x h.y h.went) r.kept,
+      )
+
+  -- where a command ended badly and the host is sound, every source's command was started, and none was left alone
+  pub all_started : (HasFault part → ⊥) → AllStarted t.shows (compiles_of set env look) part
+  all_started sound =
+      all_by (reached t (refusal_error set env look output) h.before h.after h.rest e h.y z (never_ran set env look output) (plain_behind h.before h.after (subst ArePlain h.stages_are plain)) h.halts badly (λ fault. sound (ap (list_any is_fault) h.cut ∙ list_any-append is_fault h.front h.rest ∙ or_right (list_any is_fault h.front) (list_any is_fault h.rest) fault)))
+      (shape_of set env told look output many)

@@ -1,0 +1,40 @@
+use Rattle.std.proofs.Common.{◌≡◌, ◌∙◌, false, sym, ap}
+use Rattle.cc_host.specs.Part.{since}
+use Rattle.cc_plan.specs.Given.{is_disabled}
+use Rattle.cc_plan.specs.Plan.{library_of}
+use Rattle.cc_build.specs.Seen.{stages_seen}
+use Rattle.cc_build.proofs.Lines.{since_none}
+use Rattle.cc_build.proofs.Outcomes.{told}
+use Rattle.cc_tool.specs.Asked.{question_events}
+use Rattle.cc_tool.proofs.Asides.{asked_none}
+use Rattle.cc_build.proofs.Stages.{late_refused, late_disabled, stages}
+use Rattle.cc_build.proofs.compiling.plan_stages.Goals as goal
+
+pub returns-then-is_disabled-clause-refused : goal.returns-then-is_disabled-clause-refused
+returns-then-is_disabled-clause-refused g c = record {
+  under = λ look agree.
+      late_disabled c.args.set.now c.args.env.now look c.args.output.now c.or_no_memory.result (sym c.is_disabled.ensures ∙ c.if-is_disabled.true) (told c.disabled.result c.or_no_memory.result _ c.or_no_memory.ensures c.disabled.ensures);
+}
+
+pub returns-then-is_disabled-clause-asked : goal.returns-then-is_disabled-clause-asked
+returns-then-is_disabled-clause-asked g c = asked_none _ _ _ (since (g.H.Host.log c.args.host.now) (g.H.Host.log c.args.host.now)) (ap question_events (since_none (g.H.Host.log c.args.host.now)))
+
+pub returns-in-Err-clause-refused : goal.returns-in-Err-clause-refused
+returns-in-Err-clause-refused g c = record {
+  under = λ look agree.
+      let enabled : is_disabled c.args.env.now ≡ false = sym c.is_disabled.ensures ∙ c.if-is_disabled.false in
+      late_refused c.args.set.now c.args.env.now look c.args.output.now c.in-Err.error enabled (c.in-Err.ensures.refused.under look agree);
+}
+
+pub returns-in-Ok-stages_of-clause-planned : goal.returns-in-Ok-stages_of-clause-planned
+returns-in-Ok-stages_of-clause-planned g c = record {
+  under = λ look agree.
+      let plan = c.in-Ok.ensures.planned.under look agree in
+      let library : c.as_str.result.now ≡ library_of c.args.set.now c.args.env.now c.args.output.now = c.as_str.ensures ∙ c.requires.library in
+      record {
+        told = c.in-Ok.plan.told;
+        enabled = sym c.is_disabled.ensures ∙ c.if-is_disabled.false;
+        allowed = plan.allowed;
+        are = c.in-Ok-stages_of.ensures ∙ stages c.args.set.now c.args.env.now look c.args.output.now c.in-Ok.plan c.as_str.result.now plan library;
+      };
+}

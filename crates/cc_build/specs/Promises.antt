@@ -1,0 +1,99 @@
+-- What a compile run promises, each in one sentence.
+use Rattle.std.specs.Prelude.{◌≡◌, ◌≤◌, ℕ, List, [], ◌∷◌, ◌++◌, length, map, Bool, true, false, Option, Result, Err, OnOk}
+use Rattle.std.specs.List.{list_any}
+use Rattle.cc_host.specs.Command.{CommandSeen}
+use Rattle.cc_host.specs.Part.{is_probing}
+use Rattle.cc_host.specs.Question.{Look}
+use Rattle.cc_host.specs.declared.event.Event.{Event}
+use Rattle.cc_host.specs.declared.event.Event.TheVariants.{Fault, Abandoned}
+use Rattle.cc_host.specs.declared.event.HostCall.{HostCall}
+use Rattle.cc_host.specs.declared.event.Role.{Role}
+use Rattle.cc_host.specs.declared.event.Role.TheVariants.{Compile}
+use Rattle.cc_host.specs.declared.event.Why.{Why}
+use Rattle.cc_plan.specs.Plan.{compiles_of}
+use Rattle.cc_run.specs.Part.{started, turns, abandoned, Within, Greedy}
+use Rattle.cc_run.specs.Planned.{Asked, asked}
+use Rattle.cc_run.specs.Run.{nothing, run_from}
+use Rattle.cc_run.specs.declared.planned.Shows.{Shows}
+use Rattle.cc_build.specs.Attempts.{attempts, to_attempt}
+use Rattle.cc_build.specs.Build.{BuildSeen}
+use Rattle.cc_build.specs.Built.{Built}
+use Rattle.cc_build.specs.Course.{Course}
+use Rattle.cc_build.specs.Error.{ErrorSeen}
+use Rattle.cc_build.specs.Failed.{HasFault}
+use Rattle.cc_build.specs.Order.{ArchivesLast}
+use Rattle.cc_build.specs.Refusal.{refusal_error}
+use Rattle.cc_build.specs.Shows.{shows_of}
+use Rattle.cc_build.specs.Stage.{Stage, planned, planned_stages, commands_in}
+use Rattle.cc_build.specs.Went.{Terms, terms, Ends}
+use Rattle.cc_build.specs.declared.error.ErrorKind.TheVariants.{ToolExecError}
+
+-- the terms of a build's run with this course
+abbrev pub terms_for : BuildSeen → Course → Terms
+terms_for b c = terms (shows_of b.config b.env) c.total c.patience
+
+-- the stages of a build's run; `told` tells whether the run is told of flags for the linker
+abbrev pub stages_for : BuildSeen → Bool → Look → List ℕ → List Stage
+stages_for b told look output = planned_stages b.config b.env told look output
+
+-- Ok: nothing is refused, and all stages were done. Else the first ones were, and the error has its cause.
+abbrev pub RunEnds : {T : Type 0} → BuildSeen → List ℕ → Result T ErrorSeen → Look → List Event → Course → Type 0
+RunEnds b output result look part c = (told : Bool) × Ends (terms_for b c) (refusal_error b.config b.env look output) (stages_for b told look output) part result c.before c.after
+
+-- Ok: the library is built.
+abbrev pub IsBuilt : {T : Type 0} → BuildSeen → List ℕ → Result T ErrorSeen → Look → List Event → Course → Type 0
+IsBuilt b output result look part c = OnOk result (Built (terms_for b c) b.config b.env look output part)
+
+-- The commands of the part, those that are missing among them, are the first of these: one attempt for each, and no other command.
+abbrev pub AreFirst : List Stage → List Event → Type 0
+AreFirst stages part = (rest : List (Role × CommandSeen)) × (map to_attempt (commands_in stages) ≡ attempts part ++ rest)
+
+abbrev pub is_compile_role : Role → Bool
+is_compile_role Compile = true
+is_compile_role _ = false
+
+-- an attempt to compile
+abbrev pub is_compiling : Role × CommandSeen → Bool
+is_compiling attempt = is_compile_role attempt.0
+
+-- So many compile commands run beside each other, in one stretch of the part. Each start there carries the number of those that run, itself
+-- counted, which is no more than the tokens of the pool. At each turn one runs, and as many as there are tokens, or all were started.
+pub record RunBeside (total : Option ℕ) (count : ℕ) (part : List Event) : Type 0 where
+  pub front : List Event
+  pub run : List Event
+  pub rest : List Event
+  pub cut : part ≡ front ++ (run ++ rest)
+  -- before it no command is tried and no turn is made
+  pub idle : attempts front ≡ []
+  pub still : turns front ≡ 0
+  pub within : Within total nothing run
+  pub greedy : Greedy total count nothing run
+  -- behind it nothing is compiled
+  pub others : list_any is_compiling (attempts rest) ≡ false
+
+-- the compile command of every source was started, and none was left alone
+abbrev pub AllStarted : Shows → List CommandSeen → List Event → Type 0
+AllStarted shows cmds part = ((more : List Asked) × (started part ≡ asked shows (planned Compile cmds) ++ more)) × (abandoned part ≡ [])
+
+-- on every exit each command that was started has ended or was left alone
+abbrev pub NothingRuns : List Event → Type 0
+NothingRuns part = (run_from nothing part).live ≡ []
+
+-- behind a fault, but one of what a question wants, children are abandoned, and nothing else is done
+abbrev pub FaultsEnd : List Event → Type 0
+FaultsEnd part = (before after : List Event) (call : HostCall) (why : Why) → is_probing call ≡ false → part ≡ before ++ Fault call why ∷ after → (ids : List ℕ) × (after ≡ map Abandoned ids)
+
+-- What a compile run promises of its answer, its part and its course.
+pub record Promises {T : Type 0} (b : BuildSeen) (output : List ℕ) (result : Result T ErrorSeen) (look : Look) (part : List Event) (c : Course) : Type 0 where
+  -- whether the run is told of flags for the linker
+  pub told : Bool
+  -- Ok: nothing is refused, and all stages were done. Else the first ones were, and the error has its cause.
+  pub outcome : Ends (terms_for b c) (refusal_error b.config b.env look output) (stages_for b told look output) part result c.before c.after
+  -- no archive command stands in the part unless every source was compiled before it
+  pub order : ArchivesLast (terms_for b c) b.config b.env look part
+  -- one attempt for each of the first planned commands, and no other
+  pub prefix : AreFirst (stages_for b told look output) part
+  -- two sources or more are compiled beside each other, each under a token, and as many at once as there are tokens
+  pub beside : 2 ≤ length b.config.files → RunBeside c.total (length b.config.files) part
+  -- a failed child stops no later start: where a command ended badly and the host is sound, every source's command was started and has ended
+  pub failed : (e : ErrorSeen) → 2 ≤ length b.config.files → result ≡ Err e → e.kind ≡ ToolExecError → (HasFault part → ⊥) → AllStarted (shows_of b.config b.env) (compiles_of b.config b.env look) part

@@ -1,0 +1,26 @@
+-- What the setter of a key, and of a word, has done.
+use Rattle.std.specs.Prelude.{◌≡◌, ℕ, List, Bool, Option, Some, None}
+use Rattle.cc_build.specs.Build.{BuildSeen, Sets}
+use Rattle.cc_command.specs.Read.{is, is_number, cause_unless, key_cause, word_cause, first_bad, settings_of}
+use Rattle.cc_command.specs.Step.{with_key, with_word}
+use Rattle.cc_command.specs.declared.words.WordCause.{WordCause}
+
+-- This is wrong with the key or its value, or nothing is, and it is set.
+abbrev pub SetsKey : BuildSeen → BuildSeen → List ℕ → List ℕ → Option WordCause → Type 0
+SetsKey old new key value cause = (cause ≡ key_cause key value) × (cause ≡ None → new ≡ with_key old key value)
+
+-- the truth value is set, whatever its text
+abbrev pub SetsTruth : BuildSeen → BuildSeen → List ℕ → Bool → Type 0
+SetsTruth old new key on = (value : List ℕ) → is value "true" ≡ on → new ≡ with_key old key value
+
+-- the value is no number, or it is set
+abbrev pub SetsLevel : BuildSeen → BuildSeen → List ℕ → Option WordCause → Type 0
+SetsLevel old new value cause = (cause ≡ cause_unless (is_number value)) × (cause ≡ None → Sets old new (λ c. record c { opt_level = Some value }))
+
+-- This is wrong with the word, or nothing is, and it is set.
+abbrev pub SetsWord : BuildSeen → BuildSeen → List ℕ → Option WordCause → Type 0
+SetsWord old new word cause = (cause ≡ word_cause word) × (cause ≡ None → new ≡ with_word old word)
+
+-- none of the words behind the name is bad, and this is what they set
+abbrev pub ReadsSettings : List (List ℕ) → BuildSeen → Type 0
+ReadsSettings words build = (first_bad 2 words ≡ None) × (build ≡ settings_of words)
