@@ -12,7 +12,7 @@ use crate::message::or_no_memory;
 use crate::refusal::plan_error;
 use crate::{Error, ErrorKind};
 use cc_env::BuildEnv;
-use cc_host::{Host, Verdict, World};
+use cc_host::{Host, Verdict, World, is_yes};
 use cc_plan::{BuildConfig, FlagSupport, Sight, flag_support};
 use cc_text::{Mem, Text, quoted};
 use cc_tool::{Answers, Caches};
@@ -23,12 +23,6 @@ fn is_untried(verdict: &Verdict) -> bool
     ensures { result ≡ spec.is_untried verdict.now }
 {
     matches!(verdict, Verdict::Unanswered | Verdict::Missing)
-}
-
-fn is_yes(verdict: &Verdict) -> bool
-    ensures { result ≡ yes verdict.now }
-{
-    matches!(verdict, Verdict::Yes)
 }
 
 // The compiler at a path couldn't try a flag.

@@ -5,7 +5,7 @@ use Rattle.std.specs.Result.{result_and}
 use Rattle.std.specs.List.{flat_map}
 use Rattle.std.proofs.lemmas.List.{append-nil, take_more}
 use Rattle.std.proofs.lemmas.Grind.{flat_map-append}
-use Rattle.cc_host.specs.Event.{told as reported, heard, unread, ended}
+use Rattle.cc_host.specs.Event.{reported, heard, unread, ended}
 use Rattle.cc_host.specs.declared.event.Event.{Event}
 use Rattle.cc_host.specs.declared.event.News.{News}
 use Rattle.cc_host.specs.declared.event.Status.{Status}

@@ -7,7 +7,7 @@ use Rattle.std.proofs.lemmas.Bool.{and_from, and_parts, true≢false}
 use Rattle.std.proofs.lemmas.List.Folds.{list_all-append, list_all-map}
 use Rattle.cc_text.specs.Words.{when}
 use Rattle.cc_host.specs.Command.{CommandSeen}
-use Rattle.cc_host.specs.Event.{told as reported, heard, unread, ended}
+use Rattle.cc_host.specs.Event.{reported, heard, unread, ended}
 use Rattle.cc_host.specs.Part.{since}
 use Rattle.cc_host.specs.Status.{is_success}
 use Rattle.cc_host.proofs.Parts.{since_append, since_since}

@@ -5,7 +5,7 @@ use Rattle.std.specs.List.{flat_map}
 use Rattle.std.proofs.Math.Seq.{take-append-add}
 use Rattle.std.proofs.lemmas.List.{append-nil, map-append, take-append-le, take_all}
 use Rattle.std.proofs.lemmas.Grind.{flat_map-append}
-use Rattle.cc_host.specs.Event.{told as reported, heard, unread, ended}
+use Rattle.cc_host.specs.Event.{reported, heard, unread, ended}
 use Rattle.cc_host.specs.Part.{since}
 use Rattle.cc_host.proofs.Parts.{since_append, since_since}
 use Rattle.cc_host.specs.declared.event.Event.{Event}

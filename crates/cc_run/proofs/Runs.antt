@@ -15,7 +15,7 @@ use Rattle.cc_run.proofs.LifeLemmas.{lives_then, lives_others, lives_start, live
 use Rattle.cc_host.specs.declared.event.Role.{Role}
 use Rattle.cc_host.specs.declared.event.Status.{Status}
 use Rattle.cc_host.specs.declared.event.Pipes.{Pipes}
-use Rattle.cc_host.specs.Event.{refused, IsCaused, told as reported, heard, unread, ended}
+use Rattle.cc_host.specs.Event.{refused, IsCaused, reported, heard, unread, ended}
 use Rattle.cc_host.specs.declared.event.News.{News}
 use Rattle.cc_host.specs.declared.event.HostError.{HostError}
 use Rattle.cc_host.specs.declared.event.HostError.TheVariants.{Fault as Failed, NoMemory as WantsMemory}

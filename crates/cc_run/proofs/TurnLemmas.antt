@@ -6,7 +6,7 @@ use Rattle.std.proofs.lemmas.List.{append-nil}
 use Rattle.std.proofs.lemmas.Grind.{flat_map-append}
 use Rattle.std.proofs.lemmas.List.Sums.{sum_by-append}
 use Rattle.cc_host.specs.Children.{Live, live_from, IsNews}
-use Rattle.cc_host.specs.Event.{told as reported}
+use Rattle.cc_host.specs.Event.{reported}
 use Rattle.cc_host.specs.Part.{since}
 use Rattle.cc_host.proofs.Parts.{since_append}
 use Rattle.cc_host.specs.declared.event.Event.{Event}

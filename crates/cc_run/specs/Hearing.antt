@@ -1,6 +1,6 @@
 -- The lines that the news of a turn give, one after another.
 use Rattle.std.specs.Prelude.{◌≡◌, ℕ, Bool, List, [], ◌∷◌, ◌++◌, ◌==◌, drop, take, flat_map, if◌then◌else◌, Option, None, Some, Result, OnOk}
-use Rattle.cc_host.specs.Event.{heard, unread, told as reported}
+use Rattle.cc_host.specs.Event.{heard, unread, reported}
 use Rattle.cc_host.specs.declared.event.Event.{Event}
 use Rattle.cc_host.specs.declared.event.Event.TheVariants.{Heard, Unread, Ended}
 use Rattle.cc_host.specs.declared.event.News.{News}

@@ -2,7 +2,7 @@
 ghost use Rattle.std.specs.Prelude.{◌≡◌, ◌++◌, ◌∷◌, [], ◌+◌, ◌<◌, ◌^◌, List, IfOk, IfErr, OnOk, MatchResult, length, true, false};
 ghost use Rattle.std.specs.List.{list_all};
 ghost use Rattle.cc_host.specs.Call.{part};
-ghost use Rattle.cc_host.specs.Event.{told as reported};
+ghost use Rattle.cc_host.specs.Event.{reported};
 ghost use Rattle.cc_host.specs.Children.{IsNews, Waits};
 ghost use Rattle.cc_host.specs.declared.event.Event.TheVariants.{Turn as OneTurn};
 ghost use Rattle.cc_run.specs.Batch.{asked_of, count_of, owed_by, PrintsBatch};

@@ -13,7 +13,8 @@ use Rattle.cc_tool.specs.Known.{asked}
 use Rattle.cc_tool.specs.declared.family.Detected.{Detected}
 use Rattle.cc_tool.specs.declared.family.Detected.TheVariants.{NoMarks}
 use Rattle.cc_tool.specs.Family as families
-use Rattle.cc_tool.specs.Family.{Vars, question, name_of, has_either, family_of_file, again, shown, reads_option, marks_in, family_of_marks, found, detected, detection, family_or, is_plain_clang, with_zig, is_zig, takes_help, settled_family, family_of}
+use Rattle.cc_tool.specs.Family.{Vars, question, name_of, has_either, family_of_file, again, shown, reads_option, marks_in, family_of_marks, found, detected, detection, family_or, with_zig, is_zig, takes_help, settled_family, family_of}
+use Rattle.cc_text.specs.Families.{is_plain_clang}
 use Rattle.cc_tool.proofs.AskLemmas.{asked_command}
 use Rattle.cc_tool.proofs.SettleLemmas.{settles_on, settles_so, settles_two, settles_question}
 

@@ -2,6 +2,7 @@
 use Rattle.std.specs.Prelude.{◌≡◌, ◌⊎◌, ℕ, Bool, true, false, not, ◌&&◌, ◌||◌, List, [], ◌∷◌, ◌++◌, Option, Some, None, unwrap_or, codes, bytes_eq, if◌then◌else◌}
 use Rattle.std.specs.List.{list_any}
 use Rattle.std.specs.Path.{path_file_name}
+use Rattle.cc_text.specs.Families.{is_plain_clang}
 use Rattle.cc_text.specs.Case.{lowered, ends_ignoring_case}
 use Rattle.cc_text.specs.Within.{is_within}
 use Rattle.cc_text.specs.declared.family.ToolFamily.{ToolFamily}
@@ -96,9 +97,6 @@ marks_in _ = None
 -- ---- the family
 
 -- a Clang that isn't known to be that of Zig
-abbrev pub is_plain_clang : ToolFamily → Bool
-is_plain_clang (Clang zig_cc) = not zig_cc
-is_plain_clang _ = false
 
 abbrev pub family_or : Option ToolFamily → ToolFamily → ToolFamily
 family_or (Some family) named = family

@@ -2,6 +2,7 @@
 use Rattle.std.specs.Prelude.{ℕ, length, drop, encode_utf8, Bool, true, false, not, ◌&&◌, ◌==◌, nat_eq, if◌then◌else◌, List, [], ◌∷◌, ◌++◌, Option, Some, None, codes, bytes_eq}
 use Rattle.std.specs.List.{filter, list_any, join_by, slice_get, starts_with}
 use Rattle.std.specs.Str.{chars}
+use Rattle.cc_text.specs.Families.{is_visual_studio}
 use Rattle.cc_text.specs.declared.family.ToolFamily.{ToolFamily}
 use Rattle.cc_text.specs.declared.family.ToolFamily.TheVariants.{Gnu, Clang, Msvc}
 use Rattle.cc_env.specs.Snapshot.{child_of}
@@ -82,22 +83,6 @@ abbrev pub wrapped_text : Option (List ℕ) → List ℕ → List (List ℕ) →
 wrapped_text (Some wrapper) path words = spaced (wrapper ∷ path ∷ words)
 wrapped_text None path words = []
 
-abbrev pub is_gnu : ToolFamily → Bool
-is_gnu Gnu = true
-is_gnu _ = false
-
-abbrev pub is_clang : ToolFamily → Bool
-is_clang (Clang zig_cc) = true
-is_clang _ = false
-
-abbrev pub is_msvc : ToolFamily → Bool
-is_msvc (Msvc clang_cl) = true
-is_msvc _ = false
-
-abbrev pub is_clang_cl : ToolFamily → Bool
-is_clang_cl (Msvc clang_cl) = clang_cl
-is_clang_cl _ = false
-
 abbrev pub is_letter_o : Option ℕ → Bool
 is_letter_o (Some c) = c == 79
 is_letter_o None = false
@@ -113,7 +98,7 @@ is_level arg = is_letter_o (behind arg (slice_get (chars arg) 0))
 
 -- what a flag of a level begins with
 abbrev pub level_mark : ToolFamily → List ℕ
-level_mark family = if is_msvc family then codes "/O" else codes "-O"
+level_mark family = if is_visual_studio family then codes "/O" else codes "-O"
 
 -- a flag that sets the level, where an arg does already
 unfoldable pub is_duplicate_level : ToolSeen → List ℕ → Bool

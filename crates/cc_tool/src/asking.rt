@@ -12,8 +12,8 @@ ghost use Rattle.cc_tool.specs.Probing.{Probes};
 ghost use Rattle.cc_tool.specs.Heard.{told};
 
 use crate::probes::ask_host;
-use crate::{Answers, Caches, exists_of};
-use cc_host::{Ask, Host, Question, Verdict, World, into_verdict};
+use crate::{Answers, Caches};
+use cc_host::{Ask, Host, Question, Verdict, World, exists_of, into_verdict};
 use cc_text::{Mem, NoMemory};
 use std::alloc::Global;
 use std::sync::Wait;

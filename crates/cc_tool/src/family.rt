@@ -13,10 +13,10 @@ ghost use Rattle.cc_tool.specs.Own.{AnswersAmong};
 
 use crate::{Answers, Caches, ask, question_of};
 use cc_env::BuildEnv;
-use cc_host::{Ask, Host, Marks, Verdict, World};
+use cc_host::{Ask, Host, Marks, Verdict, World, is_yes};
 use cc_text::{
     Mem, Text, ToolFamily, Vars, Words, contains_ignore_ascii_case, ends_with_ignore_ascii_case,
-    file_name,
+    file_name, is_plain_clang,
 };
 use std::alloc::Global;
 use std::sync::Wait;
@@ -113,19 +113,6 @@ fn family_of_marks(helps: bool, marks: Marks) -> Option<ToolFamily>
         Some(ToolFamily::Gnu)
     } else {
         None
-    }
-}
-
-fn is_yes(verdict: &Verdict) -> bool
-    ensures { result ≡ yes verdict.now }
-{
-    match verdict {
-        Verdict::Unanswered => false,
-        Verdict::Missing => false,
-        Verdict::No => false,
-        Verdict::Yes => true,
-        Verdict::Marks(_) => false,
-        Verdict::Dirs(_) => false,
     }
 }
 
@@ -249,16 +236,6 @@ fn ask_detection<W: World, H: Host<W>>(
             Ok(found(family_of_marks(is_yes(&help), marks)))
         }
         None => Ok((None, Detected::NoMarks)),
-    }
-}
-
-fn is_plain_clang(family: ToolFamily) -> bool
-    ensures { result ≡ families.is_plain_clang family }
-{
-    match family {
-        ToolFamily::Gnu => false,
-        ToolFamily::Clang { zig_cc } => !zig_cc,
-        ToolFamily::Msvc { .. } => false,
     }
 }
 

@@ -26,5 +26,5 @@ pub use family::{Detected, ask_family};
 pub use files::NamedTempfile;
 pub use kinds::FileKind;
 pub use known::Known;
-pub use question::{exists_of, question_of};
+pub use question::question_of;
 pub use tool::Tool;

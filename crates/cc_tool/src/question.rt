@@ -1,6 +1,5 @@
 // Questions, put together from what is asked of what.
 ghost use Rattle.std.specs.Prelude.{◌≡◌, IfOk};
-ghost use Rattle.cc_host.specs.Question.{exists_question};
 ghost use Rattle.cc_tool.specs.Family.{question};
 
 use cc_host::{Ask, Question};
@@ -22,18 +21,5 @@ pub fn question_of(
         program: Text::of(alloc, program)?,
         words: words.try_clone()?,
         vars: vars.try_clone()?,
-    })
-}
-
-/// The question whether a file of this path is there. It has neither words nor variables, so that it is the same for all who ask.
-/// Refused for memory, there is none.
-pub fn exists_of(alloc: Global, path: &str) -> Mem<Question>
-    ensures { IfOk result (λ q. q ≡ exists_question path.now) }
-{
-    Ok(Question {
-        ask: Ask::Exists,
-        program: Text::of(alloc, path)?,
-        words: Words::new(alloc),
-        vars: Vars::new(alloc),
     })
 }

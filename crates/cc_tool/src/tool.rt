@@ -2,12 +2,16 @@
 ghost use Rattle.std.specs.Prelude.{◌≡◌, [], Some, None, IfOk, OnOk, OnErr};
 ghost use Rattle.std.specs.List.{list_any};
 ghost use Rattle.cc_tool.specs.Tool as tools;
-ghost use Rattle.cc_tool.specs.Tool.{ToolSeen, new_tool, with_arg, with_entry, with_removed, with_wrapper, with_wrapper_word, tool_command, wrapped_text, spaced, is_gnu, is_clang, is_msvc, is_clang_cl, is_level, is_duplicate_level};
+ghost use Rattle.cc_text.specs.Families.{is_gnu, is_clang, is_visual_studio, is_clang_cl};
+ghost use Rattle.cc_tool.specs.Tool.{ToolSeen, new_tool, with_arg, with_entry, with_removed, with_wrapper, with_wrapper_word, tool_command, wrapped_text, spaced, is_level, is_duplicate_level};
 
 use crate::Envs;
 use cc_env::EnvSnapshot;
 use cc_host::Command;
-use cc_text::{Mem, Text, ToolFamily, Vars, Words, begins_with, join_texts};
+use cc_text::{
+    Mem, Text, ToolFamily, Vars, Words, begins_with, is_clang, is_clang_cl, is_gnu,
+    is_visual_studio, join_texts,
+};
 use std::alloc::Global;
 use std::marker::Model;
 
@@ -279,44 +283,28 @@ impl Tool {
     pub fn is_like_gnu(&self) -> bool
         ensures { result ≡ is_gnu self.now.family }
     {
-        match self.family {
-            ToolFamily::Gnu => true,
-            ToolFamily::Clang { .. } => false,
-            ToolFamily::Msvc { .. } => false,
-        }
+        is_gnu(self.family)
     }
 
     /// Whether it is Clang in its own form.
     pub fn is_like_clang(&self) -> bool
         ensures { result ≡ is_clang self.now.family }
     {
-        match self.family {
-            ToolFamily::Gnu => false,
-            ToolFamily::Clang { .. } => true,
-            ToolFamily::Msvc { .. } => false,
-        }
+        is_clang(self.family)
     }
 
     /// Whether it takes the words of the Visual Studio compiler.
     pub fn is_like_msvc(&self) -> bool
-        ensures { result ≡ is_msvc self.now.family }
+        ensures { result ≡ is_visual_studio self.now.family }
     {
-        match self.family {
-            ToolFamily::Gnu => false,
-            ToolFamily::Clang { .. } => false,
-            ToolFamily::Msvc { .. } => true,
-        }
+        is_visual_studio(self.family)
     }
 
     /// Whether it is Clang in the form of the Visual Studio compiler.
     pub fn is_like_clang_cl(&self) -> bool
         ensures { result ≡ is_clang_cl self.now.family }
     {
-        match self.family {
-            ToolFamily::Gnu => false,
-            ToolFamily::Clang { .. } => false,
-            ToolFamily::Msvc { clang_cl } => clang_cl,
-        }
+        is_clang_cl(self.family)
     }
 
     /// Whether a flag sets the level of optimisation, and an arg does already: the flag begins with the mark of an option

@@ -2,7 +2,7 @@ use Rattle.std.proofs.Common.{◌≡◌, ◌+◌, ◌++◌, get_or, take, sym, �
 use Rattle.std.specs.List.{flat_map}
 use Rattle.std.specs.Prelude.{OnOk}
 use Rattle.std.proofs.lemmas.Grind.{common_steps}
-use Rattle.cc_host.specs.Event.{told as reported}
+use Rattle.cc_host.specs.Event.{reported}
 use Rattle.cc_run.specs.Children.{run_of}
 use Rattle.cc_run.specs.Hearing.{owed_from}
 use Rattle.cc_run.specs.Run.{ended_run, run_from}

@@ -1,7 +1,7 @@
 use Rattle.std.proofs.Common.{◌≡◌, length, take, ◌++◌}
 use Rattle.std.specs.Prelude.{OnOk}
 use Rattle.std.specs.List.{flat_map}
-use Rattle.cc_host.specs.Event.{told as reported}
+use Rattle.cc_host.specs.Event.{reported}
 use Rattle.cc_run.specs.Children.{run_of}
 use Rattle.cc_run.specs.Keeping.{IsOneRun, KeepsSeat, TookNone}
 use Rattle.cc_run.specs.Own.{AreRunLines}

@@ -1,6 +1,6 @@
 use Rattle.std.proofs.Common.{◌≡◌, ◌∙◌, ap, arith, inl, Ok, Err, subst}
 use Rattle.std.specs.List.{flat_map}
-use Rattle.cc_host.specs.Event.{told as reported}
+use Rattle.cc_host.specs.Event.{reported}
 use Rattle.cc_run.specs.Run.{run_from}
 use Rattle.cc_run.specs.declared.error.Step.{Step}
 use Rattle.cc_host.specs.Part.{since}
