@@ -4,7 +4,7 @@ use Rattle.std.specs.List.{Contains, All, flat_map}
 use Rattle.std.proofs.lemmas.Bool.{eq-eqb}
 use Rattle.std.proofs.lemmas.List.Elements.{Contains-append_cases}
 use Rattle.std.proofs.lemmas.Grind.{flat_map-append}
-use Rattle.cc_host.specs.ChildLog.{AreRunning, live_of, ids, older, without_oldest, AreHeard, IsFull, IsEndOfOldest, Below, Above, Heeds}
+use Rattle.cc_host.specs.ChildLog.{AreRunning, live_of, ids, older, without_oldest, IsPieceBy, IsEndOfOldest, Below, Above, Heeds}
 use Rattle.cc_host.specs.Children.{Live, live, live_from, polled, id_of, started_ids, unread_of, unreads, IsNews, IsPiece, InOrder}
 use Rattle.cc_host.specs.Event.{apart, reported, turned}
 use Rattle.cc_host.specs.declared.child.RunningChild.{RunningChild}
@@ -74,23 +74,20 @@ alive_end log new next m (k ∷ children) own is alive =
       heeds = subst (λ l. Heeds l (map older children)) (sym u) (older_heeds (unreads log) m.unread k.id children alive.rising.0 alive.heeds.1);
     }
 
-piece_is : (log : List Event) (m : News) (piece : Option (List ℕ)) → IsFull piece → (Contains (unreads log) m.id → ⊥) → IsPiece log m piece
-piece_is log m None f h = tt
-piece_is log m (Some p) f h = (f, h)
+piece_is : (log : List Event) (m : News) (mute : Bool) (piece : Option (List ℕ)) → IsPieceBy mute piece → (mute ≡ false → Contains (unreads log) m.id → ⊥) → IsPiece log m piece
+piece_is log m mute None f h = tt
+piece_is log m mute (Some p) f h = (f.0, h f.1)
 
-pub news_end : (log : List Event) (next : ℕ) (m : News) (children : List RunningChild) → IsEndOfOldest children m → AreHeard children → AreRunning log next children → IsNews log (m ∷ [])
-news_end log next m [] own heard alive = absurd own
-news_end log next m (k ∷ children) own heard alive = record {
+pub news_end : (log : List Event) (next : ℕ) (m : News) (children : List RunningChild) → IsEndOfOldest children m → AreRunning log next children → IsNews log (m ∷ [])
+news_end log next m [] own alive = absurd own
+news_end log next m (k ∷ children) own alive = record {
   own = subst (InOrder (m.id ∷ [])) (sym (running_ids log next (k ∷ children) alive)) (inl (own.0, tt));
   pieces = one;
 }
   where
-    lacks : Contains (unreads log) m.id → ⊥
-    lacks c = alive.heeds.0 heard.0 (subst (Contains (unreads log)) own.0 c)
-
     one : All (λ x. IsPiece log x x.piece) (m ∷ [])
-    one zero d lt = piece_is log m m.piece own.2 lacks
-    one (suc k) d lt = absurd (omega arith)
+    one zero d lt = piece_is log m k.mute m.piece own.2 (λ e c. alive.heeds.0 e (subst (Contains (unreads log)) own.0 c))
+    one (suc n) d lt = absurd (omega arith)
 
 pub one_turned : (n : News) → turned (n ∷ []) ≡ Turn 1 ∷ reported n
 one_turned n = ap (λ l. Turn 1 ∷ l) (append-nil (reported n))

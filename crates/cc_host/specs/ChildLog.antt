@@ -1,5 +1,5 @@
 -- The log of a host with the children that run: what a child does in a turn, and those that are left after it.
-use Rattle.std.specs.Prelude.{◌≡◌, ◌≢◌, ◌<◌, ℕ, ◌+◌, pos, List, [], ◌∷◌, ◌++◌, length, drop, map, option_map, filter, slice_get, Bool, true, false, ◌&&◌, ◌||◌, ◌==◌, nat_le, is_some, Option, Some, None, if◌then◌else◌}
+use Rattle.std.specs.Prelude.{◌≡◌, ◌≢◌, ◌<◌, ℕ, ◌+◌, pos, List, [], ◌∷◌, ◌++◌, length, drop, map, filter, slice_get, Bool, true, false, ◌&&◌, ◌||◌, ◌==◌, nat_le, is_some, Option, Some, None, if◌then◌else◌}
 use Rattle.std.specs.List.{flat_map, remove, Contains}
 use Rattle.cc_host.specs.Calls.{plus_one}
 use Rattle.cc_host.specs.Children.{Live, live, live_after, id_of, started_ids, unread_of, unreads}
@@ -117,25 +117,20 @@ older child = record { id = child.id; polls = child.polls + 1; mute = child.mute
 abbrev pub without_oldest : List RunningChild → List RunningChild
 without_oldest children = map older (drop 1 children)
 
--- the standard error of each child can be read
-abbrev pub AreHeard : List RunningChild → Type 0
-AreHeard [] = Unit {0}
-AreHeard (child ∷ children) = (child.mute ≡ false) × AreHeard children
+-- the piece that a child gives, where its standard error can be read
+abbrev pub piece_by : Bool → List ℕ → Option (List ℕ)
+piece_by mute bytes = if mute then None else full (Some bytes)
 
--- a piece, where there is one, isn't empty
-abbrev pub IsFull : Option (List ℕ) → Type 0
-IsFull None = Unit {0}
-IsFull (Some piece) = piece ≢ []
+-- a piece, where there is one, isn't empty, and is of a child whose standard error can be read
+abbrev pub IsPieceBy : Bool → Option (List ℕ) → Type 0
+IsPieceBy mute None = Unit {0}
+IsPieceBy mute (Some piece) = (piece ≢ []) × (mute ≡ false)
 
--- the id of the oldest of these children, if there is one
-abbrev pub oldest_of : List RunningChild → Option ℕ
-oldest_of children = option_map (λ c. c.id) (slice_get children 0)
-
--- the oldest of these children ended, and gave no empty piece
+-- the oldest of these children ended
 abbrev pub IsEndOfOldest : List RunningChild → News → Type 0
 IsEndOfOldest [] news = ⊥
 IsEndOfOldest (child ∷ children) news =
-    (news.id ≡ child.id) × (is_some news.ended ≡ true) × IsFull news.piece
+    (news.id ≡ child.id) × (is_some news.ended ≡ true) × IsPieceBy child.mute news.piece
 
 -- the first child of that id is at this place
 abbrev pub IsChildAt : ℕ → List RunningChild → ℕ → Type 0

@@ -1,5 +1,5 @@
 // The log of a host, and the children that run on it.
-ghost use Rattle.std.specs.Prelude.{◌≡◌, ◌+◌, ◌-◌, ◌^◌, ◌<◌, ◌≤◌, [], ◌∷◌, ◌++◌, vec_len, vec_capacity, IfOk, IfSome, OnOk, OnErr, MatchOption};
+ghost use Rattle.std.specs.Prelude.{◌≡◌, ◌+◌, ◌-◌, ◌^◌, ◌<◌, ◌≤◌, [], ◌∷◌, ◌++◌, vec_len, vec_capacity, slice_get, IfOk, IfSome, OnOk, OnErr, MatchOption};
 ghost use Rattle.std.specs.List.{flat_map, Contains};
 ghost use Rattle.cc_host.specs.declared.event.Event.TheVariants.{Started, Abandoned, Opened, Dropped, Turn as OneTurn};
 ghost use Rattle.cc_host.specs.declared.event.Start.TheVariants.{Child};
@@ -9,7 +9,7 @@ ghost use Rattle.cc_host.specs.Journal.{IsQuiet};
 ghost use Rattle.cc_host.specs.Probe.{IsOpen, IsTidy};
 ghost use Rattle.cc_host.specs.Script.{patience_of, was_met};
 ghost use Rattle.cc_host.specs.Event.{apart, reported, turned};
-ghost use Rattle.cc_host.specs.ChildLog.{ChildLogSeen, AreRunning, IsIdle, news_in, left_in, without_child, begun, without_oldest, AreHeard, oldest_of, IsEndOfOldest, IsChildAt, Reserves, ReservesChild, Adds, AddsProbe, AddsFault};
+ghost use Rattle.cc_host.specs.ChildLog.{ChildLogSeen, AreRunning, IsIdle, news_in, left_in, without_child, begun, without_oldest, IsEndOfOldest, IsChildAt, Reserves, ReservesChild, Adds, AddsProbe, AddsFault};
 
 use crate::child::{self, RunningChild};
 use crate::script::{self, Scripted};
@@ -194,14 +194,11 @@ impl ChildLog {
         Ok(news)
     }
 
-    /// The id of the child that was started first of those that run.
-    pub fn oldest(&self) -> Option<u64>
-        ensures { result ≡ oldest_of self.now.children }
+    /// The child that was started first of those that run.
+    pub fn oldest(&self) -> Option<RunningChild>
+        ensures { result ≡ slice_get self.now.children 0 }
     {
-        match self.children.first() {
-            Some(child) => Some(child.id),
-            None => None,
-        }
+        self.children.first().copied()
     }
 
     /// Adds a turn in which no child runs.
@@ -224,7 +221,6 @@ impl ChildLog {
     pub fn end_oldest(&mut self, news: &News, events: Vec<Event>, left: Vec<RunningChild>)
         requires places { vec_len events < self.old.places }
         requires own { IsEndOfOldest self.old.children news.now }
-        requires heard { AreHeard self.old.children }
         requires events { events.items ≡ reported news.now }
         requires left { left.items ≡ without_oldest self.old.children }
         ensures log { self.new.log ≡ self.old.log ++ turned (news.now ∷ []) }

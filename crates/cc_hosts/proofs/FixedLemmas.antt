@@ -1,7 +1,7 @@
 -- No call of the trait gives a host in memory an outcome.
 use Rattle.std.proofs.Common.{◌≡◌, ◌∙◌, ap, Result, Ok, Err, List}
 use Rattle.cc_text.specs.declared.memory.NoMemory.{NoMemory as WantsMemory}
-use Rattle.cc_host.specs.Bench.{BenchSeen, IsFailure, Answers, AnswersUncounted, IsStart, IsTurn}
+use Rattle.cc_host.specs.Bench.{BenchSeen, IsFailure, Answers, Replies, IsStart, IsTurn}
 use Rattle.cc_host.specs.Command.{CommandSeen}
 use Rattle.cc_host.specs.declared.event.HostCall.{HostCall}
 use Rattle.cc_host.specs.declared.event.HostCall.TheVariants.{Start as Starts, Turn as Turns}
@@ -20,7 +20,7 @@ pub answers_given : {T : Type 0} (call : HostCall) (x : T) (after old new : Benc
 answers_given call x after old new (Ok y) h e = ap (λ (s : BenchSeen). s.given) h.2 ∙ e
 answers_given call x after old new (Err e) h f = given_failed call old new e h.1
 
-pub uncounted_given : {T : Type 0} (x : T) (after old new : BenchSeen) (r : Result T WantsMemory) → AnswersUncounted x after old new r → after.given ≡ old.given → new.given ≡ old.given
+pub uncounted_given : {T : Type 0} (x : T) (after old new : BenchSeen) (r : Result T WantsMemory) → Replies x after old new r → after.given ≡ old.given → new.given ≡ old.given
 uncounted_given x after old new (Ok y) h e = ap (λ (s : BenchSeen). s.given) h.1 ∙ e
 uncounted_given x after old new (Err e) h f = ap (λ (s : BenchSeen). s.given) h
 

@@ -1,4 +1,4 @@
-pub mod BroodLemmas
+pub mod RunningLemmas
 pub mod CommandLemmas
 pub mod EntryLemmas
 pub mod FixedLemmas

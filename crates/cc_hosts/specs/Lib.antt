@@ -1,6 +1,6 @@
-pub mod Brood
 pub mod Child
 pub mod Entry
 pub mod HostSeen
 pub mod LookUp
 pub mod Reason
+pub mod Running

@@ -61,7 +61,8 @@ fn is_captured(out: OutputKind) -> bool
     }
 }
 
-fn status_of(status: ExitStatus) -> Status
+/// How a process ended, by its number, or without a code where a signal ended it.
+pub fn status_of(status: ExitStatus) -> Status
     ensures { result ≡ status_of (exit_code status) }
 {
     match status.code() {
@@ -111,7 +112,8 @@ fn not_found<P: OpenProcess + Drop>(files: &impl Files, cmd: &Command) -> Begun<
 // What is kept of the end of a child.
 fn kept_end(alloc: Global, output: &Output, pipes: Pipes) -> Mem<Ended>
     ensures status { IfOk result (λ e. e.status ≡ status_of (exit_code output.now.status)) }
-    ensures out { IfOk result (λ e. e.out ≡ kept (is_captured pipes.out) output.now.stdout.items) }
+    ensures out { IfOk result
+        (λ e. e.out ≡ kept (is_captured pipes.out) output.now.stdout.items) }
     ensures err { IfOk result (λ e. e.err ≡ kept pipes.hear output.now.stderr.items) }
 {
     Ok(Ended {
@@ -121,16 +123,16 @@ fn kept_end(alloc: Global, output: &Output, pipes: Pipes) -> Mem<Ended>
     })
 }
 
-/// Waits for the end of a child that was started. Memory that is wanted now is a failure: the child did run.
-pub fn finish<P: OpenProcess + Drop>(alloc: Global, child: Child<P>, pipes: Pipes) -> Outcome
-    ensures { IsSilentEnd pipes result }
+// Waits for the end of a child that was started. Refused for memory, the child did run, and what it wrote is lost.
+fn finish<P: OpenProcess + Drop>(alloc: Global, child: Child<P>, pipes: Pipes) -> Mem<Outcome>
+    ensures { IfOk result (IsSilentEnd pipes) }
 {
     match child.wait_with_output(alloc) {
-        Ok(output) => match kept_end(alloc, &output, pipes) {
-            Ok(end) => Outcome::Ended(end),
-            Err(_) => Outcome::Failed(Why::Other),
+        Ok(output) => Ok(Outcome::Ended(kept_end(alloc, &output, pipes)?)),
+        Err(error) => match error.kind() {
+            ErrorKind::OutOfMemory => Err(NoMemory),
+            kind => Ok(Outcome::Failed(why_of(kind))),
         },
-        Err(error) => Outcome::Failed(why_of(error.kind())),
     }
 }
 
@@ -156,7 +158,7 @@ fn begin_at<R: Processes + Files>(
     child.stderr(if pipes.hear {
         Stdio::piped()
     } else {
-        Stdio::inherit()
+        Stdio::null()
     });
     match child.spawn(rt) {
         Ok(started) => Ok(Begun::Child(started)),
@@ -168,7 +170,7 @@ fn begin_at<R: Processes + Files>(
     }
 }
 
-/// Starts a command. Want of memory means that nothing was started.
+/// Starts a command. Its standard error goes nowhere where it isn't heard. Want of memory means that nothing was started.
 pub fn begin<R: Processes + Files + Env + AllocGlobal>(
     rt: &R,
     cmd: &Command,
@@ -181,7 +183,8 @@ pub fn begin<R: Processes + Files + Env + AllocGlobal>(
     }
 }
 
-/// Runs a command to its end. Want of memory means that nothing was started.
+/// Runs a command to its end. Its standard error goes nowhere where it isn't heard. Refused for memory, nothing was started, or the
+/// command ran and its end is lost.
 pub fn run<R: Processes + Files + Env + AllocGlobal>(
     rt: &R,
     cmd: &Command,
@@ -192,6 +195,6 @@ pub fn run<R: Processes + Files + Env + AllocGlobal>(
     match begin(rt, cmd, pipes)? {
         Begun::Missing => Ok(Outcome::Missing),
         Begun::Failed(why) => Ok(Outcome::Failed(why)),
-        Begun::Child(child) => Ok(finish(rt.alloc(), child, pipes)),
+        Begun::Child(child) => finish(rt.alloc(), child, pipes),
     }
 }

@@ -36,7 +36,8 @@ fn set_var(child: &mut process::Command, name: &str, value: &str) -> Mem<()>
 // Sets the variables of a child that has none. Of a name given twice the last counts.
 fn set_vars(child: &mut process::Command, vars: &Vars) -> Mem<()>
     requires { (name : List ℕ) → command_var child.old name ≡ None }
-    ensures vars { OnOk result ((name : List ℕ) → command_var child.new name ≡ child_value vars.now name) }
+    ensures vars { OnOk result ((name : List ℕ)
+        → command_var child.new name ≡ child_value vars.now name) }
     ensures clears { OnOk result (clears_env child.new ≡ clears_env child.old) }
     ensures call { OnOk result (SameProgramAndArgs child.old child.new) }
     ensures dir { OnOk result (SameDir child.old child.new) }
@@ -52,7 +53,8 @@ pub fn child_of(alloc: Global, program: &str, cmd: &Command) -> Mem<process::Com
     ensures program { IfOk result (λ c. command_program c ≡ program.now) }
     ensures args { IfOk result (λ c. command_args c ≡ cmd.now.args) }
     ensures clears { IfOk result (λ c. clears_env c ≡ true) }
-    ensures vars { IfOk result (λ c. (name : List ℕ) → command_var c name ≡ child_value cmd.now.env name) }
+    ensures vars { IfOk result (λ c. (name : List ℕ)
+        → command_var c name ≡ child_value cmd.now.env name) }
     ensures dir { IfOk result (λ c. command_dir c ≡ cmd.now.dir) }
 {
     let mut child = process::Command::new(alloc, program)?;

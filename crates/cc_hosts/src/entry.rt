@@ -38,7 +38,7 @@ fn variable_of(entry: &str) -> Option<(&str, &str)>
 }
 
 /// Adds the variable of an entry `NAME=VALUE` last. An entry without a name or without an `=` adds none, and so does one
-/// that isn't UTF-8. AnswersUncounted whether it is. Refused for memory, the variables stay as they were.
+/// that isn't UTF-8. Replies whether it is. Refused for memory, the variables stay as they were.
 pub fn add_entry(vars: &mut Vars, entry: &[u8]) -> Mem<bool>
     ensures ok { OnOk result (vars.new ≡ vars.old ++ entry_vars entry.now) }
     ensures text { IfOk result (λ b. b ≡ is_some (text_of entry.now)) }

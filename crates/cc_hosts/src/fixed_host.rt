@@ -1,7 +1,7 @@
 // A host in memory whose questions come to fixed outcomes.
 ghost use Rattle.std.specs.Prelude.{◌≡◌, [], ◌∷◌, ◌++◌, IfOk, OnOk, OnErr};
-ghost use Rattle.cc_host.specs.Bench.{BenchSeen, fresh};
-ghost use Rattle.cc_host.specs.Script.{patience_of, was_met};
+ghost use Rattle.cc_host.specs.Bench.{BenchSeen, fresh, with_script, with_missing, with_failure, with_file};
+ghost use Rattle.cc_host.specs.Script.{patience_of};
 
 use cc_host::{
     BenchHost, Command, Created, Event, Host, HostCall, HostError, LineKind, News, Outcome, Pipes,
@@ -23,7 +23,7 @@ impl World for Fixed {
     ghost answer = { λ q. default_outcome q.ask };
 }
 
-/// A host in memory that is reported no outcome of a question. All else is as in `BenchHost`.
+/// A host in memory that is given no outcome of a question. All else is as in `BenchHost`.
 #[derive(Drop)]
 pub struct FixedHost {
     bench: BenchHost,
@@ -38,7 +38,7 @@ impl Model for FixedHost {
 }
 
 impl FixedHost {
-    /// A host that was reported nothing. It takes no memory.
+    /// A host as it is before anything is set on it. It takes no memory.
     pub fn new(alloc: Global) -> Mem<FixedHost>
         ensures { IfOk result (λ h. h ≡ fresh) }
     {
@@ -50,7 +50,7 @@ impl FixedHost {
     /// Scripts each command of the role that has the word, as its program or among its words. The script that was added
     /// last counts. Refused for memory, the host stays as it was.
     pub fn script(&mut self, role: Role, word: &str, script: Script) -> Mem<()>
-        ensures ok { OnOk result (self.new ≡ record self.old { scripts = self.old.scripts ++ record { role = role; word = word.now; script = script; met = was_met script.after self.old.log } ∷ [] }) }
+        ensures ok { OnOk result (self.new ≡ with_script role word.now script self.old) }
         ensures err { OnErr result (self.new ≡ self.old) }
     {
         self.bench.script(role, word, script)
@@ -58,7 +58,7 @@ impl FixedHost {
 
     /// Makes each command of the program missing, scripted or not. Refused for memory, the host stays as it was.
     pub fn missing(&mut self, program: &str) -> Mem<()>
-        ensures ok { OnOk result (self.new ≡ record self.old { missing = self.old.missing ++ program.now ∷ [] }) }
+        ensures ok { OnOk result (self.new ≡ with_missing program.now self.old) }
         ensures err { OnErr result (self.new ≡ self.old) }
     {
         self.bench.missing(program)
@@ -66,7 +66,7 @@ impl FixedHost {
 
     /// Makes the nth call of the kind on this host, from 1, fault with `Why::Other`. Refused for memory, the host stays as it was.
     pub fn fail(&mut self, call: HostCall, nth: u64) -> Mem<()>
-        ensures ok { OnOk result (self.new ≡ record self.old { failures = self.old.failures ++ record { call = call; nth = nth } ∷ [] }) }
+        ensures ok { OnOk result (self.new ≡ with_failure call nth self.old) }
         ensures err { OnErr result (self.new ≡ self.old) }
     {
         self.bench.fail(call, nth)
@@ -74,7 +74,7 @@ impl FixedHost {
 
     /// Puts a file at the path. Refused for memory, the host stays as it was.
     pub fn file(&mut self, path: &str) -> Mem<()>
-        ensures ok { OnOk result (self.new ≡ record self.old { files = self.old.files ++ path.now ∷ [] }) }
+        ensures ok { OnOk result (self.new ≡ with_file path.now self.old) }
         ensures err { OnErr result (self.new ≡ self.old) }
     {
         self.bench.file(path)

@@ -1,11 +1,10 @@
 //! A host over the machine, its processes, files and streams, and a host in memory with fixed outcomes.
 //!
 //! Stands on `cc_text` and `cc_host`. The world of `FixedHost` is steady. `ProcessHost` keeps the trait `Host`, and nothing is proved of it beyond that: a
-//! proof can't tell what a process did. What it starts a child with, and what it keeps of the child's end, are values
+//! proof can't say what a process did. What it starts a child with, and what it keeps of the child's end, are values
 //! with contracts of their own.
 #![tactic(auto)]
 
-mod brood;
 mod child;
 mod command;
 mod entry;
@@ -13,6 +12,7 @@ mod fixed_host;
 mod look_up;
 mod process_host;
 mod reason;
+mod running;
 
 pub use fixed_host::{Fixed, FixedHost};
 pub use process_host::{ProcessHost, Real};

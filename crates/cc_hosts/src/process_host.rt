@@ -5,16 +5,16 @@ ghost use Rattle.cc_host.specs.Given.{is_answered};
 ghost use Rattle.cc_host.specs.declared.question.Outcome.TheVariants.{Done};
 ghost use Rattle.cc_hosts.specs.HostSeen.{HostSeen, fresh};
 
-use crate::brood::Brood;
 use crate::child::{self, Begun, Ended};
 use crate::entry::list_vars;
 use crate::reason::why_of;
+use crate::running::{self, Process};
 use cc_host::{
-    Ask, Command, Created, Event, Host, HostCall, HostError, LineKind, News, Outcome, OutputKind,
-    Pipes, ProbeFiles, Question, Ran, Removal, Role, Scope, Start, Verdict, Why, World,
-    probe_command,
+    ChildLog, Command, Created, Event, Host, HostCall, HostError, LineKind, News, Outcome,
+    OutputKind, Pipes, ProbeFiles, Question, Ran, Removal, Role, Scope, Start, Verdict, Why, World,
+    exists_of, probe_command,
 };
-use cc_text::{Bytes, Mem, NoMemory, Text, Vars, Words};
+use cc_text::{Bytes, Mem, NoMemory, Text, Vars};
 use std::alloc::Global;
 use std::env::Env;
 use std::io::{Eprint, ErrorKind, Print, Write};
@@ -37,19 +37,24 @@ impl World for Real {
 }
 
 /// A host over the processes, the files and the streams of the machine, by its runtime. It keeps the trait `Host`, and no
-/// more is proved of it: no proof can tell what a process did.
+/// more is proved of it: no proof can say what a process did.
+///
+/// A child whose standard error isn't heard writes it nowhere. Refused for memory, a call that started nothing did nothing. A child
+/// whose standard error can't be kept runs on, what it wrote so far is kept, and the next turn goes on from there. A command of `output`
+/// or `probe` whose end can't be kept did run: its end is lost, and no event is noted.
 #[derive(Drop)]
 pub struct ProcessHost<R: Processes> {
     rt: R,
     alloc: Global,
-    brood: Brood<R::Started>,
+    log: ChildLog,
+    processes: Vec<Process<R::Started>>,
     drawn: u64,
 }
 
 impl<R: Processes> Model for ProcessHost<R> {
     ghost Value = { HostSeen };
 
-    ghost view = { λ h. record { log = h.brood.log; faults = h.brood.faults } };
+    ghost view = { λ h. record { log = h.log.log; faults = h.log.faults } };
 }
 
 impl<R: Processes + AllocGlobal> ProcessHost<R> {
@@ -61,7 +66,8 @@ impl<R: Processes + AllocGlobal> ProcessHost<R> {
         Ok(ProcessHost {
             rt,
             alloc,
-            brood: Brood::new(alloc),
+            log: ChildLog::new(alloc),
+            processes: Vec::new(alloc),
             drawn: 0,
         })
     }
@@ -105,38 +111,42 @@ impl<R: Processes + Files + Env + Print + Eprint + RandomSource + AllocGlobal> H
         pipes: Pipes,
         held: u64,
     ) -> Result<Start, HostError> {
-        self.brood.reserve_child()?;
+        self.log.reserve_child()?;
+        self.processes.reserve(1)?;
         let command = cmd.try_clone()?;
-        match child::begin(&self.rt, cmd, pipes)? {
+        match child::begin(&self.rt, cmd, heard_only(pipes))? {
             Begun::Missing => {
-                self.brood.note(Event::Missing { role, cmd: command });
+                self.log.note(Event::Missing { role, cmd: command });
                 Ok(Start::Missing)
             }
-            Begun::Failed(why) => Err(self.brood.fault(HostCall::Start, why)),
+            Begun::Failed(why) => Err(self.log.fault(HostCall::Start, why)),
             Begun::Child(child) => {
-                let id = self.brood.note_child(child, role, command, pipes, held);
+                let id = self.log.note_child(role, command, pipes, held, None);
+                self.processes
+                    .push_reserved(Process::new(self.alloc, id, child));
                 Ok(Start::Child(id))
             }
         }
     }
 
     fn turn(&mut self, _rest_ms: u64) -> Result<Vec<News>, HostError> {
-        let news = self.brood.turn()?;
+        let news = running::turn(self.alloc, &mut self.log, &mut self.processes)?;
         Ok(news)
     }
 
     fn abandon(&mut self, id: u64) {
-        self.brood.abandon(id);
+        running::stop(&mut self.processes, id);
+        let _ = self.log.abandon(id);
     }
 
     #[tactic(auto, using(cc_host::proofs::GivenLemmas::answered_event, cc_host::proofs::GivenLemmas::answered_is))]
     fn probe(&mut self, q: &Question, files: &ProbeFiles) -> Mem<Outcome> {
-        self.brood.reserve(2)?;
+        self.log.reserve(2)?;
         let question = q.try_clone()?;
         let with = files.try_clone()?;
-        match outcome_of(ask(self.alloc, &self.rt, q, files)?) {
+        match outcome_of(ask(self.alloc, &self.rt, q, files)?)? {
             Ok((outcome, copy)) => {
-                self.brood.note(Event::Answered {
+                self.log.note(Event::Answered {
                     question,
                     files: Some(with),
                     outcome: copy,
@@ -144,8 +154,8 @@ impl<R: Processes + Files + Env + Print + Eprint + RandomSource + AllocGlobal> H
                 Ok(outcome)
             }
             Err(why) => {
-                self.brood.fault(HostCall::Probe, why);
-                self.brood.note(Event::Answered {
+                self.log.fault(HostCall::Probe, why);
+                self.log.note(Event::Answered {
                     question,
                     files: Some(with),
                     outcome: Outcome::Unanswered,
@@ -156,30 +166,25 @@ impl<R: Processes + Files + Env + Print + Eprint + RandomSource + AllocGlobal> H
     }
 
     fn reused(&mut self, q: &Question, verdict: &Verdict) -> Mem<()> {
-        self.brood.reserve(1)?;
+        self.log.reserve(1)?;
         let question = q.try_clone()?;
         let verdict = verdict.try_clone()?;
-        self.brood.note(Event::Reused { question, verdict });
+        self.log.note(Event::Reused { question, verdict });
         Ok(())
     }
 
     fn unasked(&mut self, q: &Question) -> Mem<()> {
-        self.brood.reserve(1)?;
+        self.log.reserve(1)?;
         let question = q.try_clone()?;
-        self.brood.note(Event::Unasked { question });
+        self.log.note(Event::Unasked { question });
         Ok(())
     }
 
     fn exists(&mut self, path: &str) -> Mem<bool> {
-        self.brood.reserve(1)?;
-        let question = Question {
-            ask: Ask::Exists,
-            program: Text::of(self.alloc, path)?,
-            words: Words::new(self.alloc),
-            vars: Vars::new(self.alloc),
-        };
+        self.log.reserve(1)?;
+        let question = exists_of(self.alloc, path)?;
         let there = fs::exists(&self.rt, path).unwrap_or(false);
-        self.brood.note(Event::Answered {
+        self.log.note(Event::Answered {
             question,
             files: None,
             outcome: Outcome::Exists(there),
@@ -188,121 +193,130 @@ impl<R: Processes + Files + Env + Print + Eprint + RandomSource + AllocGlobal> H
     }
 
     fn create_probe(&mut self, path: &str, contents: &[u8]) -> Result<Created, HostError> {
-        self.brood.reserve_probe()?;
+        self.log.reserve_probe()?;
         let name = Text::of(self.alloc, path)?;
         let kept = Text::of(self.alloc, path)?;
         let bytes = Bytes::of(self.alloc, contents)?;
         match create_new(&self.rt, path, contents) {
             Ok(Created::New) => {
-                self.brood.note_opened(name, kept, bytes);
+                self.log.note_opened(name, kept, bytes);
                 Ok(Created::New)
             }
             Ok(Created::Exists) => {
-                self.brood.note(Event::Taken { path: name });
+                self.log.note(Event::Taken { path: name });
                 Ok(Created::Exists)
             }
-            Err(why) => Err(self.brood.fault(HostCall::CreateProbe, why)),
+            Err(why) => Err(self.log.fault(HostCall::CreateProbe, why)),
         }
     }
 
     fn drop_probe(&mut self, path: &str) {
         let _ = fs::remove_file(&self.rt, path);
-        self.brood.note_dropped(path);
+        self.log.note_dropped(path);
     }
 
     fn random(&mut self) -> Mem<u64> {
-        self.brood.reserve(1)?;
+        self.log.reserve(1)?;
         self.drawn = self.drawn.wrapping_add(1);
         let word = random_word(&self.rt, self.drawn);
-        self.brood.note(Event::Drawn { word });
+        self.log.note(Event::Drawn { word });
         Ok(word)
     }
 
     fn output(&mut self, role: Role, cmd: &Command, pipes: Pipes) -> Result<Ran, HostError> {
-        self.brood.reserve(1)?;
+        self.log.reserve(1)?;
         let command = cmd.try_clone()?;
         match child::run(&self.rt, cmd, pipes)? {
             child::Outcome::Missing => {
-                self.brood.note(Event::Missing { role, cmd: command });
+                self.log.note(Event::Missing { role, cmd: command });
                 Ok(Ran::Missing)
             }
-            child::Outcome::Failed(why) => Err(self.brood.fault(HostCall::Output, why)),
-            child::Outcome::Ended(end) => match end.try_clone() {
-                Ok(Ended { status, out, err }) => {
-                    self.brood.note(Event::Ran {
-                        role,
-                        cmd: command,
-                        pipes,
-                        status,
-                        out,
-                        err,
-                    });
-                    Ok(Ran::Done {
-                        status,
-                        out: end.out,
-                        err: end.err,
-                    })
-                }
-                Err(_) => Err(self.brood.fault(HostCall::Output, Why::Other)),
-            },
+            child::Outcome::Failed(why) => Err(self.log.fault(HostCall::Output, why)),
+            child::Outcome::Ended(end) => {
+                let Ended { status, out, err } = end.try_clone()?;
+                self.log.note(Event::Ran {
+                    role,
+                    cmd: command,
+                    pipes,
+                    status,
+                    out,
+                    err,
+                });
+                Ok(Ran::Done {
+                    status,
+                    out: end.out,
+                    err: end.err,
+                })
+            }
         }
     }
 
     fn make_dir(&mut self, scope: Scope, path: &str) -> Result<(), HostError> {
-        self.brood.reserve(1)?;
+        self.log.reserve(1)?;
         let made = Text::of(self.alloc, path)?;
         match fs::create_dir_all(&self.rt, path) {
             Ok(()) => {
-                self.brood.note(Event::Made { scope, path: made });
+                self.log.note(Event::Made { scope, path: made });
                 Ok(())
             }
             Err(error) => {
                 let why = why_of(error.kind());
-                Err(self.brood.fault(HostCall::MakeDir(scope), why))
+                Err(self.log.fault(HostCall::MakeDir(scope), why))
             }
         }
     }
 
     fn remove_file(&mut self, path: &str) -> Result<Removal, HostError> {
-        self.brood.reserve(1)?;
+        self.log.reserve(1)?;
         let removed = Text::of(self.alloc, path)?;
         match remove(&self.rt, path) {
             Ok(how) => {
-                self.brood.note(Event::Removed { path: removed, how });
+                self.log.note(Event::Removed { path: removed, how });
                 Ok(how)
             }
-            Err(why) => Err(self.brood.fault(HostCall::Remove, why)),
+            Err(why) => Err(self.log.fault(HostCall::Remove, why)),
         }
     }
 
     fn print(&mut self, kind: LineKind, bytes: &[u8]) -> Result<(), HostError> {
-        self.brood.reserve(1)?;
+        self.log.reserve(1)?;
         let line = Bytes::of(self.alloc, bytes)?;
         let text = String::from_utf8_lossy(self.alloc, bytes).map_err(NoMemory::from)?;
         match write_line(&self.rt, kind, bytes, text) {
             Ok(()) => {
-                self.brood.note(Event::Printed { kind, bytes: line });
+                self.log.note(Event::Printed { kind, bytes: line });
                 Ok(())
             }
-            Err(error) => Err(self.brood.fault(HostCall::Print, why_of(error.kind()))),
+            Err(error) => Err(self.log.fault(HostCall::Print, why_of(error.kind()))),
         }
     }
 
     fn vars(&mut self) -> Result<Vars, HostError> {
-        self.brood.reserve(1)?;
+        self.log.reserve(1)?;
         let listing = list_vars(self.alloc, &self.rt)?;
         let vars = listing.vars.try_clone()?;
         match warn(&self.rt, listing.left_out) {
             Ok(()) => {
-                self.brood.note(Event::Listed { vars });
+                self.log.note(Event::Listed { vars });
                 Ok(listing.vars)
             }
-            Err(error) => Err(self.brood.fault(HostCall::Vars, why_of(error.kind()))),
+            Err(error) => Err(self.log.fault(HostCall::Vars, why_of(error.kind()))),
         }
     }
 
     fn log(&self) -> &[Event] {
-        self.brood.events()
+        self.log.events()
+    }
+}
+
+// The pipes of a child that runs on: of its outputs only the standard error can be kept.
+fn heard_only(pipes: Pipes) -> Pipes {
+    match pipes.out {
+        OutputKind::Forward => pipes,
+        OutputKind::Capture | OutputKind::Discard => Pipes {
+            out: OutputKind::Discard,
+            hear: pipes.hear,
+        },
     }
 }
 
@@ -337,23 +351,16 @@ fn ask<R: Processes + Files + Env + AllocGlobal>(
 }
 
 // What a question comes to by the end of its command, and a second outcome that equals it; or why it isn't answered.
-fn outcome_of(end: child::Outcome) -> Result<(Outcome, Outcome), Why>
-    ensures { IfOk result (λ p. (p.0 ≡ p.1) × (is_answered p.0 ≡ true)) }
+fn outcome_of(end: child::Outcome) -> Mem<Result<(Outcome, Outcome), Why>>
+    ensures { IfOk result (λ r. IfOk r (λ p. (p.0 ≡ p.1) × (is_answered p.0 ≡ true))) }
 {
     match end {
-        child::Outcome::Missing => Ok((Outcome::Missing, Outcome::Missing)),
-        child::Outcome::Failed(why) => Err(why),
-        child::Outcome::Ended(end) => ended(end),
-    }
-}
-
-// What a question comes to whose command ended. Memory that is wanted now is a failure: the command did run.
-fn ended(end: Ended) -> Result<(Outcome, Outcome), Why>
-    ensures { IfOk result (λ p. (p.0 ≡ p.1) × (is_answered p.0 ≡ true)) }
-{
-    match end.try_clone() {
-        Ok(copy) => Ok((done(end), done(copy))),
-        Err(_) => Err(Why::Other),
+        child::Outcome::Missing => Ok(Ok((Outcome::Missing, Outcome::Missing))),
+        child::Outcome::Failed(why) => Ok(Err(why)),
+        child::Outcome::Ended(end) => {
+            let copy = end.try_clone()?;
+            Ok(Ok((done(end), done(copy))))
+        }
     }
 }
 

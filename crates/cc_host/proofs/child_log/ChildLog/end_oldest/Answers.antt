@@ -1,7 +1,7 @@
 use Rattle.std.proofs.Common.{◌≡◌, ◌++◌, ◌∷◌, [], ◌∙◌, ap, subst, sym, arith, List, append_assoc, append-nil}
 use Rattle.std.specs.List.{flat_map}
 use Rattle.std.proofs.lemmas.Grind.{common_steps}
-use Rattle.cc_host.specs.ChildLog.{ChildLogSeen, AreRunning, AreHeard, IsEndOfOldest, without_oldest}
+use Rattle.cc_host.specs.ChildLog.{ChildLogSeen, AreRunning, IsEndOfOldest, without_oldest}
 use Rattle.cc_host.specs.Children.{IsNews}
 use Rattle.cc_host.specs.Event.{apart, reported}
 use Rattle.cc_host.specs.Journal.{IsQuiet, JournalSeen}
@@ -51,5 +51,4 @@ pub returns-clause-news : goal.returns-clause-news
 returns-clause-news c =
     let same : c.self.inside.children.items ≡ c.args.self.now.children = ap (λ (s : ChildLogSeen). s.children) c.self.view_is in
     let own : IsEndOfOldest c.self.inside.children.items c.args.news.now = subst (λ (l : List RunningChild). IsEndOfOldest l c.args.news.now) (sym same) c.requires.own in
-    let heard : AreHeard c.self.inside.children.items = subst AreHeard (sym same) c.requires.heard in
-    subst (λ (l : List Event). IsNews l (c.args.news.now ∷ [])) (ap (λ (s : ChildLogSeen). s.log) c.self.view_is) (news_end c.self.inside.journal.log c.self.inside.next c.args.news.now c.self.inside.children.items own heard c.self.invariant.alive)
+    subst (λ (l : List Event). IsNews l (c.args.news.now ∷ [])) (ap (λ (s : ChildLogSeen). s.log) c.self.view_is) (news_end c.self.inside.journal.log c.self.inside.next c.args.news.now c.self.inside.children.items own c.self.invariant.alive)
