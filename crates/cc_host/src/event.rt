@@ -49,10 +49,12 @@ pub enum OutputKind {
     Capture,
 }
 
-/// The outputs of a command: what becomes of the standard output, and whether the standard error is heard.
+/// The outputs of a command.
 #[derive(Clone, Copy, Debug, PartialEq, Eq)]
 pub struct Pipes {
+    /// What becomes of the standard output.
     pub out: OutputKind,
+    /// Whether the standard error is kept and answered. Where it isn't, nobody reads it.
     pub hear: bool,
 }
 
@@ -107,30 +109,45 @@ pub enum LineKind {
 /// A call of a host that may fault.
 #[derive(Clone, Copy, Debug, PartialEq, Eq)]
 pub enum HostCall {
+    /// A child was to be started.
     Start,
+    /// The children were to be waited for.
     Turn,
+    /// A command was to run to its end.
     Output,
+    /// A question was to be asked by its command.
     Probe,
+    /// A folder of this kind was to be made.
     MakeDir(Scope),
+    /// A probe file was to be made.
     CreateProbe,
+    /// A file was to be removed.
     Remove,
+    /// Bytes were to be printed.
     Print,
+    /// The variables of the host were to be listed.
     Vars,
 }
 
-/// Why a call faulted.
+/// Why a call faulted. A host over the machine takes it from the kind of `std::io::Error`.
 #[derive(Clone, Copy, Debug, PartialEq, Eq)]
 pub enum Why {
+    /// Something that the call names isn't there.
     NotFound,
+    /// The call isn't permitted.
     Denied,
+    /// Something stands there already.
     Exists,
+    /// Any other reason.
     Other,
 }
 
 /// A refusal of a host: a fault of its own, with the call and the reason, or want of memory.
 #[derive(Clone, Copy, Debug, PartialEq, Eq)]
 pub enum HostError {
+    /// This call faulted, for this reason. The log has the fault last.
     Fault(HostCall, Why),
+    /// Memory was refused. The log is as before.
     NoMemory,
 }
 
@@ -180,13 +197,16 @@ pub enum Start {
     Missing,
 }
 
-/// What a child did in a turn: the piece of its standard error that came, which isn't empty, whether that failed to be read, and how the
-/// child ended.
+/// What a child did in a turn.
 #[derive(Drop, Debug)]
 pub struct News {
+    /// The number of the child.
     pub id: u64,
+    /// The piece of its standard error that came. It isn't empty.
     pub piece: Option<Bytes>,
+    /// Whether its standard error failed to be read, after the piece. No further piece of it comes.
     pub unread: bool,
+    /// How it ended, where it did. It runs no more.
     pub ended: Option<Status>,
 }
 

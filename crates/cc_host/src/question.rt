@@ -150,20 +150,30 @@ impl Outcome {
 pub struct Marks {
     /// It read a path as the option `/U`.
     pub slash_u: bool,
+    /// It is Clang, by the macro `__clang__`.
     pub clang: bool,
+    /// It is GCC or like it, by the macro `__GNUC__`.
     pub gcc: bool,
+    /// It is Emscripten, by the macro `__EMSCRIPTEN__`.
     pub emscripten: bool,
+    /// It is for VxWorks, by the macro `__VXWORKS__`.
     pub vxworks: bool,
 }
 
 /// What an outcome means for its question.
 #[derive(Drop, Debug)]
 pub enum Verdict {
+    /// The question couldn't be asked.
     Unanswered,
+    /// The program can't be found.
     Missing,
+    /// It isn't so, or the program says nothing that can be read.
     No,
+    /// It is so.
     Yes,
+    /// What the preprocessor shows.
     Marks(Marks),
+    /// Where the program searches for programs, as it prints them.
     Dirs(Text),
 }
 

@@ -1,5 +1,5 @@
 -- The oldest child of a host over the machine.
-use Rattle.std.proofs.Common.{◌≡◌, ℕ, Bool, true, false, List, [], ◌∷◌, slice_get, is_some, Option, Some, None, refl, ◌∙◌, ap, sym, subst}
+use Rattle.std.proofs.Common.{◌≡◌, ℕ, Bool, true, false, List, [], ◌∷◌, slice_get, is_some, Some, None, refl, ◌∙◌, ap, sym, subst}
 use Rattle.cc_host.specs.ChildLog.{IsPieceBy, IsEndOfOldest, piece_by}
 use Rattle.cc_host.specs.declared.child.RunningChild.{RunningChild}
 use Rattle.cc_host.specs.declared.event.News.{News}

@@ -1,8 +1,7 @@
 -- The processes that run as children, and what is noted of their ends.
-use Rattle.std.specs.Prelude.{◌≡◌, ℕ, Bool, true, List, Option, Some, Result, Ok, Err}
+use Rattle.std.specs.Prelude.{ℕ, Bool, true, List, Option, Some, Result, Ok, Err}
 use Rattle.std.specs.Process.{exit_code}
 use Rattle.std.specs.declared.process.ExitStatus.{ExitStatus}
-use Rattle.cc_host.specs.ChildLog.{full}
 use Rattle.cc_host.specs.declared.event.News.{News}
 use Rattle.cc_host.specs.declared.event.Status.TheVariants.{NoCode}
 use Rattle.cc_hosts.specs.Child.{status_of}

@@ -136,6 +136,17 @@ fn finish<P: OpenProcess + Drop>(alloc: Global, child: Child<P>, pipes: Pipes) -
     }
 }
 
+/// The pipes of a child that runs on: of its outputs only the standard error can be kept.
+pub fn heard_only(pipes: Pipes) -> Pipes {
+    match pipes.out {
+        OutputKind::Forward => pipes,
+        OutputKind::Capture | OutputKind::Discard => Pipes {
+            out: OutputKind::Discard,
+            hear: pipes.hear,
+        },
+    }
+}
+
 fn stdio_of(kind: OutputKind) -> Stdio {
     match kind {
         OutputKind::Forward => Stdio::inherit(),

@@ -114,7 +114,7 @@ impl<R: Processes + Files + Env + Print + Eprint + RandomSource + AllocGlobal> H
         self.log.reserve_child()?;
         self.processes.reserve(1)?;
         let command = cmd.try_clone()?;
-        match child::begin(&self.rt, cmd, heard_only(pipes))? {
+        match child::begin(&self.rt, cmd, child::heard_only(pipes))? {
             Begun::Missing => {
                 self.log.note(Event::Missing { role, cmd: command });
                 Ok(Start::Missing)
@@ -306,17 +306,6 @@ impl<R: Processes + Files + Env + Print + Eprint + RandomSource + AllocGlobal> H
 
     fn log(&self) -> &[Event] {
         self.log.events()
-    }
-}
-
-// The pipes of a child that runs on: of its outputs only the standard error can be kept.
-fn heard_only(pipes: Pipes) -> Pipes {
-    match pipes.out {
-        OutputKind::Forward => pipes,
-        OutputKind::Capture | OutputKind::Discard => Pipes {
-            out: OutputKind::Discard,
-            hear: pipes.hear,
-        },
     }
 }
 
