@@ -378,8 +378,10 @@ fn read_settings<W: World>(alloc: Global, words: &[String]) -> Result<Build<W>, 
 /// Refused at the first bad word, with its place from 0 and the first cause that holds. A list setting takes the values of its key in
 /// order, a single one the last.
 pub fn read_words<W: World>(alloc: Global, words: &[String]) -> Result<Request<W>, ReadError>
-    ensures ok { IfOk result (λ request. asked_for words.now ≡ Ok (name_of request.job, request.build)) }
-    ensures refused { IfErr result (λ e. (e ≡ WantsMemory) ⊎ (refusal_of (asked_for words.now) ≡ Some e)) }
+    ensures ok { IfOk result
+        (λ request. asked_for words.now ≡ Ok (name_of request.job, request.build)) }
+    ensures refused { IfErr result
+        (λ e. (e ≡ WantsMemory) ⊎ (refusal_of (asked_for words.now) ≡ Some e)) }
 {
     match words {
         [] => Err(bad(0, WordCause::NoCommand)),

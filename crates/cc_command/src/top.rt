@@ -137,7 +137,8 @@ fn print_error<W: World, H: Host<W>>(alloc: Global, host: &mut H, error: &Error)
     ensures extends { H.log host.new ≡ H.log host.old ++ part H.log host.old host.new }
     ensures asks_none { question_events (part H.log host.old host.new) ≡ [] }
     ensures kind { OnOk result (is_wanting error.now.kind ≡ false) }
-    ensures printed { OnOk result (PrintsLine (line_of_error error.now) (part H.log host.old host.new)) }
+    ensures printed { OnOk result (PrintsLine (line_of_error error.now)
+        (part H.log host.old host.new)) }
     ensures wanting { OnErr result (part H.log host.old host.new ≡ []) }
 {
     if is_wanting(error.kind()) {
@@ -220,7 +221,8 @@ fn run<W: World, H: Host<W>, J: Jobs>(
     ensures fits { J.fits jobs.now seat.new }
     ensures empty { J.held seat.new ≡ 0 }
     ensures extends { H.log host.new ≡ H.log host.old ++ part H.log host.old host.new }
-    ensures asked { AsksWords W.steady W.answer (asked_for words.now) (part H.log host.old host.new) }
+    ensures asked { AsksWords W.steady W.answer (asked_for words.now)
+        (part H.log host.old host.new) }
     ensures answer { ByRun H.log H.patience J.total J.faults J.taken J.load turns
         host.old host.new seat.old seat.new (IsAnswerTo words.now result) }
 {
@@ -265,7 +267,8 @@ pub fn drive<W: World, H: Host<W>, J: Jobs>(
     ensures settled { NothingRuns (part H.log host.old host.new) }
 
     // What questions leave in the log: each is answered once, and no probe file stays.
-    ensures asked { AsksWords W.steady W.answer (asked_for words.now) (part H.log host.old host.new) }
+    ensures asked { AsksWords W.steady W.answer (asked_for words.now)
+        (part H.log host.old host.new) }
 {
     run(rt, alloc, words, turns, host, jobs, seat)
 }
