@@ -130,7 +130,8 @@ impl<W: World> Build<W> {
         ensures ok { OnOk result (Sets self.old self.new (λ c. record c {
           flags = c.flags ++ always (flags_in self.old environ_key.now);
         })) }
-        ensures allowed { OnOk result (flags_error self.old.config self.old.env environ_key.now ≡ None) }
+        ensures allowed { OnOk result
+            (flags_error self.old.config self.old.env environ_key.now ≡ None) }
         ensures err { OnErr result (self.new ≡ self.old) }
         ensures refused { IfErr result (λ e. (e ≡ no_memory)
             ⊎ (flags_error self.old.config self.old.env environ_key.now ≡ Some e)) }
@@ -181,7 +182,8 @@ impl<W: World> Build<W> {
         ensures asked { Asked W.steady W.answer (probes self.now) (part H.log host.old host.new) }
         ensures tool { IfOk result (λ tool. ByAnswers H.log host.old host.new
             (IsTool self.now.config self.now.env tool)) }
-        ensures outcome { ByPart H.log host.old host.new (ToolEnds self.now.config self.now.env result) }
+        ensures outcome { ByPart H.log host.old host.new
+            (ToolEnds self.now.config self.now.env result) }
     {
         compiler(rt, self.alloc, host, &self.caches, &self.config, &self.env)
     }

@@ -28,8 +28,10 @@ pub(crate) fn compiler<W: World, H: Host<W>>(
     env: &BuildEnv,
 ) -> Result<Tool, Error>
     ensures extends { H.log host.new ≡ H.log host.old ++ part H.log host.old host.new }
-    ensures asked { Asked W.steady W.answer (probe_folder set.now env.now) (part H.log host.old host.new) }
-    ensures tool { IfOk result (λ tool. ByAnswers H.log host.old host.new (IsTool set.now env.now tool)) }
+    ensures asked { Asked W.steady W.answer (probe_folder set.now env.now)
+        (part H.log host.old host.new) }
+    ensures tool { IfOk result (λ tool. ByAnswers H.log host.old host.new
+        (IsTool set.now env.now tool)) }
     ensures outcome { ByPart H.log host.old host.new (ToolEnds set.now env.now result) }
 {
     let mut answers = Answers::new(alloc);

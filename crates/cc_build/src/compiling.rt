@@ -46,7 +46,8 @@ fn plan_run<W: World, H: Host<W>>(
     ensures extends { H.log host.new ≡ H.log host.old ++ part H.log host.old host.new }
     ensures patient { H.patience host.new ≡ H.patience host.old }
     ensures quiet { list_all is_asked (part H.log host.old host.new) ≡ true }
-    ensures asked { Asked W.steady W.answer (probe_folder set.now env.now) (part H.log host.old host.new) }
+    ensures asked { Asked W.steady W.answer (probe_folder set.now env.now)
+        (part H.log host.old host.new) }
     ensures planned { IfOk result
         (λ plan. ByAnswers H.log host.old host.new (Plans set.now env.now output.now plan)) }
     ensures refused { IfErr result
@@ -82,7 +83,8 @@ fn plan_stages<W: World, H: Host<W>>(
     ensures extends { H.log host.new ≡ H.log host.old ++ part H.log host.old host.new }
     ensures patient { H.patience host.new ≡ H.patience host.old }
     ensures quiet { AsksOnly (is_disabled env.now) (part H.log host.old host.new) }
-    ensures asked { Asked W.steady W.answer (probe_folder set.now env.now) (part H.log host.old host.new) }
+    ensures asked { Asked W.steady W.answer (probe_folder set.now env.now)
+        (part H.log host.old host.new) }
     ensures planned { IfOk result (λ stages. ByAnswers H.log host.old host.new
         (Drafts set.now env.now output.now (stages_seen stages.items))) }
     ensures refused { IfErr result
@@ -111,7 +113,8 @@ fn prepare_folder<W: World, H: Host<W>>(
     env: &BuildEnv,
 ) -> Result<(), Error>
     ensures aside { Aside H.log H.patience host.old host.new }
-    ensures outcome { CallsEnd (folder_steps set.now env.now) (part H.log host.old host.new) result }
+    ensures outcome { CallsEnd (folder_steps set.now env.now)
+        (part H.log host.old host.new) result }
 {
     if set.files.is_empty() {
         return Ok(());

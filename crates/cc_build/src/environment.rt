@@ -51,7 +51,8 @@ pub(crate) fn flags_of_variable(
 ) -> Result<Words, Error>
     ensures flags { IfOk result (λ words. variable_flags set.now env.now name.now ≡ Some words) }
     ensures allowed { OnOk result (flags_error set.now env.now name.now ≡ None) }
-    ensures refused { IfErr result (λ e. (e ≡ no_memory) ⊎ (flags_error set.now env.now name.now ≡ Some e)) }
+    ensures refused { IfErr result (λ e. (e ≡ no_memory) ⊎
+        (flags_error set.now env.now name.now ≡ Some e)) }
 {
     want(alloc, "TARGET", target_of(set, env))?;
     want(alloc, "HOST", host_of(set, env))?;

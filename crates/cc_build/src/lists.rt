@@ -18,7 +18,8 @@ use std::alloc::Global;
 impl<W: World> Build<W> {
     /// Adds a source last: a path, as the compiler is given it. Refused for memory, the build stays as it was.
     pub fn file(&mut self, p: &str) -> Result<(), Error>
-        ensures ok { OnOk result (Sets self.old self.new (λ c. record c { files = c.files ++ p.now ∷ [] })) }
+        ensures ok { OnOk result (Sets self.old self.new
+            (λ c. record c { files = c.files ++ p.now ∷ [] })) }
         ensures err { OnErr result (self.new ≡ self.old) }
         ensures refused { IfErr result (λ e. e ≡ no_memory) }
     {
@@ -50,7 +51,8 @@ impl<W: World> Build<W> {
 
     /// Adds sources last, in order. Refused for memory, the build stays as it was.
     pub fn files(&mut self, p: &Words) -> Result<(), Error>
-        ensures ok { OnOk result (Sets self.old self.new (λ c. record c { files = c.files ++ p.now })) }
+        ensures ok { OnOk result (Sets self.old self.new
+            (λ c. record c { files = c.files ++ p.now })) }
         ensures err { OnErr result (self.new ≡ self.old) }
         ensures refused { IfErr result (λ e. e ≡ no_memory) }
     {

@@ -74,7 +74,8 @@ impl<W: World> Build<W> {
 
     /// Sets whether CodeView debug information names no folder of the build. It takes no memory.
     pub fn reproducible_codeview(&mut self, reproducible_codeview: bool)
-        ensures { Sets self.old self.new (λ c. record c { reproducible_codeview = reproducible_codeview }) }
+        ensures { Sets self.old self.new
+            (λ c. record c { reproducible_codeview = reproducible_codeview }) }
     {
         self.config.reproducible_codeview = reproducible_codeview;
     }
@@ -88,7 +89,8 @@ impl<W: World> Build<W> {
 
     /// Sets whether warnings are errors. It takes no memory.
     pub fn warnings_into_errors(&mut self, warnings_into_errors: bool)
-        ensures { Sets self.old self.new (λ c. record c { warnings_into_errors = warnings_into_errors }) }
+        ensures { Sets self.old self.new
+            (λ c. record c { warnings_into_errors = warnings_into_errors }) }
     {
         self.config.warnings_into_errors = warnings_into_errors;
     }
@@ -147,7 +149,8 @@ impl<W: World> Build<W> {
 
     /// Sets whether paths are told as others where Cargo wants it by `CARGO_TRIM_PATHS_SCOPE` and `CARGO_TRIM_PATHS_REMAP`. It takes no memory.
     pub fn inherit_trim_paths(&mut self, inherit_trim_paths: bool)
-        ensures { Sets self.old self.new (λ c. record c { inherit_trim_paths = inherit_trim_paths }) }
+        ensures { Sets self.old self.new
+            (λ c. record c { inherit_trim_paths = inherit_trim_paths }) }
     {
         self.config.inherit_trim_paths = inherit_trim_paths;
     }

@@ -76,7 +76,8 @@ pub(crate) fn run_together<W: World, H: Host<W>, J: Jobs>(
     ensures total { J.total seat.new ≡ J.total seat.old }
     ensures aside { Aside H.log H.patience host.old host.new }
     ensures sum { turns.new.left + turns.new.used ≡ turns.old.left + turns.old.used }
-    ensures outcome { OnCourse H.log H.patience J.total J.faults J.taken J.load turns.old.left turns.new.left
+    ensures outcome { OnCourse H.log H.patience J.total J.faults J.taken J.load
+        turns.old.left turns.new.left
         host.old host.new seat.old seat.new (Does shows.now (RunsAll cmds.now ∷ []) result) }
 {
     match run_all(alloc, host, jobs, seat, turns, cmds, shows) {
@@ -146,7 +147,8 @@ pub(crate) fn print_line<W: World, H: Host<W>>(
     line: &str,
 ) -> Result<(), Error>
     ensures aside { Aside H.log H.patience host.old host.new }
-    ensures outcome { CallsEnd (Prints kind (line_of line.now) ∷ []) (part H.log host.old host.new) result }
+    ensures outcome { CallsEnd (Prints kind (line_of line.now) ∷ [])
+        (part H.log host.old host.new) result }
 {
     let text = printed_line(alloc, line)?;
     match host.print(kind, text.as_str().as_bytes()) {

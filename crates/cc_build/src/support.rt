@@ -64,10 +64,12 @@ pub(crate) fn is_flag_supported<W: World, H: Host<W>>(
     flag: &str,
 ) -> Result<bool, Error>
     ensures extends { H.log host.new ≡ H.log host.old ++ part H.log host.old host.new }
-    ensures asked { Asked W.steady W.answer (probe_folder set.now env.now) (part H.log host.old host.new) }
+    ensures asked { Asked W.steady W.answer (probe_folder set.now env.now)
+        (part H.log host.old host.new) }
     ensures supported { IfOk result
         (λ b. ByAnswers H.log host.old host.new (spec.IsVerdict set.now env.now flag.now b)) }
-    ensures outcome { ByPart H.log host.old host.new (spec.SupportEnds set.now env.now flag.now result) }
+    ensures outcome { ByPart H.log host.old host.new
+        (spec.SupportEnds set.now env.now flag.now result) }
 {
     let mut answers = Answers::new(alloc);
     let mut sight = Sight {

@@ -35,7 +35,8 @@ impl<W: World> Build<W> {
 
     /// Sets the target, as Rust's compiler names it. Refused for memory, the build stays as it was.
     pub fn target(&mut self, target: &str) -> Result<(), Error>
-        ensures ok { OnOk result (Sets self.old self.new (λ c. record c { target = Some target.now })) }
+        ensures ok { OnOk result (Sets self.old self.new
+            (λ c. record c { target = Some target.now })) }
         ensures err { OnErr result (self.new ≡ self.old) }
         ensures refused { IfErr result (λ e. e ≡ no_memory) }
     {
@@ -55,7 +56,8 @@ impl<W: World> Build<W> {
 
     /// Sets the optimisation level, as `0` or `z`. Refused for memory, the build stays as it was.
     pub fn opt_level_str(&mut self, opt_level: &str) -> Result<(), Error>
-        ensures ok { OnOk result (Sets self.old self.new (λ c. record c { opt_level = Some opt_level.now })) }
+        ensures ok { OnOk result (Sets self.old self.new
+            (λ c. record c { opt_level = Some opt_level.now })) }
         ensures err { OnErr result (self.new ≡ self.old) }
         ensures refused { IfErr result (λ e. e ≡ no_memory) }
     {
@@ -65,7 +67,8 @@ impl<W: World> Build<W> {
 
     /// Sets how much debug information is wanted, as `2` or `line-tables-only`. Refused for memory, the build stays as it was.
     pub fn debug_str(&mut self, debug: &str) -> Result<(), Error>
-        ensures ok { OnOk result (Sets self.old self.new (λ c. record c { debug = Some debug.now })) }
+        ensures ok { OnOk result (Sets self.old self.new
+            (λ c. record c { debug = Some debug.now })) }
         ensures err { OnErr result (self.new ≡ self.old) }
         ensures refused { IfErr result (λ e. e ≡ no_memory) }
     {
@@ -75,7 +78,8 @@ impl<W: World> Build<W> {
 
     /// Sets whether debug information is wanted. Refused for memory, the build stays as it was.
     pub fn debug(&mut self, debug: bool) -> Result<(), Error>
-        ensures ok { OnOk result (Sets self.old self.new (λ c. record c { debug = Some (truth_text debug) })) }
+        ensures ok { OnOk result (Sets self.old self.new
+            (λ c. record c { debug = Some (truth_text debug) })) }
         ensures err { OnErr result (self.new ≡ self.old) }
         ensures refused { IfErr result (λ e. e ≡ no_memory) }
     {
@@ -84,7 +88,8 @@ impl<W: World> Build<W> {
 
     /// Sets the folder of the objects and of the library. Refused for memory, the build stays as it was.
     pub fn out_dir(&mut self, out_dir: &str) -> Result<(), Error>
-        ensures ok { OnOk result (Sets self.old self.new (λ c. record c { out_dir = Some out_dir.now })) }
+        ensures ok { OnOk result (Sets self.old self.new
+            (λ c. record c { out_dir = Some out_dir.now })) }
         ensures err { OnErr result (self.new ≡ self.old) }
         ensures refused { IfErr result (λ e. e ≡ no_memory) }
     {
@@ -94,7 +99,8 @@ impl<W: World> Build<W> {
 
     /// Sets the compiler: a program, or its path. Refused for memory, the build stays as it was.
     pub fn compiler(&mut self, compiler: &str) -> Result<(), Error>
-        ensures ok { OnOk result (Sets self.old self.new (λ c. record c { compiler = Some compiler.now })) }
+        ensures ok { OnOk result (Sets self.old self.new
+            (λ c. record c { compiler = Some compiler.now })) }
         ensures err { OnErr result (self.new ≡ self.old) }
         ensures refused { IfErr result (λ e. e ≡ no_memory) }
     {
@@ -104,7 +110,8 @@ impl<W: World> Build<W> {
 
     /// Sets the archiver: a program, or its path. Refused for memory, the build stays as it was.
     pub fn archiver(&mut self, archiver: &str) -> Result<(), Error>
-        ensures ok { OnOk result (Sets self.old self.new (λ c. record c { archiver = Some archiver.now })) }
+        ensures ok { OnOk result (Sets self.old self.new
+            (λ c. record c { archiver = Some archiver.now })) }
         ensures err { OnErr result (self.new ≡ self.old) }
         ensures refused { IfErr result (λ e. e ≡ no_memory) }
     {

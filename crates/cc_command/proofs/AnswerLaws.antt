@@ -55,13 +55,13 @@ listing_done t vars x = (Listed vars, (refl, refl, refl))
 
 module _ (look : Look) (name : List ℕ) (before after : BuildSeen) (old mid new : List Event) (first : mid ≡ old ++ since old mid) (last : new ≡ mid ++ since mid new) (k : Captures before after (since old mid)) (total p q : Option ℕ) (same : p ≡ q) (x y : Means) (repeats : before.config.repeat_lines ≡ true) where
   -- the build with the variables that were listed
-  taken : BuildSeen
+  abbrev taken : BuildSeen
   taken = record before { env = with_vars before.env k.vars }
 
   listed : since old new ≡ Listed k.vars ∷ since mid new
   listed = since_since old mid new first last ∙ ap (λ l. l ++ since mid new) k.listed
 
-  t : Terms
+  abbrev t : Terms
   t = terms_for taken (course total q x y)
 
   -- the run is that of the listed variables, with the patience that the host had before

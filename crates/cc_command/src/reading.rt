@@ -86,11 +86,9 @@ fn set_key<W: World>(
 
 // Adds the macro of `K` or `K=V`.
 fn define<W: World>(build: &mut Build<W>, value: &str) -> Result<(), Error>
-    ensures {
-        OnOk result (Sets build.old build.new (λ c. record c {
-            definitions = c.definitions ++ definition_of value.now ∷ []
-        }))
-    }
+    ensures { OnOk result (Sets build.old build.new (λ c. record c {
+      definitions = c.definitions ++ definition_of value.now ∷ [];
+    })) }
 {
     match key_and_value(value) {
         Some((name, value)) => build.define(name, Some(value)),
@@ -105,10 +103,8 @@ fn set_item<W: World>(
     key: &str,
     value: &str,
 ) -> Mem<Option<WordCause>>
-    ensures {
-        is_text_key key.now ≡ false →
-            IfOk result (SetsKey build.old build.new key.now value.now)
-    }
+    ensures { is_text_key key.now ≡ false →
+        IfOk result (SetsKey build.old build.new key.now value.now) }
 {
     match key {
         "file" => set(build.file(value)),
@@ -310,10 +306,8 @@ fn set_other<W: World>(
     key: &str,
     value: &str,
 ) -> Mem<Option<WordCause>>
-    ensures {
-        is_text_key key.now ≡ false → is_item_key key.now ≡ false →
-            IfOk result (SetsKey build.old build.new key.now value.now)
-    }
+    ensures { is_text_key key.now ≡ false → is_item_key key.now ≡ false →
+        IfOk result (SetsKey build.old build.new key.now value.now) }
 {
     if is_choice_key(key) || is_switch_key(key) {
         return Ok(set_truth(build, key, value));
@@ -363,10 +357,8 @@ fn bad(place: u64, cause: WordCause) -> ReadError
 // Calls the setters of the words behind the name, in their order, up to the first bad word.
 fn read_settings<W: World>(alloc: Global, words: &[String]) -> Result<Build<W>, ReadError>
     ensures ok { IfOk result (ReadsSettings (map string_bytes words.now)) }
-    ensures refused {
-        IfErr result (λ e. (e ≡ WantsMemory)
-            ⊎ (bad_word (first_bad 2 (map string_bytes words.now)) ≡ Some e))
-    }
+    ensures refused { IfErr result (λ e. (e ≡ WantsMemory)
+        ⊎ (bad_word (first_bad 2 (map string_bytes words.now)) ≡ Some e)) }
 {
     let mut build = match Build::new(alloc) {
         Ok(build) => build,
@@ -386,12 +378,10 @@ fn read_settings<W: World>(alloc: Global, words: &[String]) -> Result<Build<W>, 
 /// Refused at the first bad word, with its place from 0 and the first cause that holds. A list setting takes the values of its key in
 /// order, a single one the last.
 pub fn read_words<W: World>(alloc: Global, words: &[String]) -> Result<Request<W>, ReadError>
-    ensures ok {
-        IfOk result (λ request. asked_for words.now ≡ Ok (name_of request.job, request.build))
-    }
-    ensures refused {
-        IfErr result (λ e. (e ≡ WantsMemory) ⊎ (refusal_of (asked_for words.now) ≡ Some e))
-    }
+    ensures ok { IfOk result
+        (λ request. asked_for words.now ≡ Ok (name_of request.job, request.build)) }
+    ensures refused { IfErr result
+        (λ e. (e ≡ WantsMemory) ⊎ (refusal_of (asked_for words.now) ≡ Some e)) }
 {
     match words {
         [] => Err(bad(0, WordCause::NoCommand)),

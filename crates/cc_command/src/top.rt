@@ -137,9 +137,8 @@ fn print_error<W: World, H: Host<W>>(alloc: Global, host: &mut H, error: &Error)
     ensures extends { H.log host.new ≡ H.log host.old ++ part H.log host.old host.new }
     ensures asks_none { question_events (part H.log host.old host.new) ≡ [] }
     ensures kind { OnOk result (is_wanting error.now.kind ≡ false) }
-    ensures printed {
-        OnOk result (PrintsLine (line_of_error error.now) (part H.log host.old host.new))
-    }
+    ensures printed { OnOk result (PrintsLine (line_of_error error.now)
+        (part H.log host.old host.new)) }
     ensures wanting { OnErr result (part H.log host.old host.new ≡ []) }
 {
     if is_wanting(error.kind()) {
@@ -186,15 +185,11 @@ fn serve<W: World, H: Host<W>, J: Jobs>(
     ensures fits { J.fits jobs.now seat.new }
     ensures empty { J.held seat.new ≡ 0 }
     ensures extends { H.log host.new ≡ H.log host.old ++ part H.log host.old host.new }
-    ensures asked {
-        AsksFor W.steady W.answer (name_of request.old.job, request.old.build)
-            (part H.log host.old host.new)
-    }
-    ensures answer {
-        ByRun H.log H.patience J.total J.faults J.taken J.load turns
-            host.old host.new seat.old seat.new
-            (IsAnswer (name_of request.old.job, request.old.build) result)
-    }
+    ensures asked { AsksFor W.steady W.answer (name_of request.old.job, request.old.build)
+        (part H.log host.old host.new) }
+    ensures answer { ByRun H.log H.patience J.total J.faults J.taken J.load turns
+        host.old host.new seat.old seat.new
+        (IsAnswer (name_of request.old.job, request.old.build) result) }
 {
     match &request.job {
         Job::Compile(name) => {
@@ -226,11 +221,10 @@ fn run<W: World, H: Host<W>, J: Jobs>(
     ensures fits { J.fits jobs.now seat.new }
     ensures empty { J.held seat.new ≡ 0 }
     ensures extends { H.log host.new ≡ H.log host.old ++ part H.log host.old host.new }
-    ensures asked { AsksWords W.steady W.answer (asked_for words.now) (part H.log host.old host.new) }
-    ensures answer {
-        ByRun H.log H.patience J.total J.faults J.taken J.load turns
-            host.old host.new seat.old seat.new (IsAnswerTo words.now result)
-    }
+    ensures asked { AsksWords W.steady W.answer (asked_for words.now)
+        (part H.log host.old host.new) }
+    ensures answer { ByRun H.log H.patience J.total J.faults J.taken J.load turns
+        host.old host.new seat.old seat.new (IsAnswerTo words.now result) }
 {
     match read_words::<W>(alloc, words) {
         Ok(mut request) => serve(rt, alloc, &mut request, turns, host, jobs, seat),
@@ -262,22 +256,19 @@ pub fn drive<W: World, H: Host<W>, J: Jobs>(
     ensures extends { H.log host.new ≡ H.log host.old ++ part H.log host.old host.new }
 
     // The headline.
-    ensures built {
-        ByRun H.log H.patience J.total J.faults J.taken J.load turns
-            host.old host.new seat.old seat.new (Headline words.now result)
-    }
+    ensures built { ByRun H.log H.patience J.total J.faults J.taken J.load turns
+        host.old host.new seat.old seat.new (Headline words.now result) }
 
     // The whole answer, each status with its cause, and what follows from it, sentence by sentence.
-    ensures promises {
-        ByRun H.log H.patience J.total J.faults J.taken J.load turns
-            host.old host.new seat.old seat.new (Promises words.now result)
-    }
+    ensures promises { ByRun H.log H.patience J.total J.faults J.taken J.load turns
+        host.old host.new seat.old seat.new (Promises words.now result) }
     ensures printed { PrintsLast (part H.log host.old host.new) result }
     ensures faults_last { FaultsLast (part H.log host.old host.new) }
     ensures settled { NothingRuns (part H.log host.old host.new) }
 
     // What questions leave in the log: each is answered once, and no probe file stays.
-    ensures asked { AsksWords W.steady W.answer (asked_for words.now) (part H.log host.old host.new) }
+    ensures asked { AsksWords W.steady W.answer (asked_for words.now)
+        (part H.log host.old host.new) }
 {
     run(rt, alloc, words, turns, host, jobs, seat)
 }
