@@ -22,7 +22,7 @@ use Rattle.cc_build.specs.Stage.Stage.{Calls, RunsOne}
 use Rattle.cc_build.specs.Went.{Terms, Means, Went, Halted}
 use Rattle.cc_build.specs.declared.stage.Stage.{Stage as Coded}
 use Rattle.cc_build.specs.declared.stage.Stage.TheVariants.{Print, RunOne}
-use Rattle.cc_build.proofs.Lines.{no_lines, next_line}
+use Rattle.cc_plan.proofs.LineLemmas.{no_lines, next_line}
 use Rattle.cc_build.proofs.Going.{went_then, halted_more, halted_then}
 
 module _ (ss : List Coded) (i : ℕ) (s : Coded) (within : i < length ss) (is : s ≡ get_or ss i s) where

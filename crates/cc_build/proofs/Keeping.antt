@@ -5,7 +5,7 @@ use Rattle.cc_host.proofs.Parts.{since_extends}
 use Rattle.cc_tool.specs.Asked.{question_events}
 use Rattle.cc_tool.proofs.Asides.{none_since}
 use Rattle.cc_build.specs.Kept.{Aside}
-use Rattle.cc_build.proofs.Lines.{since_none}
+use Rattle.cc_plan.proofs.LineLemmas.{since_none}
 
 module _ {X : Type 0} (log : X → List Event) (patience : X → Option ℕ) where
   -- where nothing is done

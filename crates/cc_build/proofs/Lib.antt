@@ -5,7 +5,6 @@ pub mod Doing
 pub mod FailedLaws
 pub mod Going
 pub mod Keeping
-pub mod Lines
 pub mod Looks
 pub mod OrderLaws
 pub mod Outcomes

@@ -49,7 +49,7 @@ fn ended_wanting() -> Ended
     }
 }
 
-/// What a bad word is told as: its cause in words, as standard error has it behind the place.
+/// The cause of a bad word in words, as standard error has it behind the place.
 pub fn cause_text(cause: WordCause) -> &'static str
     ensures { result.now ≡ text_of cause }
 {

@@ -3,7 +3,7 @@ use Rattle.cc_host.specs.Part.{since}
 use Rattle.cc_plan.specs.Given.{is_disabled}
 use Rattle.cc_plan.specs.Plan.{library_of}
 use Rattle.cc_build.specs.Seen.{stages_seen}
-use Rattle.cc_build.proofs.Lines.{since_none}
+use Rattle.cc_plan.proofs.LineLemmas.{since_none}
 use Rattle.cc_build.proofs.Outcomes.{told}
 use Rattle.cc_tool.specs.Asked.{question_events}
 use Rattle.cc_tool.proofs.Asides.{asked_none}

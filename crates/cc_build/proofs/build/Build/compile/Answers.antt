@@ -14,7 +14,7 @@ use Rattle.cc_build.specs.Shows.{shows_of}
 use Rattle.cc_build.specs.Went.{terms, means, Ends}
 use Rattle.cc_build.specs.declared.stage.Stage.{Stage as Coded}
 use Rattle.cc_build.proofs.Going.{same_patience}
-use Rattle.cc_build.proofs.Lines.{since_none}
+use Rattle.cc_plan.proofs.LineLemmas.{since_none}
 use Rattle.cc_build.proofs.Looks.{agrees_since}
 use Rattle.cc_build.proofs.Outcomes.{told}
 use Rattle.cc_build.proofs.Stages.{unchecked, folder_refused, run_unplanned, run_planned}
