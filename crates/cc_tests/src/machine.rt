@@ -5,6 +5,7 @@ use cc_build::{Build, Error};
 use cc_hosts::{ProcessHost, Real};
 use std::alloc::AllocGlobal;
 use std::process::Abort;
+use std::rt::Files;
 use std::sync::Wait;
 use std::test::Fail;
 use std::{env, fs, process};
@@ -34,7 +35,7 @@ fn is_gnu(
 
 // It is asked, and no warning says that its name alone tells what it is.
 fn check_known(
-    rt: &(impl Wait + AllocGlobal + Abort),
+    rt: &(impl Wait + Files + AllocGlobal + Abort),
     build: &mut Build<Real>,
     host: &mut ProcessHost<HostRuntime>,
     dir: &str,
@@ -43,6 +44,7 @@ fn check_known(
     assert!(rt; is_gnu(rt, build, host)?);
     let text = log_text(rt.alloc(), host)?;
     assert!(rt; text.as_str().ends_with("asks macros\ndrops\nasks help\n"));
+    fs::remove_dir(rt, dir)?;
     Ok(())
 }
 
@@ -51,7 +53,5 @@ fn the_machines_gcc_is_known_and_no_file_is_left(rt: HostRuntime) -> Result<(), 
     let dir = own_folder(&rt)?;
     let mut build = Build::new(rt.alloc()).expect(&rt, "a build");
     let mut host = ProcessHost::new(rt).expect(&rt, "a host");
-    check_known(&rt, &mut build, &mut host, dir.as_str())?;
-    fs::remove_dir(&rt, dir.as_str())?;
-    Ok(())
+    check_known(&rt, &mut build, &mut host, dir.as_str())
 }

@@ -4,7 +4,10 @@ use crate::calls::{
     stands, start, turn,
 };
 use crate::log::check_log;
-use cc_host::{Ask, Command, Created, Host, HostCall, HostError, News, Removal, Scope, Start, Why};
+use cc_host::{
+    Ask, Command, Created, Host, HostCall, HostError, News, OutputKind, Pipes, Removal, Scope,
+    Start, Why,
+};
 use cc_hosts::ProcessHost;
 use cc_text::{Mem, Vars};
 use std::alloc::{AllocGlobal, Global};
@@ -289,4 +292,48 @@ fn check_turns(rt: &(impl AllocGlobal + Abort), host: &mut Machine) -> Result<()
 fn the_oldest_child_is_waited_for(rt: HostRuntime) -> Result<(), Fail> {
     let mut host = ProcessHost::new(rt)?;
     check_turns(&rt, &mut host)
+}
+
+const UNHEARD: Pipes = Pipes {
+    out: OutputKind::Capture,
+    hear: false,
+};
+
+fn check_unheard(rt: &(impl AllocGlobal + Abort), host: &mut Machine) -> Result<(), Fail> {
+    let cmd = shell(rt.alloc(), "readlink /proc/self/fd/2")?;
+    check_output(rt, host, &cmd, UNHEARD, "Code(0) /dev/null\n|")
+}
+
+#[test]
+fn standard_error_that_is_not_heard_goes_nowhere(rt: HostRuntime) -> Result<(), Fail> {
+    let mut host = ProcessHost::new(rt)?;
+    check_unheard(&rt, &mut host)
+}
+
+// A turn, made again where memory was refused for it.
+fn turn_again(host: &mut Machine) -> Result<Vec<News>, HostError> {
+    match turn(host) {
+        Err(HostError::NoMemory) => turn(host),
+        Ok(news) => Ok(news),
+        Err(error) => Err(error),
+    }
+}
+
+fn end_of_one(host: &mut Machine, alloc: Global) -> Result<Vec<News>, HostError> {
+    started(host, alloc, "echo A >&2; exit 3")?;
+    turn_again(host)
+}
+
+// Where memory is refused in a turn, the child runs on, and the next turn has its whole end.
+fn check_again(rt: &(impl AllocGlobal + Abort), host: &mut Machine) -> Result<(), Fail> {
+    let news = end_of_one(host, rt.alloc())?;
+    let text = text_of(rt.alloc(), news.as_slice())?;
+    assert_eq!(rt; text.as_str(), FIRST);
+    Ok(())
+}
+
+#[test]
+fn a_turn_that_wants_memory_loses_no_end(rt: HostRuntime) -> Result<(), Fail> {
+    let mut host = ProcessHost::new(rt)?;
+    check_again(&rt, &mut host)
 }
