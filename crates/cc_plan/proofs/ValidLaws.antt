@@ -1,15 +1,26 @@
 -- Valid settings are not refused.
-use Rattle.std.proofs.Common.{◌≡◌, ◌≢◌, ℕ, ◌+◌, List, [], ◌∷◌, ◌++◌, map, Bool, true, false, Option, Some, None, IsSome, is_none, bytes_eq, if◌then◌else◌, refl, sym, ap, subst, append_assoc}
-use Rattle.std.specs.List.{AllByRecursion}
+use Rattle.std.proofs.Common.{◌≡◌, ◌≢◌, ℕ, ◌+◌, List, [], ◌∷◌, ◌++◌, map, find, codes, Bool, true, false, not, ◌&&◌, Option, Some, None, IsSome, is_none, bytes_eq, if◌then◌else◌, refl, sym, ap, subst, append_assoc}
+use Rattle.std.specs.List.{AllByRecursion, list_all}
+use Rattle.std.specs.Option.{option_map, option_and_then}
 use Rattle.std.specs.Path.{path_file_name}
 use Rattle.std.proofs.lemmas.Slice.Eq.{bytes_eq-Decides}
 use Rattle.cc_env.specs.Env.{EnvSeen}
 use Rattle.cc_host.specs.Question.{Look}
-use Rattle.cc_plan.specs.Given.{out_dir_of, target_of, host_of, level_of}
-use Rattle.cc_plan.specs.Inherited.{inherited_refusal}
-use Rattle.cc_plan.specs.Planned.{defaults_refusal_of}
+use Rattle.cc_text.specs.Families.{is_gnu_like}
+use Rattle.cc_flags.specs.DefaultWords.{is_qnx, qnx_variant, lacks_qnx_variant, is_wasm_linux}
+use Rattle.cc_flags.specs.Fields.{is_invalid, invalid_pair, refusal_of}
+use Rattle.cc_flags.specs.Pairs.{pairs_of}
+use Rattle.cc_flags.specs.declared.pairs.Pair.{Pair}
+use Rattle.cc_plan.specs.Compilation.{CompilationSeen}
+use Rattle.cc_plan.specs.Given.{out_dir_of, target_of, host_of, level_of, has_no_defaults}
+use Rattle.cc_plan.specs.Inherited.{inherited_text, inherited_refusal, plan_refusal}
+use Rattle.cc_plan.specs.Planned.{planned, defaults_refusal_of}
+use Rattle.cc_plan.specs.Tool.{defaults_refusal_by}
+use Rattle.cc_plan.specs.ToolWords.{first_refusal, names_target, musl_sysroot, qnx_refusal, sysroot_refusal, clang_refusal, defaults_refusal}
+use Rattle.cc_plan.specs.declared.error.PlanError.{PlanError}
+use Rattle.cc_plan.specs.declared.error.PlanError.TheVariants.{QnxArch, NotSet}
 use Rattle.cc_plan.specs.Refusal.{place_from, earlier_place, source_refusal, sources_after, out_dir_refusal, unset, target_refusal, platform_refusal, given_refusal, refusal_by, tool_refusal, early_refusal, late_refusal, object_in, is_empty}
-use Rattle.cc_plan.specs.Valid.{IsNoneOf, AreApart, IsKnown, IsSetNonempty, Valid}
+use Rattle.cc_plan.specs.Valid.{IsNoneOf, AreApart, IsKnown, IsSetNonempty, HasVariant, HasSysroot, Parse, Valid}
 use Rattle.cc_plan.specs.declared.settings.BuildConfig.{BuildConfig}
 
 differs : (xs ys : List ℕ) → xs ≢ ys → bytes_eq xs ys ≡ false
@@ -62,6 +73,49 @@ is_known : (target : Option (List ℕ)) → IsKnown target → target_refusal ta
 is_known None h = absurd h
 is_known (Some target) h = rw h refl
 
+-- a name that stands where it is needed isn't lacking
+no_lack : {X : Type 0} (x : X) (a b : Bool) (name : Option (List ℕ)) → (a ≡ true → b ≡ true → IsSome name) → (if a && b && is_none name then Some x else None) ≡ None
+no_lack x true true None h = let there = h refl refl in absurd (cc)
+no_lack x true true (Some name) h = refl
+no_lack x true false name h = refl
+no_lack x false true name h = refl
+no_lack x false false name h = refl
+
+no_lack_within : {X : Type 0} (x : X) (a b : Bool) (value : Option (List ℕ)) → (a ≡ true → b ≡ true → IsSome value) → (if a then (if b && is_none value then Some x else None) else None) ≡ None
+no_lack_within x true true None h = let there = h refl refl in absurd (cc)
+no_lack_within x true true (Some value) h = refl
+no_lack_within x true false value h = refl
+no_lack_within x false b value h = refl
+
+has_variant : (c : CompilationSeen) → HasVariant c → qnx_refusal c.compiler.family c.target ≡ None
+unfolding qnx_refusal lacks_qnx_variant
+has_variant c h = no_lack (QnxArch c.target.full_arch) (is_gnu_like c.compiler.family) (is_qnx c.target) (qnx_variant c.target.full_arch) h
+
+has_sysroot : (c : CompilationSeen) → HasSysroot c → clang_refusal c ≡ None
+unfolding clang_refusal sysroot_refusal
+has_sysroot c h = no_lack_within (NotSet (codes "WASM_MUSL_SYSROOT")) (names_target c) (is_wasm_linux c.target) (musl_sysroot c) h
+
+unless_left_out : (no_defaults : Bool) (first second : Option PlanError) → (no_defaults ≡ false → first ≡ None) → (no_defaults ≡ false → second ≡ None) → (if no_defaults then None else first_refusal first second) ≡ None
+unless_left_out true first second f s = refl
+unless_left_out false first second f s = rw (f refl, s refl) refl
+
+has_words : (c : CompilationSeen) → (has_no_defaults c.set c.env ≡ false → HasVariant c) → (has_no_defaults c.set c.env ≡ false → HasSysroot c) → defaults_refusal c ≡ None
+unfolding defaults_refusal
+has_words c variant sysroot = unless_left_out (has_no_defaults c.set c.env) (qnx_refusal c.compiler.family c.target) (clang_refusal c) (λ e. has_variant c (variant e)) (λ e. has_sysroot c (sysroot e))
+
+none_found : (test : Pair → Bool) (pairs : List Pair) → list_all (λ pair. not (test pair)) pairs ≡ true → find test pairs ≡ None
+none_found test [] h = refl
+none_found test (pair ∷ pairs) h = step (test pair) h (none_found test pairs)
+  where
+    step : (b : Bool) → (not b && list_all (λ p. not (test p)) pairs) ≡ true → (list_all (λ p. not (test p)) pairs ≡ true → find test pairs ≡ None) → (if b then Some pair else find test pairs) ≡ None
+    step true e rest = absurd (cc)
+    step false e rest = rest e
+
+parsed : (text : Option (List ℕ)) → Parse text → option_map plan_refusal (option_and_then refusal_of text) ≡ None
+unfolding invalid_pair
+parsed None h = refl
+parsed (Some text) h = rw (none_found is_invalid (pairs_of text) h) refl
+
 late_valid : (set : BuildConfig) (env : EnvSeen) (look : Look) (empty : Bool) → IsKnown (target_of set env) → IsSome (host_of set env) → (empty ≡ false → IsSome (level_of set env)) → (empty ≡ false → defaults_refusal_of set env look ≡ None) → (empty ≡ false → inherited_refusal set.inherit_rustflags env.inherited ≡ None) → (if empty then platform_refusal set env else tool_refusal set env look) ≡ None
 unfolding platform_refusal given_refusal refusal_by
 late_valid set env look true target host level words rustflags = rw (is_known (target_of set env) target, is_set _ (host_of set env) host) refl
@@ -76,7 +130,18 @@ early_accepted set env look output v =
     let sources : sources_after (object_in set env) [] set.files ≡ None = all_taken (object_in set env) [] set.files v.named v.apart in
     rw (v.name, dir, sources) refl
 
+-- what the words of the target need is there
+words_accepted : (set : BuildConfig) (env : EnvSeen) (look : Look) (output : List ℕ) → Valid set env look output → is_empty set.files ≡ false → defaults_refusal_of set env look ≡ None
+unfolding defaults_refusal_by
+words_accepted set env look output v some = has_words (planned set env look) (v.variant some) (v.sysroot some)
+
+-- and the flags of Rust code parse
+flags_accepted : (set : BuildConfig) (env : EnvSeen) (look : Look) (output : List ℕ) → Valid set env look output → is_empty set.files ≡ false → inherited_refusal set.inherit_rustflags env.inherited ≡ None
+unfolding inherited_refusal
+flags_accepted set env look output v some = parsed (inherited_text set.inherit_rustflags env.inherited) (v.rustflags some)
+
 -- and those behind it
 pub late_accepted : (set : BuildConfig) (env : EnvSeen) (look : Look) (output : List ℕ) → Valid set env look output → late_refusal set env look ≡ None
 unfolding late_refusal
-late_accepted set env look output v = late_valid set env look (is_empty set.files) v.target v.host v.level v.words v.rustflags
+late_accepted set env look output v =
+    late_valid set env look (is_empty set.files) v.target v.host v.level (words_accepted set env look output v) (flags_accepted set env look output v)

@@ -1,15 +1,21 @@
 -- Settings, an environment and an output that a compile run doesn't refuse, with these verdicts.
-use Rattle.std.specs.Prelude.{◌≡◌, ◌≢◌, ℕ, List, [], ◌∷◌, map, true, false, Option, Some, None, IsSome}
-use Rattle.std.specs.List.{AllByRecursion}
+use Rattle.std.specs.Prelude.{◌≡◌, ◌≢◌, ℕ, List, [], ◌∷◌, map, true, false, not, Option, Some, None, IsSome}
+use Rattle.std.specs.List.{AllByRecursion, list_all}
 use Rattle.std.specs.Path.{path_file_name}
 use Rattle.cc_plan.specs.Names.{is_output_name}
 use Rattle.cc_env.specs.Env.{EnvSeen}
 use Rattle.cc_host.specs.Question.{Look}
 use Rattle.cc_target.specs.Targets.{is_known}
-use Rattle.cc_plan.specs.Given.{out_dir_of, target_of, host_of, level_of, is_disabled}
+use Rattle.cc_text.specs.Families.{is_gnu_like}
+use Rattle.cc_flags.specs.DefaultWords.{is_qnx, qnx_variant, is_wasm_linux}
+use Rattle.cc_flags.specs.Fields.{is_invalid}
+use Rattle.cc_flags.specs.Pairs.{pairs_of}
+use Rattle.cc_plan.specs.Given.{out_dir_of, target_of, host_of, level_of, is_disabled, has_no_defaults}
 use Rattle.cc_plan.specs.Refusal.{is_empty, object_in}
-use Rattle.cc_plan.specs.Inherited.{inherited_refusal}
-use Rattle.cc_plan.specs.Planned.{defaults_refusal_of}
+use Rattle.cc_plan.specs.Compilation.{CompilationSeen}
+use Rattle.cc_plan.specs.Inherited.{inherited_text}
+use Rattle.cc_plan.specs.Planned.{planned}
+use Rattle.cc_plan.specs.ToolWords.{names_target, musl_sysroot}
 use Rattle.cc_plan.specs.declared.settings.BuildConfig.{BuildConfig}
 
 -- a text is none of these
@@ -31,6 +37,19 @@ IsSetNonempty None = ⊥
 IsSetNonempty (Some []) = ⊥
 IsSetNonempty (Some (b ∷ bs)) = Unit {0}
 
+-- a compiler for QNX that takes the words of GCC has a name for the architecture
+abbrev pub HasVariant : CompilationSeen → Type 0
+HasVariant c = is_gnu_like c.compiler.family ≡ true → is_qnx c.target ≡ true → IsSome (qnx_variant c.target.full_arch)
+
+-- where Clang is told a target of WebAssembly with threads, the sysroot of musl is set
+abbrev pub HasSysroot : CompilationSeen → Type 0
+HasSysroot c = names_target c ≡ true → is_wasm_linux c.target ≡ true → IsSome (musl_sysroot c)
+
+-- each of these flags of Rust code has the value that it needs
+abbrev pub Parse : Option (List ℕ) → Type 0
+Parse None = Unit {0}
+Parse (Some text) = list_all (λ pair. not (is_invalid pair)) (pairs_of text) ≡ true
+
 pub record Valid (set : BuildConfig) (env : EnvSeen) (look : Look) (output : List ℕ) : Type 0 where
   pub name : is_output_name output ≡ true
   pub out_dir : IsSetNonempty (out_dir_of set env)
@@ -41,7 +60,8 @@ pub record Valid (set : BuildConfig) (env : EnvSeen) (look : Look) (output : Lis
   pub target : IsKnown (target_of set env)
   pub host : IsSome (host_of set env)
   pub level : is_empty set.files ≡ false → IsSome (level_of set env)
-  -- no word of the target is refused: the QNX compilers have a name for the architecture, and the demanded sysroot is set
-  pub words : is_empty set.files ≡ false → defaults_refusal_of set env look ≡ None
-  -- none of the flags of Rust code is wrong
-  pub rustflags : is_empty set.files ≡ false → inherited_refusal set.inherit_rustflags env.inherited ≡ None
+  -- what the words of the target need is there, unless they are left out
+  pub variant : is_empty set.files ≡ false → has_no_defaults set env ≡ false → HasVariant (planned set env look)
+  pub sysroot : is_empty set.files ≡ false → has_no_defaults set env ≡ false → HasSysroot (planned set env look)
+  -- the flags of Rust code parse, where they are read
+  pub rustflags : is_empty set.files ≡ false → Parse (inherited_text set.inherit_rustflags env.inherited)
