@@ -61,7 +61,7 @@ fn plan_run<W: World, H: Host<W>>(
         caches,
         answers: &mut answers,
     };
-    match plan_commands(rt, alloc, set, env, output, sources, &mut sight) {
+    match plan_commands(rt, set, env, output, sources, &mut sight) {
         Ok(plan) => Ok(plan),
         Err(error) => Err(or_no_memory(plan_error(alloc, set, env, output, error))),
     }

@@ -1,6 +1,7 @@
 pub mod AskingLemmas
 pub mod BeforeLemmas
 pub mod CompilationLemmas
+pub mod CompileLemmas
 pub mod CutTextLemmas
 pub mod FindLemmas
 pub mod LineLemmas

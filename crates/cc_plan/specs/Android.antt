@@ -1,5 +1,5 @@
 -- The compiler for Android.
-use Rattle.std.specs.Prelude.{ℕ, zero, suc, Bool, ◌-◌, nat_eq, List, [], ◌∷◌, ◌++◌, Option, Some, None, length, codes, if◌then◌else◌}
+use Rattle.std.specs.Prelude.{ℕ, zero, suc, Bool, ◌-◌, nat_eq, List, [], ◌∷◌, ◌++◌, Option, Some, None, unwrap_or, option_and_then, length, codes, if◌then◌else◌}
 use Rattle.std.specs.List.{starts_with}
 use Rattle.cc_env.specs.Env.{EnvSeen}
 use Rattle.cc_host.specs.Question.{Look, is_yes}
@@ -51,11 +51,14 @@ abbrev pub older_compiler : Bool → EnvSeen → List ℕ → Look → List ℕ
 older_compiler cpp env name look =
     if can_start env look (older_name name (gnu_name cpp)) then older_name name (gnu_name cpp) else older_name name (clang_name cpp)
 
--- the kit's compiler where it can be run
-abbrev pub kit_or_older : Bool → EnvSeen → List ℕ → Look → Option (List ℕ) → List ℕ
-kit_or_older cpp env name look None = older_compiler cpp env name look
-kit_or_older cpp env name look (Some kit) = if can_start env look kit then kit else older_compiler cpp env name look
+-- a program, where it can be run
+abbrev pub if_started : EnvSeen → Look → List ℕ → Option (List ℕ)
+if_started env look program = if can_start env look program then Some program else None
 
--- the compiler for a target
+-- the kit's compiler, where it can be run
+abbrev pub started_kit : EnvSeen → List ℕ → Look → Option (List ℕ)
+started_kit env name look = option_and_then (if_started env look) (kit_compiler name)
+
+-- the compiler for a target: the kit's, else an older one
 abbrev pub android_compiler : Bool → EnvSeen → List ℕ → Look → List ℕ
-android_compiler cpp env name look = kit_or_older cpp env name look (kit_compiler name)
+android_compiler cpp env name look = unwrap_or (started_kit env name look) (older_compiler cpp env name look)

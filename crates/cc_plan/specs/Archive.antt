@@ -17,13 +17,12 @@ paths_of objects = map (λ o. o.dst) objects
 abbrev pub archive_env : EnvSeen → List (List ℕ × List ℕ)
 archive_env env = child_of env.inherited (env.explicit ++ (codes "ZERO_AR_DATE", codes "1") ∷ [])
 
+-- a command of the archiver in an environment
+abbrev pub archiver_in : BuildConfig → List (List ℕ × List ℕ) → List (List ℕ) → CommandSeen
+archiver_in set env args = record { program = archiver_of set; args = args; env = env; dir = None }
+
 abbrev pub archive_of : BuildConfig → EnvSeen → List ℕ → List Object → CommandSeen
-archive_of set env library objects = record {
-  program = archiver_of set;
-  args = codes "cqD" ∷ library ∷ paths_of objects;
-  env = archive_env env;
-  dir = None;
-}
+archive_of set env library objects = archiver_in set (archive_env env) (codes "cqD" ∷ library ∷ paths_of objects)
 
 -- one command with all objects, where there is an object
 abbrev pub archives_of : BuildConfig → EnvSeen → List ℕ → List Object → List CommandSeen
@@ -31,8 +30,7 @@ archives_of set env library [] = []
 archives_of set env library (object ∷ objects) = archive_of set env library (object ∷ objects) ∷ []
 
 abbrev pub index_of : BuildConfig → EnvSeen → List ℕ → CommandSeen
-index_of set env library =
-    record { program = archiver_of set; args = codes "sD" ∷ library ∷ []; env = child_of env.inherited env.explicit; dir = None }
+index_of set env library = archiver_in set (child_of env.inherited env.explicit) (codes "sD" ∷ library ∷ [])
 
 abbrev pub indexes_of : BuildConfig → EnvSeen → List ℕ → List CommandSeen
 indexes_of set env library = index_of set env library ∷ []

@@ -1,20 +1,24 @@
 -- Calls that ask, and calls that ask and then print.
-use Rattle.std.specs.Prelude.{◌≡◌, ◌⊎◌, ◌++◌, ℕ, Bool, List, [], ◌∷◌, Option, Result, Ok, Err}
+use Rattle.std.specs.Prelude.{◌≡◌, ◌⊎◌, ◌++◌, ℕ, Bool, List, [], ◌∷◌, Option, Some, None, Result, Ok, Err, IfOk, IfErr, OnOk}
+use Rattle.cc_env.specs.Env.{EnvSeen}
 use Rattle.cc_host.specs.Part.{IsPartly, IsWhole, stops}
 use Rattle.cc_host.specs.Question.{Look, Answer, Settles}
 use Rattle.cc_host.specs.declared.event.Event.{Event}
 use Rattle.cc_host.specs.declared.event.Event.TheVariants.{Fault, Printed as Line}
 use Rattle.cc_host.specs.declared.event.HostCall.TheVariants.{Print}
+use Rattle.cc_host.specs.declared.event.Why.{Why}
 use Rattle.cc_host.specs.declared.event.LineKind.TheVariants.{Warning}
 use Rattle.cc_host.specs.declared.host.World.{Ghosts}
 use Rattle.cc_host.specs.declared.question.Outcome.{Outcome}
 use Rattle.cc_host.specs.declared.question.Question.{Question}
 use Rattle.cc_tool.specs.Asked.{question_events}
 use Rattle.cc_tool.specs.Asks.{Asks}
+use Rattle.cc_plan.specs.Given.{probe_folder}
 use Rattle.cc_plan.specs.Link.{printed_line}
 use Rattle.cc_plan.specs.Plan.{prints}
 use Rattle.cc_plan.specs.declared.error.PlanError.{PlanError}
 use Rattle.cc_plan.specs.declared.error.PlanError.TheVariants.{Host, NoMemory}
+use Rattle.cc_plan.specs.declared.settings.BuildConfig.{BuildConfig}
 use Rattle.cc_plan.specs.declared.sight.Sight.{Sight}
 
 -- A call asks, and does nothing else: its host and its answers are those that it was lent, log and answers went on by its questions, whose
@@ -24,6 +28,34 @@ pub record OnlyAsks {W H : Type 0} {ghosts : Ghosts W} (steady : Bool) (world : 
   pub same_answers : new.answers.ghost_name ≡ old.answers.ghost_name
   pub asks : Asks steady world dir (log old.host.now) (log new.host.now) old.answers.now new.answers.now
   pub patient : patience new.host.now ≡ patience old.host.now
+
+-- a call asks for these settings in this environment, with probe files in their folder, and does nothing else
+abbrev pub AsksFor : {W H : Type 0} → {ghosts : Ghosts W} → Bool → (Question → Outcome) → (H → List Event) → (H → Option ℕ) → BuildConfig → EnvSeen → Sight W H ghosts → Sight W H ghosts → Type 0
+AsksFor steady world log patience set env old new = OnlyAsks steady world log patience (probe_folder set env) old new
+
+-- on Ok the answers settle the value, by a function of all verdicts
+abbrev pub SettledIn : {W H X E : Type 0} → {ghosts : Ghosts W} → Sight W H ghosts → (Look → X) → Result X E → Type 0
+SettledIn sight value result = IfOk result (Settles sight.answers.now value)
+
+-- on Ok the answers settle that nothing is refused
+abbrev pub AllowedIn : {W H X : Type 0} → {ghosts : Ghosts W} → Sight W H ghosts → (Look → Option PlanError) → Result X PlanError → Type 0
+AllowedIn sight refusal result = OnOk result (Settles sight.answers.now refusal None)
+
+-- an error is want of memory, or the refusal that the answers settle
+abbrev pub RefusedIn : {W H X : Type 0} → {ghosts : Ghosts W} → Sight W H ghosts → (Look → Option PlanError) → Result X PlanError → Type 0
+RefusedIn sight refusal result = IfErr result (λ e. (e ≡ NoMemory) ⊎ Settles sight.answers.now refusal (Some e))
+
+-- a fault of the call that prints
+abbrev pub IsPrintFault : PlanError → Type 0
+IsPrintFault e = (why : Why) × (e ≡ Host Print why)
+
+-- an error is want of memory, or a fault of the call that prints
+abbrev pub RefusedByPrint : {X : Type 0} → Result X PlanError → Type 0
+RefusedByPrint result = IfErr result (λ e. (e ≡ NoMemory) ⊎ IsPrintFault e)
+
+-- an error is want of memory, a fault of the call that prints, or the refusal that the answers settle
+abbrev pub RefusedInOrByPrint : {W H X : Type 0} → {ghosts : Ghosts W} → Sight W H ghosts → (Look → Option PlanError) → Result X PlanError → Type 0
+RefusedInOrByPrint sight refusal result = IfErr result (λ e. (e ≡ NoMemory) ⊎ (IsPrintFault e ⊎ Settles sight.answers.now refusal (Some e)))
 
 -- questions, and then a part of which something holds
 pub record AsksThen (steady : Bool) (world : Question → Outcome) (dir : List ℕ) (before after : List Event) (old new : List Answer) (P : List Event → Type 0) : Type 0 where
@@ -69,3 +101,8 @@ pub record Warns {X : Type 0} (known : List Answer) (warnings : Bool → Look �
   pub settled : AreLines known (warnings told) lines part result
   pub printed : Printed lines part result
   pub silent : question_events part ≡ []
+
+-- a call asks for these settings in this environment, and then prints the lines of its warnings
+abbrev pub AsksThenWarns : {W H X : Type 0} → {ghosts : Ghosts W} → Bool → (Question → Outcome) → (H → List Event) → BuildConfig → EnvSeen → Sight W H ghosts → Sight W H ghosts → (Bool → Look → List (List ℕ)) → Result X PlanError → Type 0
+AsksThenWarns steady world log set env old new warnings result =
+    AsksThen steady world (probe_folder set env) (log old.host.now) (log new.host.now) old.answers.now new.answers.now (Warns new.answers.now warnings result)

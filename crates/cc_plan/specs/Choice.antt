@@ -11,7 +11,7 @@ use Rattle.cc_plan.specs.EnvTool.{env_tool, in_rustc_wrapper}
 use Rattle.cc_plan.specs.Inherited.{inherited_flags}
 use Rattle.cc_plan.specs.Languages.{compiler_variable, gnu_name, traditional_name, clang_name, emscripten_name, vxworks_name, qnx_name}
 use Rattle.cc_plan.specs.Prefix.{is_cross, gnu_prefix}
-use Rattle.cc_plan.specs.Search.{which, path_folders}
+use Rattle.cc_plan.specs.Search.{which}
 use Rattle.cc_plan.specs.Target.{target_name, target_info}
 use Rattle.cc_flags.specs.Texts.{is}
 use Rattle.cc_plan.specs.declared.choice.Choice.{Choice}
@@ -26,7 +26,7 @@ wasi_path kit name = path_join (path_join kit (codes "bin")) (name ++ codes "-cl
 
 -- where that kit has it
 abbrev pub wasi_kit_compiler : EnvSeen → List ℕ → Look → Option (List ℕ)
-wasi_kit_compiler env name look = option_and_then (λ kit. which look (path_folders env) (wasi_path kit name)) (overridable env (codes "WASI_SDK_PATH"))
+wasi_kit_compiler env name look = option_and_then (λ kit. which env (wasi_path kit name) look) (overridable env (codes "WASI_SDK_PATH"))
 
 abbrev pub wasi_compiler : Bool → EnvSeen → List ℕ → Look → List ℕ
 wasi_compiler cpp env name look = unwrap_or (wasi_kit_compiler env name look) (clang_name cpp)
@@ -45,7 +45,7 @@ links_by_plugin env = option_map_or (λ flags. unwrap_or flags.linker_plugin_lto
 
 -- Clang, where it is wanted for that and found
 abbrev pub plugin_compiler : Bool → EnvSeen → Look → Option (List ℕ)
-plugin_compiler cpp env look = if links_by_plugin env then which look (path_folders env) (clang_name cpp) else None
+plugin_compiler cpp env look = if links_by_plugin env then which env (clang_name cpp) look else None
 
 -- the compiler of the system
 abbrev pub default_compiler : Bool → EnvSeen → Look → List ℕ
@@ -71,16 +71,15 @@ fixed_compiler cpp target =
     else (if is_qnx target then Some (qnx_name cpp)
     else None))
 
-abbrev pub fixed_or_cross : BuildConfig → EnvSeen → Look → Option (List ℕ) → List ℕ
-fixed_or_cross set env look None = cross_compiler set env look
-fixed_or_cross set env look (Some name) = name
+abbrev pub fixed_or_cross : BuildConfig → EnvSeen → Look → List ℕ
+fixed_or_cross set env look = unwrap_or (fixed_compiler set.cpp (target_info set env)) (cross_compiler set env look)
 
 -- the compiler that the target wants
 abbrev pub target_compiler : BuildConfig → EnvSeen → Look → List ℕ
 target_compiler set env look =
     if is (target_info set env).os "android" then android_compiler set.cpp env (target_name set env) look
     else (if is (target_info set env).os "wasi" then wasi_compiler set.cpp env (target_name set env) look
-    else fixed_or_cross set env look (fixed_compiler set.cpp (target_info set env)))
+    else fixed_or_cross set env look)
 
 -- a tool alone
 abbrev pub bare : List ℕ → Choice

@@ -2,6 +2,7 @@
 use Rattle.std.specs.Prelude.{List, ◌++◌, Option, None, unwrap_or, map, if◌then◌else◌}
 use Rattle.cc_host.specs.Command.{CommandSeen}
 use Rattle.cc_target.specs.Targets.{Info}
+use Rattle.cc_text.specs.declared.family.ToolFamily.{ToolFamily}
 use Rattle.cc_tool.specs.Tool.{ToolSeen, tool_command}
 use Rattle.cc_plan.specs.CompileWords.{compile_words, is_masm}
 use Rattle.cc_plan.specs.declared.object.Object.{Object}
@@ -11,10 +12,13 @@ use Rattle.cc_plan.specs.declared.settings.BuildConfig.{BuildConfig}
 abbrev pub tool_for : Info → ToolSeen → Option ToolSeen → Object → ToolSeen
 tool_for info tool assembler object = if is_masm info object.src then unwrap_or assembler tool else tool
 
+-- a command with the words of an object and its source behind its own, in the form of a family
+abbrev pub with_object : BuildConfig → Info → ToolFamily → Object → CommandSeen → CommandSeen
+with_object set info family object cmd =
+    record cmd { args = cmd.args ++ compile_words set family info object }
+
 abbrev pub compile_of : BuildConfig → Info → ToolSeen → Option ToolSeen → Object → CommandSeen
-compile_of set info tool assembler object =
-    let cmd = tool_command (tool_for info tool assembler object) in
-    record cmd { args = cmd.args ++ compile_words set tool.family info object }
+compile_of set info tool assembler object = with_object set info tool.family object (tool_command (tool_for info tool assembler object))
 
 -- one command an object, in order
 abbrev pub compiles_of : BuildConfig → Info → ToolSeen → List Object → List CommandSeen

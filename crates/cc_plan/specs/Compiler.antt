@@ -13,9 +13,13 @@ use Rattle.cc_plan.specs.declared.settings.BuildConfig.{BuildConfig}
 abbrev pub with_family : Choice → ToolFamily × Detected → Compiler
 with_family choice found = record { choice = choice; family = found.0; detected = found.1 }
 
--- the compiler that is chosen, asked for its family with the words that it is given first
+-- the family of a chosen compiler, which is asked for it with the words that it is given first
+abbrev pub family_in : EnvSeen → Choice → Look → ToolFamily × Detected
+family_in env choice look = family_of look choice.path choice.words (child_of env.inherited env.explicit)
+
+-- the compiler that is chosen, with its family
 abbrev pub asked_compiler : EnvSeen → Look → Choice → Compiler
-asked_compiler env look choice = with_family choice (family_of look choice.path choice.words (child_of env.inherited env.explicit))
+asked_compiler env look choice = with_family choice (family_in env choice look)
 
 abbrev pub compiler_of : BuildConfig → EnvSeen → Look → Compiler
 compiler_of set env look = asked_compiler env look (choice_of set env look)

@@ -35,7 +35,7 @@ wrapper_names = map codes ("ccache" ∷ "distcc" ∷ "sccache" ∷ "icecc" ∷ "
 unfoldable pub rustc_wrapper_names : List (List ℕ)
 rustc_wrapper_names = map codes ("sccache" ∷ "cachepot" ∷ "buildcache" ∷ "kache" ∷ [])
 
--- the program is the one that the environment tells of
+-- the program is the one that the environment names as a wrapper
 unfoldable pub is_custom_wrapper : EnvSeen → List ℕ → Bool
 is_custom_wrapper env path = option_map_or (λ name. has_stem_among (name ∷ []) path) (last_value env.inherited (codes "CC_KNOWN_WRAPPER_CUSTOM")) false
 

@@ -1,9 +1,10 @@
 -- What the settings say and, where they are silent, the variables that Cargo sets for a build script.
-use Rattle.std.specs.Prelude.{ℕ, List, [], ◌∷◌, Bool, true, false, ◌||◌, Option, Some, None, unwrap_or, codes, bytes_eq, if◌then◌else◌}
+use Rattle.std.specs.Prelude.{ℕ, List, [], Bool, true, false, ◌||◌, Option, Some, None, unwrap_or, codes, bytes_eq, if◌then◌else◌}
 use Rattle.std.specs.Option.{option_map_or}
 use Rattle.cc_env.specs.Env.{EnvSeen}
 use Rattle.cc_env.specs.Names.{flags_of, single_of, is_true_value}
 use Rattle.cc_env.specs.Snapshot.{last_value}
+use Rattle.cc_plan.specs.Blanks.{nonempty}
 use Rattle.cc_plan.specs.declared.settings.BuildConfig.{BuildConfig}
 
 -- a value that is set, else that of a variable
@@ -69,16 +70,10 @@ value_for env variable (Some target) (Some host) = single_of env.inherited varia
 abbrev pub prefixed_value : BuildConfig → EnvSeen → List ℕ → Option (List ℕ)
 prefixed_value set env variable = value_for env variable (target_of set env) (host_of set env)
 
--- the text, where it is set and has a byte
-abbrev pub set_text : Option (List ℕ) → Option (List ℕ)
-set_text None = None
-set_text (Some []) = None
-set_text (Some (b ∷ text)) = Some (b ∷ text)
-
 -- the folder for files that don't last
 abbrev pub temp_folder : EnvSeen → List ℕ
-temp_folder env = unwrap_or (set_text (last_value env.inherited (codes "TMPDIR"))) (codes "/tmp")
+temp_folder env = unwrap_or (nonempty (last_value env.inherited (codes "TMPDIR"))) (codes "/tmp")
 
 -- the folder of probe files
 unfoldable pub probe_folder : BuildConfig → EnvSeen → List ℕ
-probe_folder set env = unwrap_or (set_text (out_dir_of set env)) (temp_folder env)
+probe_folder set env = unwrap_or (nonempty (out_dir_of set env)) (temp_folder env)

@@ -1,7 +1,8 @@
 -- The names of a static library, as a linker looks for it: `foo` is in the file `libfoo.a`.
-use Rattle.std.specs.Prelude.{ℕ, List, [], ◌∷◌, ◌++◌, Bool, not, ◌&&◌, ◌||◌, ◌==◌, Option, Some, None, unwrap_or, is_some, codes, bytes_eq, if◌then◌else◌}
+use Rattle.std.specs.Prelude.{ℕ, List, [], ◌++◌, Bool, not, ◌&&◌, ◌||◌, ◌==◌, Option, option_and_then, unwrap_or, is_some, codes, bytes_eq, if◌then◌else◌}
 use Rattle.std.specs.List.{list_any}
 use Rattle.cc_text.specs.Cuts.{after_prefix, before_suffix}
+use Rattle.cc_plan.specs.Blanks.{nonempty}
 
 -- an output that names no library: `lib.a` would be that of a library without a name
 abbrev pub is_nameless : List ℕ → Bool
@@ -15,25 +16,11 @@ has_slash output = list_any (λ b. b == 47) output
 unfoldable pub is_output_name : List ℕ → Bool
 is_output_name output = not (is_nameless output) && not (has_slash output)
 
--- the same text, unless it is empty
-abbrev pub nonempty : List ℕ → Option (List ℕ)
-nonempty [] = None
-nonempty (b ∷ bs) = Some (b ∷ bs)
-
--- what stands before `.a`
-abbrev pub before_a : Option (List ℕ) → Option (List ℕ)
-before_a None = None
-before_a (Some text) = before_suffix text (codes ".a")
-
-abbrev pub if_nonempty : Option (List ℕ) → Option (List ℕ)
-if_nonempty None = None
-if_nonempty (Some text) = nonempty text
-
 -- what stands between `lib` and `.a`, where that is not empty
 unfoldable pub inner_name : List ℕ → Option (List ℕ)
-inner_name output = if_nonempty (before_a (after_prefix output (codes "lib")))
+inner_name output = nonempty (option_and_then (λ rest. before_suffix rest (codes ".a")) (after_prefix output (codes "lib")))
 
--- the name of the library: what a linker is told
+-- the name of the library: what a linker is given
 abbrev pub library_name : List ℕ → List ℕ
 library_name output = unwrap_or (inner_name output) output
 

@@ -1,5 +1,5 @@
 -- What settings and snapshot are refused for. The answer is that of the first part which doesn't hold, in the order of the definitions.
-use Rattle.std.specs.Prelude.{ℕ, ◌+◌, List, [], ◌∷◌, ◌++◌, length, map, Bool, Option, Some, None, is_none, unwrap_or, true, false, codes, bytes_eq, if◌then◌else◌}
+use Rattle.std.specs.Prelude.{◌≡◌, ◌⊎◌, Result, OnOk, IfErr, ℕ, ◌+◌, List, [], ◌∷◌, ◌++◌, length, map, Bool, Option, Some, None, is_none, unwrap_or, true, false, codes, bytes_eq, if◌then◌else◌}
 use Rattle.std.specs.Option.{option_map}
 use Rattle.std.specs.Path.{path_file_name}
 use Rattle.cc_plan.specs.Names.{is_output_name}
@@ -15,7 +15,7 @@ use Rattle.cc_plan.specs.declared.compiler.Compiler.{Compiler}
 use Rattle.cc_plan.specs.declared.error.ArgumentCause.{ArgumentCause}
 use Rattle.cc_plan.specs.declared.error.ArgumentCause.TheVariants.{Output, OutDir, NoFileName, SameObject}
 use Rattle.cc_plan.specs.declared.error.PlanError.{PlanError}
-use Rattle.cc_plan.specs.declared.error.PlanError.TheVariants.{Argument, NotSet, UnknownTarget}
+use Rattle.cc_plan.specs.declared.error.PlanError.TheVariants.{Argument, NotSet, UnknownTarget, NoMemory}
 use Rattle.cc_plan.specs.declared.settings.BuildConfig.{BuildConfig}
 
 -- the place of the first equal text, where the first of them counts as n
@@ -45,6 +45,10 @@ sources_after path earlier (source ∷ sources) = first_of (source_refusal path 
 
 abbrev pub sources_refusal : (List ℕ → List ℕ) → List (List ℕ) → Option PlanError
 sources_refusal path sources = option_map Argument (sources_after path [] sources)
+
+-- the same of sources whose objects are in a folder
+abbrev pub objects_refusal : List (List ℕ × List ℕ) → Option (List ℕ) → List ℕ → List (List ℕ) → Option PlanError
+objects_refusal env root dir sources = sources_refusal (object_path env root dir) sources
 
 abbrev pub name_refusal : List ℕ → Option PlanError
 name_refusal output = if is_output_name output then None else Some (Argument Output)
@@ -95,3 +99,11 @@ is_empty (s ∷ ss) = false
 -- after it is made, where commands may run
 unfoldable pub late_refusal : BuildConfig → EnvSeen → Look → Option PlanError
 late_refusal set env look = if is_empty set.files then platform_refusal set env else tool_refusal set env look
+
+-- on Ok nothing is refused
+abbrev pub AllowedBy : {X : Type 0} → Option PlanError → Result X PlanError → Type 0
+AllowedBy refusal result = OnOk result (refusal ≡ None)
+
+-- an error is want of memory, or the refusal
+abbrev pub RefusedBy : {X : Type 0} → Option PlanError → Result X PlanError → Type 0
+RefusedBy refusal result = IfErr result (λ e. (e ≡ NoMemory) ⊎ (refusal ≡ Some e))

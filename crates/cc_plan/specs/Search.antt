@@ -35,6 +35,6 @@ places_of folders tool = if is_path tool then tool ∷ [] else in_folders folder
 abbrev pub first_there : Look → List (List ℕ) → Option (List ℕ)
 first_there look paths = find (is_there look) paths
 
--- where a tool is
-abbrev pub which : Look → List (List ℕ) → List ℕ → Option (List ℕ)
-which look folders tool = first_there look (places_of folders tool)
+-- where a tool is, which a shell would find
+abbrev pub which : EnvSeen → List ℕ → Look → Option (List ℕ)
+which env tool look = first_there look (places_of (path_folders env) tool)

@@ -1,10 +1,8 @@
 // The compiler for Android.
 ghost use Rattle.std.specs.Prelude.{◌≡◌, ◌≢◌, ◌++◌, [], IfOk, Some};
 ghost use Rattle.std.specs.Option.{option_copied};
-ghost use Rattle.cc_host.specs.Question.{Settles};
-ghost use Rattle.cc_plan.specs.Asking.{OnlyAsks};
+ghost use Rattle.cc_plan.specs.Asking.{AsksFor, SettledIn};
 ghost use Rattle.cc_plan.specs.Android as spec;
-ghost use Rattle.cc_plan.specs.Given.{probe_folder};
 
 use crate::languages::{clang_name, gnu_name};
 use crate::sight::can_start;
@@ -15,7 +13,8 @@ use cc_text::{Mem, Text};
 use std::alloc::Global;
 use std::sync::Wait;
 
-// The compiler that the development kit has for a target.
+// The compiler that the development kit has for a target. By the NDK's guide for other build systems its name has the oldest level of
+// the system that is built for: the kit's oldest with 64 bits is 21; Arm of 32 bits is called `armv7a`.
 #[tactic(auto, unfolding(crate::specs::Android::kit_compiler))]
 fn kit_compiler(name: &str) -> Option<&'static str>
     ensures { option_copied result ≡ spec.kit_compiler name.now }
@@ -66,7 +65,7 @@ fn older_name(alloc: Global, name: &str, compiler: &str) -> Mem<Text>
     Ok(path)
 }
 
-// GCC by the target's name where it can be run, else Clang.
+// GCC by the target's name where it can be run, else Clang. Kits up to release 17 had GCC.
 fn older_compiler<W: World, H: Host<W>>(
     rt: &impl Wait,
     alloc: Global,
@@ -75,8 +74,9 @@ fn older_compiler<W: World, H: Host<W>>(
     name: &str,
     sight: &mut Sight<'_, W, H>,
 ) -> Mem<Text>
-    ensures asks { OnlyAsks W.steady W.answer H.log H.patience (probe_folder set.now env.now) sight.old sight.new }
-    ensures settles { IfOk result (Settles sight.new.answers.now (spec.older_compiler set.now.cpp env.now name.now)) }
+    ensures asks { AsksFor W.steady W.answer H.log H.patience set.now env.now sight.old sight.new }
+    ensures settles { SettledIn sight.new
+        (spec.older_compiler set.now.cpp env.now name.now) result }
 {
     let gnu = older_name(alloc, name, gnu_name(set.cpp))?;
     if can_start(rt, alloc, set, env, gnu.as_str(), sight)? {
@@ -85,28 +85,30 @@ fn older_compiler<W: World, H: Host<W>>(
     older_name(alloc, name, clang_name(set.cpp))
 }
 
-// The compiler of the development kit where it can be run, else an older one.
-fn kit_or_older<W: World, H: Host<W>>(
+// The compiler of the development kit, where it has one for the target, and that can be run.
+fn started_kit<W: World, H: Host<W>>(
     rt: &impl Wait,
     alloc: Global,
     set: &BuildConfig,
     env: &BuildEnv,
     name: &str,
-    kit: &str,
     sight: &mut Sight<'_, W, H>,
-) -> Mem<Text>
-    ensures asks { OnlyAsks W.steady W.answer H.log H.patience (probe_folder set.now env.now) sight.old sight.new }
-    ensures settles { IfOk result (Settles sight.new.answers.now (λ look. spec.kit_or_older set.now.cpp env.now name.now look (Some kit.now))) }
+) -> Mem<Option<Text>>
+    ensures asks { AsksFor W.steady W.answer H.log H.patience set.now env.now sight.old sight.new }
+    ensures settles { SettledIn sight.new (spec.started_kit env.now name.now) result }
 {
+    let kit = match kit_compiler(name) {
+        Some(kit) => kit,
+        None => return Ok(None),
+    };
     if can_start(rt, alloc, set, env, kit, sight)? {
         let path = Text::of(alloc, kit)?;
-        return Ok(path);
+        return Ok(Some(path));
     }
-    let path = older_compiler(rt, alloc, set, env, name, sight)?;
-    Ok(path)
+    Ok(None)
 }
 
-// The compiler for a target.
+// The compiler for a target: that of the development kit, else an older one.
 pub(crate) fn android_compiler<W: World, H: Host<W>>(
     rt: &impl Wait,
     alloc: Global,
@@ -115,11 +117,15 @@ pub(crate) fn android_compiler<W: World, H: Host<W>>(
     name: &str,
     sight: &mut Sight<'_, W, H>,
 ) -> Mem<Text>
-    ensures asks { OnlyAsks W.steady W.answer H.log H.patience (probe_folder set.now env.now) sight.old sight.new }
-    ensures settles { IfOk result (Settles sight.new.answers.now (spec.android_compiler set.now.cpp env.now name.now)) }
+    ensures asks { AsksFor W.steady W.answer H.log H.patience set.now env.now sight.old sight.new }
+    ensures settles { SettledIn sight.new
+        (spec.android_compiler set.now.cpp env.now name.now) result }
 {
-    match kit_compiler(name) {
-        Some(kit) => kit_or_older(rt, alloc, set, env, name, kit, sight),
-        None => older_compiler(rt, alloc, set, env, name, sight),
+    match started_kit(rt, alloc, set, env, name, sight)? {
+        Some(path) => Ok(path),
+        None => {
+            let path = older_compiler(rt, alloc, set, env, name, sight)?;
+            Ok(path)
+        }
     }
 }

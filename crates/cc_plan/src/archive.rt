@@ -1,6 +1,6 @@
 // The archive and index commands.
 ghost use Rattle.std.specs.Prelude.{◌≡◌, [], ◌∷◌, None, IfOk};
-ghost use Rattle.cc_plan.specs.Archive.{archiver_of, archive_env, archive_of, archives_of, index_of, indexes_of};
+ghost use Rattle.cc_plan.specs.Archive.{archiver_of, archive_env, archiver_in, archive_of, archives_of, index_of, indexes_of};
 
 use crate::{BuildConfig, Object};
 use cc_env::BuildEnv;
@@ -35,7 +35,8 @@ fn archiver_in(
     form: &str,
     library: &str,
 ) -> Mem<Command>
-    ensures { IfOk result (λ cmd. cmd ≡ record { program = archiver_of set.now; args = form.now ∷ library.now ∷ []; env = vars.now; dir = None }) }
+    ensures { IfOk result (λ cmd.
+        cmd ≡ archiver_in set.now vars.now (form.now ∷ library.now ∷ [])) }
 {
     let mut cmd = Command::new(alloc, archiver_of(set))?;
     cmd.envs(vars)?;
@@ -68,7 +69,11 @@ fn archive_command(
     Ok(cmd)
 }
 
-/// The commands that write the objects into the library, in order: one with all of them, or none where there is no object.
+/// The commands that write the objects into the library, in order: one with all of them, or none where there is no object. The archiver
+/// is the set one, else `ar`. Only want of memory refuses.
+///
+/// By the manual of GNU `ar`, `c` makes the library without saying so, `q` adds members last without a look at those that are there, and
+/// `D` writes zero for times and owners, so that the same objects give the same bytes. `ZERO_AR_DATE` has Apple's archiver do so for times.
 pub fn archive_commands(
     alloc: Global,
     set: &BuildConfig,
@@ -76,7 +81,8 @@ pub fn archive_commands(
     library: &str,
     objects: &[Object],
 ) -> Mem<Vec<Command>>
-    ensures { IfOk result (λ cmds. cmds.items ≡ archives_of set.now env.now library.now objects.now) }
+    ensures { IfOk result (λ cmds.
+        cmds.items ≡ archives_of set.now env.now library.now objects.now) }
 {
     let mut cmds = Vec::new(alloc);
     if !objects.is_empty() {
@@ -92,7 +98,8 @@ fn index_command(alloc: Global, set: &BuildConfig, env: &BuildEnv, library: &str
     archiver_in(alloc, set, &vars, "sD", library)
 }
 
-/// The commands that write the index of the library.
+/// The commands that write the index of the library, by which a linker finds symbols: one. By the manual of GNU `ar`, `s` writes it, and
+/// `D` without the time. Only want of memory refuses.
 pub fn index_commands(
     alloc: Global,
     set: &BuildConfig,

@@ -1,11 +1,23 @@
-// Words between white space.
+// Words between white space, and texts that have a byte.
 ghost use Rattle.std.specs.Prelude.{◌≡◌, ◌++◌, ◌∷◌, [], IfOk, OnOk};
 ghost use Rattle.std.specs.List.{filter};
-ghost use Rattle.cc_plan.specs.Blanks.{white_words};
+ghost use Rattle.std.specs.Option.{option_copied};
+ghost use Rattle.cc_plan.specs.Blanks.{nonempty, white_words};
 ghost use Rattle.cc_text.specs.Pieces.{has_bytes};
 
 use cc_text::{Mem, Text, Words};
 use std::alloc::Global;
+
+/// The text, where there is one and it has a byte.
+pub(crate) fn nonempty(text: Option<&str>) -> Option<&str>
+    ensures { option_copied result ≡ nonempty (option_copied text.entry) }
+{
+    match text {
+        Some("") => None,
+        Some(text) => Some(text),
+        None => None,
+    }
+}
 
 // Adds a word that has a byte.
 fn push_nonempty(words: &mut Words, word: Text) -> Mem<()>

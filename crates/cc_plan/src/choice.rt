@@ -1,11 +1,9 @@
 // The choice of the compiler.
 ghost use Rattle.std.specs.Prelude.{◌≡◌, ◌++◌, IfOk};
 ghost use Rattle.std.specs.Option.{option_copied};
-ghost use Rattle.cc_host.specs.Question.{Settles};
 ghost use Rattle.cc_target.specs.Targets.{info_seen};
-ghost use Rattle.cc_plan.specs.Asking.{OnlyAsks};
+ghost use Rattle.cc_plan.specs.Asking.{AsksFor, SettledIn};
 ghost use Rattle.cc_plan.specs.Choice as spec;
-ghost use Rattle.cc_plan.specs.Given.{probe_folder};
 ghost use Rattle.cc_plan.specs.Target.{target_name, target_info};
 
 use crate::android::android_compiler;
@@ -17,7 +15,7 @@ use crate::languages::{
     vxworks_name,
 };
 use crate::prefix::{is_cross, prefix_for};
-use crate::search::{path_folders, which};
+use crate::search::which;
 use crate::{BuildConfig, Sight};
 use cc_env::BuildEnv;
 use cc_flags::is_qnx;
@@ -27,11 +25,14 @@ use cc_text::{Mem, Text, Words, join};
 use std::alloc::Global;
 use std::sync::Wait;
 
-/// A compiler, the wrapper that it is run through, and the words that it is given first.
+/// A chosen compiler.
 #[derive(Drop, Debug)]
 pub struct Choice {
+    /// Its path, or its name where a shell would find it.
     pub path: Text,
+    /// The program that runs it, as `ccache` does, where there is one.
     pub wrapper: Option<Text>,
+    /// The words that it is given first: those behind its name in `CC` or `CXX`.
     pub words: Words,
 }
 
@@ -59,7 +60,7 @@ fn is_wasm(target: &TargetInfo) -> bool
     target.arch == "wasm32" || target.arch == "wasm64"
 }
 
-// Clang in the kit of WASI.
+// Clang in the kit of WASI, which has one for each target by its name, as the readme of the WASI SDK says.
 #[tactic(auto, unfolding(crate::specs::Choice::wasi_path))]
 fn wasi_path(alloc: Global, kit: &str, name: &str) -> Mem<Text>
     ensures { IfOk result (λ path. path ≡ spec.wasi_path kit.now name.now) }
@@ -79,22 +80,13 @@ fn wasi_kit_compiler<W: World, H: Host<W>>(
     name: &str,
     sight: &mut Sight<'_, W, H>,
 ) -> Mem<Option<Text>>
-    ensures asks { OnlyAsks W.steady W.answer H.log H.patience (probe_folder set.now env.now) sight.old sight.new }
-    ensures settles { IfOk result (Settles sight.new.answers.now (spec.wasi_kit_compiler env.now name.now)) }
+    ensures asks { AsksFor W.steady W.answer H.log H.patience set.now env.now sight.old sight.new }
+    ensures settles { SettledIn sight.new (spec.wasi_kit_compiler env.now name.now) result }
 {
     match env.overridable("WASI_SDK_PATH") {
         Some(kit) => {
             let path = wasi_path(alloc, kit, name)?;
-            let folders = path_folders(alloc, env)?;
-            which(
-                rt,
-                alloc,
-                set,
-                env,
-                folders.as_slice(),
-                path.as_str(),
-                sight,
-            )
+            which(rt, alloc, set, env, path.as_str(), sight)
         }
         None => Ok(None),
     }
@@ -109,8 +101,8 @@ fn wasi_compiler<W: World, H: Host<W>>(
     name: &str,
     sight: &mut Sight<'_, W, H>,
 ) -> Mem<Text>
-    ensures asks { OnlyAsks W.steady W.answer H.log H.patience (probe_folder set.now env.now) sight.old sight.new }
-    ensures settles { IfOk result (Settles sight.new.answers.now (spec.wasi_compiler set.now.cpp env.now name.now)) }
+    ensures asks { AsksFor W.steady W.answer H.log H.patience set.now env.now sight.old sight.new }
+    ensures settles { SettledIn sight.new (spec.wasi_compiler set.now.cpp env.now name.now) result }
 {
     match wasi_kit_compiler(rt, alloc, set, env, name, sight)? {
         Some(path) => Ok(path),
@@ -134,7 +126,8 @@ fn compiler_behind(cpp: bool, target: &TargetInfo) -> &'static str
 // GCC behind a prefix, or Clang on targets of LLVM's own.
 #[tactic(auto, unfolding(crate::specs::Choice::prefixed_compiler))]
 fn prefixed_compiler(alloc: Global, cpp: bool, target: &TargetInfo, prefix: &str) -> Mem<Text>
-    ensures { IfOk result (λ name. name ≡ spec.prefixed_compiler cpp (info_seen target.now) prefix.now) }
+    ensures { IfOk result (λ name.
+        name ≡ spec.prefixed_compiler cpp (info_seen target.now) prefix.now) }
 {
     let mut name = Text::of(alloc, prefix)?;
     name.push_str("-")?;
@@ -142,7 +135,7 @@ fn prefixed_compiler(alloc: Global, cpp: bool, target: &TargetInfo, prefix: &str
     Ok(name)
 }
 
-// The linker optimises by its plugin.
+// The linker optimises by its plugin, which reads what Clang writes: rustc's book on linker-plugin-based LTO asks for Clang.
 #[tactic(auto, unfolding(crate::specs::Choice::links_by_plugin))]
 fn links_by_plugin(alloc: Global, env: &BuildEnv) -> Mem<bool>
     ensures { IfOk result (λ b. b ≡ spec.links_by_plugin env.now) }
@@ -161,13 +154,11 @@ fn plugin_compiler<W: World, H: Host<W>>(
     env: &BuildEnv,
     sight: &mut Sight<'_, W, H>,
 ) -> Mem<Option<Text>>
-    ensures asks { OnlyAsks W.steady W.answer H.log H.patience (probe_folder set.now env.now) sight.old sight.new }
-    ensures settles { IfOk result (Settles sight.new.answers.now (spec.plugin_compiler set.now.cpp env.now)) }
+    ensures asks { AsksFor W.steady W.answer H.log H.patience set.now env.now sight.old sight.new }
+    ensures settles { SettledIn sight.new (spec.plugin_compiler set.now.cpp env.now) result }
 {
     if links_by_plugin(alloc, env)? {
-        let folders = path_folders(alloc, env)?;
-        let name = clang_name(set.cpp);
-        which(rt, alloc, set, env, folders.as_slice(), name, sight)
+        which(rt, alloc, set, env, clang_name(set.cpp), sight)
     } else {
         Ok(None)
     }
@@ -181,8 +172,8 @@ fn default_compiler<W: World, H: Host<W>>(
     env: &BuildEnv,
     sight: &mut Sight<'_, W, H>,
 ) -> Mem<Text>
-    ensures asks { OnlyAsks W.steady W.answer H.log H.patience (probe_folder set.now env.now) sight.old sight.new }
-    ensures settles { IfOk result (Settles sight.new.answers.now (spec.default_compiler set.now.cpp env.now)) }
+    ensures asks { AsksFor W.steady W.answer H.log H.patience set.now env.now sight.old sight.new }
+    ensures settles { SettledIn sight.new (spec.default_compiler set.now.cpp env.now) result }
 {
     match plugin_compiler(rt, alloc, set, env, sight)? {
         Some(path) => Ok(path),
@@ -201,8 +192,8 @@ fn cross_prefix<W: World, H: Host<W>>(
     env: &BuildEnv,
     sight: &mut Sight<'_, W, H>,
 ) -> Mem<Option<Text>>
-    ensures asks { OnlyAsks W.steady W.answer H.log H.patience (probe_folder set.now env.now) sight.old sight.new }
-    ensures settles { IfOk result (Settles sight.new.answers.now (spec.cross_prefix set.now env.now)) }
+    ensures asks { AsksFor W.steady W.answer H.log H.patience set.now env.now sight.old sight.new }
+    ensures settles { SettledIn sight.new (spec.cross_prefix set.now env.now) result }
 {
     if is_cross(set, env) {
         prefix_for(rt, alloc, set, env, target_name(set, env), sight)
@@ -221,8 +212,8 @@ fn cross_compiler<W: World, H: Host<W>>(
     sight: &mut Sight<'_, W, H>,
 ) -> Mem<Text>
     requires { info_seen target.now ≡ target_info set.now env.now }
-    ensures asks { OnlyAsks W.steady W.answer H.log H.patience (probe_folder set.now env.now) sight.old sight.new }
-    ensures settles { IfOk result (Settles sight.new.answers.now (spec.cross_compiler set.now env.now)) }
+    ensures asks { AsksFor W.steady W.answer H.log H.patience set.now env.now sight.old sight.new }
+    ensures settles { SettledIn sight.new (spec.cross_compiler set.now env.now) result }
 {
     match cross_prefix(rt, alloc, set, env, sight)? {
         Some(prefix) => {
@@ -236,7 +227,8 @@ fn cross_compiler<W: World, H: Host<W>>(
     }
 }
 
-// The compiler of targets that have one name for it.
+// The compiler of targets that have one name for it: Clang for WebAssembly, and what the systems' own kits have for VxWorks and QNX, as
+// rustc's pages on platform support say.
 #[tactic(auto, unfolding(crate::specs::Choice::fixed_compiler))]
 fn fixed_compiler(cpp: bool, target: &TargetInfo) -> Option<&'static str>
     ensures { option_copied result ≡ spec.fixed_compiler cpp (info_seen target.now) }
@@ -261,8 +253,8 @@ fn fixed_or_cross<W: World, H: Host<W>>(
     sight: &mut Sight<'_, W, H>,
 ) -> Mem<Text>
     requires { info_seen target.now ≡ target_info set.now env.now }
-    ensures asks { OnlyAsks W.steady W.answer H.log H.patience (probe_folder set.now env.now) sight.old sight.new }
-    ensures settles { IfOk result (Settles sight.new.answers.now (λ look. spec.fixed_or_cross set.now env.now look (spec.fixed_compiler set.now.cpp (target_info set.now env.now)))) }
+    ensures asks { AsksFor W.steady W.answer H.log H.patience set.now env.now sight.old sight.new }
+    ensures settles { SettledIn sight.new (spec.fixed_or_cross set.now env.now) result }
 {
     match fixed_compiler(set.cpp, target) {
         Some(name) => Text::of(alloc, name),
@@ -280,8 +272,8 @@ fn target_compiler<W: World, H: Host<W>>(
     sight: &mut Sight<'_, W, H>,
 ) -> Mem<Text>
     requires { info_seen target.now ≡ target_info set.now env.now }
-    ensures asks { OnlyAsks W.steady W.answer H.log H.patience (probe_folder set.now env.now) sight.old sight.new }
-    ensures settles { IfOk result (Settles sight.new.answers.now (spec.target_compiler set.now env.now)) }
+    ensures asks { AsksFor W.steady W.answer H.log H.patience set.now env.now sight.old sight.new }
+    ensures settles { SettledIn sight.new (spec.target_compiler set.now env.now) result }
 {
     if target.os == "android" {
         android_compiler(rt, alloc, set, env, target_name(set, env), sight)
@@ -302,8 +294,8 @@ fn own_choice<W: World, H: Host<W>>(
     sight: &mut Sight<'_, W, H>,
 ) -> Mem<Choice>
     requires { info_seen target.now ≡ target_info set.now env.now }
-    ensures asks { OnlyAsks W.steady W.answer H.log H.patience (probe_folder set.now env.now) sight.old sight.new }
-    ensures settles { IfOk result (Settles sight.new.answers.now (spec.own_choice set.now env.now)) }
+    ensures asks { AsksFor W.steady W.answer H.log H.patience set.now env.now sight.old sight.new }
+    ensures settles { SettledIn sight.new (spec.own_choice set.now env.now) result }
 {
     if target.os == "emscripten" {
         return bare(alloc, emscripten_name(set.cpp));
@@ -322,8 +314,8 @@ fn found_choice<W: World, H: Host<W>>(
     sight: &mut Sight<'_, W, H>,
 ) -> Mem<Choice>
     requires { info_seen target.now ≡ target_info set.now env.now }
-    ensures asks { OnlyAsks W.steady W.answer H.log H.patience (probe_folder set.now env.now) sight.old sight.new }
-    ensures settles { IfOk result (Settles sight.new.answers.now (spec.found_choice set.now env.now)) }
+    ensures asks { AsksFor W.steady W.answer H.log H.patience set.now env.now sight.old sight.new }
+    ensures settles { SettledIn sight.new (spec.found_choice set.now env.now) result }
 {
     match env_tool(rt, alloc, set, env, compiler_variable(set.cpp), sight)? {
         Some(choice) => Ok(choice),
@@ -344,8 +336,8 @@ pub(crate) fn choose<W: World, H: Host<W>>(
     sight: &mut Sight<'_, W, H>,
 ) -> Mem<Choice>
     requires { info_seen target.now ≡ target_info set.now env.now }
-    ensures asks { OnlyAsks W.steady W.answer H.log H.patience (probe_folder set.now env.now) sight.old sight.new }
-    ensures settles { IfOk result (Settles sight.new.answers.now (spec.choice_of set.now env.now)) }
+    ensures asks { AsksFor W.steady W.answer H.log H.patience set.now env.now sight.old sight.new }
+    ensures settles { SettledIn sight.new (spec.choice_of set.now env.now) result }
 {
     match &set.compiler {
         Some(path) => bare(alloc, path.as_str()),

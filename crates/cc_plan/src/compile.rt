@@ -1,14 +1,16 @@
 // The compile command of an object.
-ghost use Rattle.std.specs.Prelude.{◌≡◌, IfOk, IfErr, None, unwrap_or, if◌then◌else◌};
+ghost use Rattle.std.specs.Prelude.{◌≡◌, IfOk, IfErr, OnOk, None, unwrap_or, if◌then◌else◌};
 ghost use Rattle.std.specs.Option.{option_copied};
 ghost use Rattle.cc_target.specs.Targets.{info_seen};
-ghost use Rattle.cc_plan.specs.Compile.{tool_for, compile_of, compiles_of};
+ghost use Rattle.cc_tool.specs.Tool.{tool_command};
+ghost use Rattle.cc_plan.specs.Compile.{tool_for, with_object, compile_of, compiles_of};
 ghost use Rattle.cc_plan.specs.declared.error.PlanError.TheVariants.{NoMemory as WantsMemory};
 
 use crate::words::{compile_words, is_masm};
 use crate::{BuildConfig, Object, PlanError};
 use cc_host::Command;
 use cc_target::TargetInfo;
+use cc_text::{Mem, ToolFamily};
 use cc_tool::Tool;
 use std::alloc::Global;
 
@@ -19,7 +21,8 @@ fn tool_for<'a>(
     assembler: Option<&'a Tool>,
     object: &Object,
 ) -> &'a Tool
-    ensures { result.now ≡ tool_for (info_seen target.now) tool.now (option_copied assembler.entry) object.now }
+    ensures { result.now ≡
+        tool_for (info_seen target.now) tool.now (option_copied assembler.entry) object.now }
 {
     if is_masm(target, object.src.as_str()) {
         assembler.unwrap_or(tool)
@@ -28,9 +31,25 @@ fn tool_for<'a>(
     }
 }
 
-/// The command that makes an object from its source: the tool, then the words of the object and the source in the form of the tool's
-/// family. An assembler serves sources in the language of the Visual Studio tools, on a target of those; no such target is known yet, so
-/// no source asks for one. Only want of memory refuses.
+// Adds the words of an object, in the form of a family.
+fn push_object(
+    cmd: &mut Command,
+    alloc: Global,
+    set: &BuildConfig,
+    target: &TargetInfo,
+    family: ToolFamily,
+    object: &Object,
+) -> Mem<()>
+    ensures { OnOk result (cmd.new ≡
+        with_object set.now (info_seen target.now) family object.now cmd.old) }
+{
+    let words = compile_words(alloc, set, family, target, object)?;
+    cmd.args(&words)
+}
+
+/// The command that makes an object from its source: the tool in its whole environment, then the words of the object and the source in
+/// the form of the tool's family. An assembler serves sources in the language of the Visual Studio tools, on a target of those; no such
+/// target is known yet, so no source asks for one. Only want of memory refuses.
 pub fn compile_command(
     alloc: Global,
     set: &BuildConfig,
@@ -39,29 +58,49 @@ pub fn compile_command(
     assembler: Option<&Tool>,
     object: &Object,
 ) -> Result<Command, PlanError>
-    ensures command { IfOk result (λ cmd. cmd ≡ compile_of set.now (info_seen target.now) tool.now (option_copied assembler.entry) object.now) }
+    ensures command { IfOk result (λ c. c ≡ compile_of set.now (info_seen target.now)
+        tool.now (option_copied assembler.entry) object.now) }
     ensures refused { IfErr result (λ e. e ≡ WantsMemory) }
 {
-    let words = compile_words(alloc, set, tool.family(), target, object)?;
     let mut cmd = tool_for(target, tool, assembler, object).to_command()?;
-    cmd.args(&words)?;
+    push_object(&mut cmd, alloc, set, target, tool.family(), object)?;
     Ok(cmd)
 }
 
-// One command an object, in order.
+// The command of an object, without an assembler, from that of the tool. It shares the environment of the tool's.
+#[tactic(auto, using(crate::proofs::CompileLemmas::without_assembler))]
+fn command_from(
+    start: &Command,
+    alloc: Global,
+    set: &BuildConfig,
+    target: &TargetInfo,
+    tool: &Tool,
+    object: &Object,
+) -> Mem<Command>
+    requires { start.now ≡ tool_command tool.now }
+    ensures { IfOk result (λ cmd.
+        cmd ≡ compile_of set.now (info_seen target.now) tool.now None object.now) }
+{
+    let mut cmd = start.try_clone()?;
+    push_object(&mut cmd, alloc, set, target, tool.family(), object)?;
+    Ok(cmd)
+}
+
+// One command an object, in order. What all have in common, as the environment, is made once.
 pub(crate) fn compile_commands(
     alloc: Global,
     set: &BuildConfig,
     target: &TargetInfo,
     tool: &Tool,
     objects: &[Object],
-) -> Result<Vec<Command>, PlanError>
-    ensures commands { IfOk result (λ cmds. cmds.items ≡ compiles_of set.now (info_seen target.now) tool.now objects.now) }
-    ensures refused { IfErr result (λ e. e ≡ WantsMemory) }
+) -> Mem<Vec<Command>>
+    ensures { IfOk result (λ cmds. cmds.items ≡
+        compiles_of set.now (info_seen target.now) tool.now objects.now) }
 {
+    let start = tool.to_command()?;
     let mut cmds = Vec::new(alloc);
     for object in objects {
-        cmds.push(compile_command(alloc, set, target, tool, None, object)?)?;
+        cmds.push(command_from(&start, alloc, set, target, tool, object)?)?;
     }
     Ok(cmds)
 }

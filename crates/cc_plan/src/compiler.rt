@@ -1,12 +1,8 @@
 // The chosen compiler with its family.
 ghost use Rattle.std.specs.Prelude.{◌≡◌, ◌++◌, IfOk};
-ghost use Rattle.cc_env.specs.Snapshot.{child_of};
-ghost use Rattle.cc_host.specs.Question.{Settles};
 ghost use Rattle.cc_target.specs.Targets.{info_seen};
-ghost use Rattle.cc_tool.specs.Family.{family_of};
-ghost use Rattle.cc_plan.specs.Asking.{OnlyAsks};
-ghost use Rattle.cc_plan.specs.Compiler.{compiler_of};
-ghost use Rattle.cc_plan.specs.Given.{probe_folder};
+ghost use Rattle.cc_plan.specs.Asking.{AsksFor, SettledIn};
+ghost use Rattle.cc_plan.specs.Compiler.{family_in, compiler_of};
 ghost use Rattle.cc_plan.specs.Target.{target_info};
 
 use crate::choice::choose;
@@ -20,11 +16,13 @@ use cc_tool::{Detected, ask_family};
 use std::alloc::Global;
 use std::sync::Wait;
 
-/// A compiler with its family, and how that was found.
+/// A compiler with its family.
 #[derive(Drop, Debug)]
 pub struct Compiler {
     pub choice: Choice,
+    /// The form of words that it takes.
     pub family: ToolFamily,
+    /// How the family was found: a user is warned of one that no mark showed.
     pub detected: Detected,
 }
 
@@ -37,8 +35,8 @@ fn family_in<W: World, H: Host<W>>(
     choice: &Choice,
     sight: &mut Sight<'_, W, H>,
 ) -> Mem<(ToolFamily, Detected)>
-    ensures asks { OnlyAsks W.steady W.answer H.log H.patience (probe_folder set.now env.now) sight.old sight.new }
-    ensures settles { IfOk result (Settles sight.new.answers.now (λ look. family_of look choice.now.path choice.now.words (child_of env.now.inherited env.now.explicit))) }
+    ensures asks { AsksFor W.steady W.answer H.log H.patience set.now env.now sight.old sight.new }
+    ensures settles { SettledIn sight.new (family_in env.now choice.now) result }
 {
     ask_family(
         rt,
@@ -63,8 +61,8 @@ pub(crate) fn compiler_of<W: World, H: Host<W>>(
     sight: &mut Sight<'_, W, H>,
 ) -> Mem<Compiler>
     requires { info_seen target.now ≡ target_info set.now env.now }
-    ensures asks { OnlyAsks W.steady W.answer H.log H.patience (probe_folder set.now env.now) sight.old sight.new }
-    ensures settles { IfOk result (Settles sight.new.answers.now (compiler_of set.now env.now)) }
+    ensures asks { AsksFor W.steady W.answer H.log H.patience set.now env.now sight.old sight.new }
+    ensures settles { SettledIn sight.new (compiler_of set.now env.now) result }
 {
     let choice = choose(rt, alloc, set, env, target, sight)?;
     let (family, detected) = family_in(rt, alloc, set, env, &choice, sight)?;

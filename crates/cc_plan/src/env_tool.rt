@@ -3,10 +3,8 @@ ghost use Rattle.std.specs.Prelude.{◌≡◌, IfOk};
 ghost use Rattle.std.specs.Option.{option_copied};
 ghost use Rattle.std.specs.List.{list_any};
 ghost use Rattle.cc_text.specs.Words.{texts};
-ghost use Rattle.cc_host.specs.Question.{Settles};
-ghost use Rattle.cc_plan.specs.Asking.{OnlyAsks};
+ghost use Rattle.cc_plan.specs.Asking.{AsksFor, SettledIn};
 ghost use Rattle.cc_plan.specs.EnvTool as spec;
-ghost use Rattle.cc_plan.specs.Given.{probe_folder};
 
 use crate::blanks::white_words;
 use crate::given::prefixed_value;
@@ -67,7 +65,7 @@ fn rustc_wrapper_names() -> &'static [&'static str]
     &["sccache", "cachepot", "buildcache", "kache"]
 }
 
-// The program is the one that the environment tells of.
+// The program is the one that the environment names as a wrapper.
 #[tactic(auto, unfolding(crate::specs::EnvTool::is_custom_wrapper))]
 fn is_custom_wrapper(env: &BuildEnv, path: &str) -> bool
     ensures { result ≡ spec.is_custom_wrapper env.now path.now }
@@ -86,7 +84,7 @@ fn is_wrapper(env: &BuildEnv, path: &str) -> bool
     has_stem_among(wrapper_names(), path) || is_custom_wrapper(env, path)
 }
 
-// The wrapper of Rust's compiler, where it serves other compilers.
+// The wrapper of Rust's compiler (Cargo's book, `RUSTC_WRAPPER`), where it serves other compilers.
 #[tactic(auto, unfolding(crate::specs::EnvTool::rustc_wrapper))]
 fn rustc_wrapper(env: &BuildEnv) -> Option<&str>
     ensures { option_copied result ≡ spec.rustc_wrapper env.now }
@@ -187,8 +185,8 @@ fn tool_in_text<W: World, H: Host<W>>(
     text: &str,
     sight: &mut Sight<'_, W, H>,
 ) -> Mem<Option<Choice>>
-    ensures asks { OnlyAsks W.steady W.answer H.log H.patience (probe_folder set.now env.now) sight.old sight.new }
-    ensures settles { IfOk result (Settles sight.new.answers.now (λ look. spec.tool_in_text env.now look text.now)) }
+    ensures asks { AsksFor W.steady W.answer H.log H.patience set.now env.now sight.old sight.new }
+    ensures settles { SettledIn sight.new (λ look. spec.tool_in_text env.now look text.now) result }
 {
     if text.is_empty() {
         return Ok(None);
@@ -211,8 +209,8 @@ pub(crate) fn env_tool<W: World, H: Host<W>>(
     variable: &str,
     sight: &mut Sight<'_, W, H>,
 ) -> Mem<Option<Choice>>
-    ensures asks { OnlyAsks W.steady W.answer H.log H.patience (probe_folder set.now env.now) sight.old sight.new }
-    ensures settles { IfOk result (Settles sight.new.answers.now (spec.env_tool set.now env.now variable.now)) }
+    ensures asks { AsksFor W.steady W.answer H.log H.patience set.now env.now sight.old sight.new }
+    ensures settles { SettledIn sight.new (spec.env_tool set.now env.now variable.now) result }
 {
     match prefixed_value(alloc, set, env, variable)? {
         Some(value) => tool_in_text(rt, alloc, set, env, value.as_str().trim(), sight),

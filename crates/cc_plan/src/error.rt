@@ -6,7 +6,7 @@ use cc_host::{HostCall, Why};
 use cc_text::{NoMemory, Text};
 use std::alloc::{AllocError, AllocFailed};
 
-/// What is wrong with an argument. Places count from 0, in the order in which sources were added.
+/// What is wrong with an argument of a build. Places count from 0, in the order in which sources were added.
 #[derive(Clone, Copy, Debug, PartialEq, Eq)]
 pub enum ArgumentCause {
     /// The output is no name of a library.
@@ -19,20 +19,20 @@ pub enum ArgumentCause {
     SameObject(u64, u64),
 }
 
-/// Why a plan is refused.
+/// Why a plan is refused. A refused plan runs no command; what it asked until then is in the log of the host.
 #[derive(Drop, Debug)]
 pub enum PlanError {
     /// An argument is wrong.
     Argument(ArgumentCause),
-    /// The variable of this name is set nowhere.
+    /// Neither a setting nor the variable of this name, which Cargo sets for a build script, gives the value.
     NotSet(Text),
-    /// The target of this name isn't known.
+    /// The target of this name isn't in the table of targets.
     UnknownTarget(Text),
-    /// The QNX compilers have no name for this architecture.
+    /// The QNX compilers have no variant for this architecture.
     QnxArch(Text),
-    /// This flag, which Cargo hands down, has no value or a wrong one.
+    /// This flag of Rust code, which Cargo hands down, has no value or a wrong one.
     Flag(Text),
-    /// A call of the host failed.
+    /// A call of the host failed, for this cause.
     Host(HostCall, Why),
     /// Memory was refused.
     NoMemory,

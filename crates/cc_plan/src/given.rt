@@ -1,9 +1,10 @@
-// What the settings say and, where they are silent, the variables that Cargo sets for a build script.
+// What the settings say and, where they are silent, the variables that Cargo sets for a build script, as Cargo's book lists them.
 ghost use Rattle.std.specs.Prelude.{◌≡◌, IfOk, option_map};
 ghost use Rattle.std.specs.Option.{option_copied};
-ghost use Rattle.cc_plan.specs.Given.{prefixed_value, set_text, temp_folder, probe_folder, or_variable, out_dir_of, target_of, host_of, level_of, is_value_of, is_cargos_target, is_true_variable, is_disabled, has_no_defaults, has_shell_flags, flags_variable, variable_flags, environment_flags};
+ghost use Rattle.cc_plan.specs.Given.{prefixed_value, temp_folder, probe_folder, or_variable, out_dir_of, target_of, host_of, level_of, is_value_of, is_cargos_target, is_true_variable, is_disabled, has_no_defaults, has_shell_flags, flags_variable, variable_flags, environment_flags};
 
 use crate::BuildConfig;
+use crate::blanks::nonempty;
 use cc_env::{BuildEnv, env_value_is_true, flags_of, single};
 use cc_text::{Mem, Text, Words};
 use std::alloc::Global;
@@ -22,29 +23,29 @@ pub(crate) fn or_variable<'a>(
     }
 }
 
-/// The folder of the objects and of the library: the set one, else `OUT_DIR`. It takes no memory.
+/// The folder of the objects and of the library, lent: the set one, else `OUT_DIR`, or none. It takes no memory.
 pub fn out_dir_of<'a>(set: &'a BuildConfig, env: &'a BuildEnv) -> Option<&'a str>
     ensures { option_copied result ≡ out_dir_of set.now env.now }
 {
     or_variable(&set.out_dir, env, "OUT_DIR")
 }
 
-/// The target: the set one, else `TARGET`. It takes no memory.
+/// The name of the target, lent: the set one, else `TARGET`, or none. It takes no memory.
 pub fn target_of<'a>(set: &'a BuildConfig, env: &'a BuildEnv) -> Option<&'a str>
     ensures { option_copied result ≡ target_of set.now env.now }
 {
     or_variable(&set.target, env, "TARGET")
 }
 
-/// The host: the set one, else `HOST`. It takes no memory.
+/// The name of the target of the machine that compiles, lent: the set one, else `HOST`, or none. It takes no memory.
 pub fn host_of<'a>(set: &'a BuildConfig, env: &'a BuildEnv) -> Option<&'a str>
     ensures { option_copied result ≡ host_of set.now env.now }
 {
     or_variable(&set.host, env, "HOST")
 }
 
-/// The optimisation level: the set one, else `OPT_LEVEL`. It takes no memory.
-pub fn level_of<'a>(set: &'a BuildConfig, env: &'a BuildEnv) -> Option<&'a str>
+// The optimisation level as text: the set one, else `OPT_LEVEL`, or none.
+pub(crate) fn level_of<'a>(set: &'a BuildConfig, env: &'a BuildEnv) -> Option<&'a str>
     ensures { option_copied result ≡ level_of set.now env.now }
 {
     or_variable(&set.opt_level, env, "OPT_LEVEL")
@@ -78,7 +79,8 @@ fn is_true_variable(env: &BuildEnv, name: &str) -> bool
     }
 }
 
-/// Whether `CC_FORCE_DISABLE` is true, so that no command may run. It takes no memory.
+/// Whether `CC_FORCE_DISABLE` is true, so that no command may run, as a build system wants that builds
+/// all libraries itself. It takes no memory.
 pub fn is_disabled(env: &BuildEnv) -> bool
     ensures { result ≡ is_disabled env.now }
 {
@@ -107,8 +109,8 @@ fn flags_variable(set: &BuildConfig) -> &'static str
     if set.cpp { "CXXFLAGS" } else { "CFLAGS" }
 }
 
-/// The flags of a variable for this target and host: those of each of its four names that is set, the most general name first. None
-/// where none of them is set.
+/// The flags of a variable for this target and host: those of each of its four names that is set, the most general name first, parted
+/// at blanks, or as a shell parts words where that is wanted. None where none of them is set. Only want of memory refuses.
 pub fn variable_flags(
     alloc: Global,
     set: &BuildConfig,
@@ -155,21 +157,10 @@ pub(crate) fn prefixed_value(
     }
 }
 
-// The text, where it is set and has a byte.
-fn set_text(text: Option<&str>) -> Option<&str>
-    ensures { option_copied result ≡ set_text (option_copied text.entry) }
-{
-    match text {
-        Some("") => None,
-        Some(text) => Some(text),
-        None => None,
-    }
-}
-
 fn temp_folder(env: &BuildEnv) -> &str
     ensures { result.now ≡ temp_folder env.now }
 {
-    set_text(env.inherited().get("TMPDIR")).unwrap_or("/tmp")
+    nonempty(env.inherited().get("TMPDIR")).unwrap_or("/tmp")
 }
 
 // The folder of probe files: the out dir, else that for files that don't last.
@@ -177,5 +168,5 @@ fn temp_folder(env: &BuildEnv) -> &str
 pub(crate) fn probe_folder<'a>(set: &'a BuildConfig, env: &'a BuildEnv) -> &'a str
     ensures { result.now ≡ probe_folder set.now env.now }
 {
-    set_text(out_dir_of(set, env)).unwrap_or(temp_folder(env))
+    nonempty(out_dir_of(set, env)).unwrap_or(temp_folder(env))
 }

@@ -23,9 +23,11 @@ fn search_line(alloc: Global, folder: &str) -> Mem<Text>
     Ok(line)
 }
 
-/// What a build script tells Cargo to link: the library by its name, and the folder that has it. The lines have no line feed.
+/// The lines by which a build script asks Cargo to link a static library: its name, and the folder that has it, without line feeds. Only
+/// want of memory refuses.
 ///
-/// The lines are those of Cargo's documentation of build scripts.
+/// Cargo's book on build scripts has the forms, `cargo:rustc-link-lib=KIND=NAME` and `cargo:rustc-link-search=KIND=PATH`; the kind
+/// `native` has the folder searched for libraries alone, not for crates.
 pub fn link_lines(alloc: Global, name: &str, dir: &str) -> Mem<Words>
     ensures { IfOk result (λ lines. lines ≡ link_lines name.now dir.now) }
 {

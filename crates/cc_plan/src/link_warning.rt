@@ -45,7 +45,8 @@ pub(crate) fn leaves_off(
     env: &BuildEnv,
     family: ToolFamily,
 ) -> Mem<bool>
-    ensures { IfOk result (λ b. b ≡ spec.leaves_off family set.now.flags (environment_flags set.now env.now)) }
+    ensures { IfOk result (λ b. b ≡
+        spec.leaves_off family set.now.flags (environment_flags set.now env.now)) }
 {
     if !is_visual_studio(family) {
         return Ok(false);
@@ -54,8 +55,8 @@ pub(crate) fn leaves_off(
     Ok(has_link_flag(set.flags.as_slice()) || has_link_among(environment.as_ref()))
 }
 
-/// Whether this call is the one of its caches that tells of flags that are left off. No clause says which call it is, since the mark
-/// stands behind a lock.
+/// Whether this call, of those that share its caches, is the one that warns of flags that are left off. No clause says which call it is,
+/// since the mark stands behind a lock.
 pub(crate) fn is_told<W: World>(
     rt: &impl Wait,
     caches: &Caches<W>,

@@ -2,9 +2,9 @@
 ghost use Rattle.std.specs.Prelude.{◌≡◌, IfOk, IfErr, OnOk, ◌⊎◌, None, ◌++◌, Some, codes};
 ghost use Rattle.std.specs.Option.{option_copied};
 ghost use Rattle.cc_plan.specs.Names.{is_nameless, has_slash, is_output_name, inner_name, library_name, library_file};
-ghost use Rattle.cc_plan.specs.Refusal.{name_refusal};
-ghost use Rattle.cc_plan.specs.declared.error.PlanError.TheVariants.{NoMemory as WantsMemory};
+ghost use Rattle.cc_plan.specs.Refusal.{name_refusal, AllowedBy, RefusedBy};
 
+use crate::blanks::nonempty;
 use crate::{ArgumentCause, PlanError};
 use cc_text::{Mem, Text, after_prefix, before_suffix};
 use std::alloc::Global;
@@ -34,14 +34,7 @@ fn is_output_name(output: &str) -> bool
 fn inner_name(output: &str) -> Option<&str>
     ensures { option_copied result ≡ inner_name output.now }
 {
-    match after_prefix(output, "lib") {
-        None => None,
-        Some(rest) => match before_suffix(rest, ".a") {
-            None => None,
-            Some("") => None,
-            Some(name) => Some(name),
-        },
-    }
+    nonempty(before_suffix(after_prefix(output, "lib")?, ".a"))
 }
 
 fn file_of(alloc: Global, name: &str) -> Mem<Text>
@@ -53,13 +46,15 @@ fn file_of(alloc: Global, name: &str) -> Mem<Text>
     Ok(file)
 }
 
-/// The name of the library that a linker is told, and the name of its file, for an output such as `foo` or `libfoo.a`.
+/// The name of the library, as a linker takes it behind `-l`, and the name of its file, for an output such as `foo` or `libfoo.a`.
 ///
-/// Refused where the output is no single name, or is `lib.a`, which leaves the library without a name.
+/// Refused where the output is no single component of a path, or is `lib.a`, which leaves the library without a name; and for memory.
+/// Linkers look for the name `foo` in the file `libfoo.a`, by the manual of GNU `ld`.
 pub fn lib_and_archive_names(alloc: Global, output: &str) -> Result<(Text, Text), PlanError>
-    ensures names { IfOk result (λ names. (names.0 ≡ library_name output.now) × (names.1 ≡ library_file output.now)) }
-    ensures allowed { OnOk result (name_refusal output.now ≡ None) }
-    ensures refused { IfErr result (λ e. (e ≡ WantsMemory) ⊎ (name_refusal output.now ≡ Some e)) }
+    ensures names { IfOk result (λ names.
+        (names.0 ≡ library_name output.now) × (names.1 ≡ library_file output.now)) }
+    ensures allowed { AllowedBy (name_refusal output.now) result }
+    ensures refused { RefusedBy (name_refusal output.now) result }
 {
     if !is_output_name(output) {
         return Err(PlanError::Argument(ArgumentCause::Output));

@@ -3,8 +3,7 @@ ghost use Rattle.std.specs.Prelude.{◌≡◌, IfOk, IfErr, OnOk, ◌⊎◌, Som
 ghost use Rattle.cc_text.specs.Hash.{fnv1a, fnv1a_from};
 ghost use Rattle.std.specs.Option.{option_copied};
 ghost use Rattle.cc_plan.specs.Object.{after_variable, after_root, placed, ended, hashed, object_name as name_of, object_path as path_of, objects_of};
-ghost use Rattle.cc_plan.specs.Refusal.{sources_refusal};
-ghost use Rattle.cc_plan.specs.declared.error.PlanError.TheVariants.{NoMemory as WantsMemory};
+ghost use Rattle.cc_plan.specs.Refusal.{objects_refusal, AllowedBy, RefusedBy};
 
 use crate::{ArgumentCause, PlanError};
 use cc_env::EnvSnapshot;
@@ -18,7 +17,9 @@ use std::collections::BTreeMap;
 /// A source and its object.
 #[derive(Drop, Debug)]
 pub struct Object {
+    /// The path of the source, as it was added.
     pub src: Text,
+    /// The path of the object.
     pub dst: Text,
 }
 
@@ -92,7 +93,8 @@ fn object_name(alloc: Global, env: &EnvSnapshot, root: Option<&str>, source: &st
 /// The object of a source in the folder `dst`: sixteen digits, a `-`, and the source's file name with the extension `o`.
 ///
 /// The digits are FNV-1a of 64 bits over where the source's folder counts from, the folder from there on, and the source's extension. A
-/// folder counts from `OUT_DIR` or `CARGO_MANIFEST_DIR` where it begins with that text, else from the source root where that has it.
+/// folder counts from `OUT_DIR` or `CARGO_MANIFEST_DIR` where it begins with that text, else from the source root where that has it. So
+/// sources of one name in two folders have two objects, and the name is the same wherever the package lies. Only want of memory refuses.
 #[tactic(auto, unfolding(crate::specs::Object::object_path))]
 pub fn object_path(
     alloc: Global,
@@ -101,7 +103,8 @@ pub fn object_path(
     dst: &str,
     source: &str,
 ) -> Mem<Text>
-    ensures { IfOk result (λ path. path ≡ path_of env.now (option_copied source_root.entry) dst.now source.now) }
+    ensures { IfOk result (λ path.
+        path ≡ path_of env.now (option_copied source_root.entry) dst.now source.now) }
 {
     let name = object_name(alloc, env, source_root, source)?;
     let path = join(alloc, dst, name.as_str())?;
@@ -110,7 +113,8 @@ pub fn object_path(
 
 /// The object of each source in the folder `dst`, in the order of the sources.
 ///
-/// Refused at the first source that has no file name, or the object of an earlier one. Places count from 0.
+/// Refused at the first source that has no file name, or the object of an earlier one: two commands would write one file. Places count
+/// from 0. Also refused for memory.
 pub fn objects_from_files(
     alloc: Global,
     files: &Words,
@@ -118,9 +122,12 @@ pub fn objects_from_files(
     env: &EnvSnapshot,
     source_root: Option<&str>,
 ) -> Result<Vec<Object>, PlanError>
-    ensures objects { IfOk result (λ objects. objects.items ≡ objects_of env.now (option_copied source_root.entry) dst.now files.now) }
-    ensures allowed { OnOk result (sources_refusal (path_of env.now (option_copied source_root.entry) dst.now) files.now ≡ None) }
-    ensures refused { IfErr result (λ e. (e ≡ WantsMemory) ⊎ (sources_refusal (path_of env.now (option_copied source_root.entry) dst.now) files.now ≡ Some e)) }
+    ensures objects { IfOk result (λ objects. objects.items ≡
+        objects_of env.now (option_copied source_root.entry) dst.now files.now) }
+    ensures allowed { AllowedBy
+        (objects_refusal env.now (option_copied source_root.entry) dst.now files.now) result }
+    ensures refused { RefusedBy
+        (objects_refusal env.now (option_copied source_root.entry) dst.now files.now) result }
 {
     let mut objects = Vec::new(alloc);
     let mut places = BTreeMap::new(alloc);

@@ -2,12 +2,11 @@
 ghost use Rattle.std.specs.Prelude.{◌≡◌, ◌++◌, [], IfOk, IfErr, OnOk, ◌⊎◌, Some, None};
 ghost use Rattle.cc_host.specs.Question.{Settles};
 ghost use Rattle.std.specs.Option.{option_copied};
-ghost use Rattle.cc_plan.specs.Asking.{OnlyAsks};
+ghost use Rattle.cc_plan.specs.Asking.{AsksFor, AllowedIn, RefusedIn};
 ghost use Rattle.cc_plan.specs.Names.{library_name};
-ghost use Rattle.cc_plan.specs.Given.{out_dir_of, probe_folder};
+ghost use Rattle.cc_plan.specs.Given.{out_dir_of};
 ghost use Rattle.cc_plan.specs.Plan.{objects_of, library_of, compiles_of, archives_of, indexes_of, tool_lines, warning_lines as lines_of_warnings, link_lines as lines_of};
-ghost use Rattle.cc_plan.specs.Refusal.{early_refusal, late_refusal, tool_refusal, platform_refusal, out_dir_refusal};
-ghost use Rattle.cc_plan.specs.declared.error.PlanError.TheVariants.{NoMemory as WantsMemory};
+ghost use Rattle.cc_plan.specs.Refusal.{early_refusal, late_refusal, tool_refusal, platform_refusal, out_dir_refusal, AllowedBy, RefusedBy};
 
 use crate::compile::compile_commands;
 use crate::given::out_dir_of;
@@ -23,23 +22,31 @@ use cc_text::{Text, Words, join, parent};
 use std::alloc::Global;
 use std::sync::Wait;
 
-/// What is known before the folder of the objects is made: the name and the path of the library, and the objects.
+/// What is known before the folder of the objects is made.
 #[derive(Drop, Debug)]
 pub struct Sources {
+    /// The name of the library, as a linker takes it.
     pub name: Text,
+    /// The path of its file, in the out dir.
     pub library: Text,
+    /// The sources with their objects, in the order in which the sources were added.
     pub objects: Vec<Object>,
 }
 
-/// The warnings, commands and lines of a compile run; `told` tells whether the run is the one of its caches that is told of flags for the
-/// linker.
+/// The warnings, commands and lines of a compile run. All that will run is here: nothing is decided while it runs.
 #[derive(Drop, Debug)]
 pub struct Plan {
+    /// Whether this run, of those that share its caches, is the one that warns of flags for the linker.
     pub told: bool,
+    /// The warnings as lines for Cargo, without line feeds, which are printed first.
     pub warnings: Words,
+    /// One command a source, in their order. They share one environment.
     pub compiles: Vec<Command>,
+    /// The commands that write the objects into the library.
     pub archives: Vec<Command>,
+    /// The commands that write its index.
     pub indexes: Vec<Command>,
+    /// The link lines, without line feeds.
     pub lines: Words,
 }
 
@@ -50,8 +57,8 @@ fn checked_out_dir<'a>(
     env: &'a BuildEnv,
 ) -> Result<&'a str, PlanError>
     ensures dir { IfOk result (λ dir. out_dir_of set.now env.now ≡ Some dir.now) }
-    ensures allowed { OnOk result (out_dir_refusal (out_dir_of set.now env.now) ≡ None) }
-    ensures refused { IfErr result (λ e. (e ≡ WantsMemory) ⊎ (out_dir_refusal (out_dir_of set.now env.now) ≡ Some e)) }
+    ensures allowed { AllowedBy (out_dir_refusal (out_dir_of set.now env.now)) result }
+    ensures refused { RefusedBy (out_dir_refusal (out_dir_of set.now env.now)) result }
 {
     match out_dir_of(set, env) {
         None => Err(PlanError::NotSet(Text::of(alloc, "OUT_DIR")?)),
@@ -69,7 +76,10 @@ fn source_root_of(set: &BuildConfig) -> Option<&str>
     }
 }
 
-/// Checks the output, the out dir and the sources, in this order, and names the library and the objects.
+/// Checks the output, the out dir and the sources, in this order, and names the library and the objects. It asks nothing.
+///
+/// Refused where the output names no library, the out dir is set nowhere or empty, a source has no file name or the object of an earlier
+/// one; and for memory.
 #[tactic(auto, unfolding(crate::specs::Refusal::early_refusal))]
 pub fn plan_sources(
     alloc: Global,
@@ -78,10 +88,11 @@ pub fn plan_sources(
     output: &str,
 ) -> Result<Sources, PlanError>
     ensures name { IfOk result (λ sources. sources.name ≡ library_name output.now) }
-    ensures library { IfOk result (λ sources. sources.library ≡ library_of set.now env.now output.now) }
+    ensures library { IfOk result (λ sources.
+        sources.library ≡ library_of set.now env.now output.now) }
     ensures objects { IfOk result (λ sources. sources.objects.items ≡ objects_of set.now env.now) }
-    ensures allowed { OnOk result (early_refusal set.now env.now output.now ≡ None) }
-    ensures refused { IfErr result (λ e. (e ≡ WantsMemory) ⊎ (early_refusal set.now env.now output.now ≡ Some e)) }
+    ensures allowed { AllowedBy (early_refusal set.now env.now output.now) result }
+    ensures refused { RefusedBy (early_refusal set.now env.now output.now) result }
 {
     let (name, file) = lib_and_archive_names(alloc, output)?;
     let dir = checked_out_dir(alloc, set, env)?;
@@ -106,8 +117,8 @@ struct Compiles {
 fn no_compiles(alloc: Global, set: &BuildConfig, env: &BuildEnv) -> Result<Compiles, PlanError>
     ensures warnings { IfOk result (λ plan. plan.warnings ≡ []) }
     ensures compiles { IfOk result (λ plan. plan.cmds.items ≡ []) }
-    ensures allowed { OnOk result (platform_refusal set.now env.now ≡ None) }
-    ensures refused { IfErr result (λ e. (e ≡ WantsMemory) ⊎ (platform_refusal set.now env.now ≡ Some e)) }
+    ensures allowed { AllowedBy (platform_refusal set.now env.now) result }
+    ensures refused { RefusedBy (platform_refusal set.now env.now) result }
 {
     check_platform(alloc, set, env)?;
     Ok(Compiles {
@@ -127,11 +138,13 @@ fn tool_compiles<W: World, H: Host<W>>(
     sight: &mut Sight<'_, W, H>,
 ) -> Result<Compiles, PlanError>
     requires { objects.now ≡ objects_of set.now env.now }
-    ensures asks { OnlyAsks W.steady W.answer H.log H.patience (probe_folder set.now env.now) sight.old sight.new }
-    ensures warnings { IfOk result (λ plan. Settles sight.new.answers.now (tool_lines set.now env.now plan.told) plan.warnings) }
-    ensures compiles { IfOk result (λ plan. Settles sight.new.answers.now (compiles_of set.now env.now) plan.cmds.items) }
-    ensures allowed { OnOk result (Settles sight.new.answers.now (tool_refusal set.now env.now) None) }
-    ensures refused { IfErr result (λ e. (e ≡ WantsMemory) ⊎ Settles sight.new.answers.now (tool_refusal set.now env.now) (Some e)) }
+    ensures asks { AsksFor W.steady W.answer H.log H.patience set.now env.now sight.old sight.new }
+    ensures warnings { IfOk result (λ plan.
+        Settles sight.new.answers.now (tool_lines set.now env.now plan.told) plan.warnings) }
+    ensures compiles { IfOk result (λ plan.
+        Settles sight.new.answers.now (compiles_of set.now env.now) plan.cmds.items) }
+    ensures allowed { AllowedIn sight.new (tool_refusal set.now env.now) result }
+    ensures refused { RefusedIn sight.new (tool_refusal set.now env.now) result }
 {
     let plan = plan_tool(rt, alloc, set, env, sight)?;
     let warnings = wanted_lines(alloc, set, &plan.warned.warnings)?;
@@ -153,11 +166,13 @@ fn plan_compiles<W: World, H: Host<W>>(
     sight: &mut Sight<'_, W, H>,
 ) -> Result<Compiles, PlanError>
     requires { objects.now ≡ objects_of set.now env.now }
-    ensures asks { OnlyAsks W.steady W.answer H.log H.patience (probe_folder set.now env.now) sight.old sight.new }
-    ensures warnings { IfOk result (λ plan. Settles sight.new.answers.now (lines_of_warnings set.now env.now plan.told) plan.warnings) }
-    ensures compiles { IfOk result (λ plan. Settles sight.new.answers.now (compiles_of set.now env.now) plan.cmds.items) }
-    ensures allowed { OnOk result (Settles sight.new.answers.now (late_refusal set.now env.now) None) }
-    ensures refused { IfErr result (λ e. (e ≡ WantsMemory) ⊎ Settles sight.new.answers.now (late_refusal set.now env.now) (Some e)) }
+    ensures asks { AsksFor W.steady W.answer H.log H.patience set.now env.now sight.old sight.new }
+    ensures warnings { IfOk result (λ plan.
+        Settles sight.new.answers.now (lines_of_warnings set.now env.now plan.told) plan.warnings) }
+    ensures compiles { IfOk result (λ plan.
+        Settles sight.new.answers.now (compiles_of set.now env.now) plan.cmds.items) }
+    ensures allowed { AllowedIn sight.new (late_refusal set.now env.now) result }
+    ensures refused { RefusedIn sight.new (late_refusal set.now env.now) result }
 {
     if set.files.is_empty() {
         no_compiles(alloc, set, env)
@@ -166,13 +181,13 @@ fn plan_compiles<W: World, H: Host<W>>(
     }
 }
 
-/// The warnings, commands and lines of a compile run with these sources. It asks, and prints nothing.
+/// The warnings, commands and lines of a compile run with these sources, which `plan_sources` gave. It asks, and prints nothing. Without a
+/// source no tool is wanted, and nothing is asked.
 ///
 /// Refused where the target or the host is set nowhere, the target isn't known or, with sources, the optimisation level is set nowhere, a
-/// word of the target is refused or a flag of Rust code is wrong.
+/// word of the target is refused or a flag of Rust code is wrong; and for memory. The answers until then stay in the sight.
 pub fn plan_commands<W: World, H: Host<W>>(
     rt: &impl Wait,
-    alloc: Global,
     set: &BuildConfig,
     env: &BuildEnv,
     output: &str,
@@ -182,15 +197,20 @@ pub fn plan_commands<W: World, H: Host<W>>(
     requires name { sources.now.name ≡ library_name output.now }
     requires library { sources.now.library ≡ library_of set.now env.now output.now }
     requires objects { sources.now.objects.items ≡ objects_of set.now env.now }
-    ensures asks { OnlyAsks W.steady W.answer H.log H.patience (probe_folder set.now env.now) sight.old sight.new }
-    ensures warnings { IfOk result (λ plan. Settles sight.new.answers.now (lines_of_warnings set.now env.now plan.told) plan.warnings) }
-    ensures compiles { IfOk result (λ plan. Settles sight.new.answers.now (compiles_of set.now env.now) plan.compiles.items) }
-    ensures archives { IfOk result (λ plan. plan.archives.items ≡ archives_of set.now env.now output.now) }
-    ensures indexes { IfOk result (λ plan. plan.indexes.items ≡ indexes_of set.now env.now output.now) }
+    ensures asks { AsksFor W.steady W.answer H.log H.patience set.now env.now sight.old sight.new }
+    ensures warnings { IfOk result (λ plan.
+        Settles sight.new.answers.now (lines_of_warnings set.now env.now plan.told) plan.warnings) }
+    ensures compiles { IfOk result (λ plan.
+        Settles sight.new.answers.now (compiles_of set.now env.now) plan.compiles.items) }
+    ensures archives { IfOk result (λ plan.
+        plan.archives.items ≡ archives_of set.now env.now output.now) }
+    ensures indexes { IfOk result (λ plan.
+        plan.indexes.items ≡ indexes_of set.now env.now output.now) }
     ensures lines { IfOk result (λ plan. plan.lines ≡ lines_of set.now env.now output.now) }
-    ensures allowed { OnOk result (Settles sight.new.answers.now (late_refusal set.now env.now) None) }
-    ensures refused { IfErr result (λ e. (e ≡ WantsMemory) ⊎ Settles sight.new.answers.now (late_refusal set.now env.now) (Some e)) }
+    ensures allowed { AllowedIn sight.new (late_refusal set.now env.now) result }
+    ensures refused { RefusedIn sight.new (late_refusal set.now env.now) result }
 {
+    let alloc = *sources.objects.allocator();
     let library = sources.library.as_str();
     let compiles = plan_compiles(rt, alloc, set, env, &sources.objects, sight)?;
     let archives = archive_commands(alloc, set, env, library, &sources.objects)?;

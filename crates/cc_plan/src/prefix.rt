@@ -2,9 +2,7 @@
 ghost use Rattle.std.specs.Prelude.{◌≡◌, ◌++◌, IfOk, OnOk, map};
 ghost use Rattle.std.specs.Option.{option_copied};
 ghost use Rattle.cc_text.specs.Words.{texts};
-ghost use Rattle.cc_host.specs.Question.{Settles};
-ghost use Rattle.cc_plan.specs.Asking.{OnlyAsks};
-ghost use Rattle.cc_plan.specs.Given.{probe_folder};
+ghost use Rattle.cc_plan.specs.Asking.{AsksFor, SettledIn};
 ghost use Rattle.cc_plan.specs.Prefix as spec;
 
 use crate::given::{host_of, target_of};
@@ -47,7 +45,7 @@ fn without_last_dashes(text: &str) -> &str
     rest
 }
 
-// The prefix that the environment names outright.
+// The prefix that the environment names outright, as builds of Linux take it.
 #[tactic(auto, unfolding(crate::specs::Prefix::named_prefix))]
 fn named_prefix(env: &BuildEnv) -> Option<&str>
     ensures { option_copied result ≡ spec.named_prefix env.now }
@@ -55,7 +53,7 @@ fn named_prefix(env: &BuildEnv) -> Option<&str>
     Some(without_last_dashes(env.inherited().get("CROSS_COMPILE")?))
 }
 
-// The prefix of the linker that Rust's compiler is given.
+// The prefix of the linker that Rust's compiler is given, which Cargo's book lists among the variables of build scripts.
 #[tactic(auto, unfolding(crate::specs::Prefix::linker_prefix))]
 fn linker_prefix(env: &BuildEnv) -> Option<&str>
     ensures { option_copied result ≡ spec.linker_prefix env.now }
@@ -94,7 +92,8 @@ fn push_tried(
     folder: &str,
     candidates: &[&str],
 ) -> Mem<()>
-    ensures { OnOk result (tries.new ≡ tries.old ++ map (spec.tried_compiler cpp folder.now) (texts candidates.now)) }
+    ensures { OnOk result (tries.new ≡
+        tries.old ++ map (spec.tried_compiler cpp folder.now) (texts candidates.now)) }
 {
     for candidate in candidates {
         let path = tried_path(alloc, cpp, folder, candidate)?;
@@ -106,7 +105,8 @@ fn push_tried(
 // The compilers that are looked for, folder by folder and then candidate by candidate.
 #[tactic(auto, unfolding(crate::specs::Prefix::tried_compilers))]
 fn tried_compilers(alloc: Global, cpp: bool, folders: &[Text], candidates: &[&str]) -> Mem<Vars>
-    ensures { IfOk result (λ tries. tries ≡ spec.tried_compilers cpp folders.now (texts candidates.now)) }
+    ensures { IfOk result (λ tries.
+        tries ≡ spec.tried_compilers cpp folders.now (texts candidates.now)) }
 {
     let mut tries = Vars::new(alloc);
     for folder in folders {
@@ -124,8 +124,8 @@ fn shown_candidate<W: World, H: Host<W>>(
     tries: &[(Text, Text)],
     sight: &mut Sight<'_, W, H>,
 ) -> Mem<Option<Text>>
-    ensures asks { OnlyAsks W.steady W.answer H.log H.patience (probe_folder set.now env.now) sight.old sight.new }
-    ensures settles { IfOk result (Settles sight.new.answers.now (λ look. spec.shown_candidate look tries.now)) }
+    ensures asks { AsksFor W.steady W.answer H.log H.patience set.now env.now sight.old sight.new }
+    ensures settles { SettledIn sight.new (λ look. spec.shown_candidate look tries.now) result }
 {
     for pair in tries {
         if is_there(rt, alloc, set, env, pair.0.as_str(), sight)? {
@@ -153,8 +153,9 @@ fn candidate_prefix<W: World, H: Host<W>>(
     candidates: &[&str],
     sight: &mut Sight<'_, W, H>,
 ) -> Mem<Option<Text>>
-    ensures asks { OnlyAsks W.steady W.answer H.log H.patience (probe_folder set.now env.now) sight.old sight.new }
-    ensures settles { IfOk result (Settles sight.new.answers.now (spec.candidate_prefix set.now env.now (texts candidates.now))) }
+    ensures asks { AsksFor W.steady W.answer H.log H.patience set.now env.now sight.old sight.new }
+    ensures settles { SettledIn sight.new
+        (spec.candidate_prefix set.now env.now (texts candidates.now)) result }
 {
     let folders = path_folders(alloc, env)?;
     let tries = tried_compilers(alloc, set.cpp, folders.as_slice(), candidates)?;
@@ -173,8 +174,8 @@ pub(crate) fn prefix_for<W: World, H: Host<W>>(
     name: &str,
     sight: &mut Sight<'_, W, H>,
 ) -> Mem<Option<Text>>
-    ensures asks { OnlyAsks W.steady W.answer H.log H.patience (probe_folder set.now env.now) sight.old sight.new }
-    ensures settles { IfOk result (Settles sight.new.answers.now (spec.gnu_prefix set.now env.now name.now)) }
+    ensures asks { AsksFor W.steady W.answer H.log H.patience set.now env.now sight.old sight.new }
+    ensures settles { SettledIn sight.new (spec.gnu_prefix set.now env.now name.now) result }
 {
     match known_prefix(env, name) {
         Some(prefix) => Ok(Some(Text::of(alloc, prefix)?)),

@@ -1,11 +1,8 @@
 // Warnings that are printed as Cargo reads them.
 ghost use Rattle.std.specs.Prelude.{◌≡◌, ◌⊎◌, ◌++◌, ◌∷◌, [], IfOk, IfErr, map};
 ghost use Rattle.cc_host.specs.Call.{part};
-ghost use Rattle.cc_host.specs.declared.event.HostCall.TheVariants.{Print};
-ghost use Rattle.cc_host.specs.declared.event.Why.{Why};
-ghost use Rattle.cc_plan.specs.declared.error.PlanError.TheVariants.{NoMemory as WantsMemory, Host as HostFault};
 ghost use Rattle.cc_tool.specs.Asked.{question_events};
-ghost use Rattle.cc_plan.specs.Asking.{Printed, PrintsLine};
+ghost use Rattle.cc_plan.specs.Asking.{Printed, PrintsLine, RefusedByPrint};
 ghost use Rattle.cc_plan.specs.Link.{printed_line as line_of};
 ghost use Rattle.cc_plan.specs.Plan.{warning_line as line_of_warning, wanted_lines as lines_wanted};
 
@@ -59,7 +56,7 @@ fn print_warning<W: World, H: Host<W>>(
 ) -> Result<(), PlanError>
     ensures extends { H.log host.new ≡ H.log host.old ++ part H.log host.old host.new }
     ensures prints { PrintsLine line.now (part H.log host.old host.new) result }
-    ensures refused { IfErr result (λ e. (e ≡ WantsMemory) ⊎ ((why : Why) × (e ≡ HostFault Print why))) }
+    ensures refused { RefusedByPrint result }
     ensures patient { H.patience host.new ≡ H.patience host.old }
 {
     let text = printed_line(alloc, line)?;
@@ -80,7 +77,7 @@ pub(crate) fn print_warnings<W: World, H: Host<W>>(
     ensures extends { H.log host.new ≡ H.log host.old ++ part H.log host.old host.new }
     ensures prints { Printed lines.now (part H.log host.old host.new) result }
     ensures silent { question_events (part H.log host.old host.new) ≡ [] }
-    ensures refused { IfErr result (λ e. (e ≡ WantsMemory) ⊎ ((why : Why) × (e ≡ HostFault Print why))) }
+    ensures refused { RefusedByPrint result }
     ensures patient { H.patience host.new ≡ H.patience host.old }
 {
     for line in lines.as_slice() {

@@ -1,9 +1,7 @@
 // Where programs are.
 ghost use Rattle.std.specs.Prelude.{◌≡◌, IfOk};
 ghost use Rattle.cc_text.specs.Words.{texts};
-ghost use Rattle.cc_host.specs.Question.{Settles};
-ghost use Rattle.cc_plan.specs.Asking.{OnlyAsks};
-ghost use Rattle.cc_plan.specs.Given.{probe_folder};
+ghost use Rattle.cc_plan.specs.Asking.{AsksFor, SettledIn};
 ghost use Rattle.cc_plan.specs.Search as spec;
 
 use crate::sight::is_there;
@@ -76,8 +74,8 @@ fn first_there<W: World, H: Host<W>>(
     paths: &[Text],
     sight: &mut Sight<'_, W, H>,
 ) -> Mem<Option<Text>>
-    ensures asks { OnlyAsks W.steady W.answer H.log H.patience (probe_folder set.now env.now) sight.old sight.new }
-    ensures settles { IfOk result (Settles sight.new.answers.now (λ look. spec.first_there look paths.now)) }
+    ensures asks { AsksFor W.steady W.answer H.log H.patience set.now env.now sight.old sight.new }
+    ensures settles { SettledIn sight.new (λ look. spec.first_there look paths.now) result }
 {
     for path in paths {
         if is_there(rt, alloc, set, env, path.as_str(), sight)? {
@@ -93,13 +91,13 @@ pub(crate) fn which<W: World, H: Host<W>>(
     alloc: Global,
     set: &BuildConfig,
     env: &BuildEnv,
-    folders: &[Text],
     tool: &str,
     sight: &mut Sight<'_, W, H>,
 ) -> Mem<Option<Text>>
-    ensures asks { OnlyAsks W.steady W.answer H.log H.patience (probe_folder set.now env.now) sight.old sight.new }
-    ensures settles { IfOk result (Settles sight.new.answers.now (λ look. spec.which look folders.now tool.now)) }
+    ensures asks { AsksFor W.steady W.answer H.log H.patience set.now env.now sight.old sight.new }
+    ensures settles { SettledIn sight.new (spec.which env.now tool.now) result }
 {
-    let paths = places_of(alloc, folders, tool)?;
+    let folders = path_folders(alloc, env)?;
+    let paths = places_of(alloc, folders.as_slice(), tool)?;
     first_there(rt, alloc, set, env, paths.as_slice(), sight)
 }

@@ -6,41 +6,48 @@ use crate::{Definitions, Flags};
 use cc_text::{Mem, Text, Vars, Words};
 use std::alloc::Global;
 
-/// The plain settings of a build. What is none is not set.
+/// The plain settings of a build, in the names of the setters of the crate `cc`. What is none is not set, and is taken from what Cargo
+/// gives a build script, where it gives that. Texts and flags are kept as they came: what a plan refuses, it refuses when it is made.
 #[derive(Drop, Debug)]
 pub struct BuildConfig {
     /// The sources, in the order added.
     pub files: Words,
-    /// The folders of headers.
+    /// The folders in which headers are looked for, in the order added.
     pub includes: Words,
-    /// The flags of sources in assembly.
+    /// The flags that sources in assembly get beside the others.
     pub asm_flags: Words,
     /// The flags, in the order added.
     pub flags: Flags,
     /// The macros, in the order added.
     pub definitions: Definitions,
-    /// The folders of sources that are told as others, in the order added.
+    /// The folders of sources that debug information names as others, each with its other name, in the order added.
     pub remap_source_paths: Vars,
-    /// The folder that the folders of sources count from.
+    /// The folder from which the folders of sources count in the names of objects.
     pub source_root: Option<Text>,
-    /// The standard of the language.
+    /// The standard of the language, as `c11`.
     pub std: Option<Text>,
+    /// The target by rustc's name, else `TARGET`.
     pub target: Option<Text>,
+    /// The target of the machine that compiles, else `HOST`.
     pub host: Option<Text>,
+    /// The optimisation level, as `0` or `s`, else `OPT_LEVEL`.
     pub opt_level: Option<Text>,
-    /// How much debug information is wanted.
+    /// How much debug information is wanted, in Cargo's words, else `DEBUG`.
     pub debug: Option<Text>,
+    /// The folder of the objects and of the library, else `OUT_DIR`.
     pub out_dir: Option<Text>,
+    /// The path of the compiler, which comes before all others.
     pub compiler: Option<Text>,
+    /// The path of the archiver, else `ar`.
     pub archiver: Option<Text>,
-    /// The C++ library that the compiler is told of.
+    /// The C++ library that the compiler is given by name.
     pub cpp_set_stdlib: Option<Text>,
     pub shared_flag: Option<bool>,
     pub static_flag: Option<bool>,
     pub warnings: Option<bool>,
     pub extra_warnings: Option<bool>,
     pub force_frame_pointer: Option<bool>,
-    /// Whether the commands are told before they run, and how they ended.
+    /// Whether the commands are printed before they run, and how they ended.
     pub cargo_debug: Option<bool>,
     pub pic: Option<bool>,
     pub use_plt: Option<bool>,
@@ -57,7 +64,7 @@ pub struct BuildConfig {
     pub emit_rerun_if_env_changed: bool,
     /// Whether the flags of Rust code are taken that Cargo hands down.
     pub inherit_rustflags: bool,
-    /// Whether paths are told as others where Cargo wants it.
+    /// Whether debug information names paths as others where Cargo wants it.
     pub inherit_trim_paths: bool,
     /// Whether Clang in the form of the Visual Studio compiler comes before that. No search for either is made, so it changes nothing.
     pub prefer_clang_cl_over_msvc: bool,

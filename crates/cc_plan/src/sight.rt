@@ -1,9 +1,8 @@
 // What a plan may ask, and single questions.
 ghost use Rattle.std.specs.Prelude.{◌≡◌, IfOk};
-ghost use Rattle.cc_host.specs.Question.{Settles, exists_question, is_yes as yes};
-ghost use Rattle.cc_plan.specs.Asking.{OnlyAsks};
+ghost use Rattle.cc_host.specs.Question.{exists_question, is_yes as yes};
+ghost use Rattle.cc_plan.specs.Asking.{AsksFor, SettledIn};
 ghost use Rattle.cc_plan.specs.Android.{starts_question, can_start};
-ghost use Rattle.cc_plan.specs.Given.{probe_folder};
 ghost use Rattle.cc_plan.specs.Search.{is_there};
 
 use crate::BuildConfig;
@@ -15,7 +14,8 @@ use cc_tool::{Answers, Caches, ask};
 use std::alloc::Global;
 use std::sync::Wait;
 
-/// What a plan may ask: the host, behind what is kept of its world, with the answers of one public call.
+/// What a plan may ask: a host, behind what is kept of its world, with the answers of one public call. A call that asks lends it on; its
+/// answers go on by those that it got, also where it is refused.
 #[derive(Drop)]
 pub struct Sight<'a, W: World, H: Host<W>> {
     pub host: &'a mut H,
@@ -60,8 +60,8 @@ pub(crate) fn is_there<W: World, H: Host<W>>(
     path: &str,
     sight: &mut Sight<'_, W, H>,
 ) -> Mem<bool>
-    ensures asks { OnlyAsks W.steady W.answer H.log H.patience (probe_folder set.now env.now) sight.old sight.new }
-    ensures settles { IfOk result (Settles sight.new.answers.now (λ look. is_there look path.now)) }
+    ensures asks { AsksFor W.steady W.answer H.log H.patience set.now env.now sight.old sight.new }
+    ensures settles { SettledIn sight.new (λ look. is_there look path.now) result }
 {
     let dir = probe_folder(set, env);
     let question = exists_of(alloc, path)?;
@@ -86,8 +86,8 @@ pub(crate) fn can_start<W: World, H: Host<W>>(
     program: &str,
     sight: &mut Sight<'_, W, H>,
 ) -> Mem<bool>
-    ensures asks { OnlyAsks W.steady W.answer H.log H.patience (probe_folder set.now env.now) sight.old sight.new }
-    ensures settles { IfOk result (Settles sight.new.answers.now (λ look. can_start env.now look program.now)) }
+    ensures asks { AsksFor W.steady W.answer H.log H.patience set.now env.now sight.old sight.new }
+    ensures settles { SettledIn sight.new (λ look. can_start env.now look program.now) result }
 {
     let dir = probe_folder(set, env);
     let question = starts_of(alloc, env, program)?;
