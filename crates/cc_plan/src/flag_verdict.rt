@@ -1,17 +1,14 @@
 // Whether the compiler of these settings takes a flag.
-ghost use Rattle.std.specs.Prelude.{◌≡◌, ◌⊎◌, None, Some, IfOk, IfErr, OnOk};
+ghost use Rattle.std.specs.Prelude.{◌≡◌, IfOk, IfErr};
 ghost use Rattle.cc_host.specs.Question.{Settles};
-ghost use Rattle.cc_host.specs.declared.event.HostCall.TheVariants.{Print};
-ghost use Rattle.cc_host.specs.declared.event.Why.{Why};
-ghost use Rattle.cc_plan.specs.Asking.{AsksThen, Warns, IsOwn, OnlyAsks};
+ghost use Rattle.cc_plan.specs.Asking.{IsOwn, OnlyAsks, AsksFor, AsksThenWarns, SettledIn, AllowedIn, RefusedIn, RefusedInOrByPrint};
 ghost use Rattle.cc_plan.specs.Compilation.{seen, folder_of};
 ghost use Rattle.cc_plan.specs.Compiler.{compiler_of};
 ghost use Rattle.cc_plan.specs.FlagSupport as spec;
-ghost use Rattle.cc_plan.specs.Given.{probe_folder};
 ghost use Rattle.cc_plan.specs.Support.{flag_question as question_on};
 ghost use Rattle.cc_plan.specs.Target.{target_info};
-ghost use Rattle.cc_plan.specs.declared.error.PlanError.TheVariants.{NoMemory as WantsMemory, Host as HostFault};
 ghost use Rattle.cc_target.specs.Targets.{info_seen};
+ghost use Rattle.cc_plan.specs.Refusal.{AllowedBy, RefusedBy};
 
 use crate::compilation::Compilation;
 use crate::compiler::{Compiler, compiler_of};
@@ -32,9 +29,8 @@ use std::sync::Wait;
 // The question on a flag, where it has words.
 fn checked_question(given: &Compilation<'_>, flag: &str) -> Result<Question, PlanError>
     ensures question { IfOk result (λ q. q ≡ question_on (seen given.now) flag.now) }
-    ensures allowed { OnOk result (spec.question_refusal (seen given.now) flag.now ≡ None) }
-    ensures refused { IfErr result (λ e.
-        (e ≡ WantsMemory) ⊎ (spec.question_refusal (seen given.now) flag.now ≡ Some e)) }
+    ensures allowed { AllowedBy (spec.question_refusal (seen given.now) flag.now) result }
+    ensures refused { RefusedBy (spec.question_refusal (seen given.now) flag.now) result }
 {
     let path = given.compiler.choice.path.as_str();
     let settings = flag_settings(given.alloc, given.set, path, flag)?;
@@ -62,10 +58,9 @@ fn verdict_on<W: World, H: Host<W>>(
     sight: &mut Sight<'_, W, H>,
 ) -> Result<Verdict, PlanError>
     ensures asks { OnlyAsks W.steady W.answer H.log H.patience (folder_of (seen given.now)) sight.old sight.new }
-    ensures verdict { IfOk result (Settles sight.new.answers.now (spec.verdict_on (seen given.now) flag.now)) }
-    ensures allowed { OnOk result (spec.verdict_refusal (seen given.now) flag.now ≡ None) }
-    ensures refused { IfErr result (λ e.
-        (e ≡ WantsMemory) ⊎ (spec.verdict_refusal (seen given.now) flag.now ≡ Some e)) }
+    ensures verdict { SettledIn sight.new (spec.verdict_on (seen given.now) flag.now) result }
+    ensures allowed { AllowedBy (spec.verdict_refusal (seen given.now) flag.now) result }
+    ensures refused { RefusedBy (spec.verdict_refusal (seen given.now) flag.now) result }
 {
     if is_for_linker(given.compiler.family, flag) {
         return Ok(Verdict::No);
@@ -108,8 +103,7 @@ fn found_compiler<W: World, H: Host<W>>(
     sight: &mut Sight<'_, W, H>,
 ) -> Mem<(Compiler, Compiler)>
     requires { info_seen target.now ≡ target_info set.now env.now }
-    ensures asks { OnlyAsks W.steady W.answer H.log H.patience (probe_folder set.now env.now)
-        sight.old sight.new }
+    ensures asks { AsksFor W.steady W.answer H.log H.patience set.now env.now sight.old sight.new }
     ensures settles { IfOk result (λ found. Settles sight.new.answers.now (spec.found set.now env.now) found) }
 {
     let compiler = compiler_of(rt, alloc, set, env, target, sight)?;
@@ -126,18 +120,15 @@ fn plan_support<W: World, H: Host<W>>(
     flag: &str,
     sight: &mut Sight<'_, W, H>,
 ) -> Result<Support, PlanError>
-    ensures asks { OnlyAsks W.steady W.answer H.log H.patience (probe_folder set.now env.now)
-        sight.old sight.new }
+    ensures asks { AsksFor W.steady W.answer H.log H.patience set.now env.now sight.old sight.new }
     ensures verdict { IfOk result (λ support. Settles sight.new.answers.now
         (spec.flag_verdict set.now env.now flag.now) support.found.verdict) }
     ensures compiler { IfOk result (λ support. Settles sight.new.answers.now
         (compiler_of set.now env.now) support.found.compiler) }
     ensures warnings { IfOk result (λ support. Settles sight.new.answers.now
         (spec.support_warnings set.now env.now) support.warnings) }
-    ensures allowed { OnOk result (Settles sight.new.answers.now
-        (spec.support_refusal set.now env.now flag.now) None) }
-    ensures refused { IfErr result (λ e. (e ≡ WantsMemory) ⊎ Settles sight.new.answers.now
-        (spec.support_refusal set.now env.now flag.now) (Some e)) }
+    ensures allowed { AllowedIn sight.new (spec.support_refusal set.now env.now flag.now) result }
+    ensures refused { RefusedIn sight.new (spec.support_refusal set.now env.now flag.now) result }
     ensures own { IfErr result IsOwn }
 {
     let target = known_target(alloc, set, env)?;
@@ -181,20 +172,14 @@ pub fn flag_support<W: World, H: Host<W>>(
 ) -> Result<FlagSupport, PlanError>
     ensures same_host { sight.new.host.ghost_name ≡ sight.old.host.ghost_name }
     ensures same_answers { sight.new.answers.ghost_name ≡ sight.old.answers.ghost_name }
-    ensures asks { AsksThen W.steady W.answer (probe_folder set.now env.now)
-        (H.log sight.old.host.now) (H.log sight.new.host.now)
-        sight.old.answers.now sight.new.answers.now
-        (Warns sight.new.answers.now (λ told. spec.support_lines set.now env.now) result) }
+    ensures asks { AsksThenWarns W.steady W.answer H.log set.now env.now sight.old sight.new
+        (λ told. spec.support_lines set.now env.now) result }
     ensures compiler { IfOk result (λ found. Settles sight.new.answers.now
         (compiler_of set.now env.now) found.compiler) }
     ensures verdict { IfOk result (λ found. Settles sight.new.answers.now
         (spec.flag_verdict set.now env.now flag.now) found.verdict) }
-    ensures allowed { OnOk result (Settles sight.new.answers.now
-        (spec.support_refusal set.now env.now flag.now) None) }
-    ensures refused { IfErr result (λ e. (e ≡ WantsMemory)
-        ⊎ (((why : Why) × (e ≡ HostFault Print why))
-        ⊎ Settles sight.new.answers.now
-        (spec.support_refusal set.now env.now flag.now) (Some e))) }
+    ensures allowed { AllowedIn sight.new (spec.support_refusal set.now env.now flag.now) result }
+    ensures refused { RefusedInOrByPrint sight.new (spec.support_refusal set.now env.now flag.now) result }
     ensures patient { H.patience sight.new.host.now ≡ H.patience sight.old.host.now }
 {
     let support = plan_support(rt, alloc, set, env, flag, sight)?;

@@ -1,8 +1,8 @@
 // The flags of Rust code that Cargo hands down.
-ghost use Rattle.std.specs.Prelude.{◌≡◌, ◌⊎◌, ◌++◌, None, Some, IfOk, IfErr, OnOk};
+ghost use Rattle.std.specs.Prelude.{◌≡◌, ◌++◌, IfOk, OnOk};
 ghost use Rattle.std.specs.Option.{option_copied};
-ghost use Rattle.cc_plan.specs.declared.error.PlanError.TheVariants.{NoMemory as WantsMemory};
 ghost use Rattle.cc_plan.specs.Inherited as spec;
+ghost use Rattle.cc_plan.specs.Refusal.{AllowedBy, RefusedBy};
 
 use crate::PlanError;
 use cc_env::EnvSnapshot;
@@ -70,8 +70,8 @@ pub(crate) fn inherited_flags(
 
 /// Whether the flags have no wrong one. The refusal has the key of the first wrong one.
 pub(crate) fn check_rustflags(flags: &Rustflags) -> Result<(), PlanError>
-    ensures allowed { OnOk result (spec.wrong_refusal flags.now ≡ None) }
-    ensures refused { IfErr result (λ e. (e ≡ WantsMemory) ⊎ (spec.wrong_refusal flags.now ≡ Some e)) }
+    ensures allowed { AllowedBy (spec.wrong_refusal flags.now) result }
+    ensures refused { RefusedBy (spec.wrong_refusal flags.now) result }
 {
     match &flags.wrong {
         None => Ok(()),

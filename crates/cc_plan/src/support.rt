@@ -1,9 +1,7 @@
 // Words that a compiler is given only where it takes them.
 ghost use Rattle.std.specs.Prelude.{◌≡◌, ◌++◌, [], ◌∷◌, IfOk, OnOk, is_none};
-ghost use Rattle.cc_host.specs.Question.{Settles};
-ghost use Rattle.cc_plan.specs.Asking.{OnlyAsks};
+ghost use Rattle.cc_plan.specs.Asking.{OnlyAsks, AsksFor, SettledIn};
 ghost use Rattle.cc_plan.specs.Compilation.{seen, folder_of};
-ghost use Rattle.cc_plan.specs.Given.{probe_folder};
 ghost use Rattle.cc_plan.specs.Support as spec;
 ghost use Rattle.cc_text.specs.Words.{when};
 
@@ -191,8 +189,7 @@ fn takes<W: World, H: Host<W>>(
     sight: &mut Sight<'_, W, H>,
 ) -> Mem<bool>
     ensures asks { OnlyAsks W.steady W.answer H.log H.patience (folder_of (seen given.now)) sight.old sight.new }
-    ensures settles { IfOk result (Settles sight.new.answers.now
-        (λ look. spec.takes (seen given.now) look flag.now)) }
+    ensures settles { SettledIn sight.new (λ look. spec.takes (seen given.now) look flag.now) result }
 {
     let dir = probe_folder(given.set, given.env);
     match question_of(given, flag)? {
@@ -229,7 +226,7 @@ fn taken_among<W: World, H: Host<W>>(
     sight: &mut Sight<'_, W, H>,
 ) -> Mem<Words>
     ensures asks { OnlyAsks W.steady W.answer H.log H.patience (folder_of (seen given.now)) sight.old sight.new }
-    ensures settles { IfOk result (Settles sight.new.answers.now (spec.taken_among (seen given.now) words.now)) }
+    ensures settles { SettledIn sight.new (spec.taken_among (seen given.now) words.now) result }
 {
     let mut taken = Words::new(given.alloc);
     for word in words.as_slice() {
@@ -249,9 +246,8 @@ pub(crate) fn bare_compiler<W: World, H: Host<W>>(
     path: &str,
     sight: &mut Sight<'_, W, H>,
 ) -> Mem<Compiler>
-    ensures asks { OnlyAsks W.steady W.answer H.log H.patience (probe_folder set.now env.now)
-        sight.old sight.new }
-    ensures settles { IfOk result (Settles sight.new.answers.now (spec.bare_compiler env.now path.now)) }
+    ensures asks { AsksFor W.steady W.answer H.log H.patience set.now env.now sight.old sight.new }
+    ensures settles { SettledIn sight.new (spec.bare_compiler env.now path.now) result }
 {
     let none = Words::new(alloc);
     let (family, _) = ask_family(
@@ -277,8 +273,7 @@ fn supported_among<W: World, H: Host<W>>(
     sight: &mut Sight<'_, W, H>,
 ) -> Mem<Words>
     ensures asks { OnlyAsks W.steady W.answer H.log H.patience (folder_of (seen given.now)) sight.old sight.new }
-    ensures settles { IfOk result (Settles sight.new.answers.now
-        (spec.supported_among (seen given.now) words.now)) }
+    ensures settles { SettledIn sight.new (spec.supported_among (seen given.now) words.now) result }
 {
     let path = given.compiler.choice.path.as_str();
     let compiler = bare_compiler(rt, given.alloc, given.set, given.env, path, sight)?;
@@ -302,7 +297,7 @@ pub(crate) fn supported_words<W: World, H: Host<W>>(
     sight: &mut Sight<'_, W, H>,
 ) -> Mem<Words>
     ensures asks { OnlyAsks W.steady W.answer H.log H.patience (folder_of (seen given.now)) sight.old sight.new }
-    ensures settles { IfOk result (Settles sight.new.answers.now (spec.supported (seen given.now))) }
+    ensures settles { SettledIn sight.new (spec.supported (seen given.now)) result }
 {
     let words = asked_words(given)?;
     if words.is_empty() {

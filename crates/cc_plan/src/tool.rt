@@ -1,20 +1,18 @@
 // The tool of a compile command: the compiler with the words and variables that all sources share.
-ghost use Rattle.std.specs.Prelude.{◌≡◌, ◌++◌, ◌&&◌, ◌||◌, IfOk, IfErr, OnOk, ◌⊎◌, Some, None};
+ghost use Rattle.std.specs.Prelude.{◌≡◌, ◌++◌, ◌&&◌, ◌||◌, IfOk, IfErr, OnOk, ◌⊎◌, Some};
 ghost use Rattle.std.specs.Option.{option_copied};
 ghost use Rattle.cc_host.specs.Question.{Settles};
-ghost use Rattle.cc_host.specs.declared.event.HostCall.TheVariants.{Print};
-ghost use Rattle.cc_host.specs.declared.event.Why.{Why};
 ghost use Rattle.cc_target.specs.Targets.{info_seen};
 ghost use Rattle.cc_plan.specs.Compilation.{seen};
-ghost use Rattle.cc_plan.specs.Asking.{AsksThen, Warns, IsOwn, OnlyAsks};
-ghost use Rattle.cc_plan.specs.Given.{target_of, probe_folder};
-ghost use Rattle.cc_plan.specs.Plan.{tool_lines, wanted_lines as lines_of};
-ghost use Rattle.cc_plan.specs.Refusal.{unset, target_refusal, platform_refusal, given_refusal, tool_refusal};
+ghost use Rattle.cc_plan.specs.Asking.{IsOwn, AsksFor, AsksThenWarns, SettledIn, AllowedIn, RefusedIn, RefusedInOrByPrint};
+ghost use Rattle.cc_plan.specs.Given.{target_of};
+ghost use Rattle.cc_plan.specs.Plan.{tool_lines};
+ghost use Rattle.cc_plan.specs.Refusal.{AllowedBy, RefusedBy, unset, target_refusal, platform_refusal, given_refusal, tool_refusal};
 ghost use Rattle.cc_plan.specs.Target.{target_info};
 ghost use Rattle.cc_plan.specs.Planned.{warnings_of, tool_of};
 ghost use Rattle.cc_plan.specs.Support.{compiler_refusal};
 ghost use Rattle.cc_plan.specs.Tool.{language_variable, gnu_warnings, lacks_by, lacks_of, detected_warnings, found_warnings, other_warnings, link_warning, warnings_by, wrapped_tool, tool_by};
-ghost use Rattle.cc_plan.specs.declared.error.PlanError.TheVariants.{NoMemory as WantsMemory, NotSet, Host as HostFault};
+ghost use Rattle.cc_plan.specs.declared.error.PlanError.TheVariants.{NoMemory as WantsMemory, NotSet};
 
 use crate::compilation::Compilation;
 use crate::compiler::{Compiler, compiler_of};
@@ -61,9 +59,8 @@ fn not_set(alloc: Global, name: &str) -> PlanError
 // A value that is set, or else the refusal by its variable.
 fn demand<'a>(alloc: Global, name: &str, value: Option<&'a str>) -> Result<&'a str, PlanError>
     ensures value { IfOk result (λ text. option_copied value.entry ≡ Some text.now) }
-    ensures allowed { OnOk result (unset name.now (option_copied value.entry) ≡ None) }
-    ensures refused { IfErr result (λ e. (e ≡ WantsMemory)
-        ⊎ (unset name.now (option_copied value.entry) ≡ Some e)) }
+    ensures allowed { AllowedBy (unset name.now (option_copied value.entry)) result }
+    ensures refused { RefusedBy (unset name.now (option_copied value.entry)) result }
 {
     match value {
         Some(text) => Ok(text),
@@ -78,9 +75,8 @@ pub(crate) fn known_target(
     env: &BuildEnv,
 ) -> Result<TargetInfo, PlanError>
     ensures info { IfOk result (λ target. info_seen target ≡ target_info set.now env.now) }
-    ensures allowed { OnOk result (target_refusal (target_of set.now env.now) ≡ None) }
-    ensures refused { IfErr result (λ e. (e ≡ WantsMemory)
-        ⊎ (target_refusal (target_of set.now env.now) ≡ Some e)) }
+    ensures allowed { AllowedBy (target_refusal (target_of set.now env.now)) result }
+    ensures refused { RefusedBy (target_refusal (target_of set.now env.now)) result }
 {
     let name = match target_of(set, env) {
         Some(name) => name,
@@ -99,8 +95,8 @@ pub(crate) fn check_platform(
     set: &BuildConfig,
     env: &BuildEnv,
 ) -> Result<(), PlanError>
-    ensures allowed { OnOk result (platform_refusal set.now env.now ≡ None) }
-    ensures refused { IfErr result (λ e. (e ≡ WantsMemory) ⊎ (platform_refusal set.now env.now ≡ Some e)) }
+    ensures allowed { AllowedBy (platform_refusal set.now env.now) result }
+    ensures refused { RefusedBy (platform_refusal set.now env.now) result }
 {
     known_target(alloc, set, env)?;
     demand(alloc, "HOST", host_of(set, env))?;
@@ -111,8 +107,8 @@ pub(crate) fn check_platform(
 #[tactic(auto, unfolding(crate::specs::Refusal::given_refusal))]
 fn given_target(alloc: Global, set: &BuildConfig, env: &BuildEnv) -> Result<TargetInfo, PlanError>
     ensures info { IfOk result (λ target. info_seen target ≡ target_info set.now env.now) }
-    ensures allowed { OnOk result (given_refusal set.now env.now ≡ None) }
-    ensures refused { IfErr result (λ e. (e ≡ WantsMemory) ⊎ (given_refusal set.now env.now ≡ Some e)) }
+    ensures allowed { AllowedBy (given_refusal set.now env.now) result }
+    ensures refused { RefusedBy (given_refusal set.now env.now) result }
 {
     demand(alloc, "OPT_LEVEL", level_of(set, env))?;
     let target = known_target(alloc, set, env)?;
@@ -135,8 +131,8 @@ pub(crate) fn language_variable(family: ToolFamily) -> (&'static str, &'static s
 /// environment are looked up by; then by a wrong flag of Rust code; and for memory.
 #[tactic(auto, unfolding(crate::specs::Refusal::refusal_by, crate::specs::Tool::defaults_refusal_by, crate::specs::Inherited::inherited_refusal))]
 pub(crate) fn check_compiler(given: &Compilation<'_>) -> Result<(), PlanError>
-    ensures allowed { OnOk result (compiler_refusal (seen given.now) ≡ None) }
-    ensures refused { IfErr result (λ e. (e ≡ WantsMemory) ⊎ (compiler_refusal (seen given.now) ≡ Some e)) }
+    ensures allowed { AllowedBy (compiler_refusal (seen given.now)) result }
+    ensures refused { RefusedBy (compiler_refusal (seen given.now)) result }
 {
     check_defaults(given)?;
     demand(given.alloc, "HOST", host_of(given.set, given.env))?;
@@ -325,15 +321,13 @@ pub(crate) fn plan_tool<W: World, H: Host<W>>(
     env: &BuildEnv,
     sight: &mut Sight<'_, W, H>,
 ) -> Result<ToolPlan, PlanError>
-    ensures asks { OnlyAsks W.steady W.answer H.log H.patience (probe_folder set.now env.now)
-        sight.old sight.new }
+    ensures asks { AsksFor W.steady W.answer H.log H.patience set.now env.now sight.old sight.new }
     ensures info { IfOk result (λ plan. info_seen plan.target ≡ target_info set.now env.now) }
     ensures tool { IfOk result (λ plan. Settles sight.new.answers.now (tool_of set.now env.now) plan.tool) }
     ensures warnings { IfOk result (λ plan. Settles sight.new.answers.now
         (warnings_of set.now env.now plan.warned.is_first) plan.warned.warnings) }
-    ensures allowed { OnOk result (Settles sight.new.answers.now (tool_refusal set.now env.now) None) }
-    ensures refused { IfErr result (λ e. (e ≡ WantsMemory)
-        ⊎ Settles sight.new.answers.now (tool_refusal set.now env.now) (Some e)) }
+    ensures allowed { AllowedIn sight.new (tool_refusal set.now env.now) result }
+    ensures refused { RefusedIn sight.new (tool_refusal set.now env.now) result }
     ensures own { IfErr result IsOwn }
 {
     let target = given_target(alloc, set, env)?;
@@ -372,15 +366,11 @@ pub fn tool_of<W: World, H: Host<W>>(
 ) -> Result<Tool, PlanError>
     ensures same_host { sight.new.host.ghost_name ≡ sight.old.host.ghost_name }
     ensures same_answers { sight.new.answers.ghost_name ≡ sight.old.answers.ghost_name }
-    ensures asks { AsksThen W.steady W.answer (probe_folder set.now env.now)
-        (H.log sight.old.host.now) (H.log sight.new.host.now)
-        sight.old.answers.now sight.new.answers.now
-        (Warns sight.new.answers.now (tool_lines set.now env.now) result) }
-    ensures tool { IfOk result (Settles sight.new.answers.now (tool_of set.now env.now)) }
-    ensures allowed { OnOk result (Settles sight.new.answers.now (tool_refusal set.now env.now) None) }
-    ensures refused { IfErr result (λ e. (e ≡ WantsMemory)
-        ⊎ (((why : Why) × (e ≡ HostFault Print why))
-        ⊎ Settles sight.new.answers.now (tool_refusal set.now env.now) (Some e))) }
+    ensures asks { AsksThenWarns W.steady W.answer H.log set.now env.now sight.old sight.new
+        (tool_lines set.now env.now) result }
+    ensures tool { SettledIn sight.new (tool_of set.now env.now) result }
+    ensures allowed { AllowedIn sight.new (tool_refusal set.now env.now) result }
+    ensures refused { RefusedInOrByPrint sight.new (tool_refusal set.now env.now) result }
     ensures patient { H.patience sight.new.host.now ≡ H.patience sight.old.host.now }
 {
     let plan = plan_tool(rt, alloc, set, env, sight)?;

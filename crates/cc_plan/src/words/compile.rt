@@ -1,6 +1,5 @@
 // The words of a compile command that are an object's own, a function a group. Each group adds its words last; only memory refuses.
 ghost use Rattle.std.specs.Prelude.{◌≡◌, ◌++◌, IfOk, OnOk};
-ghost use Rattle.std.specs.Option.{option_copied};
 ghost use Rattle.cc_target.specs.Targets.{info_seen};
 ghost use Rattle.cc_plan.specs.CompileWords as spec;
 

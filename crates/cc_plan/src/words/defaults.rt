@@ -1,12 +1,12 @@
 // The words that a target and a level bring, which a build may leave out. Each group adds its words last; only memory refuses. The groups of
 // `cc_flags` have the reason and the manual of each word.
-ghost use Rattle.std.specs.Prelude.{◌≡◌, ◌++◌, ◌⊎◌, IfErr, OnOk, None, Some};
+ghost use Rattle.std.specs.Prelude.{◌≡◌, ◌++◌, OnOk};
 ghost use Rattle.std.specs.Option.{option_copied};
 ghost use Rattle.cc_target.specs.Targets.{info_seen};
 ghost use Rattle.cc_plan.specs.Compilation.{seen};
 ghost use Rattle.cc_plan.specs.ToolWords as spec;
 ghost use Rattle.cc_plan.specs.ToolWords.{qnx_refusal};
-ghost use Rattle.cc_plan.specs.declared.error.PlanError.TheVariants.{NoMemory as WantsMemory};
+ghost use Rattle.cc_plan.specs.Refusal.{AllowedBy, RefusedBy};
 
 use crate::PlanError;
 use crate::compilation::Compilation;
@@ -216,8 +216,8 @@ pub(super) fn push_wanted_defaults(
 // QNX is refused on an architecture for which its compiler has no variant: `-V` of "qcc" in QNX's "Utilities Reference".
 #[tactic(auto, unfolding(crate::specs::ToolWords::qnx_refusal))]
 fn check_qnx(alloc: Global, target: &TargetInfo, family: ToolFamily) -> Result<(), PlanError>
-    ensures allowed { OnOk result (qnx_refusal family (info_seen target.now) ≡ None) }
-    ensures refused { IfErr result (λ e. (e ≡ WantsMemory) ⊎ (qnx_refusal family (info_seen target.now) ≡ Some e)) }
+    ensures allowed { AllowedBy (qnx_refusal family (info_seen target.now)) result }
+    ensures refused { RefusedBy (qnx_refusal family (info_seen target.now)) result }
 {
     if lacks_qnx_variant(family, target) {
         return Err(PlanError::QnxArch(Text::of(alloc, target.full_arch)?));
@@ -228,8 +228,8 @@ fn check_qnx(alloc: Global, target: &TargetInfo, family: ToolFamily) -> Result<(
 // Clang is refused a target whose sysroot isn't set, rather than left to fail at the first header.
 #[tactic(auto, unfolding(crate::specs::ToolWords::clang_refusal, crate::specs::ToolWords::sysroot_refusal))]
 fn check_sysroot(given: &Compilation<'_>) -> Result<(), PlanError>
-    ensures allowed { OnOk result (spec.clang_refusal (seen given.now) ≡ None) }
-    ensures refused { IfErr result (λ e. (e ≡ WantsMemory) ⊎ (spec.clang_refusal (seen given.now) ≡ Some e)) }
+    ensures allowed { AllowedBy (spec.clang_refusal (seen given.now)) result }
+    ensures refused { RefusedBy (spec.clang_refusal (seen given.now)) result }
 {
     let is_told = names_target(given);
     let sysroot = musl_sysroot(given);
@@ -245,8 +245,8 @@ fn check_sysroot(given: &Compilation<'_>) -> Result<(), PlanError>
 /// has the architecture, or the variable.
 #[tactic(auto, unfolding(crate::specs::ToolWords::defaults_refusal))]
 pub(crate) fn check_defaults(given: &Compilation<'_>) -> Result<(), PlanError>
-    ensures allowed { OnOk result (spec.defaults_refusal (seen given.now) ≡ None) }
-    ensures refused { IfErr result (λ e. (e ≡ WantsMemory) ⊎ (spec.defaults_refusal (seen given.now) ≡ Some e)) }
+    ensures allowed { AllowedBy (spec.defaults_refusal (seen given.now)) result }
+    ensures refused { RefusedBy (spec.defaults_refusal (seen given.now)) result }
 {
     if !has_no_defaults(given.set, given.env) {
         check_qnx(given.alloc, given.target, given.compiler.family)?;
