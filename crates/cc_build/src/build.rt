@@ -136,6 +136,7 @@ impl<W: World> Build<W> {
         ensures refused { IfErr result (λ e. (e ≡ no_memory)
             ⊎ (flags_error self.old.config self.old.env environ_key.now ≡ Some e)) }
     {
+        // (the flags are read off the snapshot, and nothing is asked of the host)
         let _ = host.log();
         let words = flags_of_variable(self.alloc, &self.config, &self.env, environ_key)?;
         let flags = always(self.alloc, &words)?;

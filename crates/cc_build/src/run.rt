@@ -16,8 +16,9 @@ use crate::Error;
 use crate::message::{host_error, or_no_memory};
 use cc_host::{Command, Host, LineKind, Role, Scope, World};
 use cc_jobs::Jobs;
+use cc_plan::printed_line;
 use cc_run::{Planned, Shows, Turns, run_all, run_one};
-use cc_text::{Mem, Text, Vars};
+use cc_text::{Mem, Vars};
 use std::alloc::Global;
 use std::slice;
 
@@ -129,14 +130,6 @@ pub(crate) fn list_vars<W: World, H: Host<W>>(alloc: Global, host: &mut H) -> Re
         Ok(vars) => Ok(vars),
         Err(error) => Err(or_no_memory(host_error(alloc, error, ""))),
     }
-}
-
-fn printed_line(alloc: Global, line: &str) -> Mem<Text>
-    ensures { IfOk result (λ text. text ≡ line_of line.now) }
-{
-    let mut text = Text::of(alloc, line)?;
-    text.push_str("\n")?;
-    Ok(text)
 }
 
 #[tactic(auto, using(cc_host::proofs::Parts::since_append))]

@@ -84,7 +84,8 @@ fn words_of(rt: &HostRuntime) -> io::Result<Vec<String>> {
 #[tactic(auto, using(cc_host::proofs::Parts::since_append))]
 fn tokens<W: World, H: Host<W>>(alloc: Global, host: &mut H) -> Mem<u32>
     ensures some { IfOk result (λ total. 1 ≤ total) }
-    ensures size { IfOk result (λ total. total ≡ size_for (snapshot_of (heard (part H.log host.old host.new)))) }
+    ensures size { IfOk result (λ total. total
+        ≡ size_for (snapshot_of (heard (part H.log host.old host.new)))) }
 {
     let vars = match host.vars() {
         Ok(vars) => vars,

@@ -46,6 +46,7 @@ pub use link::link_lines;
 pub use names::lib_and_archive_names;
 pub use object::{Object, object_path, objects_from_files};
 pub use plan::{Plan, Sources, plan_commands, plan_sources};
+pub use printing::printed_line;
 pub use settings::BuildConfig;
 pub use sight::Sight;
 pub use tool::tool_of;

@@ -40,7 +40,8 @@ pub(crate) fn wanted_lines(alloc: Global, set: &BuildConfig, texts: &Words) -> M
     }
 }
 
-fn printed_line(alloc: Global, line: &str) -> Mem<Text>
+/// A line with its line feed, as a host prints it. Refused for memory, there is none.
+pub fn printed_line(alloc: Global, line: &str) -> Mem<Text>
     ensures { IfOk result (λ text. text ≡ line_of line.now) }
 {
     let mut text = Text::of(alloc, line)?;

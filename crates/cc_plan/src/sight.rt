@@ -1,6 +1,5 @@
 // What a plan may ask, and single questions.
 ghost use Rattle.std.specs.Prelude.{◌≡◌, IfOk};
-ghost use Rattle.cc_host.specs.Question.{exists_question, is_yes as yes};
 ghost use Rattle.cc_plan.specs.Asking.{AsksFor, SettledIn};
 ghost use Rattle.cc_plan.specs.Android.{starts_question, can_start};
 ghost use Rattle.cc_plan.specs.Search.{is_there};
@@ -8,8 +7,8 @@ ghost use Rattle.cc_plan.specs.Search.{is_there};
 use crate::BuildConfig;
 use crate::given::probe_folder;
 use cc_env::BuildEnv;
-use cc_host::{Ask, Host, Question, Verdict, World};
-use cc_text::{Mem, Text, Vars, Words};
+use cc_host::{Ask, Host, Question, World, exists_of, is_yes};
+use cc_text::{Mem, Text, Words};
 use cc_tool::{Answers, Caches, ask};
 use std::alloc::Global;
 use std::sync::Wait;
@@ -21,23 +20,6 @@ pub struct Sight<'a, W: World, H: Host<W>> {
     pub host: &'a mut H,
     pub caches: &'a Caches<W>,
     pub answers: &'a mut Answers,
-}
-
-pub(crate) fn is_yes(verdict: &Verdict) -> bool
-    ensures { result ≡ yes verdict.now }
-{
-    matches!(verdict, Verdict::Yes)
-}
-
-fn exists_of(alloc: Global, path: &str) -> Mem<Question>
-    ensures { IfOk result (λ q. q ≡ exists_question path.now) }
-{
-    Ok(Question {
-        ask: Ask::Exists,
-        program: Text::of(alloc, path)?,
-        words: Words::new(alloc),
-        vars: Vars::new(alloc),
-    })
 }
 
 fn starts_of(alloc: Global, env: &BuildEnv, program: &str) -> Mem<Question>

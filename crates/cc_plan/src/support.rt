@@ -9,13 +9,12 @@ use crate::compilation::Compilation;
 use crate::compiler::Compiler;
 use crate::given::probe_folder;
 use crate::inherited::read_rustflags;
-use crate::sight::is_yes;
 use crate::tool::{check_compiler, language_variable};
 use crate::words::{asked_words, is_link, tool_words};
 use crate::{BuildConfig, BuildFlag, Choice, Flags, PlanError, Sight};
 use cc_env::BuildEnv;
 use cc_flags::{is_clang, is_visual_studio};
-use cc_host::{Ask, Host, Question, World};
+use cc_host::{Ask, Host, Question, World, is_yes};
 use cc_text::{Mem, NoMemory, Text, ToolFamily, Vars, Words};
 use cc_tool::{Detected, ask_family, ask_flag};
 use std::alloc::Global;
@@ -188,7 +187,8 @@ fn takes<W: World, H: Host<W>>(
     flag: &str,
     sight: &mut Sight<'_, W, H>,
 ) -> Mem<bool>
-    ensures asks { OnlyAsks W.steady W.answer H.log H.patience (folder_of (seen given.now)) sight.old sight.new }
+    ensures asks { OnlyAsks W.steady W.answer H.log H.patience
+        (folder_of (seen given.now)) sight.old sight.new }
     ensures settles { SettledIn sight.new (λ look. spec.takes (seen given.now) look flag.now) result }
 {
     let dir = probe_folder(given.set, given.env);
@@ -225,7 +225,8 @@ fn taken_among<W: World, H: Host<W>>(
     words: &Words,
     sight: &mut Sight<'_, W, H>,
 ) -> Mem<Words>
-    ensures asks { OnlyAsks W.steady W.answer H.log H.patience (folder_of (seen given.now)) sight.old sight.new }
+    ensures asks { OnlyAsks W.steady W.answer H.log H.patience
+        (folder_of (seen given.now)) sight.old sight.new }
     ensures settles { SettledIn sight.new (spec.taken_among (seen given.now) words.now) result }
 {
     let mut taken = Words::new(given.alloc);
@@ -272,7 +273,8 @@ fn supported_among<W: World, H: Host<W>>(
     words: &Words,
     sight: &mut Sight<'_, W, H>,
 ) -> Mem<Words>
-    ensures asks { OnlyAsks W.steady W.answer H.log H.patience (folder_of (seen given.now)) sight.old sight.new }
+    ensures asks { OnlyAsks W.steady W.answer H.log H.patience
+        (folder_of (seen given.now)) sight.old sight.new }
     ensures settles { SettledIn sight.new (spec.supported_among (seen given.now) words.now) result }
 {
     let path = given.compiler.choice.path.as_str();
@@ -296,7 +298,8 @@ pub(crate) fn supported_words<W: World, H: Host<W>>(
     given: &Compilation<'_>,
     sight: &mut Sight<'_, W, H>,
 ) -> Mem<Words>
-    ensures asks { OnlyAsks W.steady W.answer H.log H.patience (folder_of (seen given.now)) sight.old sight.new }
+    ensures asks { OnlyAsks W.steady W.answer H.log H.patience
+        (folder_of (seen given.now)) sight.old sight.new }
     ensures settles { SettledIn sight.new (spec.supported (seen given.now)) result }
 {
     let words = asked_words(given)?;

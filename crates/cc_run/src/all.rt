@@ -225,6 +225,7 @@ pub fn run_all<W: World, H: Host<W>, J: Jobs>(
         (part H.log host.old host.new) }
     ensures warnings { WarnsAll shows.now true cmds.now result (part H.log host.old host.new) }
 {
+    // (where the host tells its patience it is at least 1: a law of the log that is lent)
     let _least = host.log();
     let mut running = Running::new(alloc);
     let batch = Batch {

@@ -98,10 +98,12 @@ pub fn run_one<W: World, H: Host<W>>(
     ensures warnings { WarnsAll shows.now false (cmd.now ∷ []) result
         (part H.log host.old host.new) }
 {
+    // (where the host tells its patience it is at least 1: a law of the log that is lent)
     let _least = host.log();
     let mut running = Running::new(alloc);
     let (jobs, mut seat) = OneCaller::new(1);
     let Ok(Take::Token) = jobs.take(&mut seat) else {
+        // (a pool of one, whose seat holds none, has its token to give)
         unreachable!();
     };
     match start(host, cmd, &mut running, shows, 0) {

@@ -2,7 +2,7 @@
 ghost use Rattle.std.specs.Prelude.{◌≡◌, ◌≢◌, ◌++◌, ◌∷◌, [], List, true, IfOk, IsTrue, ◌↔◌};
 ghost use Rattle.cc_host.specs.Call.{part};
 ghost use Rattle.cc_host.specs.Question.{Answer, Settles, exists_question};
-ghost use Rattle.cc_host.specs.Verdict.{verdict_of, yes_if as yes};
+ghost use Rattle.cc_host.specs.Verdict.{yes_if as yes};
 ghost use Rattle.cc_host.specs.declared.question.Ask.TheVariants.{Exists as AsksExists};
 ghost use Rattle.cc_host.specs.declared.question.Verdict.TheVariants.{Unanswered};
 ghost use Rattle.cc_tool.specs.Asks.{Asks};

@@ -3,7 +3,6 @@ ghost use Rattle.std.specs.Prelude.{◌≡◌, ◌≢◌, [], IfOk, codes, bytes
 ghost use Rattle.cc_host.specs.Call.{part};
 ghost use Rattle.cc_host.specs.Question.{Settles, is_yes as yes};
 ghost use Rattle.cc_host.specs.declared.question.Ask.TheVariants.{Exists as AsksExists};
-ghost use Rattle.cc_host.specs.declared.question.Verdict.TheVariants.{Marks as Shows};
 ghost use Rattle.cc_text.specs.Case.{lowered};
 ghost use Rattle.cc_text.specs.Within.{is_within};
 ghost use Rattle.cc_text.specs.declared.family.ToolFamily.TheVariants.{Clang, Msvc};

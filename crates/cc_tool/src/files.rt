@@ -68,6 +68,7 @@ impl NamedTempfile {
         ensures open { IfOk result (λ file. IfSome file (λ path. IsOpen path (H.log host.new))) }
         ensures patient { H.patience host.new ≡ H.patience host.old }
     {
+        // (no probe file was dropped more often than made: a law of the log that is lent)
         let _tidy = host.log();
         for tries in 0..10usize {
             let _ = tries;

@@ -163,6 +163,7 @@ fn ask_with_files<W: World, H: Host<W>>(
     ensures patient { H.patience host.new ≡ H.patience host.old }
 {
     let folder = Text::of(alloc, dir)?;
+    // (no probe file was dropped more often than made: a law of the log that is lent)
     let _tidy = host.log();
     match make_source(alloc, host, dir, kind)? {
         None => leave(host, q),

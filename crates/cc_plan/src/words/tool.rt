@@ -78,7 +78,8 @@ pub(crate) fn rust_words(given: &Compilation<'_>) -> Mem<Words>
 // What is handed down: what the flags of Rust code want, and maps of paths, as far as the compiler takes them.
 #[tactic(auto, unfolding(crate::specs::ToolWords::handed_words))]
 fn push_handed_words(words: &mut Words, given: &Compilation<'_>, supported: &[Text]) -> Mem<()>
-    ensures { OnOk result (words.new ≡ words.old ++ spec.handed_words (seen given.now) supported.now) }
+    ensures { OnOk result (words.new
+        ≡ words.old ++ spec.handed_words (seen given.now) supported.now) }
 {
     let wanted = rust_words(given)?;
     push_taken(words, supported, wanted.as_slice())?;
@@ -114,7 +115,8 @@ fn push_set_words(
 // The groups of the settings, in order.
 #[tactic(auto, unfolding(crate::specs::ToolWords::setting_words))]
 fn push_setting_words(words: &mut Words, given: &Compilation<'_>, supported: &[Text]) -> Mem<()>
-    ensures { OnOk result (words.new ≡ words.old ++ spec.setting_words (seen given.now) supported.now) }
+    ensures { OnOk result (words.new
+        ≡ words.old ++ spec.setting_words (seen given.now) supported.now) }
 {
     let environment = environment_flags(given.alloc, given.set, given.env)?;
     push_set_words(words, given, supported, environment.as_ref())?;
