@@ -57,8 +57,8 @@ fn verdict_on<W: World, H: Host<W>>(
     flag: &str,
     sight: &mut Sight<'_, W, H>,
 ) -> Result<Verdict, PlanError>
-    ensures asks { OnlyAsks W.steady W.answer H.log H.patience
-        (folder_of (seen given.now)) sight.old sight.new }
+    ensures asks { OnlyAsks W.steady W.answer H.log H.patience (folder_of (seen given.now))
+        sight.old sight.new }
     ensures verdict { SettledIn sight.new (spec.verdict_on (seen given.now) flag.now) result }
     ensures allowed { AllowedBy (spec.verdict_refusal (seen given.now) flag.now) result }
     ensures refused { RefusedBy (spec.verdict_refusal (seen given.now) flag.now) result }
@@ -105,8 +105,8 @@ fn found_compiler<W: World, H: Host<W>>(
 ) -> Mem<(Compiler, Compiler)>
     requires { info_seen target.now ≡ target_info set.now env.now }
     ensures asks { AsksFor W.steady W.answer H.log H.patience set.now env.now sight.old sight.new }
-    ensures settles { IfOk result (λ found.
-        Settles sight.new.answers.now (spec.found set.now env.now) found) }
+    ensures settles { IfOk result (λ found. Settles sight.new.answers.now
+        (spec.found set.now env.now) found) }
 {
     let compiler = compiler_of(rt, alloc, set, env, target, sight)?;
     let bare = bare_compiler(rt, alloc, set, env, compiler.choice.path.as_str(), sight)?;
@@ -123,12 +123,12 @@ fn plan_support<W: World, H: Host<W>>(
     sight: &mut Sight<'_, W, H>,
 ) -> Result<Support, PlanError>
     ensures asks { AsksFor W.steady W.answer H.log H.patience set.now env.now sight.old sight.new }
-    ensures verdict { IfOk result (λ support. Settles sight.new.answers.now
-        (spec.flag_verdict set.now env.now flag.now) support.found.verdict) }
-    ensures compiler { IfOk result (λ support. Settles sight.new.answers.now
-        (compiler_of set.now env.now) support.found.compiler) }
-    ensures warnings { IfOk result (λ support. Settles sight.new.answers.now
-        (spec.support_warnings set.now env.now) support.warnings) }
+    ensures verdict { IfOk result (λ s. Settles sight.new.answers.now
+        (spec.flag_verdict set.now env.now flag.now) s.found.verdict) }
+    ensures compiler { IfOk result (λ s. Settles sight.new.answers.now
+        (compiler_of set.now env.now) s.found.compiler) }
+    ensures warnings { IfOk result (λ s. Settles sight.new.answers.now
+        (spec.support_warnings set.now env.now) s.warnings) }
     ensures allowed { AllowedIn sight.new (spec.support_refusal set.now env.now flag.now) result }
     ensures refused { RefusedIn sight.new (spec.support_refusal set.now env.now flag.now) result }
     ensures own { IfErr result IsOwn }

@@ -110,7 +110,8 @@ pub(crate) fn push_lost(
     supported: &[Text],
     wanted: &[Text],
 ) -> Mem<()>
-    ensures { OnOk result (warnings.new ≡ warnings.old ++ spec.lost_words supported.now wanted.now) }
+    ensures { OnOk result (warnings.new ≡ warnings.old
+        ++ spec.lost_words supported.now wanted.now) }
 {
     for word in wanted {
         if !is_among(supported, word.as_str()) {

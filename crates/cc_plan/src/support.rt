@@ -187,9 +187,10 @@ fn takes<W: World, H: Host<W>>(
     flag: &str,
     sight: &mut Sight<'_, W, H>,
 ) -> Mem<bool>
-    ensures asks { OnlyAsks W.steady W.answer H.log H.patience
-        (folder_of (seen given.now)) sight.old sight.new }
-    ensures settles { SettledIn sight.new (λ look. spec.takes (seen given.now) look flag.now) result }
+    ensures asks { OnlyAsks W.steady W.answer H.log H.patience (folder_of (seen given.now))
+        sight.old sight.new }
+    ensures settles { SettledIn sight.new
+        (λ look. spec.takes (seen given.now) look flag.now) result }
 {
     let dir = probe_folder(given.set, given.env);
     match question_of(given, flag)? {
@@ -225,8 +226,8 @@ fn taken_among<W: World, H: Host<W>>(
     words: &Words,
     sight: &mut Sight<'_, W, H>,
 ) -> Mem<Words>
-    ensures asks { OnlyAsks W.steady W.answer H.log H.patience
-        (folder_of (seen given.now)) sight.old sight.new }
+    ensures asks { OnlyAsks W.steady W.answer H.log H.patience (folder_of (seen given.now))
+        sight.old sight.new }
     ensures settles { SettledIn sight.new (spec.taken_among (seen given.now) words.now) result }
 {
     let mut taken = Words::new(given.alloc);
@@ -273,8 +274,8 @@ fn supported_among<W: World, H: Host<W>>(
     words: &Words,
     sight: &mut Sight<'_, W, H>,
 ) -> Mem<Words>
-    ensures asks { OnlyAsks W.steady W.answer H.log H.patience
-        (folder_of (seen given.now)) sight.old sight.new }
+    ensures asks { OnlyAsks W.steady W.answer H.log H.patience (folder_of (seen given.now))
+        sight.old sight.new }
     ensures settles { SettledIn sight.new (spec.supported_among (seen given.now) words.now) result }
 {
     let path = given.compiler.choice.path.as_str();
@@ -298,8 +299,8 @@ pub(crate) fn supported_words<W: World, H: Host<W>>(
     given: &Compilation<'_>,
     sight: &mut Sight<'_, W, H>,
 ) -> Mem<Words>
-    ensures asks { OnlyAsks W.steady W.answer H.log H.patience
-        (folder_of (seen given.now)) sight.old sight.new }
+    ensures asks { OnlyAsks W.steady W.answer H.log H.patience (folder_of (seen given.now))
+        sight.old sight.new }
     ensures settles { SettledIn sight.new (spec.supported (seen given.now)) result }
 {
     let words = asked_words(given)?;

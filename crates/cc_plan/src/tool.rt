@@ -242,8 +242,8 @@ fn push_lacks_of(
     supported: &[Text],
     maps: Maps,
 ) -> Mem<()>
-    ensures { OnOk result (warnings.new
-        ≡ warnings.old ++ lacks_of (seen given.now) supported.now maps) }
+    ensures { OnOk result (warnings.new ≡ warnings.old
+        ++ lacks_of (seen given.now) supported.now maps) }
 {
     let path = given.compiler.choice.path.as_str();
     push_map_lacks(
@@ -325,8 +325,8 @@ pub(crate) fn plan_tool<W: World, H: Host<W>>(
 ) -> Result<ToolPlan, PlanError>
     ensures asks { AsksFor W.steady W.answer H.log H.patience set.now env.now sight.old sight.new }
     ensures info { IfOk result (λ plan. info_seen plan.target ≡ target_info set.now env.now) }
-    ensures tool { IfOk result (λ plan.
-        Settles sight.new.answers.now (tool_of set.now env.now) plan.tool) }
+    ensures tool { IfOk result (λ plan. Settles sight.new.answers.now
+        (tool_of set.now env.now) plan.tool) }
     ensures warnings { IfOk result (λ plan. Settles sight.new.answers.now
         (warnings_of set.now env.now plan.warned.is_first) plan.warned.warnings) }
     ensures allowed { AllowedIn sight.new (tool_refusal set.now env.now) result }

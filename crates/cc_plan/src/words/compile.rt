@@ -98,8 +98,8 @@ fn push_codeview_words(
     reproducible: bool,
     object: &Object,
 ) -> Mem<()>
-    ensures { OnOk result (words.new
-        ≡ words.old ++ spec.codeview_words family reproducible object.now) }
+    ensures { OnOk result (words.new ≡ words.old
+        ++ spec.codeview_words family reproducible object.now) }
 {
     if reproducible && is_clang_cl(family) && !is_asm(object.src.as_str()) {
         push_same_codeview_words(words, object.dst.as_str())?;

@@ -155,8 +155,8 @@ pub(super) fn keeps_frames(given: &Compilation<'_>) -> bool
 // Optimization". Not each compiler knows the word for leaves, so that one is asked about.
 #[tactic(auto, unfolding(crate::specs::ToolWords::debugging_words))]
 fn push_debugging_words(words: &mut Words, given: &Compilation<'_>, supported: &[Text]) -> Mem<()>
-    ensures { OnOk result (words.new
-        ≡ words.old ++ spec.debugging_words (seen given.now) supported.now) }
+    ensures { OnOk result (words.new ≡ words.old
+        ++ spec.debugging_words (seen given.now) supported.now) }
 {
     let family = given.compiler.family;
     let force = given.set.force_frame_pointer;
@@ -170,8 +170,8 @@ fn push_debugging_words(words: &mut Words, given: &Compilation<'_>, supported: &
 // The groups of the target and the level, in order.
 #[tactic(auto, unfolding(crate::specs::ToolWords::default_words))]
 fn push_default_words(words: &mut Words, given: &Compilation<'_>, supported: &[Text]) -> Mem<()>
-    ensures { OnOk result (words.new
-        ≡ words.old ++ spec.default_words (seen given.now) supported.now) }
+    ensures { OnOk result (words.new ≡ words.old
+        ++ spec.default_words (seen given.now) supported.now) }
 {
     let set = given.set;
     let target = given.target;
@@ -207,8 +207,8 @@ pub(super) fn push_wanted_defaults(
     given: &Compilation<'_>,
     supported: &[Text],
 ) -> Mem<()>
-    ensures { OnOk result (words.new
-        ≡ words.old ++ spec.wanted_defaults (seen given.now) supported.now) }
+    ensures { OnOk result (words.new ≡ words.old
+        ++ spec.wanted_defaults (seen given.now) supported.now) }
 {
     if !has_no_defaults(given.set, given.env) {
         push_default_words(words, given, supported)?;

@@ -195,7 +195,8 @@ pub(super) fn push_flag_words(
     supported: &[Text],
     flags: &[BuildFlag],
 ) -> Mem<()>
-    ensures { OnOk result (words.new ≡ words.old ++ spec.flag_words family supported.now flags.now) }
+    ensures { OnOk result (words.new ≡ words.old
+        ++ spec.flag_words family supported.now flags.now) }
 {
     for flag in compiler_flags(family, flags) {
         push_flag(words, supported, flag)?;

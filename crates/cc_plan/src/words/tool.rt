@@ -39,7 +39,8 @@ pub(crate) fn remapped(given: &Compilation<'_>) -> Maps
 // `-fmacro-prefix-map` of GCC's "Options Controlling the Preprocessor", `-fdebug-prefix-map` of its "Options for Debugging Your Program".
 #[tactic(auto, unfolding(crate::specs::ToolWords::trim_words))]
 fn push_trim_words(words: &mut Words, given: &Compilation<'_>, supported: &[Text]) -> Mem<()>
-    ensures { OnOk result (words.new ≡ words.old ++ spec.trim_words (seen given.now) supported.now) }
+    ensures { OnOk result (words.new ≡ words.old
+        ++ spec.trim_words (seen given.now) supported.now) }
 {
     let alloc = given.alloc;
     let family = given.compiler.family;
@@ -53,7 +54,8 @@ fn push_trim_words(words: &mut Words, given: &Compilation<'_>, supported: &[Text
 // The folders that the settings want shown as others, by the same flags.
 #[tactic(auto, unfolding(crate::specs::ToolWords::remap_words))]
 fn push_remap_words(words: &mut Words, given: &Compilation<'_>, supported: &[Text]) -> Mem<()>
-    ensures { OnOk result (words.new ≡ words.old ++ spec.remap_words (seen given.now) supported.now) }
+    ensures { OnOk result (words.new ≡ words.old
+        ++ spec.remap_words (seen given.now) supported.now) }
 {
     let alloc = given.alloc;
     let family = given.compiler.family;
@@ -78,8 +80,8 @@ pub(crate) fn rust_words(given: &Compilation<'_>) -> Mem<Words>
 // What is handed down: what the flags of Rust code want, and maps of paths, as far as the compiler takes them.
 #[tactic(auto, unfolding(crate::specs::ToolWords::handed_words))]
 fn push_handed_words(words: &mut Words, given: &Compilation<'_>, supported: &[Text]) -> Mem<()>
-    ensures { OnOk result (words.new
-        ≡ words.old ++ spec.handed_words (seen given.now) supported.now) }
+    ensures { OnOk result (words.new ≡ words.old
+        ++ spec.handed_words (seen given.now) supported.now) }
 {
     let wanted = rust_words(given)?;
     push_taken(words, supported, wanted.as_slice())?;
@@ -115,8 +117,8 @@ fn push_set_words(
 // The groups of the settings, in order.
 #[tactic(auto, unfolding(crate::specs::ToolWords::setting_words))]
 fn push_setting_words(words: &mut Words, given: &Compilation<'_>, supported: &[Text]) -> Mem<()>
-    ensures { OnOk result (words.new
-        ≡ words.old ++ spec.setting_words (seen given.now) supported.now) }
+    ensures { OnOk result (words.new ≡ words.old
+        ++ spec.setting_words (seen given.now) supported.now) }
 {
     let environment = environment_flags(given.alloc, given.set, given.env)?;
     push_set_words(words, given, supported, environment.as_ref())?;

@@ -1,4 +1,5 @@
-use Rattle.std.proofs.Common.{rules, ◌≡◌, ◌⊎◌, Err, Some, None, sym, ap, subst, ◌∙◌}
+use Rattle.std.proofs.Common.{◌≡◌, ◌⊎◌, inl, refl, Some, None, sym, ap, subst, ◌∙◌}
+use Rattle.std.proofs.lemmas.Result.{err_from_is_err_and}
 use Rattle.cc_host.specs.Question.{Settles}
 use Rattle.cc_tool.proofs.AskLemmas.{asks_grows}
 use Rattle.cc_plan.proofs.AskingLemmas.{only_then}
@@ -17,15 +18,20 @@ returns-in_err-verdict-clause-asks g c = only_then c.found_compiler.ensures.asks
 
 pub returns-in_err-verdict-clause-refused : goal.returns-in_err-verdict-clause-refused
 returns-in_err-verdict-clause-refused g c =
-    let r : c.from_residual-in_err-verdict.result ≡ Err c.in_err-verdict.field-0.0 = search rules in
+    let p = err_from_is_err_and c.from_residual-in_err-verdict.result c.from_residual-in_err-verdict.ensures.1 in
     let known = is_known c.args.set.now c.args.env.now c.in_ok-compiler.bare c.in_ok-target.ensures.info in
     let refused = subst (λ k. (c.in_err-verdict.field-0.0 ≡ WantsMemory) ⊎ (verdict_refusal k c.args.flag.now ≡ Some c.in_err-verdict.field-0.0)) known c.in_err-verdict.ensures.refused in
-    rw r (support_refused c.args.set.now c.args.env.now c.args.flag.now c.in_err-verdict.field-0.0 c.in_ok-target.ensures.allowed (settles_on (asks_grows c.verdict_on.ensures.asks.asks) c.in_ok-compiler.ensures.settles) refused)
+    rw (p.1, p.2) (support_refused c.args.set.now c.args.env.now c.args.flag.now c.in_err-verdict.field-0.0 c.in_ok-target.ensures.allowed (settles_on (asks_grows c.verdict_on.ensures.asks.asks) c.in_ok-compiler.ensures.settles) refused)
 
 pub returns-in_err-verdict-clause-own : goal.returns-in_err-verdict-clause-own
 returns-in_err-verdict-clause-own g c =
-    let r : c.from_residual-in_err-verdict.result ≡ Err c.in_err-verdict.field-0.0 = search rules in
-    rw r (verdict_is_own _ c.args.flag.now c.in_err-verdict.field-0.0 c.in_err-verdict.ensures.refused)
+    let p = err_from_is_err_and c.from_residual-in_err-verdict.result c.from_residual-in_err-verdict.ensures.1 in
+    rw (p.1, p.2) (verdict_is_own _ c.args.flag.now c.in_err-verdict.field-0.0 c.in_err-verdict.ensures.refused)
+
+pub returns-in_err-warnings-clause-refused : goal.returns-in_err-warnings-clause-refused
+returns-in_err-warnings-clause-refused g c =
+    let p = err_from_is_err_and c.from_residual-in_err-warnings.result c.from_residual-in_err-warnings.ensures.1 in
+    rw (p.1, p.2) (inl refl)
 
 pub returns-in_err-warnings-clause-asks : goal.returns-in_err-warnings-clause-asks
 returns-in_err-warnings-clause-asks g c = only_then c.found_compiler.ensures.asks c.verdict_on.ensures.asks

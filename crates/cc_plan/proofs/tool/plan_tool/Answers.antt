@@ -1,4 +1,5 @@
-use Rattle.std.proofs.Common.{rules, ◌≡◌, Err, sym, ap, ◌∙◌}
+use Rattle.std.proofs.Common.{rules, ◌≡◌, Err, inl, refl, sym, ap, ◌∙◌}
+use Rattle.std.proofs.lemmas.Result.{err_from_is_err_and}
 use Rattle.cc_tool.proofs.AskLemmas.{asks_grows}
 use Rattle.cc_plan.proofs.AskingLemmas.{only_then}
 use Rattle.cc_tool.proofs.SettleLemmas.{settles_on, settles_two}
@@ -7,7 +8,7 @@ use Rattle.cc_plan.specs.Compilation.{compilation_of}
 use Rattle.cc_plan.specs.Support.{supported}
 use Rattle.cc_plan.specs.Tool.{tool_by, warnings_by}
 use Rattle.cc_plan.proofs.CompilationLemmas.{is_known, with_target}
-use Rattle.cc_plan.proofs.ResultLemmas.{allowed_by}
+use Rattle.cc_plan.proofs.ResultLemmas.{allowed_by, refused_by}
 use Rattle.cc_plan.proofs.OwnLemmas.{given_is_own, built_is_own}
 use Rattle.cc_plan.proofs.tool.plan_tool.Goals as goal
 
@@ -56,3 +57,18 @@ returns-clause-warnings g c =
 pub returns-clause-allowed : goal.returns-clause-allowed
 returns-clause-allowed g c =
     allowed_by c.args.set.now c.args.env.now c.in_ok-target.ensures.allowed (settles_on (asks_grows c.supported_words.ensures.asks.asks) c.in_ok-compiler.ensures.settles) c.in_ok-check_compiler.ensures.allowed
+
+pub returns-in_err-check_compiler-clause-refused : goal.returns-in_err-check_compiler-clause-refused
+returns-in_err-check_compiler-clause-refused g c =
+    let r : c.from_residual-in_err-check_compiler.result ≡ Err c.in_err-check_compiler.field-0.0 = search (rules, c.from_residual-in_err-check_compiler.ensures) in
+    rw r (refused_by c.args.set.now c.args.env.now c.in_err-check_compiler.field-0.0 c.in_ok-target.ensures.allowed c.in_ok-compiler.ensures.settles c.in_err-check_compiler.ensures.refused)
+
+pub returns-in_err-warned-clause-refused : goal.returns-in_err-warned-clause-refused
+returns-in_err-warned-clause-refused g c =
+    let p = err_from_is_err_and c.from_residual-in_err-warned.result c.from_residual-in_err-warned.ensures.1 in
+    rw (p.1, p.2) (inl refl)
+
+pub returns-in_err-warned-clause-own : goal.returns-in_err-warned-clause-own
+returns-in_err-warned-clause-own g c =
+    let p = err_from_is_err_and c.from_residual-in_err-warned.result c.from_residual-in_err-warned.ensures.1 in
+    rw (p.1, p.2) tt
