@@ -27,7 +27,11 @@ use std::alloc::Global;
 use std::marker::Model;
 use std::sync::Wait;
 
-/// The settings of a compile run with its environment, and the caches of answers in the world `W`. Contracts see settings and environment.
+/// The settings of a compile run with its environment, and the caches of answers in the world `W`. Contracts see settings and
+/// environment.
+///
+/// Setters check nothing: what the settings lack or have wrong is refused by the call that makes the plan. A setter of one value takes
+/// the place of an earlier call, one of a list adds last.
 #[derive(Drop)]
 pub struct Build<W: World> {
     pub(crate) alloc: Global,
@@ -45,7 +49,8 @@ impl<W: World> Model for Build<W> {
 }
 
 impl<W: World> Build<W> {
-    /// A build with no source, nothing set and an empty environment.
+    /// A build with no source, nothing set and an empty environment: no variable is read until `capture` or `set_envs_snapshot`.
+    /// Warnings, the output of commands and what Cargo hands down are on, all other switches off. Refused only for memory.
     pub fn new(alloc: Global) -> Result<Build<W>, Error>
         ensures fresh { IfOk result (λ b. b ≡ fresh_build) }
         ensures refused { IfErr result (λ e. e ≡ no_memory) }
@@ -58,7 +63,8 @@ impl<W: World> Build<W> {
         })
     }
 
-    /// A second build, equal to this one. The two share their caches.
+    /// A second build, equal to this one; setters of one don't change the other. The two share their caches, so that what one asked of a
+    /// compiler the other isn't to ask again. Refused only for memory; this build is as before.
     pub fn try_clone(&self) -> Result<Build<W>, Error>
         ensures equal { IfOk result (λ b. b ≡ self.now) }
         ensures refused { IfErr result (λ e. e ≡ no_memory) }
@@ -71,29 +77,30 @@ impl<W: World> Build<W> {
         })
     }
 
-    /// The sources, in the order added, lent.
+    /// The sources, in the order added, lent: paths as `file` took them.
     pub fn get_files(&self) -> &Words
         ensures { result.now ≡ self.now.config.files }
     {
         &self.config.files
     }
 
-    /// The plain settings, lent.
+    /// The plain settings, lent: what setters set, without what the environment adds.
     pub fn settings(&self) -> &BuildConfig
         ensures { result.now ≡ self.now.config }
     {
         &self.config
     }
 
-    /// The variables that the build inherits and sets, lent.
+    /// The variables that the build inherits, and those that `env` adds for commands, lent.
     pub fn environment(&self) -> &BuildEnv
         ensures { result.now ≡ self.now.env }
     {
         &self.env
     }
 
-    /// Takes these variables as the environment that the build inherits. Of a name that is given more than once the last value counts.
-    /// Refused for memory, the build stays as it was.
+    /// Takes these pairs of name and value as the environment that the build inherits, in the place of all that it inherited before;
+    /// entries of `env` stay. Of a name that is given more than once the last value counts. Refused only for memory; the build is as
+    /// before.
     pub fn set_envs_snapshot(&mut self, vars: &Vars) -> Result<(), Error>
         ensures ok { OnOk result (TakesVars self.old self.new vars.now) }
         ensures err { OnErr result (self.new ≡ self.old) }
@@ -104,7 +111,11 @@ impl<W: World> Build<W> {
         Ok(())
     }
 
-    /// Takes the variables of the host as the environment that the build inherits. Refused, the build stays as it was.
+    /// Takes the variables of the host as the environment that the build inherits, in the place of all that it inherited before. Whoever
+    /// wants Cargo's variables and `CFLAGS` to count calls it before the run; later changes of the host's variables don't show.
+    ///
+    /// Refused where the host can't list its variables (IOError), and for memory; the build is as before. Where memory for their snapshot
+    /// was wanting, the listing stands in the host's log.
     pub fn capture<H: Host<W>>(&mut self, host: &mut H) -> Result<(), Error>
         ensures extends { H.log host.new ≡ H.log host.old ++ part H.log host.old host.new }
         ensures asks_none { question_events (part H.log host.old host.new) ≡ [] }
@@ -117,10 +128,13 @@ impl<W: World> Build<W> {
         self.set_envs_snapshot(&vars)
     }
 
-    /// Adds the flags of a variable, as `CFLAGS`, last: those of each of its names for this target and host that is set, the most
-    /// general name first. They are always given.
+    /// Adds the words of a variable, as `MY_CFLAGS`, last to the flags that are always given: those of each of its names for this target
+    /// and host that is set, the most general name first (`MY_CFLAGS`, `TARGET_MY_CFLAGS` or `HOST_MY_CFLAGS`, `MY_CFLAGS_<target>`).
+    /// Blanks part words, or a shell's rules where `shell_escaped_flags` holds. They are read off the captured variables; the host is
+    /// asked nothing.
     ///
-    /// Refused where the target or the host is set nowhere, or none of the names is set. Refused, the build stays as it was.
+    /// Refused with EnvVarNotFound where the target or the host is set nowhere, or none of the names is set, and for memory; the build is
+    /// as before.
     pub fn try_flags_from_environment<H: Host<W>>(
         &mut self,
         host: &mut H,
@@ -144,11 +158,13 @@ impl<W: World> Build<W> {
         Ok(())
     }
 
-    /// Whether the compiler of this build takes a flag: false also of a word for the linker of Visual Studio. Prints the warnings of how the
-    /// compiler was found.
+    /// Whether the compiler of this build takes a flag, by compiling a source of one line with it and no other flag of the build; false
+    /// also where the flag is `/link` and the compiler Visual Studio's, since it is for the linker. Prints the warnings of how the
+    /// compiler was found, where they are on. The verdict is kept, and serves later calls of this build and its clones.
     ///
-    /// Refused with IOError where the compiler is missing or couldn't be asked; where the target is set nowhere or isn't known, or the command
-    /// that tries the flag would be refused; or where a warning couldn't be printed.
+    /// Refused with IOError where the compiler is missing, could not be asked, or a warning could not be printed; with the error of the
+    /// settings where the target or the host is set nowhere, the target isn't known, or the command that tries the flag would be refused;
+    /// and for memory. The build is as before; what was asked until then is kept, and no file stays.
     pub fn is_flag_supported<H: Host<W>>(
         &self,
         rt: &impl Wait,
@@ -173,11 +189,12 @@ impl<W: World> Build<W> {
         )
     }
 
-    /// The compiler of this build: the program with its wrapper, the words that each source is compiled with, and its variables. Prints the
-    /// warnings of its plan.
+    /// The compiler of this build: the program with its wrapper, the words that each source is compiled with, and its variables. To find
+    /// it the compiler is asked for its family and for flags; then the warnings of its plan are printed, where they are on.
     ///
-    /// Refused where the optimisation level, the target or the host is set nowhere, the target isn't known, a word of the target is refused,
-    /// or a warning couldn't be printed.
+    /// Refused where the optimisation level, the target or the host is set nowhere (EnvVarNotFound), the target isn't known, a word of
+    /// the target or a flag of Rust code is refused, or a warning couldn't be printed; and for memory. The build is as before; what was
+    /// asked until then is kept, and no file stays.
     pub fn try_get_compiler<H: Host<W>>(&self, rt: &impl Wait, host: &mut H) -> Result<Tool, Error>
         ensures extends { H.log host.new ≡ H.log host.old ++ part H.log host.old host.new }
         ensures asked { Asked W.steady W.answer (probes self.now) (part H.log host.old host.new) }
@@ -191,12 +208,15 @@ impl<W: World> Build<W> {
 
     /// Compiles the sources and archives them into the library of `output`, a name such as `foo` or `libfoo.a`.
     ///
-    /// Makes the out dir where there is a source, asks what the plan wants to know, prints the warnings, runs one compile command per source,
-    /// removes the old library, archives all objects, writes the index, and prints the link lines. Two or more compile commands run beside
-    /// each other, each under a token of the pool. The seat is one of the pool and holds none, before and after; no more than so many turns
-    /// are made. Ok means that all of this was done, and nothing else. Else the first stages of it were, every command that was started has
-    /// ended or is left alone, and the error is that of the refused settings, or of the event that ended the run. No archive command is run
-    /// before each source was compiled.
+    /// Makes the out dir where there is a source, asks what the plan wants to know, prints the warnings, runs one compile command per
+    /// source, removes the old library, archives all objects, writes the index, and prints the link lines. Two or more compile commands
+    /// run beside each other, each under a token of the pool. The seat is one of the pool and holds none, before and after. At most
+    /// `turns` turns are made, each of which asks the host once for the news of the running children; `u64::MAX` is as good as no bound.
+    ///
+    /// Ok means that all of this was done, and nothing else. Else the first stages of it were, every command that was started has ended
+    /// or is left alone, and the error is that of the refused settings, or of the event that ended the run; `ErrorKind` lists them. No
+    /// archive command is run before each source was compiled, and where one failed the old library stays. Objects are not removed. The
+    /// build is as before, and may be run again.
     pub fn try_compile<H: Host<W>, J: Jobs>(
         &self,
         rt: &impl Wait,

@@ -16,7 +16,9 @@ use cc_text::{Mem, Text, Words};
 use std::alloc::Global;
 
 impl<W: World> Build<W> {
-    /// Adds a source last: a path, as the compiler is given it. Refused for memory, the build stays as it was.
+    /// Adds a source last: a path, as the compiler is given it, so a relative one counts from the program's current folder. C, C++ or
+    /// assembly; the compiler tells them by the extension. A path without a file name, as `..`, is refused by the compile run. Refused
+    /// only for memory; the build is as before.
     pub fn file(&mut self, p: &str) -> Result<(), Error>
         ensures ok { OnOk result (Sets self.old self.new
             (λ c. record c { files = c.files ++ p.now ∷ [] })) }
@@ -27,7 +29,8 @@ impl<W: World> Build<W> {
         Ok(())
     }
 
-    /// Adds a folder of headers last. Refused for memory, the build stays as it was.
+    /// Adds a folder of headers last: `-I` and the path, two words. Folders are searched in the order added (GCC's manual, "Options for
+    /// Directory Search"). Refused only for memory; the build is as before.
     pub fn include(&mut self, dir: &str) -> Result<(), Error>
         ensures ok { OnOk result (Sets self.old self.new
             (λ c. record c { includes = c.includes ++ dir.now ∷ [] })) }
@@ -38,7 +41,8 @@ impl<W: World> Build<W> {
         Ok(())
     }
 
-    /// Adds a flag of sources in assembly last. Refused for memory, the build stays as it was.
+    /// Adds a word last that only sources in assembly get, those whose extension is `asm` or `s` in small or capital letters: between
+    /// `-c` and the source, behind all other flags. Refused only for memory; the build is as before.
     pub fn asm_flag(&mut self, flag: &str) -> Result<(), Error>
         ensures ok { OnOk result (Sets self.old self.new
             (λ c. record c { asm_flags = c.asm_flags ++ flag.now ∷ [] })) }
@@ -49,7 +53,7 @@ impl<W: World> Build<W> {
         Ok(())
     }
 
-    /// Adds sources last, in order. Refused for memory, the build stays as it was.
+    /// Adds sources last, in the order of the list, each as `file` does. Refused only for memory; then none is added.
     pub fn files(&mut self, p: &Words) -> Result<(), Error>
         ensures ok { OnOk result (Sets self.old self.new
             (λ c. record c { files = c.files ++ p.now })) }
@@ -60,7 +64,7 @@ impl<W: World> Build<W> {
         Ok(())
     }
 
-    /// Adds folders of headers last, in order. Refused for memory, the build stays as it was.
+    /// Adds folders of headers last, in the order of the list, each as `include` does. Refused only for memory; then none is added.
     pub fn includes(&mut self, dirs: &Words) -> Result<(), Error>
         ensures ok { OnOk result (Sets self.old self.new
             (λ c. record c { includes = c.includes ++ dirs.now })) }
@@ -71,7 +75,9 @@ impl<W: World> Build<W> {
         Ok(())
     }
 
-    /// Adds a flag of the compiler last, which is always given. Refused for memory, the build stays as it was.
+    /// Adds a word last that the compiler is given in each compile command, behind the words of target, level and other settings and
+    /// before macros and `CFLAGS`, so that it overrides the former. It is one word: blanks in it stay. For Visual Studio's compilers,
+    /// words from `/link` on are left off, with a warning, since no linker runs. Refused only for memory; the build is as before.
     pub fn flag(&mut self, flag: &str) -> Result<(), Error>
         ensures ok { OnOk result (Sets self.old self.new
             (λ c. record c { flags = c.flags ++ Always flag.now ∷ [] })) }
@@ -83,7 +89,9 @@ impl<W: World> Build<W> {
         Ok(())
     }
 
-    /// Adds a flag of the compiler last, which is given where the compiler takes it. Refused for memory, the build stays as it was.
+    /// Adds a word last, as `flag` does, that is left out without a warning where the compiler doesn't take it: the compile run asks it
+    /// first, by compiling a source of one line. For flags that not each release knows (Clang's "Diagnostic flags in Clang"). Refused
+    /// only for memory; the build is as before.
     pub fn flag_if_supported(&mut self, flag: &str) -> Result<(), Error>
         ensures ok { OnOk result (Sets self.old self.new
             (λ c. record c { flags = c.flags ++ IfSupported flag.now ∷ [] })) }
@@ -95,8 +103,10 @@ impl<W: World> Build<W> {
         Ok(())
     }
 
-    /// Tells the folder `from`, in whose name no `=` stands, as `to`, in macros and in debug information. Refused for memory, the
-    /// build stays as it was.
+    /// Has paths that begin with the folder `from` told as beginning with `to`, in macros as `__FILE__` and in debug information, so that
+    /// objects don't name the machine: `-fmacro-prefix-map` (GCC's manual, "Options Controlling the Preprocessor") and
+    /// `-fdebug-prefix-map` ("Options for Debugging Your Program"), as far as the compiler takes them; it is warned of the others. The
+    /// caller sees to it that no `=` stands in `from`, which would end it. Refused only for memory; the build is as before.
     pub fn remap_source_path(&mut self, from: &str, to: &str) -> Result<(), Error>
         requires { lacks_equals from.now ≡ true }
         ensures ok { OnOk result (Sets self.old self.new (λ c. record c {
@@ -109,7 +119,7 @@ impl<W: World> Build<W> {
         Ok(())
     }
 
-    /// Adds flags of the compiler last, in order, which are always given. Refused for memory, the build stays as it was.
+    /// Adds words last, in the order of the list, each as `flag` does. Refused only for memory; then none is added.
     pub fn flags(&mut self, flags: &Words) -> Result<(), Error>
         ensures ok { OnOk result (Sets self.old self.new
             (λ c. record c { flags = c.flags ++ always flags.now })) }
@@ -121,14 +131,17 @@ impl<W: World> Build<W> {
         Ok(())
     }
 
-    /// Takes out every flag of this word that is always given, and no other. It takes no memory.
+    /// Takes out every flag that is exactly this word and was added to be always given (`flag`, `flags`, `try_flags_from_environment`);
+    /// those of `flag_if_supported` stay. Where there is none, nothing changes. It takes no memory.
     pub fn remove_flag(&mut self, flag: &str)
         ensures { Sets self.old self.new (λ c. record c { flags = without flag.now c.flags }) }
     {
         self.config.flags.remove(flag);
     }
 
-    /// Adds a macro last, with its value where it has one. Refused for memory, the build stays as it was.
+    /// Adds a macro last: `-DVAR`, which the preprocessor reads as 1, or `-DVAR=VAL`, in one word, which no shell splits (GCC's manual,
+    /// "Options Controlling the Preprocessor"). Of two macros of one name the compiler takes the last. Refused only for memory; the build
+    /// is as before.
     pub fn define(&mut self, var: &str, val: Option<&str>) -> Result<(), Error>
         ensures ok { OnOk result (Sets self.old self.new (λ c. record c {
           definitions = c.definitions ++ defined var.now (option_copied val.entry) ∷ [];
@@ -142,7 +155,9 @@ impl<W: World> Build<W> {
         Ok(())
     }
 
-    /// Sets a variable of the commands that the build runs. Refused for memory, the build stays as it was.
+    /// Adds a variable for the commands and the questions of the build, in the place of an inherited one of that name; of two entries of
+    /// one name the last counts. The variables that this library itself reads stay as captured, but for `WASI_SDK_PATH`, which is taken
+    /// from here first. Refused only for memory; the build is as before.
     pub fn env(&mut self, key: &str, val: &str) -> Result<(), Error>
         ensures ok { OnOk result (AddsVariable self.old self.new key.now val.now) }
         ensures err { OnErr result (self.new ≡ self.old) }
@@ -152,7 +167,7 @@ impl<W: World> Build<W> {
         Ok(())
     }
 
-    /// Does what `env` does. Refused for memory, the build stays as it was.
+    /// Does what `env` does: the crate `cc` has it hidden, as `__set_env`. Refused only for memory; the build is as before.
     pub fn set_env(&mut self, key: &str, val: &str) -> Result<(), Error>
         ensures ok { OnOk result (AddsVariable self.old self.new key.now val.now) }
         ensures err { OnErr result (self.new ≡ self.old) }

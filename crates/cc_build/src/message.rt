@@ -169,8 +169,9 @@ fn run_error(alloc: Global, e: RunError, cmds: &[Planned]) -> Mem<Error>
 }
 
 impl Error {
-    /// The error of a run that ended without success, told by the command at its place, or want of memory where its texts could not
-    /// be made. A place that the list doesn't have counts as want of memory.
+    /// The error of a run of these commands that ended without success: that of the command at the place which `e` names, from 0, with
+    /// its program as the subject; or want of memory where its texts could not be made. A place that the list doesn't have counts as want
+    /// of memory.
     pub fn of_run(alloc: Global, e: RunError, cmds: &[Planned]) -> Error
         ensures { (result ≡ run_error cmds.now e) ⊎ (result ≡ no_memory) }
     {

@@ -12,7 +12,9 @@ use cc_text::{Mem, Text};
 use std::alloc::Global;
 
 impl<W: World> Build<W> {
-    /// Sets the folder that the folders of sources count from in the names of objects. Refused for memory, the build stays as it was.
+    /// Sets the folder that the folders of sources count from in the names of objects, by components, where they begin neither with
+    /// `OUT_DIR` nor with `CARGO_MANIFEST_DIR`: so objects have the same names wherever the sources lie. Refused only for memory; the
+    /// build is as before.
     pub fn source_root(&mut self, source_root: &str) -> Result<(), Error>
         ensures ok { OnOk result (Sets self.old self.new
             (λ c. record c { source_root = Some source_root.now })) }
@@ -23,7 +25,9 @@ impl<W: World> Build<W> {
         Ok(())
     }
 
-    /// Sets the standard of the language, as `c11` or `c++17`. Refused for memory, the build stays as it was.
+    /// Sets the standard of the language, as `c11` or `c++17`: `-std=` and the text, or `-std:` for Visual Studio's compilers (GCC's
+    /// manual, "Options Controlling C Dialect"). The text isn't looked at; the compiler refuses one that it doesn't know. Unset, the
+    /// compiler's own counts. Refused only for memory; the build is as before.
     pub fn std(&mut self, std: &str) -> Result<(), Error>
         ensures ok { OnOk result (Sets self.old self.new (λ c. record c { std = Some std.now })) }
         ensures err { OnErr result (self.new ≡ self.old) }
@@ -33,7 +37,8 @@ impl<W: World> Build<W> {
         Ok(())
     }
 
-    /// Sets the target, as Rust's compiler names it. Refused for memory, the build stays as it was.
+    /// Sets the target, as rustc names it: `x86_64-unknown-linux-gnu`. Unset, it is `TARGET`. A name that isn't among the 33 known
+    /// targets is refused by the compile run, not here. Refused only for memory; the build is as before.
     pub fn target(&mut self, target: &str) -> Result<(), Error>
         ensures ok { OnOk result (Sets self.old self.new
             (λ c. record c { target = Some target.now })) }
@@ -44,7 +49,8 @@ impl<W: World> Build<W> {
         Ok(())
     }
 
-    /// Sets the host, as Rust's compiler names it. Refused for memory, the build stays as it was.
+    /// Sets the target of the machine that compiles, as rustc names it. Unset, it is `HOST`. Where it differs from the target, a cross
+    /// compiler is looked for, and `TARGET_CC` is read in place of `HOST_CC`. Refused only for memory; the build is as before.
     pub fn host(&mut self, host: &str) -> Result<(), Error>
         ensures ok { OnOk result (Sets self.old self.new (λ c. record c { host = Some host.now })) }
         ensures err { OnErr result (self.new ≡ self.old) }
@@ -54,7 +60,9 @@ impl<W: World> Build<W> {
         Ok(())
     }
 
-    /// Sets the optimisation level, as `0` or `z`. Refused for memory, the build stays as it was.
+    /// Sets the optimisation level as text, in Cargo's words: `0` to `3`, `s` or `z` (Cargo's book, "Profiles"). GCC and Clang get `-O`
+    /// and the text, but GCC `-Os` for `z`; Visual Studio's compilers `-O1` for `1`, `s` and `z`, `-O2` for `2` and `3`. Other texts
+    /// aren't looked at. Unset, it is `OPT_LEVEL`. Refused only for memory; the build is as before.
     pub fn opt_level_str(&mut self, opt_level: &str) -> Result<(), Error>
         ensures ok { OnOk result (Sets self.old self.new
             (λ c. record c { opt_level = Some opt_level.now })) }
@@ -65,7 +73,11 @@ impl<W: World> Build<W> {
         Ok(())
     }
 
-    /// Sets how much debug information is wanted, as `2` or `line-tables-only`. Refused for memory, the build stays as it was.
+    /// Sets how much debug information is wanted, in Cargo's words (Cargo's book, "Profiles"): the empty text, `0`, `false` and `none`
+    /// ask for none, `1`, `limited`, `line-tables-only` and `line-directives-only` for lines alone, any other text for all. It is `-g1`
+    /// (`-gline-directives-only` where Clang is asked for those) or `-g`, on some systems with the version of DWARF, and `-Z7` for Visual
+    /// Studio's compilers (GCC's manual, "Options for Debugging Your Program"). Unset, it is `DEBUG`. Refused only for memory; the build
+    /// is as before.
     pub fn debug_str(&mut self, debug: &str) -> Result<(), Error>
         ensures ok { OnOk result (Sets self.old self.new
             (λ c. record c { debug = Some debug.now })) }
@@ -76,7 +88,8 @@ impl<W: World> Build<W> {
         Ok(())
     }
 
-    /// Sets whether debug information is wanted. Refused for memory, the build stays as it was.
+    /// Sets whether debug information is wanted: what `debug_str` does with `true` or `false`. Refused only for memory; the build is as
+    /// before.
     pub fn debug(&mut self, debug: bool) -> Result<(), Error>
         ensures ok { OnOk result (Sets self.old self.new
             (λ c. record c { debug = Some (truth_text debug) })) }
@@ -86,7 +99,8 @@ impl<W: World> Build<W> {
         self.debug_str(truth_text(debug))
     }
 
-    /// Sets the folder of the objects and of the library. Refused for memory, the build stays as it was.
+    /// Sets the folder of the objects, of the library, and of the files that compilers are asked with. The compile run makes it; it
+    /// refuses an empty path. Unset, it is `OUT_DIR`. Refused only for memory; the build is as before.
     pub fn out_dir(&mut self, out_dir: &str) -> Result<(), Error>
         ensures ok { OnOk result (Sets self.old self.new
             (λ c. record c { out_dir = Some out_dir.now })) }
@@ -97,7 +111,8 @@ impl<W: World> Build<W> {
         Ok(())
     }
 
-    /// Sets the compiler: a program, or its path. Refused for memory, the build stays as it was.
+    /// Sets the compiler: a path, or a name that is looked up on the `PATH`, without words behind it. `CC`, wrappers and the target's
+    /// prefix are then not looked at. Refused only for memory; the build is as before.
     pub fn compiler(&mut self, compiler: &str) -> Result<(), Error>
         ensures ok { OnOk result (Sets self.old self.new
             (λ c. record c { compiler = Some compiler.now })) }
@@ -108,7 +123,8 @@ impl<W: World> Build<W> {
         Ok(())
     }
 
-    /// Sets the archiver: a program, or its path. Refused for memory, the build stays as it was.
+    /// Sets the archiver: a path, or a name that is looked up on the `PATH`. It has to take the words of GNU `ar`. Unset, it is `ar`, for
+    /// each target. Refused only for memory; the build is as before.
     pub fn archiver(&mut self, archiver: &str) -> Result<(), Error>
         ensures ok { OnOk result (Sets self.old self.new
             (λ c. record c { archiver = Some archiver.now })) }
@@ -119,7 +135,8 @@ impl<W: World> Build<W> {
         Ok(())
     }
 
-    /// Sets the optimisation level to a number, which is kept in decimal. Refused for memory, the build stays as it was.
+    /// Sets the optimisation level to a number, which is kept in decimal: what `opt_level_str` does with that text. Cargo has 0 to 3;
+    /// others aren't refused here. Refused only for memory; the build is as before.
     pub fn opt_level(&mut self, opt_level: u32) -> Result<(), Error>
         ensures ok { OnOk result (Sets self.old self.new
             (λ c. record c { opt_level = Some (decimal opt_level) })) }
@@ -131,7 +148,10 @@ impl<W: World> Build<W> {
         Ok(())
     }
 
-    /// Sets the C++ library that the compiler is told of, or none. Refused for memory, the build stays as it was.
+    /// Sets the C++ library that the compiler is told of, or none: `-stdlib=lib` and the name, as `c++`, for GCC and Clang where the
+    /// sources are C++ (Clang's "Clang command line argument reference"). It is not put among the link lines. With none, Clang is told
+    /// `libc++` on FreeBSD and nothing elsewhere. Visual Studio's compilers have no such word: the compile run warns. Refused only for
+    /// memory; the build is as before.
     pub fn cpp_set_stdlib(&mut self, cpp_set_stdlib: Option<&str>) -> Result<(), Error>
         ensures ok { OnOk result (Sets self.old self.new
             (λ c. record c { cpp_set_stdlib = option_copied cpp_set_stdlib.entry })) }

@@ -373,10 +373,11 @@ fn read_settings<W: World>(alloc: Global, words: &[String]) -> Result<Build<W>, 
     Ok(build)
 }
 
-/// Reads the words behind the program's own name: `compile NAME key=value ...`.
+/// Reads the words behind the program's own name: `compile NAME key=value ...`, where a word ends its key at its first `=`. A list
+/// setting takes the values of its key in order, a single one the last.
 ///
-/// Refused at the first bad word, with its place from 0 and the first cause that holds. A list setting takes the values of its key in
-/// order, a single one the last.
+/// Refused at the first bad word, with its place from 0 and the first cause that holds; and for memory. Nothing is left then, and no host
+/// was asked anything.
 pub fn read_words<W: World>(alloc: Global, words: &[String]) -> Result<Request<W>, ReadError>
     ensures ok { IfOk result
         (λ request. asked_for words.now ≡ Ok (name_of request.job, request.build)) }

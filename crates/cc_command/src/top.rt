@@ -20,12 +20,13 @@ use std::alloc::{AllocError, Global};
 use std::sync::Wait;
 
 /// What a run answers: its status, and with 1 the error, with 2 the bad word.
-///
-/// The statuses are 0 done, 1 refused by the build, 2 words refused, and 3 want of memory.
 #[derive(Drop, Debug)]
 pub struct Ended {
+    /// The exit status for a program: 0 done, 1 refused by the build, 2 words refused, 3 want of memory.
     pub status: u8,
+    /// Why the build was refused, with status 1 alone. Its line was printed, unless the print failed.
     pub error: Option<Error>,
+    /// The first bad word, with status 2 alone. Its line was printed, unless the print failed.
     pub word: Option<BadWord>,
 }
 
@@ -49,7 +50,7 @@ fn ended_wanting() -> Ended
     }
 }
 
-/// The cause of a bad word in words, as standard error has it behind the place.
+/// The cause of a bad word as standard error has it behind the place: `word 2: no value`.
 pub fn cause_text(cause: WordCause) -> &'static str
     ensures { result.now ≡ text_of cause }
 {
@@ -233,12 +234,17 @@ fn run<W: World, H: Host<W>, J: Jobs>(
     }
 }
 
-/// Reads the words, runs what they ask for on the host, and prints. The seat is one of the pool and holds no token, before and after; no more than so
-/// many turns are made.
+/// Reads the words, runs what they ask for on the host, and prints. The words are those behind the program's own name. The seat is one of
+/// the pool and holds no token, before and after; at most `turns` turns are made, each of which asks the host once for the news of the
+/// running children.
 ///
 /// Status 0 of `compile NAME ..` means: in the part of the log that this call added the host listed its variables; then it starts one
-/// planned compile command per source, in the order added, each ended with 0; then the old library is removed; then the planned archive and index
-/// commands ended with 0; then exactly the link lines were printed.
+/// planned compile command per source, in the order added, each ended with 0; then the old library is removed; then the planned archive
+/// and index commands ended with 0; then exactly the link lines were printed.
+///
+/// Another status leaves what the first stages did. Its line, `error occurred in cc-rs: <message>` or `word <place>: <cause>`, is the
+/// last event, of kind Fault, or else the fault of its print; want of memory prints none. Each command that was started has ended or was
+/// left alone, and no probe file stays.
 #[tactic(auto, using(cc_host::proofs::Parts::since_append))]
 pub fn drive<W: World, H: Host<W>, J: Jobs>(
     rt: &impl Wait,

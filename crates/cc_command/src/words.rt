@@ -9,47 +9,52 @@ use cc_text::{NoMemory, Text};
 /// What is wrong with a word. For one word the first of these counts.
 #[derive(Clone, Copy, Debug, PartialEq, Eq)]
 pub enum WordCause {
-    /// There is no word at all.
+    /// There is no word at all. Its place is 0.
     NoCommand,
-    /// The first word is no command.
+    /// The first word is no command; `compile` is the only one. Its place is 0.
     UnknownCommand,
-    /// The name behind the command is missing.
+    /// The name of the library behind the command is missing. Its place is 1.
     NoName,
-    /// The word has no `=`.
+    /// The word has no `=`, so it is no `key=value`.
     NoValue,
-    /// There is no such key.
+    /// What stands before the first `=` is no key.
     UnknownKey,
-    /// The key doesn't take this value.
+    /// The key doesn't take this value: a truth value that isn't `true` or `false`, a number that isn't its decimal form, or a value
+    /// without a second `=` where one is wanted.
     BadValue,
 }
 
-/// A bad word: its place, from 0, and what is wrong with it.
+/// A bad word, the first of the command line.
 #[derive(Clone, Copy, Debug, PartialEq, Eq)]
 pub struct BadWord {
+    /// Its place, from 0; the program's own name isn't counted.
     pub place: u64,
+    /// What is wrong with it.
     pub cause: WordCause,
 }
 
-/// What a run is to do.
+/// What a run is to do, by the first word.
 #[derive(Drop, Debug)]
 pub enum Job {
-    /// Compile the sources, and archive them into the library of this name.
+    /// Compile the sources, and archive them into the library of this name, which is as the words have it: the run checks it.
     Compile(Text),
 }
 
-/// What words ask for.
+/// What words ask for: the run, and the settings for it.
 #[derive(Drop)]
 pub struct Request<W: World> {
+    /// What to do.
     pub job: Job,
+    /// The settings that the words behind the name set; it has inherited no variable yet.
     pub build: Build<W>,
 }
 
-/// Why words were not read.
+/// Why words were not read. Nothing of them is kept then.
 #[derive(Clone, Copy, Debug, PartialEq, Eq)]
 pub enum ReadError {
-    /// This is the first bad word.
+    /// This is the first bad word; those behind it weren't looked at.
     Bad(BadWord),
-    /// Memory was refused.
+    /// Memory was refused; the words may be right.
     NoMemory,
 }
 
