@@ -19,6 +19,7 @@ use std::sync::Wait;
 /// A compiler with its family.
 #[derive(Drop, Debug)]
 pub struct Compiler {
+    /// Its path, its wrapper, and the words behind its name in `CC` or `CXX`.
     pub choice: Choice,
     /// The form of words that it takes.
     pub family: ToolFamily,

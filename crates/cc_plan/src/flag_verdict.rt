@@ -83,7 +83,9 @@ fn verdict_on<W: World, H: Host<W>>(
 /// The verdict of a compiler on a flag.
 #[derive(Drop, Debug)]
 pub struct FlagSupport {
+    /// The compiler of the settings. The one that was asked has its path alone, without wrapper and words.
     pub compiler: Compiler,
+    /// Yes or no; `Missing` where the program can't be found, `Unanswered` where it couldn't be asked.
     pub verdict: Verdict,
 }
 
@@ -160,10 +162,12 @@ fn plan_support<W: World, H: Host<W>>(
     })
 }
 
-/// The compiler of these settings, and its verdict on a flag. Warnings of how the compiler was found are printed last, where they are wanted.
+/// The compiler of these settings, and its verdict on a flag: it is asked by compiling a source of one line with the flag, at level 0 and
+/// without what Cargo hands down. A flag is for the linker where Visual Studio's compiler is given `/link`: no, without a question.
+/// Warnings of how the compiler was found are printed last, where they are wanted.
 ///
 /// Refused where the target is set nowhere or isn't known, or the command that tries the flag would be: as where the host is set nowhere;
-/// and by a fault of the host that prints.
+/// by a fault of the host that prints; and for memory. The answers until then stay in the sight.
 pub fn flag_support<W: World, H: Host<W>>(
     rt: &impl Wait,
     alloc: Global,

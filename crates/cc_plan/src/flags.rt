@@ -124,7 +124,9 @@ impl Flags {
 /// A macro, with its value where it has one.
 #[derive(Drop, Debug)]
 pub struct Definition {
+    /// Its name, as the user has it: nothing is checked.
     pub name: Text,
+    /// Its value, or none, which the preprocessor reads as 1.
     pub value: Option<Text>,
 }
 

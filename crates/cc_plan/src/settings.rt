@@ -42,25 +42,42 @@ pub struct BuildConfig {
     pub archiver: Option<Text>,
     /// The C++ library that the compiler is given by name.
     pub cpp_set_stdlib: Option<Text>,
+    /// Whether the compiler is told `-shared`; not where it isn't set (GCC's manual, "Options for Linking").
     pub shared_flag: Option<bool>,
+    /// Whether the compiler is told `-static`; where it isn't set, as Cargo's target links its C library.
     pub static_flag: Option<bool>,
+    /// Whether warnings are on; where it isn't set, they are unless the environment has flags of its own (GCC's manual, "Options to
+    /// Request or Suppress Warnings").
     pub warnings: Option<bool>,
+    /// Whether `-Wextra` is given; where it isn't set, as `warnings`.
     pub extra_warnings: Option<bool>,
+    /// Whether frame pointers are kept; where it isn't set, they are with debug information (GCC's manual, "Options That Control
+    /// Optimization").
     pub force_frame_pointer: Option<bool>,
-    /// Whether the commands are printed before they run, and how they ended.
+    /// Whether the commands are printed before they run, and how they ended; where it isn't set, as `CC_ENABLE_DEBUG_OUTPUT` says.
     pub cargo_debug: Option<bool>,
+    /// Whether code can lie anywhere in memory; where it isn't set, as the target wants it (GCC's manual, "Options for Code Generation
+    /// Conventions").
     pub pic: Option<bool>,
+    /// Whether calls of shared libraries may go by the procedure linkage table; they may where it isn't set.
     pub use_plt: Option<bool>,
+    /// Whether Visual Studio's C library is linked statically; where it isn't set, as Cargo's target links it.
     pub static_crt: Option<bool>,
-    /// Whether flags of the environment are quoted as a shell quotes words.
+    /// Whether flags of the environment are split and quoted as a shell does; where it isn't set, as `CC_SHELL_ESCAPED_FLAGS` says.
     pub shell_escaped_flags: Option<bool>,
+    /// Whether the words that a target, a level and debug information bring are left out; `CRATE_CC_NO_DEFAULTS` leaves them out too.
     pub no_default_flags: bool,
+    /// Whether CodeView debug information of `clang-cl` names no folder and no command line of the build.
     pub reproducible_codeview: bool,
+    /// Whether the sources are C++, and the compiler and its flags those of `CXX` and `CXXFLAGS`.
     pub cpp: bool,
+    /// Whether a warning is an error: `-Werror`.
     pub warnings_into_errors: bool,
+    /// Whether warnings, and what commands write on standard error, are printed as lines that Cargo shows; else the latter is dropped.
     pub cargo_warnings: bool,
     /// Whether the standard output of the commands goes where that of the program goes.
     pub cargo_output: bool,
+    /// Whether Cargo is to run the script again where a variable changes. No line says so yet, so it changes nothing.
     pub emit_rerun_if_env_changed: bool,
     /// Whether the flags of Rust code are taken that Cargo hands down.
     pub inherit_rustflags: bool,
@@ -118,7 +135,7 @@ impl BuildConfig {
         }
     }
 
-    /// Second settings, equal to these.
+    /// Second settings, equal to these. Only want of memory refuses; these stay as they are.
     pub fn try_clone(&self) -> Mem<BuildConfig>
         ensures { IfOk result (λ set. set ≡ self.now) }
     {

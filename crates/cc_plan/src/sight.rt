@@ -17,8 +17,11 @@ use std::sync::Wait;
 /// answers go on by those that it got, also where it is refused.
 #[derive(Drop)]
 pub struct Sight<'a, W: World, H: Host<W>> {
+    /// The host that is asked, and whose log tells it.
     pub host: &'a mut H,
+    /// The verdicts that are kept of the host's world, also from other calls.
     pub caches: &'a Caches<W>,
+    /// The questions of this public call so far, with their verdicts: none of them is asked again.
     pub answers: &'a mut Answers,
 }
 

@@ -356,10 +356,11 @@ pub(crate) fn plan_tool<W: World, H: Host<W>>(
     })
 }
 
-/// The tool of these settings in this environment. Its warnings are printed last, where they are wanted.
+/// The tool of these settings in this environment: the program with its wrapper, the words that each source is compiled with, and the
+/// variables that its commands get besides. Its warnings are printed last, where they are wanted.
 ///
-/// Refused where the optimisation level, the target or the host is set nowhere, the target isn't known, a word of the target is refused, or
-/// a flag of Rust code is wrong; and by a fault of the host that prints.
+/// Refused where the optimisation level, the target or the host is set nowhere, the target isn't known, a word of the target is refused,
+/// or a flag of Rust code is wrong; by a fault of the host that prints; and for memory. The answers until then stay in the sight.
 pub fn tool_of<W: World, H: Host<W>>(
     rt: &impl Wait,
     alloc: Global,

@@ -30,7 +30,9 @@ pub struct Shows {
 /// How many turns a run may still make, and how many were made. A turn asks a host for the news of its children.
 #[derive(Clone, Copy, Debug, PartialEq, Eq)]
 pub struct Turns {
+    /// How many may still be made.
     pub left: u64,
+    /// How many were made so far.
     pub used: u64,
 }
 

@@ -206,7 +206,7 @@ impl Tool {
         Envs::new(&self.entries)
     }
 
-    /// The family.
+    /// The family of compilers that it is of, which tells the form of words that it takes. It takes no memory.
     pub fn family(&self) -> ToolFamily
         ensures { result ≡ self.now.family }
     {
@@ -279,28 +279,28 @@ impl Tool {
         join_texts(self.alloc, &self.args, ' ')
     }
 
-    /// Whether it takes the words of GCC and isn't Clang.
+    /// Whether it takes the words of GCC and isn't Clang. It takes no memory.
     pub fn is_like_gnu(&self) -> bool
         ensures { result ≡ is_gnu self.now.family }
     {
         is_gnu(self.family)
     }
 
-    /// Whether it is Clang in its own form.
+    /// Whether it is Clang in its own form, that of GCC's words; `zig cc` is too. It takes no memory.
     pub fn is_like_clang(&self) -> bool
         ensures { result ≡ is_clang self.now.family }
     {
         is_clang(self.family)
     }
 
-    /// Whether it takes the words of the Visual Studio compiler.
+    /// Whether it takes the words of the Visual Studio compiler, as `cl.exe` and `clang-cl` do. It takes no memory.
     pub fn is_like_msvc(&self) -> bool
         ensures { result ≡ is_visual_studio self.now.family }
     {
         is_visual_studio(self.family)
     }
 
-    /// Whether it is Clang in the form of the Visual Studio compiler.
+    /// Whether it is Clang in the form of the Visual Studio compiler, `clang-cl`. It takes no memory.
     pub fn is_like_clang_cl(&self) -> bool
         ensures { result ≡ is_clang_cl self.now.family }
     {
