@@ -90,8 +90,8 @@ impl<W: World> Build<W> {
     }
 
     /// Adds a word last, as `flag` does, that is left out without a warning where the compiler doesn't take it: the compile run asks it
-    /// first, by compiling a source of one line. For flags that not each release knows (Clang's "Diagnostic flags in Clang"). Refused
-    /// only for memory; the build is as before.
+    /// first, by compiling a source of one line in the out dir, which has to be an absolute path. For flags that not each release knows
+    /// (Clang's "Diagnostic flags in Clang"). Refused only for memory; the build is as before.
     pub fn flag_if_supported(&mut self, flag: &str) -> Result<(), Error>
         ensures ok { OnOk result (Sets self.old self.new
             (λ c. record c { flags = c.flags ++ IfSupported flag.now ∷ [] })) }

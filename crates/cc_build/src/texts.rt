@@ -100,7 +100,8 @@ impl<W: World> Build<W> {
     }
 
     /// Sets the folder of the objects, of the library, and of the files that compilers are asked with. The compile run makes it; it
-    /// refuses an empty path. Unset, it is `OUT_DIR`. Refused only for memory; the build is as before.
+    /// refuses an empty path. Flags are tried in that folder, so where the path is relative, as Cargo's never is, each counts as not
+    /// taken. Unset, it is `OUT_DIR`. Refused only for memory; the build is as before.
     pub fn out_dir(&mut self, out_dir: &str) -> Result<(), Error>
         ensures ok { OnOk result (Sets self.old self.new
             (λ c. record c { out_dir = Some out_dir.now })) }

@@ -80,7 +80,7 @@ fn verdict_on<W: World, H: Host<W>>(
     Ok(verdict)
 }
 
-/// The verdict of a compiler on a flag.
+/// The compiler of some settings, and its verdict on a flag.
 #[derive(Drop, Debug)]
 pub struct FlagSupport {
     /// The compiler of the settings. The one that was asked has its path alone, without wrapper and words.

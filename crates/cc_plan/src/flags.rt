@@ -17,7 +17,7 @@ pub enum BuildFlag {
 }
 
 impl BuildFlag {
-    /// A second flag, equal to this one.
+    /// A second flag, equal to this one. Only want of memory refuses.
     pub fn try_clone(&self) -> Mem<BuildFlag>
         ensures { IfOk result (λ flag. flag ≡ self.now) }
     {
@@ -95,7 +95,7 @@ impl Flags {
         self.flags.len()
     }
 
-    /// The flag at a place, from 0, or none past the end.
+    /// The flag at a place, from 0, lent, or none past the end. It takes no memory.
     pub fn get(&self, place: usize) -> Option<&BuildFlag>
         ensures { option_copied result ≡ slice_get self.now place }
     {
@@ -109,7 +109,7 @@ impl Flags {
         self.flags.as_slice()
     }
 
-    /// A second list of the same flags.
+    /// A second list of the same flags. Only want of memory refuses; this list stays as it is.
     pub fn try_clone(&self) -> Mem<Flags>
         ensures { IfOk result (λ flags. flags ≡ self.now) }
     {
@@ -131,7 +131,7 @@ pub struct Definition {
 }
 
 impl Definition {
-    /// A second macro, equal to this one.
+    /// A second macro, equal to this one. Only want of memory refuses.
     pub fn try_clone(&self) -> Mem<Definition>
         ensures { IfOk result (λ definition. definition ≡ self.now) }
     {
@@ -187,7 +187,7 @@ impl Definitions {
         self.definitions.len()
     }
 
-    /// The macro at a place, from 0, or none past the end.
+    /// The macro at a place, from 0, lent, or none past the end. It takes no memory.
     pub fn get(&self, place: usize) -> Option<&Definition>
         ensures { option_copied result ≡ slice_get self.now place }
     {
@@ -201,7 +201,7 @@ impl Definitions {
         self.definitions.as_slice()
     }
 
-    /// A second list of the same macros.
+    /// A second list of the same macros. Only want of memory refuses; this list stays as it is.
     pub fn try_clone(&self) -> Mem<Definitions>
         ensures { IfOk result (λ definitions. definitions ≡ self.now) }
     {

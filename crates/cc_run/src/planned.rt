@@ -15,7 +15,7 @@ pub struct Planned {
     pub message: Option<CompileCommand>,
 }
 
-/// What of a run is shown.
+/// What of a run is shown: on its host as lines, and of the commands' own standard output.
 #[derive(Clone, Copy, Debug, PartialEq, Eq)]
 pub struct Shows {
     /// The lines of each standard error, and a warning of each failure, as lines `cargo:warning=..`. Where it is off,
