@@ -159,9 +159,9 @@ impl<W: World> Build<W> {
     }
 
     /// Whether the compiler of this build takes a flag, by compiling a source of one line with it and no other flag of the build, in the
-    /// out dir, which has to be an absolute path, else in the folder for temporary files. False also where the flag is `/link` and the
-    /// compiler Visual Studio's, since it is for the linker. Prints the warnings of how the compiler was found, where they are on. The
-    /// verdict is kept, and serves later calls of this build and its clones.
+    /// out dir or, where none is set, the folder for temporary files; in a relative folder no flag is taken. False also where the flag is
+    /// `/link` and the compiler Visual Studio's, since it is for the linker. Prints the warnings of how the compiler was found, where
+    /// they are on. The verdict is kept, and serves later calls of this build and its clones.
     ///
     /// Refused with IOError where the compiler is missing, could not be asked, or a warning could not be printed; with the error of the
     /// settings where the target or the host is set nowhere, the target isn't known, or the command that tries the flag would be refused;
