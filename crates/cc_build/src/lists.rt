@@ -105,8 +105,8 @@ impl<W: World> Build<W> {
 
     /// Has paths that begin with the folder `from` told as beginning with `to`, in macros as `__FILE__` and in debug information, so that
     /// objects don't name the machine: `-fmacro-prefix-map` (GCC's manual, "Options Controlling the Preprocessor") and
-    /// `-fdebug-prefix-map` ("Options for Debugging Your Program"), as far as the compiler takes them; it is warned of the others. The
-    /// caller sees to it that no `=` stands in `from`, which would end it. Refused only for memory; the build is as before.
+    /// `-fdebug-prefix-map` ("Options for Debugging Your Program"), as far as the compiler takes them; a warning tells what it doesn't
+    /// take. The caller sees to it that no `=` stands in `from`, which would end it. Refused only for memory; the build is as before.
     pub fn remap_source_path(&mut self, from: &str, to: &str) -> Result<(), Error>
         requires { lacks_equals from.now ≡ true }
         ensures ok { OnOk result (Sets self.old self.new (λ c. record c {

@@ -61,8 +61,9 @@ impl<W: World> Build<W> {
     }
 
     /// Sets the optimisation level as text, in Cargo's words: `0` to `3`, `s` or `z` (Cargo's book, "Profiles"). GCC and Clang get `-O`
-    /// and the text, but GCC `-Os` for `z`; Visual Studio's compilers `-O1` for `1`, `s` and `z`, `-O2` for `2` and `3`. Other texts
-    /// aren't looked at. Unset, it is `OPT_LEVEL`. Refused only for memory; the build is as before.
+    /// and the text, whatever it is, but GCC `-Os` for `z`; Visual Studio's compilers `-O1` for `1`, `s` and `z`, `-O2` for `2` and `3`,
+    /// and no word for others (GCC's manual, "Options That Control Optimization"). Unset, it is `OPT_LEVEL`. Refused only for memory; the
+    /// build is as before.
     pub fn opt_level_str(&mut self, opt_level: &str) -> Result<(), Error>
         ensures ok { OnOk result (Sets self.old self.new
             (λ c. record c { opt_level = Some opt_level.now })) }

@@ -1,7 +1,7 @@
 //! The plan of a compile run: settings become commands, archives and link lines, as values.
 //!
-//! Stands on `cc_text`, `cc_env`, `cc_target`, `cc_host` and `cc_tool`. A plan is a function of settings, environment and
-//! the verdicts of questions; a call that plans asks those that it needs through a `Sight`, and its answer is settled by them.
+//! Stands on `cc_text`, `cc_env`, `cc_target`, `cc_flags`, `cc_host` and `cc_tool`. A plan is a function of settings, environment
+//! and the verdicts of questions; a call that plans asks those that it needs through a `Sight`, and its answer is settled by them.
 //! The crate above uses one thing: each planned value equals its definition in `specs/`, and each refusal comes exactly where
 //! `specs/Refusal.antt` says.
 #![tactic(auto)]
