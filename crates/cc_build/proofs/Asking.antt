@@ -10,31 +10,43 @@ use Rattle.cc_host.specs.Part.{since}
 use Rattle.cc_host.specs.Question.{Look, Answer, answers, Agrees, Settles, Holds}
 use Rattle.cc_tool.specs.Asked.{Asked}
 use Rattle.cc_tool.specs.Asks.{Asks}
+use Rattle.cc_tool.specs.Own.{AnswersAmong}
 use Rattle.cc_tool.specs.Probing.{is_asked}
 use Rattle.cc_tool.proofs.Asides.{asked_by}
 use Rattle.cc_plan.specs.declared.error.PlanError.{PlanError}
 use Rattle.cc_plan.specs.declared.error.PlanError.TheVariants.{NoMemory as WantsMemory}
 use Rattle.cc_plan.specs.declared.settings.BuildConfig.{BuildConfig}
+use Rattle.cc_build.specs.Build.{BuildSeen, probes}
 use Rattle.cc_build.specs.Error.{ErrorSeen, no_memory}
 use Rattle.cc_build.specs.Refusal.{plan_error}
 use Rattle.cc_build.proofs.Going.{part_is}
 use Rattle.cc_build.proofs.Stages.{plan_cause}
 
-module _ (steady : Bool) (world : Question → Outcome) (dir : List ℕ) (old mid new : List Event) (none known : List Answer) (asks : Asks steady world dir old mid none known) (is : new ≡ mid) (empty : none ≡ []) where
+module _ (steady : Bool) (world : Question → Outcome) (dir : List ℕ) (questions : Look → Question → Type 0) (old mid new : List Event) (none known : List Answer) (asks : Asks steady world dir old mid none known) (own : Holds known (λ look. AnswersAmong (questions look) (since old mid))) (is : new ≡ mid) (empty : none ≡ []) where
   from_nothing : Asks steady world dir old mid [] known
   from_nothing = subst (λ (l : List Answer). Asks steady world dir old mid l known) empty asks
 
   pub quiet_at : list_all is_asked (since old new) ≡ true
   quiet_at = subst (λ (l : List Event). list_all is_asked l ≡ true) (sym (ap (since old) is ∙ part_is old mid asks.part asks.extends)) asks.asked
 
-  pub asked_at : Asked steady world dir (since old new)
-  asked_at = subst (λ (l : List Event). Asked steady world dir (since old l)) (sym is) (asked_by steady world dir old mid known from_nothing).0
+  pub asked_at : Asked steady world dir questions (since old new)
+  asked_at = subst (λ (l : List Event). Asked steady world dir questions (since old l)) (sym is) (asked_by steady world dir questions old mid known from_nothing own).0
 
   -- what the answers of the call settle holds under those of its part
   pub under_answers : {P : Look → Type 0} → ((look : Look) → Agrees look known → P look) → Holds (answers (since old new)) P
   under_answers so =
-      let same : answers (since old new) ≡ known = ap (λ l. answers (since old l)) is ∙ sym (asked_by steady world dir old mid known from_nothing).1 in
+      let same : answers (since old new) ≡ known = ap (λ l. answers (since old l)) is ∙ sym (asked_by steady world dir questions old mid known from_nothing own).1 in
       record { under = λ look agree. so look (subst (Agrees look) same agree) }
+
+-- what the fields of a build are seen as is what the build is seen as
+pub asked_seen : (steady : Bool) (world : Question → Outcome) (asks : BuildSeen → Look → Question → Type 0) (part : List Event) (inside seen : BuildSeen) → inside ≡ seen → Asked steady world (probes inside) (asks inside) part → Asked steady world (probes seen) (asks seen) part
+asked_seen steady world asks part inside seen same asked = subst (λ (b : BuildSeen). Asked steady world (probes b) (asks b) part) same asked
+
+pub holds_seen : (known : List Answer) (P : BuildSeen → Look → Type 0) (inside seen : BuildSeen) → inside ≡ seen → Holds known (P inside) → Holds known (P seen)
+holds_seen known P inside seen same h = subst (λ (b : BuildSeen). Holds known (P b)) same h
+
+pub ends_seen : (known : List Answer) (part : List Event) (P : BuildSeen → Look → List Event → Type 0) (inside seen : BuildSeen) → inside ≡ seen → Holds known (λ look. P inside look part) → Holds known (λ look. P seen look part)
+ends_seen known part P inside seen same h = subst (λ (b : BuildSeen). Holds known (λ look. P b look part)) same h
 
 -- the error of a refused plan, by its cause under the answers
 pub plan_cause_under : (set : BuildConfig) (env : EnvSeen) (output : List ℕ) (error : PlanError) (e : ErrorSeen) (known : List Answer) (r : Look → Option PlanError) (look : Look) → Agrees look known → (e ≡ no_memory) ⊎ (e ≡ plan_error set env output error) → (error ≡ WantsMemory) ⊎ Settles known r (Some error) → (e ≡ no_memory) ⊎ (option_map (plan_error set env output) (r look) ≡ Some e)

@@ -244,7 +244,7 @@ quiet_folder : (set : BuildConfig) (env : EnvSeen) → AreQuiet (folder_stages s
 unfolding folder_stages
 quiet_folder set env = quiet_calls (folder_steps set env)
 
-module _ (set : BuildConfig) (env : EnvSeen) (told : Bool) (look : Look) (output : List ℕ) where
+module _ (set : BuildConfig) (env : EnvSeen) (warns_of_link : Bool) (look : Look) (output : List ℕ) where
   abbrev pub sources : List Planned
   sources = planned Compile (compiles_of set env look)
 
@@ -252,25 +252,31 @@ module _ (set : BuildConfig) (env : EnvSeen) (told : Bool) (look : Look) (output
   pub source_count : length sources ≡ length set.files
   source_count = length-map (compiles_of set env look) _ ∙ length-map (objects_of set env) _ ∙ length-map set.files _
 
-  compiled : 2 ≤ length set.files → compile_stages set env told look ≡ calls (prints Warning (warning_lines set env told look)) ++ RunsAll sources ∷ []
+  compiled : 2 ≤ length set.files → compile_stages set env warns_of_link look ≡ calls (prints Warning (warning_lines set env warns_of_link look)) ++ RunsAll sources ∷ []
   unfolding compile_stages
-  compiled many = ap (λ l. calls (prints Warning (warning_lines set env told look)) ++ l) (two_beside sources (subst (λ (n : ℕ). 2 ≤ n) (sym source_count) many))
+  compiled many = ap (λ l. calls (prints Warning (warning_lines set env warns_of_link look)) ++ l) (two_beside sources (subst (λ (n : ℕ). 2 ≤ n) (sym source_count) many))
 
-  pub shape_of : 2 ≤ length set.files → AreQuiet (planned_stages set env told look output) ⊎ Shape sources (planned_stages set env told look output)
+  pub shape_of : 2 ≤ length set.files → AreQuiet (planned_stages set env warns_of_link look output) ⊎ Shape sources (planned_stages set env warns_of_link look output)
   unfolding planned_stages late_stages
   shape_of many =
       let same = compiled many in
       rw same
-      (by_checks (is_some (early_refusal set env output)) (is_disabled env) (is_some (late_refusal set env look)) (folder_stages set env) (calls (prints Warning (warning_lines set env told look))) sources
+      (by_checks (is_some (early_refusal set env output)) (is_disabled env) (is_some (late_refusal set env look)) (folder_stages set env) (calls (prints Warning (warning_lines set env warns_of_link look))) sources
       (removal_stages set env output ++ (archive_stages set env output ++ link_stages set env output))
-      (quiet_folder set env) (quiet_calls (prints Warning (warning_lines set env told look))) (none_behind set env output))
+      (quiet_folder set env) (quiet_calls (prints Warning (warning_lines set env warns_of_link look))) (none_behind set env output))
+
+-- commands of such stages run in one stretch of the part
+pub shaped_beside : (t : Terms) (ps : List Planned) (stages : List Stage) (part : List Event) (x z : Means) → ArePlain stages → AreQuiet stages ⊎ Shape ps stages → Partly t stages part x z → RunBeside t.total (length ps) part
+shaped_beside t ps stages part x z plain (inl q) p = resting t.total (length ps) part (partly_untried t stages part x z q plain p) (partly_turnless t stages part x z q p)
+shaped_beside t ps stages part x z plain (inr s) p = beside_in t ps s.first s.more part x z s.quiet (subst ArePlain s.are plain) s.others (subst (λ (l : List Stage). Partly t l part x z) s.are p)
+
+-- they stay such stages behind a call of the host
+pub shape_behind : (ps : List Planned) (step : Step) (stages : List Stage) → AreQuiet stages ⊎ Shape ps stages → AreQuiet (Calls step ∷ stages) ⊎ Shape ps (Calls step ∷ stages)
+shape_behind ps step stages (inl q) = inl (refl, q)
+shape_behind ps step stages (inr s) = inr (record { first = Calls step ∷ s.first; more = s.more; are = ap (λ l. Calls step ∷ l) s.are; quiet = (refl, s.quiet); others = s.others })
 
 -- the sources are compiled in one stretch of the part
-pub compiled_beside : (t : Terms) (set : BuildConfig) (env : EnvSeen) (told : Bool) (look : Look) (output : List ℕ) (part : List Event) (x z : Means) → ArePlain (planned_stages set env told look output) → 2 ≤ length set.files → Partly t (planned_stages set env told look output) part x z → RunBeside t.total (length set.files) part
-compiled_beside t set env told look output part x z plain many p = by_shape (shape_of set env told look output many)
-  where
-    by_shape : AreQuiet (planned_stages set env told look output) ⊎ Shape (sources set env told look output) (planned_stages set env told look output) → RunBeside t.total (length set.files) part
-    by_shape (inl q) = resting t.total (length set.files) part (partly_untried t (planned_stages set env told look output) part x z q plain p) (partly_turnless t (planned_stages set env told look output) part x z q p)
-    by_shape (inr s) =
-        subst (λ (n : ℕ). RunBeside t.total n part) (source_count set env told look output)
-        (beside_in t (sources set env told look output) s.first s.more part x z s.quiet (subst ArePlain s.are plain) s.others (subst (λ (l : List Stage). Partly t l part x z) s.are p))
+pub compiled_beside : (t : Terms) (set : BuildConfig) (env : EnvSeen) (warns_of_link : Bool) (look : Look) (output : List ℕ) (part : List Event) (x z : Means) → ArePlain (planned_stages set env warns_of_link look output) → 2 ≤ length set.files → Partly t (planned_stages set env warns_of_link look output) part x z → RunBeside t.total (length set.files) part
+compiled_beside t set env warns_of_link look output part x z plain many p =
+    subst (λ (n : ℕ). RunBeside t.total n part) (source_count set env warns_of_link look output)
+    (shaped_beside t (sources set env warns_of_link look output) (planned_stages set env warns_of_link look output) part x z plain (shape_of set env warns_of_link look output many) p)

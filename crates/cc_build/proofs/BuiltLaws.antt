@@ -51,14 +51,14 @@ no_error set env look output h =
     record { early = unmapped (plan_error set env output) (early_refusal set env output) n.0; enabled = late.0; late = unmapped (plan_error set env output) (late_refusal set env look) late.1 }
 
 -- what is planned where nothing is refused: the folder, questions and the compile commands, and then the rest
-accepted_stages : (set : BuildConfig) (env : EnvSeen) (told : Bool) (look : Look) (output : List ℕ) → Accepted set env look output → planned_stages set env told look output ≡ (folder_stages set env ++ Asks ∷ compile_stages set env told look) ++ (removal_stages set env output ++ (archive_stages set env output ++ link_stages set env output))
+accepted_stages : (set : BuildConfig) (env : EnvSeen) (warns_of_link : Bool) (look : Look) (output : List ℕ) → Accepted set env look output → planned_stages set env warns_of_link look output ≡ (folder_stages set env ++ Asks ∷ compile_stages set env warns_of_link look) ++ (removal_stages set env output ++ (archive_stages set env output ++ link_stages set env output))
 unfolding planned_stages late_stages
-accepted_stages set env told look output a =
+accepted_stages set env warns_of_link look output a =
     let early : early_refusal set env output ≡ None = a.early in
     let enabled : is_disabled env ≡ false = a.enabled in
     let late : late_refusal set env look ≡ None = a.late in
-    let joined : planned_stages set env told look output ≡ folder_stages set env ++ Asks ∷ run_stages set env told look output = rw (early, enabled, late) refl in
-    joined ∙ sym (append_assoc (folder_stages set env) (Asks ∷ compile_stages set env told look) (removal_stages set env output ++ (archive_stages set env output ++ link_stages set env output)))
+    let joined : planned_stages set env warns_of_link look output ≡ folder_stages set env ++ Asks ∷ run_stages set env warns_of_link look output = rw (early, enabled, late) refl in
+    joined ∙ sym (append_assoc (folder_stages set env) (Asks ∷ compile_stages set env warns_of_link look) (removal_stages set env output ++ (archive_stages set env output ++ link_stages set env output)))
 
 -- ---- the commands of the stages
 
@@ -66,10 +66,10 @@ folder_commands : (set : BuildConfig) (env : EnvSeen) → commands_in (folder_st
 unfolding folder_stages
 folder_commands set env = commands_calls (folder_steps set env)
 
-compile_commands : (set : BuildConfig) (env : EnvSeen) (told : Bool) (look : Look) → commands_in (compile_stages set env told look) ≡ planned Compile (compiles_of set env look)
+compile_commands : (set : BuildConfig) (env : EnvSeen) (warns_of_link : Bool) (look : Look) → commands_in (compile_stages set env warns_of_link look) ≡ planned Compile (compiles_of set env look)
 unfolding compile_stages
-compile_commands set env told look =
-    let lines = prints Warning (warning_lines set env told look) in
+compile_commands set env warns_of_link look =
+    let lines = prints Warning (warning_lines set env warns_of_link look) in
     let cmds = planned Compile (compiles_of set env look) in
     commands_then (calls lines) (beside cmds) ∙ ap₂ (λ u v. u ++ v) (commands_calls lines) (commands_beside cmds)
 
@@ -80,9 +80,9 @@ archive_commands set env output =
     let second = planned Index (indexes_of set env output) in
     commands_then (in_turn first) (in_turn second) ∙ ap₂ (λ u v. u ++ v) (commands_in_turn first) (commands_in_turn second)
 
-source_commands : (set : BuildConfig) (env : EnvSeen) (told : Bool) (look : Look) → commands_in (folder_stages set env ++ Asks ∷ compile_stages set env told look) ≡ planned Compile (compiles_of set env look)
-source_commands set env told look =
-    commands_then (folder_stages set env) (Asks ∷ compile_stages set env told look) ∙ ap₂ (λ u v. u ++ v) (folder_commands set env) (compile_commands set env told look)
+source_commands : (set : BuildConfig) (env : EnvSeen) (warns_of_link : Bool) (look : Look) → commands_in (folder_stages set env ++ Asks ∷ compile_stages set env warns_of_link look) ≡ planned Compile (compiles_of set env look)
+source_commands set env warns_of_link look =
+    commands_then (folder_stages set env) (Asks ∷ compile_stages set env warns_of_link look) ∙ ap₂ (λ u v. u ++ v) (folder_commands set env) (compile_commands set env warns_of_link look)
 
 planned_length : (role : Role) (cmds : List CommandSeen) → length (planned role cmds) ≡ length cmds
 planned_length role cmds = length-map cmds (λ cmd. record { role = role; cmd = cmd; message = None })
@@ -124,28 +124,28 @@ removal_is t set env output part x y w =
 glued : (part runs back removal rest archives lines : List Event) (x : Event) → part ≡ runs ++ back → back ≡ removal ++ rest → removal ≡ x ∷ [] → rest ≡ archives ++ lines → part ≡ runs ++ x ∷ archives ++ lines
 glued part runs back removal rest archives lines x e1 e2 e3 e4 = e1 ∙ ap (λ l. runs ++ l) (e2 ∙ ap₂ (λ u v. u ++ v) e3 e4) ∙ sym (append_assoc runs (x ∷ archives) lines)
 
-pub built : (t : Terms) (set : BuildConfig) (env : EnvSeen) (told : Bool) (look : Look) (output : List ℕ) (part : List Event) (x y : Means) → refusal_error set env look output ≡ None → Went t (planned_stages set env told look output) part x y → Built t set env look output part
-built t set env told look output part x y h w =
+pub built : (t : Terms) (set : BuildConfig) (env : EnvSeen) (warns_of_link : Bool) (look : Look) (output : List ℕ) (part : List Event) (x y : Means) → refusal_error set env look output ≡ None → Went t (planned_stages set env warns_of_link look output) part x y → Built t set env look output part
+built t set env warns_of_link look output part x y h w =
     let accepted : Accepted set env look output = no_error set env look output h in
-    let sources = folder_stages set env ++ Asks ∷ compile_stages set env told look in
+    let sources = folder_stages set env ++ Asks ∷ compile_stages set env warns_of_link look in
     let archive = archive_stages set env output in
     let link = link_stages set env output in
-    let all : Went t (sources ++ (removal_stages set env output ++ (archive ++ link))) part x y = subst (λ (stages : List Stage). Went t stages part x y) (accepted_stages set env told look output accepted) w in
+    let all : Went t (sources ++ (removal_stages set env output ++ (archive ++ link))) part x y = subst (λ (stages : List Stage). Went t stages part x y) (accepted_stages set env warns_of_link look output accepted) w in
     let c1 = went_split t sources (removal_stages set env output ++ (archive ++ link)) part x y all in
     let c2 = went_split t (removal_stages set env output) (archive ++ link) c1.1 c1.2 y c1.3.2 in
     let c3 = went_split t archive link c2.1 c2.2 y c2.3.2 in
     let removal = removal_is t set env output c2.0 c1.2 c2.2 c2.3.1 in
     record {
       accepted = accepted;
-      told = told;
+      warns_of_link = warns_of_link;
       runs = c1.0;
       how = removal.0;
       archives = c3.0;
       lines = c3.1;
       cut = glued part c1.0 c1.1 c2.0 c2.1 c3.0 c3.1 (Removed (library_of set env output) removal.0) c1.3.0 c2.3.0 removal.1 c3.3.0;
       compiled = (x, c1.2, c1.3.1);
-      compiles = started_from t sources c1.0 x c1.2 (planned Compile (compiles_of set env look)) c1.3.1 (source_commands set env told look);
-      ended = ended_from t sources c1.0 x c1.2 (planned Compile (compiles_of set env look)) (length (compiles_of set env look)) c1.3.1 (source_commands set env told look) (planned_length Compile (compiles_of set env look));
+      compiles = started_from t sources c1.0 x c1.2 (planned Compile (compiles_of set env look)) c1.3.1 (source_commands set env warns_of_link look);
+      ended = ended_from t sources c1.0 x c1.2 (planned Compile (compiles_of set env look)) (length (compiles_of set env look)) c1.3.1 (source_commands set env warns_of_link look) (planned_length Compile (compiles_of set env look));
       archived = (c2.2, c3.2, c3.3.1);
       writes = started_from t archive c3.0 c2.2 c3.2 (planned Archive (archives_of set env output) ++ planned Index (indexes_of set env output)) c3.3.1 (archive_commands set env output);
       written = ended_from t archive c3.0 c2.2 c3.2 (planned Archive (archives_of set env output) ++ planned Index (indexes_of set env output)) (length (archives_of set env output ++ indexes_of set env output)) c3.3.1 (archive_commands set env output) (both_length (archives_of set env output) (indexes_of set env output));
@@ -153,6 +153,6 @@ built t set env told look output part x y h w =
     }
 
 -- a run that answers Ok is built
-pub built_on_ok : {T : Type 0} (t : Terms) (set : BuildConfig) (env : EnvSeen) (told : Bool) (look : Look) (output : List ℕ) (part : List Event) (r : Result T ErrorSeen) (x y : Means) → Ends t (refusal_error set env look output) (planned_stages set env told look output) part r x y → OnOk r (Built t set env look output part)
-built_on_ok t set env told look output part (Ok v) x y o = built t set env told look output part x y o.0 o.1
-built_on_ok t set env told look output part (Err e) x y o = tt
+pub built_on_ok : {T : Type 0} (t : Terms) (set : BuildConfig) (env : EnvSeen) (warns_of_link : Bool) (look : Look) (output : List ℕ) (part : List Event) (r : Result T ErrorSeen) (x y : Means) → Ends t (refusal_error set env look output) (planned_stages set env warns_of_link look output) part r x y → OnOk r (Built t set env look output part)
+built_on_ok t set env warns_of_link look output part (Ok v) x y o = built t set env warns_of_link look output part x y o.0 o.1
+built_on_ok t set env warns_of_link look output part (Err e) x y o = tt

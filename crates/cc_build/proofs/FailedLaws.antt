@@ -18,7 +18,6 @@ use Rattle.cc_plan.specs.declared.error.ArgumentCause.TheVariants.{Output, OutDi
 use Rattle.cc_plan.specs.declared.error.PlanError.{PlanError}
 use Rattle.cc_plan.specs.declared.error.PlanError.TheVariants.{Argument, NotSet, UnknownTarget, QnxArch, Flag, Host, NoMemory as WantsMemory}
 use Rattle.cc_plan.specs.declared.settings.BuildConfig.{BuildConfig}
-use Rattle.cc_plan.specs.Plan.{compiles_of}
 use Rattle.cc_run.specs.Part.{started, started_of, abandoned, abandoned_of}
 use Rattle.cc_run.specs.Planned.{Asked, asked, asked_by}
 use Rattle.cc_run.specs.declared.error.RunError.{RunError}
@@ -27,15 +26,14 @@ use Rattle.cc_run.specs.declared.planned.Planned.{Planned}
 use Rattle.cc_run.specs.declared.planned.Shows.{Shows}
 use Rattle.cc_build.specs.Error.{ErrorSeen, no_memory}
 use Rattle.cc_build.specs.Failed.{HasFault, is_fault}
-use Rattle.cc_build.specs.Promises.{AllStarted}
 use Rattle.cc_build.specs.Refusal.{plan_error, disabled_error, early_error, late_error, refusal_error}
 use Rattle.cc_build.specs.RunErrors.{command_at, error_of, run_error}
-use Rattle.cc_build.specs.Stage.{Stage, commands_of, commands_in, planned_stages}
+use Rattle.cc_build.specs.Stage.{Stage, commands_of, commands_in}
 use Rattle.cc_build.specs.Stage.Stage.{Calls, Asks, RunsOne, RunsAll}
 use Rattle.cc_build.specs.Stop.{missing_error, failed_error, unstarted_error, fault_error, stop_error}
 use Rattle.cc_build.specs.Went.{Terms, Means, IsOf, Stops, Halts, Halted}
 use Rattle.cc_build.specs.declared.error.ErrorKind.TheVariants.{ToolExecError}
-use Rattle.cc_build.proofs.BesideLaws.{is_quiet, AreQuiet, Shape, quiet_commands, sources, shape_of}
+use Rattle.cc_build.proofs.BesideLaws.{is_quiet, AreQuiet, Shape}
 use Rattle.cc_build.proofs.RunLaws.{commands_then, went_started}
 use Rattle.cc_build.proofs.StopLaws.{Said, said_all, said_one, IsPlain, ArePlain, plain_behind, or_right, some_fault, whole_work, went_kept}
 
@@ -88,7 +86,7 @@ stop_started t (RunsAll ps) part e x y plain d h sound =
 
 -- ---- no refusal of settings is such an error
 
-abbrev NeverRan : Option ErrorSeen → Type 0
+abbrev pub NeverRan : Option ErrorSeen → Type 0
 NeverRan refusal = (e : ErrorSeen) → refusal ≡ Some e → e.kind ≡ ToolExecError → ⊥
 
 plan_kind : (set : BuildConfig) (env : EnvSeen) (output : List ℕ) (error : PlanError) → (plan_error set env output error).kind ≡ ToolExecError → ⊥
@@ -121,7 +119,7 @@ first_never : (a b : Option ErrorSeen) → NeverRan a → NeverRan b → NeverRa
 first_never None b f g e is h = g e is h
 first_never (Some x) b f g e is h = f e is h
 
-never_ran : (set : BuildConfig) (env : EnvSeen) (look : Look) (output : List ℕ) → NeverRan (refusal_error set env look output)
+pub never_ran : (set : BuildConfig) (env : EnvSeen) (look : Look) (output : List ℕ) → NeverRan (refusal_error set env look output)
 never_ran set env look output =
     first_never (early_error set env output) (late_error set env look output)
     (mapped set env output (early_refusal set env output))
@@ -183,11 +181,15 @@ behind_shape ps (f ∷ first) more (b ∷ before) after s q loud e =
     let r = behind_shape ps first more before after s q.1 loud (rest_eq b f (before ++ s ∷ after) (first ++ RunsAll ps ∷ more) e) in
     (r.0, ap (λ l. (l ++ commands_in before) ++ commands_of s) none ∙ r.1)
 
-module _ (t : Terms) (set : BuildConfig) (env : EnvSeen) (told : Bool) (look : Look) (output : List ℕ) (part : List Event) (e : ErrorSeen) (x z : Means) (plain : ArePlain (planned_stages set env told look output)) (many : 2 ≤ length set.files) (h : Halted t (refusal_error set env look output) (planned_stages set env told look output) part e x z) (badly : e.kind ≡ ToolExecError) where
-  all_by : (r : Reached t.shows h.before h.after h.rest) → AreQuiet (planned_stages set env told look output) ⊎ Shape (sources set env told look output) (planned_stages set env told look output) → AllStarted t.shows (compiles_of set env look) part
+module _ (t : Terms) (ps : List Planned) (refusal : Option ErrorSeen) (stages : List Stage) (part : List Event) (e : ErrorSeen) (x z : Means) (never : NeverRan refusal) (plain : ArePlain stages) (shape : AreQuiet stages ⊎ Shape ps stages) (h : Halted t refusal stages part e x z) (badly : e.kind ≡ ToolExecError) where
+  -- these were started, and none was left alone
+  abbrev AreStarted : Type 0
+  AreStarted = ((more : List Asked) × (started part ≡ asked t.shows ps ++ more)) × (abandoned part ≡ [])
+
+  all_by : (r : Reached t.shows h.before h.after h.rest) → AreQuiet stages ⊎ Shape ps stages → AreStarted
   all_by r (inl q) = absurd (loud_in h.before r.more r.stage r.loud (subst AreQuiet (h.stages_are ∙ ap (λ l. h.before ++ l) r.are) q))
   all_by r (inr s) =
-      let k = behind_shape (sources set env told look output) s.first s.more h.before r.more r.stage s.quiet r.loud (sym (h.stages_are ∙ ap (λ l. h.before ++ l) r.are) ∙ s.are) in (
+      let k = behind_shape ps s.first s.more h.before r.more r.stage s.quiet r.loud (sym (h.stages_are ∙ ap (λ l. h.before ++ l) r.are) ∙ s.are) in (
         (
           map (asked_by t.shows) k.0,
           ap started h.cut
@@ -195,13 +197,13 @@ module _ (t : Terms) (set : BuildConfig) (env : EnvSeen) (told : Bool) (look : L
               ∙ ap₂ (λ u v. u ++ v) (went_started t h.before h.front x h.y h.went) r.begun
               ∙ sym (map-append (asked_by t.shows) (commands_in h.before) (commands_of r.stage))
               ∙ ap (map (asked_by t.shows)) k.1
-              ∙ map-append (asked_by t.shows) (sources set env told look output) k.0,
+              ∙ map-append (asked_by t.shows) ps k.0,
         ),
         ap abandoned h.cut ∙ flat_map-append abandoned_of h.front h.rest ∙ ap₂ (λ u v. u ++ v) (went_kept t h.before h.front x h.y h.went) r.kept,
       )
 
-  -- where a command ended badly and the host is sound, every source's command was started, and none was left alone
-  pub all_started : (HasFault part → ⊥) → AllStarted t.shows (compiles_of set env look) part
+  -- where a command ended badly and the host is sound, each of the commands was started, and none was left alone
+  pub all_started : (HasFault part → ⊥) → AreStarted
   all_started sound =
-      all_by (reached t (refusal_error set env look output) h.before h.after h.rest e h.y z (never_ran set env look output) (plain_behind h.before h.after (subst ArePlain h.stages_are plain)) h.halts badly (λ fault. sound (ap (list_any is_fault) h.cut ∙ list_any-append is_fault h.front h.rest ∙ or_right (list_any is_fault h.front) (list_any is_fault h.rest) fault)))
-      (shape_of set env told look output many)
+      all_by (reached t refusal h.before h.after h.rest e h.y z never (plain_behind h.before h.after (subst ArePlain h.stages_are plain)) h.halts badly (λ fault. sound (ap (list_any is_fault) h.cut ∙ list_any-append is_fault h.front h.rest ∙ or_right (list_any is_fault h.front) (list_any is_fault h.rest) fault)))
+      shape

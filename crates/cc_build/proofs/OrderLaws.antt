@@ -314,13 +314,13 @@ no_source_command [] = refl
 no_source_command (cmd ∷ []) = refl
 no_source_command (cmd ∷ next ∷ cmds) = or_from (list_any is_archive_command (planned_in Compile cmds)) false (compiles_alone cmds) refl
 
-no_compile_archives : (set : BuildConfig) (env : EnvSeen) (told : Bool) (look : Look) → NoArchive (compile_stages set env told look)
+no_compile_archives : (set : BuildConfig) (env : EnvSeen) (warns_of_link : Bool) (look : Look) → NoArchive (compile_stages set env warns_of_link look)
 unfolding compile_stages
-no_compile_archives set env told look = no_archive_then (calls (prints Warning (warning_lines set env told look))) (beside (planned_in Compile (compiles_of set env look))) (no_line_archives Warning (warning_lines set env told look)) (no_source_command (compiles_of set env look))
+no_compile_archives set env warns_of_link look = no_archive_then (calls (prints Warning (warning_lines set env warns_of_link look))) (beside (planned_in Compile (compiles_of set env look))) (no_line_archives Warning (warning_lines set env warns_of_link look)) (no_source_command (compiles_of set env look))
 
 -- neither the folder nor the questions nor the sources archive
-pub no_source_archives : (set : BuildConfig) (env : EnvSeen) (told : Bool) (look : Look) → NoArchive (folder_stages set env ++ Asks ∷ compile_stages set env told look)
-no_source_archives set env told look = no_archive_then (folder_stages set env) (Asks ∷ compile_stages set env told look) (no_folder_archives set env) (no_compile_archives set env told look)
+pub no_source_archives : (set : BuildConfig) (env : EnvSeen) (warns_of_link : Bool) (look : Look) → NoArchive (folder_stages set env ++ Asks ∷ compile_stages set env warns_of_link look)
+no_source_archives set env warns_of_link look = no_archive_then (folder_stages set env) (Asks ∷ compile_stages set env warns_of_link look) (no_folder_archives set env) (no_compile_archives set env warns_of_link look)
 
 -- these stages begin with those of the folder, the questions and the sources, or none of them archives
 abbrev pub IsOrdered : (folder compile stages : List Stage) → Type 0
@@ -332,17 +332,17 @@ by_checks false true late folder compile more none = inr (no_archive_then folder
 by_checks false false true folder compile more none = inr (no_archive_then folder (Asks ∷ []) none refl)
 by_checks false false false folder compile more none = inl (more, sym (append_assoc folder (Asks ∷ compile) more))
 
-pub planned : (set : BuildConfig) (env : EnvSeen) (told : Bool) (look : Look) (output : List ℕ) → IsOrdered (folder_stages set env) (compile_stages set env told look) (planned_stages set env told look output)
+pub planned : (set : BuildConfig) (env : EnvSeen) (warns_of_link : Bool) (look : Look) (output : List ℕ) → IsOrdered (folder_stages set env) (compile_stages set env warns_of_link look) (planned_stages set env warns_of_link look output)
 unfolding planned_stages late_stages
-planned set env told look output =
-    by_checks (is_some (early_refusal set env output)) (is_disabled env) (is_some (late_refusal set env look)) (folder_stages set env) (compile_stages set env told look)
+planned set env warns_of_link look output =
+    by_checks (is_some (early_refusal set env output)) (is_disabled env) (is_some (late_refusal set env look)) (folder_stages set env) (compile_stages set env warns_of_link look)
     (removal_stages set env output ++ (archive_stages set env output ++ link_stages set env output))
     (no_folder_archives set env)
 
 -- a compile run archives behind the folder, the questions and all sources
-pub ordered : {T : Type 0} (t : Terms) (set : BuildConfig) (env : EnvSeen) (told : Bool) (look : Look) (output : List ℕ) (part : List Event) (r : Result T ErrorSeen) (x y : Means) → Ends t (refusal_error set env look output) (planned_stages set env told look output) part r x y → ArchivesLast t set env look part
-ordered t set env told look output part r x y o = λ before after event is archives.
-    let stages = planned_stages set env told look output in
-    let first = folder_stages set env ++ Asks ∷ compile_stages set env told look in
-    let found = archives_behind t first stages part x y (no_source_archives set env told look) (ended_partly t (refusal_error set env look output) stages part r x y o) (planned set env told look output) before after event is archives in
-    (told, record { runs = found.0; rest = found.1; cut = found.2.0; compiled = found.2.1 })
+pub ordered : {T : Type 0} (t : Terms) (set : BuildConfig) (env : EnvSeen) (warns_of_link : Bool) (look : Look) (output : List ℕ) (part : List Event) (r : Result T ErrorSeen) (x y : Means) → Ends t (refusal_error set env look output) (planned_stages set env warns_of_link look output) part r x y → ArchivesLast t set env look part
+ordered t set env warns_of_link look output part r x y o = λ before after event is archives.
+    let stages = planned_stages set env warns_of_link look output in
+    let first = folder_stages set env ++ Asks ∷ compile_stages set env warns_of_link look in
+    let found = archives_behind t first stages part x y (no_source_archives set env warns_of_link look) (ended_partly t (refusal_error set env look output) stages part r x y o) (planned set env warns_of_link look output) before after event is archives in
+    (warns_of_link, record { runs = found.0; rest = found.1; cut = found.2.0; compiled = found.2.1 })

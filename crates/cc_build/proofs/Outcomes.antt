@@ -27,9 +27,9 @@ outcome_from refusal old mid new first second r e f w o =
     subst (λ part. Outcome refusal (first ++ second) part r) (sym (since_since old mid new e f)) (outcome_then refusal first second (since old mid) (since mid new) r w o)
 
 -- an error that was made, or the want of memory for it
-pub told : {E : Type 0} (made : Result ErrorSeen E) (e is : ErrorSeen) → MatchResult made (λ x. e ≡ x) (λ _. e ≡ no_memory) → IfOk made (λ x. x ≡ is) → (e ≡ no_memory) ⊎ (e ≡ is)
-told (Ok x) e is h k = inr (h ∙ k)
-told (Err x) e is h k = inl h
+pub made_or_memory : {E : Type 0} (made : Result ErrorSeen E) (e is : ErrorSeen) → MatchResult made (λ x. e ≡ x) (λ _. e ≡ no_memory) → IfOk made (λ x. x ≡ is) → (e ≡ no_memory) ⊎ (e ≡ is)
+made_or_memory (Ok x) e is h k = inr (h ∙ k)
+made_or_memory (Err x) e is h k = inl h
 
 -- the variables were listed; memory may be wanted behind it
 pub captured : (part : List Event) (r : Result (Unit {0}) ErrorSeen) → CallsEnd {T = Unit {0}} (Lists ∷ []) part (Ok tt) → IfErr r (λ e. e ≡ no_memory) → CaptureEnds part r

@@ -18,9 +18,9 @@ use Rattle.cc_build.specs.Shows.{shows_of}
 use Rattle.cc_build.specs.Went.{Terms, Means, Partly, Ends}
 use Rattle.cc_build.specs.declared.error.ErrorKind.TheVariants.{ToolExecError}
 use Rattle.cc_plan.specs.Plan.{compiles_of}
-use Rattle.cc_build.proofs.BesideLaws.{compiled_beside}
+use Rattle.cc_build.proofs.BesideLaws.{sources, shape_of, compiled_beside}
 use Rattle.cc_build.proofs.BuiltLaws.{built_on_ok}
-use Rattle.cc_build.proofs.FailedLaws.{all_started}
+use Rattle.cc_build.proofs.FailedLaws.{never_ran, all_started}
 use Rattle.cc_build.proofs.Going.{went_one}
 use Rattle.cc_build.proofs.OrderLaws.{ended_partly, ordered}
 use Rattle.cc_build.proofs.SettledLaws.{partly_settled, partly_first}
@@ -76,7 +76,7 @@ module _ {T : Type 0} (b : BuildSeen) (output : List ℕ) (result : Result T Err
 
   pub promised : Promises b output result look part c
   promised = record {
-    told = run.0;
+    warns_of_link = run.0;
     outcome = run.1;
     order = ordered (terms_for b c) b.config b.env run.0 look output part result c.before c.after run.1;
     prefix = partly_first (terms_for b c) (stages_for b run.0 look output) part c.before c.after (planned_plain b.config b.env run.0 look output) partly;
@@ -88,4 +88,5 @@ module _ {T : Type 0} (b : BuildSeen) (output : List ℕ) (result : Result T Err
       all_badly (Ok v) ends e many is badly sound = absurd (cc)
       all_badly (Err f) ends e many is badly sound =
           let same : f ≡ e = cc in
-          all_started (terms_for b c) b.config b.env run.0 look output part f c.before c.after (planned_plain b.config b.env run.0 look output) many ends (ap (λ (k : ErrorSeen). k.kind) same ∙ badly) sound
+          all_started (terms_for b c) (sources b.config b.env run.0 look output) (refusal_error b.config b.env look output) (stages_for b run.0 look output) part f c.before c.after
+          (never_ran b.config b.env look output) (planned_plain b.config b.env run.0 look output) (shape_of b.config b.env run.0 look output many) ends (ap (λ (k : ErrorSeen). k.kind) same ∙ badly) sound

@@ -87,12 +87,12 @@ partly_settled t (s ∷ ss) part x z k (inr (inr d)) =
 -- ---- one attempt for each command
 
 -- a command that was asked for, with its role
-abbrev told : Asked → Role × CommandSeen
-told a = (a.role, a.cmd)
+abbrev as_attempt : Asked → Role × CommandSeen
+as_attempt a = (a.role, a.cmd)
 
-told_asked : (shows : Shows) (ps : List Planned) → map told (asked shows ps) ≡ map to_attempt ps
-told_asked shows [] = refl
-told_asked shows (p ∷ ps) = ap (λ l. to_attempt p ∷ l) (told_asked shows ps)
+attempts_asked : (shows : Shows) (ps : List Planned) → map as_attempt (asked shows ps) ≡ map to_attempt ps
+attempts_asked shows [] = refl
+attempts_asked shows (p ∷ ps) = ap (λ l. to_attempt p ∷ l) (attempts_asked shows ps)
 
 gone_attempts : (cs : List (ℕ × ℕ)) → attempts (gone cs) ≡ []
 gone_attempts [] = refl
@@ -103,7 +103,7 @@ gone_started [] = refl
 gone_started (c ∷ cs) = gone_started cs
 
 -- where no program is missing, the attempts of a run are its starts
-calm_attempts : (part more : List Event) → list_all is_of_run (part ++ more) ≡ true → missing part ≡ [] → attempts part ≡ map told (started part)
+calm_attempts : (part more : List Event) → list_all is_of_run (part ++ more) ≡ true → missing part ≡ [] → attempts part ≡ map as_attempt (started part)
 calm_attempts [] more own none = refl
 calm_attempts (Started id role cmd pipes held ∷ part) more own none = ap (λ l. (role, cmd) ∷ l) (calm_attempts part more own none)
 calm_attempts (Missing role cmd ∷ part) more own none = absurd (cc)
@@ -133,7 +133,7 @@ not_last [] x e = cc
 not_last (y ∷ m) x e = cc
 
 -- before the one of a list stands nothing
-first_only : (l : List Asked) (m : List (Role × CommandSeen)) (x : Role × CommandSeen) → map told (take 1 l) ≡ m ++ x ∷ [] → m ≡ []
+first_only : (l : List Asked) (m : List (Role × CommandSeen)) (x : Role × CommandSeen) → map as_attempt (take 1 l) ≡ m ++ x ∷ [] → m ≡ []
 first_only [] m x e = absurd (not_last m x e)
 first_only (a ∷ l) [] x e = refl
 first_only (a ∷ l) (y ∷ m) x e = let none : [] ≡ m ++ x ∷ [] = cc in absurd (not_last m x none)
@@ -147,14 +147,14 @@ module _ (cmds : List Asked) (part : List Event) where
   run_started result s =
       ap started s.cut ∙ flat_map-append started_of s.work (gone s.run.live) ∙ ap (λ l. started s.work ++ l) (gone_started s.run.live) ∙ append-nil (started s.work) ∙ s.begun
 
-  calm_first : (result : Result (Unit {0}) RunError) (s : Said cmds part result) → missing part ≡ [] → AreFirst (map told cmds) (attempts part)
+  calm_first : (result : Result (Unit {0}) RunError) (s : Said cmds part result) → missing part ≡ [] → AreFirst (map as_attempt cmds) (attempts part)
   calm_first result s none =
       let n = s.run.begun in
-      let same : attempts part ≡ map told (take n cmds) = calm_attempts part [] (ap (list_all is_of_run) (append-nil part) ∙ s.own) none ∙ ap (map told) (run_started result s) in
-      (map told (drop n cmds), ap (map told) (sym (take-append-drop n cmds)) ∙ map-append told (take n cmds) (drop n cmds) ∙ ap (λ l. l ++ map told (drop n cmds)) (sym same))
+      let same : attempts part ≡ map as_attempt (take n cmds) = calm_attempts part [] (ap (list_all is_of_run) (append-nil part) ∙ s.own) none ∙ ap (map as_attempt) (run_started result s) in
+      (map as_attempt (drop n cmds), ap (map as_attempt) (sym (take-append-drop n cmds)) ∙ map-append as_attempt (take n cmds) (drop n cmds) ∙ ap (λ l. l ++ map as_attempt (drop n cmds)) (sym same))
 
   -- the one that is missing comes next
-  absent_first : (place : ℕ) (s : Said cmds part (Err (ToolNotFound place))) → AreFirst (map told cmds) (attempts part)
+  absent_first : (place : ℕ) (s : Said cmds part (Err (ToolNotFound place))) → AreFirst (map as_attempt cmds) (attempts part)
   absent_first place s = by_end (last_in s.log s.work s.ends.0 absent (sym s.extends ∙ s.ends.1.1.1))
     where
       n : ℕ
@@ -163,29 +163,29 @@ module _ (cmds : List Asked) (part : List Event) where
       absent : Event
       absent = Missing s.ends.1.0 s.ends.1.1.0
 
-      by_end : (s.work ≡ []) ⊎ ((front : List Event) × (s.work ≡ front ++ absent ∷ [])) → AreFirst (map told cmds) (attempts part)
+      by_end : (s.work ≡ []) ⊎ ((front : List Event) × (s.work ≡ front ++ absent ∷ [])) → AreFirst (map as_attempt cmds) (attempts part)
       by_end (inl none) = calm_first (Err (ToolNotFound place)) s (ap missing (s.cut ∙ ap (λ l. l ++ gone s.run.live) none) ∙ gone_missing s.run.live)
       by_end (inr (front, is)) =
           let cut : part ≡ (front ++ absent ∷ []) ++ gone s.run.live = s.cut ∙ ap (λ l. l ++ gone s.run.live) is in
           let told_missing : missing part ≡ missing front ++ (s.ends.1.0, s.ends.1.1.0) ∷ [] = ap missing cut ∙ ends_by missing_of front absent s.run.live (gone_missing s.run.live) in
           let none : missing front ≡ [] = first_only (drop place cmds) (missing front) (s.ends.1.0, s.ends.1.1.0) (sym s.missing_is ∙ told_missing) in
-          let one : (s.ends.1.0, s.ends.1.1.0) ∷ [] ≡ map told (take 1 (drop n cmds)) = ap (λ l. l ++ (s.ends.1.0, s.ends.1.1.0) ∷ []) (sym none) ∙ sym told_missing ∙ s.missing_is ∙ ap (λ k. map told (take 1 (drop k cmds))) s.cause.0 in
+          let one : (s.ends.1.0, s.ends.1.1.0) ∷ [] ≡ map as_attempt (take 1 (drop n cmds)) = ap (λ l. l ++ (s.ends.1.0, s.ends.1.1.0) ∷ []) (sym none) ∙ sym told_missing ∙ s.missing_is ∙ ap (λ k. map as_attempt (take 1 (drop k cmds))) s.cause.0 in
           let begun : started front ≡ take n cmds = sym (append-nil (started front)) ∙ sym (ends_by started_of front absent s.run.live (gone_started s.run.live)) ∙ ap started (sym cut) ∙ run_started (Err (ToolNotFound place)) s in
           let whole : front ++ (absent ∷ [] ++ gone s.run.live) ≡ part = sym (append_assoc front (absent ∷ []) (gone s.run.live)) ∙ sym cut in
-          let calm : attempts front ≡ map told (take n cmds) = calm_attempts front (absent ∷ [] ++ gone s.run.live) (ap (list_all is_of_run) whole ∙ s.own) none ∙ ap (map told) begun in
-          let tried : attempts part ≡ map told (take n cmds) ++ map told (take 1 (drop n cmds)) =
-          ap attempts cut ∙ ends_by attempt_of front absent s.run.live (gone_attempts s.run.live) ∙ ap (λ l. l ++ (s.ends.1.0, s.ends.1.1.0) ∷ []) calm ∙ ap (λ l. map told (take n cmds) ++ l) one in
+          let calm : attempts front ≡ map as_attempt (take n cmds) = calm_attempts front (absent ∷ [] ++ gone s.run.live) (ap (list_all is_of_run) whole ∙ s.own) none ∙ ap (map as_attempt) begun in
+          let tried : attempts part ≡ map as_attempt (take n cmds) ++ map as_attempt (take 1 (drop n cmds)) =
+          ap attempts cut ∙ ends_by attempt_of front absent s.run.live (gone_attempts s.run.live) ∙ ap (λ l. l ++ (s.ends.1.0, s.ends.1.1.0) ∷ []) calm ∙ ap (λ l. map as_attempt (take n cmds) ++ l) one in
           let rest = drop 1 (drop n cmds) in (
-            map told rest,
-            ap (map told) (sym (take-append-drop n cmds))
-                ∙ map-append told (take n cmds) (drop n cmds)
-                ∙ ap (λ l. map told (take n cmds) ++ map told l) (sym (take-append-drop 1 (drop n cmds)))
-                ∙ ap (λ l. map told (take n cmds) ++ l) (map-append told (take 1 (drop n cmds)) rest)
-                ∙ sym (append_assoc (map told (take n cmds)) (map told (take 1 (drop n cmds))) (map told rest))
-                ∙ ap (λ l. l ++ map told rest) (sym tried),
+            map as_attempt rest,
+            ap (map as_attempt) (sym (take-append-drop n cmds))
+                ∙ map-append as_attempt (take n cmds) (drop n cmds)
+                ∙ ap (λ l. map as_attempt (take n cmds) ++ map as_attempt l) (sym (take-append-drop 1 (drop n cmds)))
+                ∙ ap (λ l. map as_attempt (take n cmds) ++ l) (map-append as_attempt (take 1 (drop n cmds)) rest)
+                ∙ sym (append_assoc (map as_attempt (take n cmds)) (map as_attempt (take 1 (drop n cmds))) (map as_attempt rest))
+                ∙ ap (λ l. l ++ map as_attempt rest) (sym tried),
           )
 
-  run_first : (error : RunError) (s : Said cmds part (Err error)) → AreFirst (map told cmds) (attempts part)
+  run_first : (error : RunError) (s : Said cmds part (Err error)) → AreFirst (map as_attempt cmds) (attempts part)
   run_first (ToolNotFound place) s = absent_first place s
   run_first (Failed place status) s = calm_first (Err (Failed place status)) s s.missing_is
   run_first (StartFault place) s = calm_first (Err (StartFault place)) s s.missing_is
@@ -233,8 +233,8 @@ module _ (t : Terms) (s : Stage) (part : List Event) (x y : Means) (d : Did t s 
   whole_attempts own =
       let w = went_one t s part x y d in
       calm_attempts part [] (ap (list_all is_of_run) (append-nil part) ∙ own) (went_missing t (s ∷ []) part x y w)
-      ∙ ap (map told) (went_started t (s ∷ []) part x y w)
-      ∙ told_asked t.shows (commands_in (s ∷ []))
+      ∙ ap (map as_attempt) (went_started t (s ∷ []) part x y w)
+      ∙ attempts_asked t.shows (commands_in (s ∷ []))
       ∙ ap (map to_attempt) (append-nil (commands_of s))
 
 did_attempts : (t : Terms) (s : Stage) (part : List Event) (x y : Means) → IsPlain s → Did t s part x y → attempts part ≡ map to_attempt (commands_of s)
@@ -248,10 +248,10 @@ stop_first t (Calls step) part e x y plain d = ([], ap (λ l. l ++ []) (sym (ap 
 stop_first t Asks part e x y plain d = absurd d
 stop_first t (RunsOne p) part e x y plain d =
     let r = run_first (asked t.shows (p ∷ [])) part d.0 (said_one t p part (Err d.0) x y d.1.0) in
-    (r.0, sym (told_asked t.shows (p ∷ [])) ∙ r.1)
+    (r.0, sym (attempts_asked t.shows (p ∷ [])) ∙ r.1)
 stop_first t (RunsAll ps) part e x y plain d =
     let r = run_first (asked t.shows ps) part d.0 (said_all t ps part (Err d.0) x y d.1.0) in
-    (r.0, sym (told_asked t.shows ps) ∙ r.1)
+    (r.0, sym (attempts_asked t.shows ps) ∙ r.1)
 
 -- nothing was tried
 none_first : (planned : List (Role × CommandSeen)) (part : List Event) → part ≡ [] → AreFirst planned (attempts part)

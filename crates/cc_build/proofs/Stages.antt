@@ -42,9 +42,9 @@ pub late_decides : (set : BuildConfig) (env : EnvSeen) (look : Look) (output : L
 late_decides set env look output passed = ap (λ r. first_of (option_map (plan_error set env output) r) (late_error set env look output)) (sym passed)
 
 -- where the first checks pass, the folder and the rest are planned
-pub early_passed : (set : BuildConfig) (env : EnvSeen) (told : Bool) (look : Look) (output : List ℕ) → early_refusal set env output ≡ None → folder_stages set env ++ late_stages set env told look output ≡ planned_stages set env told look output
+pub early_passed : (set : BuildConfig) (env : EnvSeen) (warns_of_link : Bool) (look : Look) (output : List ℕ) → early_refusal set env output ≡ None → folder_stages set env ++ late_stages set env warns_of_link look output ≡ planned_stages set env warns_of_link look output
 unfolding planned_stages
-early_passed set env told look output passed = rw passed refl
+early_passed set env warns_of_link look output passed = rw passed refl
 
 -- the stages of the folder are its steps
 pub folder_is : (set : BuildConfig) (env : EnvSeen) → folder_stages set env ≡ calls (folder_steps set env)
@@ -52,9 +52,9 @@ unfolding folder_stages
 folder_is set env = refl
 
 -- where the later checks pass too, questions are asked, and the whole run is planned
-pub late_passed : (set : BuildConfig) (env : EnvSeen) (told : Bool) (look : Look) (output : List ℕ) → is_disabled env ≡ false → late_refusal set env look ≡ None → Asks ∷ run_stages set env told look output ≡ late_stages set env told look output
+pub late_passed : (set : BuildConfig) (env : EnvSeen) (warns_of_link : Bool) (look : Look) (output : List ℕ) → is_disabled env ≡ false → late_refusal set env look ≡ None → Asks ∷ run_stages set env warns_of_link look output ≡ late_stages set env warns_of_link look output
 unfolding late_stages
-late_passed set env told look output enabled passed = rw (enabled, passed) refl
+late_passed set env warns_of_link look output enabled passed = rw (enabled, passed) refl
 
 pub no_late_error : (set : BuildConfig) (env : EnvSeen) (look : Look) (output : List ℕ) → is_disabled env ≡ false → late_refusal set env look ≡ None → late_error set env look output ≡ None
 no_late_error set env look output enabled passed = rw (enabled, passed) refl
@@ -79,10 +79,10 @@ some_behind [] b some none = some none
 some_behind (s ∷ a) b some none = cc
 
 -- a run has at least the removal
-some_run : (set : BuildConfig) (env : EnvSeen) (told : Bool) (look : Look) (output : List ℕ) → run_stages set env told look output ≡ [] → ⊥
+some_run : (set : BuildConfig) (env : EnvSeen) (warns_of_link : Bool) (look : Look) (output : List ℕ) → run_stages set env warns_of_link look output ≡ [] → ⊥
 unfolding removal_stages removal_steps
-some_run set env told look output none =
-    some_behind (compile_stages set env told look) (removal_stages set env output ++ (archive_stages set env output ++ link_stages set env output))
+some_run set env warns_of_link look output none =
+    some_behind (compile_stages set env warns_of_link look) (removal_stages set env output ++ (archive_stages set env output ++ link_stages set env output))
     (call_first (Removes (library_of set env output)) (archive_stages set env output ++ link_stages set env output)) none
 
 plan_open : (f : PlanError → ErrorSeen) (refusal : Option PlanError) (run : List Stage) → (run ≡ [] → ⊥) → IsOpen (option_map f refusal) (if is_some refusal then [] else run)
@@ -93,10 +93,10 @@ checks_open : (disabled : Bool) (error : ErrorSeen) (refusal : Option ErrorSeen)
 checks_open true error refusal run none = refl
 checks_open false error refusal run none = absurd (cc)
 
-late_open : (set : BuildConfig) (env : EnvSeen) (told : Bool) (look : Look) (output : List ℕ) → IsOpen (late_error set env look output) (late_stages set env told look output)
+late_open : (set : BuildConfig) (env : EnvSeen) (warns_of_link : Bool) (look : Look) (output : List ℕ) → IsOpen (late_error set env look output) (late_stages set env warns_of_link look output)
 unfolding late_stages
-late_open set env told look output =
-    checks_open (is_disabled env) disabled_error (option_map (plan_error set env output) (late_refusal set env look)) (if is_some (late_refusal set env look) then [] else run_stages set env told look output)
+late_open set env warns_of_link look output =
+    checks_open (is_disabled env) disabled_error (option_map (plan_error set env output) (late_refusal set env look)) (if is_some (late_refusal set env look) then [] else run_stages set env warns_of_link look output)
 
 both_none : (a b : List Stage) → a ++ b ≡ [] → b ≡ []
 both_none [] b none = none
@@ -107,32 +107,32 @@ early_open f None late folder more owed none = owed (both_none folder more none)
 early_open f (Some error) late folder more owed none = refl
 
 -- where a compile run has no stage at all, its settings are refused
-pub planned_open : (set : BuildConfig) (env : EnvSeen) (told : Bool) (look : Look) (output : List ℕ) → IsOpen (refusal_error set env look output) (planned_stages set env told look output)
+pub planned_open : (set : BuildConfig) (env : EnvSeen) (warns_of_link : Bool) (look : Look) (output : List ℕ) → IsOpen (refusal_error set env look output) (planned_stages set env warns_of_link look output)
 unfolding planned_stages
-planned_open set env told look output =
-    early_open (plan_error set env output) (early_refusal set env output) (late_error set env look output) (folder_stages set env) (late_stages set env told look output) (late_open set env told look output)
+planned_open set env warns_of_link look output =
+    early_open (plan_error set env output) (early_refusal set env output) (late_error set env look output) (folder_stages set env) (late_stages set env warns_of_link look output) (late_open set env warns_of_link look output)
 
 -- where commands may run, questions are asked first
-late_asks : (set : BuildConfig) (env : EnvSeen) (told : Bool) (look : Look) (output : List ℕ) → is_disabled env ≡ false → (rest : List Stage) × ((late_stages set env told look output ≡ (Asks ∷ []) ++ rest) × IsOpen (late_error set env look output) rest)
+late_asks : (set : BuildConfig) (env : EnvSeen) (warns_of_link : Bool) (look : Look) (output : List ℕ) → is_disabled env ≡ false → (rest : List Stage) × ((late_stages set env warns_of_link look output ≡ (Asks ∷ []) ++ rest) × IsOpen (late_error set env look output) rest)
 unfolding late_stages
-late_asks set env told look output enabled = (
-  if is_some (late_refusal set env look) then [] else run_stages set env told look output,
-  (rw enabled refl, rw enabled (plan_open (plan_error set env output) (late_refusal set env look) (run_stages set env told look output) (some_run set env told look output))),
+late_asks set env warns_of_link look output enabled = (
+  if is_some (late_refusal set env look) then [] else run_stages set env warns_of_link look output,
+  (rw enabled refl, rw enabled (plan_open (plan_error set env output) (late_refusal set env look) (run_stages set env warns_of_link look output) (some_run set env warns_of_link look output))),
 )
 
 -- only questions were asked, and the error has its cause
-asked_halted : (t : Terms) (set : BuildConfig) (env : EnvSeen) (told : Bool) (look : Look) (output : List ℕ) (part : List Event) (e : ErrorSeen) (x : Means) → is_disabled env ≡ false → list_all is_asked part ≡ true → (e ≡ no_memory) ⊎ (late_error set env look output ≡ Some e) → Halted t (late_error set env look output) (late_stages set env told look output) part e x x
-asked_halted t set env told look output part e x enabled asked cause =
-    let k = late_asks set env told look output enabled in
+asked_halted : (t : Terms) (set : BuildConfig) (env : EnvSeen) (warns_of_link : Bool) (look : Look) (output : List ℕ) (part : List Event) (e : ErrorSeen) (x : Means) → is_disabled env ≡ false → list_all is_asked part ≡ true → (e ≡ no_memory) ⊎ (late_error set env look output ≡ Some e) → Halted t (late_error set env look output) (late_stages set env warns_of_link look output) part e x x
+asked_halted t set env warns_of_link look output part e x enabled asked cause =
+    let k = late_asks set env warns_of_link look output enabled in
     subst (λ (s : List Stage). Halted t (late_error set env look output) s part e x x) (sym k.1.0) (halted_among t (late_error set env look output) (Asks ∷ []) k.0 part e x x (went_one t Asks part x x (asked, refl)) cause k.1.1)
 
 -- questions alone were asked, and none where no command may run: the run ended there
-pub late_halted : (t : Terms) (set : BuildConfig) (env : EnvSeen) (told : Bool) (look : Look) (output : List ℕ) (part : List Event) (e : ErrorSeen) (x : Means) → AsksOnly (is_disabled env) part → IsLateError set env output e look → Halted t (late_error set env look output) (late_stages set env told look output) part e x x
-late_halted t set env told look output part e x asks cause = by_check (is_disabled env) refl
+pub late_halted : (t : Terms) (set : BuildConfig) (env : EnvSeen) (warns_of_link : Bool) (look : Look) (output : List ℕ) (part : List Event) (e : ErrorSeen) (x : Means) → AsksOnly (is_disabled env) part → IsLateError set env output e look → Halted t (late_error set env look output) (late_stages set env warns_of_link look output) part e x x
+late_halted t set env warns_of_link look output part e x asks cause = by_check (is_disabled env) refl
   where
-    by_check : (b : Bool) → b ≡ is_disabled env → Halted t (late_error set env look output) (late_stages set env told look output) part e x x
-    by_check true is = halted_none t (late_error set env look output) (late_stages set env told look output) part e x (asks.1 (sym is)) cause (late_open set env told look output)
-    by_check false is = asked_halted t set env told look output part e x (sym is) asks.0 cause
+    by_check : (b : Bool) → b ≡ is_disabled env → Halted t (late_error set env look output) (late_stages set env warns_of_link look output) part e x x
+    by_check true is = halted_none t (late_error set env look output) (late_stages set env warns_of_link look output) part e x (asks.1 (sym is)) cause (late_open set env warns_of_link look output)
+    by_check false is = asked_halted t set env warns_of_link look output part e x (sym is) asks.0 cause
 
 -- questions were asked, and then the plan was run
 pub asked_then : {T : Type 0} (t : Terms) (run : List Stage) (a b : List Event) (r : Result T ErrorSeen) (x y : Means) → list_all is_asked a ≡ true → Ends t None run b r x y → Ends t None (Asks ∷ run) (a ++ b) r x y
@@ -153,25 +153,25 @@ halted_renamed t refusal these those part e x y f o = subst (λ (s : List Stage)
 
 module _ (t : Terms) (set : BuildConfig) (env : EnvSeen) (look : Look) (output : List ℕ) (early : early_refusal set env output ≡ None) (old made : List Event) (x : Means) (first : made ≡ old ++ since old made) (folder : Went t (calls (folder_steps set env)) (since old made) x x) where
   -- the folder was made, and the late stages ended so
-  behind_folder : {T : Type 0} (told : Bool) (new : List Event) (r : Result T ErrorSeen) (z : Means) → new ≡ made ++ since made new → Ends t (late_error set env look output) (late_stages set env told look output) (since made new) r x z → Ends t (refusal_error set env look output) (planned_stages set env told look output) (since old new) r x z
-  behind_folder told new r z last late =
-      renamed t (late_error set env look output) (refusal_error set env look output) (calls (folder_steps set env) ++ late_stages set env told look output) (planned_stages set env told look output) (since old new) r x z
-      (late_decides set env look output early) (ap (λ l. l ++ late_stages set env told look output) (sym (folder_is set env)) ∙ early_passed set env told look output early)
-      (ends_from t (late_error set env look output) old made new (calls (folder_steps set env)) (late_stages set env told look output) r x x z first last folder late)
+  behind_folder : {T : Type 0} (warns_of_link : Bool) (new : List Event) (r : Result T ErrorSeen) (z : Means) → new ≡ made ++ since made new → Ends t (late_error set env look output) (late_stages set env warns_of_link look output) (since made new) r x z → Ends t (refusal_error set env look output) (planned_stages set env warns_of_link look output) (since old new) r x z
+  behind_folder warns_of_link new r z last late =
+      renamed t (late_error set env look output) (refusal_error set env look output) (calls (folder_steps set env) ++ late_stages set env warns_of_link look output) (planned_stages set env warns_of_link look output) (since old new) r x z
+      (late_decides set env look output early) (ap (λ l. l ++ late_stages set env warns_of_link look output) (sym (folder_is set env)) ∙ early_passed set env warns_of_link look output early)
+      (ends_from t (late_error set env look output) old made new (calls (folder_steps set env)) (late_stages set env warns_of_link look output) r x x z first last folder late)
 
   -- no stage behind it was planned
-  pub run_unplanned : (told : Bool) (new : List Event) (e : ErrorSeen) → new ≡ made ++ since made new → AsksOnly (is_disabled env) (since made new) → IsLateError set env output e look → Halted t (refusal_error set env look output) (planned_stages set env told look output) (since old new) e x x
-  run_unplanned told new e last asks cause =
-      behind_folder {T = Unit {0}} told new (Err e) x last (late_halted t set env told look output (since made new) e x asks cause)
+  pub run_unplanned : (warns_of_link : Bool) (new : List Event) (e : ErrorSeen) → new ≡ made ++ since made new → AsksOnly (is_disabled env) (since made new) → IsLateError set env output e look → Halted t (refusal_error set env look output) (planned_stages set env warns_of_link look output) (since old new) e x x
+  run_unplanned warns_of_link new e last asks cause =
+      behind_folder {T = Unit {0}} warns_of_link new (Err e) x last (late_halted t set env warns_of_link look output (since made new) e x asks cause)
 
   -- the stages behind it were planned, and ended so
-  pub run_planned : {T : Type 0} (asked new : List Event) (stages : List Stage) (draft : Drafts set env output stages look) (r : Result T ErrorSeen) (z : Means) → asked ≡ made ++ since made asked → new ≡ asked ++ since asked new → list_all is_asked (since made asked) ≡ true → Ends t None stages (since asked new) r x z → Ends t (refusal_error set env look output) (planned_stages set env draft.told look output) (since old new) r x z
+  pub run_planned : {T : Type 0} (asked new : List Event) (stages : List Stage) (draft : Drafts set env output stages look) (r : Result T ErrorSeen) (z : Means) → asked ≡ made ++ since made asked → new ≡ asked ++ since asked new → list_all is_asked (since made asked) ≡ true → Ends t None stages (since asked new) r x z → Ends t (refusal_error set env look output) (planned_stages set env draft.warns_of_link look output) (since old new) r x z
   run_planned asked new stages draft r z next last quiet ran =
       let there : Ends t None (Asks ∷ stages) (since made new) r x z =
       subst (λ (part : List Event). Ends t None (Asks ∷ stages) part r x z) (sym (since_since made asked new next last)) (asked_then t stages (since made asked) (since asked new) r x z quiet ran) in
-      behind_folder draft.told new r z (since_extends made asked new next last)
-      (renamed t None (late_error set env look output) (Asks ∷ stages) (late_stages set env draft.told look output) (since made new) r x z
-      (sym (no_late_error set env look output draft.enabled draft.allowed)) (ap (λ l. Asks ∷ l) draft.are ∙ late_passed set env draft.told look output draft.enabled draft.allowed) there)
+      behind_folder draft.warns_of_link new r z (since_extends made asked new next last)
+      (renamed t None (late_error set env look output) (Asks ∷ stages) (late_stages set env draft.warns_of_link look output) (since made new) r x z
+      (sym (no_late_error set env look output draft.enabled draft.allowed)) (ap (λ l. Asks ∷ l) draft.are ∙ late_passed set env draft.warns_of_link look output draft.enabled draft.allowed) there)
 
 module _ (t : Terms) (set : BuildConfig) (env : EnvSeen) (look : Look) (output : List ℕ) (part : List Event) (e : ErrorSeen) (x : Means) where
   -- the first checks refuse the settings, or memory was wanted

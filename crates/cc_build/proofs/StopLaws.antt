@@ -394,11 +394,11 @@ module _ (set : BuildConfig) (env : EnvSeen) where
       by_files true = tt
       by_files false = (tt, tt)
 
-  plain_compile : (told : Bool) (look : Look) → ArePlain (compile_stages set env told look)
+  plain_compile : (warns_of_link : Bool) (look : Look) → ArePlain (compile_stages set env warns_of_link look)
   unfolding compile_stages
-  plain_compile told look =
-      plain_then (calls (prints Warning (warning_lines set env told look))) (beside (planned Compile (compiles_of set env look)))
-      (plain_lines Warning (warning_lines set env told look)) (plain_beside (planned Compile (compiles_of set env look)))
+  plain_compile warns_of_link look =
+      plain_then (calls (prints Warning (warning_lines set env warns_of_link look))) (beside (planned Compile (compiles_of set env look)))
+      (plain_lines Warning (warning_lines set env warns_of_link look)) (plain_beside (planned Compile (compiles_of set env look)))
 
   plain_removal : (output : List ℕ) → ArePlain (removal_stages set env output)
   unfolding removal_stages removal_steps
@@ -414,26 +414,26 @@ module _ (set : BuildConfig) (env : EnvSeen) where
   unfolding link_stages link_steps
   plain_link output = plain_lines Link (link_lines set env output)
 
-  plain_run : (told : Bool) (look : Look) (output : List ℕ) → ArePlain (run_stages set env told look output)
-  plain_run told look output =
-      plain_then (compile_stages set env told look) (removal_stages set env output ++ (archive_stages set env output ++ link_stages set env output)) (plain_compile told look) (
+  plain_run : (warns_of_link : Bool) (look : Look) (output : List ℕ) → ArePlain (run_stages set env warns_of_link look output)
+  plain_run warns_of_link look output =
+      plain_then (compile_stages set env warns_of_link look) (removal_stages set env output ++ (archive_stages set env output ++ link_stages set env output)) (plain_compile warns_of_link look) (
       plain_then (removal_stages set env output) (archive_stages set env output ++ link_stages set env output) (plain_removal output) (
       plain_then (archive_stages set env output) (link_stages set env output) (plain_archive output) (plain_link output)
       )
       )
 
-  plain_late : (told : Bool) (look : Look) (output : List ℕ) → ArePlain (late_stages set env told look output)
+  plain_late : (warns_of_link : Bool) (look : Look) (output : List ℕ) → ArePlain (late_stages set env warns_of_link look output)
   unfolding late_stages
-  plain_late told look output =
-      plain_unless (is_disabled env) (Asks ∷ (if is_some (late_refusal set env look) then [] else run_stages set env told look output))
-      (tt, plain_unless (is_some (late_refusal set env look)) (run_stages set env told look output) (plain_run told look output))
+  plain_late warns_of_link look output =
+      plain_unless (is_disabled env) (Asks ∷ (if is_some (late_refusal set env look) then [] else run_stages set env warns_of_link look output))
+      (tt, plain_unless (is_some (late_refusal set env look)) (run_stages set env warns_of_link look output) (plain_run warns_of_link look output))
 
   -- the stages of a compile run are so
-  pub planned_plain : (told : Bool) (look : Look) (output : List ℕ) → ArePlain (planned_stages set env told look output)
+  pub planned_plain : (warns_of_link : Bool) (look : Look) (output : List ℕ) → ArePlain (planned_stages set env warns_of_link look output)
   unfolding planned_stages
-  planned_plain told look output =
-      plain_unless (is_some (early_refusal set env output)) (folder_stages set env ++ late_stages set env told look output)
-      (plain_then (folder_stages set env) (late_stages set env told look output) plain_folder (plain_late told look output))
+  planned_plain warns_of_link look output =
+      plain_unless (is_some (early_refusal set env output)) (folder_stages set env ++ late_stages set env warns_of_link look output)
+      (plain_then (folder_stages set env) (late_stages set env warns_of_link look output) plain_folder (plain_late warns_of_link look output))
 
 -- ---- the causes of a whole run
 

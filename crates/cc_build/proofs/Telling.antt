@@ -1,10 +1,13 @@
 -- A call that asks with answers of its own, and then prints.
-use Rattle.std.proofs.Common.{◌≡◌, ◌⊎◌, inl, inr, ℕ, List, [], ◌∷◌, ◌++◌, Bool, Option, Some, None, Result, Ok, Err, refl, sym, ◌∙◌, ap, subst, append-nil}
+use Rattle.std.proofs.Common.{◌≡◌, ◌⊎◌, inl, inr, ℕ, List, [], ◌∷◌, ◌++◌, Bool, true, false, ◌||◌, Option, Some, None, Result, Ok, Err, refl, sym, ◌∙◌, ap, subst, append-nil}
+use Rattle.std.specs.List.{list_all, list_any}
 use Rattle.std.specs.Option.{option_map}
+use Rattle.std.proofs.lemmas.Bool.{and_parts}
 use Rattle.std.proofs.lemmas.Grind.{flat_map-append}
+use Rattle.std.proofs.lemmas.List.Folds.{list_any-append}
 use Rattle.cc_env.specs.Env.{EnvSeen}
 use Rattle.cc_host.specs.declared.event.Event.{Event}
-use Rattle.cc_host.specs.declared.event.Event.TheVariants.{Fault}
+use Rattle.cc_host.specs.declared.event.Event.TheVariants.{Started, Ended, Abandoned, Heard, Unread, Turn, Fault}
 use Rattle.cc_host.specs.declared.event.HostCall.TheVariants.{Print}
 use Rattle.cc_host.specs.declared.event.LineKind.TheVariants.{Warning}
 use Rattle.cc_host.specs.declared.event.Why.{Why}
@@ -16,8 +19,9 @@ use Rattle.cc_host.specs.Question.{Look, Answer, answer_of, answers, Agrees, Set
 use Rattle.cc_host.proofs.Parts.{since_since, since_append, since_extends, partly_none}
 use Rattle.cc_tool.specs.Asked.{question_events, Asked}
 use Rattle.cc_tool.specs.Asks.{Asks}
+use Rattle.cc_tool.specs.Probing.{is_asked}
 use Rattle.cc_tool.proofs.Asides.{aside_answers, asked_by, asked_before, asks_quiet, asks_extends}
-use Rattle.cc_plan.specs.Asking.{AsksThen, Warns, AreLines, Printed, EndsPrinting}
+use Rattle.cc_plan.specs.Asking.{AsksThen, Warns, AreLines, Printed, EndsPrinting, is_of_children}
 use Rattle.cc_plan.specs.Plan.{prints}
 use Rattle.cc_plan.specs.declared.error.PlanError.{PlanError}
 use Rattle.cc_plan.specs.declared.error.PlanError.TheVariants.{Host, NoMemory as WantsMemory}
@@ -26,8 +30,29 @@ use Rattle.cc_build.specs.Error.{ErrorSeen, no_memory}
 use Rattle.cc_build.specs.Outcome.{IsCausedBy, Outcome}
 use Rattle.cc_build.specs.Refusal.{plan_error}
 use Rattle.cc_build.specs.Stop.{fault_error, stopped_by}
+use Rattle.cc_build.proofs.Going.{part_is}
 use Rattle.cc_build.proofs.Outcomes.{outcome_from}
 use Rattle.cc_build.proofs.Stages.{plan_cause}
+
+no_child : (event : Event) → is_asked event ≡ true → is_of_children event ≡ false
+no_child (Started id role cmd pipes held) h = absurd (cc)
+no_child (Ended id status) h = absurd (cc)
+no_child (Abandoned id) h = absurd (cc)
+no_child (Heard id bytes) h = absurd (cc)
+no_child (Unread id) h = absurd (cc)
+no_child (Turn count) h = absurd (cc)
+no_child _ h = refl
+
+or_neither : (a b : Bool) → a ≡ false → b ≡ false → (a || b) ≡ false
+or_neither true b p q = absurd (cc)
+or_neither false b p q = q
+
+-- questions start no child
+no_children : (part : List Event) → list_all is_asked part ≡ true → list_any is_of_children part ≡ false
+no_children [] h = refl
+no_children (event ∷ part) h =
+    let k = and_parts (is_asked event) (list_all is_asked part) h in
+    or_neither (is_of_children event) (list_any is_of_children part) (no_child event k.0) (no_children part k.1)
 
 -- what refuses a line is the printing of it
 printing_stop : (steps : List Step) (why : Why) → StopsAt steps (Fault Print why ∷ []) → stopped_by steps (Fault Print why ∷ []) ≡ Some (fault_error Print why [])
@@ -65,7 +90,7 @@ settled_lines : (known : List Answer) (warnings : Look → List (List ℕ)) (lin
 settled_lines known warnings lines part look agree (inl none) p = subst (λ (l : List Event). IsPartly (prints Warning (warnings look)) l) (sym none) (partly_none (prints Warning (warnings look)))
 settled_lines known warnings lines part look agree (inr s) p = subst (λ (l : List (List ℕ)). IsPartly (prints Warning l) part) (sym (s.is look agree)) p
 
-module _ (steady : Bool) (world : Question → WorldOutcome) (dir : List ℕ) (old end new : List Event) (none known : List Answer) (P : List Event → Type 0) (asked : AsksThen steady world dir old end none known P) (is : new ≡ end) (empty : none ≡ []) (quiet : question_events asked.rest ≡ []) where
+module _ (steady : Bool) (world : Question → WorldOutcome) (dir : List ℕ) (questions : Look → Question → Type 0) (old end new : List Event) (none known : List Answer) (P : List Event → Type 0) (asked : AsksThen steady world dir questions old end none known P) (is : new ≡ end) (empty : none ≡ []) (quiet : question_events asked.rest ≡ []) where
   asks : Asks steady world dir old asked.mid [] known
   asks = subst (λ (l : List Answer). Asks steady world dir old asked.mid l known) empty asked.asks
 
@@ -84,13 +109,21 @@ module _ (steady : Bool) (world : Question → WorldOutcome) (dir : List ℕ) (o
   pub then_extends : new ≡ old ++ since old new
   then_extends = since_extends old asked.mid new grown behind
 
-  pub then_asked : Asked steady world dir (since old new)
-  then_asked = asked_before steady world dir old asked.mid new grown behind (asked_by steady world dir old asked.mid known asks).0 silent
+  pub then_asked : Asked steady world dir questions (since old new)
+  then_asked = asked_before steady world dir questions old asked.mid new grown behind (asked_by steady world dir questions old asked.mid known asks asked.own).0 silent
 
   answers_are : answers (since old new) ≡ known
   answers_are =
       ap answers (since_since old asked.mid new grown behind) ∙ flat_map-append answer_of (since old asked.mid) (since asked.mid new)
-      ∙ ap (λ l. answers (since old asked.mid) ++ l) (aside_answers (since asked.mid new) silent) ∙ append-nil (answers (since old asked.mid)) ∙ sym (asked_by steady world dir old asked.mid known asks).1
+      ∙ ap (λ l. answers (since old asked.mid) ++ l) (aside_answers (since asked.mid new) silent) ∙ append-nil (answers (since old asked.mid)) ∙ sym (asked_by steady world dir questions old asked.mid known asks asked.own).1
+
+  -- nothing is done to a child, where the part behind the questions does nothing to one
+  pub then_childless : list_any is_of_children asked.rest ≡ false → list_any is_of_children (since old new) ≡ false
+  then_childless none =
+      ap (list_any is_of_children) (since_since old asked.mid new grown behind) ∙ list_any-append is_of_children (since old asked.mid) (since asked.mid new)
+      ∙ or_neither (list_any is_of_children (since old asked.mid)) (list_any is_of_children (since asked.mid new))
+      (no_children (since old asked.mid) (ap (list_all is_asked) (part_is old asked.mid asks.part asks.extends) ∙ asks.asked))
+      (ap (list_any is_of_children) rest_is ∙ none)
 
   pub under_then : {Q : Look → Type 0} → ((look : Look) → Agrees look known → Q look) → Holds (answers (since old new)) Q
   under_then so = record { under = λ look agree. so look (subst (Agrees look) answers_are agree) }

@@ -151,12 +151,12 @@ unspent patience p n part is u = subst (λ (o : Option ℕ). Unspent o n part) i
 where_some : (P : ℕ → Type 0) (o : Option ℕ) (n : ℕ) → o ≡ Some n → IfSome o P → P n
 where_some P o n is h = subst (λ (o : Option ℕ). IfSome o P) is h
 
-module _ (t : Terms) (total p : ℕ) (owned : t.total ≡ Some total) (told : t.patience ≡ Some p) where
+module _ (t : Terms) (total p : ℕ) (owned : t.total ≡ Some total) (patient : t.patience ≡ Some p) where
   did_bound : (s : Stage) (part : List Event) (x y : Means) → Did t s part x y → turns part ≤ p * length (commands_of s)
   did_bound (Calls step) part x y d = let none : turns part ≡ 0 = ap turns d.1.0 ∙ step_turns step d.0 d.1.1 in omega arith
   did_bound Asks part x y d = let none : turns part ≡ 0 = asked_turns part d.0 in omega arith
-  did_bound (RunsOne c) part x y d = bounded t.patience p 1 part told d.bound
-  did_bound (RunsAll ps) part x y d = bounded t.patience p (length ps) part told (where_some (λ _. Bounded t.patience (length ps) part) t.total total owned d.bound)
+  did_bound (RunsOne c) part x y d = bounded t.patience p 1 part patient d.bound
+  did_bound (RunsAll ps) part x y d = bounded t.patience p (length ps) part patient (where_some (λ _. Bounded t.patience (length ps) part) t.total total owned d.bound)
 
   stages_bound : (stages : List Stage) (part : List Event) (x y : Means) → Went t stages part x y → turns part ≤ p * length (commands_in stages)
   stages_bound [] part x y w = let none : turns part ≡ 0 = ap turns w.0 in omega arith
@@ -167,9 +167,9 @@ module _ (t : Terms) (total p : ℕ) (owned : t.total ≡ Some total) (told : t.
       let sum : p * length (commands_in (s ∷ ss)) ≡ p * length (commands_of s) + p * length (commands_in ss) = ap (λ n. p * n) (length-append (commands_of s) (commands_in ss)) ∙ mul-add p (length (commands_of s)) (length (commands_in ss)) in
       omega arith
 
--- where one caller owns the pool and patience is told, the stages take no more turns than that, for each command
+-- where one caller owns the pool and patience is known, the stages take no more turns than that, for each command
 pub went_bound : (t : Terms) (stages : List Stage) (part : List Event) (x y : Means) (total p : ℕ) → t.total ≡ Some total → t.patience ≡ Some p → Went t stages part x y → turns part ≤ p * length (commands_in stages)
-went_bound t stages part x y total p owned told w = stages_bound t total p owned told stages part x y w
+went_bound t stages part x y total p owned patient w = stages_bound t total p owned patient stages part x y w
 
 -- ---- the turns were spent
 
@@ -204,16 +204,16 @@ spends : (is e : ErrorSeen) → e.kind ≡ SpendsTurns → IsOf is e → is.kind
 spends is e h (inl memory) = absurd (let k : no_memory.kind ≡ SpendsTurns = ap (λ o. o.kind) (sym memory) ∙ h in cc)
 spends is e h (inr same) = ap (λ o. o.kind) (sym same) ∙ h
 
-module _ (t : Terms) (total p : ℕ) (owned : t.total ≡ Some total) (told : t.patience ≡ Some p) where
+module _ (t : Terms) (total p : ℕ) (owned : t.total ≡ Some total) (patient : t.patience ≡ Some p) where
   stops_bound : (s : Stage) (part : List Event) (e : ErrorSeen) (x y : Means) → Stops t s part e x y → e.kind ≡ SpendsTurns → turns part < p * length (commands_of s)
   stops_bound (Calls step) part e x y d h = absurd (stop_kind step d.0 (spends (stop_error step d.0) e h d.1.2))
   stops_bound Asks part e x y d h = absurd d
   stops_bound (RunsOne c) part e x y d h =
       let is : d.0 ≡ TurnsSpent = run_kind (c ∷ []) d.0 (spends (run_error (c ∷ []) d.0) e h d.1.1) in
-      unspent t.patience p 1 part told (d.1.0.enough (ap Err is))
+      unspent t.patience p 1 part patient (d.1.0.enough (ap Err is))
   stops_bound (RunsAll ps) part e x y d h =
       let is : d.0 ≡ TurnsSpent = run_kind ps d.0 (spends (run_error ps d.0) e h d.1.1) in
-      unspent t.patience p (length ps) part told (where_some (λ _. Unspent t.patience (length ps) part) t.total total owned (d.1.0.enough (ap Err is)))
+      unspent t.patience p (length ps) part patient (where_some (λ _. Unspent t.patience (length ps) part) t.total total owned (d.1.0.enough (ap Err is)))
 
   unspent_refusal : (refusal : Option ErrorSeen) (e : ErrorSeen) → ((e' : ErrorSeen) → refusal ≡ Some e' → e'.kind ≡ SpendsTurns → ⊥) → (e ≡ no_memory) ⊎ (refusal ≡ Some e) → e.kind ≡ SpendsTurns → ⊥
   unspent_refusal refusal e other (inl memory) h = let k : no_memory.kind ≡ SpendsTurns = ap (λ o. o.kind) (sym memory) ∙ h in cc
@@ -229,9 +229,9 @@ module _ (t : Terms) (total p : ℕ) (owned : t.total ≡ Some total) (told : t.
 
 -- a run that ended for want of turns made fewer than that
 pub halted_bound : (t : Terms) (refusal : Option ErrorSeen) (stages : List Stage) (part : List Event) (e : ErrorSeen) (x y : Means) (total p : ℕ) → t.total ≡ Some total → t.patience ≡ Some p → ((e' : ErrorSeen) → refusal ≡ Some e' → e'.kind ≡ SpendsTurns → ⊥) → Halted t refusal stages part e x y → e.kind ≡ SpendsTurns → turns part < p * length (commands_in stages)
-halted_bound t refusal stages part e x y total p owned told other h k =
+halted_bound t refusal stages part e x y total p owned patient other h k =
     let both : turns part ≡ turns h.front + turns h.rest = both_turns part h.front h.rest h.cut in
-    let first : turns h.front ≤ p * length (commands_in h.before) = went_bound t h.before h.front x h.y total p owned told h.went in
-    let more : turns h.rest < p * length (commands_in h.after) = halts_bound t total p owned told refusal h.after h.rest e h.y y other h.halts k in
+    let first : turns h.front ≤ p * length (commands_in h.before) = went_bound t h.before h.front x h.y total p owned patient h.went in
+    let more : turns h.rest < p * length (commands_in h.after) = halts_bound t total p owned patient refusal h.after h.rest e h.y y other h.halts k in
     let sum : p * length (commands_in stages) ≡ p * length (commands_in h.before) + p * length (commands_in h.after) = ap (λ l. p * length (commands_in l)) h.stages_are ∙ ap (λ l. p * length l) (commands_then h.before h.after) ∙ ap (λ n. p * n) (length-append (commands_in h.before) (commands_in h.after)) ∙ mul-add p (length (commands_in h.before)) (length (commands_in h.after)) in
     omega arith

@@ -1,11 +1,16 @@
 -- What a build is seen as, and what its setters do.
-use Rattle.std.specs.Prelude.{◌≡◌, ℕ, List, [], ◌∷◌, ◌++◌, Option, unwrap_or}
+use Rattle.std.specs.Prelude.{◌≡◌, ℕ, Bool, List, [], ◌∷◌, ◌++◌, Option, unwrap_or}
 use Rattle.cc_env.specs.Env.{EnvSeen}
 use Rattle.cc_env.specs.Snapshot.{snapshot_of}
+use Rattle.cc_host.specs.declared.event.Event.{Event}
+use Rattle.cc_host.specs.declared.question.Outcome.{Outcome}
+use Rattle.cc_host.specs.declared.question.Question.{Question}
 use Rattle.cc_plan.specs.Given.{variable_flags, probe_folder}
+use Rattle.cc_plan.specs.Questions.{PlanAsks, SupportAsks}
 use Rattle.cc_plan.specs.Settings.{unset_settings}
 use Rattle.cc_plan.specs.declared.flags.Definition.{Definition}
 use Rattle.cc_plan.specs.declared.settings.BuildConfig.{BuildConfig}
+use Rattle.cc_tool.specs.Asked.{Asked}
 
 -- its plain settings, and the variables that it inherits and sets
 pub record BuildSeen : Type 0 where
@@ -35,6 +40,14 @@ flags_in b name = unwrap_or (variable_flags b.config b.env name) []
 -- the folder of the probe files of a build's questions
 abbrev pub probes : BuildSeen → List ℕ
 probes b = probe_folder b.config b.env
+
+-- each question of a part is one that the plan of a build asks, with its probe files in their folder
+abbrev pub AsksByPlan : Bool → (Question → Outcome) → BuildSeen → List Event → Type 0
+AsksByPlan steady world b part = Asked steady world (probes b) (PlanAsks b.config b.env) part
+
+-- the same of one that is asked to learn whether its compiler takes a flag
+abbrev pub AsksByFlag : Bool → (Question → Outcome) → BuildSeen → List ℕ → List Event → Type 0
+AsksByFlag steady world b flag part = Asked steady world (probes b) (SupportAsks b.config b.env flag) part
 
 -- no source, nothing set and an empty environment
 abbrev pub fresh_build : BuildSeen

@@ -27,17 +27,17 @@ pub record Accepted (set : BuildConfig) (env : EnvSeen) (look : Look) (output : 
 abbrev pub ended_well : ℕ → Run
 ended_well count = record { live = []; begun = count; failed = None }
 
--- The part is cut at the removal of the old library, and before the link lines; `told` tells whether the run is told of flags for the linker.
+-- The part is cut at the removal of the old library, and before the link lines; `warns_of_link` says whether the run is one that warns of flags for the linker.
 pub record Built (t : Terms) (set : BuildConfig) (env : EnvSeen) (look : Look) (output : List ℕ) (part : List Event) : Type 0 where
   pub accepted : Accepted set env look output
-  pub told : Bool
+  pub warns_of_link : Bool
   pub runs : List Event
   pub how : Removal
   pub archives : List Event
   pub lines : List Event
   pub cut : part ≡ runs ++ Removed (library_of set env output) how ∷ archives ++ lines
   -- the folder was made, questions were asked, the warnings were printed, and the compile commands were run
-  pub compiled : Goes t (folder_stages set env ++ Asks ∷ compile_stages set env told look) runs
+  pub compiled : Goes t (folder_stages set env ++ Asks ∷ compile_stages set env warns_of_link look) runs
   -- one planned compile command per source was started, in the order added, and nothing else
   pub compiles : started runs ≡ asked t.shows (planned Compile (compiles_of set env look))
   -- and each of them has ended with 0

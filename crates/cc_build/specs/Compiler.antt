@@ -19,9 +19,9 @@ use Rattle.cc_build.specs.Refusal.{plan_error}
 abbrev pub tool_error : BuildConfig → EnvSeen → Look → Option ErrorSeen
 tool_error set env look = option_map (plan_error set env []) (tool_refusal set env look)
 
--- its warnings are printed, where they are wanted; `told` tells whether the call is told of flags for the linker
+-- its warnings are printed, where they are wanted; `warns_of_link` says whether the call is one that warns of flags for the linker
 abbrev pub tool_steps : BuildConfig → EnvSeen → Bool → Look → List Step
-tool_steps set env told look = prints Warning (tool_lines set env told look)
+tool_steps set env warns_of_link look = prints Warning (tool_lines set env warns_of_link look)
 
 -- this is the planned tool
 abbrev pub IsTool : BuildConfig → EnvSeen → ToolSeen → Look → Type 0
@@ -29,4 +29,4 @@ IsTool set env tool look = tool ≡ tool_of set env look
 
 -- its warnings were printed, or the error has its cause
 abbrev pub ToolEnds : {T : Type 0} → BuildConfig → EnvSeen → Result T ErrorSeen → Look → List Event → Type 0
-ToolEnds set env result look part = (told : Bool) × Outcome (tool_error set env look) (tool_steps set env told look) part result
+ToolEnds set env result look part = (warns_of_link : Bool) × Outcome (tool_error set env look) (tool_steps set env warns_of_link look) part result

@@ -9,7 +9,7 @@ use Rattle.cc_build.specs.Error.{ErrorSeen}
 use Rattle.cc_build.specs.Stage.{Stage, calls}
 use Rattle.cc_build.specs.Went.{Terms, Means, terms, means, Ends}
 
--- the total of the pool and the patience of the host, where they are told, and what was left of the means before and behind the run
+-- the total of the pool and the patience of the host, where they are known, and what was left of the means before and behind the run
 pub record Course : Type 0 where
   pub total : Option ℕ
   pub patience : Option ℕ

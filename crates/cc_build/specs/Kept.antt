@@ -12,11 +12,6 @@ pub record Aside {X : Type 0} (log : X → List Event) (patience : X → Option 
   pub extends : log new ≡ log old ++ part log old new
   pub asks_none : question_events (part log old new) ≡ []
 
--- the seat is one of these jobs, and holds no token
-pub record Idle {J S : Type 0} (fits : J → S → Type 0) (held : S → ℕ) (jobs : J) (seat : S) : Type 0 where
-  pub fits_in : fits jobs seat
-  pub empty : held seat ≡ 0
-
 -- what is left of the turns and of a seat
 abbrev pub left_at : {S : Type 0} → (S → ℕ) → (S → ℕ) → (S → ℕ) → Turns → S → Means
 left_at faults taken load turns seat = means turns.left (faults seat) (taken seat) (load seat)

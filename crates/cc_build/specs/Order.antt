@@ -18,12 +18,12 @@ is_archive_event (Missing Archive cmd) = true
 is_archive_event _ = false
 
 -- before an archive command of the part the folder was made, and the compile command of every source ended with 0
-pub record CompiledBefore (t : Terms) (set : BuildConfig) (env : EnvSeen) (told : Bool) (look : Look) (before : List Event) : Type 0 where
+pub record CompiledBefore (t : Terms) (set : BuildConfig) (env : EnvSeen) (warns_of_link : Bool) (look : Look) (before : List Event) : Type 0 where
   pub runs : List Event
   pub rest : List Event
   pub cut : before ≡ runs ++ rest
-  pub compiled : Goes t (folder_stages set env ++ Asks ∷ compile_stages set env told look) runs
+  pub compiled : Goes t (folder_stages set env ++ Asks ∷ compile_stages set env warns_of_link look) runs
 
 -- No archive command stands in the part unless that stands before it.
 abbrev pub ArchivesLast : Terms → BuildConfig → EnvSeen → Look → List Event → Type 0
-ArchivesLast t set env look part = (before after : List Event) (event : Event) → part ≡ before ++ event ∷ after → is_archive_event event ≡ true → (told : Bool) × CompiledBefore t set env told look before
+ArchivesLast t set env look part = (before after : List Event) (event : Event) → part ≡ before ++ event ∷ after → is_archive_event event ≡ true → (warns_of_link : Bool) × CompiledBefore t set env warns_of_link look before

@@ -30,10 +30,10 @@ IsPlanError set env output e look = (e ≡ no_memory) ⊎ (option_map (plan_erro
 
 -- commands may run, nothing is refused behind the folder, and these are the stages behind the questions
 pub record Drafts (set : BuildConfig) (env : EnvSeen) (output : List ℕ) (stages : List Stage) (look : Look) : Type 0 where
-  pub told : Bool
+  pub warns_of_link : Bool
   pub enabled : is_disabled env ≡ false
   pub allowed : late_refusal set env look ≡ None
-  pub are : stages ≡ run_stages set env told look output
+  pub are : stages ≡ run_stages set env warns_of_link look output
 
 -- no command may run, or the plan is refused, with this error; or memory was wanted
 abbrev pub IsLateError : BuildConfig → EnvSeen → List ℕ → ErrorSeen → Look → Type 0

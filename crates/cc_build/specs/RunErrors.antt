@@ -18,7 +18,7 @@ abbrev pub error_of : (CommandSeen → ErrorSeen) → Option CommandSeen → Err
 error_of error (Some cmd) = error cmd
 error_of error None = no_memory
 
--- the error of a run's refusal, which is told by the command at its place
+-- the error of a run's refusal, which names the command at its place
 abbrev pub run_error : List Planned → RunError → ErrorSeen
 run_error cmds (ToolNotFound place) = error_of missing_error (command_at cmds place)
 run_error cmds (Failed place status) = error_of (failed_error status) (command_at cmds place)

@@ -55,7 +55,7 @@ folder_stages set env = calls (folder_steps set env)
 
 -- the warnings of the plan are printed, then the sources are compiled
 unfoldable pub compile_stages : BuildConfig → EnvSeen → Bool → Look → List Stage
-compile_stages set env told look = calls (prints Warning (warning_lines set env told look)) ++ beside (planned Compile (compiles_of set env look))
+compile_stages set env warns_of_link look = calls (prints Warning (warning_lines set env warns_of_link look)) ++ beside (planned Compile (compiles_of set env look))
 
 -- the old library is removed
 unfoldable pub removal_stages : BuildConfig → EnvSeen → List ℕ → List Stage
@@ -71,12 +71,12 @@ link_stages set env output = calls (link_steps set env output)
 
 -- the stages behind the questions
 abbrev pub run_stages : BuildConfig → EnvSeen → Bool → Look → List ℕ → List Stage
-run_stages set env told look output = compile_stages set env told look ++ (removal_stages set env output ++ (archive_stages set env output ++ link_stages set env output))
+run_stages set env warns_of_link look output = compile_stages set env warns_of_link look ++ (removal_stages set env output ++ (archive_stages set env output ++ link_stages set env output))
 
 -- The stages behind the folder: none where no command may run, questions alone where the settings are refused by the answers.
 unfoldable pub late_stages : BuildConfig → EnvSeen → Bool → Look → List ℕ → List Stage
-late_stages set env told look output = if is_disabled env then [] else Asks ∷ (if is_some (late_refusal set env look) then [] else run_stages set env told look output)
+late_stages set env warns_of_link look output = if is_disabled env then [] else Asks ∷ (if is_some (late_refusal set env look) then [] else run_stages set env warns_of_link look output)
 
 -- The stages of a compile run. Settings that are refused before the folder is made have none.
 unfoldable pub planned_stages : BuildConfig → EnvSeen → Bool → Look → List ℕ → List Stage
-planned_stages set env told look output = if is_some (early_refusal set env output) then [] else folder_stages set env ++ late_stages set env told look output
+planned_stages set env warns_of_link look output = if is_some (early_refusal set env output) then [] else folder_stages set env ++ late_stages set env warns_of_link look output

@@ -23,7 +23,7 @@ use Rattle.cc_build.specs.Stage.{Stage}
 use Rattle.cc_build.specs.Stage.Stage.{Calls, Asks, RunsOne, RunsAll}
 use Rattle.cc_build.specs.Stop.{stop_error}
 
--- what a run is given: what it shows, the total of its pool where one caller owns it, and the patience of its host where it is told
+-- what a run is given: what it shows, the total of its pool where one caller owns it, and the patience of its host where it is known
 pub record Terms : Type 0 where
   pub shows : Shows
   pub total : Option ℕ

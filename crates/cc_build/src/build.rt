@@ -1,22 +1,23 @@
 // A build: its settings and its environment, and the compile run.
-ghost use Rattle.std.specs.Prelude.{◌≡◌, ◌++◌, ◌⊎◌, [], Some, None, IfOk, IfErr, OnOk, OnErr};
+ghost use Rattle.std.specs.Prelude.{◌≡◌, ◌++◌, ◌⊎◌, [], Some, None, false, IfOk, IfErr, OnOk, OnErr};
+ghost use Rattle.std.specs.List.{list_any};
 ghost use Rattle.cc_host.specs.Call.{part, ByAnswers};
-ghost use Rattle.cc_tool.specs.Asked.{question_events, Asked};
-ghost use Rattle.cc_build.specs.Build.{Sets, TakesVars, flags_in, fresh_build, probes};
+ghost use Rattle.cc_plan.specs.Asking.{is_of_children};
+ghost use Rattle.cc_tool.specs.Asked.{question_events};
+ghost use Rattle.cc_build.specs.Build.{Sets, TakesVars, flags_in, fresh_build, AsksByPlan};
 ghost use Rattle.cc_build.specs.Captured.{Captures, CaptureEnds};
 ghost use Rattle.cc_build.specs.Compiler.{IsTool, ToolEnds};
 ghost use Rattle.cc_build.specs.Course.{ByPart, ByRun};
 ghost use Rattle.cc_build.specs.Error.{no_memory};
-ghost use Rattle.cc_build.specs.FlagSupport.{IsVerdict, SupportEnds};
 ghost use Rattle.cc_build.specs.Flags.{always, flags_error};
 ghost use Rattle.cc_build.specs.Promises.{IsBuilt, Promises, NothingRuns, FaultsEnd};
 
 use crate::Error;
 use crate::compiler::compiler;
 use crate::environment::flags_of_variable;
+use crate::goal::Goal;
 use crate::lists::always;
 use crate::run::list_vars;
-use crate::support::is_flag_supported;
 use cc_env::{BuildEnv, EnvSnapshot};
 use cc_host::{Host, World};
 use cc_jobs::Jobs;
@@ -158,38 +159,6 @@ impl<W: World> Build<W> {
         Ok(())
     }
 
-    /// Whether the compiler of this build takes a flag, by compiling a source of one line with it and no other flag of the build, in the
-    /// out dir or, where none is set, the folder for temporary files; in a relative folder no flag is taken. False also where the flag is
-    /// `/link` and the compiler Visual Studio's, since it is for the linker. Prints the warnings of how the compiler was found, where
-    /// they are on. The verdict is kept, and serves later calls of this build and its clones.
-    ///
-    /// Refused with IOError where the compiler is missing, could not be asked, or a warning could not be printed; with the error of the
-    /// settings where the target or the host is set nowhere, the target isn't known, or the command that tries the flag would be refused;
-    /// and for memory. The build is as before; what was asked until then is kept, and no file stays.
-    pub fn is_flag_supported<H: Host<W>>(
-        &self,
-        rt: &impl Wait,
-        host: &mut H,
-        flag: &str,
-    ) -> Result<bool, Error>
-        ensures extends { H.log host.new ≡ H.log host.old ++ part H.log host.old host.new }
-        ensures asked { Asked W.steady W.answer (probes self.now) (part H.log host.old host.new) }
-        ensures supported { IfOk result (λ b. ByAnswers H.log host.old host.new
-            (IsVerdict self.now.config self.now.env flag.now b)) }
-        ensures outcome { ByPart H.log host.old host.new
-            (SupportEnds self.now.config self.now.env flag.now result) }
-    {
-        is_flag_supported(
-            rt,
-            self.alloc,
-            host,
-            &self.caches,
-            &self.config,
-            &self.env,
-            flag,
-        )
-    }
-
     /// The compiler of this build: the program with its wrapper, the words that each source is compiled with, and its variables. To find
     /// it the compiler is asked for its family and for flags; then the warnings of its plan are printed, where they are on.
     ///
@@ -198,7 +167,8 @@ impl<W: World> Build<W> {
     /// asked until then is kept, and no file stays.
     pub fn try_get_compiler<H: Host<W>>(&self, rt: &impl Wait, host: &mut H) -> Result<Tool, Error>
         ensures extends { H.log host.new ≡ H.log host.old ++ part H.log host.old host.new }
-        ensures asked { Asked W.steady W.answer (probes self.now) (part H.log host.old host.new) }
+        ensures asked { AsksByPlan W.steady W.answer self.now (part H.log host.old host.new) }
+        ensures childless { list_any is_of_children (part H.log host.old host.new) ≡ false }
         ensures tool { IfOk result (λ tool. ByAnswers H.log host.old host.new
             (IsTool self.now.config self.now.env tool)) }
         ensures outcome { ByPart H.log host.old host.new
@@ -234,7 +204,7 @@ impl<W: World> Build<W> {
         ensures total { J.total seat.new ≡ J.total seat.old }
         ensures patient { H.patience host.new ≡ H.patience host.old }
         ensures extends { H.log host.new ≡ H.log host.old ++ part H.log host.old host.new }
-        ensures asked { Asked W.steady W.answer (probes self.now) (part H.log host.old host.new) }
+        ensures asked { AsksByPlan W.steady W.answer self.now (part H.log host.old host.new) }
 
         // Ok: the library is built.
         ensures built { ByRun H.log H.patience J.total J.faults J.taken J.load turns
@@ -246,6 +216,6 @@ impl<W: World> Build<W> {
         ensures settled { NothingRuns (part H.log host.old host.new) }
         ensures faults_last { FaultsEnd (part H.log host.old host.new) }
     {
-        self.compile(rt, host, jobs, seat, turns, output)
+        self.compile(rt, host, jobs, seat, Goal { output, turns })
     }
 }

@@ -1,8 +1,11 @@
 // The compiler of a build.
-ghost use Rattle.std.specs.Prelude.{◌≡◌, ◌++◌, IfOk};
+ghost use Rattle.std.specs.Prelude.{◌≡◌, ◌++◌, false, IfOk};
+ghost use Rattle.std.specs.List.{list_any};
 ghost use Rattle.cc_host.specs.Call.{part, ByAnswers};
 ghost use Rattle.cc_host.specs.Question.{answers};
+ghost use Rattle.cc_plan.specs.Asking.{is_of_children};
 ghost use Rattle.cc_plan.specs.Given.{probe_folder};
+ghost use Rattle.cc_plan.specs.Questions.{PlanAsks};
 ghost use Rattle.cc_build.specs.Compiler.{IsTool, ToolEnds};
 ghost use Rattle.cc_build.specs.Course.{ByPart};
 ghost use Rattle.cc_tool.specs.Asked.{Asked};
@@ -29,7 +32,8 @@ pub(crate) fn compiler<W: World, H: Host<W>>(
 ) -> Result<Tool, Error>
     ensures extends { H.log host.new ≡ H.log host.old ++ part H.log host.old host.new }
     ensures asked { Asked W.steady W.answer (probe_folder set.now env.now)
-        (part H.log host.old host.new) }
+        (PlanAsks set.now env.now) (part H.log host.old host.new) }
+    ensures childless { list_any is_of_children (part H.log host.old host.new) ≡ false }
     ensures tool { IfOk result (λ tool. ByAnswers H.log host.old host.new
         (IsTool set.now env.now tool)) }
     ensures outcome { ByPart H.log host.old host.new (ToolEnds set.now env.now result) }

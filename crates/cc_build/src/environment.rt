@@ -26,7 +26,7 @@ fn absent(alloc: Global, name: &str) -> Mem<Error>
     let subject = Text::of(alloc, name)?;
     let mut message = Text::of(alloc, "could not find environment variable ")?;
     message.push_str(name)?;
-    Ok(Error::told(ErrorKind::EnvVarNotFound, subject, message))
+    Ok(Error::new(ErrorKind::EnvVarNotFound, subject, message))
 }
 
 // A value that is wanted.

@@ -42,7 +42,7 @@ pub enum ErrorKind {
 }
 
 #[derive(Drop, Debug)]
-struct Told {
+struct Details {
     kind: ErrorKind,
     subject: Text,
     message: Text,
@@ -51,7 +51,7 @@ struct Told {
 /// Why a build was refused: a kind, the value that it is about, and a message for the user.
 #[derive(Drop, Debug)]
 pub struct Error {
-    told: Option<Told>,
+    details: Option<Details>,
 }
 
 impl Model for Error {
@@ -74,15 +74,15 @@ impl Error {
     {
         let subject = Text::of(alloc, subject)?;
         let message = Text::of(alloc, message)?;
-        Ok(Error::told(kind, subject, message))
+        Ok(Error::new(kind, subject, message))
     }
 
-    // An error that tells something.
-    pub(crate) fn told(kind: ErrorKind, subject: Text, message: Text) -> Error
+    // An error with these texts.
+    pub(crate) fn new(kind: ErrorKind, subject: Text, message: Text) -> Error
         ensures { result ≡ record { kind = kind; subject = subject; message = message } }
     {
         Error {
-            told: Some(Told {
+            details: Some(Details {
                 kind,
                 subject,
                 message,
@@ -94,15 +94,15 @@ impl Error {
     pub(crate) fn no_memory() -> Error
         ensures { result ≡ no_memory }
     {
-        Error { told: None }
+        Error { details: None }
     }
 
     /// What kind it is of.
     pub fn kind(&self) -> ErrorKind
         ensures { result ≡ self.now.kind }
     {
-        match &self.told {
-            Some(told) => told.kind,
+        match &self.details {
+            Some(details) => details.kind,
             None => ErrorKind::NoMemory,
         }
     }
@@ -112,8 +112,8 @@ impl Error {
     pub fn subject(&self) -> &str
         ensures { result.now ≡ self.now.subject }
     {
-        match &self.told {
-            Some(told) => told.subject.as_str(),
+        match &self.details {
+            Some(details) => details.subject.as_str(),
             None => "",
         }
     }
@@ -123,8 +123,8 @@ impl Error {
     pub fn message(&self) -> &str
         ensures { result.now ≡ self.now.message }
     {
-        match &self.told {
-            Some(told) => told.message.as_str(),
+        match &self.details {
+            Some(details) => details.message.as_str(),
             None => "",
         }
     }
@@ -133,15 +133,15 @@ impl Error {
     pub fn try_clone(&self) -> Mem<Error>
         ensures { IfOk result (λ e. e ≡ self.now) }
     {
-        let told = match &self.told {
-            Some(told) => Some(Told {
-                kind: told.kind,
-                subject: told.subject.try_clone()?,
-                message: told.message.try_clone()?,
+        let details = match &self.details {
+            Some(details) => Some(Details {
+                kind: details.kind,
+                subject: details.subject.try_clone()?,
+                message: details.message.try_clone()?,
             }),
             None => None,
         };
-        Ok(Error { told })
+        Ok(Error { details })
     }
 }
 

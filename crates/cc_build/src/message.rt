@@ -57,7 +57,7 @@ pub(crate) fn missing(alloc: Global, cmd: &Command) -> Mem<Error>
     let name = quoted(alloc, cmd.get_program())?;
     let mut message = Text::of(alloc, "failed to find tool ")?;
     message.push_str(name.as_str())?;
-    Ok(Error::told(ErrorKind::ToolNotFound, subject, message))
+    Ok(Error::new(ErrorKind::ToolNotFound, subject, message))
 }
 
 // The command ended with another status than 0.
@@ -67,7 +67,7 @@ pub(crate) fn failed(alloc: Global, status: Status, cmd: &Command) -> Mem<Error>
 {
     let subject = Text::of(alloc, cmd.get_program())?;
     let message = failed_text(alloc, status, cmd)?;
-    Ok(Error::told(ErrorKind::ToolExecError, subject, message))
+    Ok(Error::new(ErrorKind::ToolExecError, subject, message))
 }
 
 // The host couldn't run the command.
@@ -80,7 +80,7 @@ pub(crate) fn unstarted(alloc: Global, cmd: &Command) -> Mem<Error>
     let mut message = Text::of(alloc, "command ")?;
     message.push_str(line.as_str())?;
     message.push_str(" failed to start")?;
-    Ok(Error::told(ErrorKind::ToolExecError, subject, message))
+    Ok(Error::new(ErrorKind::ToolExecError, subject, message))
 }
 
 #[tactic(auto, unfolding(crate::specs::Stop::fault_error))]
@@ -91,7 +91,7 @@ fn fault(alloc: Global, call: HostCall, why: Why, subject: &str) -> Mem<Error>
     message.push_str(" failed: ")?;
     message.push_str(why_name(why))?;
     let subject = Text::of(alloc, subject)?;
-    Ok(Error::told(ErrorKind::IOError, subject, message))
+    Ok(Error::new(ErrorKind::IOError, subject, message))
 }
 
 // What the host answered in place of making a folder, removing a file, printing or listing its variables.
@@ -119,7 +119,7 @@ fn plain(alloc: Global, kind: ErrorKind, message: &str) -> Mem<Error>
     ensures { IfOk result (λ e. e ≡ record { kind = kind; subject = []; message = message.now }) }
 {
     let message = Text::of(alloc, message)?;
-    Ok(Error::told(kind, Text::new(alloc), message))
+    Ok(Error::new(kind, Text::new(alloc), message))
 }
 
 fn missing_at(alloc: Global, cmd: Option<&Command>) -> Mem<Error>

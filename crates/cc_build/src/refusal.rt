@@ -33,7 +33,7 @@ fn invalid(alloc: Global, subject: &str, message: &str) -> Mem<Error>
 {
     let subject = Text::of(alloc, subject)?;
     let message = Text::of(alloc, message)?;
-    Ok(Error::told(ErrorKind::InvalidArgument, subject, message))
+    Ok(Error::new(ErrorKind::InvalidArgument, subject, message))
 }
 
 // The object of a source in the out dir.
@@ -53,7 +53,7 @@ fn same_object(alloc: Global, set: &BuildConfig, env: &BuildEnv, source: &str) -
     let subject = object_in(alloc, set, env, source)?;
     let mut message = Text::of(alloc, "two sources have the object ")?;
     message.push_str(subject.as_str())?;
-    Ok(Error::told(ErrorKind::InvalidArgument, subject, message))
+    Ok(Error::new(ErrorKind::InvalidArgument, subject, message))
 }
 
 fn argument_error(
@@ -89,7 +89,7 @@ pub(crate) fn not_set(alloc: Global, name: Text) -> Mem<Error>
     let mut message = Text::of(alloc, "environment variable ")?;
     message.push_str(name.as_str())?;
     message.push_str(" not defined")?;
-    Ok(Error::told(ErrorKind::EnvVarNotFound, name, message))
+    Ok(Error::new(ErrorKind::EnvVarNotFound, name, message))
 }
 
 fn unknown_target(alloc: Global, target: Text) -> Mem<Error>
@@ -97,7 +97,7 @@ fn unknown_target(alloc: Global, target: Text) -> Mem<Error>
 {
     let mut message = Text::of(alloc, "unknown target ")?;
     message.push_str(target.as_str())?;
-    Ok(Error::told(ErrorKind::UnknownTarget, target, message))
+    Ok(Error::new(ErrorKind::UnknownTarget, target, message))
 }
 
 fn qnx_arch(alloc: Global, arch: Text) -> Mem<Error>
@@ -105,7 +105,7 @@ fn qnx_arch(alloc: Global, arch: Text) -> Mem<Error>
 {
     let mut message = Text::of(alloc, "Unknown architecture for Neutrino QNX: ")?;
     message.push_str(arch.as_str())?;
-    Ok(Error::told(ErrorKind::InvalidTarget, arch, message))
+    Ok(Error::new(ErrorKind::InvalidTarget, arch, message))
 }
 
 fn invalid_flag(alloc: Global, flag: Text) -> Mem<Error>
@@ -113,7 +113,7 @@ fn invalid_flag(alloc: Global, flag: Text) -> Mem<Error>
 {
     let mut message = Text::of(alloc, flag.as_str())?;
     message.push_str(" must have a value")?;
-    Ok(Error::told(ErrorKind::InvalidFlag, flag, message))
+    Ok(Error::new(ErrorKind::InvalidFlag, flag, message))
 }
 
 // No command may run.
@@ -122,7 +122,7 @@ pub(crate) fn disabled(alloc: Global) -> Mem<Error>
 {
     let subject = Text::of(alloc, "CC_FORCE_DISABLE")?;
     let message = Text::of(alloc, "cc has been disabled by CC_FORCE_DISABLE")?;
-    Ok(Error::told(ErrorKind::Disabled, subject, message))
+    Ok(Error::new(ErrorKind::Disabled, subject, message))
 }
 
 // The error of a refusal, for a compile run of these settings with this output.

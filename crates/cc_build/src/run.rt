@@ -7,17 +7,19 @@ ghost use Rattle.cc_host.specs.declared.event.Event.TheVariants.{Listed};
 ghost use Rattle.cc_host.specs.declared.event.Role.TheVariants.{Compile};
 ghost use Rattle.cc_host.specs.declared.event.Scope.TheVariants.{Build};
 ghost use Rattle.cc_plan.specs.Link.{printed_line as line_of};
+ghost use Rattle.cc_run.specs.Keeping.{IsIdle};
 ghost use Rattle.cc_build.specs.Course.{OnCourse, DoesAlone, Does, CallsEnd};
-ghost use Rattle.cc_build.specs.Kept.{Aside, Idle};
+ghost use Rattle.cc_build.specs.Kept.{Aside};
 ghost use Rattle.cc_build.specs.Stage.{planned};
 ghost use Rattle.cc_build.specs.Stage.Stage.{RunsOne, RunsAll};
 
 use crate::Error;
 use crate::message::{host_error, or_no_memory};
+use crate::reporting::Reporting;
 use cc_host::{Command, Host, LineKind, Role, Scope, World};
 use cc_jobs::Jobs;
 use cc_plan::printed_line;
-use cc_run::{Planned, Shows, Turns, run_all, run_one};
+use cc_run::{Planned, Turns, run_all, run_one};
 use cc_text::{Mem, Vars};
 use std::alloc::Global;
 use std::slice;
@@ -40,48 +42,48 @@ pub(crate) fn planned(alloc: Global, role: Role, cmds: Vec<Command>) -> Mem<Vec<
 /// Runs a command alone.
 #[tactic(auto, using(cc_host::proofs::Parts::since_append))]
 pub(crate) fn run_alone<W: World, H: Host<W>>(
-    alloc: Global,
+    reporting: Reporting,
     host: &mut H,
     turns: &mut Turns,
     cmd: &Planned,
-    shows: &Shows,
 ) -> Result<(), Error>
     requires few { turns.old.left + turns.old.used < 2 ^ 64 }
     ensures aside { Aside H.log H.patience host.old host.new }
     ensures sum { turns.new.left + turns.new.used ≡ turns.old.left + turns.old.used }
     ensures outcome { DoesAlone H.log H.patience turns.old.left turns.new.left host.old host.new
-        shows.now (RunsOne cmd.now ∷ []) result }
+        reporting.shows (RunsOne cmd.now ∷ []) result }
 {
-    match run_one(alloc, host, turns, cmd, shows) {
+    match run_one(reporting.alloc, host, turns, cmd, &reporting.shows) {
         Ok(()) => Ok(()),
-        Err(e) => Err(Error::of_run(alloc, e, slice::from_ref(cmd))),
+        Err(e) => Err(Error::of_run(reporting.alloc, e, slice::from_ref(cmd))),
     }
 }
 
 /// Runs two commands or more beside each other, each under a token.
 #[tactic(auto, using(cc_host::proofs::Parts::since_append, crate::proofs::Running::own_asks_none))]
 pub(crate) fn run_together<W: World, H: Host<W>, J: Jobs>(
-    alloc: Global,
+    reporting: Reporting,
     host: &mut H,
     jobs: &J,
     seat: &mut J::Seat,
     turns: &mut Turns,
     cmds: &[Planned],
-    shows: &Shows,
 ) -> Result<(), Error>
-    requires idle { Idle J.fits J.held jobs.now seat.old }
+    requires idle { IsIdle J.fits J.held jobs.now seat.old }
     requires few { turns.old.left + turns.old.used < 2 ^ 64 }
     requires some { 2 ≤ length cmds.now }
     requires compiles { All (λ p. p.role ≡ Compile) cmds.now }
-    ensures idle { Idle J.fits J.held jobs.now seat.new }
+    ensures idle { IsIdle J.fits J.held jobs.now seat.new }
     ensures total { J.total seat.new ≡ J.total seat.old }
     ensures aside { Aside H.log H.patience host.old host.new }
     ensures sum { turns.new.left + turns.new.used ≡ turns.old.left + turns.old.used }
     ensures outcome { OnCourse H.log H.patience J.total J.faults J.taken J.load
         turns.old.left turns.new.left
-        host.old host.new seat.old seat.new (Does shows.now (RunsAll cmds.now ∷ []) result) }
+        host.old host.new seat.old seat.new
+        (Does reporting.shows (RunsAll cmds.now ∷ []) result) }
 {
-    match run_all(alloc, host, jobs, seat, turns, cmds, shows) {
+    let Reporting { alloc, shows } = reporting;
+    match run_all(alloc, host, jobs, seat, turns, cmds, &shows) {
         Ok(()) => Ok(()),
         Err(e) => Err(Error::of_run(alloc, e, cmds)),
     }

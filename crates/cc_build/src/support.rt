@@ -1,21 +1,21 @@
 // Whether the compiler of a build takes a flag.
 ghost use Rattle.std.specs.Prelude.{◌≡◌, ◌++◌, ◌⊎◌, [], Some, false, IfOk, IfErr, OnOk};
+ghost use Rattle.std.specs.List.{list_any};
+ghost use Rattle.cc_plan.specs.Asking.{is_of_children};
 ghost use Rattle.cc_build.specs.Course.{ByPart};
 ghost use Rattle.cc_build.specs.Error.{no_memory};
 ghost use Rattle.cc_build.specs.FlagSupport as spec;
 ghost use Rattle.cc_host.specs.Call.{part, ByAnswers};
 ghost use Rattle.cc_host.specs.Question.{answers, is_yes as yes};
-ghost use Rattle.cc_plan.specs.Given.{probe_folder};
-ghost use Rattle.cc_tool.specs.Asked.{Asked};
+ghost use Rattle.cc_build.specs.Build.{AsksByFlag};
 
 use crate::message::or_no_memory;
 use crate::refusal::plan_error;
-use crate::{Error, ErrorKind};
-use cc_env::BuildEnv;
+use crate::{Build, Error, ErrorKind};
 use cc_host::{Host, Verdict, World, is_yes};
-use cc_plan::{BuildConfig, FlagSupport, Sight, flag_support};
+use cc_plan::{FlagSupport, Sight, flag_support};
 use cc_text::{Mem, Text, quoted};
-use cc_tool::{Answers, Caches};
+use cc_tool::Answers;
 use std::alloc::Global;
 use std::sync::Wait;
 
@@ -35,7 +35,7 @@ fn untried(alloc: Global, path: &str) -> Mem<Error>
     let name = quoted(alloc, path)?;
     message.push_str(name.as_str())?;
     message.push_str(" could not be run")?;
-    Ok(Error::told(ErrorKind::IOError, subject, message))
+    Ok(Error::new(ErrorKind::IOError, subject, message))
 }
 
 // What a verdict on a flag answers.
@@ -52,33 +52,41 @@ fn verdict_answer(alloc: Global, support: &FlagSupport) -> Result<bool, Error>
     Ok(is_yes(&support.verdict))
 }
 
-/// Whether the compiler takes a flag, by questions to the host. Prints the warnings of how the compiler was found.
-#[tactic(auto, using(cc_host::proofs::Parts::since_append))]
-pub(crate) fn is_flag_supported<W: World, H: Host<W>>(
-    rt: &impl Wait,
-    alloc: Global,
-    host: &mut H,
-    caches: &Caches<W>,
-    set: &BuildConfig,
-    env: &BuildEnv,
-    flag: &str,
-) -> Result<bool, Error>
-    ensures extends { H.log host.new ≡ H.log host.old ++ part H.log host.old host.new }
-    ensures asked { Asked W.steady W.answer (probe_folder set.now env.now)
-        (part H.log host.old host.new) }
-    ensures supported { IfOk result
-        (λ b. ByAnswers H.log host.old host.new (spec.IsVerdict set.now env.now flag.now b)) }
-    ensures outcome { ByPart H.log host.old host.new
-        (spec.SupportEnds set.now env.now flag.now result) }
-{
-    let mut answers = Answers::new(alloc);
-    let mut sight = Sight {
-        host,
-        caches,
-        answers: &mut answers,
-    };
-    match flag_support(rt, alloc, set, env, flag, &mut sight) {
-        Ok(support) => verdict_answer(alloc, &support),
-        Err(error) => Err(or_no_memory(plan_error(alloc, set, env, "", error))),
+impl<W: World> Build<W> {
+    /// Whether the compiler of this build takes a flag, by compiling a source of one line with it and no other flag of the build, in the
+    /// out dir or, where none is set, the folder for temporary files; in a relative folder no flag is taken. False also where the flag is
+    /// `/link` and the compiler Visual Studio's, since it is for the linker. Prints the warnings of how the compiler was found, where
+    /// they are on. The verdict is kept, and serves later calls of this build and its clones.
+    ///
+    /// Refused with IOError where the compiler is missing, could not be asked, or a warning could not be printed; with the error of the
+    /// settings where the target or the host is set nowhere, the target isn't known, or the command that tries the flag would be refused;
+    /// and for memory. The build is as before; what was asked until then is kept, and no file stays.
+    #[tactic(auto, using(cc_host::proofs::Parts::since_append))]
+    pub fn is_flag_supported<H: Host<W>>(
+        &self,
+        rt: &impl Wait,
+        host: &mut H,
+        flag: &str,
+    ) -> Result<bool, Error>
+        ensures extends { H.log host.new ≡ H.log host.old ++ part H.log host.old host.new }
+        ensures asked { AsksByFlag W.steady W.answer self.now flag.now
+            (part H.log host.old host.new) }
+        ensures childless { list_any is_of_children (part H.log host.old host.new) ≡ false }
+        ensures supported { IfOk result (λ b. ByAnswers H.log host.old host.new
+            (spec.IsVerdict self.now.config self.now.env flag.now b)) }
+        ensures outcome { ByPart H.log host.old host.new
+            (spec.SupportEnds self.now.config self.now.env flag.now result) }
+    {
+        let (alloc, set, env) = (self.alloc, &self.config, &self.env);
+        let mut answers = Answers::new(alloc);
+        let mut sight = Sight {
+            host,
+            caches: &self.caches,
+            answers: &mut answers,
+        };
+        match flag_support(rt, alloc, set, env, flag, &mut sight) {
+            Ok(support) => verdict_answer(alloc, &support),
+            Err(error) => Err(or_no_memory(plan_error(alloc, set, env, "", error))),
+        }
     }
 }

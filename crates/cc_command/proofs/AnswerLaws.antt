@@ -23,6 +23,7 @@ use Rattle.cc_host.specs.declared.question.Question.{Question}
 use Rattle.cc_tool.specs.Asked.{Asked}
 use Rattle.cc_tool.proofs.Asides.{asked_around}
 use Rattle.cc_plan.specs.Given.{probe_folder}
+use Rattle.cc_plan.specs.Questions.{PlanAsks}
 use Rattle.cc_command.specs.Asks.{AsksFor}
 use Rattle.cc_command.specs.Answer.{IsHalted, Answers, AnswersError, AnswersWords, env_in, terms_in, error_of, stages_of, ended_well, ended_wanting}
 use Rattle.cc_command.proofs.RepeatLaws.{went_same, halted_same}
@@ -79,7 +80,7 @@ module _ (look : Look) (name : List ℕ) (before after : BuildSeen) (old mid new
   pub answers_built : (ended : Ended) → ended ≡ ended_well → Built (terms_for after (course total p x y)) after.config after.env look name (since mid new) → Promises {T = Unit {0}} after name (Ok tt) look (since mid new) (course total p x y) → Answers look (name, before) (since old new) ended (course total q x y)
   answers_built ended is built h =
       let promises = as_taken {T = Unit {0}} (Ok tt) h in
-      let run : Went t (planned_stages before.config taken.env true look name) (since mid new) x y = went_same before.config taken.env promises.told look name t (since mid new) x y repeats promises.outcome.1 in
+      let run : Went t (planned_stages before.config taken.env true look name) (since mid new) x y = went_same before.config taken.env promises.warns_of_link look name t (since mid new) x y repeats promises.outcome.1 in
       let went : Went t (Calls Lists ∷ planned_stages before.config taken.env true look name) (Listed k.vars ∷ since mid new) x y = (Listed k.vars ∷ [], since mid new, x, (refl, listing_done t k.vars x, run)) in
       subst (λ (part : List Event). Answers look (name, before) part ended (course total q x y)) (sym listed)
       (inl (is, (record { vars = k.vars; run = since mid new; cut = refl; built = built_taken built }, went)))
@@ -89,7 +90,7 @@ module _ (look : Look) (name : List ℕ) (before after : BuildSeen) (old mid new
   halted_listed e h =
       let promises = as_taken {T = Unit {0}} (Err e) h in
       let refusal = refusal_error before.config taken.env look name in
-      let run : Halted t refusal (planned_stages before.config taken.env true look name) (since mid new) e x y = halted_same before.config taken.env promises.told look name t refusal (since mid new) e x y repeats promises.outcome in
+      let run : Halted t refusal (planned_stages before.config taken.env true look name) (since mid new) e x y = halted_same before.config taken.env promises.warns_of_link look name t refusal (since mid new) e x y repeats promises.outcome in
       subst (λ (part : List Event). Halted (terms_in (name, before) part (course total q x y)) (error_of look (name, before) part) (stages_of look (name, before) part) part e x y) (sym listed)
       (halted_then t refusal (Calls Lists ∷ []) (planned_stages before.config taken.env true look name) (Listed k.vars ∷ []) (since mid new) e x x y (called t Lists (Listed k.vars) (Listed k.vars ∷ []) x refl refl) run)
 
@@ -119,8 +120,9 @@ answers_wanting look (Ok q) log ended c is same =
 answers_wanting look (Err bad) log ended c is same = (inr (is, part_is log log [] (sym (append-nil log))), same)
 
 -- what a call asks behind the listing of the variables, it asks for the request
-pub asked_captured : (steady : Bool) (world : Question → Outcome) (name : List ℕ) (before after : BuildSeen) (old mid new : List Event) → mid ≡ old ++ since old mid → new ≡ mid ++ since mid new → Captures before after (since old mid) → Asked steady world (probe_folder after.config after.env) (since mid new) → AsksFor steady world (name, before) (since old new)
+pub asked_captured : (steady : Bool) (world : Question → Outcome) (name : List ℕ) (before after : BuildSeen) (old mid new : List Event) → mid ≡ old ++ since old mid → new ≡ mid ++ since mid new → Captures before after (since old mid) → Asked steady world (probe_folder after.config after.env) (PlanAsks after.config after.env) (since mid new) → AsksFor steady world (name, before) (since old new)
 asked_captured steady world name before after old mid new f h c k =
     let part : since old new ≡ (Listed c.vars ∷ []) ++ (since mid new ++ []) = since_since old mid new f h ∙ ap (λ l. l ++ since mid new) c.listed ∙ ap (λ l. Listed c.vars ∷ l) (sym (append-nil (since mid new))) in
-    let there : Asked steady world (probe_folder before.config (with_vars before.env c.vars)) (since mid new) = subst (λ (b : BuildSeen). Asked steady world (probe_folder b.config b.env) (since mid new)) c.is k in
-    subst (λ (p : List Event). AsksFor steady world (name, before) p) (sym part) (asked_around steady world (probe_folder before.config (with_vars before.env c.vars)) (Listed c.vars ∷ []) (since mid new) [] refl refl there)
+    let there : Asked steady world (probe_folder before.config (with_vars before.env c.vars)) (PlanAsks before.config (with_vars before.env c.vars)) (since mid new) =
+    subst (λ (b : BuildSeen). Asked steady world (probe_folder b.config b.env) (PlanAsks b.config b.env) (since mid new)) c.is k in
+    subst (λ (p : List Event). AsksFor steady world (name, before) p) (sym part) (asked_around steady world (probe_folder before.config (with_vars before.env c.vars)) (PlanAsks before.config (with_vars before.env c.vars)) (Listed c.vars ∷ []) (since mid new) [] refl refl there)

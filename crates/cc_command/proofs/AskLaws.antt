@@ -10,6 +10,6 @@ use Rattle.cc_command.specs.Asks.{AsksWords}
 use Rattle.cc_command.specs.Read.{Request}
 use Rattle.cc_command.specs.declared.words.BadWord.{BadWord}
 
-pub told_once : (steady : Bool) (world : Question → Outcome) (words : Result Request BadWord) (part : List Event) → AsksWords steady world words part → (look : Look) × Agrees look (answers part)
-told_once steady world (Ok request) part asked = some_agree (answers part) asked.once
-told_once steady world (Err bad) part none = some_agree (answers part) (subst NoTwice (sym (aside_answers part none)) tt)
+pub some_look : (steady : Bool) (world : Question → Outcome) (words : Result Request BadWord) (part : List Event) → AsksWords steady world words part → (look : Look) × Agrees look (answers part)
+some_look steady world (Ok request) part asked = some_agree (answers part) asked.once
+some_look steady world (Err bad) part none = some_agree (answers part) (subst NoTwice (sym (aside_answers part none)) tt)

@@ -38,11 +38,11 @@ calls_none : (steps : List Step) → count (calls steps) ≡ 0
 calls_none steps = ap length (commands_calls steps)
 
 -- one compile command a source
-compile_count : (set : BuildConfig) (env : EnvSeen) (told : Bool) (look : Look) → count (compile_stages set env told look) ≡ length set.files
+compile_count : (set : BuildConfig) (env : EnvSeen) (warns_of_link : Bool) (look : Look) → count (compile_stages set env warns_of_link look) ≡ length set.files
 unfolding compile_stages
-compile_count set env told look =
-    let a = both (calls (prints Warning (warning_lines set env told look))) (beside (planned Compile (compiles_of set env look))) in
-    let b : count (calls (prints Warning (warning_lines set env told look))) ≡ 0 = calls_none (prints Warning (warning_lines set env told look)) in
+compile_count set env warns_of_link look =
+    let a = both (calls (prints Warning (warning_lines set env warns_of_link look))) (beside (planned Compile (compiles_of set env look))) in
+    let b : count (calls (prints Warning (warning_lines set env warns_of_link look))) ≡ 0 = calls_none (prints Warning (warning_lines set env warns_of_link look)) in
     let d : count (beside (planned Compile (compiles_of set env look))) ≡ length (planned Compile (compiles_of set env look)) = ap length (commands_beside (planned Compile (compiles_of set env look))) in
     let e : length (planned Compile (compiles_of set env look)) ≡ length set.files = length-map (compiles_of set env look) _ ∙ length-map (objects_of set env) _ ∙ length-map set.files _ in
     a ∙ ap (λ n. n + count (beside (planned Compile (compiles_of set env look)))) b ∙ zero-add (count (beside (planned Compile (compiles_of set env look)))) ∙ d ∙ e
@@ -81,10 +81,10 @@ four a b d e n p q r s =
     let z : count (d ++ e) ≡ count d + count e = both d e in
     omega arith
 
-run_count : (set : BuildConfig) (env : EnvSeen) (told : Bool) (look : Look) (output : List ℕ) → count (run_stages set env told look output) ≤ length set.files + 2
-run_count set env told look output =
-    four (compile_stages set env told look) (removal_stages set env output) (archive_stages set env output) (link_stages set env output) (length set.files)
-    (compile_count set env told look) (removal_count set env output) (archive_count set env output) (link_count set env output)
+run_count : (set : BuildConfig) (env : EnvSeen) (warns_of_link : Bool) (look : Look) (output : List ℕ) → count (run_stages set env warns_of_link look output) ≤ length set.files + 2
+run_count set env warns_of_link look output =
+    four (compile_stages set env warns_of_link look) (removal_stages set env output) (archive_stages set env output) (link_stages set env output) (length set.files)
+    (compile_count set env warns_of_link look) (removal_count set env output) (archive_count set env output) (link_count set env output)
 
 by_checks : (early disabled late : Bool) (folder run : List Stage) (n : ℕ) → count folder ≡ 0 → count run ≤ n → count (if early then [] else folder ++ (if disabled then [] else Asks ∷ (if late then [] else run))) ≤ n
 by_checks true disabled late folder run n f r = omega arith
@@ -93,11 +93,11 @@ by_checks false false true folder run n f r = let x : count (folder ++ Asks ∷ 
 by_checks false false false folder run n f r = let x : count (folder ++ Asks ∷ run) ≡ count folder + count run = both folder (Asks ∷ run) in omega arith
 
 -- no more commands than the sources and two
-pub planned_count : (set : BuildConfig) (env : EnvSeen) (told : Bool) (look : Look) (output : List ℕ) → count (planned_stages set env told look output) ≤ length set.files + 2
+pub planned_count : (set : BuildConfig) (env : EnvSeen) (warns_of_link : Bool) (look : Look) (output : List ℕ) → count (planned_stages set env warns_of_link look output) ≤ length set.files + 2
 unfolding planned_stages late_stages
-planned_count set env told look output =
-    by_checks (is_some (early_refusal set env output)) (is_disabled env) (is_some (late_refusal set env look)) (folder_stages set env) (run_stages set env told look output) (length set.files + 2)
-    (folder_count set env) (run_count set env told look output)
+planned_count set env warns_of_link look output =
+    by_checks (is_some (early_refusal set env output)) (is_disabled env) (is_some (late_refusal set env look)) (folder_stages set env) (run_stages set env warns_of_link look output) (length set.files + 2)
+    (folder_count set env) (run_count set env warns_of_link look output)
 
 -- ---- the error of refused settings
 

@@ -92,7 +92,7 @@ pub no_pair : (old : BuildSeen) (value : List ℕ) → key_and_value value ≡ N
 unfolding key_cause is_text_key is_item_key is_choice_key is_switch_key
 no_pair old value e = (rw e refl, λ h. absurd (cc))
 
--- the setter of a folder that is told as another, of a value that has both
+-- the setter of a folder that is named as another, of a value that has both
 pub set_map : {T E F : Type 0} (old new : BuildSeen) (value : List ℕ) (pair : List ℕ × List ℕ) (answer : Result T E) (result : Result (Option WordCause) F) → key_and_value value ≡ Some pair → MatchResult answer (λ _. result ≡ Ok None) (λ _. IsErr result) → OnOk answer (new ≡ record old { config = record old.config { remap_source_paths = old.config.remap_source_paths ++ pair ∷ [] } }) → IfOk result (SetsKey old new (codes "remap_source_path") value)
 unfolding key_cause is_text_key is_item_key is_choice_key is_switch_key
 set_map old new value pair answer result e m done =

@@ -8,4 +8,5 @@ pub mod PromiseLaws
 pub mod RepeatLaws
 pub mod SettingLaws
 pub mod SettledPromises
+pub mod StartedPromises
 pub mod WordLaws

@@ -248,7 +248,7 @@ or_first true b d h is = refl
 or_first false b d h is = h is
 
 -- an event of a list is one of a longer list
-any_before : (f : Event → Bool) (a b : List Event) → list_any f a ≡ true → list_any f (a ++ b) ≡ true
+pub any_before : (f : Event → Bool) (a b : List Event) → list_any f a ≡ true → list_any f (a ++ b) ≡ true
 any_before f [] b h = absurd (cc)
 any_before f (x ∷ a) b h = or_first (f x) (list_any f a) (list_any f (a ++ b)) (any_before f a b) h
 
@@ -303,7 +303,7 @@ complete look (Err bad) part ended c a = tt
 
 -- ---- the turns are enough
 
-same_error : (e f : ErrorSeen) (ended : Ended) → ended ≡ ended_refused e → ended ≡ ended_refused f → e ≡ f
+pub same_error : (e f : ErrorSeen) (ended : Ended) → ended ≡ ended_refused e → ended ≡ ended_refused f → e ≡ f
 same_error e f ended a b = let s : Some e ≡ Some f = ap (λ (x : Ended). x.error) (sym a ∙ b) in cc
 
 -- fewer turns than the patience with each command, of which there are at most twice the sources and two

@@ -1,4 +1,4 @@
--- The settings of words repeat their lines: a run of them is told of flags for the linker whenever it leaves some off.
+-- The settings of words repeat their lines: a run of them warns of flags for the linker whenever it leaves some off.
 use Rattle.std.proofs.Common.{◌≡◌, ℕ, List, [], ◌∷◌, ◌++◌, Bool, true, false, Option, Some, None, Ok, Err, if◌then◌else◌, refl, sym, ap, subst}
 use Rattle.cc_env.specs.Env.{EnvSeen}
 use Rattle.cc_host.specs.Question.{Look}
@@ -35,25 +35,25 @@ reads_repeating (command ∷ name ∷ words) request e = more_words (is command 
 
 -- ---- the stages of such settings
 
-link_same : (set : BuildConfig) (env : EnvSeen) (family : ToolFamily) (told : Bool) → set.repeat_lines ≡ true → link_warnings set env family told ≡ link_warnings set env family true
+link_same : (set : BuildConfig) (env : EnvSeen) (family : ToolFamily) (warns_of_link : Bool) → set.repeat_lines ≡ true → link_warnings set env family warns_of_link ≡ link_warnings set env family true
 unfolding link_warnings
-link_same set env family told repeats = rw repeats refl
+link_same set env family warns_of_link repeats = rw repeats refl
 
-warnings_same : (set : BuildConfig) (env : EnvSeen) (told : Bool) (look : Look) → set.repeat_lines ≡ true → warnings_of set env told look ≡ warnings_of set env true look
-warnings_same set env told look repeats =
-    ap (λ w. other_warnings (planned set env look) (supported_of set env look) ++ w) (link_same set env (compiler_of set env look).family told repeats)
+warnings_same : (set : BuildConfig) (env : EnvSeen) (warns_of_link : Bool) (look : Look) → set.repeat_lines ≡ true → warnings_of set env warns_of_link look ≡ warnings_of set env true look
+warnings_same set env warns_of_link look repeats =
+    ap (λ w. other_warnings (planned set env look) (supported_of set env look) ++ w) (link_same set env (compiler_of set env look).family warns_of_link repeats)
 
-compile_same : (set : BuildConfig) (env : EnvSeen) (told : Bool) (look : Look) → set.repeat_lines ≡ true → compile_stages set env told look ≡ compile_stages set env true look
+compile_same : (set : BuildConfig) (env : EnvSeen) (warns_of_link : Bool) (look : Look) → set.repeat_lines ≡ true → compile_stages set env warns_of_link look ≡ compile_stages set env true look
 unfolding compile_stages
-compile_same set env told look repeats = let same = warnings_same set env told look repeats in rw same refl
+compile_same set env warns_of_link look repeats = let same = warnings_same set env warns_of_link look repeats in rw same refl
 
-pub stages_same : (set : BuildConfig) (env : EnvSeen) (told : Bool) (look : Look) (output : List ℕ) → set.repeat_lines ≡ true → planned_stages set env told look output ≡ planned_stages set env true look output
+pub stages_same : (set : BuildConfig) (env : EnvSeen) (warns_of_link : Bool) (look : Look) (output : List ℕ) → set.repeat_lines ≡ true → planned_stages set env warns_of_link look output ≡ planned_stages set env true look output
 unfolding planned_stages late_stages
-stages_same set env told look output repeats = let same = compile_same set env told look repeats in rw same refl
+stages_same set env warns_of_link look output repeats = let same = compile_same set env warns_of_link look repeats in rw same refl
 
--- a run of such settings, whatever it is told
-pub went_same : (set : BuildConfig) (env : EnvSeen) (told : Bool) (look : Look) (output : List ℕ) (t : Terms) (part : List Event) (x y : Means) → set.repeat_lines ≡ true → Went t (planned_stages set env told look output) part x y → Went t (planned_stages set env true look output) part x y
-went_same set env told look output t part x y repeats w = subst (λ (stages : List Stage). Went t stages part x y) (stages_same set env told look output repeats) w
+-- a run of such settings, whether it warns or not
+pub went_same : (set : BuildConfig) (env : EnvSeen) (warns_of_link : Bool) (look : Look) (output : List ℕ) (t : Terms) (part : List Event) (x y : Means) → set.repeat_lines ≡ true → Went t (planned_stages set env warns_of_link look output) part x y → Went t (planned_stages set env true look output) part x y
+went_same set env warns_of_link look output t part x y repeats w = subst (λ (stages : List Stage). Went t stages part x y) (stages_same set env warns_of_link look output repeats) w
 
-pub halted_same : (set : BuildConfig) (env : EnvSeen) (told : Bool) (look : Look) (output : List ℕ) (t : Terms) (refusal : Option ErrorSeen) (part : List Event) (e : ErrorSeen) (x y : Means) → set.repeat_lines ≡ true → Halted t refusal (planned_stages set env told look output) part e x y → Halted t refusal (planned_stages set env true look output) part e x y
-halted_same set env told look output t refusal part e x y repeats h = subst (λ (stages : List Stage). Halted t refusal stages part e x y) (stages_same set env told look output repeats) h
+pub halted_same : (set : BuildConfig) (env : EnvSeen) (warns_of_link : Bool) (look : Look) (output : List ℕ) (t : Terms) (refusal : Option ErrorSeen) (part : List Event) (e : ErrorSeen) (x y : Means) → set.repeat_lines ≡ true → Halted t refusal (planned_stages set env warns_of_link look output) part e x y → Halted t refusal (planned_stages set env true look output) part e x y
+halted_same set env warns_of_link look output t refusal part e x y repeats h = subst (λ (stages : List Stage). Halted t refusal stages part e x y) (stages_same set env warns_of_link look output repeats) h

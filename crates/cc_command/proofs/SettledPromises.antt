@@ -20,6 +20,7 @@ use Rattle.cc_command.specs.Read.{Request}
 use Rattle.cc_command.specs.declared.top.Ended.{Ended}
 use Rattle.cc_command.specs.declared.words.BadWord.{BadWord}
 use Rattle.cc_command.proofs.PromiseLaws.{is_begun, compiles_first, complete, enough, line_of, heard_same, run_same, no_child}
+use Rattle.cc_command.proofs.StartedPromises.{no_attempt, beside, failed}
 
 -- ---- no child runs
 
@@ -37,11 +38,6 @@ settled look (Err bad) part ended c (inl printed, same) = line_settled part (lin
 settled look (Err bad) part ended c (inr wanting, same) = line_settled part (inl wanting.1)
 
 -- ---- one attempt for each command
-
-no_attempt : (line : List Event) → IsLine line → attempts line ≡ []
-no_attempt line (inl none) = ap attempts none
-no_attempt line (inr (inl printed)) = ap attempts printed.1
-no_attempt line (inr (inr faulted)) = ap attempts faulted.1
 
 -- a line behind a run tries no command
 attempts_same : (part run line : List Event) → part ≡ run ++ line → IsLine line → attempts part ≡ attempts run
@@ -69,6 +65,8 @@ promised words ended look part c a = record {
   begun = is_begun look (asked_for words) part ended c a;
   order = compiles_first look (asked_for words) part ended c a;
   prefix = first look (asked_for words) part ended c a;
+  beside = beside look (asked_for words) part ended c a;
+  failed = failed look (asked_for words) part ended c a;
   complete = complete look (asked_for words) part ended c a;
   enough = enough look (asked_for words) part ended c a;
 }

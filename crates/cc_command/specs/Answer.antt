@@ -95,7 +95,7 @@ abbrev pub env_in : Request → List Event → EnvSeen
 env_in request part = with_vars request.1.env (heard part)
 
 -- The stages of a request: the host lists its variables, then come those of the compile run. The settings of words repeat their lines, so a
--- run is told of flags for the linker whenever it leaves some off.
+-- run warns of flags for the linker whenever it leaves some off.
 abbrev pub stages_of : Look → Request → List Event → List Stage
 stages_of look request part = Calls Lists ∷ planned_stages request.1.config (env_in request part) true look request.0
 

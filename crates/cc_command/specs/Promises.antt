@@ -10,17 +10,19 @@ use Rattle.cc_host.specs.declared.event.HostCall.TheVariants.{Print}
 use Rattle.cc_host.specs.declared.event.LineKind.TheVariants.{Fault as FaultLine}
 use Rattle.cc_host.specs.declared.event.Why.{Why}
 use Rattle.cc_jobs.specs.Seats.{Rose}
+use Rattle.cc_plan.specs.Plan.{compiles_of}
 use Rattle.cc_plan.specs.Valid.{Valid}
 use Rattle.cc_run.specs.Part.{turns}
 use Rattle.cc_build.specs.Course.{Course}
 use Rattle.cc_build.specs.Error.{ErrorSeen}
 use Rattle.cc_build.specs.Failed.{Failed, HasFault}
 use Rattle.cc_build.specs.Order.{is_archive_event}
-use Rattle.cc_build.specs.Promises.{AreFirst}
+use Rattle.cc_build.specs.Promises.{AreFirst, RunBeside, AllStarted}
+use Rattle.cc_build.specs.Shows.{shows_of}
 use Rattle.cc_build.specs.Stage.{folder_stages, compile_stages}
 use Rattle.cc_build.specs.Stage.Stage.{Asks, Calls}
 use Rattle.cc_build.specs.Went.{Goes, Partly}
-use Rattle.cc_build.specs.declared.error.ErrorKind.TheVariants.{TurnsSpent}
+use Rattle.cc_build.specs.declared.error.ErrorKind.TheVariants.{TurnsSpent, ToolExecError}
 use Rattle.cc_command.specs.Answer.{PrintsLine, AnswersWords, BuiltBy, asked_for, env_in, terms_in, stages_of, error_line, word_line, ended_well, ended_refused, ended_bad, ended_wanting}
 use Rattle.cc_command.specs.Read.{Request}
 use Rattle.cc_command.specs.declared.top.Ended.{Ended}
@@ -89,6 +91,14 @@ FaultsLast part = (before after : List Event) (call : HostCall) (why : Why) → 
 abbrev pub IsPrefix : Look → Result Request BadWord → List Event → Type 0
 IsPrefix look words part = IfOk words (λ request. AreFirst (stages_of look request part) part)
 
+-- Two sources or more are compiled beside each other, each under a token, and as many at once as there are tokens.
+abbrev pub IsBeside : Result Request BadWord → List Event → Course → Type 0
+IsBeside words part c = IfOk words (λ request. 2 ≤ length request.1.config.files → RunBeside c.total (length request.1.config.files) part)
+
+-- A failed child stops no later start: where a command ended badly and the host is sound, every source's command was started, and none was left alone.
+abbrev pub StartsAll : Look → Result Request BadWord → List Event → Ended → Type 0
+StartsAll look words part ended = IfOk words (λ request. (e : ErrorSeen) → 2 ≤ length request.1.config.files → ended ≡ ended_refused e → e.kind ≡ ToolExecError → (HasFault part → ⊥) → AllStarted (shows_of request.1.config (env_in request part)) (compiles_of request.1.config (env_in request part) look) part)
+
 -- the turns are spent: as many were made as there are
 abbrev pub EndsSpent : ℕ → List Event → Ended → Type 0
 EndsSpent most part ended = (e : ErrorSeen) × ((ended ≡ ended_refused e) × (e.kind ≡ TurnsSpent) × (turns part ≡ most))
@@ -111,6 +121,10 @@ pub record Promises {Z : Type 0} (words : List (String Z)) (ended : Ended) (look
   pub order : CompilesFirst look (asked_for words) part c
   -- one attempt for each of the first planned commands, and no other
   pub prefix : IsPrefix look (asked_for words) part
+  -- two sources or more are compiled beside each other, each under a token, and as many at once as there are tokens
+  pub beside : IsBeside (asked_for words) part c
+  -- a failed child stops no later start
+  pub failed : StartsAll look (asked_for words) part ended
   -- valid settings, no failed command, no fault of the host and none of the pool: it is done, the turns are spent, or memory was wanted
   pub complete : IsComplete look (asked_for words) part ended c
   -- where one caller owns the pool and the host tells its patience, so many turns are enough

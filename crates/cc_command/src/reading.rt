@@ -391,7 +391,7 @@ pub fn read_words<W: World>(alloc: Global, words: &[String]) -> Result<Request<W
         [_, name, rest @ ..] => {
             let job = Job::Compile(Text::of(alloc, name.as_str())?);
             let build = read_settings(alloc, rest)?;
-            Ok(Request { job, build })
+            Ok(Request { job, build, alloc })
         }
     }
 }

@@ -11,7 +11,7 @@ ghost use Rattle.cc_command.specs.Promises.{Headline, Promises, PrintsLast, Faul
 ghost use Rattle.cc_command.specs.Read.{name_of};
 
 use crate::reading::read_words;
-use crate::words::{BadWord, Job, ReadError, Request, WordCause};
+use crate::words::{BadWord, Invocation, Job, ReadError, Request, WordCause};
 use cc_build::{Build, Error, ErrorKind};
 use cc_host::{Host, HostError, LineKind, World};
 use cc_jobs::Jobs;
@@ -173,7 +173,6 @@ fn refuse<W: World, H: Host<W>>(alloc: Global, host: &mut H, error: Error) -> En
 #[tactic(auto, using(cc_host::proofs::Parts::since_append))]
 fn serve<W: World, H: Host<W>, J: Jobs>(
     rt: &impl Wait,
-    alloc: Global,
     request: &mut Request<W>,
     turns: u64,
     host: &mut H,
@@ -192,6 +191,7 @@ fn serve<W: World, H: Host<W>, J: Jobs>(
         host.old host.new seat.old seat.new
         (IsAnswer (name_of request.old.job, request.old.build) result) }
 {
+    let alloc = request.alloc;
     match &request.job {
         Job::Compile(name) => {
             let build = &mut request.build;
@@ -210,9 +210,7 @@ fn serve<W: World, H: Host<W>, J: Jobs>(
 #[tactic(auto, using(cc_host::proofs::Parts::since_append, crate::proofs::RepeatLaws::reads_repeating))]
 fn run<W: World, H: Host<W>, J: Jobs>(
     rt: &impl Wait,
-    alloc: Global,
-    words: &[String],
-    turns: u64,
+    invocation: Invocation<'_>,
     host: &mut H,
     jobs: &J,
     seat: &mut J::Seat,
@@ -222,13 +220,18 @@ fn run<W: World, H: Host<W>, J: Jobs>(
     ensures fits { J.fits jobs.now seat.new }
     ensures empty { J.held seat.new ≡ 0 }
     ensures extends { H.log host.new ≡ H.log host.old ++ part H.log host.old host.new }
-    ensures asked { AsksWords W.steady W.answer (asked_for words.now)
+    ensures asked { AsksWords W.steady W.answer (asked_for invocation.entry.words.now)
         (part H.log host.old host.new) }
-    ensures answer { ByRun H.log H.patience J.total J.faults J.taken J.load turns
-        host.old host.new seat.old seat.new (IsAnswerTo words.now result) }
+    ensures answer { ByRun H.log H.patience J.total J.faults J.taken J.load invocation.entry.turns
+        host.old host.new seat.old seat.new (IsAnswerTo invocation.entry.words.now result) }
 {
+    let Invocation {
+        alloc,
+        words,
+        turns,
+    } = invocation;
     match read_words::<W>(alloc, words) {
-        Ok(mut request) => serve(rt, alloc, &mut request, turns, host, jobs, seat),
+        Ok(mut request) => serve(rt, &mut request, turns, host, jobs, seat),
         Err(ReadError::Bad(bad)) => refuse_word(alloc, host, bad),
         Err(ReadError::NoMemory) => ended_wanting(),
     }
@@ -276,5 +279,10 @@ pub fn drive<W: World, H: Host<W>, J: Jobs>(
     ensures asked { AsksWords W.steady W.answer (asked_for words.now)
         (part H.log host.old host.new) }
 {
-    run(rt, alloc, words, turns, host, jobs, seat)
+    let invocation = Invocation {
+        alloc,
+        words,
+        turns,
+    };
+    run(rt, invocation, host, jobs, seat)
 }

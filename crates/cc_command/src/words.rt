@@ -5,6 +5,7 @@ ghost use Rattle.cc_command.specs.declared.words.ReadError.TheVariants.{NoMemory
 use cc_build::Build;
 use cc_host::World;
 use cc_text::{NoMemory, Text};
+use std::alloc::Global;
 
 /// What is wrong with a word. For one word the first of these counts.
 #[derive(Clone, Copy, Debug, PartialEq, Eq)]
@@ -47,6 +48,16 @@ pub struct Request<W: World> {
     pub job: Job,
     /// The settings that the words behind the name set; it has inherited no variable yet.
     pub build: Build<W>,
+    /// Where the lines that are printed for it take their memory.
+    pub alloc: Global,
+}
+
+// What the program is called with: its words, how many turns it may make, and an allocator.
+#[derive(Clone, Copy)]
+pub(crate) struct Invocation<'a> {
+    pub alloc: Global,
+    pub words: &'a [String],
+    pub turns: u64,
 }
 
 /// Why words were not read. Nothing of them is kept then.

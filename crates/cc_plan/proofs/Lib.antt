@@ -6,6 +6,7 @@ pub mod CutTextLemmas
 pub mod FindLemmas
 pub mod LineLemmas
 pub mod OwnLemmas
+pub mod QuestionLemmas
 pub mod ResultLemmas
 pub mod SourceLaws
 pub mod SupportLemmas

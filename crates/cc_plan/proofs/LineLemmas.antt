@@ -1,20 +1,24 @@
 -- Lines printed one after another.
-use Rattle.std.proofs.Common.{◌≡◌, ℕ, suc, ◌+◌, ◌<◌, List, [], ◌∷◌, ◌++◌, length, take, drop, get_or, Result, Ok, Err, subst, append-nil, refl, sym, ◌∙◌, ap, add-one}
+use Rattle.std.proofs.Common.{◌≡◌, false, ℕ, suc, ◌+◌, ◌<◌, List, [], ◌∷◌, ◌++◌, length, take, drop, get_or, Result, Ok, Err, subst, append-nil, refl, sym, ◌∙◌, ap, add-one}
 use Rattle.std.proofs.Math.Seq.{drop-cons}
+use Rattle.std.specs.List.{list_any}
+use Rattle.std.proofs.lemmas.Bool.{or_from}
 use Rattle.std.proofs.lemmas.Grind.{take_at_read}
 use Rattle.std.proofs.lemmas.List.{take-append-drop}
+use Rattle.std.proofs.lemmas.List.Folds.{list_any-append}
 use Rattle.cc_host.specs.Part.{Step, since, stops, IsWhole, IsPartly}
 use Rattle.cc_host.specs.Part.Step.{Prints}
 use Rattle.cc_host.proofs.Parts.{since_since, since_append, whole_then, whole_step, partly_then, partly_stop, partly_more, partly_whole, stops_then, stops_stop}
 use Rattle.cc_host.specs.declared.event.Event.{Event}
 use Rattle.cc_host.specs.declared.event.Event.TheVariants.{Fault, Printed as Line}
 use Rattle.cc_host.specs.declared.event.HostCall.TheVariants.{Print}
+use Rattle.cc_host.specs.declared.event.Why.{Why}
 use Rattle.cc_host.specs.declared.event.LineKind.{LineKind}
 use Rattle.cc_host.specs.declared.event.LineKind.TheVariants.{Warning}
 use Rattle.cc_tool.specs.Asked.{question_events}
 use Rattle.cc_plan.specs.Link.{printed_line}
 use Rattle.cc_plan.specs.Plan.{prints}
-use Rattle.cc_plan.specs.Asking.{PrintsLine, EndsPrinting}
+use Rattle.cc_plan.specs.Asking.{PrintsLine, EndsPrinting, is_of_children}
 use Rattle.cc_plan.specs.declared.error.PlanError.{PlanError}
 use Rattle.cc_plan.specs.declared.error.PlanError.TheVariants.{Argument, NotSet, UnknownTarget, QnxArch, Flag, Host, NoMemory}
 
@@ -84,16 +88,29 @@ partly_lines lines i line before part (UnknownTarget name) within is whole h = a
 partly_lines lines i line before part (QnxArch name) within is whole h = absurd h
 partly_lines lines i line before part (Flag flag) within is whole h = absurd h
 
+-- what holds of no event, of the printed line and of a fault of its printing holds of the part that prints it
+line_part : {X : Type 0} (P : List Event → Type 0) (line : List ℕ) (part : List Event) (r : Result X PlanError) → P [] → P (Line Warning (printed_line line) ∷ []) → ((why : Why) → P (Fault Print why ∷ [])) → PrintsLine line part r → P part
+line_part P line part (Ok x) none one fault h = subst P (sym h) one
+line_part P line part (Err (Host call why)) none one fault h = subst P (sym h.1) (fault why)
+line_part P line part (Err NoMemory) none one fault h = subst P (sym h) none
+line_part P line part (Err (Argument cause)) none one fault h = absurd h
+line_part P line part (Err (NotSet name)) none one fault h = absurd h
+line_part P line part (Err (UnknownTarget name)) none one fault h = absurd h
+line_part P line part (Err (QnxArch name)) none one fault h = absurd h
+line_part P line part (Err (Flag flag)) none one fault h = absurd h
+
 -- a line asks nothing
 pub line_silent : {X : Type 0} (line : List ℕ) (part : List Event) (r : Result X PlanError) → PrintsLine line part r → question_events part ≡ []
-line_silent line part (Ok x) h = subst (λ (p : List Event). question_events p ≡ []) (sym h) refl
-line_silent line part (Err (Host call why)) h = subst (λ (p : List Event). question_events p ≡ []) (sym h.1) refl
-line_silent line part (Err NoMemory) h = subst (λ (p : List Event). question_events p ≡ []) (sym h) refl
-line_silent line part (Err (Argument cause)) h = absurd h
-line_silent line part (Err (NotSet name)) h = absurd h
-line_silent line part (Err (UnknownTarget name)) h = absurd h
-line_silent line part (Err (QnxArch name)) h = absurd h
-line_silent line part (Err (Flag flag)) h = absurd h
+line_silent line part r h = line_part (λ (p : List Event). question_events p ≡ []) line part r refl refl (λ why. refl) h
+
+-- a line does nothing with children
+pub line_childless : {X : Type 0} (line : List ℕ) (part : List Event) (r : Result X PlanError) → PrintsLine line part r → list_any is_of_children part ≡ false
+line_childless line part r h = line_part (λ (p : List Event). list_any is_of_children p ≡ false) line part r refl refl (λ why. refl) h
+
+-- nor do two parts that do nothing with them
+pub childless_since : (old mid new : List Event) → mid ≡ old ++ since old mid → new ≡ mid ++ since mid new → list_any is_of_children (since old mid) ≡ false → list_any is_of_children (since mid new) ≡ false → list_any is_of_children (since old new) ≡ false
+childless_since old mid new e f h k =
+    ap (list_any is_of_children) (since_since old mid new e f) ∙ list_any-append is_of_children (since old mid) (since mid new) ∙ or_from (list_any is_of_children (since old mid)) (list_any is_of_children (since mid new)) h k
 
 -- a line was refused
 pub line_refused : (old mid new : List Event) (lines : List (List ℕ)) (i : ℕ) (line : List ℕ) (e : PlanError) → mid ≡ old ++ since old mid → new ≡ mid ++ since mid new → i < length lines → line ≡ get_or lines i line → IsWhole (prints Warning (take i lines)) (since old mid) → PrintsLine {X = Unit {0}} line (since mid new) (Err e) → IsPartly (prints Warning lines) (since old new) × EndsPrinting (since old new) e

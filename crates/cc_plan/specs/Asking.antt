@@ -1,10 +1,11 @@
 -- Calls that ask, and calls that ask and then print.
-use Rattle.std.specs.Prelude.{◌≡◌, ◌⊎◌, ◌++◌, ℕ, Bool, List, [], ◌∷◌, Option, Some, None, Result, Ok, Err, IfOk, IfErr, OnOk}
+use Rattle.std.specs.Prelude.{◌≡◌, ◌⊎◌, ◌++◌, ℕ, Bool, true, false, List, [], ◌∷◌, Option, Some, None, Result, Ok, Err, IfOk, IfErr, OnOk}
+use Rattle.std.specs.List.{list_any}
 use Rattle.cc_env.specs.Env.{EnvSeen}
-use Rattle.cc_host.specs.Part.{IsPartly, IsWhole, stops}
-use Rattle.cc_host.specs.Question.{Look, Answer, Settles}
+use Rattle.cc_host.specs.Part.{IsPartly, IsWhole, since, stops}
+use Rattle.cc_host.specs.Question.{Look, Answer, Settles, Holds}
 use Rattle.cc_host.specs.declared.event.Event.{Event}
-use Rattle.cc_host.specs.declared.event.Event.TheVariants.{Fault, Printed as Line}
+use Rattle.cc_host.specs.declared.event.Event.TheVariants.{Started, Ended, Abandoned, Heard, Unread, Turn, Fault, Printed as Line}
 use Rattle.cc_host.specs.declared.event.HostCall.TheVariants.{Print}
 use Rattle.cc_host.specs.declared.event.Why.{Why}
 use Rattle.cc_host.specs.declared.event.LineKind.TheVariants.{Warning}
@@ -13,29 +14,59 @@ use Rattle.cc_host.specs.declared.question.Outcome.{Outcome}
 use Rattle.cc_host.specs.declared.question.Question.{Question}
 use Rattle.cc_tool.specs.Asked.{question_events}
 use Rattle.cc_tool.specs.Asks.{Asks}
+use Rattle.cc_tool.specs.Own.{AnswersAmong}
+use Rattle.cc_plan.specs.Choice.{choice_of}
 use Rattle.cc_plan.specs.Given.{probe_folder}
 use Rattle.cc_plan.specs.Link.{printed_line}
 use Rattle.cc_plan.specs.Plan.{prints}
+use Rattle.cc_plan.specs.Questions.{ToolAsks, PlanAsks, SupportAsks}
+use Rattle.cc_plan.specs.declared.choice.Choice.{Choice}
+use Rattle.cc_plan.specs.declared.compilation.Inputs.{Inputs}
 use Rattle.cc_plan.specs.declared.error.PlanError.{PlanError}
 use Rattle.cc_plan.specs.declared.error.PlanError.TheVariants.{Host, NoMemory}
 use Rattle.cc_plan.specs.declared.settings.BuildConfig.{BuildConfig}
 use Rattle.cc_plan.specs.declared.sight.Sight.{Sight}
 
 -- A call asks, and does nothing else: its host and its answers are those that it was lent, log and answers went on by its questions, whose
--- probe files are in the folder, and the host is as patient as before.
-pub record OnlyAsks {W H : Type 0} {ghosts : Ghosts W} (steady : Bool) (world : Question → Outcome) (log : H → List Event) (patience : H → Option ℕ) (dir : List ℕ) (old new : Sight W H ghosts) : Type 0 where
+-- probe files are in the folder, and the host is as patient as before. Whichever verdicts agree with its answers, each question is one that is
+-- asked under them.
+pub record OnlyAsks {W H : Type 0} {ghosts : Ghosts W} (steady : Bool) (world : Question → Outcome) (log : H → List Event) (patience : H → Option ℕ) (dir : List ℕ) (questions : Look → Question → Type 0) (old new : Sight W H ghosts) : Type 0 where
   pub same_host : new.host.ghost_name ≡ old.host.ghost_name
   pub same_answers : new.answers.ghost_name ≡ old.answers.ghost_name
   pub asks : Asks steady world dir (log old.host.now) (log new.host.now) old.answers.now new.answers.now
+  pub own : Holds new.answers.now (λ look. AnswersAmong (questions look) (since (log old.host.now) (log new.host.now)))
   pub patient : patience new.host.now ≡ patience old.host.now
 
--- a call asks for these settings in this environment, with probe files in their folder, and does nothing else
+-- a call asks what finds the compiler of these settings in this environment, with probe files in their folder, and does nothing else
 abbrev pub AsksFor : {W H : Type 0} → {ghosts : Ghosts W} → Bool → (Question → Outcome) → (H → List Event) → (H → Option ℕ) → BuildConfig → EnvSeen → Sight W H ghosts → Sight W H ghosts → Type 0
-AsksFor steady world log patience set env old new = OnlyAsks steady world log patience (probe_folder set env) old new
+AsksFor steady world log patience set env old new = OnlyAsks steady world log patience (probe_folder set env) (ToolAsks set env) old new
+
+-- a call asks what a plan for them asks
+abbrev pub AsksToPlan : {W H : Type 0} → {ghosts : Ghosts W} → Bool → (Question → Outcome) → (H → List Event) → (H → Option ℕ) → BuildConfig → EnvSeen → Sight W H ghosts → Sight W H ghosts → Type 0
+AsksToPlan steady world log patience set env old new = OnlyAsks steady world log patience (probe_folder set env) (PlanAsks set env) old new
+
+-- a call asks whether their compiler takes a flag
+abbrev pub AsksOnFlag : {W H : Type 0} → {ghosts : Ghosts W} → Bool → (Question → Outcome) → (H → List Event) → (H → Option ℕ) → BuildConfig → EnvSeen → List ℕ → Sight W H ghosts → Sight W H ghosts → Type 0
+AsksOnFlag steady world log patience set env flag old new = OnlyAsks steady world log patience (probe_folder set env) (SupportAsks set env flag) old new
+
+-- the answers settle that this compiler is chosen, or that it has this path
+abbrev pub IsChosen : {W H : Type 0} → {ghosts : Ghosts W} → Sight W H ghosts → BuildConfig → EnvSeen → Choice → Type 0
+IsChosen sight set env choice = Settles sight.answers.now (choice_of set env) choice
+
+abbrev pub IsChosenAt : {W H : Type 0} → {ghosts : Ghosts W} → Sight W H ghosts → BuildConfig → EnvSeen → List ℕ → Type 0
+IsChosenAt sight set env path = Settles sight.answers.now (λ look. (choice_of set env look).path) path
 
 -- on Ok the answers settle the value, by a function of all verdicts
 abbrev pub SettledIn : {W H X E : Type 0} → {ghosts : Ghosts W} → Sight W H ghosts → (Look → X) → Result X E → Type 0
 SettledIn sight value result = IfOk result (Settles sight.answers.now value)
+
+-- a call asks for these inputs, with probe files in their folder, and does nothing else
+abbrev pub AsksBy : {W H : Type 0} → {ghosts : Ghosts W} → Bool → (Question → Outcome) → (H → List Event) → (H → Option ℕ) → Inputs → Sight W H ghosts → Sight W H ghosts → Type 0
+AsksBy steady world log patience inputs old new = AsksFor steady world log patience inputs.set.now inputs.env.now old new
+
+-- on Ok the answers settle the value of these inputs
+abbrev pub SettledBy : {W H X E : Type 0} → {ghosts : Ghosts W} → Sight W H ghosts → (BuildConfig → EnvSeen → Look → X) → Inputs → Result X E → Type 0
+SettledBy sight value inputs result = SettledIn sight (value inputs.set.now inputs.env.now) result
 
 -- on Ok the answers settle that nothing is refused
 abbrev pub AllowedIn : {W H X : Type 0} → {ghosts : Ghosts W} → Sight W H ghosts → (Look → Option PlanError) → Result X PlanError → Type 0
@@ -57,11 +88,12 @@ RefusedByPrint result = IfErr result (λ e. (e ≡ NoMemory) ⊎ IsPrintFault e)
 abbrev pub RefusedInOrByPrint : {W H X : Type 0} → {ghosts : Ghosts W} → Sight W H ghosts → (Look → Option PlanError) → Result X PlanError → Type 0
 RefusedInOrByPrint sight refusal result = IfErr result (λ e. (e ≡ NoMemory) ⊎ (IsPrintFault e ⊎ Settles sight.answers.now refusal (Some e)))
 
--- questions, and then a part of which something holds
-pub record AsksThen (steady : Bool) (world : Question → Outcome) (dir : List ℕ) (before after : List Event) (old new : List Answer) (P : List Event → Type 0) : Type 0 where
+-- questions, each of them one that is asked under verdicts that agree with the answers, and then a part of which something holds
+pub record AsksThen (steady : Bool) (world : Question → Outcome) (dir : List ℕ) (questions : Look → Question → Type 0) (before after : List Event) (old new : List Answer) (P : List Event → Type 0) : Type 0 where
   pub mid : List Event
   pub rest : List Event
   pub asks : Asks steady world dir before mid old new
+  pub own : Holds new (λ look. AnswersAmong (questions look) (since before mid))
   pub extends : after ≡ mid ++ rest
   pub holds : P rest
 
@@ -93,16 +125,27 @@ abbrev pub AreLines : {X : Type 0} → List Answer → (Look → List (List ℕ)
 AreLines known warnings lines part (Ok x) = Settles known warnings lines
 AreLines known warnings lines part (Err e) = (part ≡ []) ⊎ Settles known warnings lines
 
--- The lines are what the answers settle, where it is given whether the call is told of flags for the linker, and nothing is asked
--- meanwhile. A call that is refused for another cause prints none.
+-- a child was started, ended, was left alone or gave its standard error, or turns were made
+abbrev pub is_of_children : Event → Bool
+is_of_children (Started id role cmd pipes held) = true
+is_of_children (Ended id status) = true
+is_of_children (Abandoned id) = true
+is_of_children (Heard id bytes) = true
+is_of_children (Unread id) = true
+is_of_children (Turn count) = true
+is_of_children _ = false
+
+-- The lines are what the answers settle, where it is given whether the call is told of flags for the linker. Meanwhile nothing is asked,
+-- no child is started, heard or left alone, and no turn is made. A call that is refused for another cause prints none.
 pub record Warns {X : Type 0} (known : List Answer) (warnings : Bool → Look → List (List ℕ)) (result : Result X PlanError) (part : List Event) : Type 0 where
   pub told : Bool
   pub lines : List (List ℕ)
   pub settled : AreLines known (warnings told) lines part result
   pub printed : Printed lines part result
   pub silent : question_events part ≡ []
+  pub childless : list_any is_of_children part ≡ false
 
--- a call asks for these settings in this environment, and then prints the lines of its warnings
-abbrev pub AsksThenWarns : {W H X : Type 0} → {ghosts : Ghosts W} → Bool → (Question → Outcome) → (H → List Event) → BuildConfig → EnvSeen → Sight W H ghosts → Sight W H ghosts → (Bool → Look → List (List ℕ)) → Result X PlanError → Type 0
-AsksThenWarns steady world log set env old new warnings result =
-    AsksThen steady world (probe_folder set env) (log old.host.now) (log new.host.now) old.answers.now new.answers.now (Warns new.answers.now warnings result)
+-- a call asks such questions for these settings in this environment, and then prints the lines of its warnings
+abbrev pub AsksThenWarns : {W H X : Type 0} → {ghosts : Ghosts W} → Bool → (Question → Outcome) → (H → List Event) → BuildConfig → EnvSeen → (Look → Question → Type 0) → Sight W H ghosts → Sight W H ghosts → (Bool → Look → List (List ℕ)) → Result X PlanError → Type 0
+AsksThenWarns steady world log set env questions old new warnings result =
+    AsksThen steady world (probe_folder set env) questions (log old.host.now) (log new.host.now) old.answers.now new.answers.now (Warns new.answers.now warnings result)

@@ -1,5 +1,5 @@
 -- The flags of Rust code that Cargo hands down.
-use Rattle.std.specs.Prelude.{ℕ, Bool, not, List, [], ◌++◌, Option, Some, None, filter, map, is_none, codes, if◌then◌else◌}
+use Rattle.std.specs.Prelude.{ℕ, Bool, true, not, List, [], ◌++◌, Option, Some, None, filter, map, is_none, codes, if◌then◌else◌}
 use Rattle.std.specs.Option.{option_map, option_and_then, option_map_or}
 use Rattle.cc_env.specs.Snapshot.{last_value}
 use Rattle.cc_flags.specs.Fields.{flags_of, refusal_of}
@@ -36,13 +36,9 @@ plan_refusal WantsMemory = NoMemory
 abbrev pub inherited_wrong : Bool → List (List ℕ × List ℕ) → Option FlagError
 inherited_wrong inherits env = option_and_then refusal_of (inherited_text inherits env)
 
--- the flags and what is wrong with them, as they are read once a run
-abbrev pub rustflags : Bool → List (List ℕ × List ℕ) → Rustflags
-rustflags inherits env = record { flags = inherited_flags inherits env; wrong = inherited_wrong inherits env }
-
--- why flags that were read are refused
-abbrev pub wrong_refusal : Rustflags → Option PlanError
-wrong_refusal flags = option_map plan_refusal flags.wrong
+-- the flags and what is wrong with them, as they are read once a run, whether or not they are taken
+abbrev pub rustflags : List (List ℕ × List ℕ) → Rustflags
+rustflags env = record { flags = inherited_flags true env; wrong = inherited_wrong true env }
 
 -- why they are refused
 unfoldable pub inherited_refusal : Bool → List (List ℕ × List ℕ) → Option PlanError

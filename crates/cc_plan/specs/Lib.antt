@@ -19,6 +19,7 @@ pub mod Object
 pub mod Plan
 pub mod Planned
 pub mod Prefix
+pub mod Questions
 pub mod Refusal
 pub mod Search
 pub mod SettingWords

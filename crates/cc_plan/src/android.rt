@@ -3,7 +3,10 @@ ghost use Rattle.std.specs.Prelude.{◌≡◌, ◌≢◌, ◌++◌, [], IfOk, So
 ghost use Rattle.std.specs.Option.{option_copied};
 ghost use Rattle.cc_plan.specs.Asking.{AsksFor, SettledIn};
 ghost use Rattle.cc_plan.specs.Android as spec;
+ghost use Rattle.cc_plan.specs.Questions.{IsForAndroid};
+ghost use Rattle.cc_plan.specs.Target.{target_name};
 
+use crate::given::target_name;
 use crate::languages::{clang_name, gnu_name};
 use crate::sight::can_start;
 use crate::{BuildConfig, Sight};
@@ -66,18 +69,20 @@ fn older_name(alloc: Global, name: &str, compiler: &str) -> Mem<Text>
 }
 
 // GCC by the target's name where it can be run, else Clang. Kits up to release 17 had GCC.
+#[tactic(auto, using(crate::proofs::AskingLemmas::only_none))]
 fn older_compiler<W: World, H: Host<W>>(
     rt: &impl Wait,
     alloc: Global,
     set: &BuildConfig,
     env: &BuildEnv,
-    name: &str,
     sight: &mut Sight<'_, W, H>,
 ) -> Mem<Text>
+    requires { IsForAndroid set.now env.now }
     ensures asks { AsksFor W.steady W.answer H.log H.patience set.now env.now sight.old sight.new }
     ensures settles { SettledIn sight.new
-        (spec.older_compiler set.now.cpp env.now name.now) result }
+        (spec.older_compiler set.now.cpp env.now (target_name set.now env.now)) result }
 {
+    let name = target_name(set, env);
     let gnu = older_name(alloc, name, gnu_name(set.cpp))?;
     if can_start(rt, alloc, set, env, gnu.as_str(), sight)? {
         return Ok(gnu);
@@ -86,18 +91,20 @@ fn older_compiler<W: World, H: Host<W>>(
 }
 
 // The compiler of the development kit, where it has one for the target, and that can be run.
+#[tactic(auto, using(crate::proofs::AskingLemmas::only_none))]
 fn started_kit<W: World, H: Host<W>>(
     rt: &impl Wait,
     alloc: Global,
     set: &BuildConfig,
     env: &BuildEnv,
-    name: &str,
     sight: &mut Sight<'_, W, H>,
 ) -> Mem<Option<Text>>
+    requires { IsForAndroid set.now env.now }
     ensures asks { AsksFor W.steady W.answer H.log H.patience set.now env.now sight.old sight.new }
-    ensures settles { SettledIn sight.new (spec.started_kit env.now name.now) result }
+    ensures settles { SettledIn sight.new
+        (spec.started_kit env.now (target_name set.now env.now)) result }
 {
-    let kit = match kit_compiler(name) {
+    let kit = match kit_compiler(target_name(set, env)) {
         Some(kit) => kit,
         None => return Ok(None),
     };
@@ -114,17 +121,17 @@ pub(crate) fn android_compiler<W: World, H: Host<W>>(
     alloc: Global,
     set: &BuildConfig,
     env: &BuildEnv,
-    name: &str,
     sight: &mut Sight<'_, W, H>,
 ) -> Mem<Text>
+    requires { IsForAndroid set.now env.now }
     ensures asks { AsksFor W.steady W.answer H.log H.patience set.now env.now sight.old sight.new }
     ensures settles { SettledIn sight.new
-        (spec.android_compiler set.now.cpp env.now name.now) result }
+        (spec.android_compiler set.now.cpp env.now (target_name set.now env.now)) result }
 {
-    match started_kit(rt, alloc, set, env, name, sight)? {
+    match started_kit(rt, alloc, set, env, sight)? {
         Some(path) => Ok(path),
         None => {
-            let path = older_compiler(rt, alloc, set, env, name, sight)?;
+            let path = older_compiler(rt, alloc, set, env, sight)?;
             Ok(path)
         }
     }

@@ -2,14 +2,14 @@
 ghost use Rattle.std.specs.Prelude.{◌≡◌, ◌++◌, IfOk};
 ghost use Rattle.std.specs.Option.{option_copied};
 ghost use Rattle.cc_target.specs.Targets.{info_seen};
-ghost use Rattle.cc_plan.specs.Asking.{AsksFor, SettledIn};
+ghost use Rattle.cc_plan.specs.Asking.{AsksBy, SettledBy, SettledIn};
 ghost use Rattle.cc_plan.specs.Choice as spec;
-ghost use Rattle.cc_plan.specs.Target.{target_name, target_info};
+ghost use Rattle.cc_plan.specs.Target.{target_name};
 
 use crate::android::android_compiler;
+use crate::compilation::Inputs;
 use crate::env_tool::{env_tool, in_rustc_wrapper};
-use crate::given::target_of;
-use crate::inherited::inherited_flags;
+use crate::given::target_name;
 use crate::languages::{
     clang_name, compiler_variable, emscripten_name, gnu_name, qnx_name, traditional_name,
     vxworks_name,
@@ -47,12 +47,6 @@ fn bare(alloc: Global, path: &str) -> Mem<Choice>
     })
 }
 
-fn target_name<'a>(set: &'a BuildConfig, env: &'a BuildEnv) -> &'a str
-    ensures { result.now ≡ target_name set.now env.now }
-{
-    target_of(set, env).unwrap_or("")
-}
-
 #[tactic(auto, unfolding(crate::specs::Choice::is_wasm))]
 fn is_wasm(target: &TargetInfo) -> bool
     ensures { result ≡ spec.is_wasm (info_seen target.now) }
@@ -72,21 +66,29 @@ fn wasi_path(alloc: Global, kit: &str, name: &str) -> Mem<Text>
 }
 
 // Clang in the kit of WASI, where that has it.
+#[tactic(auto, using(crate::proofs::AskingLemmas::only_none))]
 fn wasi_kit_compiler<W: World, H: Host<W>>(
     rt: &impl Wait,
-    alloc: Global,
-    set: &BuildConfig,
-    env: &BuildEnv,
+    inputs: &Inputs<'_>,
     name: &str,
     sight: &mut Sight<'_, W, H>,
 ) -> Mem<Option<Text>>
-    ensures asks { AsksFor W.steady W.answer H.log H.patience set.now env.now sight.old sight.new }
-    ensures settles { SettledIn sight.new (spec.wasi_kit_compiler env.now name.now) result }
+    ensures asks { AsksBy W.steady W.answer H.log H.patience inputs.now sight.old sight.new }
+    ensures settles { SettledIn sight.new
+        (spec.wasi_kit_compiler inputs.now.env.now name.now) result }
 {
-    match env.overridable("WASI_SDK_PATH") {
+    match inputs.env.overridable("WASI_SDK_PATH") {
         Some(kit) => {
-            let path = wasi_path(alloc, kit, name)?;
-            which(rt, alloc, set, env, path.as_str(), sight)
+            let path = wasi_path(inputs.alloc, kit, name)?;
+            let found = which(
+                rt,
+                inputs.alloc,
+                inputs.set,
+                inputs.env,
+                path.as_str(),
+                sight,
+            )?;
+            Ok(found)
         }
         None => Ok(None),
     }
@@ -95,19 +97,18 @@ fn wasi_kit_compiler<W: World, H: Host<W>>(
 // Clang for WASI.
 fn wasi_compiler<W: World, H: Host<W>>(
     rt: &impl Wait,
-    alloc: Global,
-    set: &BuildConfig,
-    env: &BuildEnv,
+    inputs: &Inputs<'_>,
     name: &str,
     sight: &mut Sight<'_, W, H>,
 ) -> Mem<Text>
-    ensures asks { AsksFor W.steady W.answer H.log H.patience set.now env.now sight.old sight.new }
-    ensures settles { SettledIn sight.new (spec.wasi_compiler set.now.cpp env.now name.now) result }
+    ensures asks { AsksBy W.steady W.answer H.log H.patience inputs.now sight.old sight.new }
+    ensures settles { SettledIn sight.new
+        (spec.wasi_compiler inputs.now.set.now.cpp inputs.now.env.now name.now) result }
 {
-    match wasi_kit_compiler(rt, alloc, set, env, name, sight)? {
+    match wasi_kit_compiler(rt, inputs, name, sight)? {
         Some(path) => Ok(path),
         None => {
-            let path = Text::of(alloc, clang_name(set.cpp))?;
+            let path = Text::of(inputs.alloc, clang_name(inputs.set.cpp))?;
             Ok(path)
         }
     }
@@ -137,28 +138,29 @@ fn prefixed_compiler(alloc: Global, cpp: bool, target: &TargetInfo, prefix: &str
 
 // The linker optimises by its plugin, which reads what Clang writes: rustc's book on linker-plugin-based LTO asks for Clang.
 #[tactic(auto, unfolding(crate::specs::Choice::links_by_plugin))]
-fn links_by_plugin(alloc: Global, env: &BuildEnv) -> Mem<bool>
-    ensures { IfOk result (λ b. b ≡ spec.links_by_plugin env.now) }
+fn links_by_plugin(inputs: &Inputs<'_>) -> bool
+    ensures { result ≡ spec.links_by_plugin inputs.now.env.now }
 {
-    match inherited_flags(alloc, true, env.inherited())? {
-        Some(flags) => Ok(flags.linker_plugin_lto()),
-        None => Ok(false),
+    match &inputs.rustflags.flags {
+        Some(flags) => flags.linker_plugin_lto(),
+        None => false,
     }
 }
 
 // Clang, where it is wanted for the linker's plugin and found.
+#[tactic(auto, using(crate::proofs::AskingLemmas::only_none))]
 fn plugin_compiler<W: World, H: Host<W>>(
     rt: &impl Wait,
-    alloc: Global,
-    set: &BuildConfig,
-    env: &BuildEnv,
+    inputs: &Inputs<'_>,
     sight: &mut Sight<'_, W, H>,
 ) -> Mem<Option<Text>>
-    ensures asks { AsksFor W.steady W.answer H.log H.patience set.now env.now sight.old sight.new }
-    ensures settles { SettledIn sight.new (spec.plugin_compiler set.now.cpp env.now) result }
+    ensures asks { AsksBy W.steady W.answer H.log H.patience inputs.now sight.old sight.new }
+    ensures settles { SettledIn sight.new
+        (spec.plugin_compiler inputs.now.set.now.cpp inputs.now.env.now) result }
 {
-    if links_by_plugin(alloc, env)? {
-        which(rt, alloc, set, env, clang_name(set.cpp), sight)
+    if links_by_plugin(inputs) {
+        let name = clang_name(inputs.set.cpp);
+        which(rt, inputs.alloc, inputs.set, inputs.env, name, sight)
     } else {
         Ok(None)
     }
@@ -167,36 +169,35 @@ fn plugin_compiler<W: World, H: Host<W>>(
 // The compiler of the system.
 fn default_compiler<W: World, H: Host<W>>(
     rt: &impl Wait,
-    alloc: Global,
-    set: &BuildConfig,
-    env: &BuildEnv,
+    inputs: &Inputs<'_>,
     sight: &mut Sight<'_, W, H>,
 ) -> Mem<Text>
-    ensures asks { AsksFor W.steady W.answer H.log H.patience set.now env.now sight.old sight.new }
-    ensures settles { SettledIn sight.new (spec.default_compiler set.now.cpp env.now) result }
+    ensures asks { AsksBy W.steady W.answer H.log H.patience inputs.now sight.old sight.new }
+    ensures settles { SettledIn sight.new
+        (spec.default_compiler inputs.now.set.now.cpp inputs.now.env.now) result }
 {
-    match plugin_compiler(rt, alloc, set, env, sight)? {
+    match plugin_compiler(rt, inputs, sight)? {
         Some(path) => Ok(path),
         None => {
-            let path = Text::of(alloc, traditional_name(set.cpp))?;
+            let path = Text::of(inputs.alloc, traditional_name(inputs.set.cpp))?;
             Ok(path)
         }
     }
 }
 
 // The prefix of compilers for another target than the host.
+#[tactic(auto, using(crate::proofs::AskingLemmas::only_none))]
 fn cross_prefix<W: World, H: Host<W>>(
     rt: &impl Wait,
-    alloc: Global,
-    set: &BuildConfig,
-    env: &BuildEnv,
+    inputs: &Inputs<'_>,
     sight: &mut Sight<'_, W, H>,
 ) -> Mem<Option<Text>>
-    ensures asks { AsksFor W.steady W.answer H.log H.patience set.now env.now sight.old sight.new }
-    ensures settles { SettledIn sight.new (spec.cross_prefix set.now env.now) result }
+    ensures asks { AsksBy W.steady W.answer H.log H.patience inputs.now sight.old sight.new }
+    ensures settles { SettledBy sight.new spec.cross_prefix inputs.now result }
 {
-    if is_cross(set, env) {
-        prefix_for(rt, alloc, set, env, target_name(set, env), sight)
+    if is_cross(inputs.set, inputs.env) {
+        let name = target_name(inputs.set, inputs.env);
+        prefix_for(rt, inputs.alloc, inputs.set, inputs.env, name, sight)
     } else {
         Ok(None)
     }
@@ -205,23 +206,24 @@ fn cross_prefix<W: World, H: Host<W>>(
 // The compiler for another target than the host, where it has a prefix; else that of the system.
 fn cross_compiler<W: World, H: Host<W>>(
     rt: &impl Wait,
-    alloc: Global,
-    set: &BuildConfig,
-    env: &BuildEnv,
-    target: &TargetInfo,
+    inputs: &Inputs<'_>,
     sight: &mut Sight<'_, W, H>,
 ) -> Mem<Text>
-    requires { info_seen target.now ≡ target_info set.now env.now }
-    ensures asks { AsksFor W.steady W.answer H.log H.patience set.now env.now sight.old sight.new }
-    ensures settles { SettledIn sight.new (spec.cross_compiler set.now env.now) result }
+    ensures asks { AsksBy W.steady W.answer H.log H.patience inputs.now sight.old sight.new }
+    ensures settles { SettledBy sight.new spec.cross_compiler inputs.now result }
 {
-    match cross_prefix(rt, alloc, set, env, sight)? {
+    match cross_prefix(rt, inputs, sight)? {
         Some(prefix) => {
-            let name = prefixed_compiler(alloc, set.cpp, target, prefix.as_str())?;
+            let name = prefixed_compiler(
+                inputs.alloc,
+                inputs.set.cpp,
+                inputs.target,
+                prefix.as_str(),
+            )?;
             Ok(name)
         }
         None => {
-            let path = default_compiler(rt, alloc, set, env, sight)?;
+            let path = default_compiler(rt, inputs, sight)?;
             Ok(path)
         }
     }
@@ -244,103 +246,89 @@ fn fixed_compiler(cpp: bool, target: &TargetInfo) -> Option<&'static str>
     }
 }
 
+#[tactic(auto, using(crate::proofs::AskingLemmas::only_none))]
 fn fixed_or_cross<W: World, H: Host<W>>(
     rt: &impl Wait,
-    alloc: Global,
-    set: &BuildConfig,
-    env: &BuildEnv,
-    target: &TargetInfo,
+    inputs: &Inputs<'_>,
     sight: &mut Sight<'_, W, H>,
 ) -> Mem<Text>
-    requires { info_seen target.now ≡ target_info set.now env.now }
-    ensures asks { AsksFor W.steady W.answer H.log H.patience set.now env.now sight.old sight.new }
-    ensures settles { SettledIn sight.new (spec.fixed_or_cross set.now env.now) result }
+    ensures asks { AsksBy W.steady W.answer H.log H.patience inputs.now sight.old sight.new }
+    ensures settles { SettledBy sight.new spec.fixed_or_cross inputs.now result }
 {
-    match fixed_compiler(set.cpp, target) {
-        Some(name) => Text::of(alloc, name),
-        None => cross_compiler(rt, alloc, set, env, target, sight),
+    match fixed_compiler(inputs.set.cpp, inputs.target) {
+        Some(name) => Text::of(inputs.alloc, name),
+        None => cross_compiler(rt, inputs, sight),
     }
 }
 
 // The compiler that the target wants.
 fn target_compiler<W: World, H: Host<W>>(
     rt: &impl Wait,
-    alloc: Global,
-    set: &BuildConfig,
-    env: &BuildEnv,
-    target: &TargetInfo,
+    inputs: &Inputs<'_>,
     sight: &mut Sight<'_, W, H>,
 ) -> Mem<Text>
-    requires { info_seen target.now ≡ target_info set.now env.now }
-    ensures asks { AsksFor W.steady W.answer H.log H.patience set.now env.now sight.old sight.new }
-    ensures settles { SettledIn sight.new (spec.target_compiler set.now env.now) result }
+    ensures asks { AsksBy W.steady W.answer H.log H.patience inputs.now sight.old sight.new }
+    ensures settles { SettledBy sight.new spec.target_compiler inputs.now result }
 {
-    if target.os == "android" {
-        android_compiler(rt, alloc, set, env, target_name(set, env), sight)
-    } else if target.os == "wasi" {
-        wasi_compiler(rt, alloc, set, env, target_name(set, env), sight)
+    let name = target_name(inputs.set, inputs.env);
+    if inputs.target.os == "android" {
+        android_compiler(rt, inputs.alloc, inputs.set, inputs.env, sight)
+    } else if inputs.target.os == "wasi" {
+        wasi_compiler(rt, inputs, name, sight)
     } else {
-        fixed_or_cross(rt, alloc, set, env, target, sight)
+        fixed_or_cross(rt, inputs, sight)
     }
 }
 
 // The compiler where neither settings nor environment name one.
+#[tactic(auto, using(crate::proofs::AskingLemmas::only_none))]
 fn own_choice<W: World, H: Host<W>>(
     rt: &impl Wait,
-    alloc: Global,
-    set: &BuildConfig,
-    env: &BuildEnv,
-    target: &TargetInfo,
+    inputs: &Inputs<'_>,
     sight: &mut Sight<'_, W, H>,
 ) -> Mem<Choice>
-    requires { info_seen target.now ≡ target_info set.now env.now }
-    ensures asks { AsksFor W.steady W.answer H.log H.patience set.now env.now sight.old sight.new }
-    ensures settles { SettledIn sight.new (spec.own_choice set.now env.now) result }
+    ensures asks { AsksBy W.steady W.answer H.log H.patience inputs.now sight.old sight.new }
+    ensures settles { SettledBy sight.new spec.own_choice inputs.now result }
 {
-    if target.os == "emscripten" {
-        return bare(alloc, emscripten_name(set.cpp));
+    let alloc = inputs.alloc;
+    if inputs.target.os == "emscripten" {
+        return bare(alloc, emscripten_name(inputs.set.cpp));
     }
-    let path = target_compiler(rt, alloc, set, env, target, sight)?;
-    in_rustc_wrapper(alloc, env, path.as_str(), Words::new(alloc))
+    let path = target_compiler(rt, inputs, sight)?;
+    in_rustc_wrapper(alloc, inputs.env, path.as_str(), Words::new(alloc))
 }
 
 // The compiler where the settings name none.
 fn found_choice<W: World, H: Host<W>>(
     rt: &impl Wait,
-    alloc: Global,
-    set: &BuildConfig,
-    env: &BuildEnv,
-    target: &TargetInfo,
+    inputs: &Inputs<'_>,
     sight: &mut Sight<'_, W, H>,
 ) -> Mem<Choice>
-    requires { info_seen target.now ≡ target_info set.now env.now }
-    ensures asks { AsksFor W.steady W.answer H.log H.patience set.now env.now sight.old sight.new }
-    ensures settles { SettledIn sight.new (spec.found_choice set.now env.now) result }
+    ensures asks { AsksBy W.steady W.answer H.log H.patience inputs.now sight.old sight.new }
+    ensures settles { SettledBy sight.new spec.found_choice inputs.now result }
 {
-    match env_tool(rt, alloc, set, env, compiler_variable(set.cpp), sight)? {
+    let variable = compiler_variable(inputs.set.cpp);
+    match env_tool(rt, inputs.alloc, inputs.set, inputs.env, variable, sight)? {
         Some(choice) => Ok(choice),
         None => {
-            let choice = own_choice(rt, alloc, set, env, target, sight)?;
+            let choice = own_choice(rt, inputs, sight)?;
             Ok(choice)
         }
     }
 }
 
 /// The compiler: the set one, else that of the environment, else the one that the target wants.
+#[tactic(auto, using(crate::proofs::AskingLemmas::only_none))]
 pub(crate) fn choose<W: World, H: Host<W>>(
     rt: &impl Wait,
-    alloc: Global,
-    set: &BuildConfig,
-    env: &BuildEnv,
-    target: &TargetInfo,
+    inputs: &Inputs<'_>,
     sight: &mut Sight<'_, W, H>,
 ) -> Mem<Choice>
-    requires { info_seen target.now ≡ target_info set.now env.now }
-    ensures asks { AsksFor W.steady W.answer H.log H.patience set.now env.now sight.old sight.new }
-    ensures settles { SettledIn sight.new (spec.choice_of set.now env.now) result }
+    ensures asks { AsksBy W.steady W.answer H.log H.patience inputs.now sight.old sight.new }
+    ensures settles { SettledBy sight.new spec.choice_of inputs.now result }
 {
-    match &set.compiler {
-        Some(path) => bare(alloc, path.as_str()),
-        None => found_choice(rt, alloc, set, env, target, sight),
+    match &inputs.set.compiler {
+        Some(path) => bare(inputs.alloc, path.as_str()),
+        None => found_choice(rt, inputs, sight),
     }
 }

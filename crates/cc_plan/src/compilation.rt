@@ -1,4 +1,5 @@
-// A compilation: what the words of a tool, its warnings and the questions on its flags are made of.
+// What a compiler is chosen by, and a compilation: what the words of a tool, its warnings and the
+// questions on its flags are made of.
 ghost use Rattle.std.specs.Prelude.{◌≡◌};
 ghost use Rattle.cc_plan.specs.Inherited.{rustflags as read_flags};
 ghost use Rattle.cc_plan.specs.Target.{target_info};
@@ -11,7 +12,20 @@ use cc_env::BuildEnv;
 use cc_target::TargetInfo;
 use std::alloc::Global;
 
-/// The settings in their environment, the flags of Rust code that are read from it, what is known of the target, and a compiler.
+/// The settings in their environment, the flags of Rust code that are read from it, and what is known
+/// of the target.
+#[derive(Clone, Copy)]
+pub(crate) struct Inputs<'a> {
+    pub alloc: Global,
+    pub set: &'a BuildConfig,
+    pub env: &'a BuildEnv,
+    pub rustflags: &'a Rustflags,
+    pub target: &'a TargetInfo,
+    ghost read: { rustflags.now ≡ read_flags env.now.inherited },
+    ghost known: { info_seen target.now ≡ target_info set.now env.now },
+}
+
+/// The same with a compiler.
 #[derive(Clone, Copy)]
 pub(crate) struct Compilation<'a> {
     pub alloc: Global,
@@ -20,6 +34,6 @@ pub(crate) struct Compilation<'a> {
     pub rustflags: &'a Rustflags,
     pub target: &'a TargetInfo,
     pub compiler: &'a Compiler,
-    ghost read: { rustflags.now ≡ read_flags set.now.inherit_rustflags env.now.inherited },
+    ghost read: { rustflags.now ≡ read_flags env.now.inherited },
     ghost known: { info_seen target.now ≡ target_info set.now env.now },
 }

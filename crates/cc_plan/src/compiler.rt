@@ -1,16 +1,14 @@
 // The chosen compiler with its family.
 ghost use Rattle.std.specs.Prelude.{◌≡◌, ◌++◌, IfOk};
-ghost use Rattle.cc_target.specs.Targets.{info_seen};
-ghost use Rattle.cc_plan.specs.Asking.{AsksFor, SettledIn};
+ghost use Rattle.cc_plan.specs.Asking.{AsksFor, AsksBy, IsChosen, SettledIn, SettledBy};
 ghost use Rattle.cc_plan.specs.Compiler.{family_in, compiler_of};
-ghost use Rattle.cc_plan.specs.Target.{target_info};
 
 use crate::choice::choose;
+use crate::compilation::Inputs;
 use crate::given::probe_folder;
 use crate::{BuildConfig, Choice, Sight};
 use cc_env::BuildEnv;
 use cc_host::{Host, World};
-use cc_target::TargetInfo;
 use cc_text::{Mem, ToolFamily};
 use cc_tool::{Detected, ask_family};
 use std::alloc::Global;
@@ -36,6 +34,7 @@ fn family_in<W: World, H: Host<W>>(
     choice: &Choice,
     sight: &mut Sight<'_, W, H>,
 ) -> Mem<(ToolFamily, Detected)>
+    requires { IsChosen sight.old set.now env.now choice.now }
     ensures asks { AsksFor W.steady W.answer H.log H.patience set.now env.now sight.old sight.new }
     ensures settles { SettledIn sight.new (family_in env.now choice.now) result }
 {
@@ -55,18 +54,14 @@ fn family_in<W: World, H: Host<W>>(
 /// The compiler of these settings in this environment, with its family.
 pub(crate) fn compiler_of<W: World, H: Host<W>>(
     rt: &impl Wait,
-    alloc: Global,
-    set: &BuildConfig,
-    env: &BuildEnv,
-    target: &TargetInfo,
+    inputs: &Inputs<'_>,
     sight: &mut Sight<'_, W, H>,
 ) -> Mem<Compiler>
-    requires { info_seen target.now ≡ target_info set.now env.now }
-    ensures asks { AsksFor W.steady W.answer H.log H.patience set.now env.now sight.old sight.new }
-    ensures settles { SettledIn sight.new (compiler_of set.now env.now) result }
+    ensures asks { AsksBy W.steady W.answer H.log H.patience inputs.now sight.old sight.new }
+    ensures settles { SettledBy sight.new compiler_of inputs.now result }
 {
-    let choice = choose(rt, alloc, set, env, target, sight)?;
-    let (family, detected) = family_in(rt, alloc, set, env, &choice, sight)?;
+    let choice = choose(rt, inputs, sight)?;
+    let (family, detected) = family_in(rt, inputs.alloc, inputs.set, inputs.env, &choice, sight)?;
     Ok(Compiler {
         choice,
         family,

@@ -177,6 +177,7 @@ fn tool_in_words(alloc: Global, env: &BuildEnv, words: &[Text]) -> Mem<Option<Ch
 }
 
 // The tool in a text: the whole text where that is a file, else what its words say.
+#[tactic(auto, using(crate::proofs::AskingLemmas::only_none))]
 fn tool_in_text<W: World, H: Host<W>>(
     rt: &impl Wait,
     alloc: Global,
@@ -201,6 +202,7 @@ fn tool_in_text<W: World, H: Host<W>>(
 }
 
 // The tool of a variable of the prefixes.
+#[tactic(auto, using(crate::proofs::AskingLemmas::only_none))]
 pub(crate) fn env_tool<W: World, H: Host<W>>(
     rt: &impl Wait,
     alloc: Global,

@@ -1,16 +1,15 @@
 // Whether the compiler of these settings takes a flag.
 ghost use Rattle.std.specs.Prelude.{◌≡◌, IfOk, IfErr};
 ghost use Rattle.cc_host.specs.Question.{Settles};
-ghost use Rattle.cc_plan.specs.Asking.{IsOwn, OnlyAsks, AsksFor, AsksThenWarns, SettledIn, AllowedIn, RefusedIn, RefusedInOrByPrint};
+ghost use Rattle.cc_plan.specs.Asking.{IsOwn, OnlyAsks, AsksFor, AsksBy, AsksOnFlag, AsksThenWarns, SettledIn, SettledBy, AllowedIn, RefusedIn, RefusedInOrByPrint};
 ghost use Rattle.cc_plan.specs.Compilation.{seen, folder_of};
 ghost use Rattle.cc_plan.specs.Compiler.{compiler_of};
 ghost use Rattle.cc_plan.specs.FlagSupport as spec;
+ghost use Rattle.cc_plan.specs.Questions.{SupportAsks};
 ghost use Rattle.cc_plan.specs.Support.{flag_question as question_on};
-ghost use Rattle.cc_plan.specs.Target.{target_info};
-ghost use Rattle.cc_target.specs.Targets.{info_seen};
 ghost use Rattle.cc_plan.specs.Refusal.{AllowedBy, RefusedBy};
 
-use crate::compilation::Compilation;
+use crate::compilation::{Compilation, Inputs};
 use crate::compiler::{Compiler, compiler_of};
 use crate::given::probe_folder;
 use crate::inherited::read_rustflags;
@@ -20,7 +19,6 @@ use crate::tool::{check_compiler, found_warnings, known_target};
 use crate::{BuildConfig, PlanError, Sight};
 use cc_env::BuildEnv;
 use cc_host::{Host, Question, Verdict, World};
-use cc_target::TargetInfo;
 use cc_text::{Mem, Words};
 use cc_tool::ask_flag;
 use std::alloc::Global;
@@ -34,13 +32,11 @@ fn checked_question(given: &Compilation<'_>, flag: &str) -> Result<Question, Pla
 {
     let path = given.compiler.choice.path.as_str();
     let settings = flag_settings(given.alloc, given.set, path, flag)?;
-    let inherits = settings.inherit_rustflags;
-    let rustflags = read_rustflags(given.alloc, inherits, given.env.inherited())?;
     let plain = Compilation {
         alloc: given.alloc,
         set: &settings,
         env: given.env,
-        rustflags: &rustflags,
+        rustflags: given.rustflags,
         target: given.target,
         compiler: given.compiler,
     };
@@ -50,7 +46,7 @@ fn checked_question(given: &Compilation<'_>, flag: &str) -> Result<Question, Pla
 }
 
 // The verdict of a compiler on a flag.
-#[tactic(auto, unfolding(crate::specs::FlagSupport::verdict_on, crate::specs::FlagSupport::verdict_refusal))]
+#[tactic(auto, using(crate::proofs::AskingLemmas::only_none), unfolding(crate::specs::FlagSupport::verdict_on, crate::specs::FlagSupport::verdict_refusal))]
 fn verdict_on<W: World, H: Host<W>>(
     rt: &impl Wait,
     given: &Compilation<'_>,
@@ -58,7 +54,7 @@ fn verdict_on<W: World, H: Host<W>>(
     sight: &mut Sight<'_, W, H>,
 ) -> Result<Verdict, PlanError>
     ensures asks { OnlyAsks W.steady W.answer H.log H.patience (folder_of (seen given.now))
-        sight.old sight.new }
+        (λ look q. q ≡ question_on (seen given.now) flag.now) sight.old sight.new }
     ensures verdict { SettledIn sight.new (spec.verdict_on (seen given.now) flag.now) result }
     ensures allowed { AllowedBy (spec.verdict_refusal (seen given.now) flag.now) result }
     ensures refused { RefusedBy (spec.verdict_refusal (seen given.now) flag.now) result }
@@ -99,23 +95,20 @@ struct Support {
 // The compiler, and the one that is asked: that of its path alone.
 fn found_compiler<W: World, H: Host<W>>(
     rt: &impl Wait,
-    alloc: Global,
-    set: &BuildConfig,
-    env: &BuildEnv,
-    target: &TargetInfo,
+    inputs: &Inputs<'_>,
     sight: &mut Sight<'_, W, H>,
 ) -> Mem<(Compiler, Compiler)>
-    requires { info_seen target.now ≡ target_info set.now env.now }
-    ensures asks { AsksFor W.steady W.answer H.log H.patience set.now env.now sight.old sight.new }
-    ensures settles { IfOk result (λ found. Settles sight.new.answers.now
-        (spec.found set.now env.now) found) }
+    ensures asks { AsksBy W.steady W.answer H.log H.patience inputs.now sight.old sight.new }
+    ensures settles { SettledBy sight.new spec.found inputs.now result }
 {
-    let compiler = compiler_of(rt, alloc, set, env, target, sight)?;
-    let bare = bare_compiler(rt, alloc, set, env, compiler.choice.path.as_str(), sight)?;
+    let compiler = compiler_of(rt, inputs, sight)?;
+    let path = compiler.choice.path.as_str();
+    let bare = bare_compiler(rt, inputs.alloc, inputs.set, inputs.env, path, sight)?;
     Ok((compiler, bare))
 }
 
 // The verdict on a flag. It asks, and prints nothing.
+#[tactic(auto, using(crate::proofs::AskingLemmas::only_none))]
 fn plan_support<W: World, H: Host<W>>(
     rt: &impl Wait,
     alloc: Global,
@@ -124,7 +117,8 @@ fn plan_support<W: World, H: Host<W>>(
     flag: &str,
     sight: &mut Sight<'_, W, H>,
 ) -> Result<Support, PlanError>
-    ensures asks { AsksFor W.steady W.answer H.log H.patience set.now env.now sight.old sight.new }
+    ensures asks { AsksOnFlag W.steady W.answer H.log H.patience set.now env.now flag.now
+        sight.old sight.new }
     ensures verdict { IfOk result (λ s. Settles sight.new.answers.now
         (spec.flag_verdict set.now env.now flag.now) s.found.verdict) }
     ensures compiler { IfOk result (λ s. Settles sight.new.answers.now
@@ -136,8 +130,15 @@ fn plan_support<W: World, H: Host<W>>(
     ensures own { IfErr result IsOwn }
 {
     let target = known_target(alloc, set, env)?;
-    let rustflags = read_rustflags(alloc, set.inherit_rustflags, env.inherited())?;
-    let (compiler, bare) = found_compiler(rt, alloc, set, env, &target, sight)?;
+    let rustflags = read_rustflags(alloc, env.inherited())?;
+    let inputs = Inputs {
+        alloc,
+        set,
+        env,
+        rustflags: &rustflags,
+        target: &target,
+    };
+    let (compiler, bare) = found_compiler(rt, &inputs, sight)?;
     let asked = Compilation {
         alloc,
         set,
@@ -178,7 +179,8 @@ pub fn flag_support<W: World, H: Host<W>>(
 ) -> Result<FlagSupport, PlanError>
     ensures same_host { sight.new.host.ghost_name ≡ sight.old.host.ghost_name }
     ensures same_answers { sight.new.answers.ghost_name ≡ sight.old.answers.ghost_name }
-    ensures asks { AsksThenWarns W.steady W.answer H.log set.now env.now sight.old sight.new
+    ensures asks { AsksThenWarns W.steady W.answer H.log set.now env.now
+        (SupportAsks set.now env.now flag.now) sight.old sight.new
         (λ told. spec.support_lines set.now env.now) result }
     ensures compiler { IfOk result (λ found. Settles sight.new.answers.now
         (compiler_of set.now env.now) found.compiler) }

@@ -2,6 +2,7 @@
 ghost use Rattle.std.specs.Prelude.{◌≡◌, IfOk, option_map};
 ghost use Rattle.std.specs.Option.{option_copied};
 ghost use Rattle.cc_plan.specs.Given.{prefixed_value, temp_folder, probe_folder, or_variable, out_dir_of, target_of, host_of, level_of, is_value_of, is_cargos_target, is_true_variable, is_disabled, has_no_defaults, has_shell_flags, flags_variable, variable_flags, environment_flags};
+ghost use Rattle.cc_plan.specs.Target.{target_name};
 
 use crate::BuildConfig;
 use crate::blanks::nonempty;
@@ -35,6 +36,13 @@ pub fn target_of<'a>(set: &'a BuildConfig, env: &'a BuildEnv) -> Option<&'a str>
     ensures { option_copied result ≡ target_of set.now env.now }
 {
     or_variable(&set.target, env, "TARGET")
+}
+
+// The name of the target, or the empty name.
+pub(crate) fn target_name<'a>(set: &'a BuildConfig, env: &'a BuildEnv) -> &'a str
+    ensures { result.now ≡ target_name set.now env.now }
+{
+    target_of(set, env).unwrap_or("")
 }
 
 /// The name of the target of the machine that compiles, lent: the set one, else `HOST`, or none. It takes no memory.

@@ -5,39 +5,30 @@ ghost use Rattle.cc_plan.specs.Inherited as spec;
 ghost use Rattle.cc_plan.specs.Refusal.{AllowedBy, RefusedBy};
 
 use crate::PlanError;
+use crate::compilation::Compilation;
 use cc_env::EnvSnapshot;
 use cc_flags::{FlagError, RustcCodegenFlags, is_among};
 use cc_text::{Mem, NoMemory, Text, Words, quoted};
 use std::alloc::Global;
 
-// The text of the flags, where they are taken.
-fn inherited_text(inherits: bool, env: &EnvSnapshot) -> Option<&str>
-    ensures { option_copied result ≡ spec.inherited_text inherits env.now }
-{
-    if inherits {
-        env.get("CARGO_ENCODED_RUSTFLAGS")
-    } else {
-        None
-    }
-}
-
-/// The flags of Rust code that Cargo hands down, as they are read once a run.
+/// The flags of Rust code that Cargo hands down, as they are read once a run, whether or not they are
+/// taken.
 #[derive(Drop, Debug)]
 pub(crate) struct Rustflags {
-    /// The flags: none where they aren't taken, none is set, or one is wrong.
+    /// The flags: none where none is set, or one is wrong.
     pub flags: Option<RustcCodegenFlags>,
-    /// Why they are refused, where one is wrong.
+    /// What is wrong with them, where one is.
     pub wrong: Option<FlagError>,
 }
 
-/// Reads the flags from `CARGO_ENCODED_RUSTFLAGS`, where they are taken: Cargo's book says in "Environment variables", "Environment
-/// variables Cargo sets for build scripts", that a build script finds them there, with a byte 0x1f between each two. Want of memory
-/// refuses.
+/// Reads the flags from `CARGO_ENCODED_RUSTFLAGS`: Cargo's book says in "Environment variables",
+/// "Environment variables Cargo sets for build scripts", that a build script finds them there, with a
+/// byte 0x1f between each two. Want of memory refuses.
 #[tactic(auto, unfolding(crate::specs::Inherited::inherited_flags))]
-pub(crate) fn read_rustflags(alloc: Global, inherits: bool, env: &EnvSnapshot) -> Mem<Rustflags>
-    ensures { IfOk result (λ flags. flags ≡ spec.rustflags inherits env.now) }
+pub(crate) fn read_rustflags(alloc: Global, env: &EnvSnapshot) -> Mem<Rustflags>
+    ensures { IfOk result (λ flags. flags ≡ spec.rustflags env.now) }
 {
-    match inherited_text(inherits, env) {
+    match env.get("CARGO_ENCODED_RUSTFLAGS") {
         None => Ok(Rustflags {
             flags: None,
             wrong: None,
@@ -56,24 +47,33 @@ pub(crate) fn read_rustflags(alloc: Global, inherits: bool, env: &EnvSnapshot) -
     }
 }
 
-/// The flags alone: none where they aren't taken, none is set, or one is wrong. Only want of memory refuses.
-pub(crate) fn inherited_flags(
-    alloc: Global,
-    inherits: bool,
-    env: &EnvSnapshot,
-) -> Mem<Option<RustcCodegenFlags>>
-    ensures { IfOk result (λ flags. flags ≡ spec.inherited_flags inherits env.now) }
+/// The flags, where they are taken: none where they aren't, none is set, or one is wrong. It takes no
+/// memory.
+#[tactic(auto, unfolding(crate::specs::Inherited::inherited_flags))]
+pub(crate) fn taken_flags<'a>(given: &Compilation<'a>) -> Option<&'a RustcCodegenFlags>
+    ensures { option_copied result
+        ≡ spec.inherited_flags given.now.set.now.inherit_rustflags given.now.env.now.inherited }
 {
-    let read = read_rustflags(alloc, inherits, env)?;
-    Ok(read.flags)
+    if given.set.inherit_rustflags {
+        given.rustflags.flags.as_ref()
+    } else {
+        None
+    }
 }
 
-/// Whether the flags have no wrong one. The refusal has the key of the first wrong one.
-pub(crate) fn check_rustflags(flags: &Rustflags) -> Result<(), PlanError>
-    ensures allowed { AllowedBy (spec.wrong_refusal flags.now) result }
-    ensures refused { RefusedBy (spec.wrong_refusal flags.now) result }
+/// Whether the flags have no wrong one, where they are taken. The refusal has the key of the first
+/// wrong one.
+#[tactic(auto, unfolding(crate::specs::Inherited::inherited_refusal))]
+pub(crate) fn check_rustflags(given: &Compilation<'_>) -> Result<(), PlanError>
+    ensures allowed { AllowedBy (spec.inherited_refusal
+        given.now.set.now.inherit_rustflags given.now.env.now.inherited) result }
+    ensures refused { RefusedBy (spec.inherited_refusal
+        given.now.set.now.inherit_rustflags given.now.env.now.inherited) result }
 {
-    match &flags.wrong {
+    if !given.set.inherit_rustflags {
+        return Ok(());
+    }
+    match &given.rustflags.wrong {
         None => Ok(()),
         Some(FlagError::InvalidFlag(flag)) => Err(PlanError::Flag(flag.try_clone()?)),
         Some(FlagError::NoMemory) => Err(PlanError::NoMemory),

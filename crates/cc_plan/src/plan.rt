@@ -2,7 +2,7 @@
 ghost use Rattle.std.specs.Prelude.{◌≡◌, ◌++◌, [], IfOk, IfErr, OnOk, ◌⊎◌, Some, None};
 ghost use Rattle.cc_host.specs.Question.{Settles};
 ghost use Rattle.std.specs.Option.{option_copied};
-ghost use Rattle.cc_plan.specs.Asking.{AsksFor, AllowedIn, RefusedIn};
+ghost use Rattle.cc_plan.specs.Asking.{AsksToPlan, AllowedIn, RefusedIn};
 ghost use Rattle.cc_plan.specs.Names.{library_name};
 ghost use Rattle.cc_plan.specs.Given.{out_dir_of};
 ghost use Rattle.cc_plan.specs.Plan.{objects_of, library_of, compiles_of, archives_of, indexes_of, tool_lines, warning_lines as lines_of_warnings, link_lines as lines_of};
@@ -138,7 +138,8 @@ fn tool_compiles<W: World, H: Host<W>>(
     sight: &mut Sight<'_, W, H>,
 ) -> Result<Compiles, PlanError>
     requires { objects.now ≡ objects_of set.now env.now }
-    ensures asks { AsksFor W.steady W.answer H.log H.patience set.now env.now sight.old sight.new }
+    ensures asks { AsksToPlan W.steady W.answer H.log H.patience set.now env.now
+        sight.old sight.new }
     ensures warnings { IfOk result (λ plan.
         Settles sight.new.answers.now (tool_lines set.now env.now plan.told) plan.warnings) }
     ensures compiles { IfOk result (λ plan.
@@ -156,7 +157,7 @@ fn tool_compiles<W: World, H: Host<W>>(
     })
 }
 
-#[tactic(auto, unfolding(crate::specs::Refusal::late_refusal))]
+#[tactic(auto, using(crate::proofs::AskingLemmas::only_none), unfolding(crate::specs::Refusal::late_refusal))]
 fn plan_compiles<W: World, H: Host<W>>(
     rt: &impl Wait,
     alloc: Global,
@@ -166,7 +167,8 @@ fn plan_compiles<W: World, H: Host<W>>(
     sight: &mut Sight<'_, W, H>,
 ) -> Result<Compiles, PlanError>
     requires { objects.now ≡ objects_of set.now env.now }
-    ensures asks { AsksFor W.steady W.answer H.log H.patience set.now env.now sight.old sight.new }
+    ensures asks { AsksToPlan W.steady W.answer H.log H.patience set.now env.now
+        sight.old sight.new }
     ensures warnings { IfOk result (λ plan.
         Settles sight.new.answers.now (lines_of_warnings set.now env.now plan.told) plan.warnings) }
     ensures compiles { IfOk result (λ plan.
@@ -197,7 +199,8 @@ pub fn plan_commands<W: World, H: Host<W>>(
     requires name { sources.now.name ≡ library_name output.now }
     requires library { sources.now.library ≡ library_of set.now env.now output.now }
     requires objects { sources.now.objects.items ≡ objects_of set.now env.now }
-    ensures asks { AsksFor W.steady W.answer H.log H.patience set.now env.now sight.old sight.new }
+    ensures asks { AsksToPlan W.steady W.answer H.log H.patience set.now env.now
+        sight.old sight.new }
     ensures warnings { IfOk result (λ plan.
         Settles sight.new.answers.now (lines_of_warnings set.now env.now plan.told) plan.warnings) }
     ensures compiles { IfOk result (λ plan.

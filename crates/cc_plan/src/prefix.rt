@@ -116,6 +116,7 @@ fn tried_compilers(alloc: Global, cpp: bool, folders: &[Text], candidates: &[&st
 }
 
 // The candidate of the first of these compilers that is there.
+#[tactic(auto, using(crate::proofs::AskingLemmas::only_none))]
 fn shown_candidate<W: World, H: Host<W>>(
     rt: &impl Wait,
     alloc: Global,
@@ -145,6 +146,7 @@ fn first_text(alloc: Global, candidates: &[&str]) -> Mem<Option<Text>>
 }
 
 // The candidate of the first compiler that is there, else the first candidate.
+#[tactic(auto, using(crate::proofs::AskingLemmas::only_none))]
 fn candidate_prefix<W: World, H: Host<W>>(
     rt: &impl Wait,
     alloc: Global,
@@ -166,6 +168,7 @@ fn candidate_prefix<W: World, H: Host<W>>(
 }
 
 // The prefix of the GNU tools' names for a target, where there is one.
+#[tactic(auto, using(crate::proofs::AskingLemmas::only_none))]
 pub(crate) fn prefix_for<W: World, H: Host<W>>(
     rt: &impl Wait,
     alloc: Global,

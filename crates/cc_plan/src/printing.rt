@@ -1,8 +1,9 @@
 // Warnings that are printed as Cargo reads them.
-ghost use Rattle.std.specs.Prelude.{◌≡◌, ◌⊎◌, ◌++◌, ◌∷◌, [], IfOk, IfErr, map};
+ghost use Rattle.std.specs.Prelude.{◌≡◌, ◌⊎◌, ◌++◌, ◌∷◌, [], false, IfOk, IfErr, map};
+ghost use Rattle.std.specs.List.{list_any};
 ghost use Rattle.cc_host.specs.Call.{part};
 ghost use Rattle.cc_tool.specs.Asked.{question_events};
-ghost use Rattle.cc_plan.specs.Asking.{Printed, PrintsLine, RefusedByPrint};
+ghost use Rattle.cc_plan.specs.Asking.{Printed, PrintsLine, RefusedByPrint, is_of_children};
 ghost use Rattle.cc_plan.specs.Link.{printed_line as line_of};
 ghost use Rattle.cc_plan.specs.Plan.{warning_line as line_of_warning, wanted_lines as lines_wanted};
 
@@ -78,6 +79,7 @@ pub(crate) fn print_warnings<W: World, H: Host<W>>(
     ensures extends { H.log host.new ≡ H.log host.old ++ part H.log host.old host.new }
     ensures prints { Printed lines.now (part H.log host.old host.new) result }
     ensures silent { question_events (part H.log host.old host.new) ≡ [] }
+    ensures childless { list_any is_of_children (part H.log host.old host.new) ≡ false }
     ensures refused { RefusedByPrint result }
     ensures patient { H.patience host.new ≡ H.patience host.old }
 {

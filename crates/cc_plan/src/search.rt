@@ -66,6 +66,7 @@ fn places_of(alloc: Global, folders: &[Text], tool: &str) -> Mem<Words>
 }
 
 // The first of some paths that is there.
+#[tactic(auto, using(crate::proofs::AskingLemmas::only_none))]
 fn first_there<W: World, H: Host<W>>(
     rt: &impl Wait,
     alloc: Global,
@@ -86,6 +87,7 @@ fn first_there<W: World, H: Host<W>>(
 }
 
 // Where a tool is.
+#[tactic(auto, using(crate::proofs::AskingLemmas::only_none))]
 pub(crate) fn which<W: World, H: Host<W>>(
     rt: &impl Wait,
     alloc: Global,

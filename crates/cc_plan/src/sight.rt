@@ -2,6 +2,7 @@
 ghost use Rattle.std.specs.Prelude.{◌≡◌, IfOk};
 ghost use Rattle.cc_plan.specs.Asking.{AsksFor, SettledIn};
 ghost use Rattle.cc_plan.specs.Android.{starts_question, can_start};
+ghost use Rattle.cc_plan.specs.Questions.{IsAndroidCompiler};
 ghost use Rattle.cc_plan.specs.Search.{is_there};
 
 use crate::BuildConfig;
@@ -37,6 +38,7 @@ fn starts_of(alloc: Global, env: &BuildEnv, program: &str) -> Mem<Question>
 }
 
 // A file of this path is there.
+#[tactic(auto, using(crate::proofs::AskingLemmas::only_none))]
 pub(crate) fn is_there<W: World, H: Host<W>>(
     rt: &impl Wait,
     alloc: Global,
@@ -62,7 +64,8 @@ pub(crate) fn is_there<W: World, H: Host<W>>(
     Ok(is_yes(&verdict))
 }
 
-// The program can be run.
+// The program, one of Android's compilers, can be run.
+#[tactic(auto, using(crate::proofs::AskingLemmas::only_none))]
 pub(crate) fn can_start<W: World, H: Host<W>>(
     rt: &impl Wait,
     alloc: Global,
@@ -71,6 +74,7 @@ pub(crate) fn can_start<W: World, H: Host<W>>(
     program: &str,
     sight: &mut Sight<'_, W, H>,
 ) -> Mem<bool>
+    requires { IsAndroidCompiler set.now env.now program.now }
     ensures asks { AsksFor W.steady W.answer H.log H.patience set.now env.now sight.old sight.new }
     ensures settles { SettledIn sight.new (λ look. can_start env.now look program.now) result }
 {

@@ -1,14 +1,15 @@
 // Words that a compiler is given only where it takes them.
 ghost use Rattle.std.specs.Prelude.{◌≡◌, ◌++◌, [], ◌∷◌, IfOk, OnOk, is_none};
-ghost use Rattle.cc_plan.specs.Asking.{OnlyAsks, AsksFor, SettledIn};
+ghost use Rattle.cc_plan.specs.Asking.{OnlyAsks, AsksFor, IsChosenAt, SettledIn};
 ghost use Rattle.cc_plan.specs.Compilation.{seen, folder_of};
+ghost use Rattle.cc_plan.specs.Questions.{FlagAsks, WordAsks};
 ghost use Rattle.cc_plan.specs.Support as spec;
+ghost use Rattle.cc_plan.specs.ToolWords.{asked_words as words_asked};
 ghost use Rattle.cc_text.specs.Words.{when};
 
 use crate::compilation::Compilation;
 use crate::compiler::Compiler;
 use crate::given::probe_folder;
-use crate::inherited::read_rustflags;
 use crate::tool::{check_compiler, language_variable};
 use crate::words::{asked_words, is_link, tool_words};
 use crate::{BuildConfig, BuildFlag, Choice, Flags, PlanError, Sight};
@@ -162,13 +163,11 @@ fn question_of(given: &Compilation<'_>, flag: &str) -> Mem<Option<Question>>
     }
     let path = given.compiler.choice.path.as_str();
     let settings = flag_settings(given.alloc, given.set, path, flag)?;
-    let inherits = settings.inherit_rustflags;
-    let rustflags = read_rustflags(given.alloc, inherits, given.env.inherited())?;
     let plain = Compilation {
         alloc: given.alloc,
         set: &settings,
         env: given.env,
-        rustflags: &rustflags,
+        rustflags: given.rustflags,
         target: given.target,
         compiler: given.compiler,
     };
@@ -181,6 +180,7 @@ fn question_of(given: &Compilation<'_>, flag: &str) -> Mem<Option<Question>>
 }
 
 // Whether the compiler takes a flag.
+#[tactic(auto, using(crate::proofs::AskingLemmas::only_none))]
 fn takes<W: World, H: Host<W>>(
     rt: &impl Wait,
     given: &Compilation<'_>,
@@ -188,7 +188,7 @@ fn takes<W: World, H: Host<W>>(
     sight: &mut Sight<'_, W, H>,
 ) -> Mem<bool>
     ensures asks { OnlyAsks W.steady W.answer H.log H.patience (folder_of (seen given.now))
-        sight.old sight.new }
+        (λ look q. q ≡ spec.flag_question (seen given.now) flag.now) sight.old sight.new }
     ensures settles { SettledIn sight.new
         (λ look. spec.takes (seen given.now) look flag.now) result }
 {
@@ -220,6 +220,7 @@ fn push_if(words: &mut Words, wanted: bool, word: &str) -> Mem<()>
 }
 
 // Those of some words that the compiler takes.
+#[tactic(auto, using(crate::proofs::AskingLemmas::only_none))]
 fn taken_among<W: World, H: Host<W>>(
     rt: &impl Wait,
     given: &Compilation<'_>,
@@ -227,7 +228,7 @@ fn taken_among<W: World, H: Host<W>>(
     sight: &mut Sight<'_, W, H>,
 ) -> Mem<Words>
     ensures asks { OnlyAsks W.steady W.answer H.log H.patience (folder_of (seen given.now))
-        sight.old sight.new }
+        (λ look. FlagAsks (seen given.now) words.now) sight.old sight.new }
     ensures settles { SettledIn sight.new (spec.taken_among (seen given.now) words.now) result }
 {
     let mut taken = Words::new(given.alloc);
@@ -248,6 +249,7 @@ pub(crate) fn bare_compiler<W: World, H: Host<W>>(
     path: &str,
     sight: &mut Sight<'_, W, H>,
 ) -> Mem<Compiler>
+    requires { IsChosenAt sight.old set.now env.now path.now }
     ensures asks { AsksFor W.steady W.answer H.log H.patience set.now env.now sight.old sight.new }
     ensures settles { SettledIn sight.new (spec.bare_compiler env.now path.now) result }
 {
@@ -274,8 +276,10 @@ fn supported_among<W: World, H: Host<W>>(
     words: &Words,
     sight: &mut Sight<'_, W, H>,
 ) -> Mem<Words>
+    requires { IsChosenAt sight.old given.now.set.now given.now.env.now
+        given.now.compiler.now.choice.path }
     ensures asks { OnlyAsks W.steady W.answer H.log H.patience (folder_of (seen given.now))
-        sight.old sight.new }
+        (WordAsks (seen given.now) words.now) sight.old sight.new }
     ensures settles { SettledIn sight.new (spec.supported_among (seen given.now) words.now) result }
 {
     let path = given.compiler.choice.path.as_str();
@@ -294,13 +298,16 @@ fn supported_among<W: World, H: Host<W>>(
 
 /// Those that the compiler takes of the words it is asked about. Its family is asked for by its path alone. Only want of memory refuses; what
 /// was asked until then is kept.
+#[tactic(auto, using(crate::proofs::AskingLemmas::only_none))]
 pub(crate) fn supported_words<W: World, H: Host<W>>(
     rt: &impl Wait,
     given: &Compilation<'_>,
     sight: &mut Sight<'_, W, H>,
 ) -> Mem<Words>
+    requires { IsChosenAt sight.old given.now.set.now given.now.env.now
+        given.now.compiler.now.choice.path }
     ensures asks { OnlyAsks W.steady W.answer H.log H.patience (folder_of (seen given.now))
-        sight.old sight.new }
+        (WordAsks (seen given.now) (words_asked (seen given.now))) sight.old sight.new }
     ensures settles { SettledIn sight.new (spec.supported (seen given.now)) result }
 {
     let words = asked_words(given)?;

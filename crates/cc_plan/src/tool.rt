@@ -4,9 +4,10 @@ ghost use Rattle.std.specs.Option.{option_copied};
 ghost use Rattle.cc_host.specs.Question.{Settles};
 ghost use Rattle.cc_target.specs.Targets.{info_seen};
 ghost use Rattle.cc_plan.specs.Compilation.{seen};
-ghost use Rattle.cc_plan.specs.Asking.{IsOwn, AsksFor, AsksThenWarns, SettledIn, AllowedIn, RefusedIn, RefusedInOrByPrint};
+ghost use Rattle.cc_plan.specs.Asking.{IsOwn, AsksToPlan, AsksThenWarns, SettledIn, AllowedIn, RefusedIn, RefusedInOrByPrint};
 ghost use Rattle.cc_plan.specs.Given.{target_of};
 ghost use Rattle.cc_plan.specs.Plan.{tool_lines};
+ghost use Rattle.cc_plan.specs.Questions.{PlanAsks};
 ghost use Rattle.cc_plan.specs.Refusal.{AllowedBy, RefusedBy, unset, target_refusal, platform_refusal, given_refusal, tool_refusal};
 ghost use Rattle.cc_plan.specs.Target.{target_info};
 ghost use Rattle.cc_plan.specs.Planned.{warnings_of, tool_of};
@@ -14,7 +15,7 @@ ghost use Rattle.cc_plan.specs.Support.{compiler_refusal};
 ghost use Rattle.cc_plan.specs.Tool.{language_variable, gnu_warnings, lacks_by, lacks_of, detected_warnings, found_warnings, other_warnings, link_warning, warnings_by, wrapped_tool, tool_by};
 ghost use Rattle.cc_plan.specs.declared.error.PlanError.TheVariants.{NoMemory as WantsMemory, NotSet};
 
-use crate::compilation::Compilation;
+use crate::compilation::{Compilation, Inputs};
 use crate::compiler::{Compiler, compiler_of};
 use crate::given::{host_of, level_of, target_of};
 use crate::inherited::{check_rustflags, push_lost, read_rustflags};
@@ -129,14 +130,14 @@ pub(crate) fn language_variable(family: ToolFamily) -> (&'static str, &'static s
 
 /// Whether a compiler has words. Refused by the words of the target and the level; then where the host is set nowhere, which flags of the
 /// environment are looked up by; then by a wrong flag of Rust code; and for memory.
-#[tactic(auto, unfolding(crate::specs::Refusal::refusal_by, crate::specs::Tool::defaults_refusal_by, crate::specs::Inherited::inherited_refusal))]
+#[tactic(auto, unfolding(crate::specs::Refusal::refusal_by, crate::specs::Tool::defaults_refusal_by))]
 pub(crate) fn check_compiler(given: &Compilation<'_>) -> Result<(), PlanError>
     ensures allowed { AllowedBy (compiler_refusal (seen given.now)) result }
     ensures refused { RefusedBy (compiler_refusal (seen given.now)) result }
 {
     check_defaults(given)?;
     demand(given.alloc, "HOST", host_of(given.set, given.env))?;
-    check_rustflags(given.rustflags)?;
+    check_rustflags(given)?;
     Ok(())
 }
 
@@ -316,6 +317,7 @@ fn warnings_by<W: World>(
 }
 
 /// The tool of these settings in this environment, with its target and its warnings. It asks, and prints nothing.
+#[tactic(auto, using(crate::proofs::AskingLemmas::only_none))]
 pub(crate) fn plan_tool<W: World, H: Host<W>>(
     rt: &impl Wait,
     alloc: Global,
@@ -323,7 +325,8 @@ pub(crate) fn plan_tool<W: World, H: Host<W>>(
     env: &BuildEnv,
     sight: &mut Sight<'_, W, H>,
 ) -> Result<ToolPlan, PlanError>
-    ensures asks { AsksFor W.steady W.answer H.log H.patience set.now env.now sight.old sight.new }
+    ensures asks { AsksToPlan W.steady W.answer H.log H.patience set.now env.now
+        sight.old sight.new }
     ensures info { IfOk result (λ plan. info_seen plan.target ≡ target_info set.now env.now) }
     ensures tool { IfOk result (λ plan. Settles sight.new.answers.now
         (tool_of set.now env.now) plan.tool) }
@@ -334,8 +337,15 @@ pub(crate) fn plan_tool<W: World, H: Host<W>>(
     ensures own { IfErr result IsOwn }
 {
     let target = given_target(alloc, set, env)?;
-    let rustflags = read_rustflags(alloc, set.inherit_rustflags, env.inherited())?;
-    let compiler = compiler_of(rt, alloc, set, env, &target, sight)?;
+    let rustflags = read_rustflags(alloc, env.inherited())?;
+    let inputs = Inputs {
+        alloc,
+        set,
+        env,
+        rustflags: &rustflags,
+        target: &target,
+    };
+    let compiler = compiler_of(rt, &inputs, sight)?;
     let given = Compilation {
         alloc,
         set,
@@ -370,8 +380,8 @@ pub fn tool_of<W: World, H: Host<W>>(
 ) -> Result<Tool, PlanError>
     ensures same_host { sight.new.host.ghost_name ≡ sight.old.host.ghost_name }
     ensures same_answers { sight.new.answers.ghost_name ≡ sight.old.answers.ghost_name }
-    ensures asks { AsksThenWarns W.steady W.answer H.log set.now env.now sight.old sight.new
-        (tool_lines set.now env.now) result }
+    ensures asks { AsksThenWarns W.steady W.answer H.log set.now env.now
+        (PlanAsks set.now env.now) sight.old sight.new (tool_lines set.now env.now) result }
     ensures tool { SettledIn sight.new (tool_of set.now env.now) result }
     ensures allowed { AllowedIn sight.new (tool_refusal set.now env.now) result }
     ensures refused { RefusedInOrByPrint sight.new (tool_refusal set.now env.now) result }

@@ -62,20 +62,11 @@ fn push_reused(line: &mut Line, question: &Question, verdict: &Verdict) -> Mem<(
     push_verdict(line, verdict)
 }
 
-fn push_started(
-    line: &mut Line,
-    vars: &Vars,
-    id: u64,
-    role: Role,
-    cmd: &Command,
-    pipes: Pipes,
-    held: u64,
-) -> Mem<()> {
+// Adds which child was started, in which role, and how many tokens were held then.
+fn push_started(line: &mut Line, id: u64, role: Role, held: u64) -> Mem<()> {
     line.push_about(id, " starts ")?;
     line.push_str(role_name(role))?;
-    line.push_number(", held ", held)?;
-    push_pipes(line, pipes)?;
-    push_command(line, vars, cmd)
+    line.push_number(", held ", held)
 }
 
 fn push_missing(line: &mut Line, vars: &Vars, role: Role, cmd: &Command) -> Mem<()> {
@@ -149,7 +140,11 @@ fn push_course(line: &mut Line, vars: &Vars, event: &Event) -> Mem<()> {
             cmd,
             pipes,
             held,
-        } => push_started(line, vars, *id, *role, cmd, *pipes, *held),
+        } => {
+            push_started(line, *id, *role, *held)?;
+            push_pipes(line, *pipes)?;
+            push_command(line, vars, cmd)
+        }
         Event::Ended { id, status } => push_ended(line, *id, *status),
         Event::Abandoned { id } => line.push_about(*id, " is left alone"),
         Event::Heard { id, bytes } => push_heard(line, *id, bytes),

@@ -5,10 +5,10 @@ ghost use Rattle.cc_host.specs.Call.{part};
 ghost use Rattle.cc_host.specs.Children.{InOrder, running as running_on};
 ghost use Rattle.cc_host.specs.declared.event.Role.TheVariants.{Compile};
 ghost use Rattle.cc_jobs.specs.Seats.{Rose};
-ghost use Rattle.cc_run.specs.Batch.{asked_of, count_of, IsUnfinished, IsFinished, PrintsBatch};
+ghost use Rattle.cc_run.specs.Batch.{asked_of, count_of, IsUnfinished, IsFinished, PrintsBatch, RunsBatch};
 ghost use Rattle.cc_run.specs.Children.{nothing_kept, run_of};
 ghost use Rattle.cc_run.specs.Debugging.{DebugsAll, DebugsTimes};
-ghost use Rattle.cc_run.specs.Keeping.{IsIdle, IsOneRun, KeepsSeat, TookNone, TurnsMade};
+ghost use Rattle.cc_run.specs.Keeping.{IsIdle, KeepsSeat, TookNone, TurnsMade};
 ghost use Rattle.cc_run.specs.Outcome.{NamesCause, IsPassError, IsRunError, IsOutcome, EndsAt};
 ghost use Rattle.cc_run.specs.Own.{is_of_run};
 ghost use Rattle.cc_run.specs.Paid.{IsPaid};
@@ -37,32 +37,31 @@ pub(crate) struct Polls {
 // One pass: starts what it may, and then makes one turn. It answers whether all is done.
 pub(crate) fn pass<W: World, H: Host<W>, J: Jobs>(
     host: &mut H,
-    jobs: &J,
     seat: &mut J::Seat,
     turns: &mut Turns,
     running: &mut Running,
     polls: &mut Polls,
-    batch: Batch<'_>,
+    batch: &Batch<'_, J>,
 ) -> Result<bool, RunError>
-    requires one_run { IsOneRun J.fits J.held jobs.now seat.old (count_of batch) running.old }
-    requires within { running.old.begun ≤ count_of batch }
-    requires unfinished { IsUnfinished batch running.old }
+    requires one_run { RunsBatch J.fits J.held batch.now seat.old running.old }
+    requires within { running.old.begun ≤ count_of batch.now }
+    requires unfinished { IsUnfinished batch.now running.old }
     requires few { turns.old.left + turns.old.used < 2 ^ 64 }
-    ensures one_run { IsOneRun J.fits J.held jobs.now seat.new (count_of batch.entry) running.new }
-    ensures within { running.new.begun ≤ count_of batch.entry }
+    ensures one_run { RunsBatch J.fits J.held batch.now seat.new running.new }
+    ensures within { running.new.begun ≤ count_of batch.now }
     ensures keeps { KeepsSeat J.total J.faults seat.old seat.new }
     ensures patient { H.patience host.new ≡ H.patience host.old }
-    ensures goes { GoesOn H.log (J.total seat.old) (asked_of batch.entry)
+    ensures goes { GoesOn H.log (J.total seat.old) (asked_of batch.now)
         host.old running.old host.new running.new }
-    ensures named { NamesCause (asked_of batch.entry) result (part H.log host.old host.new) }
+    ensures named { NamesCause (asked_of batch.now) result (part H.log host.old host.new) }
     ensures turns { TurnsMade turns.old turns.new (part H.log host.old host.new) }
     ensures waited { Waited (H.patience host.new) (H.log host.old) (H.log host.new) }
     ensures one_turn { OnOk result (turns.new.left + 1 ≡ turns.old.left) }
-    ensures unfinished { result ≡ Ok false → IsUnfinished batch.entry running.new }
-    ensures done { result ≡ Ok true → IsFinished batch.entry running.new }
-    ensures next { IfErr result (IsPassError (length (asked_of batch.entry)) (run_of running.new)) }
+    ensures unfinished { result ≡ Ok false → IsUnfinished batch.now running.new }
+    ensures done { result ≡ Ok true → IsFinished batch.now running.new }
+    ensures next { IfErr result (IsPassError (length (asked_of batch.now)) (run_of running.new)) }
     ensures spent { result ≡ Err RunError.TurnsSpent
-        → (turns.new.left ≡ 0) × IsUnfinished batch.entry running.new }
+        → (turns.new.left ≡ 0) × IsUnfinished batch.now running.new }
     ensures paid { IsPaid J.taken J.load seat.old seat.new result
         (length running.new.children) (part H.log host.old host.new) }
     ensures ends { IfErr result (EndsAt (H.log host.new)) }
@@ -71,19 +70,16 @@ pub(crate) fn pass<W: World, H: Host<W>, J: Jobs>(
     ensures own { list_all is_of_run (part H.log host.old host.new) ≡ true }
     ensures kept { OnOk result (kept_from running.old (part H.log host.old host.new)
         ≡ running.new) }
-    ensures lines { PrintsBatch batch.entry running.old result (part H.log host.old host.new) }
+    ensures lines { PrintsBatch batch.now running.old result (part H.log host.old host.new) }
 {
     let spawned = match polls
         .spawn
-        .poll(host, jobs, seat, batch.cmds, running, batch.shows)
+        .poll(host, batch.jobs, seat, batch.cmds, running, batch.shows)
     {
         Ok(step) => step,
         Err(e) => return Err(e),
     };
-    match polls
-        .wait
-        .poll_batch(host, jobs, seat, turns, running, batch)
-    {
+    match polls.wait.poll_batch(host, seat, turns, running, batch) {
         Ok(waited) => Ok(both_ready(spawned, waited)),
         Err(e) => Err(e),
     }
@@ -109,28 +105,27 @@ pub(crate) fn outcome_of(running: &Running) -> Result<(), RunError>
 // Runs passes until every command has ended, or the run can't go on.
 fn run_passes<W: World, H: Host<W>, J: Jobs>(
     host: &mut H,
-    jobs: &J,
     seat: &mut J::Seat,
     turns: &mut Turns,
     running: &mut Running,
-    batch: Batch<'_>,
+    batch: &Batch<'_, J>,
 ) -> Result<(), RunError>
-    requires idle { IsIdle J.fits J.held jobs.now seat.old }
+    requires idle { IsIdle J.fits J.held batch.now.jobs.now seat.old }
     requires none { running.old ≡ nothing_kept }
-    requires some { 0 < count_of batch }
+    requires some { 0 < count_of batch.now }
     requires few { turns.old.left + turns.old.used < 2 ^ 64 }
-    ensures one_run { IsOneRun J.fits J.held jobs.now seat.new (count_of batch.entry) running.new }
-    ensures within { running.new.begun ≤ count_of batch.entry }
+    ensures one_run { RunsBatch J.fits J.held batch.now seat.new running.new }
+    ensures within { running.new.begun ≤ count_of batch.now }
     ensures keeps { KeepsSeat J.total J.faults seat.old seat.new }
     ensures patient { H.patience host.new ≡ H.patience host.old }
-    ensures goes { GoesOn H.log (J.total seat.old) (asked_of batch.entry)
+    ensures goes { GoesOn H.log (J.total seat.old) (asked_of batch.now)
         host.old running.old host.new running.new }
-    ensures named { NamesCause (asked_of batch.entry) result (part H.log host.old host.new) }
+    ensures named { NamesCause (asked_of batch.now) result (part H.log host.old host.new) }
     ensures turns { TurnsMade turns.old turns.new (part H.log host.old host.new) }
     ensures lasts { LastsOn H.patience H.log (J.total seat.old)
         host.old (run_of running.old) host.new }
-    ensures done { OnOk result (IsFinished batch.entry running.new × (running.new.failed ≡ None)) }
-    ensures cause { IfErr result (IsRunError (length (asked_of batch.entry)) (run_of running.new)) }
+    ensures done { OnOk result (IsFinished batch.now running.new × (running.new.failed ≡ None)) }
+    ensures cause { IfErr result (IsRunError (length (asked_of batch.now)) (run_of running.new)) }
     ensures spent { result ≡ Err RunError.TurnsSpent → turns.new.left ≡ 0 }
     ensures paid { IsPaid J.taken J.load seat.old seat.new result
         (length running.new.children) (part H.log host.old host.new) }
@@ -138,14 +133,14 @@ fn run_passes<W: World, H: Host<W>, J: Jobs>(
     ensures job_fault { result ≡ Err RunError.JobFault
         → Rose (J.faults seat.old) (J.faults seat.new) }
     ensures own { list_all is_of_run (part H.log host.old host.new) ≡ true }
-    ensures lines { PrintsBatch batch.entry running.old result (part H.log host.old host.new) }
+    ensures lines { PrintsBatch batch.now running.old result (part H.log host.old host.new) }
 {
     let mut polls = Polls {
         spawn: SpawnState::new(),
         wait: WaitState::new(),
     };
     'passes: loop {
-        match pass(host, jobs, seat, turns, running, &mut polls, batch) {
+        match pass(host, seat, turns, running, &mut polls, batch) {
             Ok(true) => break 'passes,
             Ok(false) => {}
             Err(e) => return Err(e),
@@ -229,11 +224,12 @@ pub fn run_all<W: World, H: Host<W>, J: Jobs>(
     let _least = host.log();
     let mut running = Running::new(alloc);
     let batch = Batch {
+        jobs,
         cmds,
         shows,
         warns: true,
     };
-    let result = run_passes(host, jobs, seat, turns, &mut running, batch);
+    let result = run_passes(host, seat, turns, &mut running, &batch);
     drop_all(host, jobs, seat, &running);
     result
 }

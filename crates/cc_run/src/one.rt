@@ -2,10 +2,10 @@
 ghost use Rattle.std.specs.Prelude.{◌≡◌, ◌≢◌, ◌++◌, ◌+◌, ◌<◌, ◌^◌, ◌∷◌, [], length, OnOk, IfErr, None, true, false};
 ghost use Rattle.std.specs.List.{list_all};
 ghost use Rattle.cc_host.specs.Call.{part};
-ghost use Rattle.cc_run.specs.Batch.{asked_of, count_of, IsFinished, PrintsBatch};
+ghost use Rattle.cc_run.specs.Batch.{asked_of, count_of, IsFinished, PrintsBatch, RunsBatch};
 ghost use Rattle.cc_run.specs.Children.{nothing_kept, run_of};
 ghost use Rattle.cc_run.specs.Debugging.{DebugsAll, DebugsTimes};
-ghost use Rattle.cc_run.specs.Keeping.{IsOneRun, TurnsMade};
+ghost use Rattle.cc_run.specs.Keeping.{TurnsMade};
 ghost use Rattle.cc_run.specs.Outcome.{NamesCause, IsRunError, EndsAt};
 ghost use Rattle.cc_run.specs.Own.{is_of_run};
 ghost use Rattle.cc_run.specs.Paid.{loads};
@@ -29,37 +29,36 @@ use std::slice;
 // Makes turns until the children of a run whose commands were all started have ended.
 fn wait_out<W: World, H: Host<W>, J: Jobs>(
     host: &mut H,
-    jobs: &J,
     seat: &mut J::Seat,
     turns: &mut Turns,
     running: &mut Running,
-    batch: Batch<'_>,
+    batch: &Batch<'_, J>,
 ) -> Result<(), RunError>
-    requires one_run { IsOneRun J.fits J.held jobs.now seat.old (count_of batch) running.old }
-    requires all { running.old.begun ≡ count_of batch }
+    requires one_run { RunsBatch J.fits J.held batch.now seat.old running.old }
+    requires all { running.old.begun ≡ count_of batch.now }
     requires some { 0 < length running.old.children }
     requires few { turns.old.left + turns.old.used < 2 ^ 64 }
-    ensures one_run { IsOneRun J.fits J.held jobs.now seat.new (count_of batch.entry) running.new }
-    ensures all { running.new.begun ≡ count_of batch.entry }
+    ensures one_run { RunsBatch J.fits J.held batch.now seat.new running.new }
+    ensures all { running.new.begun ≡ count_of batch.now }
     ensures patient { H.patience host.new ≡ H.patience host.old }
-    ensures goes { GoesOn H.log (J.total seat.old) (asked_of batch.entry)
+    ensures goes { GoesOn H.log (J.total seat.old) (asked_of batch.now)
         host.old running.old host.new running.new }
-    ensures named { NamesCause (asked_of batch.entry) result (part H.log host.old host.new) }
+    ensures named { NamesCause (asked_of batch.now) result (part H.log host.old host.new) }
     ensures turns { TurnsMade turns.old turns.new (part H.log host.old host.new) }
     ensures lasts { LastsOn H.patience H.log (J.total seat.old)
         host.old (run_of running.old) host.new }
     ensures free { loads (part H.log host.old host.new) ≡ 0 }
-    ensures done { OnOk result (IsFinished batch.entry running.new × (running.new.failed ≡ None)) }
-    ensures cause { IfErr result (IsRunError (length (asked_of batch.entry)) (run_of running.new)) }
+    ensures done { OnOk result (IsFinished batch.now running.new × (running.new.failed ≡ None)) }
+    ensures cause { IfErr result (IsRunError (length (asked_of batch.now)) (run_of running.new)) }
     ensures ends { IfErr result (EndsAt (H.log host.new)) }
     ensures spent { result ≡ Err RunError.TurnsSpent → turns.new.left ≡ 0 }
     ensures tokenless { result ≢ Err RunError.JobFault }
     ensures own { list_all is_of_run (part H.log host.old host.new) ≡ true }
-    ensures lines { PrintsBatch batch.entry running.old result (part H.log host.old host.new) }
+    ensures lines { PrintsBatch batch.now running.old result (part H.log host.old host.new) }
 {
     let mut wait = WaitState::new();
     'turns: loop {
-        match wait.poll_batch(host, jobs, seat, turns, running, batch) {
+        match wait.poll_batch(host, seat, turns, running, batch) {
             Ok(Step::Ready) => break 'turns,
             Ok(Step::Pending) => {}
             Err(e) => return Err(e),
@@ -111,11 +110,12 @@ pub fn run_one<W: World, H: Host<W>>(
         Err(e) => return Err(e),
     }
     let batch = Batch {
+        jobs: &jobs,
         cmds: slice::from_ref(cmd),
         shows,
         warns: false,
     };
-    let result = wait_out(host, &jobs, &mut seat, turns, &mut running, batch);
+    let result = wait_out(host, &mut seat, turns, &mut running, &batch);
     drop_all(host, &jobs, &mut seat, &running);
     result
 }

@@ -30,15 +30,17 @@ pub struct Shows {
 /// How many turns a run may still make, and how many were made. A turn asks a host for the news of its children.
 #[derive(Clone, Copy, Debug, PartialEq, Eq)]
 pub struct Turns {
-    /// How many may still be made.
+    /// How many may still be made. Where none is left and a command has no end, the run is refused.
     pub left: u64,
-    /// How many were made so far.
+    /// How many were made, also in runs before this one.
     pub used: u64,
 }
 
-// What a run only reads: its commands, what of them is shown, and whether one that fails is warned of.
-#[derive(Clone, Copy)]
-pub(crate) struct Batch<'a> {
+// What a run only reads: its pool, its commands, what of them is shown, and whether one that fails
+// is warned of.
+#[derive(Drop)]
+pub(crate) struct Batch<'a, J> {
+    pub jobs: &'a J,
     pub cmds: &'a [Planned],
     pub shows: &'a Shows,
     pub warns: bool,

@@ -5,7 +5,7 @@ ghost use Rattle.cc_host.specs.Call.{part};
 ghost use Rattle.cc_host.specs.Event.{reported};
 ghost use Rattle.cc_host.specs.Children.{IsNews, Waits};
 ghost use Rattle.cc_host.specs.declared.event.Event.TheVariants.{Turn as OneTurn};
-ghost use Rattle.cc_run.specs.Batch.{asked_of, count_of, owed_by, PrintsBatch};
+ghost use Rattle.cc_run.specs.Batch.{asked_of, count_of, owed_by, PrintsBatch, RunsBatch};
 ghost use Rattle.cc_run.specs.Children.{run_of};
 ghost use Rattle.cc_run.specs.Hearing.{children_from, reports};
 ghost use Rattle.cc_run.specs.Keeping.{IsOneRun, KeepsSeat, TookNone, TurnsMade, IsOneFewer};
@@ -39,15 +39,14 @@ pub struct WaitState {
 
 // Takes the news of one child. One that ended is taken out of the run, and its token given back, in any case.
 fn settle<J: Jobs>(
-    jobs: &J,
     seat: &mut J::Seat,
     running: &mut Running,
     news: &News,
-    batch: Batch<'_>,
+    batch: &Batch<'_, J>,
     lines: &mut Vec<Line>,
 ) -> Mem<()>
-    requires one_run { IsOneRun J.fits J.held jobs.now seat.old (count_of batch) running.old }
-    ensures one_run { IsOneRun J.fits J.held jobs.now seat.new (count_of batch.entry) running.new }
+    requires one_run { RunsBatch J.fits J.held batch.now seat.old running.old }
+    ensures one_run { RunsBatch J.fits J.held batch.now seat.new running.new }
     ensures keeps { KeepsSeat J.total J.faults seat.old seat.new }
     ensures counts { TookNone J.taken J.load seat.old seat.new }
     ensures run { run_of running.new ≡ ended_run (run_of running.old) news.now.id news.now.ended }
@@ -55,7 +54,7 @@ fn settle<J: Jobs>(
     ensures children { OnOk result (running.new.children
         ≡ children_from running.old.children (reported news.now)) }
     ensures lines { OnOk result (lines.new.items
-        ≡ lines.old.items ++ owed_by batch.entry running.old.children (reported news.now)) }
+        ≡ lines.old.items ++ owed_by batch.now running.old.children (reported news.now)) }
 {
     let heard = hear(running, news, batch.shows, lines);
     let Some(status) = news.ended else {
@@ -64,7 +63,7 @@ fn settle<J: Jobs>(
     let Some(mut child) = running.end(news.id, status) else {
         return heard;
     };
-    jobs.give(seat);
+    batch.jobs.give(seat);
     heard?;
     let cmd = &batch.cmds[child.place].cmd;
     push_end(&mut child, cmd, status, batch.shows, batch.warns, lines)
@@ -73,15 +72,14 @@ fn settle<J: Jobs>(
 // Does so for each piece of news, in order.
 #[tactic(auto, using(crate::proofs::Runs::news_run))]
 fn settle_all<J: Jobs>(
-    jobs: &J,
     seat: &mut J::Seat,
     running: &mut Running,
     news: &[News],
-    batch: Batch<'_>,
+    batch: &Batch<'_, J>,
     lines: &mut Vec<Line>,
 ) -> Mem<()>
-    requires one_run { IsOneRun J.fits J.held jobs.now seat.old (count_of batch) running.old }
-    ensures one_run { IsOneRun J.fits J.held jobs.now seat.new (count_of batch.entry) running.new }
+    requires one_run { RunsBatch J.fits J.held batch.now seat.old running.old }
+    ensures one_run { RunsBatch J.fits J.held batch.now seat.new running.new }
     ensures keeps { KeepsSeat J.total J.faults seat.old seat.new }
     ensures counts { TookNone J.taken J.load seat.old seat.new }
     ensures run { run_of running.new ≡ run_from (run_of running.old) (reports news.now) }
@@ -90,12 +88,11 @@ fn settle_all<J: Jobs>(
     ensures children { OnOk result (running.new.children
         ≡ children_from running.old.children (reports news.now)) }
     ensures lines { OnOk result (lines.new.items
-        ≡ lines.old.items ++ owed_by batch.entry
-        running.old.children (reports news.now)) }
+        ≡ lines.old.items ++ owed_by batch.now running.old.children (reports news.now)) }
 {
     let mut done = Ok(());
     for item in news {
-        let one = settle(jobs, seat, running, item, batch, lines);
+        let one = settle(seat, running, item, batch, lines);
         done = done.and(one);
     }
     done
@@ -135,14 +132,13 @@ pub(crate) fn turn_once<W: World, H: Host<W>>(
 // Takes the news of a turn, and prints the lines that they give.
 fn take_news<W: World, H: Host<W>, J: Jobs>(
     host: &mut H,
-    jobs: &J,
     seat: &mut J::Seat,
     running: &mut Running,
     news: &[News],
-    batch: Batch<'_>,
+    batch: &Batch<'_, J>,
 ) -> Result<(), RunError>
-    requires one_run { IsOneRun J.fits J.held jobs.now seat.old (count_of batch) running.old }
-    ensures one_run { IsOneRun J.fits J.held jobs.now seat.new (count_of batch.entry) running.new }
+    requires one_run { RunsBatch J.fits J.held batch.now seat.old running.old }
+    ensures one_run { RunsBatch J.fits J.held batch.now seat.new running.new }
     ensures keeps { KeepsSeat J.total J.faults seat.old seat.new }
     ensures counts { TookNone J.taken J.load seat.old seat.new }
     ensures run { run_of running.new ≡ run_from (run_of running.old) (reports news.now) }
@@ -155,12 +151,11 @@ fn take_news<W: World, H: Host<W>, J: Jobs>(
     ensures own { list_all is_of_run (part H.log host.old host.new) ≡ true }
     ensures children { OnOk result (running.new.children
         ≡ children_from running.old.children (reports news.now)) }
-    ensures lines { ArePrinted (owed_by batch.entry
-        running.old.children (reports news.now))
-        result (part H.log host.old host.new) }
+    ensures lines { ArePrinted (owed_by batch.now running.old.children (reports news.now)) result
+        (part H.log host.old host.new) }
 {
     let mut lines = Vec::new(running.alloc());
-    let settled = settle_all(jobs, seat, running, news, batch, &mut lines);
+    let settled = settle_all(seat, running, news, batch, &mut lines);
     if settled.is_err() {
         return Err(RunError::NoMemory);
     }
@@ -211,23 +206,21 @@ impl WaitState {
     fn wait<W: World, H: Host<W>, J: Jobs>(
         &mut self,
         host: &mut H,
-        jobs: &J,
         seat: &mut J::Seat,
         turns: &mut Turns,
         running: &mut Running,
-        batch: Batch<'_>,
+        batch: &Batch<'_, J>,
     ) -> Result<Step, RunError>
-        requires one_run { IsOneRun J.fits J.held jobs.now seat.old (count_of batch) running.old }
+        requires one_run { RunsBatch J.fits J.held batch.now seat.old running.old }
         requires few { turns.old.left + turns.old.used < 2 ^ 64 }
-        ensures one_run { IsOneRun J.fits J.held jobs.now seat.new
-            (count_of batch.entry) running.new }
+        ensures one_run { RunsBatch J.fits J.held batch.now seat.new running.new }
         ensures keeps { KeepsSeat J.total J.faults seat.old seat.new }
         ensures counts { TookNone J.taken J.load seat.old seat.new }
         ensures patient { H.patience host.new ≡ H.patience host.old }
         ensures extends { H.log host.new ≡ H.log host.old ++ part H.log host.old host.new }
-        ensures goes { GoesFromBusy H.log (J.total seat.old) (asked_of batch.entry)
+        ensures goes { GoesFromBusy H.log (J.total seat.old) (asked_of batch.now)
             host.old running.old host.new running.new }
-        ensures named { NamesCause (asked_of batch.entry) result (part H.log host.old host.new) }
+        ensures named { NamesCause (asked_of batch.now) result (part H.log host.old host.new) }
         ensures begun { running.new.begun ≡ running.old.begun }
         ensures turns { TurnsMade turns.old turns.new (part H.log host.old host.new) }
         ensures one_turn { OnOk result (turns.new.left + 1 ≡ turns.old.left) }
@@ -242,14 +235,14 @@ impl WaitState {
         ensures own { list_all is_of_run (part H.log host.old host.new) ≡ true }
         ensures kept { OnOk result (kept_from running.old (part H.log host.old host.new)
             ≡ running.new) }
-        ensures lines { PrintsBatch batch.entry running.old result (part H.log host.old host.new) }
+        ensures lines { PrintsBatch batch.now running.old result (part H.log host.old host.new) }
     {
         let news = match turn_once(host, turns, self.idle) {
             Ok(news) => news,
             Err(e) => return Err(e),
         };
         let before = running.len();
-        let taken = take_news(host, jobs, seat, running, &news, batch);
+        let taken = take_news(host, seat, running, &news, batch);
         self.note(running.started, running.len() < before);
         match taken {
             Ok(()) => Ok(step_of(running)),
@@ -261,46 +254,44 @@ impl WaitState {
     pub(crate) fn poll_batch<W: World, H: Host<W>, J: Jobs>(
         &mut self,
         host: &mut H,
-        jobs: &J,
         seat: &mut J::Seat,
         turns: &mut Turns,
         running: &mut Running,
-        batch: Batch<'_>,
+        batch: &Batch<'_, J>,
     ) -> Result<Step, RunError>
-        requires one_run { IsOneRun J.fits J.held jobs.now seat.old (count_of batch) running.old }
+        requires one_run { RunsBatch J.fits J.held batch.now seat.old running.old }
         requires few { turns.old.left + turns.old.used < 2 ^ 64 }
-        ensures one_run { IsOneRun J.fits J.held jobs.now seat.new
-            (count_of batch.entry) running.new }
+        ensures one_run { RunsBatch J.fits J.held batch.now seat.new running.new }
         ensures keeps { KeepsSeat J.total J.faults seat.old seat.new }
         ensures counts { TookNone J.taken J.load seat.old seat.new }
         ensures patient { H.patience host.new ≡ H.patience host.old }
         ensures extends { H.log host.new ≡ H.log host.old ++ part H.log host.old host.new }
-        ensures goes { GoesFromBusy H.log (J.total seat.old) (asked_of batch.entry)
+        ensures goes { GoesFromBusy H.log (J.total seat.old) (asked_of batch.now)
             host.old running.old host.new running.new }
-        ensures named { NamesCause (asked_of batch.entry) result (part H.log host.old host.new) }
+        ensures named { NamesCause (asked_of batch.now) result (part H.log host.old host.new) }
         ensures begun { running.new.begun ≡ running.old.begun }
         ensures turns { TurnsMade turns.old turns.new (part H.log host.old host.new) }
-        ensures one_turn { IsOpen (count_of batch.entry) (run_of running.old)
+        ensures one_turn { IsOpen (count_of batch.now) (run_of running.old)
             → OnOk result (turns.new.left + 1 ≡ turns.old.left) }
-        ensures done { IsOver (count_of batch.entry) (run_of running.old)
+        ensures done { IsOver (count_of batch.now) (run_of running.old)
             → (result ≡ Ok Step.Ready) × (H.log host.new ≡ H.log host.old) }
         ensures waited { Waited (H.patience host.new) (H.log host.old) (H.log host.new) }
         ensures starts { StartsNone (part H.log host.old host.new) }
         ensures ends { IfErr result (EndsAt (H.log host.new)) }
         ensures kind { IfErr result IsWaitError }
         ensures spent { result ≡ Err RunError.TurnsSpent
-            → WantsTurns (count_of batch.entry) turns.old.left running.old running.new }
+            → WantsTurns (count_of batch.now) turns.old.left running.old running.new }
         ensures ready { result ≡ Ok Step.Ready → (run_of running.new).live ≡ [] }
         ensures pending { result ≡ Ok Step.Pending → 0 < length (run_of running.new).live }
         ensures own { list_all is_of_run (part H.log host.old host.new) ≡ true }
         ensures kept { OnOk result (kept_from running.old (part H.log host.old host.new)
             ≡ running.new) }
-        ensures lines { PrintsBatch batch.entry running.old result (part H.log host.old host.new) }
+        ensures lines { PrintsBatch batch.now running.old result (part H.log host.old host.new) }
     {
         if is_done(running, batch.cmds.len()) {
             return Ok(Step::Ready);
         }
-        self.wait(host, jobs, seat, turns, running, batch)
+        self.wait(host, seat, turns, running, batch)
     }
 
     /// Makes one turn, forwards what it gives, and gives back the token of each child that ended. It is ready exactly
@@ -351,10 +342,11 @@ impl WaitState {
             (part H.log host.old host.new) }
     {
         let batch = Batch {
+            jobs,
             cmds,
             shows,
             warns: true,
         };
-        self.poll_batch(host, jobs, seat, turns, running, batch)
+        self.poll_batch(host, seat, turns, running, &batch)
     }
 }

@@ -16,11 +16,12 @@ use Rattle.std.proofs.lemmas.Bool.{and_parts}
 use Rattle.cc_host.specs.Part.{since, is_probing, step_of, done, stop_of, stops, IsWhole}
 use Rattle.cc_host.proofs.Parts.{since_since}
 use Rattle.cc_host.specs.Probe.{open_of, opens, drop_of, drops}
-use Rattle.cc_host.specs.Question.{Answer, answers, answer_of, NoTwice}
+use Rattle.cc_host.specs.Question.{Look, Answer, answers, answer_of, NoTwice, Agrees, Holds}
 use Rattle.cc_tool.specs.Asked.{question_event, question_events, start, Asked}
 use Rattle.cc_tool.specs.Asks.{Asks, IsWorlds}
 use Rattle.cc_tool.specs.Excused.{Excused, IsExcused, weight, weight_after}
 use Rattle.cc_tool.specs.Founded.{Founded, IsFounded, is_probe_fault}
+use Rattle.cc_tool.specs.Own.{AnswersAmong}
 use Rattle.cc_host.specs.declared.question.Verdict.{Verdict}
 use Rattle.cc_tool.proofs.ProbingLemmas.{founded_then}
 use Rattle.cc_tool.specs.Probing.{is_asked, Follows, May, Stand, stand, stand_after}
@@ -141,9 +142,13 @@ stand_on : (s : Stand) (a b : List Event) → stand s (a ++ b) ≡ stand (stand 
 stand_on s [] b = refl
 stand_on s (event ∷ a) b = stand_on (stand_after s event) a b
 
+-- the questions of one part are those of another with the same answers
+own_same : (asks : Look → Question → Type 0) (part other : List Event) → answers other ≡ answers part → Holds (answers part) (λ look. AnswersAmong (asks look) part) → Holds (answers other) (λ look. AnswersAmong (asks look) other)
+own_same asks part other e h = record { under = λ look a. subst (λ (l : List Answer). All (λ p. asks look p.0) l) (sym e) (h.under look (subst (λ (l : List Answer). Agrees look l) e a)) }
+
 -- a part that asks nothing
-pub asked_none : (steady : Bool) (world : Question → Outcome) (dir : List ℕ) (part : List Event) → question_events part ≡ [] → Asked steady world dir part
-asked_none steady world dir part e =
+pub asked_none : (steady : Bool) (world : Question → Outcome) (dir : List ℕ) (asks : Look → Question → Type 0) (part : List Event) → question_events part ≡ [] → Asked steady world dir asks part
+asked_none steady world dir asks part e =
     let none : answers part ≡ [] = aside_answers part e in
     record {
       once = subst NoTwice (sym none) tt;
@@ -153,9 +158,10 @@ asked_none steady world dir part e =
       probing = aside_follows dir start part e;
       dropped = aside_files start part e;
       honest = λ _. subst (All (IsWorlds world)) (sym none) (search rules);
+      own = record { under = λ look _. subst (λ (l : List Answer). All (λ p. asks look p.0) l) (sym none) (search rules) };
     }
 
-module _ (steady : Bool) (world : Question → Outcome) (dir : List ℕ) (a b c : List Event) (first : question_events a ≡ []) (last : question_events c ≡ []) where
+module _ (steady : Bool) (world : Question → Outcome) (dir : List ℕ) (asks : Look → Question → Type 0) (a b c : List Event) (first : question_events a ≡ []) (last : question_events c ≡ []) where
   told : answers (a ++ (b ++ c)) ≡ answers b
   told =
       flat_map-append answer_of a (b ++ c) ∙ ap (λ l. l ++ answers (b ++ c)) (aside_answers a first) ∙ flat_map-append answer_of b c ∙ ap (λ l. answers b ++ l) (aside_answers c last) ∙ append-nil (answers b)
@@ -169,7 +175,7 @@ module _ (steady : Bool) (world : Question → Outcome) (dir : List ℕ) (a b c 
       flat_map-append drop_of a (b ++ c) ∙ ap (λ l. l ++ drops (b ++ c)) (aside_drops a first) ∙ flat_map-append drop_of b c ∙ ap (λ l. drops b ++ l) (aside_drops c last) ∙ append-nil (drops b)
 
   -- questions between steps that ask nothing
-  pub asked_around : Asked steady world dir b → Asked steady world dir (a ++ (b ++ c))
+  pub asked_around : Asked steady world dir asks b → Asked steady world dir asks (a ++ (b ++ c))
   asked_around k = record {
     once = subst NoTwice (sym told) k.once;
     closed = closed_too ∙ k.closed ∙ sym opened;
@@ -178,14 +184,17 @@ module _ (steady : Bool) (world : Question → Outcome) (dir : List ℕ) (a b c 
     probing = follows_on dir start a (b ++ c) (aside_follows dir start a first) (subst (λ (s : Stand). Follows dir s (b ++ c)) (sym (aside_stand a first)) (follows_on dir start b c k.probing (aside_follows dir (stand start b) c last)));
     dropped = ap (λ (s : Stand). s.files) (stand_on start a (b ++ c) ∙ ap (λ s. stand s (b ++ c)) (aside_stand a first) ∙ stand_on start b c) ∙ aside_files (stand start b) c last ∙ k.dropped;
     honest = λ h. subst (All (IsWorlds world)) (sym told) (k.honest h);
+    own = own_same asks b (a ++ (b ++ c)) told k.own;
   }
 
 -- what a call that asks does alone
-pub asked_by : (steady : Bool) (world : Question → Outcome) (dir : List ℕ) (before after : List Event) (new : List (Question × Verdict)) → Asks steady world dir before after [] new → Asked steady world dir (since before after) × (new ≡ answers (since before after))
-asked_by steady world dir before after new k =
+pub asked_by : (steady : Bool) (world : Question → Outcome) (dir : List ℕ) (asks : Look → Question → Type 0) (before after : List Event) (new : List Answer) → Asks steady world dir before after [] new → Holds new (λ look. AnswersAmong (asks look) (since before after)) → Asked steady world dir asks (since before after) × (new ≡ answers (since before after))
+asked_by steady world dir asks before after new k own =
     let part : since before after ≡ k.part = ap (λ l. since before l) k.extends ∙ drop-append_seam before k.part in
-    let all : Asked steady world dir k.part = record { once = subst NoTwice k.tells (k.once tt); closed = k.closed; excused = k.excused; founded = k.founded; probing = k.probing; dropped = k.dropped; honest = k.honest } in
-    (subst (λ (p : List Event). Asked steady world dir p) (sym part) all, k.tells ∙ ap answers (sym part))
+    let tells : new ≡ answers (since before after) = k.tells ∙ ap answers (sym part) in
+    let here : Holds (answers k.part) (λ look. AnswersAmong (asks look) k.part) = subst (λ (p : List Event). Holds (answers p) (λ look. AnswersAmong (asks look) p)) part (subst (λ (l : List Answer). Holds l (λ look. AnswersAmong (asks look) (since before after))) tells own) in
+    let all : Asked steady world dir asks k.part = record { once = subst NoTwice k.tells (k.once tt); closed = k.closed; excused = k.excused; founded = k.founded; probing = k.probing; dropped = k.dropped; honest = k.honest; own = here } in
+    (subst (λ (p : List Event). Asked steady world dir asks p) (sym part) all, tells)
 
 fault_quiet : (b : Bool) (event : Event) → b ≡ true → (if b then [] else event ∷ []) ≡ []
 fault_quiet true event h = refl
@@ -234,11 +243,24 @@ pub none_since : (old mid new : List Event) → mid ≡ old ++ since old mid →
 none_since old mid new e f h k = ap question_events (since_since old mid new e f) ∙ none_then (since old mid) (since mid new) h k
 
 -- questions behind a part that asks none, and before one that asks none
-pub asked_behind : (steady : Bool) (world : Question → Outcome) (dir : List ℕ) (old mid new : List Event) → mid ≡ old ++ since old mid → new ≡ mid ++ since mid new → question_events (since old mid) ≡ [] → Asked steady world dir (since mid new) → Asked steady world dir (since old new)
-asked_behind steady world dir old mid new e f none k =
-    subst (λ (p : List Event). Asked steady world dir p) (sym (since_since old mid new e f))
-    (subst (λ (p : List Event). Asked steady world dir (since old mid ++ p)) (append-nil (since mid new)) (asked_around steady world dir (since old mid) (since mid new) [] none refl k))
+pub asked_behind : (steady : Bool) (world : Question → Outcome) (dir : List ℕ) (asks : Look → Question → Type 0) (old mid new : List Event) → mid ≡ old ++ since old mid → new ≡ mid ++ since mid new → question_events (since old mid) ≡ [] → Asked steady world dir asks (since mid new) → Asked steady world dir asks (since old new)
+asked_behind steady world dir asks old mid new e f none k =
+    subst (λ (p : List Event). Asked steady world dir asks p) (sym (since_since old mid new e f))
+    (subst (λ (p : List Event). Asked steady world dir asks (since old mid ++ p)) (append-nil (since mid new)) (asked_around steady world dir asks (since old mid) (since mid new) [] none refl k))
 
-pub asked_before : (steady : Bool) (world : Question → Outcome) (dir : List ℕ) (old mid new : List Event) → mid ≡ old ++ since old mid → new ≡ mid ++ since mid new → Asked steady world dir (since old mid) → question_events (since mid new) ≡ [] → Asked steady world dir (since old new)
-asked_before steady world dir old mid new e f k none =
-    subst (λ (p : List Event). Asked steady world dir p) (sym (since_since old mid new e f)) (asked_around steady world dir [] (since old mid) (since mid new) refl none k)
+pub asked_before : (steady : Bool) (world : Question → Outcome) (dir : List ℕ) (asks : Look → Question → Type 0) (old mid new : List Event) → mid ≡ old ++ since old mid → new ≡ mid ++ since mid new → Asked steady world dir asks (since old mid) → question_events (since mid new) ≡ [] → Asked steady world dir asks (since old new)
+asked_before steady world dir asks old mid new e f k none =
+    subst (λ (p : List Event). Asked steady world dir asks p) (sym (since_since old mid new e f)) (asked_around steady world dir asks [] (since old mid) (since mid new) refl none k)
+
+-- a wider description of the questions
+pub asked_more : {steady : Bool} {world : Question → Outcome} {dir : List ℕ} {asks wider : Look → Question → Type 0} {part : List Event} → Asked steady world dir asks part → Holds (answers part) (λ look. (q : Question) → asks look q → wider look q) → Asked steady world dir wider part
+asked_more k so = record {
+  once = k.once;
+  closed = k.closed;
+  excused = k.excused;
+  founded = k.founded;
+  probing = k.probing;
+  dropped = k.dropped;
+  honest = k.honest;
+  own = record { under = λ look a i d l. so.under look a _ (k.own.under look a i d l) };
+}

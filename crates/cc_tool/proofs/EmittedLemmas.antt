@@ -3,7 +3,7 @@ use Rattle.std.proofs.Common.{◌≡◌, ℕ, Bool, true, false, not, ◌||◌, 
 use Rattle.std.proofs.lemmas.Grind.{common_steps}
 use Rattle.std.proofs.lemmas.Bool.{and_parts, and_from}
 use Rattle.std.proofs.lemmas.Slice.Eq.{bytes_eq-Decides}
-use Rattle.cc_tool.specs.Tool.{is_among}
+use Rattle.cc_text.specs.Words.{is_among}
 use Rattle.cc_tool.specs.Emitted.{is_distinct}
 
 differs : (x y : List ℕ) → bytes_eq x y ≡ false → bytes_eq y x ≡ false
@@ -17,7 +17,7 @@ either_no : (a b : Bool) → (a || b) ≡ false → (a ≡ false) × (b ≡ fals
 either_no true b e = absurd (cc)
 either_no false b e = (refl, e)
 
-among_last : (texts : List (List ℕ)) (value text : List ℕ) → is_among texts text ≡ false → bytes_eq value text ≡ false → is_among (texts ++ value ∷ []) text ≡ false
+among_last : (texts : List (List ℕ)) (value text : List ℕ) → is_among texts text ≡ false → bytes_eq text value ≡ false → is_among (texts ++ value ∷ []) text ≡ false
 among_last texts value text e f = grind (arith, common_steps)
 
 -- a text that isn't there, put last
@@ -25,8 +25,8 @@ pub distinct_last : (texts : List (List ℕ)) (value : List ℕ) → is_distinct
 distinct_last [] value d n = refl
 distinct_last (text ∷ texts) value d n =
     let p = and_parts (not (is_among texts text)) (is_distinct texts) d in
-    let m = either_no (bytes_eq text value) (is_among texts value) n in
-    and_from _ _ (ap not (among_last texts value text (inverse (is_among texts text) p.0) (differs text value m.0))) (distinct_last texts value p.1 m.1)
+    let m = either_no (bytes_eq value text) (is_among texts value) n in
+    and_from _ _ (ap not (among_last texts value text (inverse (is_among texts text) p.0) (differs value text m.0))) (distinct_last texts value p.1 m.1)
   where
     inverse : (b : Bool) → not b ≡ true → b ≡ false
     inverse true e = absurd (cc)

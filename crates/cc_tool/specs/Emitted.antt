@@ -1,6 +1,6 @@
 -- Lists of distinct texts.
 use Rattle.std.specs.Prelude.{ℕ, Bool, true, not, ◌&&◌, List, [], ◌∷◌}
-use Rattle.cc_tool.specs.Tool.{is_among}
+use Rattle.cc_text.specs.Words.{is_among}
 
 -- no text is there twice
 abbrev pub is_distinct : List (List ℕ) → Bool

@@ -3,6 +3,7 @@ use Rattle.std.specs.Prelude.{ℕ, length, drop, encode_utf8, Bool, true, false,
 use Rattle.std.specs.List.{filter, list_any, join_by, slice_get, starts_with}
 use Rattle.std.specs.Str.{chars}
 use Rattle.cc_text.specs.Families.{is_visual_studio}
+use Rattle.cc_text.specs.Words.{is_among}
 use Rattle.cc_text.specs.declared.family.ToolFamily.{ToolFamily}
 use Rattle.cc_text.specs.declared.family.ToolFamily.TheVariants.{Gnu, Clang, Msvc}
 use Rattle.cc_env.specs.Snapshot.{child_of}
@@ -22,10 +23,6 @@ pub record ToolSeen : Type 0 where
 -- a tool of a path, without words
 abbrev pub new_tool : List ℕ → ToolFamily → List (List ℕ × List ℕ) → ToolSeen
 new_tool path family inherited = record { path = path; family = family; inherited = inherited; wrapper = None; wrapper_words = []; args = []; removed = []; entries = [] }
-
--- the word is one of these
-abbrev pub is_among : List (List ℕ) → List ℕ → Bool
-is_among words word = list_any (λ w. bytes_eq w word) words
 
 -- the args that weren't removed
 unfoldable pub kept_args : ToolSeen → List (List ℕ)

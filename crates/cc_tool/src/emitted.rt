@@ -1,9 +1,9 @@
 // Distinct texts.
 ghost use Rattle.std.specs.Prelude.{◌≡◌, [], true};
+ghost use Rattle.cc_text.specs.Words.{is_among};
 ghost use Rattle.cc_tool.specs.Emitted.{is_distinct};
-ghost use Rattle.cc_tool.specs.Tool.{is_among};
 
-use cc_text::{Mem, Text};
+use cc_text::{Mem, Text, is_among};
 use std::alloc::Global;
 
 /// Distinct texts, in the order in which they came, as the lines that a build has printed once.
@@ -11,12 +11,6 @@ use std::alloc::Global;
 pub struct Emitted {
     pub(crate) list: Vec<Text>,
     ghost distinct: { is_distinct list.items ≡ true },
-}
-
-fn is_among(texts: &[Text], value: &str) -> bool
-    ensures { result ≡ is_among texts.now value.now }
-{
-    texts.iter().any(|text| text.as_str() == value)
 }
 
 impl Emitted {

@@ -115,12 +115,14 @@ fn family_of_marks(helps: bool, marks: Marks) -> Option<ToolFamily>
     }
 }
 
-// A compiler, as it is asked: its path, its words and the variables of its environment.
+// A compiler, as it is asked: its path, its words, the variables of its environment, and the folder
+// in which the files for its questions are made.
 #[derive(Clone, Copy)]
 struct Program<'a> {
     path: &'a str,
     words: &'a Words,
     vars: &'a Vars,
+    dir: &'a str,
 }
 
 // Asks a compiler.
@@ -131,10 +133,9 @@ fn ask_path<W: World, H: Host<W>>(
     answers: &mut Answers,
     asked: Ask,
     of: &Program<'_>,
-    dir: &str,
 ) -> Mem<Verdict>
     requires { asked ≢ AsksExists }
-    ensures asks { Asks W.steady W.answer dir.now (H.log host.old) (H.log host.new)
+    ensures asks { Asks W.steady W.answer of.now.dir.now (H.log host.old) (H.log host.new)
         answers.old answers.new }
     ensures settles { IfOk result (Settles answers.new
         (λ look. look (families.question_to asked of.now))) }
@@ -144,7 +145,7 @@ fn ask_path<W: World, H: Host<W>>(
 {
     let alloc = answers.allocator();
     let q = question_of(alloc, asked, of.path, of.words, of.vars)?;
-    ask(rt, alloc, host, caches, answers, &q, dir)
+    ask(rt, alloc, host, caches, answers, &q, of.dir)
 }
 
 fn reads_option(verdict: &Verdict) -> bool
@@ -168,9 +169,8 @@ fn ask_shown<W: World, H: Host<W>>(
     caches: &Caches<W>,
     answers: &mut Answers,
     of: &Program<'_>,
-    dir: &str,
 ) -> Mem<Verdict>
-    ensures asks { Asks W.steady W.answer dir.now (H.log host.old) (H.log host.new)
+    ensures asks { Asks W.steady W.answer of.now.dir.now (H.log host.old) (H.log host.new)
         answers.old answers.new }
     ensures settles { IfOk result (Settles answers.new
         (λ look. families.shown look of.now.path.now of.now.vars.now)) }
@@ -182,10 +182,11 @@ fn ask_shown<W: World, H: Host<W>>(
         path: of.path,
         words: &none,
         vars: of.vars,
+        dir: of.dir,
     };
-    let first = ask_path(rt, host, caches, answers, Ask::Preprocess, &bare, dir)?;
+    let first = ask_path(rt, host, caches, answers, Ask::Preprocess, &bare)?;
     if reads_option(&first) {
-        return ask_path(rt, host, caches, answers, Ask::PreprocessDashes, &bare, dir);
+        return ask_path(rt, host, caches, answers, Ask::PreprocessDashes, &bare);
     }
     Ok(first)
 }
@@ -219,19 +220,18 @@ fn ask_detection<W: World, H: Host<W>>(
     caches: &Caches<W>,
     answers: &mut Answers,
     of: &Program<'_>,
-    dir: &str,
 ) -> Mem<(Option<ToolFamily>, Detected)>
-    ensures asks { Asks W.steady W.answer dir.now (H.log host.old) (H.log host.new)
+    ensures asks { Asks W.steady W.answer of.now.dir.now (H.log host.old) (H.log host.new)
         answers.old answers.new }
     ensures settles { IfOk result (Settles answers.new
         (λ look. families.detection look of.now.path.now of.now.words.now of.now.vars.now)) }
     ensures own { AnswersAmong (families.IsOf of.now) (part H.log host.old host.new) }
     ensures patient { H.patience host.new ≡ H.patience host.old }
 {
-    let shown = ask_shown(rt, host, caches, answers, of, dir)?;
+    let shown = ask_shown(rt, host, caches, answers, of)?;
     match marks_in(&shown) {
         Some(marks) => {
-            let help = ask_path(rt, host, caches, answers, Ask::HelpFlag, of, dir)?;
+            let help = ask_path(rt, host, caches, answers, Ask::HelpFlag, of)?;
             Ok(found(family_of_marks(is_yes(&help), marks)))
         }
         None => Ok((None, Detected::NoMarks)),
@@ -254,9 +254,8 @@ fn ask_zig<W: World, H: Host<W>>(
     answers: &mut Answers,
     family: ToolFamily,
     of: &Program<'_>,
-    dir: &str,
 ) -> Mem<ToolFamily>
-    ensures asks { Asks W.steady W.answer dir.now (H.log host.old) (H.log host.new)
+    ensures asks { Asks W.steady W.answer of.now.dir.now (H.log host.old) (H.log host.new)
         answers.old answers.new }
     ensures settles { IfOk result (Settles answers.new
         (λ look. families.zig_family look family of.now)) }
@@ -269,18 +268,24 @@ fn ask_zig<W: World, H: Host<W>>(
             path: of.path,
             words: &none,
             vars: of.vars,
+            dir: of.dir,
         };
-        let version = ask_path(rt, host, caches, answers, Ask::Version, &bare, dir)?;
+        let version = ask_path(rt, host, caches, answers, Ask::Version, &bare)?;
         return Ok(clang_of_version(&version, of.path));
     }
     Ok(family)
 }
 
-/// The family of the compiler at a path, and how it was detected. The preprocessor is asked for the macros that it
-/// defines (`__clang__`, `__GNUC__`, `__EMSCRIPTEN__`, `__VXWORKS__`); where it shows no known one, the name of the file tells.
-/// A compiler that shows marks is asked with `args` for `-?`, which that of Visual Studio takes alone, and a Clang for its version,
-/// since `zig cc` says there what it is; nothing else is asked. Files for the questions are made in `dir`, and dropped. Nothing but memory is refused: a
-/// question without an answer tells nothing.
+/// The family of the compiler at a path, and how it was detected. The preprocessor is asked for the
+/// macros that it defines (`__clang__`, `__GNUC__`, `__EMSCRIPTEN__`, `__VXWORKS__`); where it
+/// shows no known one, the name of the file tells. A compiler that shows marks is asked with `args`
+/// for `-?`, which that of Visual Studio takes alone, and a Clang for its version, since `zig cc`
+/// says there what it is; nothing else is asked. Files for the questions are made in `dir`, and
+/// dropped. Nothing but memory is refused: a question without an answer tells nothing. The answers
+/// keep each question that was answered before a refusal.
+///
+/// The macros are those of the manual of GCC's preprocessor, "Common Predefined Macros", and of
+/// Clang's "Language Extensions", "Builtin Macros"; `-?` is Microsoft's compiler option "/HELP".
 pub fn ask_family<W: World, H: Host<W>>(
     rt: &impl Wait,
     alloc: Global,
@@ -305,10 +310,11 @@ pub fn ask_family<W: World, H: Host<W>>(
         path,
         words: args,
         vars: &vars,
+        dir,
     };
-    let (seen, how) = ask_detection(rt, host, caches, answers, &of, dir)?;
+    let (seen, how) = ask_detection(rt, host, caches, answers, &of)?;
     let family = family_or(seen, family_of_file(name_of(path), args));
-    let family = ask_zig(rt, host, caches, answers, family, &of, dir)?;
+    let family = ask_zig(rt, host, caches, answers, family, &of)?;
     Ok((family, how))
 }
 

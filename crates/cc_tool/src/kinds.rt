@@ -7,13 +7,15 @@ use cc_host::Ask;
 /// A kind of probe file: a file that is made for one question, and dropped behind it.
 #[derive(Clone, Copy, Debug, PartialEq, Eq)]
 pub enum FileKind {
-    /// The source that shows the macros of a family.
+    /// The source that shows the macros of a family: each that is defined leaves its name behind
+    /// the preprocessor.
     Family,
     /// The C source of a question on a flag.
     FlagCheck,
     /// The C++ source of a question on a flag.
     CppFlagCheck,
-    /// The source that shows the C++ library.
+    /// The source that shows the C++ library: libc++ is it where its headers define
+    /// `_LIBCPP_VERSION`.
     Libcxx,
     /// The object of a question on a flag.
     Object,
@@ -21,7 +23,7 @@ pub enum FileKind {
 
 impl FileKind {
     /// What the name of a file of this kind ends with, behind the word that was drawn for it. From its ending a compiler takes the
-    /// language of a source.
+    /// language of a source (GCC's manual, "Overall Options").
     pub fn suffix(self) -> &'static str
         ensures { result.now ≡ files.suffix_of self }
     {

@@ -4,7 +4,7 @@ ghost use Rattle.cc_host.specs.Call.{part};
 ghost use Rattle.cc_host.specs.Event.{probed, unasked as noted};
 ghost use Rattle.cc_host.specs.declared.question.Ask.TheVariants.{Exists as AsksExists};
 ghost use Rattle.cc_host.specs.declared.question.Outcome.TheVariants.{Unanswered};
-ghost use Rattle.cc_tool.specs.Files as kinds;
+ghost use Rattle.cc_tool.specs.Files as probe_files;
 ghost use Rattle.cc_tool.specs.Own.{OnlyForFiles};
 ghost use Rattle.cc_tool.specs.Probing.{Probes, AreOpen, IsMade, MakesFile, Needs, IsHonest, file_of, both_of, heard};
 
@@ -72,7 +72,7 @@ fn ask_source<W: World, H: Host<W>>(
     requires needs { Needs q.now (Some kind) None }
     requires given { (files.dir ≡ dir.now) × (files.object ≡ []) }
     requires open { AreOpen (file_of kind files.source ∷ []) (H.log host.old) }
-    requires named { kinds.IsPath dir.now kind files.source }
+    requires named { probe_files.IsPath dir.now kind files.source }
     ensures probes { Probes dir.now (H.log host.old) (H.log host.new)
         (file_of kind files.source ∷ []) [] (heard q.now result) 0 }
     ensures steady { IsHonest W.steady W.answer q.now result }
@@ -83,22 +83,28 @@ fn ask_source<W: World, H: Host<W>>(
     outcome
 }
 
+// The kinds of the two files that a question on a flag needs.
+#[derive(Clone, Copy)]
+struct Kinds {
+    source: FileKind,
+    object: FileKind,
+}
+
 // Asks with a source and an object that are there, and drops them.
 fn ask_both<W: World, H: Host<W>>(
     host: &mut H,
     dir: &str,
-    kind: FileKind,
-    object: FileKind,
+    kinds: Kinds,
     q: &Question,
     files: ProbeFiles,
 ) -> Mem<Outcome>
-    requires needs { Needs q.now (Some kind) (Some object) }
+    requires needs { Needs q.now (Some kinds.source) (Some kinds.object) }
     requires given { files.dir ≡ dir.now }
-    requires open { AreOpen (both_of kind object files) (H.log host.old) }
-    requires source { kinds.IsPath dir.now kind files.source }
-    requires object { kinds.IsPath dir.now object files.object }
+    requires open { AreOpen (both_of kinds.source kinds.object files) (H.log host.old) }
+    requires source { probe_files.IsPath dir.now kinds.source files.source }
+    requires object { probe_files.IsPath dir.now kinds.object files.object }
     ensures probes { Probes dir.now (H.log host.old) (H.log host.new)
-        (both_of kind object files) [] (heard q.now result) 0 }
+        (both_of kinds.source kinds.object files) [] (heard q.now result) 0 }
     ensures steady { IsHonest W.steady W.answer q.now result }
     ensures patient { H.patience host.new ≡ H.patience host.old }
 {
@@ -113,28 +119,27 @@ fn ask_object<W: World, H: Host<W>>(
     alloc: Global,
     host: &mut H,
     dir: &str,
-    kind: FileKind,
-    object: FileKind,
+    kinds: Kinds,
     q: &Question,
     files: ProbeFiles,
 ) -> Mem<Outcome>
-    requires needs { Needs q.now (Some kind) (Some object) }
+    requires needs { Needs q.now (Some kinds.source) (Some kinds.object) }
     requires given { files.dir ≡ dir.now }
-    requires open { AreOpen (file_of kind files.source ∷ []) (H.log host.old) }
-    requires named { kinds.IsPath dir.now kind files.source }
+    requires open { AreOpen (file_of kinds.source files.source ∷ []) (H.log host.old) }
+    requires named { probe_files.IsPath dir.now kinds.source files.source }
     ensures probes { Probes dir.now (H.log host.old) (H.log host.new)
-        (file_of kind files.source ∷ []) [] (heard q.now result) 0 }
+        (file_of kinds.source files.source ∷ []) [] (heard q.now result) 0 }
     ensures steady { IsHonest W.steady W.answer q.now result }
     ensures patient { H.patience host.new ≡ H.patience host.old }
 {
-    match make_file(alloc, host, dir, object) {
+    match make_file(alloc, host, dir, kinds.object) {
         Ok(Some(file)) => {
             let both = ProbeFiles {
                 dir: files.dir,
                 source: files.source,
                 object: file.into_path(),
             };
-            ask_both(host, dir, kind, object, q, both)
+            ask_both(host, dir, kinds, q, both)
         }
         Ok(None) => {
             let outcome = leave(host, q);
@@ -157,7 +162,7 @@ fn ask_with_files<W: World, H: Host<W>>(
     q: &Question,
 ) -> Mem<Outcome>
     requires command { q.now.ask ≢ AsksExists }
-    requires needs { kinds.source_of q.now.ask ≡ Some kind }
+    requires needs { probe_files.source_of q.now.ask ≡ Some kind }
     ensures probes { Probes dir.now (H.log host.old) (H.log host.new) [] [] (heard q.now result) 0 }
     ensures steady { IsHonest W.steady W.answer q.now result }
     ensures patient { H.patience host.new ≡ H.patience host.old }
@@ -174,7 +179,13 @@ fn ask_with_files<W: World, H: Host<W>>(
                 object: Text::new(alloc),
             };
             match object_of(q.ask) {
-                Some(object) => ask_object(alloc, host, dir, kind, object, q, files),
+                Some(object) => {
+                    let kinds = Kinds {
+                        source: kind,
+                        object,
+                    };
+                    ask_object(alloc, host, dir, kinds, q, files)
+                }
                 None => ask_source(host, dir, kind, q, files),
             }
         }
@@ -189,7 +200,7 @@ fn ask_bare<W: World, H: Host<W>>(
     q: &Question,
 ) -> Mem<Outcome>
     requires command { q.now.ask ≢ AsksExists }
-    requires needs { kinds.source_of q.now.ask ≡ None }
+    requires needs { probe_files.source_of q.now.ask ≡ None }
     ensures probes { Probes dir.now (H.log host.old) (H.log host.new) [] [] (heard q.now result) 0 }
     ensures bare { OnlyForFiles q.now (part H.log host.old host.new) }
     ensures steady { IsHonest W.steady W.answer q.now result }

@@ -6,7 +6,8 @@ use cc_host::{Ask, Question};
 use cc_text::{Mem, Text, Vars, Words};
 use std::alloc::Global;
 
-/// A question to a program, with these words, in an environment of these variables. Refused for memory, there is none.
+/// A question to a program, with these words, in an environment of these variables. It is only put
+/// together: `ask` gives its verdict. Refused for memory, there is none.
 pub fn question_of(
     alloc: Global,
     ask: Ask,

@@ -9,7 +9,7 @@ use crate::Envs;
 use cc_env::EnvSnapshot;
 use cc_host::Command;
 use cc_text::{
-    Mem, Text, ToolFamily, Vars, Words, begins_with, is_clang, is_clang_cl, is_gnu,
+    Mem, Text, ToolFamily, Vars, Words, begins_with, is_among, is_clang, is_clang_cl, is_gnu,
     is_visual_studio, join_texts,
 };
 use std::alloc::Global;
@@ -52,12 +52,6 @@ fn clone_wrapper(wrapper: &Option<Text>) -> Mem<Option<Text>>
         Some(text) => Ok(Some(text.try_clone()?)),
         None => Ok(None),
     }
-}
-
-fn is_among(words: &Words, word: &Text) -> bool
-    ensures { result ≡ tools.is_among words.now word.now }
-{
-    words.as_slice().iter().any(|w| w == word)
 }
 
 fn is_letter_o(c: Option<char>) -> bool
@@ -220,7 +214,7 @@ impl Tool {
     {
         let mut words = Words::new(self.alloc);
         for word in self.args.as_slice() {
-            if !is_among(&self.removed, word) {
+            if !is_among(self.removed.as_slice(), word.as_str()) {
                 words.push(word.as_str())?;
             }
         }
@@ -254,8 +248,9 @@ impl Tool {
         Ok(cmd)
     }
 
-    /// The wrapper, the path and the words before the args, with spaces between, as `CC` takes them; empty without a wrapper. Nothing is
-    /// quoted. Refused for memory, there is none.
+    /// The wrapper, the path and the words before the args, with spaces between, as make takes them
+    /// in `CC` (GNU make's manual, "Variables Used by Implicit Rules"); empty without a wrapper.
+    /// Nothing is quoted. Refused for memory, there is none.
     pub fn cc_env(&self) -> Mem<Text>
         ensures { IfOk result
             (λ text. text ≡ wrapped_text self.now.wrapper self.now.path self.now.wrapper_words) }
@@ -272,7 +267,8 @@ impl Tool {
         }
     }
 
-    /// The args, with spaces between, as `CFLAGS` takes them. Nothing is quoted. Refused for memory, there is none.
+    /// The args, with spaces between, as make takes them in `CFLAGS`. Nothing is quoted. Refused
+    /// for memory, there is none.
     pub fn cflags_env(&self) -> Mem<Text>
         ensures { IfOk result (λ text. text ≡ spaced self.now.args) }
     {
@@ -307,8 +303,10 @@ impl Tool {
         is_clang_cl(self.family)
     }
 
-    /// Whether a flag sets the level of optimisation, and an arg does already: the flag begins with the mark of an option
-    /// of this family and an `O`, and the second character of an arg is an `O`. It takes no memory.
+    /// Whether a flag sets the level of optimisation, and an arg does already: the flag begins with
+    /// the mark of an option of this family and an `O`, and the second character of an arg is an
+    /// `O` (GCC's manual, "Optimize Options"; Microsoft's compiler options, "/O"). It takes no
+    /// memory.
     #[tactic(auto, unfolding(crate::specs::Tool::is_duplicate_level))]
     pub fn is_duplicate_opt_arg(&self, flag: &str) -> bool
         ensures { result ≡ is_duplicate_level self.now flag.now }

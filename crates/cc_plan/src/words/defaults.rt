@@ -11,6 +11,7 @@ ghost use Rattle.cc_plan.specs.Refusal.{AllowedBy, RefusedBy};
 use crate::PlanError;
 use crate::compilation::Compilation;
 use crate::given::{has_no_defaults, is_cargos_target, level_of, or_variable, target_of};
+use crate::inherited::taken_flags;
 use cc_flags::{
     has, is_among, is_gnu, is_gnu_like, is_told_target, is_wasm_linux, keeps_frame_pointers,
     lacks_qnx_variant, lent, push_bare_and_arm_words, push_clang_target_words, push_debug_words,
@@ -113,7 +114,7 @@ fn push_clang_words(words: &mut Words, given: &Compilation<'_>) -> Mem<()>
 fn push_wanted_processor(words: &mut Words, given: &Compilation<'_>) -> Mem<()>
     ensures { OnOk result (words.new ≡ words.old ++ spec.wanted_processor (seen given.now)) }
 {
-    match &given.rustflags.flags {
+    match taken_flags(given) {
         Some(flags) => push_processor_words(words, given.target, flags.target_cpu())?,
         None => push_processor_words(words, given.target, None)?,
     }

@@ -7,7 +7,7 @@ ghost use Rattle.cc_plan.specs.ToolWords as spec;
 
 use crate::compilation::Compilation;
 use crate::given::{environment_flags, has_no_defaults};
-use crate::inherited::push_taken;
+use crate::inherited::{push_taken, taken_flags};
 use crate::words::defaults::{keeps_frames, push_wanted_defaults};
 use crate::words::settings::{
     push_definition_words, push_environment_words, push_error_words, push_extra_warning_words,
@@ -71,7 +71,7 @@ fn push_remap_words(words: &mut Words, given: &Compilation<'_>, supported: &[Tex
 pub(crate) fn rust_words(given: &Compilation<'_>) -> Mem<Words>
     ensures { IfOk result (λ words. words ≡ spec.rust_words (seen given.now)) }
 {
-    match &given.rustflags.flags {
+    match taken_flags(given) {
         Some(flags) => flags.wanted(given.alloc, given.compiler.family, given.target),
         None => Ok(Words::new(given.alloc)),
     }

@@ -4,7 +4,7 @@ use Rattle.cc_host.specs.Part.Step.{Removes}
 use Rattle.cc_host.specs.declared.event.Event.TheVariants.{Removed}
 use Rattle.cc_host.specs.declared.event.HostCall.TheVariants.{Remove}
 use Rattle.cc_build.proofs.Going.{called, refused_call, fault_of, part_is}
-use Rattle.cc_build.proofs.Outcomes.{told}
+use Rattle.cc_build.proofs.Outcomes.{made_or_memory}
 use Rattle.cc_build.proofs.run.remove_library.Goals as goal
 
 pub returns-in-Ok-clause-outcome : goal.returns-in-Ok-clause-outcome
@@ -12,4 +12,4 @@ returns-in-Ok-clause-outcome g c = λ t x. (refl, called t (Removes c.args.path.
 
 pub returns-in-Err-clause-outcome : goal.returns-in-Err-clause-outcome
 returns-in-Err-clause-outcome g c = λ t x.
-    refused_call t (Removes c.args.path.now) c.in-Err.error (c.args.path.now) (since (g.H.Host.log c.args.host.now) (g.H.Host.log c.remove_file.new.self)) c.or_no_memory.result x (part_is (g.H.Host.log c.args.host.now) (g.H.Host.log c.remove_file.new.self) _ c.in-Err.ensures.adds) (fault_of (Removes c.args.path.now) (Remove) (g.H.Host.faults c.args.host.now) (g.H.Host.faults c.remove_file.new.self) c.in-Err.error (λ _ _ is. is) c.in-Err.ensures.cause) (λ _ _. refl) (told c.host_error.result c.or_no_memory.result _ c.or_no_memory.ensures c.host_error.ensures)
+    refused_call t (Removes c.args.path.now) c.in-Err.error (c.args.path.now) (since (g.H.Host.log c.args.host.now) (g.H.Host.log c.remove_file.new.self)) c.or_no_memory.result x (part_is (g.H.Host.log c.args.host.now) (g.H.Host.log c.remove_file.new.self) _ c.in-Err.ensures.adds) (fault_of (Removes c.args.path.now) (Remove) (g.H.Host.faults c.args.host.now) (g.H.Host.faults c.remove_file.new.self) c.in-Err.error (λ _ _ is. is) c.in-Err.ensures.cause) (λ _ _. refl) (made_or_memory c.host_error.result c.or_no_memory.result _ c.or_no_memory.ensures c.host_error.ensures)

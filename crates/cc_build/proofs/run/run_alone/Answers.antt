@@ -9,7 +9,7 @@ use Rattle.cc_build.proofs.run.run_alone.Goals as goal
 
 pub returns-in-Ok-clause-outcome : goal.returns-in-Ok-clause-outcome
 returns-in-Ok-clause-outcome g c = λ total faults taken load.
-    let t = terms c.args.shows.now total (g.H.Host.patience c.args.host.now) in
+    let t = terms c.args.reporting.shows total (g.H.Host.patience c.args.host.now) in
     let x = means c.args.turns.now.left faults taken load in
     let y = means c.run_one.new.turns.left faults taken load in (
       refl,
@@ -19,7 +19,7 @@ returns-in-Ok-clause-outcome g c = λ total faults taken load.
 
 pub returns-in-Err-clause-outcome : goal.returns-in-Err-clause-outcome
 returns-in-Err-clause-outcome g c = λ total faults taken load.
-    let t = terms c.args.shows.now total (g.H.Host.patience c.args.host.now) in
+    let t = terms c.args.reporting.shows total (g.H.Host.patience c.args.host.now) in
     let x = means c.args.turns.now.left faults taken load in
     let y = means c.run_one.new.turns.left faults taken load in
     alone_refused t c.args.cmd.now (since (g.H.Host.log c.args.host.now) (g.H.Host.log c.run_one.new.host)) x y c.in-Err.e c.of_run.result
@@ -29,13 +29,13 @@ returns-in-Err-clause-outcome g c = λ total faults taken load.
 pub returns-in-Ok-clause-aside : goal.returns-in-Ok-clause-aside
 returns-in-Ok-clause-aside g c = record {
   patient = c.run_one.ensures.patient;
-  extends = solo_extends c.args.cmd.now (terms c.args.shows.now None None) (g.H.Host.log c.args.host.now) (g.H.Host.log c.run_one.new.host) (Ok tt) c.in-Ok.ensures.outcome;
+  extends = solo_extends c.args.cmd.now (terms c.args.reporting.shows None None) (g.H.Host.log c.args.host.now) (g.H.Host.log c.run_one.new.host) (Ok tt) c.in-Ok.ensures.outcome;
   asks_none = own_asks_none (since (g.H.Host.log c.args.host.now) (g.H.Host.log c.run_one.new.host)) c.run_one.ensures.own;
 }
 
 pub returns-in-Err-clause-aside : goal.returns-in-Err-clause-aside
 returns-in-Err-clause-aside g c = record {
   patient = c.run_one.ensures.patient;
-  extends = solo_extends c.args.cmd.now (terms c.args.shows.now None None) (g.H.Host.log c.args.host.now) (g.H.Host.log c.run_one.new.host) (Err c.in-Err.e) c.in-Err.ensures.outcome;
+  extends = solo_extends c.args.cmd.now (terms c.args.reporting.shows None None) (g.H.Host.log c.args.host.now) (g.H.Host.log c.run_one.new.host) (Err c.in-Err.e) c.in-Err.ensures.outcome;
   asks_none = own_asks_none (since (g.H.Host.log c.args.host.now) (g.H.Host.log c.run_one.new.host)) c.run_one.ensures.own;
 }

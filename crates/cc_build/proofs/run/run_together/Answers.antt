@@ -6,7 +6,7 @@ use Rattle.cc_build.proofs.run.run_together.Goals as goal
 
 pub returns-in-Ok-clause-outcome : goal.returns-in-Ok-clause-outcome
 returns-in-Ok-clause-outcome g c =
-    let t = terms c.args.shows.now (g.J.Jobs.total c.args.seat.now) (g.H.Host.patience c.args.host.now) in
+    let t = terms c.args.reporting.shows (g.J.Jobs.total c.args.seat.now) (g.H.Host.patience c.args.host.now) in
     let x = means c.args.turns.now.left (g.J.Jobs.faults c.args.seat.now) (g.J.Jobs.taken c.args.seat.now) (g.J.Jobs.load c.args.seat.now) in
     let y = means c.run_all.new.turns.left (g.J.Jobs.faults c.run_all.new.seat) (g.J.Jobs.taken c.run_all.new.seat) (g.J.Jobs.load c.run_all.new.seat) in (
       refl,
@@ -16,7 +16,7 @@ returns-in-Ok-clause-outcome g c =
 
 pub returns-in-Err-clause-outcome : goal.returns-in-Err-clause-outcome
 returns-in-Err-clause-outcome g c =
-    let t = terms c.args.shows.now (g.J.Jobs.total c.args.seat.now) (g.H.Host.patience c.args.host.now) in
+    let t = terms c.args.reporting.shows (g.J.Jobs.total c.args.seat.now) (g.H.Host.patience c.args.host.now) in
     let x = means c.args.turns.now.left (g.J.Jobs.faults c.args.seat.now) (g.J.Jobs.taken c.args.seat.now) (g.J.Jobs.load c.args.seat.now) in
     let y = means c.run_all.new.turns.left (g.J.Jobs.faults c.run_all.new.seat) (g.J.Jobs.taken c.run_all.new.seat) (g.J.Jobs.load c.run_all.new.seat) in
     together_refused t c.args.cmds.now (since (g.H.Host.log c.args.host.now) (g.H.Host.log c.run_all.new.host)) x y c.in-Err.e c.of_run.result

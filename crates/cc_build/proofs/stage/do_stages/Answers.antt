@@ -9,7 +9,7 @@ use Rattle.cc_build.proofs.stage.do_stages.Goals as goal
 pub returns-in_err-do_stage-clause-outcome : goal.returns-in_err-do_stage-clause-outcome
 returns-in_err-do_stage-clause-outcome g c =
     let p = err_from_is_err_and c.from_residual.result c.from_residual.ensures.1 in
-    let t = terms c.args.shows.now (g.J.Jobs.total c.args.seat.now) (g.H.Host.patience c.args.host.now) in
+    let t = terms c.args.reporting.shows (g.J.Jobs.total c.args.seat.now) (g.H.Host.patience c.args.host.now) in
     let x = left_at g.J.Jobs.faults g.J.Jobs.taken g.J.Jobs.load c.args.turns.now c.args.seat.now in
     let y = left_at g.J.Jobs.faults g.J.Jobs.taken g.J.Jobs.load c.loop-stage.turns c.loop-stage.seat in
     let z = left_at g.J.Jobs.faults g.J.Jobs.taken g.J.Jobs.load c.do_stage.new.turns c.do_stage.new.seat in
@@ -18,7 +18,7 @@ returns-in_err-do_stage-clause-outcome g c =
 
 pub loop-stage-preserved : goal.loop-stage-preserved
 loop-stage-preserved g c =
-    let t = terms c.args.shows.now (g.J.Jobs.total c.args.seat.now) (g.H.Host.patience c.args.host.now) in
+    let t = terms c.args.reporting.shows (g.J.Jobs.total c.args.seat.now) (g.H.Host.patience c.args.host.now) in
     let x = left_at g.J.Jobs.faults g.J.Jobs.taken g.J.Jobs.load c.args.turns.now c.args.seat.now in
     let y = left_at g.J.Jobs.faults g.J.Jobs.taken g.J.Jobs.load c.loop-stage.turns c.loop-stage.seat in
     let z = left_at g.J.Jobs.faults g.J.Jobs.taken g.J.Jobs.load c.do_stage.new.turns c.do_stage.new.seat in

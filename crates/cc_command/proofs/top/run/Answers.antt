@@ -10,13 +10,13 @@ use Rattle.cc_command.proofs.top.run.Goals as goal
 
 pub returns-in-Ok-clause-answer : goal.returns-in-Ok-clause-answer
 returns-in-Ok-clause-answer g c =
-    let before = means c.args.turns (g.J.Jobs.faults c.args.seat.now) (g.J.Jobs.taken c.args.seat.now) (g.J.Jobs.load c.args.seat.now) in
+    let before = means c.args.invocation.turns (g.J.Jobs.faults c.args.seat.now) (g.J.Jobs.taken c.args.seat.now) (g.J.Jobs.load c.args.seat.now) in
     record {
       under = λ look agree.
           let served = c.serve.ensures.answer.under look agree in
           let after = means served.0 (g.J.Jobs.faults c.serve.new.seat) (g.J.Jobs.taken c.serve.new.seat) (g.J.Jobs.load c.serve.new.seat) in (
             served.0,
-            answers_read look (asked_for c.args.words.now) (Ok (name_of c.in-Ok.request.job, c.in-Ok.request.build)) (since (g.H.Host.log c.args.host.now) (g.H.Host.log c.serve.new.host)) c.serve.result
+            answers_read look (asked_for c.args.invocation.words.now) (Ok (name_of c.in-Ok.request.job, c.in-Ok.request.build)) (since (g.H.Host.log c.args.host.now) (g.H.Host.log c.serve.new.host)) c.serve.result
                 (course (g.J.Jobs.total c.args.seat.now) (g.H.Host.patience c.args.host.now) before after) c.in-Ok.ensures.ok served.1,
           );
     }
@@ -28,11 +28,11 @@ returns-in-Ok-clause-asked g c =
 
 pub returns-in-Err-Bad-clause-answer : goal.returns-in-Err-Bad-clause-answer
 returns-in-Err-Bad-clause-answer g c =
-    let words = asked_for c.args.words.now in
-    let start = means c.args.turns (g.J.Jobs.faults c.args.seat.now) (g.J.Jobs.taken c.args.seat.now) (g.J.Jobs.load c.args.seat.now) in
+    let words = asked_for c.args.invocation.words.now in
+    let start = means c.args.invocation.turns (g.J.Jobs.faults c.args.seat.now) (g.J.Jobs.taken c.args.seat.now) (g.J.Jobs.load c.args.seat.now) in
     record {
       under = λ look agree. (
-        c.args.turns,
+        c.args.invocation.turns,
         answers_read look words (Err c.in-Err-Bad.bad) (since (g.H.Host.log c.args.host.now) (g.H.Host.log c.refuse_word.new.host)) c.refuse_word.result (course (g.J.Jobs.total c.args.seat.now) (g.H.Host.patience c.args.host.now) start start)
             (bad_read words c.in-Err-Bad.field-0 c.in-Err-Bad.bad c.in-Err-Bad.field-0-is c.in-Err-Bad.ensures.refused) (c.refuse_word.ensures.answer, refl),
       );
@@ -40,11 +40,11 @@ returns-in-Err-Bad-clause-answer g c =
 
 pub returns-in-Err-NoMemory-clause-answer : goal.returns-in-Err-NoMemory-clause-answer
 returns-in-Err-NoMemory-clause-answer g c =
-    let start = means c.args.turns (g.J.Jobs.faults c.args.seat.now) (g.J.Jobs.taken c.args.seat.now) (g.J.Jobs.load c.args.seat.now) in
+    let start = means c.args.invocation.turns (g.J.Jobs.faults c.args.seat.now) (g.J.Jobs.taken c.args.seat.now) (g.J.Jobs.load c.args.seat.now) in
     record {
       under = λ look agree. (
-        c.args.turns,
-        answers_wanting look (asked_for c.args.words.now) (g.H.Host.log c.args.host.now) c.ended_wanting.result (course (g.J.Jobs.total c.args.seat.now) (g.H.Host.patience c.args.host.now) start start)
+        c.args.invocation.turns,
+        answers_wanting look (asked_for c.args.invocation.words.now) (g.H.Host.log c.args.host.now) c.ended_wanting.result (course (g.J.Jobs.total c.args.seat.now) (g.H.Host.patience c.args.host.now) start start)
             c.ended_wanting.ensures refl,
       );
     }

@@ -65,7 +65,7 @@ returns-in-Err-try_compile-clause-asked g c =
     let new = g.H.Host.log c.refuse.new.host in
     asked_captured _ _ c.as_str.result.now c.args.request.now.build c.capture.new.self (g.H.Host.log c.args.host.now) mid new c.capture.ensures.extends
     (since_extends mid end new c.try_compile.ensures.extends c.refuse.ensures.extends) c.in-Ok.ensures.captured
-    (asked_before _ _ _ mid end new c.try_compile.ensures.extends c.refuse.ensures.extends c.try_compile.ensures.asked c.refuse.ensures.asks_none)
+    (asked_before _ _ _ _ mid end new c.try_compile.ensures.extends c.refuse.ensures.extends c.try_compile.ensures.asked c.refuse.ensures.asks_none)
 
 pub returns-in-Err-clause-answer : goal.returns-in-Err-clause-answer
 returns-in-Err-clause-answer g c =
@@ -84,4 +84,4 @@ returns-in-Err-clause-answer g c =
 
 pub returns-in-Err-clause-asked : goal.returns-in-Err-clause-asked
 returns-in-Err-clause-asked g c =
-    asked_none _ _ _ _ (none_since (g.H.Host.log c.args.host.now) (g.H.Host.log c.capture.new.host) (g.H.Host.log c.refuse-in-Err.new.host) c.capture.ensures.extends c.refuse-in-Err.ensures.extends c.capture.ensures.asks_none c.refuse-in-Err.ensures.asks_none)
+    asked_none _ _ _ _ _ (none_since (g.H.Host.log c.args.host.now) (g.H.Host.log c.capture.new.host) (g.H.Host.log c.refuse-in-Err.new.host) c.capture.ensures.extends c.refuse-in-Err.ensures.extends c.capture.ensures.asks_none c.refuse-in-Err.ensures.asks_none)

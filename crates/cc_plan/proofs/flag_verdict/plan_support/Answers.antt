@@ -2,8 +2,8 @@ use Rattle.std.proofs.Common.{◌≡◌, ◌⊎◌, inl, refl, Some, None, sym, 
 use Rattle.std.proofs.lemmas.Result.{err_from_is_err_and}
 use Rattle.cc_host.specs.Question.{Settles}
 use Rattle.cc_tool.proofs.AskLemmas.{asks_grows}
-use Rattle.cc_plan.proofs.AskingLemmas.{only_then}
-use Rattle.cc_tool.proofs.SettleLemmas.{settles_on, settles_so}
+use Rattle.cc_plan.proofs.AskingLemmas.{only_then, only_more}
+use Rattle.cc_tool.proofs.SettleLemmas.{settles_on, settles_so, holds_all}
 use Rattle.cc_plan.specs.Compilation.{compilation_of}
 use Rattle.cc_plan.specs.FlagSupport.{verdict_on, verdict_refusal}
 use Rattle.cc_plan.specs.Tool.{found_warnings}
@@ -11,10 +11,13 @@ use Rattle.cc_plan.proofs.CompilationLemmas.{is_known}
 use Rattle.cc_plan.specs.declared.error.PlanError.TheVariants.{NoMemory as WantsMemory}
 use Rattle.cc_plan.proofs.OwnLemmas.{verdict_is_own}
 use Rattle.cc_plan.proofs.VerdictLemmas.{verdict_settled, support_settled, support_refused}
+use Rattle.cc_plan.proofs.QuestionLemmas.{tool_for_support, bare_flag}
 use Rattle.cc_plan.proofs.flag_verdict.plan_support.Goals as goal
 
 pub returns-in_err-verdict-clause-asks : goal.returns-in_err-verdict-clause-asks
-returns-in_err-verdict-clause-asks g c = only_then c.found_compiler.ensures.asks c.verdict_on.ensures.asks
+returns-in_err-verdict-clause-asks g c =
+    only_then (only_more c.found_compiler.ensures.asks (holds_all (tool_for_support c.args.set.now c.args.env.now c.args.flag.now)))
+    (only_more c.verdict_on.ensures.asks (bare_flag c.args.set.now c.args.env.now c.in_ok-compiler.compiler c.in_ok-compiler.bare c.args.flag.now (is_known c.args.set.now c.args.env.now c.in_ok-compiler.bare c.in_ok-target.ensures.info) (settles_on (asks_grows c.verdict_on.ensures.asks.asks) c.in_ok-compiler.ensures.settles)))
 
 pub returns-in_err-verdict-clause-refused : goal.returns-in_err-verdict-clause-refused
 returns-in_err-verdict-clause-refused g c =
@@ -34,10 +37,14 @@ returns-in_err-warnings-clause-refused g c =
     rw (p.1, p.2) (inl refl)
 
 pub returns-in_err-warnings-clause-asks : goal.returns-in_err-warnings-clause-asks
-returns-in_err-warnings-clause-asks g c = only_then c.found_compiler.ensures.asks c.verdict_on.ensures.asks
+returns-in_err-warnings-clause-asks g c =
+    only_then (only_more c.found_compiler.ensures.asks (holds_all (tool_for_support c.args.set.now c.args.env.now c.args.flag.now)))
+    (only_more c.verdict_on.ensures.asks (bare_flag c.args.set.now c.args.env.now c.in_ok-compiler.compiler c.in_ok-compiler.bare c.args.flag.now (is_known c.args.set.now c.args.env.now c.in_ok-compiler.bare c.in_ok-target.ensures.info) (settles_on (asks_grows c.verdict_on.ensures.asks.asks) c.in_ok-compiler.ensures.settles)))
 
 pub returns-clause-asks : goal.returns-clause-asks
-returns-clause-asks g c = only_then c.found_compiler.ensures.asks c.verdict_on.ensures.asks
+returns-clause-asks g c =
+    only_then (only_more c.found_compiler.ensures.asks (holds_all (tool_for_support c.args.set.now c.args.env.now c.args.flag.now)))
+    (only_more c.verdict_on.ensures.asks (bare_flag c.args.set.now c.args.env.now c.in_ok-compiler.compiler c.in_ok-compiler.bare c.args.flag.now (is_known c.args.set.now c.args.env.now c.in_ok-compiler.bare c.in_ok-target.ensures.info) (settles_on (asks_grows c.verdict_on.ensures.asks.asks) c.in_ok-compiler.ensures.settles)))
 
 pub returns-clause-verdict : goal.returns-clause-verdict
 returns-clause-verdict g c =
@@ -59,3 +66,6 @@ returns-clause-allowed g c =
     let known = is_known c.args.set.now c.args.env.now c.in_ok-compiler.bare c.in_ok-target.ensures.info in
     support_settled c.args.set.now c.args.env.now c.args.flag.now c.in_ok-target.ensures.allowed (settles_on (asks_grows c.verdict_on.ensures.asks.asks) c.in_ok-compiler.ensures.settles)
     (subst (λ k. verdict_refusal k c.args.flag.now ≡ None) known c.in_ok-verdict.ensures.allowed)
+
+pub returns-in_err-compiler-clause-asks : goal.returns-in_err-compiler-clause-asks
+returns-in_err-compiler-clause-asks g c = only_more c.found_compiler.ensures.asks (holds_all (tool_for_support c.args.set.now c.args.env.now c.args.flag.now))

@@ -8,13 +8,13 @@ use Rattle.cc_tool.proofs.Asides.{none_since}
 use Rattle.cc_plan.specs.Asking.{PrintsLine}
 use Rattle.cc_plan.specs.Link.{printed_line}
 use Rattle.cc_plan.specs.Plan.{prints}
-use Rattle.cc_plan.proofs.LineLemmas.{no_lines, since_none, line_more, line_refused, line_silent}
+use Rattle.cc_plan.proofs.LineLemmas.{no_lines, since_none, line_more, line_refused, line_silent, line_childless, childless_since}
 use Rattle.cc_plan.proofs.printing.print_warnings.Goals as goal
 
 pub loop-line-init : goal.loop-line-init
 loop-line-init g c =
     let none = since_none (g.H.Host.log c.args.host.now) in
-    rw (none, no_lines) (record { extends = grind (arith, common_steps); whole = record { done_all = refl; unstopped = refl }; silent = refl; patient = refl })
+    rw (none, no_lines) (record { extends = grind (arith, common_steps); whole = record { done_all = refl; unstopped = refl }; silent = refl; childless = refl; patient = refl })
 
 pub returns-in_err-print_warning-clause-extends : goal.returns-in_err-print_warning-clause-extends
 returns-in_err-print_warning-clause-extends g c = since_extends (g.H.Host.log c.args.host.now) (g.H.Host.log c.loop-line.host) (g.H.Host.log c.print_warning.new.host) c.loop-line.invariant.extends c.print_warning.ensures.extends
@@ -34,6 +34,10 @@ pub returns-in_err-print_warning-clause-silent : goal.returns-in_err-print_warni
 returns-in_err-print_warning-clause-silent g c =
     none_since (g.H.Host.log c.args.host.now) (g.H.Host.log c.loop-line.host) (g.H.Host.log c.print_warning.new.host) c.loop-line.invariant.extends c.print_warning.ensures.extends c.loop-line.invariant.silent (line_silent _ _ _ c.print_warning.ensures.prints)
 
+pub returns-in_err-print_warning-clause-childless : goal.returns-in_err-print_warning-clause-childless
+returns-in_err-print_warning-clause-childless g c =
+    childless_since (g.H.Host.log c.args.host.now) (g.H.Host.log c.loop-line.host) (g.H.Host.log c.print_warning.new.host) c.loop-line.invariant.extends c.print_warning.ensures.extends c.loop-line.invariant.childless (line_childless _ _ _ c.print_warning.ensures.prints)
+
 pub loop-line-preserved : goal.loop-line-preserved
 loop-line-preserved g c =
     let one : since (g.H.Host.log c.loop-line.host) (g.H.Host.log c.print_warning.new.host) ≡ Line Warning (printed_line c.line-item.result) ∷ [] = c.in_ok-print_warning.ensures.prints ∙ ap (λ t. Line Warning (printed_line t) ∷ []) c.as_str.ensures in
@@ -41,5 +45,6 @@ loop-line-preserved g c =
       extends = since_extends (g.H.Host.log c.args.host.now) (g.H.Host.log c.loop-line.host) (g.H.Host.log c.print_warning.new.host) c.loop-line.invariant.extends c.print_warning.ensures.extends;
       whole = line_more (g.H.Host.log c.args.host.now) (g.H.Host.log c.loop-line.host) (g.H.Host.log c.print_warning.new.host) c.as_slice-line-items.result.now c.loop-line.line-index c.line-item.result c.loop-line.invariant.extends c.print_warning.ensures.extends c.loop-line-test.true c.line-item.is c.loop-line.invariant.whole one;
       silent = none_since (g.H.Host.log c.args.host.now) (g.H.Host.log c.loop-line.host) (g.H.Host.log c.print_warning.new.host) c.loop-line.invariant.extends c.print_warning.ensures.extends c.loop-line.invariant.silent (line_silent _ _ _ c.print_warning.ensures.prints);
+      childless = childless_since (g.H.Host.log c.args.host.now) (g.H.Host.log c.loop-line.host) (g.H.Host.log c.print_warning.new.host) c.loop-line.invariant.extends c.print_warning.ensures.extends c.loop-line.invariant.childless (line_childless _ _ _ c.print_warning.ensures.prints);
       patient = c.print_warning.ensures.patient ∙ c.loop-line.invariant.patient;
     }

@@ -1,8 +1,8 @@
 use Rattle.std.proofs.Common.{rules, ◌≡◌, Err, inl, refl, sym, ap, ◌∙◌}
 use Rattle.std.proofs.lemmas.Result.{err_from_is_err_and}
 use Rattle.cc_tool.proofs.AskLemmas.{asks_grows}
-use Rattle.cc_plan.proofs.AskingLemmas.{only_then}
-use Rattle.cc_tool.proofs.SettleLemmas.{settles_on, settles_two}
+use Rattle.cc_plan.proofs.AskingLemmas.{only_then, only_more}
+use Rattle.cc_tool.proofs.SettleLemmas.{settles_on, settles_two, holds_all}
 use Rattle.cc_target.specs.Targets.{info_seen}
 use Rattle.cc_plan.specs.Compilation.{compilation_of}
 use Rattle.cc_plan.specs.Support.{supported}
@@ -10,6 +10,7 @@ use Rattle.cc_plan.specs.Tool.{tool_by, warnings_by}
 use Rattle.cc_plan.proofs.CompilationLemmas.{is_known, with_target}
 use Rattle.cc_plan.proofs.ResultLemmas.{allowed_by, refused_by}
 use Rattle.cc_plan.proofs.OwnLemmas.{given_is_own, built_is_own}
+use Rattle.cc_plan.proofs.QuestionLemmas.{tool_for_plan, plan_words, chosen_at}
 use Rattle.cc_plan.proofs.tool.plan_tool.Goals as goal
 
 pub returns-in_err-target-clause-own : goal.returns-in_err-target-clause-own
@@ -23,16 +24,24 @@ returns-in_err-check_compiler-clause-own g c =
     rw r (built_is_own c.args.set.now c.args.env.now c.in_ok-compiler.compiler c.in_err-check_compiler.field-0.0 c.in_err-check_compiler.ensures.refused)
 
 pub returns-in_err-supported-clause-asks : goal.returns-in_err-supported-clause-asks
-returns-in_err-supported-clause-asks g c = only_then c.compiler_of.ensures.asks c.supported_words.ensures.asks
+returns-in_err-supported-clause-asks g c =
+    only_then (only_more c.compiler_of.ensures.asks (holds_all (tool_for_plan c.args.set.now c.args.env.now)))
+    (only_more c.supported_words.ensures.asks (plan_words c.args.set.now c.args.env.now c.in_ok-compiler.compiler (is_known c.args.set.now c.args.env.now c.in_ok-compiler.compiler c.in_ok-target.ensures.info) (settles_on (asks_grows c.supported_words.ensures.asks.asks) c.in_ok-compiler.ensures.settles)))
 
 pub returns-in_err-tool-clause-asks : goal.returns-in_err-tool-clause-asks
-returns-in_err-tool-clause-asks g c = only_then c.compiler_of.ensures.asks c.supported_words.ensures.asks
+returns-in_err-tool-clause-asks g c =
+    only_then (only_more c.compiler_of.ensures.asks (holds_all (tool_for_plan c.args.set.now c.args.env.now)))
+    (only_more c.supported_words.ensures.asks (plan_words c.args.set.now c.args.env.now c.in_ok-compiler.compiler (is_known c.args.set.now c.args.env.now c.in_ok-compiler.compiler c.in_ok-target.ensures.info) (settles_on (asks_grows c.supported_words.ensures.asks.asks) c.in_ok-compiler.ensures.settles)))
 
 pub returns-in_err-warned-clause-asks : goal.returns-in_err-warned-clause-asks
-returns-in_err-warned-clause-asks g c = only_then c.compiler_of.ensures.asks c.supported_words.ensures.asks
+returns-in_err-warned-clause-asks g c =
+    only_then (only_more c.compiler_of.ensures.asks (holds_all (tool_for_plan c.args.set.now c.args.env.now)))
+    (only_more c.supported_words.ensures.asks (plan_words c.args.set.now c.args.env.now c.in_ok-compiler.compiler (is_known c.args.set.now c.args.env.now c.in_ok-compiler.compiler c.in_ok-target.ensures.info) (settles_on (asks_grows c.supported_words.ensures.asks.asks) c.in_ok-compiler.ensures.settles)))
 
 pub returns-clause-asks : goal.returns-clause-asks
-returns-clause-asks g c = only_then c.compiler_of.ensures.asks c.supported_words.ensures.asks
+returns-clause-asks g c =
+    only_then (only_more c.compiler_of.ensures.asks (holds_all (tool_for_plan c.args.set.now c.args.env.now)))
+    (only_more c.supported_words.ensures.asks (plan_words c.args.set.now c.args.env.now c.in_ok-compiler.compiler (is_known c.args.set.now c.args.env.now c.in_ok-compiler.compiler c.in_ok-target.ensures.info) (settles_on (asks_grows c.supported_words.ensures.asks.asks) c.in_ok-compiler.ensures.settles)))
 
 pub returns-clause-tool : goal.returns-clause-tool
 returns-clause-tool g c =
@@ -72,3 +81,12 @@ pub returns-in_err-warned-clause-own : goal.returns-in_err-warned-clause-own
 returns-in_err-warned-clause-own g c =
     let p = err_from_is_err_and c.from_residual-in_err-warned.result c.from_residual-in_err-warned.ensures.1 in
     rw (p.1, p.2) tt
+
+pub supported_words-requires : goal.supported_words-requires
+supported_words-requires g c = chosen_at c.args.set.now c.args.env.now c.in_ok-compiler.compiler _ refl c.in_ok-compiler.ensures.settles
+
+pub returns-in_err-compiler-clause-asks : goal.returns-in_err-compiler-clause-asks
+returns-in_err-compiler-clause-asks g c = only_more c.compiler_of.ensures.asks (holds_all (tool_for_plan c.args.set.now c.args.env.now))
+
+pub returns-in_err-check_compiler-clause-asks : goal.returns-in_err-check_compiler-clause-asks
+returns-in_err-check_compiler-clause-asks g c = only_more c.compiler_of.ensures.asks (holds_all (tool_for_plan c.args.set.now c.args.env.now))

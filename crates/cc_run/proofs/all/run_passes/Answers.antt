@@ -27,7 +27,7 @@ passes-preserved g c =
       turns = made_then (since (g.H.Host.log c.args.host.now) (g.H.Host.log c.pass.new.host)) (since (g.H.Host.log c.args.host.now) (g.H.Host.log c.passes.host)) (since (g.H.Host.log c.passes.host) (g.H.Host.log c.pass.new.host)) both c.passes.invariant.turns c.pass.ensures.turns;
       own = own_then (g.H.Host.log c.args.host.now) (g.H.Host.log c.passes.host) (g.H.Host.log c.pass.new.host) c.passes.invariant.goes.extends c.pass.ensures.goes.extends c.passes.invariant.own c.pass.ensures.own;
       kept = kept_then c.args.running.now c.passes.running c.pass.new.running (g.H.Host.log c.args.host.now) (g.H.Host.log c.passes.host) (g.H.Host.log c.pass.new.host) c.passes.invariant.goes.extends c.pass.ensures.goes.extends c.passes.invariant.kept c.in-Ok-false.ensures.kept;
-      lines = printed_then {T = Bool} c.args.batch.shows.now c.args.batch.warns c.args.batch.cmds.now c.args.running.now c.passes.running (g.H.Host.log c.args.host.now) (g.H.Host.log c.passes.host) (g.H.Host.log c.pass.new.host) (Ok false) c.passes.invariant.goes.extends c.pass.ensures.goes.extends c.passes.invariant.kept c.passes.invariant.lines c.in-Ok-false.ensures.lines;
+      lines = printed_then {T = Bool} c.args.batch.now.shows.now c.args.batch.now.warns c.args.batch.now.cmds.now c.args.running.now c.passes.running (g.H.Host.log c.args.host.now) (g.H.Host.log c.passes.host) (g.H.Host.log c.pass.new.host) (Ok false) c.passes.invariant.goes.extends c.pass.ensures.goes.extends c.passes.invariant.kept c.passes.invariant.lines c.in-Ok-false.ensures.lines;
     }
 
 pub returns-in-Err-clause-goes : goal.returns-in-Err-clause-goes
@@ -57,7 +57,7 @@ pub returns-clause-own : goal.returns-clause-own
 returns-clause-own g c = own_then (g.H.Host.log c.args.host.now) (g.H.Host.log c.passes.host) (g.H.Host.log c.pass.new.host) c.passes.invariant.goes.extends c.pass.ensures.goes.extends c.passes.invariant.own c.pass.ensures.own
 
 pub returns-in-Err-clause-lines : goal.returns-in-Err-clause-lines
-returns-in-Err-clause-lines g c = printed_then {T = Bool} c.args.batch.shows.now c.args.batch.warns c.args.batch.cmds.now c.args.running.now c.passes.running (g.H.Host.log c.args.host.now) (g.H.Host.log c.passes.host) (g.H.Host.log c.pass.new.host) (Err c.in-Err.e) c.passes.invariant.goes.extends c.pass.ensures.goes.extends c.passes.invariant.kept c.passes.invariant.lines c.in-Err.ensures.lines
+returns-in-Err-clause-lines g c = printed_then {T = Bool} c.args.batch.now.shows.now c.args.batch.now.warns c.args.batch.now.cmds.now c.args.running.now c.passes.running (g.H.Host.log c.args.host.now) (g.H.Host.log c.passes.host) (g.H.Host.log c.pass.new.host) (Err c.in-Err.e) c.passes.invariant.goes.extends c.pass.ensures.goes.extends c.passes.invariant.kept c.passes.invariant.lines c.in-Err.ensures.lines
 
 pub returns-clause-lines : goal.returns-clause-lines
-returns-clause-lines g c = printed_outcome c.args.batch.shows.now c.args.batch.warns c.args.batch.cmds.now c.args.running.now (since (g.H.Host.log c.args.host.now) (g.H.Host.log c.pass.new.host)) c.pass.new.running.failed c.outcome_of.result c.outcome_of.ensures (printed_then {T = Bool} c.args.batch.shows.now c.args.batch.warns c.args.batch.cmds.now c.args.running.now c.passes.running (g.H.Host.log c.args.host.now) (g.H.Host.log c.passes.host) (g.H.Host.log c.pass.new.host) (Ok true) c.passes.invariant.goes.extends c.pass.ensures.goes.extends c.passes.invariant.kept c.passes.invariant.lines c.in-Ok-true.ensures.lines)
+returns-clause-lines g c = printed_outcome c.args.batch.now.shows.now c.args.batch.now.warns c.args.batch.now.cmds.now c.args.running.now (since (g.H.Host.log c.args.host.now) (g.H.Host.log c.pass.new.host)) c.pass.new.running.failed c.outcome_of.result c.outcome_of.ensures (printed_then {T = Bool} c.args.batch.now.shows.now c.args.batch.now.warns c.args.batch.now.cmds.now c.args.running.now c.passes.running (g.H.Host.log c.args.host.now) (g.H.Host.log c.passes.host) (g.H.Host.log c.pass.new.host) (Ok true) c.passes.invariant.goes.extends c.pass.ensures.goes.extends c.passes.invariant.kept c.passes.invariant.lines c.in-Ok-true.ensures.lines)

@@ -18,7 +18,7 @@ invariant-passes g l =
     let part = since (g.H.Host.log l.fn.host) (g.H.Host.log l.host) in
     let all = asked l.batch.shows.now l.batch.cmds.now in
     record {
-      one_run : IsOneRun g.J.Jobs.fits g.J.Jobs.held l.jobs l.seat (length l.batch.cmds.now) l.running;
+      one_run : IsOneRun g.J.Jobs.fits g.J.Jobs.held l.batch.jobs.now l.seat (length l.batch.cmds.now) l.running;
       within : l.running.begun ≤ length l.batch.cmds.now;
       keeps : KeepsSeat g.J.Jobs.total g.J.Jobs.faults l.fn.seat l.seat;
       patient : g.H.Host.patience l.host ≡ g.H.Host.patience l.fn.host;

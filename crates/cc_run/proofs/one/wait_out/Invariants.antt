@@ -18,7 +18,7 @@ invariant-turns g l =
     let part = since (g.H.Host.log l.fn.host) (g.H.Host.log l.host) in
     let all = asked l.batch.shows.now l.batch.cmds.now in
     record {
-      one_run : IsOneRun g.J.Jobs.fits g.J.Jobs.held l.jobs l.seat (length l.batch.cmds.now) l.running;
+      one_run : IsOneRun g.J.Jobs.fits g.J.Jobs.held l.batch.jobs.now l.seat (length l.batch.cmds.now) l.running;
       begun : l.running.begun ≡ length l.batch.cmds.now;
       some : 0 < length l.running.children;
       total : g.J.Jobs.total l.seat ≡ g.J.Jobs.total l.fn.seat;

@@ -11,7 +11,7 @@ use Rattle.cc_run.proofs.wait.settle_all.Given as goal
 
 abbrev pub invariant-loop-item : goal.invariant-loop-item
 invariant-loop-item g l = record {
-  one_run : IsOneRun g.J.Jobs.fits g.J.Jobs.held l.jobs l.seat (length l.batch.cmds.now) l.running;
+  one_run : IsOneRun g.J.Jobs.fits g.J.Jobs.held l.batch.jobs.now l.seat (length l.batch.cmds.now) l.running;
   keeps : KeepsSeat g.J.Jobs.total g.J.Jobs.faults l.fn.seat l.seat;
   counts : TookNone g.J.Jobs.taken g.J.Jobs.load l.fn.seat l.seat;
   run : run_of l.running ≡ run_from (run_of l.fn.running) (flat_map reported (take l.item-index l.news));

@@ -8,36 +8,36 @@ use Rattle.cc_tool.proofs.probes.ask_object.Goals as goal
 
 pub ask_both-requires-clause-open : goal.ask_both-requires-clause-open
 ask_both-requires-clause-open g c κs within =
-    let from = (c.args.files.source, contents_of c.args.kind) ∷ [] in
-    let p = made_file c.args.object c.in-Ok-Some.field-0 c.into_path.result (c.in-Ok-Some.field-0-is ∙ ap Some (sym c.into_path.ensures)) (c.in-Ok-Some.ensures.makes from) in
+    let from = (c.args.files.source, contents_of c.args.kinds.source) ∷ [] in
+    let p = made_file c.args.kinds.object c.in-Ok-Some.field-0 c.into_path.result (c.in-Ok-Some.field-0-is ∙ ap Some (sym c.into_path.ensures)) (c.in-Ok-Some.ensures.makes from) in
     open_then c.requires.open p
 
 pub drop_probe-requires : goal.drop_probe-requires
 drop_probe-requires g c =
-    let from = (c.args.files.source, contents_of c.args.kind) ∷ [] in
-    let m = made_none c.args.object c.in-Ok-None.field-0 c.in-Ok-None.field-0-is (c.in-Ok-None.ensures.makes from) in
-    let p = left_asked c.args.kind c.args.q.now c.leave-outcome.result c.requires.needs.1 m c.leave-outcome.ensures.adds c.leave-outcome.ensures.unanswered in
-    rw c.as_str.ensures (open_first _ c.args.files.source (contents_of c.args.kind) [] (open_then c.requires.open p))
+    let from = (c.args.files.source, contents_of c.args.kinds.source) ∷ [] in
+    let m = made_none c.args.kinds.object c.in-Ok-None.field-0 c.in-Ok-None.field-0-is (c.in-Ok-None.ensures.makes from) in
+    let p = left_asked c.args.kinds.source c.args.q.now c.leave-outcome.result c.requires.needs.1 m c.leave-outcome.ensures.adds c.leave-outcome.ensures.unanswered in
+    rw c.as_str.ensures (open_first _ c.args.files.source (contents_of c.args.kinds.source) [] (open_then c.requires.open p))
 
 pub drop_probe-requires-in-Err : goal.drop_probe-requires-in-Err
 drop_probe-requires-in-Err g c =
-    let from = (c.args.files.source, contents_of c.args.kind) ∷ [] in
-    rw c.as_str-in-Err.ensures (open_first _ c.args.files.source (contents_of c.args.kind) [] (open_then c.requires.open (c.in-Err.ensures.makes from)))
+    let from = (c.args.files.source, contents_of c.args.kinds.source) ∷ [] in
+    rw c.as_str-in-Err.ensures (open_first _ c.args.files.source (contents_of c.args.kinds.source) [] (open_then c.requires.open (c.in-Err.ensures.makes from)))
 
 pub returns-in-Ok-Some-clause-probes : goal.returns-in-Ok-Some-clause-probes
 returns-in-Ok-Some-clause-probes g c =
-    let from = (c.args.files.source, contents_of c.args.kind) ∷ [] in
-    let p = made_file c.args.object c.in-Ok-Some.field-0 c.into_path.result (c.in-Ok-Some.field-0-is ∙ ap Some (sym c.into_path.ensures)) (c.in-Ok-Some.ensures.makes from) in
+    let from = (c.args.files.source, contents_of c.args.kinds.source) ∷ [] in
+    let p = made_file c.args.kinds.object c.in-Ok-Some.field-0 c.into_path.result (c.in-Ok-Some.field-0-is ∙ ap Some (sym c.into_path.ensures)) (c.in-Ok-Some.ensures.makes from) in
     probes_then p c.ask_both.ensures.probes
 
 pub returns-in-Ok-None-clause-probes : goal.returns-in-Ok-None-clause-probes
 returns-in-Ok-None-clause-probes g c =
-    let from = (c.args.files.source, contents_of c.args.kind) ∷ [] in
-    let m = made_none c.args.object c.in-Ok-None.field-0 c.in-Ok-None.field-0-is (c.in-Ok-None.ensures.makes from) in
-    let p = left_asked c.args.kind c.args.q.now c.leave-outcome.result c.requires.needs.1 m c.leave-outcome.ensures.adds c.leave-outcome.ensures.unanswered in
-    probes_last p (probes_dropped c.args.files.source (contents_of c.args.kind) [] (c.drop_probe.ensures.adds ∙ ap (λ path. g.H.Host.log c.leave-outcome.new.host ++ Dropped path ∷ []) c.as_str.ensures))
+    let from = (c.args.files.source, contents_of c.args.kinds.source) ∷ [] in
+    let m = made_none c.args.kinds.object c.in-Ok-None.field-0 c.in-Ok-None.field-0-is (c.in-Ok-None.ensures.makes from) in
+    let p = left_asked c.args.kinds.source c.args.q.now c.leave-outcome.result c.requires.needs.1 m c.leave-outcome.ensures.adds c.leave-outcome.ensures.unanswered in
+    probes_last p (probes_dropped c.args.files.source (contents_of c.args.kinds.source) [] (c.drop_probe.ensures.adds ∙ ap (λ path. g.H.Host.log c.leave-outcome.new.host ++ Dropped path ∷ []) c.as_str.ensures))
 
 pub returns-in-Err-clause-probes : goal.returns-in-Err-clause-probes
 returns-in-Err-clause-probes g c =
-    let from = (c.args.files.source, contents_of c.args.kind) ∷ [] in
-    probes_last (c.in-Err.ensures.makes from) (probes_dropped c.args.files.source (contents_of c.args.kind) [] (c.drop_probe-in-Err.ensures.adds ∙ ap (λ path. g.H.Host.log c.make_file.new.host ++ Dropped path ∷ []) c.as_str-in-Err.ensures))
+    let from = (c.args.files.source, contents_of c.args.kinds.source) ∷ [] in
+    probes_last (c.in-Err.ensures.makes from) (probes_dropped c.args.files.source (contents_of c.args.kinds.source) [] (c.drop_probe-in-Err.ensures.adds ∙ ap (λ path. g.H.Host.log c.make_file.new.host ++ Dropped path ∷ []) c.as_str-in-Err.ensures))

@@ -19,7 +19,7 @@ use Rattle.cc_run.proofs.wait.WaitState.wait.Goals as goal
 pub returns-in-Ok-taken-clause-goes : goal.returns-in-Ok-taken-clause-goes
 returns-in-Ok-taken-clause-goes g c =
     let s = spoken c.take_news-taken.ensures.printed.0 c.take_news-taken.result (since (g.H.Host.log c.turn_once.new.host) (g.H.Host.log c.take_news-taken.new.host)) c.take_news-taken.ensures.printed.1 in
-    λ busy. goes_news (g.J.Jobs.total c.args.seat.now) (asked c.args.batch.shows.now c.args.batch.cmds.now) (g.H.Host.log c.args.host.now) (g.H.Host.log c.turn_once.new.host) (g.H.Host.log c.take_news-taken.new.host) (run_of c.args.running.now) (run_of c.take_news-taken.new.running) c.in-Ok.news.items c.take_news-taken.result c.in-Ok.ensures.ok c.take_news-taken.ensures.extends s (c.take_news-taken.ensures.run ∙ ap (λ l. run_from (run_of c.args.running.now) (flat_map reported l)) c.deref.ensures.value) c.take_news-taken.ensures.begun busy c.in-Ok.ensures.news
+    λ busy. goes_news (g.J.Jobs.total c.args.seat.now) (asked c.args.batch.now.shows.now c.args.batch.now.cmds.now) (g.H.Host.log c.args.host.now) (g.H.Host.log c.turn_once.new.host) (g.H.Host.log c.take_news-taken.new.host) (run_of c.args.running.now) (run_of c.take_news-taken.new.running) c.in-Ok.news.items c.take_news-taken.result c.in-Ok.ensures.ok c.take_news-taken.ensures.extends s (c.take_news-taken.ensures.run ∙ ap (λ l. run_from (run_of c.args.running.now) (flat_map reported l)) c.deref.ensures.value) c.take_news-taken.ensures.begun busy c.in-Ok.ensures.news
 
 pub returns-in-Ok-taken-clause-turns : goal.returns-in-Ok-taken-clause-turns
 returns-in-Ok-taken-clause-turns g c =
@@ -35,12 +35,12 @@ returns-in-Ok-taken-clause-starts g c =
 pub returns-in-Ok-taken-clause-named : goal.returns-in-Ok-taken-clause-named
 returns-in-Ok-taken-clause-named g c =
     let s = spoken c.take_news-taken.ensures.printed.0 c.take_news-taken.result (since (g.H.Host.log c.turn_once.new.host) (g.H.Host.log c.take_news-taken.new.host)) c.take_news-taken.ensures.printed.1 in
-    news_named Step (asked c.args.batch.shows.now c.args.batch.cmds.now) (g.H.Host.log c.args.host.now) (g.H.Host.log c.turn_once.new.host) (g.H.Host.log c.take_news-taken.new.host) c.in-Ok.news.items c.take_news-taken.result (Ok c.step_of.result) c.in-Ok.ensures.ok c.take_news-taken.ensures.extends s (spoken_well (asked c.args.batch.shows.now c.args.batch.cmds.now) c.take_news-taken.result tt c.step_of.result c.in-Ok-taken.is)
+    news_named Step (asked c.args.batch.now.shows.now c.args.batch.now.cmds.now) (g.H.Host.log c.args.host.now) (g.H.Host.log c.turn_once.new.host) (g.H.Host.log c.take_news-taken.new.host) c.in-Ok.news.items c.take_news-taken.result (Ok c.step_of.result) c.in-Ok.ensures.ok c.take_news-taken.ensures.extends s (spoken_well (asked c.args.batch.now.shows.now c.args.batch.now.cmds.now) c.take_news-taken.result tt c.step_of.result c.in-Ok-taken.is)
 
 pub returns-clause-goes : goal.returns-clause-goes
 returns-clause-goes g c =
     let s = spoken c.take_news-taken.ensures.printed.0 c.take_news-taken.result (since (g.H.Host.log c.turn_once.new.host) (g.H.Host.log c.take_news-taken.new.host)) c.take_news-taken.ensures.printed.1 in
-    λ busy. goes_news (g.J.Jobs.total c.args.seat.now) (asked c.args.batch.shows.now c.args.batch.cmds.now) (g.H.Host.log c.args.host.now) (g.H.Host.log c.turn_once.new.host) (g.H.Host.log c.take_news-taken.new.host) (run_of c.args.running.now) (run_of c.take_news-taken.new.running) c.in-Ok.news.items c.take_news-taken.result c.in-Ok.ensures.ok c.take_news-taken.ensures.extends s (c.take_news-taken.ensures.run ∙ ap (λ l. run_from (run_of c.args.running.now) (flat_map reported l)) c.deref.ensures.value) c.take_news-taken.ensures.begun busy c.in-Ok.ensures.news
+    λ busy. goes_news (g.J.Jobs.total c.args.seat.now) (asked c.args.batch.now.shows.now c.args.batch.now.cmds.now) (g.H.Host.log c.args.host.now) (g.H.Host.log c.turn_once.new.host) (g.H.Host.log c.take_news-taken.new.host) (run_of c.args.running.now) (run_of c.take_news-taken.new.running) c.in-Ok.news.items c.take_news-taken.result c.in-Ok.ensures.ok c.take_news-taken.ensures.extends s (c.take_news-taken.ensures.run ∙ ap (λ l. run_from (run_of c.args.running.now) (flat_map reported l)) c.deref.ensures.value) c.take_news-taken.ensures.begun busy c.in-Ok.ensures.news
 
 pub returns-clause-turns : goal.returns-clause-turns
 returns-clause-turns g c =
@@ -56,7 +56,7 @@ returns-clause-starts g c =
 pub returns-clause-named : goal.returns-clause-named
 returns-clause-named g c =
     let s = spoken c.take_news-taken.ensures.printed.0 c.take_news-taken.result (since (g.H.Host.log c.turn_once.new.host) (g.H.Host.log c.take_news-taken.new.host)) c.take_news-taken.ensures.printed.1 in
-    news_named Step (asked c.args.batch.shows.now c.args.batch.cmds.now) (g.H.Host.log c.args.host.now) (g.H.Host.log c.turn_once.new.host) (g.H.Host.log c.take_news-taken.new.host) c.in-Ok.news.items c.take_news-taken.result (Err c.in-Err-taken.e) c.in-Ok.ensures.ok c.take_news-taken.ensures.extends s (spoken_named Step (asked c.args.batch.shows.now c.args.batch.cmds.now) c.take_news-taken.result c.in-Err-taken.e c.in-Err-taken.is c.in-Err-taken.ensures.kind)
+    news_named Step (asked c.args.batch.now.shows.now c.args.batch.now.cmds.now) (g.H.Host.log c.args.host.now) (g.H.Host.log c.turn_once.new.host) (g.H.Host.log c.take_news-taken.new.host) c.in-Ok.news.items c.take_news-taken.result (Err c.in-Err-taken.e) c.in-Ok.ensures.ok c.take_news-taken.ensures.extends s (spoken_named Step (asked c.args.batch.now.shows.now c.args.batch.now.cmds.now) c.take_news-taken.result c.in-Err-taken.e c.in-Err-taken.is c.in-Err-taken.ensures.kind)
 
 pub returns-clause-ends : goal.returns-clause-ends
 returns-clause-ends g c =
@@ -89,21 +89,21 @@ returns-clause-own g c = own_news (g.H.Host.log c.args.host.now) (g.H.Host.log c
 
 pub returns-in-Ok-taken-clause-kept : goal.returns-in-Ok-taken-clause-kept
 returns-in-Ok-taken-clause-kept g c =
-    let lines = subst (λ l. ArePrinted {T = Unit {0}} (owed_from c.args.batch.shows.now c.args.batch.warns c.args.batch.cmds.now c.args.running.now.children (flat_map reported l)) (Ok (tt {0})) (since (g.H.Host.log c.turn_once.new.host) (g.H.Host.log c.take_news-taken.new.host))) c.deref.ensures.value c.in-Ok-taken.ensures.lines in
-    (turn_kept c.args.batch.shows.now c.args.batch.warns c.args.batch.cmds.now c.args.running.now c.in-Ok.news.items (tt {0}) c.take_news-taken.new.running (g.H.Host.log c.args.host.now) (g.H.Host.log c.turn_once.new.host) (g.H.Host.log c.take_news-taken.new.host) c.in-Ok.ensures.ok c.take_news-taken.ensures.extends lines (c.in-Ok-taken.ensures.children ∙ ap (λ l. children_from c.args.running.now.children (flat_map reported l)) c.deref.ensures.value) (c.take_news-taken.ensures.run ∙ ap (λ l. run_from (run_of c.args.running.now) (flat_map reported l)) c.deref.ensures.value)).0
+    let lines = subst (λ l. ArePrinted {T = Unit {0}} (owed_from c.args.batch.now.shows.now c.args.batch.now.warns c.args.batch.now.cmds.now c.args.running.now.children (flat_map reported l)) (Ok (tt {0})) (since (g.H.Host.log c.turn_once.new.host) (g.H.Host.log c.take_news-taken.new.host))) c.deref.ensures.value c.in-Ok-taken.ensures.lines in
+    (turn_kept c.args.batch.now.shows.now c.args.batch.now.warns c.args.batch.now.cmds.now c.args.running.now c.in-Ok.news.items (tt {0}) c.take_news-taken.new.running (g.H.Host.log c.args.host.now) (g.H.Host.log c.turn_once.new.host) (g.H.Host.log c.take_news-taken.new.host) c.in-Ok.ensures.ok c.take_news-taken.ensures.extends lines (c.in-Ok-taken.ensures.children ∙ ap (λ l. children_from c.args.running.now.children (flat_map reported l)) c.deref.ensures.value) (c.take_news-taken.ensures.run ∙ ap (λ l. run_from (run_of c.args.running.now) (flat_map reported l)) c.deref.ensures.value)).0
 
 pub returns-in-Ok-taken-clause-lines : goal.returns-in-Ok-taken-clause-lines
 returns-in-Ok-taken-clause-lines g c =
-    let lines = subst (λ l. ArePrinted {T = Unit {0}} (owed_from c.args.batch.shows.now c.args.batch.warns c.args.batch.cmds.now c.args.running.now.children (flat_map reported l)) (Ok (tt {0})) (since (g.H.Host.log c.turn_once.new.host) (g.H.Host.log c.take_news-taken.new.host))) c.deref.ensures.value c.in-Ok-taken.ensures.lines in
-    (turn_kept c.args.batch.shows.now c.args.batch.warns c.args.batch.cmds.now c.args.running.now c.in-Ok.news.items (tt {0}) c.take_news-taken.new.running (g.H.Host.log c.args.host.now) (g.H.Host.log c.turn_once.new.host) (g.H.Host.log c.take_news-taken.new.host) c.in-Ok.ensures.ok c.take_news-taken.ensures.extends lines (c.in-Ok-taken.ensures.children ∙ ap (λ l. children_from c.args.running.now.children (flat_map reported l)) c.deref.ensures.value) (c.take_news-taken.ensures.run ∙ ap (λ l. run_from (run_of c.args.running.now) (flat_map reported l)) c.deref.ensures.value)).1
+    let lines = subst (λ l. ArePrinted {T = Unit {0}} (owed_from c.args.batch.now.shows.now c.args.batch.now.warns c.args.batch.now.cmds.now c.args.running.now.children (flat_map reported l)) (Ok (tt {0})) (since (g.H.Host.log c.turn_once.new.host) (g.H.Host.log c.take_news-taken.new.host))) c.deref.ensures.value c.in-Ok-taken.ensures.lines in
+    (turn_kept c.args.batch.now.shows.now c.args.batch.now.warns c.args.batch.now.cmds.now c.args.running.now c.in-Ok.news.items (tt {0}) c.take_news-taken.new.running (g.H.Host.log c.args.host.now) (g.H.Host.log c.turn_once.new.host) (g.H.Host.log c.take_news-taken.new.host) c.in-Ok.ensures.ok c.take_news-taken.ensures.extends lines (c.in-Ok-taken.ensures.children ∙ ap (λ l. children_from c.args.running.now.children (flat_map reported l)) c.deref.ensures.value) (c.take_news-taken.ensures.run ∙ ap (λ l. run_from (run_of c.args.running.now) (flat_map reported l)) c.deref.ensures.value)).1
 
 pub returns-clause-lines : goal.returns-clause-lines
 returns-clause-lines g c =
-    let lines = subst (λ l. ArePrinted {T = Unit {0}} (owed_from c.args.batch.shows.now c.args.batch.warns c.args.batch.cmds.now c.args.running.now.children (flat_map reported l)) (Err c.in-Err-taken.e) (since (g.H.Host.log c.turn_once.new.host) (g.H.Host.log c.take_news-taken.new.host))) c.deref.ensures.value c.in-Err-taken.ensures.lines in
-    turn_some c.args.batch.shows.now c.args.batch.warns c.args.batch.cmds.now c.args.running.now c.in-Ok.news.items Step c.in-Err-taken.e (g.H.Host.log c.args.host.now) (g.H.Host.log c.turn_once.new.host) (g.H.Host.log c.take_news-taken.new.host) c.in-Ok.ensures.ok c.take_news-taken.ensures.extends lines c.in-Err-taken.ensures.kind
+    let lines = subst (λ l. ArePrinted {T = Unit {0}} (owed_from c.args.batch.now.shows.now c.args.batch.now.warns c.args.batch.now.cmds.now c.args.running.now.children (flat_map reported l)) (Err c.in-Err-taken.e) (since (g.H.Host.log c.turn_once.new.host) (g.H.Host.log c.take_news-taken.new.host))) c.deref.ensures.value c.in-Err-taken.ensures.lines in
+    turn_some c.args.batch.now.shows.now c.args.batch.now.warns c.args.batch.now.cmds.now c.args.running.now c.in-Ok.news.items Step c.in-Err-taken.e (g.H.Host.log c.args.host.now) (g.H.Host.log c.turn_once.new.host) (g.H.Host.log c.take_news-taken.new.host) c.in-Ok.ensures.ok c.take_news-taken.ensures.extends lines c.in-Err-taken.ensures.kind
 
 pub returns-in-Err-clause-lines : goal.returns-in-Err-clause-lines
-returns-in-Err-clause-lines g c = unturned_printed Step c.args.batch.shows.now c.args.batch.warns c.args.batch.cmds.now c.args.running.now (g.H.Host.log c.args.host.now) (g.H.Host.log c.turn_once.new.host) c.in-Err.e c.in-Err.ensures.err
+returns-in-Err-clause-lines g c = unturned_printed Step c.args.batch.now.shows.now c.args.batch.now.warns c.args.batch.now.cmds.now c.args.running.now (g.H.Host.log c.args.host.now) (g.H.Host.log c.turn_once.new.host) c.in-Err.e c.in-Err.ensures.err
 
 pub returns-in-Err-clause-goes : goal.returns-in-Err-clause-goes
-returns-in-Err-clause-goes g c = λ _. goes_unturned (g.J.Jobs.total c.args.seat.now) (asked c.args.batch.shows.now c.args.batch.cmds.now) (g.H.Host.log c.args.host.now) (g.H.Host.log c.turn_once.new.host) (run_of c.args.running.now) c.in-Err.e c.in-Err.ensures.err
+returns-in-Err-clause-goes g c = λ _. goes_unturned (g.J.Jobs.total c.args.seat.now) (asked c.args.batch.now.shows.now c.args.batch.now.cmds.now) (g.H.Host.log c.args.host.now) (g.H.Host.log c.turn_once.new.host) (run_of c.args.running.now) c.in-Err.e c.in-Err.ensures.err

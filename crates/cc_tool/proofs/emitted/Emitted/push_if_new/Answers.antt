@@ -1,5 +1,5 @@
 use Rattle.std.proofs.Common.{sym, ap, ◌∙◌}
-use Rattle.cc_tool.specs.Tool.{is_among}
+use Rattle.cc_text.specs.Words.{is_among}
 use Rattle.std.specs.Result.{is_ok}
 use Rattle.cc_tool.proofs.EmittedLemmas.{distinct_push}
 use Rattle.cc_tool.proofs.emitted.Emitted.push_if_new.Goals as goal

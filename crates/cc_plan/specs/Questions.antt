@@ -1,0 +1,59 @@
+-- The questions that a plan asks, under these verdicts.
+use Rattle.std.specs.Prelude.{◌≡◌, ◌⊎◌, ℕ, true, List, [], Some}
+use Rattle.std.specs.List.{Contains}
+use Rattle.cc_env.specs.Env.{EnvSeen}
+use Rattle.cc_flags.specs.Texts.{is}
+use Rattle.cc_host.specs.Question.{Look, exists_question}
+use Rattle.cc_host.specs.declared.question.Question.{Question}
+use Rattle.cc_tool.specs.Family.{IsOfFamilyIn}
+use Rattle.cc_plan.specs.Android.{kit_compiler, older_name, starts_question}
+use Rattle.cc_plan.specs.Choice.{choice_of}
+use Rattle.cc_plan.specs.Compilation.{CompilationSeen}
+use Rattle.cc_plan.specs.Languages.{gnu_name}
+use Rattle.cc_plan.specs.Planned.{planned}
+use Rattle.cc_plan.specs.Support.{bare_of, flag_question}
+use Rattle.cc_plan.specs.Target.{target_info, target_name}
+use Rattle.cc_plan.specs.ToolWords.{asked_words}
+use Rattle.cc_plan.specs.declared.choice.Choice.{Choice}
+use Rattle.cc_plan.specs.declared.settings.BuildConfig.{BuildConfig}
+
+-- whether a file is there: it runs no program
+abbrev pub IsForFile : Question → Type 0
+IsForFile q = (path : List ℕ) × (q ≡ exists_question path)
+
+-- the target is Android's
+abbrev pub IsForAndroid : BuildConfig → EnvSeen → Type 0
+IsForAndroid set env = is (target_info set env).os "android" ≡ true
+
+-- a compiler for Android: that of the development kit for the target, or GCC behind the target's name
+abbrev pub IsAndroidCompiler : BuildConfig → EnvSeen → List ℕ → Type 0
+IsAndroidCompiler set env program =
+    IsForAndroid set env × ((kit_compiler (target_name set env) ≡ Some program) ⊎ (older_name (target_name set env) (gnu_name set.cpp) ≡ program))
+
+-- whether such a compiler can be started
+abbrev pub IsOnAndroid : BuildConfig → EnvSeen → Question → Type 0
+IsOnAndroid set env q = (program : List ℕ) × (IsAndroidCompiler set env program × (q ≡ starts_question env program))
+
+-- one on the family of a compiler: with the words that it is given first, or by its path alone
+abbrev pub IsOnFamily : EnvSeen → Choice → Question → Type 0
+IsOnFamily env choice q = IsOfFamilyIn choice.path choice.words env q ⊎ IsOfFamilyIn choice.path [] env q
+
+-- one that finds the compiler: for a file, whether one of Android's can be started, or on the family of the chosen one
+unfoldable pub ToolAsks : BuildConfig → EnvSeen → Look → Question → Type 0
+ToolAsks set env look q = IsForFile q ⊎ (IsOnAndroid set env q ⊎ IsOnFamily env (choice_of set env look) q)
+
+-- one on a flag among these words
+unfoldable pub FlagAsks : CompilationSeen → List (List ℕ) → Question → Type 0
+FlagAsks c words q = (flag : List ℕ) × (Contains words flag × (q ≡ flag_question c flag))
+
+-- one that finds the compiler, or that asks it about one of these words, as the compiler of its path alone
+unfoldable pub WordAsks : CompilationSeen → List (List ℕ) → Look → Question → Type 0
+WordAsks c words look q = ToolAsks c.set c.env look q ⊎ FlagAsks (bare_of c look) words q
+
+-- one that a plan asks: about the words that its tool is given only where the compiler takes them
+unfoldable pub PlanAsks : BuildConfig → EnvSeen → Look → Question → Type 0
+PlanAsks set env look q = WordAsks (planned set env look) (asked_words (planned set env look)) look q
+
+-- one that is asked to learn whether the compiler takes a flag: what finds it, and the one on the flag
+unfoldable pub SupportAsks : BuildConfig → EnvSeen → List ℕ → Look → Question → Type 0
+SupportAsks set env flag look q = ToolAsks set env look q ⊎ (q ≡ flag_question (bare_of (planned set env look) look) flag)
