@@ -93,6 +93,7 @@ struct Support {
 }
 
 // The compiler, and the one that is asked: that of its path alone.
+#[tactic(auto, using(crate::proofs::QuestionLemmas::chosen_at))]
 fn found_compiler<W: World, H: Host<W>>(
     rt: &impl Wait,
     inputs: &Inputs<'_>,

@@ -270,6 +270,7 @@ pub(crate) fn bare_compiler<W: World, H: Host<W>>(
 }
 
 // Those of some words that the compiler at the path of this one takes.
+#[tactic(auto, using(cc_tool::proofs::SettleLemmas::settles_is))]
 fn supported_among<W: World, H: Host<W>>(
     rt: &impl Wait,
     given: &Compilation<'_>,

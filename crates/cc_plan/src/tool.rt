@@ -317,7 +317,7 @@ fn warnings_by<W: World>(
 }
 
 /// The tool of these settings in this environment, with its target and its warnings. It asks, and prints nothing.
-#[tactic(auto, using(crate::proofs::AskingLemmas::only_none))]
+#[tactic(auto, using(crate::proofs::QuestionLemmas::chosen_at, crate::proofs::AskingLemmas::only_none))]
 pub(crate) fn plan_tool<W: World, H: Host<W>>(
     rt: &impl Wait,
     alloc: Global,

@@ -10,7 +10,7 @@ use Rattle.cc_plan.specs.Tool.{tool_by, warnings_by}
 use Rattle.cc_plan.proofs.CompilationLemmas.{is_known, with_target}
 use Rattle.cc_plan.proofs.ResultLemmas.{allowed_by, refused_by}
 use Rattle.cc_plan.proofs.OwnLemmas.{given_is_own, built_is_own}
-use Rattle.cc_plan.proofs.QuestionLemmas.{tool_for_plan, plan_words, chosen_at}
+use Rattle.cc_plan.proofs.QuestionLemmas.{tool_for_plan, plan_words}
 use Rattle.cc_plan.proofs.tool.plan_tool.Goals as goal
 
 pub returns-in_err-target-clause-own : goal.returns-in_err-target-clause-own
@@ -81,9 +81,6 @@ pub returns-in_err-warned-clause-own : goal.returns-in_err-warned-clause-own
 returns-in_err-warned-clause-own g c =
     let p = err_from_is_err_and c.from_residual-in_err-warned.result c.from_residual-in_err-warned.ensures.1 in
     rw (p.1, p.2) tt
-
-pub supported_words-requires : goal.supported_words-requires
-supported_words-requires g c = chosen_at c.args.set.now c.args.env.now c.in_ok-compiler.compiler _ refl c.in_ok-compiler.ensures.settles
 
 pub returns-in_err-compiler-clause-asks : goal.returns-in_err-compiler-clause-asks
 returns-in_err-compiler-clause-asks g c = only_more c.compiler_of.ensures.asks (holds_all (tool_for_plan c.args.set.now c.args.env.now))
