@@ -43,7 +43,7 @@ pub fn is_gnu_like(family: ToolFamily) -> bool
     !is_visual_studio(family)
 }
 
-/// Whether it is `clang-cl`.
+/// Whether it is `clang-cl`: Clang's driver that takes the words of `cl.exe` and some of Clang's own (Clang's user manual, "clang-cl").
 pub fn is_clang_cl(family: ToolFamily) -> bool
     ensures { result ≡ families.is_clang_cl family }
 {
