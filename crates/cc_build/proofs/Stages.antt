@@ -139,7 +139,7 @@ pub asked_then : {T : Type 0} (t : Terms) (run : List Stage) (a b : List Event) 
 asked_then t run a b r x y asked o = ends_then t None (Asks ∷ []) run a b r x x y (went_one t Asks a x x (asked, refl)) o
 
 -- the stages of a plan are the planned ones
-pub stages : (set : BuildConfig) (env : EnvSeen) (look : Look) (output : List ℕ) (plan : Plan) (library : List ℕ) → Plans set env output plan look → library ≡ library_of set env output → stages_of plan library ≡ run_stages set env plan.told look output
+pub stages : (set : BuildConfig) (env : EnvSeen) (look : Look) (output : List ℕ) (plan : Plan) (library : List ℕ) → Plans set env output plan look → library ≡ library_of set env output → stages_of plan library ≡ run_stages set env plan.warns_of_link look output
 unfolding compile_stages removal_stages archive_stages link_stages removal_steps link_steps
 stages set env look output plan library h is = rw (h.warnings, h.compiles, h.archives, h.indexes, h.lines, is) refl
 

@@ -135,19 +135,19 @@ module _ (steady : Bool) (world : Question → WorldOutcome) (dir : List ℕ) (q
       (subst (λ (p : List Event). Outcome refusal steps p r) (sym rest_is) o)
 
 -- the outcome of a compiler that was planned
-pub planned_outcome : {X T : Type 0} (known : List Answer) (warnings : Bool → Look → List (List ℕ)) (refusal : Look → Option PlanError) (set : BuildConfig) (env : EnvSeen) (part : List Event) (result : Result X PlanError) (x : X) (t : T) (look : Look) → Agrees look known → result ≡ Ok x → (w : Warns known warnings result part) → Settles known refusal None → Outcome {T = T} (option_map (plan_error set env []) (refusal look)) (prints Warning (warnings w.told look)) part (Ok t)
+pub planned_outcome : {X T : Type 0} (known : List Answer) (warnings : Bool → Look → List (List ℕ)) (refusal : Look → Option PlanError) (set : BuildConfig) (env : EnvSeen) (part : List Event) (result : Result X PlanError) (x : X) (t : T) (look : Look) → Agrees look known → result ≡ Ok x → (w : Warns known warnings result part) → Settles known refusal None → Outcome {T = T} (option_map (plan_error set env []) (refusal look)) (prints Warning (warnings w.warns_of_link look)) part (Ok t)
 planned_outcome {X} known warnings refusal set env part result x t look agree is w allowed =
-    let settled : Settles known (warnings w.told) w.lines = subst (λ (r : Result X PlanError). AreLines known (warnings w.told) w.lines part r) is w.settled in
+    let settled : Settles known (warnings w.warns_of_link) w.lines = subst (λ (r : Result X PlanError). AreLines known (warnings w.warns_of_link) w.lines part r) is w.settled in
     let printed : IsWhole (prints Warning w.lines) part = subst (λ (r : Result X PlanError). Printed w.lines part r) is w.printed in
     (ap (option_map (plan_error set env [])) (allowed.is look agree), subst (λ (l : List (List ℕ)). IsWhole (prints Warning l) part) (sym (settled.is look agree)) printed)
 
 -- the outcome of a compiler that was refused
-pub unplanned_outcome : {X : Type 0} (T : Type 0) (known : List Answer) (warnings : Bool → Look → List (List ℕ)) (refusal : Look → Option PlanError) (set : BuildConfig) (env : EnvSeen) (part : List Event) (result : Result X PlanError) (error : PlanError) (e : ErrorSeen) (look : Look) → Agrees look known → result ≡ Err error → (w : Warns known warnings result part) → (error ≡ WantsMemory) ⊎ (((why : Why) × (error ≡ Host Print why)) ⊎ Settles known refusal (Some error)) → (e ≡ no_memory) ⊎ (e ≡ plan_error set env [] error) → Outcome {T = T} (option_map (plan_error set env []) (refusal look)) (prints Warning (warnings w.told look)) part (Err e)
+pub unplanned_outcome : {X : Type 0} (T : Type 0) (known : List Answer) (warnings : Bool → Look → List (List ℕ)) (refusal : Look → Option PlanError) (set : BuildConfig) (env : EnvSeen) (part : List Event) (result : Result X PlanError) (error : PlanError) (e : ErrorSeen) (look : Look) → Agrees look known → result ≡ Err error → (w : Warns known warnings result part) → (error ≡ WantsMemory) ⊎ (((why : Why) × (error ≡ Host Print why)) ⊎ Settles known refusal (Some error)) → (e ≡ no_memory) ⊎ (e ≡ plan_error set env [] error) → Outcome {T = T} (option_map (plan_error set env []) (refusal look)) (prints Warning (warnings w.warns_of_link look)) part (Err e)
 unplanned_outcome {X} T known warnings refusal set env part result error e look agree is w cause made =
-    let settled : (part ≡ []) ⊎ Settles known (warnings w.told) w.lines = subst (λ (r : Result X PlanError). AreLines known (warnings w.told) w.lines part r) is w.settled in
+    let settled : (part ≡ []) ⊎ Settles known (warnings w.warns_of_link) w.lines = subst (λ (r : Result X PlanError). AreLines known (warnings w.warns_of_link) w.lines part r) is w.settled in
     let printed : IsPartly (prints Warning w.lines) part × EndsPrinting part error = subst (λ (r : Result X PlanError). Printed w.lines part r) is w.printed in
-    let partly : IsPartly (prints Warning (warnings w.told look)) part = settled_lines known (warnings w.told) w.lines part look agree settled printed.0 in
-    (partly, printed_cause set env (prints Warning (warnings w.told look)) part error e (refusal look) partly printed.1 made (at cause))
+    let partly : IsPartly (prints Warning (warnings w.warns_of_link look)) part = settled_lines known (warnings w.warns_of_link) w.lines part look agree settled printed.0 in
+    (partly, printed_cause set env (prints Warning (warnings w.warns_of_link look)) part error e (refusal look) partly printed.1 made (at cause))
   where
     at : (error ≡ WantsMemory) ⊎ (((why : Why) × (error ≡ Host Print why)) ⊎ Settles known refusal (Some error)) → (error ≡ WantsMemory) ⊎ (((why : Why) × (error ≡ Host Print why)) ⊎ (refusal look ≡ Some error))
     at (inl wants) = inl wants

@@ -18,7 +18,7 @@ use Rattle.cc_build.specs.Stage.{Stage, run_stages}
 -- nothing is refused behind the folder, and this is the plan
 pub record Plans (set : BuildConfig) (env : EnvSeen) (output : List ℕ) (plan : Plan) (look : Look) : Type 0 where
   pub allowed : late_refusal set env look ≡ None
-  pub warnings : plan.warnings ≡ warning_lines set env plan.told look
+  pub warnings : plan.warnings ≡ warning_lines set env plan.warns_of_link look
   pub compiles : plan.compiles.items ≡ compiles_of set env look
   pub archives : plan.archives.items ≡ archives_of set env output
   pub indexes : plan.indexes.items ≡ indexes_of set env output

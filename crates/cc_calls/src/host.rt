@@ -40,29 +40,29 @@ fn compile_command_of(alloc: Global, given: &[String]) -> Read<CompileCommand> {
     Ok(CompileCommand::new(alloc, &cmd, src, dst, directory)?)
 }
 
-fn push_told(texts: &mut Vec<String>, cmd: &CompileCommand) -> Mem<()> {
+fn push_compile_command(texts: &mut Vec<String>, cmd: &CompileCommand) -> Mem<()> {
     push(texts, cmd.directory())?;
     push(texts, cmd.file())?;
     push(texts, cmd.output())?;
     push_words(texts, cmd.arguments())
 }
 
-fn told(alloc: Global, cmd: &CompileCommand) -> Answer {
+fn texts_of(alloc: Global, cmd: &CompileCommand) -> Answer {
     let mut texts = Vec::new(alloc);
-    push_told(&mut texts, cmd)?;
+    push_compile_command(&mut texts, cmd)?;
     Ok(texts)
 }
 
 // A folder, a source, an object, a program and its words; the folder, the source, the object and the arguments.
 fn compile_command(alloc: Global, given: &[String]) -> Answer {
     let cmd = compile_command_of(alloc, given)?;
-    told(alloc, &cmd)
+    texts_of(alloc, &cmd)
 }
 
 // The same, of a second compile command.
 fn compile_command_clone(alloc: Global, given: &[String]) -> Answer {
     let cmd = compile_command_of(alloc, given)?.try_clone()?;
-    told(alloc, &cmd)
+    texts_of(alloc, &cmd)
 }
 
 fn ask_of(word: &str) -> Read<Ask> {

@@ -68,7 +68,7 @@ fn push_object(texts: &mut Vec<String>, object: &Object) -> Mem<()> {
     Ok(())
 }
 
-fn told(alloc: Global, objects: &[Object]) -> Answer {
+fn texts_of(alloc: Global, objects: &[Object]) -> Answer {
     let mut texts = Vec::new(alloc);
     for object in objects {
         push_object(&mut texts, object)?;
@@ -85,7 +85,7 @@ fn objects_in(
 ) -> Answer {
     let sources = words_of(alloc, sources)?;
     match cc_plan::objects_from_files(alloc, &sources, dst, env, root_of(root)) {
-        Ok(objects) => told(alloc, &objects),
+        Ok(objects) => texts_of(alloc, &objects),
         Err(error) => refused_plan(alloc, error),
     }
 }

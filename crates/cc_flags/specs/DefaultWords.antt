@@ -79,8 +79,8 @@ width_words family target = when (is_gnu_like family) (
     else when (is target.arch "x86_64" || is target.arch "powerpc64") (word "-m64")))
 
 -- Clang is told its target, unless its name does that
-unfoldable pub is_told_target : ToolFamily → Option (List ℕ) → Info → List ℕ → Bool
-is_told_target family compiler target program =
+unfoldable pub needs_target_word : ToolFamily → Option (List ℕ) → Info → List ℕ → Bool
+needs_target_word family compiler target program =
     is_clang family && not (has_windows_target compiler target program) && not (has_android_target target program)
 
 -- the C++ library of FreeBSD, unless another is set

@@ -63,17 +63,21 @@ unfoldable pub scope_maps : List ℕ → Maps
 scope_maps scopes = record { macros = list_any is_macro_scope (scopes_of scopes); debug = list_any is_object_scope (scopes_of scopes) }
 
 -- what Cargo wants mapped: nothing unless it names scopes and pairs
-unfoldable pub trim_maps : ToolFamily → Bool → Option (List ℕ) → Option (List ℕ) → Maps
-trim_maps family inherits None remap = no_maps
-trim_maps family inherits (Some scopes) remap = if inherits && not (is_cl family) && is_some remap then scope_maps scopes else no_maps
+unfoldable pub trim_maps : Option (List ℕ) → Option (List ℕ) → Maps
+trim_maps None remap = no_maps
+trim_maps (Some scopes) remap = if is_some remap then scope_maps scopes else no_maps
+
+-- what is taken over of that
+unfoldable pub taken_over : Bool → ToolFamily → Maps → Maps
+taken_over inherits family maps = if inherits && not (is_cl family) then maps else no_maps
 
 -- the pairs of a remapped source path
 abbrev pub remap_pair : List ℕ × List ℕ → List ℕ
 remap_pair entry = entry.0 ++ codes "=" ++ entry.1
 
 -- what Cargo wants told as others
-abbrev pub cargo_maps : Bool → List (List ℕ × List ℕ) → ToolFamily → Maps
-cargo_maps inherits env family = trim_maps family inherits (last_value env (codes "CARGO_TRIM_PATHS_SCOPE")) (last_value env (codes "CARGO_TRIM_PATHS_REMAP"))
+abbrev pub cargo_maps : List (List ℕ × List ℕ) → Maps
+cargo_maps env = trim_maps (last_value env (codes "CARGO_TRIM_PATHS_SCOPE")) (last_value env (codes "CARGO_TRIM_PATHS_REMAP"))
 
 -- what the settings want told as others: each path that is remapped, in macros and in debug information
 unfoldable pub set_maps : ToolFamily → List (List ℕ × List ℕ) → Maps

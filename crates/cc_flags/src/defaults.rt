@@ -184,14 +184,14 @@ pub fn push_width_words(words: &mut Words, family: ToolFamily, target: &TargetIn
 
 /// Whether Clang is to get `--target`: not where the name of `program` is a wrapper's that gives it, which for Windows
 /// counts only where no `compiler` is set. False for other families. It takes no memory.
-#[tactic(auto, unfolding(crate::specs::DefaultWords::is_told_target))]
-pub fn is_told_target(
+#[tactic(auto, unfolding(crate::specs::DefaultWords::needs_target_word))]
+pub fn needs_target_word(
     family: ToolFamily,
     compiler: Option<&str>,
     target: &TargetInfo,
     program: &str,
 ) -> bool
-    ensures { result ≡ spec.is_told_target family (option_copied compiler.entry)
+    ensures { result ≡ spec.needs_target_word family (option_copied compiler.entry)
         (info_seen target.now) program.now }
 {
     is_clang(family)

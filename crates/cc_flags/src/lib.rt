@@ -30,7 +30,7 @@ pub use cc_text::{is_among, is_cl, is_clang, is_clang_cl, is_gnu, is_gnu_like, i
 pub use compiler_names::name_of;
 pub use debug::{keeps_frame_pointers, push_debug_words, push_frame_pointer_words, push_leaf_word};
 pub use defaults::{
-    is_qnx, is_told_target, is_wasm_linux, lacks_qnx_variant, push_clang_target_words,
+    is_qnx, is_wasm_linux, lacks_qnx_variant, needs_target_word, push_clang_target_words,
     push_linkage_words, push_optimisation_words, push_position_independence_words, push_qnx_words,
     push_sanitizer_words, push_standard_library_words, push_wasi_words, push_width_words,
 };
@@ -39,7 +39,7 @@ pub use flags::RustcCodegenFlags;
 pub use gnu::{push_bare_and_arm_words, push_gnu_words, push_processor_words, push_riscv_words};
 pub use maps::{
     Maps, cargo_maps, push_map_asks, push_map_lacks, push_pairs_words, remap_pairs, set_maps,
-    taken_maps, trim_pairs,
+    taken_maps, taken_over, trim_pairs,
 };
 pub use texts::{has, lent, value_or_empty};
 pub use visual_studio::{push_visual_studio_target_words, push_visual_studio_words};

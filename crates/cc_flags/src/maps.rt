@@ -147,17 +147,11 @@ fn scope_maps(scopes: &str) -> Maps
 
 /// What Cargo wants mapped: nothing unless it names scopes and pairs.
 #[tactic(auto, unfolding(crate::specs::MapWords::trim_maps))]
-pub(crate) fn trim_maps(
-    family: ToolFamily,
-    inherits: bool,
-    scopes: Option<&str>,
-    remap: Option<&str>,
-) -> Maps
-    ensures { result ≡ spec.trim_maps family inherits (option_copied scopes.entry)
-        (option_copied remap.entry) }
+pub(crate) fn trim_maps(scopes: Option<&str>, remap: Option<&str>) -> Maps
+    ensures { result ≡ spec.trim_maps (option_copied scopes.entry) (option_copied remap.entry) }
 {
     match scopes {
-        Some(scopes) if inherits && !is_cl(family) && remap.is_some() => scope_maps(scopes),
+        Some(scopes) if remap.is_some() => scope_maps(scopes),
         _ => NONE,
     }
 }
@@ -188,13 +182,25 @@ pub fn trim_pairs(alloc: Global, remap: &str) -> Mem<Words>
 
 /// What Cargo wants mapped by its setting `trim-paths` (The Cargo Book, "Unstable Features", "Profile `trim-paths`
 /// option"). Of the scopes between commas in `CARGO_TRIM_PATHS_SCOPE`, `macro` wants macros, and `object` and `all`
-/// want both, since objects hold both. Nothing where `inherits` is false, where that or `CARGO_TRIM_PATHS_REMAP` is
-/// unset, and for `cl.exe`, which has no such flags. It takes no memory.
-pub fn cargo_maps(inherits: bool, env: &EnvSnapshot, family: ToolFamily) -> Maps
-    ensures { result ≡ spec.cargo_maps inherits env.now family }
+/// want both, since objects hold both. Nothing where that or `CARGO_TRIM_PATHS_REMAP` is unset. It takes no memory.
+pub fn cargo_maps(env: &EnvSnapshot) -> Maps
+    ensures { result ≡ spec.cargo_maps env.now }
 {
     let scopes = env.get("CARGO_TRIM_PATHS_SCOPE");
-    trim_maps(family, inherits, scopes, env.get("CARGO_TRIM_PATHS_REMAP"))
+    trim_maps(scopes, env.get("CARGO_TRIM_PATHS_REMAP"))
+}
+
+/// What a build takes over of what Cargo wants mapped: nothing where `inherits` is false, and for `cl.exe`, which has no
+/// such flags. It takes no memory.
+#[tactic(auto, unfolding(crate::specs::MapWords::taken_over))]
+pub fn taken_over(inherits: bool, family: ToolFamily, maps: Maps) -> Maps
+    ensures { result ≡ spec.taken_over inherits family maps }
+{
+    if inherits && !is_cl(family) {
+        maps
+    } else {
+        NONE
+    }
 }
 
 /// What the settings want mapped: macros and debug information, where there is a path to remap; nothing for

@@ -20,7 +20,8 @@ use Rattle.cc_host.specs.declared.event.Event.TheVariants.{Ran, Missing, Made, R
 abbrev pub IsOnly : (Step → Bool) → Event → Type 0
 IsOnly test event = ((step : Step) → step_of event ≡ step ∷ [] → test step ≡ true) × ((step : Step) → Refuses step event → test step ≡ true)
 
-or_false : (b c : Bool) → (b || c) ≡ false → (b ≡ false) × (c ≡ false)
+-- where none of two holds, each doesn't
+pub or_false : (b c : Bool) → (b || c) ≡ false → (b ≡ false) × (c ≡ false)
 or_false true c e = absurd (cc)
 or_false false c e = (refl, e)
 

@@ -17,6 +17,7 @@ use Rattle.cc_host.specs.declared.event.News.{News}
 use Rattle.cc_host.specs.declared.event.Status.{Status}
 use Rattle.cc_host.specs.declared.child.RunningChild.{RunningChild}
 use Rattle.cc_host.specs.declared.script.Scripted.{Scripted}
+use Rattle.cc_host.proofs.Order.{or_false}
 use Rattle.cc_host.proofs.ChildLogLemmas.{live_then, below_both, below_lacks, above_lacks}
 
 -- what one child reported
@@ -279,10 +280,6 @@ before_next earlier n k (j ∷ children) is b a =
     one : (un : Bool) → Below (mutes_if un n.id) j.id
     one true = (subst (λ id. id < j.id) (sym is) a.0, tt)
     one false = tt
-
-or_false : (m un : Bool) → (m || un) ≡ false → (m ≡ false) × (un ≡ false)
-or_false true un h = absurd (cc)
-or_false false un h = (refl, h)
 
 -- a child that stays heard isn't among those that fail to be read
 heed_here : (scripts : List Scripted) (us earlier : List ℕ) (k : RunningChild) (children : List RunningChild) → (k.mute ≡ false → Contains us k.id → ⊥) → Below earlier k.id → Above k.id (ids children) → (k.mute || (news_of scripts k).unread) ≡ false → Contains (us ++ (earlier ++ (mutes_of (news_of scripts k) ++ mutes scripts children))) k.id → ⊥

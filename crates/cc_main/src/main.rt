@@ -109,7 +109,7 @@ fn run<W: World, H: Host<W>>(
 }
 
 // What the program answers on standard output where its first word asks for that.
-fn told_of(words: &[String]) -> Option<&'static str> {
+fn answer_to(words: &[String]) -> Option<&'static str> {
     match words.first()?.as_str() {
         "--help" => Some(HELP),
         "--version" => Some(VERSION),
@@ -126,7 +126,7 @@ fn main(rt: HostRuntime) -> io::Result<ExitCode> {
         }
         Err(error) => return Err(error),
     };
-    if let Some(text) = told_of(&words) {
+    if let Some(text) = answer_to(&words) {
         print!(rt; "{text}")?;
         return Ok(ExitCode::from(0));
     }

@@ -42,8 +42,8 @@ allowed_by set env given settled allowed = settles_so settled (λ look is. rw gi
 
 -- ---- plans without sources, and with some
 
-pub no_warnings : {known : List Answer} {lines : List (List ℕ)} (set : BuildConfig) (env : EnvSeen) (told : Bool) → set.files ≡ [] → lines ≡ [] → Settles known (warning_lines set env told) lines
-no_warnings set env told none is = record { is = λ look a. let e : is_empty set.files ≡ true = ap is_empty none in rw e (sym is) }
+pub no_warnings : {known : List Answer} {lines : List (List ℕ)} (set : BuildConfig) (env : EnvSeen) (warns_of_link : Bool) → set.files ≡ [] → lines ≡ [] → Settles known (warning_lines set env warns_of_link) lines
+no_warnings set env warns_of_link none is = record { is = λ look a. let e : is_empty set.files ≡ true = ap is_empty none in rw e (sym is) }
 
 pub no_compiles : {known : List Answer} {cmds : List CommandSeen} (set : BuildConfig) (env : EnvSeen) → set.files ≡ [] → cmds ≡ [] → Settles known (compiles_of set env) cmds
 no_compiles set env none is = record { is = λ look a. rw none (sym is) }
@@ -56,8 +56,8 @@ pub no_refused : {known : List Answer} (set : BuildConfig) (env : EnvSeen) (e : 
 no_refused set env e none (inl memory) = inl memory
 no_refused set env e none (inr refused) = inr (no_refusal set env none refused)
 
-pub some_warnings : {known : List Answer} {lines : List (List ℕ)} (set : BuildConfig) (env : EnvSeen) (told : Bool) → is_empty set.files ≡ false → Settles known (tool_lines set env told) lines → Settles known (warning_lines set env told) lines
-some_warnings set env told some settled = settles_so settled (λ look is. rw some is)
+pub some_warnings : {known : List Answer} {lines : List (List ℕ)} (set : BuildConfig) (env : EnvSeen) (warns_of_link : Bool) → is_empty set.files ≡ false → Settles known (tool_lines set env warns_of_link) lines → Settles known (warning_lines set env warns_of_link) lines
+some_warnings set env warns_of_link some settled = settles_so settled (λ look is. rw some is)
 
 pub some_refusal : {known : List Answer} {refusal : Option PlanError} (set : BuildConfig) (env : EnvSeen) → is_empty set.files ≡ false → Settles known (tool_refusal set env) refusal → Settles known (late_refusal set env) refusal
 unfolding late_refusal

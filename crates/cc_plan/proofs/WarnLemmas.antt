@@ -33,7 +33,7 @@ warns_refused {X} {steady} {world} {dir} {questions} {before} {after} {old} {new
       asks = asks;
       own = among;
       extends = sym (append-nil after);
-      holds = record { told = false; lines = []; settled = inl refl; printed = (partly_none _, ends_none e own); silent = refl; childless = refl };
+      holds = record { warns_of_link = false; lines = []; settled = inl refl; printed = (partly_none _, ends_none e own); silent = refl; childless = refl };
     })
 
 are_lines : {X : Type 0} (known : List Answer) (warnings : Look → List (List ℕ)) (lines : List (List ℕ)) (part : List Event) (result : Result X PlanError) → Settles known warnings lines → AreLines known warnings lines part result
@@ -41,12 +41,12 @@ are_lines known warnings lines part (Ok x) s = s
 are_lines known warnings lines part (Err e) s = inr s
 
 -- a plan was made, and its lines were printed, or not all of them
-pub warns_printed : {X : Type 0} {steady : Bool} {world : Question → Outcome} {dir : List ℕ} {questions : Look → Question → Type 0} {before mid after : List Event} {old new : List Answer} {warnings : Bool → Look → List (List ℕ)} (told : Bool) (lines : List (List ℕ)) (result : Result X PlanError) → Asks steady world dir before mid old new → Holds new (λ look. AnswersAmong (questions look) (since before mid)) → after ≡ mid ++ since mid after → Settles new (warnings told) lines → Printed lines (since mid after) result → question_events (since mid after) ≡ [] → list_any is_of_children (since mid after) ≡ false → AsksThen steady world dir questions before after old new (Warns new warnings result)
-warns_printed {X} {steady} {world} {dir} {questions} {before} {mid} {after} {old} {new} {warnings} told lines result asks among extends settled h silent childless = record {
+pub warns_printed : {X : Type 0} {steady : Bool} {world : Question → Outcome} {dir : List ℕ} {questions : Look → Question → Type 0} {before mid after : List Event} {old new : List Answer} {warnings : Bool → Look → List (List ℕ)} (warns_of_link : Bool) (lines : List (List ℕ)) (result : Result X PlanError) → Asks steady world dir before mid old new → Holds new (λ look. AnswersAmong (questions look) (since before mid)) → after ≡ mid ++ since mid after → Settles new (warnings warns_of_link) lines → Printed lines (since mid after) result → question_events (since mid after) ≡ [] → list_any is_of_children (since mid after) ≡ false → AsksThen steady world dir questions before after old new (Warns new warnings result)
+warns_printed {X} {steady} {world} {dir} {questions} {before} {mid} {after} {old} {new} {warnings} warns_of_link lines result asks among extends settled h silent childless = record {
   mid = mid;
   rest = since mid after;
   asks = asks;
   own = among;
   extends = extends;
-  holds = record { told = told; lines = lines; settled = are_lines new (warnings told) lines (since mid after) result settled; printed = h; silent = silent; childless = childless };
+  holds = record { warns_of_link = warns_of_link; lines = lines; settled = are_lines new (warnings warns_of_link) lines (since mid after) result settled; printed = h; silent = silent; childless = childless };
 }

@@ -135,12 +135,12 @@ is_of_children (Unread id) = true
 is_of_children (Turn count) = true
 is_of_children _ = false
 
--- The lines are what the answers settle, where it is given whether the call is told of flags for the linker. Meanwhile nothing is asked,
+-- The lines are what the answers settle, where it is given whether the call is the one that warns of flags for the linker. Meanwhile nothing is asked,
 -- no child is started, heard or left alone, and no turn is made. A call that is refused for another cause prints none.
 pub record Warns {X : Type 0} (known : List Answer) (warnings : Bool → Look → List (List ℕ)) (result : Result X PlanError) (part : List Event) : Type 0 where
-  pub told : Bool
+  pub warns_of_link : Bool
   pub lines : List (List ℕ)
-  pub settled : AreLines known (warnings told) lines part result
+  pub settled : AreLines known (warnings warns_of_link) lines part result
   pub printed : Printed lines part result
   pub silent : question_events part ≡ []
   pub childless : list_any is_of_children part ≡ false

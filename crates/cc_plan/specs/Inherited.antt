@@ -3,6 +3,7 @@ use Rattle.std.specs.Prelude.{ℕ, Bool, true, not, List, [], ◌++◌, Option, 
 use Rattle.std.specs.Option.{option_map, option_and_then, option_map_or}
 use Rattle.cc_env.specs.Snapshot.{last_value}
 use Rattle.cc_flags.specs.Fields.{flags_of, refusal_of}
+use Rattle.cc_flags.specs.MapWords.{cargo_maps, trim_pairs}
 use Rattle.cc_flags.specs.Pairs.{pairs_of}
 use Rattle.cc_flags.specs.Wanted.{wanted}
 use Rattle.cc_flags.specs.declared.error.FlagError.{FlagError}
@@ -13,6 +14,7 @@ use Rattle.cc_text.specs.Quoted.{quoted}
 use Rattle.cc_text.specs.declared.family.ToolFamily.{ToolFamily}
 use Rattle.cc_text.specs.Words.{is_among}
 use Rattle.cc_plan.specs.declared.error.PlanError.{PlanError}
+use Rattle.cc_plan.specs.declared.inherited.Handed.{Handed}
 use Rattle.cc_plan.specs.declared.inherited.Rustflags.{Rustflags}
 use Rattle.cc_plan.specs.declared.error.PlanError.TheVariants.{Flag, NoMemory}
 
@@ -39,6 +41,14 @@ inherited_wrong inherits env = option_and_then refusal_of (inherited_text inheri
 -- the flags and what is wrong with them, as they are read once a run, whether or not they are taken
 abbrev pub rustflags : List (List ℕ × List ℕ) → Rustflags
 rustflags env = record { flags = inherited_flags true env; wrong = inherited_wrong true env }
+
+-- what Cargo hands down, as it is read once a run, whether or not it is taken: these flags, and paths that are shown as others
+abbrev pub handed : List (List ℕ × List ℕ) → Handed
+handed env = record {
+  rustflags = rustflags env;
+  maps = cargo_maps env;
+  pairs = trim_pairs (value_or_empty env (codes "CARGO_TRIM_PATHS_REMAP"));
+}
 
 -- why they are refused
 unfoldable pub inherited_refusal : Bool → List (List ℕ × List ℕ) → Option PlanError

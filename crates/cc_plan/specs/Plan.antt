@@ -52,13 +52,13 @@ warning_line text = codes "cargo:warning=" ++ text
 abbrev pub wanted_lines : BuildConfig → List (List ℕ) → List (List ℕ)
 wanted_lines set warnings = if set.cargo_warnings then map warning_line warnings else []
 
--- the warnings of the tool, where they are wanted; `told` says whether the call is the one that warns of flags for the linker
+-- the warnings of the tool, where they are wanted; `warns_of_link` says whether the call is the one that warns of flags for the linker
 abbrev pub tool_lines : BuildConfig → EnvSeen → Bool → Look → List (List ℕ)
-tool_lines set env told look = wanted_lines set (warnings_of set env told look)
+tool_lines set env warns_of_link look = wanted_lines set (warnings_of set env warns_of_link look)
 
 -- the warnings of the plan, where there is a source
 abbrev pub warning_lines : BuildConfig → EnvSeen → Bool → Look → List (List ℕ)
-warning_lines set env told look = if is_empty set.files then [] else tool_lines set env told look
+warning_lines set env warns_of_link look = if is_empty set.files then [] else tool_lines set env warns_of_link look
 
 -- the folder is made where there is a source
 unfoldable pub folder_steps : BuildConfig → EnvSeen → List Step

@@ -9,14 +9,14 @@ use Rattle.cc_plan.specs.Given.{level_of, or_variable, is_cargos_target, has_no_
 use Rattle.cc_plan.specs.Target.{target_name}
 use Rattle.cc_plan.specs.declared.error.PlanError.{PlanError}
 use Rattle.cc_plan.specs.declared.error.PlanError.TheVariants.{NotSet, QnxArch}
-use Rattle.cc_flags.specs.DefaultWords.{optimisation_words, position_independence_words, wasi_words, qnx_words, width_words, is_told_target, clang_target_words, linkage_words, standard_library_words, sanitizer_words, value_or_empty, lacks_qnx_variant, is_wasm_linux}
+use Rattle.cc_flags.specs.DefaultWords.{optimisation_words, position_independence_words, wasi_words, qnx_words, width_words, needs_target_word, clang_target_words, linkage_words, standard_library_words, sanitizer_words, value_or_empty, lacks_qnx_variant, is_wasm_linux}
 use Rattle.cc_text.specs.Families.{is_gnu, is_gnu_like, is_visual_studio}
 use Rattle.cc_flags.specs.GnuWords.{gnu_words, processor_words, bare_and_arm_words, riscv_words}
 use Rattle.cc_plan.specs.SettingWords.{standard_words, include_words, error_words, warning_words, extra_warning_words, flag_words, flag_asks, definition_words, environment_words}
 use Rattle.cc_flags.specs.DebugWords.{debug_words, frame_pointer_words, keeps_frame_pointers, leaf_word}
 use Rattle.cc_plan.specs.Inherited.{inherited_cpu, inherited_words, taken_words}
 use Rattle.cc_flags.specs.declared.maps.Maps.{Maps}
-use Rattle.cc_flags.specs.MapWords.{cargo_maps, set_maps, taken_maps, map_asks, pairs_words, trim_pairs, remap_pair}
+use Rattle.cc_flags.specs.MapWords.{cargo_maps, taken_over, set_maps, taken_maps, map_asks, pairs_words, trim_pairs, remap_pair}
 use Rattle.cc_flags.specs.Texts.{has}
 use Rattle.cc_text.specs.Words.{is_among}
 use Rattle.cc_flags.specs.VisualStudioWords.{visual_studio_words, visual_studio_target_words}
@@ -48,7 +48,7 @@ gnu_like_words c = when (is_gnu_like c.compiler.family) (
 
 -- the compiler is Clang, and the target is named to it
 abbrev pub names_target : CompilationSeen → Bool
-names_target c = is_told_target c.compiler.family c.set.compiler c.target c.compiler.choice.path
+names_target c = needs_target_word c.compiler.family c.set.compiler c.target c.compiler.choice.path
 
 -- the sysroot of musl for WebAssembly, where it is set
 abbrev pub musl_sysroot : CompilationSeen → Option (List ℕ)
@@ -101,7 +101,7 @@ default_words c supported =
 
 -- which paths Cargo wants told as others, and which the settings
 abbrev pub trimmed : CompilationSeen → Maps
-trimmed c = cargo_maps c.set.inherit_trim_paths c.env.inherited c.compiler.family
+trimmed c = taken_over c.set.inherit_trim_paths c.compiler.family (cargo_maps c.env.inherited)
 
 abbrev pub remapped : CompilationSeen → Maps
 remapped c = set_maps c.compiler.family c.set.remap_source_paths

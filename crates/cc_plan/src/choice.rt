@@ -141,7 +141,7 @@ fn prefixed_compiler(alloc: Global, cpp: bool, target: &TargetInfo, prefix: &str
 fn links_by_plugin(inputs: &Inputs<'_>) -> bool
     ensures { result ≡ spec.links_by_plugin inputs.now.env.now }
 {
-    match &inputs.rustflags.flags {
+    match &inputs.handed.rustflags.flags {
         Some(flags) => flags.linker_plugin_lto(),
         None => false,
     }

@@ -12,7 +12,7 @@ ghost use Rattle.cc_plan.specs.Refusal.{AllowedBy, RefusedBy};
 use crate::compilation::{Compilation, Inputs};
 use crate::compiler::{Compiler, compiler_of};
 use crate::given::probe_folder;
-use crate::inherited::read_rustflags;
+use crate::inherited::read_handed;
 use crate::printing::{print_warnings, wanted_lines};
 use crate::support::{bare_compiler, flag_settings, is_for_linker, plain_question};
 use crate::tool::{check_compiler, found_warnings, known_target};
@@ -36,7 +36,7 @@ fn checked_question(given: &Compilation<'_>, flag: &str) -> Result<Question, Pla
         alloc: given.alloc,
         set: &settings,
         env: given.env,
-        rustflags: given.rustflags,
+        handed: given.handed,
         target: given.target,
         compiler: given.compiler,
     };
@@ -131,12 +131,12 @@ fn plan_support<W: World, H: Host<W>>(
     ensures own { IfErr result IsOwn }
 {
     let target = known_target(alloc, set, env)?;
-    let rustflags = read_rustflags(alloc, env.inherited())?;
+    let handed = read_handed(alloc, env.inherited())?;
     let inputs = Inputs {
         alloc,
         set,
         env,
-        rustflags: &rustflags,
+        handed: &handed,
         target: &target,
     };
     let (compiler, bare) = found_compiler(rt, &inputs, sight)?;
@@ -144,7 +144,7 @@ fn plan_support<W: World, H: Host<W>>(
         alloc,
         set,
         env,
-        rustflags: &rustflags,
+        handed: &handed,
         target: &target,
         compiler: &bare,
     };
@@ -153,7 +153,7 @@ fn plan_support<W: World, H: Host<W>>(
         alloc,
         set,
         env,
-        rustflags: &rustflags,
+        handed: &handed,
         target: &target,
         compiler: &compiler,
     };
@@ -182,7 +182,7 @@ pub fn flag_support<W: World, H: Host<W>>(
     ensures same_answers { sight.new.answers.ghost_name ≡ sight.old.answers.ghost_name }
     ensures asks { AsksThenWarns W.steady W.answer H.log set.now env.now
         (SupportAsks set.now env.now flag.now) sight.old sight.new
-        (λ told. spec.support_lines set.now env.now) result }
+        (λ warns_of_link. spec.support_lines set.now env.now) result }
     ensures compiler { IfOk result (λ found. Settles sight.new.answers.now
         (compiler_of set.now env.now) found.compiler) }
     ensures verdict { IfOk result (λ found. Settles sight.new.answers.now

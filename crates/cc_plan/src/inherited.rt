@@ -7,7 +7,9 @@ ghost use Rattle.cc_plan.specs.Refusal.{AllowedBy, RefusedBy};
 use crate::PlanError;
 use crate::compilation::Compilation;
 use cc_env::EnvSnapshot;
-use cc_flags::{FlagError, RustcCodegenFlags, is_among};
+use cc_flags::{
+    FlagError, Maps, RustcCodegenFlags, cargo_maps, is_among, trim_pairs, value_or_empty,
+};
 use cc_text::{Mem, NoMemory, Text, Words, quoted};
 use std::alloc::Global;
 
@@ -25,7 +27,7 @@ pub(crate) struct Rustflags {
 /// "Environment variables Cargo sets for build scripts", that a build script finds them there, with a
 /// byte 0x1f between each two. Want of memory refuses.
 #[tactic(auto, unfolding(crate::specs::Inherited::inherited_flags))]
-pub(crate) fn read_rustflags(alloc: Global, env: &EnvSnapshot) -> Mem<Rustflags>
+fn read_rustflags(alloc: Global, env: &EnvSnapshot) -> Mem<Rustflags>
     ensures { IfOk result (λ flags. flags ≡ spec.rustflags env.now) }
 {
     match env.get("CARGO_ENCODED_RUSTFLAGS") {
@@ -47,6 +49,31 @@ pub(crate) fn read_rustflags(alloc: Global, env: &EnvSnapshot) -> Mem<Rustflags>
     }
 }
 
+/// What Cargo hands down, as it is read once a run, whether or not it is taken: flags of Rust code, and
+/// paths that are shown as others.
+#[derive(Drop, Debug)]
+pub(crate) struct Handed {
+    /// The flags.
+    pub rustflags: Rustflags,
+    /// Where paths are shown as others.
+    pub maps: Maps,
+    /// The paths, each as `FROM=TO`.
+    pub pairs: Words,
+}
+
+/// Reads them from the environment. Want of memory refuses.
+pub(crate) fn read_handed(alloc: Global, env: &EnvSnapshot) -> Mem<Handed>
+    ensures { IfOk result (λ handed. handed ≡ spec.handed env.now) }
+{
+    let rustflags = read_rustflags(alloc, env)?;
+    let pairs = trim_pairs(alloc, value_or_empty(env, "CARGO_TRIM_PATHS_REMAP"))?;
+    Ok(Handed {
+        rustflags,
+        maps: cargo_maps(env),
+        pairs,
+    })
+}
+
 /// The flags, where they are taken: none where they aren't, none is set, or one is wrong. It takes no
 /// memory.
 #[tactic(auto, unfolding(crate::specs::Inherited::inherited_flags))]
@@ -55,7 +82,7 @@ pub(crate) fn taken_flags<'a>(given: &Compilation<'a>) -> Option<&'a RustcCodege
         ≡ spec.inherited_flags given.now.set.now.inherit_rustflags given.now.env.now.inherited }
 {
     if given.set.inherit_rustflags {
-        given.rustflags.flags.as_ref()
+        given.handed.rustflags.flags.as_ref()
     } else {
         None
     }
@@ -73,7 +100,7 @@ pub(crate) fn check_rustflags(given: &Compilation<'_>) -> Result<(), PlanError>
     if !given.set.inherit_rustflags {
         return Ok(());
     }
-    match &given.rustflags.wrong {
+    match &given.handed.rustflags.wrong {
         None => Ok(()),
         Some(FlagError::InvalidFlag(flag)) => Err(PlanError::Flag(flag.try_clone()?)),
         Some(FlagError::NoMemory) => Err(PlanError::NoMemory),

@@ -57,7 +57,7 @@ pub(crate) fn leaves_off(
 
 /// Whether this call, of those that share its caches, is the one that warns of flags that are left off. No clause says which call it is,
 /// since the mark stands behind a lock.
-pub(crate) fn is_told<W: World>(
+pub(crate) fn is_first_warning<W: World>(
     rt: &impl Wait,
     caches: &Caches<W>,
     set: &BuildConfig,

@@ -37,7 +37,7 @@ pub struct Sources {
 #[derive(Drop, Debug)]
 pub struct Plan {
     /// Whether this run, of those that share its caches, is the one that warns of flags for the linker.
-    pub told: bool,
+    pub warns_of_link: bool,
     /// The warnings as lines for Cargo, without line feeds, which are printed first.
     pub warnings: Words,
     /// One command a source, in their order. They share one environment.
@@ -108,7 +108,7 @@ pub fn plan_sources(
 // The warnings and the commands that compile.
 #[derive(Drop, Debug)]
 struct Compiles {
-    told: bool,
+    warns_of_link: bool,
     warnings: Words,
     cmds: Vec<Command>,
 }
@@ -122,7 +122,7 @@ fn no_compiles(alloc: Global, set: &BuildConfig, env: &BuildEnv) -> Result<Compi
 {
     check_platform(alloc, set, env)?;
     Ok(Compiles {
-        told: false,
+        warns_of_link: false,
         warnings: Words::new(alloc),
         cmds: Vec::new(alloc),
     })
@@ -141,7 +141,7 @@ fn tool_compiles<W: World, H: Host<W>>(
     ensures asks { AsksToPlan W.steady W.answer H.log H.patience set.now env.now
         sight.old sight.new }
     ensures warnings { IfOk result (λ plan.
-        Settles sight.new.answers.now (tool_lines set.now env.now plan.told) plan.warnings) }
+        Settles sight.new.answers.now (tool_lines set.now env.now plan.warns_of_link) plan.warnings) }
     ensures compiles { IfOk result (λ plan.
         Settles sight.new.answers.now (compiles_of set.now env.now) plan.cmds.items) }
     ensures allowed { AllowedIn sight.new (tool_refusal set.now env.now) result }
@@ -151,7 +151,7 @@ fn tool_compiles<W: World, H: Host<W>>(
     let warnings = wanted_lines(alloc, set, &plan.warned.warnings)?;
     let cmds = compile_commands(alloc, set, &plan.target, &plan.tool, objects)?;
     Ok(Compiles {
-        told: plan.warned.is_first,
+        warns_of_link: plan.warned.is_first,
         warnings,
         cmds,
     })
@@ -170,7 +170,7 @@ fn plan_compiles<W: World, H: Host<W>>(
     ensures asks { AsksToPlan W.steady W.answer H.log H.patience set.now env.now
         sight.old sight.new }
     ensures warnings { IfOk result (λ plan.
-        Settles sight.new.answers.now (lines_of_warnings set.now env.now plan.told) plan.warnings) }
+        Settles sight.new.answers.now (lines_of_warnings set.now env.now plan.warns_of_link) plan.warnings) }
     ensures compiles { IfOk result (λ plan.
         Settles sight.new.answers.now (compiles_of set.now env.now) plan.cmds.items) }
     ensures allowed { AllowedIn sight.new (late_refusal set.now env.now) result }
@@ -202,7 +202,7 @@ pub fn plan_commands<W: World, H: Host<W>>(
     ensures asks { AsksToPlan W.steady W.answer H.log H.patience set.now env.now
         sight.old sight.new }
     ensures warnings { IfOk result (λ plan.
-        Settles sight.new.answers.now (lines_of_warnings set.now env.now plan.told) plan.warnings) }
+        Settles sight.new.answers.now (lines_of_warnings set.now env.now plan.warns_of_link) plan.warnings) }
     ensures compiles { IfOk result (λ plan.
         Settles sight.new.answers.now (compiles_of set.now env.now) plan.compiles.items) }
     ensures archives { IfOk result (λ plan.
@@ -221,7 +221,7 @@ pub fn plan_commands<W: World, H: Host<W>>(
     let folder = parent(library).unwrap_or("");
     let lines = link_lines(alloc, sources.name.as_str(), folder)?;
     Ok(Plan {
-        told: compiles.told,
+        warns_of_link: compiles.warns_of_link,
         warnings: compiles.warnings,
         compiles: compiles.cmds,
         archives,

@@ -167,7 +167,7 @@ fn question_of(given: &Compilation<'_>, flag: &str) -> Mem<Option<Question>>
         alloc: given.alloc,
         set: &settings,
         env: given.env,
-        rustflags: given.rustflags,
+        handed: given.handed,
         target: given.target,
         compiler: given.compiler,
     };
@@ -289,7 +289,7 @@ fn supported_among<W: World, H: Host<W>>(
         alloc: given.alloc,
         set: given.set,
         env: given.env,
-        rustflags: given.rustflags,
+        handed: given.handed,
         target: given.target,
         compiler: &compiler,
     };

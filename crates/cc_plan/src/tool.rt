@@ -18,8 +18,8 @@ ghost use Rattle.cc_plan.specs.declared.error.PlanError.TheVariants.{NoMemory as
 use crate::compilation::{Compilation, Inputs};
 use crate::compiler::{Compiler, compiler_of};
 use crate::given::{host_of, level_of, target_of};
-use crate::inherited::{check_rustflags, push_lost, read_rustflags};
-use crate::link_warning::{is_told, leaves_off};
+use crate::inherited::{check_rustflags, push_lost, read_handed};
+use crate::link_warning::{is_first_warning, leaves_off};
 use crate::printing::{print_warnings, wanted_lines};
 use crate::support::supported_words;
 use crate::words::{check_defaults, remapped, rust_words, tool_warnings, tool_words, trimmed};
@@ -311,7 +311,7 @@ fn warnings_by<W: World>(
     let set = given.set;
     let mut warnings = other_warnings(given, supported)?;
     let leaves_off = leaves_off(given.alloc, set, given.env, given.compiler.family)?;
-    let is_first = is_told(rt, caches, set, leaves_off);
+    let is_first = is_first_warning(rt, caches, set, leaves_off);
     push_link_warning(&mut warnings, set, leaves_off, is_first)?;
     Ok(Warned { is_first, warnings })
 }
@@ -337,12 +337,12 @@ pub(crate) fn plan_tool<W: World, H: Host<W>>(
     ensures own { IfErr result IsOwn }
 {
     let target = given_target(alloc, set, env)?;
-    let rustflags = read_rustflags(alloc, env.inherited())?;
+    let handed = read_handed(alloc, env.inherited())?;
     let inputs = Inputs {
         alloc,
         set,
         env,
-        rustflags: &rustflags,
+        handed: &handed,
         target: &target,
     };
     let compiler = compiler_of(rt, &inputs, sight)?;
@@ -350,7 +350,7 @@ pub(crate) fn plan_tool<W: World, H: Host<W>>(
         alloc,
         set,
         env,
-        rustflags: &rustflags,
+        handed: &handed,
         target: &target,
         compiler: &compiler,
     };

@@ -113,7 +113,7 @@ fn push_scripts(
     Ok(())
 }
 
-fn tells(answer: &Answer, question: &Question) -> bool {
+fn answers_it(answer: &Answer, question: &Question) -> bool {
     answer.ask == question.ask && answer.program.as_str() == question.program.as_str()
 }
 
@@ -125,7 +125,7 @@ fn uses_answer(event: &Event, answer: &Answer, later: &[Answer]) -> bool {
             ..
         } => false,
         Event::Answered { question, .. } => {
-            tells(answer, question) && !later.iter().any(|other| tells(other, question))
+            answers_it(answer, question) && !later.iter().any(|other| answers_it(other, question))
         }
         _ => false,
     }

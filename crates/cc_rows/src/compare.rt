@@ -118,7 +118,7 @@ pub fn compare_lines(
 }
 
 // Compares what is told of an error under a name, where that is expected.
-fn compare_told(
+fn compare_text(
     alloc: Global,
     to: &mut Compared,
     name: &str,
@@ -145,9 +145,9 @@ fn compare_error(
         None => to.differ("an error", "no error"),
         Some(error) => {
             let kind = kind_name(error.kind());
-            compare_told(alloc, to, "error of kind", &expected.kind, kind)?;
-            compare_told(alloc, to, "error about", &expected.subject, error.subject())?;
-            compare_told(alloc, to, "error", &expected.message, error.message())
+            compare_text(alloc, to, "error of kind", &expected.kind, kind)?;
+            compare_text(alloc, to, "error about", &expected.subject, error.subject())?;
+            compare_text(alloc, to, "error", &expected.message, error.message())
         }
     }
 }

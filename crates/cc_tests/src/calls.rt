@@ -57,7 +57,7 @@ fn text_of(alloc: Global, ran: &Ran) -> Mem<String> {
     }
 }
 
-fn told<W: World, H: Host<W>>(
+fn line_of<W: World, H: Host<W>>(
     alloc: Global,
     host: &mut H,
     cmd: &Command,
@@ -77,7 +77,7 @@ pub(crate) fn check_output<W: World, H: Host<W>>(
     pipes: Pipes,
     want: &str,
 ) -> Result<(), Fail> {
-    let text = told(rt.alloc(), host, cmd, pipes)?;
+    let text = line_of(rt.alloc(), host, cmd, pipes)?;
     assert_eq!(rt; text.as_str(), want);
     Ok(())
 }

@@ -121,7 +121,7 @@ fn answer_as_clang_cl(host: &mut BenchHost, alloc: Global) -> Mem<()> {
 }
 
 // The family and the path of the compiler.
-fn told(
+fn compiler_of(
     rt: &(impl Wait + AllocGlobal),
     build: &Build<Bench>,
     host: &mut BenchHost,
@@ -131,13 +131,13 @@ fn told(
     Ok(format!(in rt.alloc(); "{family:?} {path}")?)
 }
 
-fn told_of_clone(
+fn compiler_of_clone(
     rt: &(impl Wait + AllocGlobal),
     build: &Build<Bench>,
     host: &mut BenchHost,
 ) -> Result<String, Fail> {
     let clone = build.try_clone()?;
-    told(rt, &clone, host)
+    compiler_of(rt, &clone, host)
 }
 
 // A build and its clone have this compiler.
@@ -147,8 +147,8 @@ fn check_compilers(
     host: &mut BenchHost,
     want: &str,
 ) -> Result<(), Fail> {
-    assert_eq!(rt; told(rt, build, host)?.as_str(), want);
-    assert_eq!(rt; told_of_clone(rt, build, host)?.as_str(), want);
+    assert_eq!(rt; compiler_of(rt, build, host)?.as_str(), want);
+    assert_eq!(rt; compiler_of_clone(rt, build, host)?.as_str(), want);
     Ok(())
 }
 

@@ -162,8 +162,8 @@ asked_none steady world dir asks part e =
     }
 
 module _ (steady : Bool) (world : Question → Outcome) (dir : List ℕ) (asks : Look → Question → Type 0) (a b c : List Event) (first : question_events a ≡ []) (last : question_events c ≡ []) where
-  told : answers (a ++ (b ++ c)) ≡ answers b
-  told =
+  same_answers : answers (a ++ (b ++ c)) ≡ answers b
+  same_answers =
       flat_map-append answer_of a (b ++ c) ∙ ap (λ l. l ++ answers (b ++ c)) (aside_answers a first) ∙ flat_map-append answer_of b c ∙ ap (λ l. answers b ++ l) (aside_answers c last) ∙ append-nil (answers b)
 
   opened : opens (a ++ (b ++ c)) ≡ opens b
@@ -177,24 +177,24 @@ module _ (steady : Bool) (world : Question → Outcome) (dir : List ℕ) (asks :
   -- questions between steps that ask nothing
   pub asked_around : Asked steady world dir asks b → Asked steady world dir asks (a ++ (b ++ c))
   asked_around k = record {
-    once = subst NoTwice (sym told) k.once;
+    once = subst NoTwice (sym same_answers) k.once;
     closed = closed_too ∙ k.closed ∙ sym opened;
     excused = excused_on 0 a (b ++ c) (aside_excused 0 a first) (subst (λ (n : ℕ). Excused n (b ++ c)) (sym (aside_weight 0 a first)) (excused_on 0 b c k.excused (aside_excused (weight 0 b) c last)));
     founded = founded_then a (b ++ c) (aside_founded false a first) (founded_then b c k.founded (aside_founded false c last));
     probing = follows_on dir start a (b ++ c) (aside_follows dir start a first) (subst (λ (s : Stand). Follows dir s (b ++ c)) (sym (aside_stand a first)) (follows_on dir start b c k.probing (aside_follows dir (stand start b) c last)));
     dropped = ap (λ (s : Stand). s.files) (stand_on start a (b ++ c) ∙ ap (λ s. stand s (b ++ c)) (aside_stand a first) ∙ stand_on start b c) ∙ aside_files (stand start b) c last ∙ k.dropped;
-    honest = λ h. subst (All (IsWorlds world)) (sym told) (k.honest h);
-    own = own_same asks b (a ++ (b ++ c)) told k.own;
+    honest = λ h. subst (All (IsWorlds world)) (sym same_answers) (k.honest h);
+    own = own_same asks b (a ++ (b ++ c)) same_answers k.own;
   }
 
 -- what a call that asks does alone
 pub asked_by : (steady : Bool) (world : Question → Outcome) (dir : List ℕ) (asks : Look → Question → Type 0) (before after : List Event) (new : List Answer) → Asks steady world dir before after [] new → Holds new (λ look. AnswersAmong (asks look) (since before after)) → Asked steady world dir asks (since before after) × (new ≡ answers (since before after))
 asked_by steady world dir asks before after new k own =
     let part : since before after ≡ k.part = ap (λ l. since before l) k.extends ∙ drop-append_seam before k.part in
-    let tells : new ≡ answers (since before after) = k.tells ∙ ap answers (sym part) in
+    let given : new ≡ answers (since before after) = k.answered ∙ ap answers (sym part) in
     let here : Holds (answers k.part) (λ look. AnswersAmong (asks look) k.part) = subst (λ (p : List Event). Holds (answers p) (λ look. AnswersAmong (asks look) p)) part (subst (λ (l : List Answer). Holds l (λ look. AnswersAmong (asks look) (since before after))) tells own) in
-    let all : Asked steady world dir asks k.part = record { once = subst NoTwice k.tells (k.once tt); closed = k.closed; excused = k.excused; founded = k.founded; probing = k.probing; dropped = k.dropped; honest = k.honest; own = here } in
-    (subst (λ (p : List Event). Asked steady world dir asks p) (sym part) all, tells)
+    let all : Asked steady world dir asks k.part = record { once = subst NoTwice k.answered (k.once tt); closed = k.closed; excused = k.excused; founded = k.founded; probing = k.probing; dropped = k.dropped; honest = k.honest; own = here } in
+    (subst (λ (p : List Event). Asked steady world dir asks p) (sym part) all, given)
 
 fault_quiet : (b : Bool) (event : Event) → b ≡ true → (if b then [] else event ∷ []) ≡ []
 fault_quiet true event h = refl

@@ -32,7 +32,7 @@ pub asks_none : {steady : Bool} {world : Question → Outcome} {dir : List ℕ} 
 asks_none log known = record {
   part = [];
   extends = sym (append-nil log);
-  tells = sym (append-nil known);
+  answered = sym (append-nil known);
   once = λ n. n;
   asked = refl;
   closed = refl;
@@ -44,11 +44,11 @@ asks_none log known = record {
 }
 
 -- a part of a question that ends with no file open
-pub asks_of : {steady : Bool} {world : Question → Outcome} {dir : List ℕ} {before after : List Event} {old new told : List Answer} {excuse : ℕ} → Probes dir before after [] [] told excuse → new ≡ old ++ told → (NoTwice old → NoTwice new) → (steady ≡ true → All (IsWorlds world) told) → Asks steady world dir before after old new
-asks_of {steady} {world} {dir} {before} {after} {old} {new} {told} p e once honest = record {
+pub asks_of : {steady : Bool} {world : Question → Outcome} {dir : List ℕ} {before after : List Event} {old new given : List Answer} {excuse : ℕ} → Probes dir before after [] [] given excuse → new ≡ old ++ given → (NoTwice old → NoTwice new) → (steady ≡ true → All (IsWorlds world) given) → Asks steady world dir before after old new
+asks_of {steady} {world} {dir} {before} {after} {old} {new} {given} p e once honest = record {
   part = p.part;
   extends = p.extends;
-  tells = e ∙ ap (λ l. old ++ l) (sym p.tells);
+  answered = e ∙ ap (λ l. old ++ l) (sym p.answered);
   once = once;
   asked = p.asked;
   closed = sym (append-nil (drops p.part)) ∙ sym p.queue;
@@ -56,7 +56,7 @@ asks_of {steady} {world} {dir} {before} {after} {old} {new} {told} p e once hone
   founded = p.founded;
   probing = p.follows;
   dropped = p.files;
-  honest = λ s. subst (λ (l : List Answer). All (IsWorlds world) l) (sym p.tells) (honest s);
+  honest = λ s. subst (λ (l : List Answer). All (IsWorlds world) l) (sym p.answered) (honest s);
 }
 
 all_one : (P : Answer → Type 0) (a : Answer) → P a → All P (a ∷ [])
@@ -78,7 +78,7 @@ asks_then {steady} {world} {dir} {l} {m} {n} {a} {b} {c} s t =
     record {
       part = s.part ++ t.part;
       extends = t.extends ∙ ap (λ x. x ++ t.part) s.extends ∙ append_assoc l s.part t.part;
-      tells = t.tells ∙ ap (λ x. x ++ answers t.part) s.tells ∙ append_assoc a (answers s.part) (answers t.part) ∙ ap (λ x. a ++ x) (sym (flat_map-append answer_of s.part t.part));
+      answered = t.answered ∙ ap (λ x. x ++ answers t.part) s.answered ∙ append_assoc a (answers s.part) (answers t.part) ∙ ap (λ x. a ++ x) (sym (flat_map-append answer_of s.part t.part));
       once = λ x. t.once (s.once x);
       asked = list_all-append is_asked s.part t.part ∙ and_from _ _ s.asked t.asked;
       closed = flat_map-append drop_of s.part t.part ∙ ap (λ x. x ++ drops t.part) s.closed ∙ ap (λ x. opens s.part ++ x) t.closed ∙ sym (flat_map-append open_of s.part t.part);
@@ -91,7 +91,7 @@ asks_then {steady} {world} {dir} {l} {m} {n} {a} {b} {c} s t =
 
 -- answers only grow
 pub asks_grows : {steady : Bool} {world : Question → Outcome} {dir : List ℕ} {l m : List Event} {a b : List Answer} → Asks steady world dir l m a b → (more : List Answer) × (b ≡ a ++ more)
-asks_grows s = (answers s.part, s.tells)
+asks_grows s = (answers s.part, s.answered)
 
 -- ---- the answer of one call
 

@@ -31,8 +31,8 @@ pub open_none : (log : List Event) → IsTidy log → AreOpen [] log
 open_none log tidy = record { each = λ path. let t = tidy path in omega (arith, t) }
 
 -- part of a question leaves those open that it ends with
-pub open_then : {dir : List ℕ} {before after : List Event} {from to : List File} {told : List Answer} {excuse : ℕ} → AreOpen from before → Probes dir before after from to told excuse → AreOpen to after
-open_then {dir} {before} {after} {from} {to} {told} {excuse} here p = record {
+pub open_then : {dir : List ℕ} {before after : List Event} {from to : List File} {given : List Answer} {excuse : ℕ} → AreOpen from before → Probes dir before after from to given excuse → AreOpen to after
+open_then {dir} {before} {after} {from} {to} {given} {excuse} here p = record {
   each = λ path.
       let o : times path (opens after) ≡ times path (opens before) + times path (opens p.part) = ap (λ l. times path (opens l)) p.extends ∙ ap (times path) (flat_map-append open_of before p.part) ∙ times_both path (opens before) (opens p.part) in
       let d : times path (drops after) ≡ times path (drops before) + times path (drops p.part) = ap (λ l. times path (drops l)) p.extends ∙ ap (times path) (flat_map-append drop_of before p.part) ∙ times_both path (drops before) (drops p.part) in

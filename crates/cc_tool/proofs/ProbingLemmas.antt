@@ -169,7 +169,7 @@ both_excuse {dir} {l} {m} {n} {a} {b} {c} {t} {u} {i} {j} {k} p q w =
       excused = excused_then p.part q.part p.excused q.excused;
       weighs = subst (λ (x : ℕ). k ≤ x) (sym (weight_both 0 p.part q.part)) w;
       founded = founded_then p.part q.part p.founded q.founded;
-      tells = flat_map-append answer_of p.part q.part ∙ ap (λ x. x ++ answers q.part) p.tells ∙ ap (λ x. t ++ x) q.tells;
+      answered = flat_map-append answer_of p.part q.part ∙ ap (λ x. x ++ answers q.part) p.answered ∙ ap (λ x. t ++ x) q.answered;
     }
 
 -- two parts, one after the other
@@ -179,17 +179,17 @@ probes_then {dir} {l} {m} {n} {a} {b} {c} {t} {u} {i} {j} p q = let w = weight_m
 -- a second part that tells nothing adds what it excuses
 pub probes_more : {dir : List ℕ} {l m n : List Event} {a b c : List File} {t : List Answer} {i j : ℕ} → Probes dir l m a b t i → Probes dir m n b c [] j → Probes dir l n a c t (i + j)
 probes_more {dir} {l} {m} {n} {a} {b} {c} {t} {i} {j} p q =
-    let w = weight_adds (weight 0 p.part) q.part q.tells in
+    let w = weight_adds (weight 0 p.part) q.part q.answered in
     let all = both_excuse {k = i + j} p q (omega (arith, w, p.weighs, q.weighs)) in
     subst (λ (x : List Answer). Probes dir l n a c x (i + j)) (append-nil t) all
 
 -- ---- single events
 
 pub probes_none : {dir : List ℕ} (log : List Event) (files : List File) → Probes dir log log files files [] 0
-probes_none log files = record { part = []; extends = sym (append-nil log); asked = refl; follows = tt; files = refl; queue = append-nil (paths files); excused = tt; weighs = omega arith; founded = tt; tells = refl }
+probes_none log files = record { part = []; extends = sym (append-nil log); asked = refl; follows = tt; files = refl; queue = append-nil (paths files); excused = tt; weighs = omega arith; founded = tt; answered = refl }
 
 pub probes_drawn : {dir : List ℕ} {before after : List Event} (files : List File) (word : ℕ) → after ≡ before ++ Drawn word ∷ [] → Probes dir before after files files [] 0
-probes_drawn files word e = record { part = Drawn word ∷ []; extends = e; asked = refl; follows = (tt, tt); files = refl; queue = append-nil (paths files); excused = (tt, tt); weighs = omega arith; founded = (tt, tt); tells = refl }
+probes_drawn files word e = record { part = Drawn word ∷ []; extends = e; asked = refl; follows = (tt, tt); files = refl; queue = append-nil (paths files); excused = (tt, tt); weighs = omega arith; founded = (tt, tt); answered = refl }
 
 pub probes_opened : {dir : List ℕ} {before after : List Event} {path bytes : List ℕ} (files : List File) (word : ℕ) (kind : FileKind) → path ≡ probe_path dir word (suffix_of kind) → bytes ≡ contents_of kind → after ≡ before ++ Drawn word ∷ Opened path bytes ∷ [] → Probes dir before after files (files ++ (path, contents_of kind) ∷ []) [] 0
 probes_opened {dir} {before} {after} {path} {bytes} files word kind p b e = record {
@@ -202,7 +202,7 @@ probes_opened {dir} {before} {after} {path} {bytes} files word kind p b e = reco
   excused = (tt, (tt, tt));
   weighs = omega arith;
   founded = (tt, (tt, tt));
-  tells = refl;
+  answered = refl;
 }
 
 pub probes_taken : {dir : List ℕ} {before after : List Event} {path : List ℕ} (files : List File) (word : ℕ) (kind : FileKind) → path ≡ probe_path dir word (suffix_of kind) → after ≡ before ++ Drawn word ∷ Taken path ∷ [] → Probes dir before after files files [] 1
@@ -216,7 +216,7 @@ probes_taken {dir} {before} {after} {path} files word kind p e = record {
   excused = (tt, (tt, tt));
   weighs = omega arith;
   founded = (tt, (tt, tt));
-  tells = refl;
+  answered = refl;
 }
 
 pub probes_file_fault : {dir : List ℕ} {before after : List Event} (files : List File) (word : ℕ) (why : Why) → after ≡ before ++ Drawn word ∷ Fault CreateProbe why ∷ [] → Probes dir before after files files [] 10
@@ -230,14 +230,14 @@ probes_file_fault files word why e = record {
   excused = (tt, (tt, tt));
   weighs = omega arith;
   founded = (tt, (tt, tt));
-  tells = refl;
+  answered = refl;
 }
 
 pub probes_folder : {dir : List ℕ} {before after : List Event} (files : List File) → after ≡ before ++ Made ForProbes dir ∷ [] → Probes dir before after files files [] 0
-probes_folder {dir} files e = record { part = Made ForProbes dir ∷ []; extends = e; asked = refl; follows = (refl, tt); files = refl; queue = append-nil (paths files); excused = (tt, tt); weighs = omega arith; founded = (tt, tt); tells = refl }
+probes_folder {dir} files e = record { part = Made ForProbes dir ∷ []; extends = e; asked = refl; follows = (refl, tt); files = refl; queue = append-nil (paths files); excused = (tt, tt); weighs = omega arith; founded = (tt, tt); answered = refl }
 
 pub probes_folder_fault : {dir : List ℕ} {before after : List Event} (files : List File) (why : Why) → after ≡ before ++ Fault (MakeDir ForProbes) why ∷ [] → Probes dir before after files files [] 10
-probes_folder_fault files why e = record { part = Fault (MakeDir ForProbes) why ∷ []; extends = e; asked = refl; follows = (tt, tt); files = refl; queue = append-nil (paths files); excused = (tt, tt); weighs = omega arith; founded = (tt, tt); tells = refl }
+probes_folder_fault files why e = record { part = Fault (MakeDir ForProbes) why ∷ []; extends = e; asked = refl; follows = (tt, tt); files = refl; queue = append-nil (paths files); excused = (tt, tt); weighs = omega arith; founded = (tt, tt); answered = refl }
 
 same_path : (path : List ℕ) → bytes_eq path path ≡ true
 same_path path = (bytes_eq-Decides path path).1 refl
@@ -257,21 +257,21 @@ probes_dropped path bytes rest e = record {
   excused = (tt, tt);
   weighs = omega arith;
   founded = (tt, tt);
-  tells = refl;
+  answered = refl;
 }
 
 pub probes_reused : {dir : List ℕ} {before after : List Event} (files : List File) (q : Question) (v : Verdict) → MayKeep q v → after ≡ before ++ Reused q v ∷ [] → Probes dir before after files files ((q, v) ∷ []) 0
-probes_reused files q v may e = record { part = Reused q v ∷ []; extends = e; asked = refl; follows = (tt, tt); files = refl; queue = append-nil (paths files); excused = (tt, tt); weighs = omega arith; founded = (may, tt); tells = refl }
+probes_reused files q v may e = record { part = Reused q v ∷ []; extends = e; asked = refl; follows = (tt, tt); files = refl; queue = append-nil (paths files); excused = (tt, tt); weighs = omega arith; founded = (may, tt); answered = refl }
 
 pub probes_found : {dir : List ℕ} {before after : List Event} (path : List ℕ) (there : Bool) → after ≡ before ++ Answered (exists_question path) None (Exists there) ∷ [] → Probes dir before after [] [] ((exists_question path, verdict_of (exists_question path) (Exists there)) ∷ []) 0
-probes_found path there e = record { part = Answered (exists_question path) None (Exists there) ∷ []; extends = e; asked = refl; follows = (refl, tt); files = refl; queue = refl; excused = (tt, tt); weighs = omega arith; founded = (tt, tt); tells = refl }
+probes_found path there e = record { part = Answered (exists_question path) None (Exists there) ∷ []; extends = e; asked = refl; follows = (refl, tt); files = refl; queue = refl; excused = (tt, tt); weighs = omega arith; founded = (tt, tt); answered = refl }
 
 probes_answered : {dir : List ℕ} {before after : List Event} (files : List File) (q : Question) (carried : ProbeFiles) (o : Outcome) → IsFounded false (Answered q (Some carried) o) → IsServed dir files q (Some carried) → after ≡ before ++ Answered q (Some carried) o ∷ [] → Probes dir before after files files ((q, verdict_of q o) ∷ []) 0
-probes_answered files q carried o founded s e = record { part = Answered q (Some carried) o ∷ []; extends = e; asked = refl; follows = (s, tt); files = refl; queue = append-nil (paths files); excused = (tt, tt); weighs = omega arith; founded = (founded, tt); tells = refl }
+probes_answered files q carried o founded s e = record { part = Answered q (Some carried) o ∷ []; extends = e; asked = refl; follows = (s, tt); files = refl; queue = append-nil (paths files); excused = (tt, tt); weighs = omega arith; founded = (founded, tt); answered = refl }
 
 -- a question that was asked with its files
 pub probes_probed : {dir : List ℕ} {before after : List Event} (files : List File) (q : Question) (carried : ProbeFiles) (why : Why) (result : Result Outcome NoMemory) → IsServed dir files q (Some carried) → after ≡ before ++ probed q carried why result → Probes dir before after files files (heard q result) 0
-probes_probed {dir} {before} {after} files q carried why (Ok Unanswered) s e = record { part = probed q carried why (Ok Unanswered); extends = e; asked = refl; follows = (tt, (s, tt)); files = refl; queue = append-nil (paths files); excused = (tt, (tt, tt)); weighs = omega arith; founded = (tt, (refl, tt)); tells = refl }
+probes_probed {dir} {before} {after} files q carried why (Ok Unanswered) s e = record { part = probed q carried why (Ok Unanswered); extends = e; asked = refl; follows = (tt, (s, tt)); files = refl; queue = append-nil (paths files); excused = (tt, (tt, tt)); weighs = omega arith; founded = (tt, (refl, tt)); answered = refl }
 probes_probed files q carried why (Ok NoTool) s e = probes_answered files q carried NoTool tt s e
 probes_probed files q carried why (Ok (Exists there)) s e = probes_answered files q carried (Exists there) tt s e
 probes_probed files q carried why (Ok (Done status out err)) s e = probes_answered files q carried (Done status out err) tt s e
@@ -292,7 +292,7 @@ probes_unasked {dir} {l} {m} {n} {a} {b} {t} {i} q p ten needs e =
       excused = excused_both 0 p.part (Unasked q ∷ []) p.excused ((omega (arith, ten, p.weighs), needs), tt);
       weighs = omega arith;
       founded = founded_then p.part (Unasked q ∷ []) p.founded (tt, tt);
-      tells = flat_map-append answer_of p.part (Unasked q ∷ []) ∙ ap (λ x. x ++ (q, NoVerdict) ∷ []) p.tells;
+      answered = flat_map-append answer_of p.part (Unasked q ∷ []) ∙ ap (λ x. x ++ (q, NoVerdict) ∷ []) p.answered;
     }
 
 -- a second part that tells nothing
@@ -301,4 +301,4 @@ probes_last {dir} {l} {m} {n} {a} {b} {c} {t} {i} {j} p q = subst (λ (x : List 
 
 -- what a part excuses need not be used
 pub probes_less : {dir : List ℕ} {l m : List Event} {a b : List File} {t : List Answer} {i : ℕ} → Probes dir l m a b t i → Probes dir l m a b t 0
-probes_less {dir} {l} {m} {a} {b} {t} {i} p = record { part = p.part; extends = p.extends; asked = p.asked; follows = p.follows; files = p.files; queue = p.queue; excused = p.excused; weighs = omega arith; founded = p.founded; tells = p.tells }
+probes_less {dir} {l} {m} {a} {b} {t} {i} p = record { part = p.part; extends = p.extends; asked = p.asked; follows = p.follows; files = p.files; queue = p.queue; excused = p.excused; weighs = omega arith; founded = p.founded; answered = p.answered }

@@ -17,11 +17,11 @@ use Rattle.cc_tool.specs.Probing.{is_asked, Follows, stand}
 abbrev pub IsWorlds : (Question → Outcome) → Answer → Type 0
 IsWorlds world a = a.1 ≢ Unanswered → a.0.ask ≢ AsksExists → a.1 ≡ verdict_of a.0 (world a.0)
 
--- The questions of a call, asked with probe files in a folder. The log goes on by a part, and the answers by what it tells.
+-- The questions of a call, asked with probe files in a folder. The log goes on by a part, and the answers by those that the part gives.
 pub record Asks (steady : Bool) (world : Question → Outcome) (dir : List ℕ) (before after : List Event) (old new : List Answer) : Type 0 where
   pub part : List Event
   pub extends : after ≡ before ++ part
-  pub tells : new ≡ old ++ answers part
+  pub answered : new ≡ old ++ answers part
   pub once : NoTwice old → NoTwice new
   pub asked : list_all is_asked part ≡ true
   pub closed : drops part ≡ opens part

@@ -6,6 +6,6 @@ use Rattle.cc_host.specs.Question.{Answer}
 use Rattle.cc_tool.specs.declared.asking.Heard.{Heard}
 
 -- the answer that is heard
-abbrev pub told : Question → Result Heard NoMemory → List Answer
-told q (Ok heard) = (q, heard.verdict) ∷ []
-told q (Err e) = []
+abbrev pub heard_answer : Question → Result Heard NoMemory → List Answer
+heard_answer q (Ok heard) = (q, heard.verdict) ∷ []
+heard_answer q (Err e) = []

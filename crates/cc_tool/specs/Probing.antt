@@ -93,8 +93,8 @@ Follows dir s (event ∷ part) = May dir s event × Follows dir (stand_after s e
 abbrev pub paths : List File → List (List ℕ)
 paths files = map (λ f. f.0) files
 
--- Part of a question: it begins with these files open and ends with those, tells these answers, and excuses this much.
-pub record Probes (dir : List ℕ) (before after : List Event) (from to : List File) (told : List Answer) (excuse : ℕ) : Type 0 where
+-- Part of a question: it begins with these files open and ends with those, gives these answers, and excuses this much.
+pub record Probes (dir : List ℕ) (before after : List Event) (from to : List File) (new : List Answer) (excuse : ℕ) : Type 0 where
   pub part : List Event
   pub extends : after ≡ before ++ part
   pub asked : list_all is_asked part ≡ true
@@ -104,7 +104,7 @@ pub record Probes (dir : List ℕ) (before after : List Event) (from to : List F
   pub excused : Excused 0 part
   pub weighs : excuse ≤ weight 0 part
   pub founded : Founded false part
-  pub tells : answers part ≡ told
+  pub answered : answers part ≡ new
 
 -- These files were made and not yet dropped: beside those that were dropped each path was made once more for each file of it.
 pub record AreOpen (files : List File) (log : List Event) : Type 0 where

@@ -9,7 +9,7 @@ ghost use Rattle.cc_tool.specs.Asks.{Asks};
 ghost use Rattle.cc_tool.specs.Known.{IsHeard, asked, is_kept as keeps};
 ghost use Rattle.cc_tool.specs.Own.{AnswersOnly, WhyUnanswered, OnlyForFiles, Looks};
 ghost use Rattle.cc_tool.specs.Probing.{Probes};
-ghost use Rattle.cc_tool.specs.Heard.{told};
+ghost use Rattle.cc_tool.specs.Heard.{heard_answer};
 
 use crate::probes::ask_host;
 use crate::{Answers, Caches};
@@ -53,7 +53,7 @@ fn ask_anew<W: World, H: Host<W>>(
     dir: &str,
 ) -> Mem<Heard>
     requires { q.now.ask ≢ AsksExists }
-    ensures probes { Probes dir.now (H.log host.old) (H.log host.new) [] [] (told q.now result) 0 }
+    ensures probes { Probes dir.now (H.log host.old) (H.log host.new) [] [] (heard_answer q.now result) 0 }
     ensures bare { OnlyForFiles q.now (part H.log host.old host.new) }
     ensures steady { IfOk result (λ heard. IsHeard W.steady W.answer q.now heard.verdict) }
     ensures patient { H.patience host.new ≡ H.patience host.old }
@@ -76,7 +76,7 @@ fn hear<W: World, H: Host<W>>(
     dir: &str,
 ) -> Mem<Heard>
     requires { q.now.ask ≢ AsksExists }
-    ensures probes { Probes dir.now (H.log host.old) (H.log host.new) [] [] (told q.now result) 0 }
+    ensures probes { Probes dir.now (H.log host.old) (H.log host.new) [] [] (heard_answer q.now result) 0 }
     ensures bare { OnlyForFiles q.now (part H.log host.old host.new) }
     ensures steady { IfOk result (λ heard. IsHeard W.steady W.answer q.now heard.verdict) }
     ensures patient { H.patience host.new ≡ H.patience host.old }

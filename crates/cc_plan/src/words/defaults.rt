@@ -13,8 +13,8 @@ use crate::compilation::Compilation;
 use crate::given::{has_no_defaults, is_cargos_target, level_of, or_variable, target_of};
 use crate::inherited::taken_flags;
 use cc_flags::{
-    has, is_among, is_gnu, is_gnu_like, is_told_target, is_wasm_linux, keeps_frame_pointers,
-    lacks_qnx_variant, lent, push_bare_and_arm_words, push_clang_target_words, push_debug_words,
+    has, is_among, is_gnu, is_gnu_like, is_wasm_linux, keeps_frame_pointers, lacks_qnx_variant,
+    lent, needs_target_word, push_bare_and_arm_words, push_clang_target_words, push_debug_words,
     push_frame_pointer_words, push_gnu_words, push_linkage_words, push_optimisation_words,
     push_position_independence_words, push_processor_words, push_qnx_words, push_riscv_words,
     push_sanitizer_words, push_standard_library_words, push_visual_studio_target_words,
@@ -84,7 +84,7 @@ fn names_target(given: &Compilation<'_>) -> bool
 {
     let set_compiler = lent(&given.set.compiler);
     let path = given.compiler.choice.path.as_str();
-    is_told_target(given.compiler.family, set_compiler, given.target, path)
+    needs_target_word(given.compiler.family, set_compiler, given.target, path)
 }
 
 // The sysroot of musl for WebAssembly's threads, where it is set: Clang brings no C library for that target.
@@ -235,9 +235,9 @@ fn check_sysroot(given: &Compilation<'_>) -> Result<(), PlanError>
     ensures allowed { AllowedBy (spec.clang_refusal (seen given.now)) result }
     ensures refused { RefusedBy (spec.clang_refusal (seen given.now)) result }
 {
-    let is_told = names_target(given);
+    let is_named = names_target(given);
     let sysroot = musl_sysroot(given);
-    if is_told && is_wasm_linux(given.target) && sysroot.is_none() {
+    if is_named && is_wasm_linux(given.target) && sysroot.is_none() {
         return Err(PlanError::NotSet(Text::of(given.alloc, "WASM_MUSL_SYSROOT")?));
     }
     Ok(())

@@ -14,8 +14,8 @@ use crate::words::settings::{
     push_flag_asks, push_flag_words, push_include_words, push_standard_words, push_warning_words,
 };
 use cc_flags::{
-    Maps, cargo_maps, is_visual_studio, lent, push_leaf_word, push_map_asks, push_pairs_words,
-    remap_pairs, set_maps, taken_maps, trim_pairs, value_or_empty,
+    Maps, is_visual_studio, lent, push_leaf_word, push_map_asks, push_pairs_words, remap_pairs,
+    set_maps, taken_maps, taken_over,
 };
 use cc_text::{Mem, Text, Words};
 
@@ -25,7 +25,7 @@ pub(crate) fn trimmed(given: &Compilation<'_>) -> Maps
     ensures { result ≡ spec.trimmed (seen given.now) }
 {
     let inherits = given.set.inherit_trim_paths;
-    cargo_maps(inherits, given.env.inherited(), given.compiler.family)
+    taken_over(inherits, given.compiler.family, given.handed.maps)
 }
 
 /// Which paths the settings want shown as others. It takes no memory.
@@ -44,10 +44,8 @@ fn push_trim_words(words: &mut Words, given: &Compilation<'_>, supported: &[Text
 {
     let alloc = given.alloc;
     let family = given.compiler.family;
-    let env = given.env.inherited();
     let maps = taken_maps(alloc, family, supported, trimmed(given))?;
-    let pairs = trim_pairs(alloc, value_or_empty(env, "CARGO_TRIM_PATHS_REMAP"))?;
-    push_pairs_words(words, alloc, family, maps, &pairs)?;
+    push_pairs_words(words, alloc, family, maps, &given.handed.pairs)?;
     Ok(())
 }
 

@@ -22,9 +22,9 @@ pub returns-in-Ok-clause-outcome : goal.returns-in-Ok-clause-outcome
 returns-in-Ok-clause-outcome g c =
     under_then _ _ _ _ _ _ _ _ _ _ c.tool_of.ensures.asks (grind arith) c.new-answers.ensures c.tool_of.ensures.asks.holds.silent
     (λ look agree. (
-      c.tool_of.ensures.asks.holds.told,
+      c.tool_of.ensures.asks.holds.warns_of_link,
       then_outcome _ _ _ _ _ _ _ _ _ _ c.tool_of.ensures.asks (grind arith) c.new-answers.ensures c.tool_of.ensures.asks.holds.silent
-          (tool_error c.args.set.now c.args.env.now look) (tool_steps c.args.set.now c.args.env.now c.tool_of.ensures.asks.holds.told look) (Ok c.in-Ok.tool)
+          (tool_error c.args.set.now c.args.env.now look) (tool_steps c.args.set.now c.args.env.now c.tool_of.ensures.asks.holds.warns_of_link look) (Ok c.in-Ok.tool)
           (planned_outcome c.tool_of.new.sight.answers.now (tool_lines c.args.set.now c.args.env.now) (tool_refusal c.args.set.now c.args.env.now) c.args.set.now c.args.env.now c.tool_of.ensures.asks.rest c.tool_of.result c.in-Ok.tool c.in-Ok.tool look agree c.in-Ok.is c.tool_of.ensures.asks.holds c.in-Ok.ensures.allowed),
     ))
 
@@ -41,9 +41,9 @@ pub returns-clause-outcome : goal.returns-clause-outcome
 returns-clause-outcome g c =
     under_then _ _ _ _ _ _ _ _ _ _ c.tool_of.ensures.asks (grind arith) c.new-answers.ensures c.tool_of.ensures.asks.holds.silent
     (λ look agree. (
-      c.tool_of.ensures.asks.holds.told,
+      c.tool_of.ensures.asks.holds.warns_of_link,
       then_outcome _ _ _ _ _ _ _ _ _ _ c.tool_of.ensures.asks (grind arith) c.new-answers.ensures c.tool_of.ensures.asks.holds.silent {T = ToolSeen}
-          (tool_error c.args.set.now c.args.env.now look) (tool_steps c.args.set.now c.args.env.now c.tool_of.ensures.asks.holds.told look) (Err c.or_no_memory.result)
+          (tool_error c.args.set.now c.args.env.now look) (tool_steps c.args.set.now c.args.env.now c.tool_of.ensures.asks.holds.warns_of_link look) (Err c.or_no_memory.result)
           (unplanned_outcome ToolSeen c.tool_of.new.sight.answers.now (tool_lines c.args.set.now c.args.env.now) (tool_refusal c.args.set.now c.args.env.now) c.args.set.now c.args.env.now c.tool_of.ensures.asks.rest c.tool_of.result c.in-Err.error c.or_no_memory.result look agree c.in-Err.is c.tool_of.ensures.asks.holds c.in-Err.ensures.refused
           (made_or_memory c.plan_error.result c.or_no_memory.result _ c.or_no_memory.ensures c.plan_error.ensures)),
     ))

@@ -36,7 +36,7 @@ returns-in-Ok-stages_of-clause-planned g c = record {
       let plan = c.in-Ok.ensures.planned.under look agree in
       let library : c.as_str.result.now ≡ library_of b.config b.env c.args.output.now = c.as_str.ensures ∙ c.requires.library in
       record {
-        warns_of_link = c.in-Ok.plan.told;
+        warns_of_link = c.in-Ok.plan.warns_of_link;
         enabled = ap (λ (s : BuildSeen). is_disabled s.env) (sym c.self.view_is) ∙ sym c.is_disabled.ensures ∙ c.if-is_disabled.false;
         allowed = plan.allowed;
         are = c.in-Ok-stages_of.ensures ∙ stages b.config b.env look c.args.output.now c.in-Ok.plan c.as_str.result.now plan library;
