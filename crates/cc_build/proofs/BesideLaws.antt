@@ -1,13 +1,13 @@
 -- Sources that are compiled beside each other: where in the part they are, and that a failed child stops no later start.
-use Rattle.std.proofs.Common.{◌≡◌, ◌≢◌, ◌⊎◌, inl, inr, ℕ, ◌+◌, ◌≤◌, List, [], ◌∷◌, ◌++◌, length, map, take, Bool, true, false, ◌||◌, if◌then◌else◌, is_some, Option, Some, None, option_map, Result, Ok, Err, refl, sym, ◌∙◌, ap, ap₂, subst, append_assoc, append-nil, arith}
-use Rattle.std.specs.List.{list_all, list_any, flat_map}
+use Rattle.std.proofs.Common.{◌≡◌, ◌⊎◌, inl, inr, ℕ, ◌+◌, ◌≤◌, List, [], ◌∷◌, ◌++◌, length, map, Bool, true, false, ◌||◌, if◌then◌else◌, is_some, Option, Some, None, Result, Ok, Err, refl, sym, ◌∙◌, ap, ap₂, subst, append_assoc, append-nil, arith}
+use Rattle.std.specs.List.{list_any}
 use Rattle.std.proofs.lemmas.Grind.{flat_map-append}
 use Rattle.std.proofs.lemmas.List.{length-map, map-append}
 use Rattle.std.proofs.lemmas.List.Folds.{list_any-append}
 use Rattle.std.proofs.lemmas.List.Sums.{sum_by-append}
 use Rattle.cc_env.specs.Env.{EnvSeen}
 use Rattle.cc_host.specs.Command.{CommandSeen}
-use Rattle.cc_host.specs.Part.{Step, since}
+use Rattle.cc_host.specs.Part.{Step}
 use Rattle.cc_host.specs.Question.{Look}
 use Rattle.cc_host.specs.declared.event.Event.{Event}
 use Rattle.cc_host.specs.declared.event.Role.{Role}
@@ -26,12 +26,12 @@ use Rattle.cc_run.specs.declared.planned.Planned.{Planned}
 use Rattle.cc_build.specs.Attempts.{attempt_of, attempts, to_attempt}
 use Rattle.cc_build.specs.Error.{ErrorSeen}
 use Rattle.cc_build.specs.Promises.{is_compiling, RunBeside}
-use Rattle.cc_build.specs.Stage.{Stage, commands_of, commands_in, calls, planned, beside, in_turn, folder_stages, compile_stages, removal_stages, archive_stages, link_stages, late_stages, planned_stages}
+use Rattle.cc_build.specs.Stage.{Stage, commands_in, calls, planned, beside, in_turn, folder_stages, compile_stages, removal_stages, archive_stages, link_stages, late_stages, planned_stages}
 use Rattle.cc_build.specs.Stage.Stage.{Calls, Asks, RunsOne, RunsAll}
 use Rattle.cc_build.specs.Went.{Terms, Means, RanAll, Did, Stops, Partly}
 use Rattle.cc_build.proofs.RunLaws.{commands_then, commands_calls, commands_in_turn}
 use Rattle.cc_build.proofs.SettledLaws.{partly_first}
-use Rattle.cc_build.proofs.StopLaws.{IsPlain, ArePlain}
+use Rattle.cc_build.proofs.StopLaws.{ArePlain}
 use Rattle.cc_build.proofs.TurnLaws.{step_turns, asked_turns, refused_turns}
 
 -- ---- stages without a command

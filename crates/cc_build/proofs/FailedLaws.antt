@@ -1,5 +1,5 @@
 -- A failed child stops no later start.
-use Rattle.std.proofs.Common.{◌≡◌, ◌⊎◌, inl, inr, ℕ, ◌≤◌, List, [], ◌∷◌, ◌++◌, length, map, take, drop, Bool, true, false, if◌then◌else◌, Option, Some, None, option_map, Result, Ok, Err, refl, sym, ◌∙◌, ap, ap₂, subst, append_assoc, append-nil, take_all, le_refl}
+use Rattle.std.proofs.Common.{◌≡◌, ◌⊎◌, inl, inr, ℕ, List, [], ◌∷◌, ◌++◌, length, map, take, Bool, true, false, if◌then◌else◌, Option, Some, None, option_map, Err, refl, sym, ◌∙◌, ap, ap₂, subst, append_assoc, append-nil, take_all, le_refl}
 use Rattle.std.specs.List.{list_any}
 use Rattle.std.proofs.lemmas.List.Folds.{list_any-append}
 use Rattle.std.proofs.lemmas.Grind.{flat_map-append}
@@ -10,7 +10,7 @@ use Rattle.cc_host.specs.Part.{Step, Refuses}
 use Rattle.cc_host.specs.Part.Step.{Runs, Makes, Removes, Prints, Lists}
 use Rattle.cc_host.specs.Question.{Look}
 use Rattle.cc_host.specs.declared.event.Event.{Event}
-use Rattle.cc_host.specs.declared.event.Event.TheVariants.{Ran, Missing, Fault}
+use Rattle.cc_host.specs.declared.event.Event.TheVariants.{Fault}
 use Rattle.cc_host.specs.declared.event.HostCall.TheVariants.{Start, Turn as Turning}
 use Rattle.cc_plan.specs.Given.{is_disabled}
 use Rattle.cc_plan.specs.Refusal.{first_of, early_refusal, late_refusal}
@@ -34,7 +34,7 @@ use Rattle.cc_build.specs.Stop.{missing_error, failed_error, unstarted_error, fa
 use Rattle.cc_build.specs.Went.{Terms, Means, IsOf, Stops, Halts, Halted}
 use Rattle.cc_build.specs.declared.error.ErrorKind.TheVariants.{ToolExecError}
 use Rattle.cc_build.proofs.BesideLaws.{is_quiet, AreQuiet, Shape}
-use Rattle.cc_build.proofs.RunLaws.{commands_then, went_started}
+use Rattle.cc_build.proofs.RunLaws.{went_started}
 use Rattle.cc_build.proofs.StopLaws.{Said, said_all, said_one, IsPlain, ArePlain, plain_behind, or_right, some_fault, whole_work, went_kept}
 
 -- ---- the error of a command that ended badly

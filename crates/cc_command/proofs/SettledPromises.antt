@@ -1,5 +1,5 @@
 -- No child runs behind a request, and its commands are the first of the planned ones.
-use Rattle.std.proofs.Common.{◌≡◌, inl, inr, ℕ, List, [], ◌∷◌, ◌++◌, map, true, Result, Ok, Err, sym, ◌∙◌, ap, append-nil}
+use Rattle.std.proofs.Common.{◌≡◌, inl, inr, ℕ, List, ◌∷◌, ◌++◌, map, true, Result, Ok, Err, sym, ◌∙◌, ap, append-nil}
 use Rattle.std.specs.Prelude.{String}
 use Rattle.std.proofs.lemmas.Grind.{flat_map-append}
 use Rattle.cc_host.specs.Part.Step.{Lists}

@@ -22,7 +22,7 @@ use Rattle.cc_build.specs.Went.{Terms, Means, terms, Went, Halted}
 use Rattle.cc_build.specs.declared.error.ErrorKind.{ErrorKind}
 use Rattle.cc_build.specs.declared.error.ErrorKind.TheVariants.{NoMemory}
 use Rattle.cc_build.specs.Refusal.{refusal_error}
-use Rattle.cc_command.specs.Read.{Request, name_of, read}
+use Rattle.cc_command.specs.Read.{Request, read}
 use Rattle.cc_command.specs.declared.words.BadWord.{BadWord}
 use Rattle.cc_command.specs.declared.words.WordCause.{WordCause}
 use Rattle.cc_command.specs.declared.words.WordCause.TheVariants.{NoCommand, UnknownCommand, NoName, NoValue, UnknownKey, BadValue}

@@ -1,5 +1,5 @@
 // A host in memory whose questions come to fixed outcomes.
-ghost use Rattle.std.specs.Prelude.{◌≡◌, [], ◌∷◌, ◌++◌, IfOk, OnOk, OnErr};
+ghost use Rattle.std.specs.Prelude.{◌≡◌, [], IfOk, OnOk, OnErr};
 ghost use Rattle.cc_host.specs.Bench.{BenchSeen, fresh, with_script, with_missing, with_failure, with_file};
 ghost use Rattle.cc_host.specs.Script.{patience_of};
 

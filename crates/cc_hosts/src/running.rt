@@ -1,5 +1,5 @@
 // The processes that run as children of this one.
-ghost use Rattle.std.specs.Prelude.{◌≡◌, ◌<◌, ◌≤◌, ◌+◌, ◌++◌, [], ◌∷◌, ℕ, List, slice_get, vec_len, vec_capacity, Some, IfOk, OnOk, OnErr};
+ghost use Rattle.std.specs.Prelude.{◌≡◌, ◌<◌, ◌≤◌, ◌+◌, ◌++◌, [], ◌∷◌, ℕ, List, slice_get, vec_len, vec_capacity, Some, IfOk, OnErr};
 ghost use Rattle.cc_host.specs.ChildLog.{piece_by};
 ghost use Rattle.cc_host.specs.Children.{IsNews};
 ghost use Rattle.cc_host.specs.Event.{reported, turned};

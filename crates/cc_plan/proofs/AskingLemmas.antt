@@ -8,7 +8,6 @@ use Rattle.cc_host.specs.declared.question.Outcome.{Outcome}
 use Rattle.cc_host.specs.declared.question.Question.{Question}
 use Rattle.cc_host.specs.declared.question.Verdict.{Verdict}
 use Rattle.cc_text.specs.declared.memory.NoMemory.{NoMemory}
-use Rattle.cc_tool.specs.Asks.{Asks}
 use Rattle.cc_tool.specs.Known.{asked}
 use Rattle.cc_tool.specs.Own.{AnswersOnly, AnswersAmong}
 use Rattle.cc_tool.proofs.AskLemmas.{asks_none, asks_then, asks_grows}

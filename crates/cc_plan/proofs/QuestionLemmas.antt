@@ -1,6 +1,5 @@
 -- Which questions a plan asks.
 use Rattle.std.proofs.Common.{◌≡◌, inl, inr, ℕ, ◌<◌, List, [], ◌++◌, length, slice_index_or, refl, sym, ap, subst, ◌∙◌}
-use Rattle.std.specs.List.{Contains}
 use Rattle.cc_env.specs.Env.{EnvSeen}
 use Rattle.cc_host.specs.Question.{Look, Answer, Settles, Holds, exists_question}
 use Rattle.cc_host.specs.declared.event.Event.{Event}

@@ -1,5 +1,5 @@
 // The compiler for Android.
-ghost use Rattle.std.specs.Prelude.{◌≡◌, ◌≢◌, ◌++◌, [], IfOk, Some};
+ghost use Rattle.std.specs.Prelude.{◌≡◌, ◌≢◌, [], IfOk, Some};
 ghost use Rattle.std.specs.Option.{option_copied};
 ghost use Rattle.cc_plan.specs.Asking.{AsksFor, SettledIn};
 ghost use Rattle.cc_plan.specs.Android as spec;

@@ -1,5 +1,4 @@
 // The chosen compiler with its family.
-ghost use Rattle.std.specs.Prelude.{◌≡◌, ◌++◌, IfOk};
 ghost use Rattle.cc_plan.specs.Asking.{AsksFor, AsksBy, IsChosen, SettledIn, SettledBy};
 ghost use Rattle.cc_plan.specs.Compiler.{family_in, compiler_of};
 

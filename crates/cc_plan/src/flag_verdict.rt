@@ -1,7 +1,7 @@
 // Whether the compiler of these settings takes a flag.
 ghost use Rattle.std.specs.Prelude.{◌≡◌, IfOk, IfErr};
 ghost use Rattle.cc_host.specs.Question.{Settles};
-ghost use Rattle.cc_plan.specs.Asking.{IsOwn, OnlyAsks, AsksFor, AsksBy, AsksOnFlag, AsksThenWarns, SettledIn, SettledBy, AllowedIn, RefusedIn, RefusedInOrByPrint};
+ghost use Rattle.cc_plan.specs.Asking.{IsOwn, OnlyAsks, AsksBy, AsksOnFlag, AsksThenWarns, SettledIn, SettledBy, AllowedIn, RefusedIn, RefusedInOrByPrint};
 ghost use Rattle.cc_plan.specs.Compilation.{seen, folder_of};
 ghost use Rattle.cc_plan.specs.Compiler.{compiler_of};
 ghost use Rattle.cc_plan.specs.FlagSupport as spec;

@@ -1,5 +1,5 @@
 // What the settings say and, where they are silent, the variables that Cargo sets for a build script, as Cargo's book lists them.
-ghost use Rattle.std.specs.Prelude.{◌≡◌, IfOk, option_map};
+ghost use Rattle.std.specs.Prelude.{◌≡◌, IfOk};
 ghost use Rattle.std.specs.Option.{option_copied};
 ghost use Rattle.cc_plan.specs.Given.{prefixed_value, temp_folder, probe_folder, or_variable, out_dir_of, target_of, host_of, level_of, is_value_of, is_cargos_target, is_true_variable, is_disabled, has_no_defaults, has_shell_flags, flags_variable, variable_flags, environment_flags};
 ghost use Rattle.cc_plan.specs.Target.{target_name};

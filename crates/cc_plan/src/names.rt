@@ -1,5 +1,5 @@
 // The names of a library.
-ghost use Rattle.std.specs.Prelude.{◌≡◌, IfOk, IfErr, OnOk, ◌⊎◌, None, ◌++◌, Some, codes};
+ghost use Rattle.std.specs.Prelude.{◌≡◌, IfOk, None, ◌++◌, Some, codes};
 ghost use Rattle.std.specs.Option.{option_copied};
 ghost use Rattle.cc_plan.specs.Names.{is_nameless, has_slash, is_output_name, inner_name, library_name, library_file};
 ghost use Rattle.cc_plan.specs.Refusal.{name_refusal, AllowedBy, RefusedBy};

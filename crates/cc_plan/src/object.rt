@@ -1,5 +1,5 @@
 // The object of each source.
-ghost use Rattle.std.specs.Prelude.{◌≡◌, IfOk, IfErr, OnOk, ◌⊎◌, Some, None, map, codes};
+ghost use Rattle.std.specs.Prelude.{◌≡◌, IfOk, Some, None, codes};
 ghost use Rattle.cc_text.specs.Hash.{fnv1a, fnv1a_from};
 ghost use Rattle.std.specs.Option.{option_copied};
 ghost use Rattle.cc_env.specs.Snapshot.{last_value};

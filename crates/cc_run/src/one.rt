@@ -1,5 +1,5 @@
 // Runs one command to its end, without a token.
-ghost use Rattle.std.specs.Prelude.{◌≡◌, ◌≢◌, ◌++◌, ◌+◌, ◌<◌, ◌^◌, ◌∷◌, [], length, OnOk, IfErr, None, true, false};
+ghost use Rattle.std.specs.Prelude.{◌≡◌, ◌≢◌, ◌+◌, ◌<◌, ◌^◌, ◌∷◌, [], length, OnOk, IfErr, None, true, false};
 ghost use Rattle.std.specs.List.{list_all};
 ghost use Rattle.cc_host.specs.Call.{part};
 ghost use Rattle.cc_run.specs.Batch.{asked_of, count_of, IsFinished, PrintsBatch, RunsBatch};

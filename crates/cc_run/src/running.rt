@@ -1,5 +1,5 @@
 // The children of a run that run.
-ghost use Rattle.std.specs.Prelude.{◌≡◌, ◌+◌, length, map, MatchOption, IfSome, IfNone, ◌<◌, ℕ, List, Some, Option};
+ghost use Rattle.std.specs.Prelude.{◌≡◌, length, map, MatchOption, IfSome, ◌<◌, ℕ, List, Some, Option};
 ghost use Rattle.std.specs.Option.{option_map};
 ghost use Rattle.cc_run.specs.Children.{Kept, ArePlaced, IsOneLess, nothing_kept, run_of, seat, without_child, IsNoChild, IsFirst};
 ghost use Rattle.cc_run.specs.Hearing.{of_child, of_some};

@@ -1,5 +1,5 @@
 // Starts the commands of a run.
-ghost use Rattle.std.specs.Prelude.{◌≡◌, ◌++◌, ◌+◌, ◌-◌, ◌<◌, ◌≤◌, ◌^◌, ℕ, IfErr, IfOk, OnErr, length, true, Bool, OnOk};
+ghost use Rattle.std.specs.Prelude.{◌≡◌, ◌++◌, ◌+◌, ◌-◌, ◌<◌, ◌≤◌, ◌^◌, ℕ, IfErr, IfOk, length, true, OnOk};
 ghost use Rattle.std.specs.List.{list_all};
 ghost use Rattle.cc_host.specs.Call.{part};
 ghost use Rattle.cc_jobs.specs.Seats.{Rose};
@@ -10,8 +10,8 @@ ghost use Rattle.cc_run.specs.Outcome.{NamesCause, IsSpawnError, EndsAt};
 ghost use Rattle.cc_run.specs.Own.{is_of_run};
 ghost use Rattle.cc_run.specs.Paid.{IsPaid};
 ghost use Rattle.cc_run.specs.Part.{GoesOn, turns};
-ghost use Rattle.cc_run.specs.Planned.{asked, asked_by};
-ghost use Rattle.cc_run.specs.Printing.{IsPrinted, PrintsStarts, kept_from};
+ghost use Rattle.cc_run.specs.Planned.{asked};
+ghost use Rattle.cc_run.specs.Printing.{PrintsStarts, kept_from};
 ghost use Rattle.cc_run.specs.Started.{IsStart, IsBegun};
 
 use crate::error::start_error;

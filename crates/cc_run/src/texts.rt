@@ -1,5 +1,5 @@
 // The lines that a run prints.
-ghost use Rattle.std.specs.Prelude.{◌≡◌, ◌++◌, ◌∷◌, [], IfOk, OnOk, codes, map, string_bytes};
+ghost use Rattle.std.specs.Prelude.{◌≡◌, ◌++◌, [], IfOk, OnOk, map, string_bytes};
 ghost use Rattle.std.specs.Fmt.{signed_decimal};
 ghost use Rattle.cc_run.specs.Texts.{cargo_line, debug_line, ended_text, end_in_brackets, failed_text, failed_line, announced};
 

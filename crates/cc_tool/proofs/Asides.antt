@@ -22,7 +22,6 @@ use Rattle.cc_tool.specs.Asks.{Asks, IsWorlds}
 use Rattle.cc_tool.specs.Excused.{Excused, IsExcused, weight, weight_after}
 use Rattle.cc_tool.specs.Founded.{Founded, IsFounded, is_probe_fault}
 use Rattle.cc_tool.specs.Own.{AnswersAmong}
-use Rattle.cc_host.specs.declared.question.Verdict.{Verdict}
 use Rattle.cc_tool.proofs.ProbingLemmas.{founded_then}
 use Rattle.cc_tool.specs.Probing.{is_asked, Follows, May, Stand, stand, stand_after}
 

@@ -2,7 +2,6 @@
 use Rattle.std.specs.Prelude.{◌≡◌, ◌⊎◌, ℕ, Bool, true, false, not, ◌&&◌, ◌||◌, List, [], ◌∷◌, ◌++◌, Option, Some, None, unwrap_or, codes, bytes_eq, if◌then◌else◌}
 use Rattle.std.specs.List.{list_any}
 use Rattle.std.specs.Path.{path_file_name}
-use Rattle.cc_text.specs.Families.{is_plain_clang}
 use Rattle.cc_text.specs.Case.{lowered, ends_ignoring_case}
 use Rattle.cc_text.specs.Within.{is_within}
 use Rattle.cc_text.specs.declared.family.ToolFamily.{ToolFamily}

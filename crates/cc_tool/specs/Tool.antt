@@ -1,11 +1,10 @@
 -- A tool: a compiler or archiver with its words and its environment.
-use Rattle.std.specs.Prelude.{ℕ, length, drop, encode_utf8, Bool, true, false, not, ◌&&◌, ◌==◌, nat_eq, if◌then◌else◌, List, [], ◌∷◌, ◌++◌, Option, Some, None, codes, bytes_eq}
+use Rattle.std.specs.Prelude.{ℕ, length, drop, encode_utf8, Bool, false, not, ◌&&◌, ◌==◌, nat_eq, if◌then◌else◌, List, [], ◌∷◌, ◌++◌, Option, Some, None, codes}
 use Rattle.std.specs.List.{filter, list_any, join_by, slice_get, starts_with}
 use Rattle.std.specs.Str.{chars}
 use Rattle.cc_text.specs.Families.{is_visual_studio}
 use Rattle.cc_text.specs.Words.{is_among}
 use Rattle.cc_text.specs.declared.family.ToolFamily.{ToolFamily}
-use Rattle.cc_text.specs.declared.family.ToolFamily.TheVariants.{Gnu, Clang, Msvc}
 use Rattle.cc_env.specs.Snapshot.{child_of}
 use Rattle.cc_host.specs.Command.{CommandSeen}
 

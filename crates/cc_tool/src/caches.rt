@@ -1,5 +1,5 @@
 // What threads share of a world's verdicts.
-ghost use Rattle.std.specs.Prelude.{◌≡◌, IfOk, IfSome};
+ghost use Rattle.std.specs.Prelude.{IfOk, IfSome};
 ghost use Rattle.cc_tool.specs.Known.{IsSteady, MayKeep};
 
 use crate::Known;

@@ -1,7 +1,7 @@
 // Questions to a host, and the probe files that they need.
 ghost use Rattle.std.specs.Prelude.{◌≡◌, ◌≢◌, ◌++◌, ◌∷◌, [], Some, None, IfOk};
 ghost use Rattle.cc_host.specs.Call.{part};
-ghost use Rattle.cc_host.specs.Event.{probed, unasked as noted};
+ghost use Rattle.cc_host.specs.Event.{unasked as noted};
 ghost use Rattle.cc_host.specs.declared.question.Ask.TheVariants.{Exists as AsksExists};
 ghost use Rattle.cc_host.specs.declared.question.Outcome.TheVariants.{Unanswered};
 ghost use Rattle.cc_tool.specs.Files as probe_files;
