@@ -191,7 +191,7 @@ pub asked_by : (steady : Bool) (world : Question → Outcome) (dir : List ℕ) (
 asked_by steady world dir asks before after new k own =
     let part : since before after ≡ k.part = ap (λ l. since before l) k.extends ∙ drop-append_seam before k.part in
     let given : new ≡ answers (since before after) = k.answered ∙ ap answers (sym part) in
-    let here : Holds (answers k.part) (λ look. AnswersAmong (asks look) k.part) = subst (λ (p : List Event). Holds (answers p) (λ look. AnswersAmong (asks look) p)) part (subst (λ (l : List Answer). Holds l (λ look. AnswersAmong (asks look) (since before after))) tells own) in
+    let here : Holds (answers k.part) (λ look. AnswersAmong (asks look) k.part) = subst (λ (p : List Event). Holds (answers p) (λ look. AnswersAmong (asks look) p)) part (subst (λ (l : List Answer). Holds l (λ look. AnswersAmong (asks look) (since before after))) given own) in
     let all : Asked steady world dir asks k.part = record { once = subst NoTwice k.answered (k.once tt); closed = k.closed; excused = k.excused; founded = k.founded; probing = k.probing; dropped = k.dropped; honest = k.honest; own = here } in
     (subst (λ (p : List Event). Asked steady world dir asks p) (sym part) all, given)
 

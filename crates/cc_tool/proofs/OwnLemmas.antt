@@ -43,7 +43,7 @@ pub part_is : (before after part : List Event) → after ≡ before ++ part → 
 part_is before after part e = ap (since before) e ∙ since_append before part
 
 -- what a part of a question answers
-pub answers_since : {dir : List ℕ} {before after : List Event} {from to : List File} {given : List Answer} {excuse : ℕ} → Probes dir before after from to given excuse → answers (since before after) ≡ told
+pub answers_since : {dir : List ℕ} {before after : List Event} {from to : List File} {given : List Answer} {excuse : ℕ} → Probes dir before after from to given excuse → answers (since before after) ≡ given
 answers_since {dir} {before} {after} p = ap answers (part_is before after p.part p.extends) ∙ p.answered
 
 pub asks_founded : {steady : Bool} {world : Question → Outcome} {dir : List ℕ} {before after : List Event} {old new : List Answer} → Asks steady world dir before after old new → Founded false (since before after)
