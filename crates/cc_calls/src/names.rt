@@ -24,6 +24,7 @@ fn refused_argument(alloc: Global, cause: ArgumentCause) -> Answer {
         ArgumentCause::SameObject(first, second) => {
             refused_at(alloc, "SameObject", &[first, second])
         }
+        ArgumentCause::LibraryIsObject(place) => refused_at(alloc, "LibraryIsObject", &[place]),
     }
 }
 

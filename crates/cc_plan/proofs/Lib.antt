@@ -1,3 +1,4 @@
+pub mod AddedLaws
 pub mod AskingLemmas
 pub mod BeforeLemmas
 pub mod CompilationLemmas

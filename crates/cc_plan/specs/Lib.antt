@@ -1,3 +1,4 @@
+pub mod Added
 pub mod Android
 pub mod Archive
 pub mod Asking

@@ -6,6 +6,7 @@
 //! `specs/Refusal.antt` says.
 #![tactic(auto)]
 
+mod added;
 mod android;
 mod archive;
 mod blanks;

@@ -8,6 +8,7 @@ ghost use Rattle.cc_plan.specs.Given.{out_dir_of};
 ghost use Rattle.cc_plan.specs.Plan.{objects_of, library_of, compiles_of, archives_of, indexes_of, tool_lines, warning_lines as lines_of_warnings, link_lines as lines_of};
 ghost use Rattle.cc_plan.specs.Refusal.{early_refusal, late_refusal, tool_refusal, platform_refusal, out_dir_refusal, AllowedBy, RefusedBy};
 
+use crate::added::check_added;
 use crate::compile::compile_commands;
 use crate::given::out_dir_of;
 use crate::printing::wanted_lines;
@@ -76,10 +77,11 @@ fn source_root_of(set: &BuildConfig) -> Option<&str>
     }
 }
 
-/// Checks the output, the out dir and the sources, in this order, and names the library and the objects. It asks nothing.
+/// Checks the output, the out dir, the sources and the added objects, in this order, and names the library and the objects. It asks
+/// nothing.
 ///
 /// Refused where the output names no library, the out dir is set nowhere or empty, a source has no file name or the object of an earlier
-/// one; and for memory.
+/// one, or an added object is the library, which is removed before it would be read; and for memory.
 #[tactic(auto, unfolding(crate::specs::Refusal::early_refusal))]
 pub fn plan_sources(
     alloc: Global,
@@ -98,6 +100,7 @@ pub fn plan_sources(
     let dir = checked_out_dir(alloc, set, env)?;
     let objects = objects_from_files(alloc, &set.files, dir, env.inherited(), source_root_of(set))?;
     let library = join(alloc, dir, file.as_str())?;
+    check_added(&set.objects, library.as_str())?;
     Ok(Sources {
         name,
         library,
@@ -219,7 +222,7 @@ pub fn plan_commands<W: World, H: Host<W>>(
     let archives = archive_commands(alloc, set, env, library, &sources.objects)?;
     let indexes = index_commands(alloc, set, env, library)?;
     let folder = parent(library).unwrap_or("");
-    let lines = link_lines(alloc, sources.name.as_str(), folder)?;
+    let lines = link_lines(alloc, set, sources.name.as_str(), folder)?;
     Ok(Plan {
         warns_of_link: compiles.warns_of_link,
         warnings: compiles.warnings,
