@@ -1,4 +1,5 @@
 pub mod AskingLemmas
+pub mod BatchLaws
 pub mod BeforeLemmas
 pub mod CompilationLemmas
 pub mod CompileLemmas

@@ -8,6 +8,7 @@
 
 mod android;
 mod archive;
+mod batch;
 mod blanks;
 mod choice;
 mod compilation;
@@ -35,6 +36,7 @@ mod tool;
 mod words;
 
 pub use archive::{archive_commands, index_commands};
+pub use batch::batches;
 pub use choice::Choice;
 pub use compile::compile_command;
 pub use compiler::Compiler;
