@@ -306,8 +306,8 @@ complete look (Err bad) part ended c a = tt
 pub same_error : (e f : ErrorSeen) (ended : Ended) → ended ≡ ended_refused e → ended ≡ ended_refused f → e ≡ f
 same_error e f ended a b = let s : Some e ≡ Some f = ap (λ (x : Ended). x.error) (sym a ∙ b) in cc
 
--- fewer turns than the patience with each command, of which there are at most twice the sources, the added objects and two
-too_few : (p n files objects most turned : ℕ) → turned < p * n → n ≤ 2 * files + objects + 2 → p * (2 * files + objects + 2) ≤ most → turned ≡ most → ⊥
+-- fewer turns than the patience with each command, of which there are fewer than twice the sources, the added objects and two
+too_few : (p n files objects most turned : ℕ) → turned < p * n → n ≤ 2 * files + objects + 1 → p * (2 * files + objects + 2) ≤ most → turned ≡ most → ⊥
 too_few p n files objects most turned few count enough same =
     let more : p * n ≤ p * (2 * files + objects + 2) = mul-le-mul_left p (omega (arith, count)) in
     omega arith

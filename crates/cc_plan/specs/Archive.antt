@@ -4,6 +4,7 @@ use Rattle.std.specs.Prelude.{ℕ, List, [], ◌∷◌, ◌++◌, map, None, unw
 use Rattle.cc_env.specs.Env.{EnvSeen}
 use Rattle.cc_env.specs.Snapshot.{child_of}
 use Rattle.cc_host.specs.Command.{CommandSeen}
+use Rattle.cc_plan.specs.Batches.{batches_of}
 use Rattle.cc_plan.specs.declared.object.Object.{Object}
 use Rattle.cc_plan.specs.declared.settings.BuildConfig.{BuildConfig}
 
@@ -21,13 +22,13 @@ archive_env env = child_of env.inherited (env.explicit ++ (codes "ZERO_AR_DATE",
 abbrev pub archiver_in : BuildConfig → List (List ℕ × List ℕ) → List (List ℕ) → CommandSeen
 archiver_in set env args = record { program = archiver_of set; args = args; env = env; dir = None }
 
-abbrev pub archive_of : BuildConfig → EnvSeen → List ℕ → List Object → CommandSeen
-archive_of set env library objects = archiver_in set (archive_env env) (codes "cqD" ∷ library ∷ paths_of objects)
+-- the command of a batch of paths
+abbrev pub archive_of : BuildConfig → EnvSeen → List ℕ → List (List ℕ) → CommandSeen
+archive_of set env library paths = archiver_in set (archive_env env) (codes "cqD" ∷ library ∷ paths)
 
--- one command with all objects, where there is an object
-abbrev pub archives_of : BuildConfig → EnvSeen → List ℕ → List Object → List CommandSeen
-archives_of set env library [] = []
-archives_of set env library (object ∷ objects) = archive_of set env library (object ∷ objects) ∷ []
+-- one command a batch: the first makes the library, and each later one adds to it
+abbrev pub archives_of : BuildConfig → EnvSeen → List ℕ → List (List ℕ) → List CommandSeen
+archives_of set env library paths = map (archive_of set env library) (batches_of paths)
 
 abbrev pub index_of : BuildConfig → EnvSeen → List ℕ → CommandSeen
 index_of set env library = archiver_in set (child_of env.inherited env.explicit) (codes "sD" ∷ library ∷ [])

@@ -2,6 +2,7 @@ pub mod Added
 pub mod Android
 pub mod Archive
 pub mod Asking
+pub mod Batches
 pub mod Blanks
 pub mod Choice
 pub mod Compilation

@@ -34,8 +34,12 @@ library_of set env output = library_in set env output
 abbrev pub compiles_of : BuildConfig → EnvSeen → Look → List CommandSeen
 compiles_of set env look = compile.compiles_of set (target_info set env) (tool_of set env look) (objects_of set env)
 
+-- the paths that the library gets, in order: those of the objects, and then the added ones
+abbrev pub archived_of : BuildConfig → EnvSeen → List (List ℕ)
+archived_of set env = archive.paths_of (objects_of set env) ++ set.objects
+
 abbrev pub archives_of : BuildConfig → EnvSeen → List ℕ → List CommandSeen
-archives_of set env output = archive.archives_of set env (library_of set env output) (objects_of set env)
+archives_of set env output = archive.archives_of set env (library_of set env output) (archived_of set env)
 
 abbrev pub indexes_of : BuildConfig → EnvSeen → List ℕ → List CommandSeen
 indexes_of set env output = archive.indexes_of set env (library_of set env output)

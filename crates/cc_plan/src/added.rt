@@ -8,7 +8,6 @@ use crate::{ArgumentCause, PlanError};
 use cc_text::{Text, Words, same_path};
 
 // Whether a path is that of the library, component by component.
-#[tactic(auto, using(crate::proofs::AddedLaws::same_paths))]
 fn is_library(library: &str, path: &str) -> bool
     ensures { result ≡ is_library library.now path.now }
 {

@@ -1,11 +1,11 @@
 // The archive and index commands.
-ghost use Rattle.std.specs.Prelude.{◌≡◌, [], ◌∷◌, None, IfOk};
+ghost use Rattle.std.specs.Prelude.{◌≡◌, [], ◌∷◌, ◌++◌, None, IfOk};
 ghost use Rattle.cc_plan.specs.Archive.{archiver_of, archive_env, archiver_in, archive_of, archives_of, index_of, indexes_of};
 
-use crate::{BuildConfig, Object};
+use crate::{BuildConfig, batches};
 use cc_env::BuildEnv;
 use cc_host::Command;
-use cc_text::{Mem, Vars};
+use cc_text::{Mem, Vars, Words};
 use std::alloc::Global;
 
 // The set archiver, else `ar`.
@@ -53,40 +53,37 @@ fn archive_start(alloc: Global, set: &BuildConfig, env: &BuildEnv, library: &str
     archiver_in(alloc, set, &vars, "cqD", library)
 }
 
-fn archive_command(
-    alloc: Global,
-    set: &BuildConfig,
-    env: &BuildEnv,
-    library: &str,
-    objects: &[Object],
-) -> Mem<Command>
-    ensures { IfOk result (λ cmd. cmd ≡ archive_of set.now env.now library.now objects.now) }
+// A second command with the words of the first, and then these. They share their environment.
+fn with_words(start: &Command, words: &Words) -> Mem<Command>
+    ensures { IfOk result (λ cmd.
+        cmd ≡ record start.now { args = start.now.args ++ words.now }) }
 {
-    let mut cmd = archive_start(alloc, set, env, library)?;
-    for object in objects {
-        cmd.arg(object.dst.as_str())?;
-    }
+    let mut cmd = start.try_clone()?;
+    cmd.args(words)?;
     Ok(cmd)
 }
 
-/// The commands that write the objects into the library, in order: one with all of them, or none where there is no object. The archiver
+/// The commands that write objects of these paths into the library, in order: one a batch, and none where there is no path. The archiver
 /// is the set one, else `ar`. Only want of memory refuses.
 ///
 /// By the manual of GNU `ar`, `c` makes the library without saying so, `q` adds members last without a look at those that are there, and
 /// `D` writes zero for times and owners, so that the same objects give the same bytes. `ZERO_AR_DATE` has Apple's archiver do so for times.
+/// So what an earlier command wrote stays, and one path may come twice. A batch keeps each command line short.
 pub fn archive_commands(
     alloc: Global,
     set: &BuildConfig,
     env: &BuildEnv,
     library: &str,
-    objects: &[Object],
+    paths: &Words,
 ) -> Mem<Vec<Command>>
     ensures { IfOk result (λ cmds.
-        cmds.items ≡ archives_of set.now env.now library.now objects.now) }
+        cmds.items ≡ archives_of set.now env.now library.now paths.now) }
 {
+    let start = archive_start(alloc, set, env, library)?;
+    let batches = batches(alloc, paths)?;
     let mut cmds = Vec::new(alloc);
-    if !objects.is_empty() {
-        cmds.push(archive_command(alloc, set, env, library, objects)?)?;
+    for batch in &batches {
+        cmds.push(with_words(&start, batch)?)?;
     }
     Ok(cmds)
 }

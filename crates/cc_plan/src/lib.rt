@@ -9,6 +9,7 @@
 mod added;
 mod android;
 mod archive;
+mod batch;
 mod blanks;
 mod choice;
 mod compilation;
@@ -36,6 +37,7 @@ mod tool;
 mod words;
 
 pub use archive::{archive_commands, index_commands};
+pub use batch::batches;
 pub use choice::Choice;
 pub use compile::compile_command;
 pub use compiler::Compiler;

@@ -2,6 +2,7 @@
 ghost use Rattle.std.specs.Prelude.{◌≡◌, ◌++◌, [], IfOk, IfErr, OnOk, ◌⊎◌, Some, None};
 ghost use Rattle.cc_host.specs.Question.{Settles};
 ghost use Rattle.std.specs.Option.{option_copied};
+ghost use Rattle.cc_plan.specs.Archive.{paths_of};
 ghost use Rattle.cc_plan.specs.Asking.{AsksToPlan, AllowedIn, RefusedIn};
 ghost use Rattle.cc_plan.specs.Names.{library_name};
 ghost use Rattle.cc_plan.specs.Given.{out_dir_of};
@@ -43,7 +44,7 @@ pub struct Plan {
     pub warnings: Words,
     /// One command a source, in their order. They share one environment.
     pub compiles: Vec<Command>,
-    /// The commands that write the objects into the library.
+    /// The commands that write the objects into the library, one a batch of them.
     pub archives: Vec<Command>,
     /// The commands that write its index.
     pub indexes: Vec<Command>,
@@ -186,6 +187,18 @@ fn plan_compiles<W: World, H: Host<W>>(
     }
 }
 
+// The paths that the library gets: those of the objects, and then the added ones.
+fn archived(alloc: Global, set: &BuildConfig, objects: &[Object]) -> Mem<Words>
+    ensures { IfOk result (λ paths. paths ≡ paths_of objects.now ++ set.now.objects) }
+{
+    let mut paths = Words::new(alloc);
+    for object in objects {
+        paths.push(object.dst.as_str())?;
+    }
+    paths.extend(&set.objects)?;
+    Ok(paths)
+}
+
 /// The warnings, commands and lines of a compile run with these sources, which `plan_sources` gave. It asks, and prints nothing. Without a
 /// source no tool is wanted, and nothing is asked.
 ///
@@ -219,7 +232,8 @@ pub fn plan_commands<W: World, H: Host<W>>(
     let alloc = *sources.objects.allocator();
     let library = sources.library.as_str();
     let compiles = plan_compiles(rt, alloc, set, env, &sources.objects, sight)?;
-    let archives = archive_commands(alloc, set, env, library, &sources.objects)?;
+    let paths = archived(alloc, set, &sources.objects)?;
+    let archives = archive_commands(alloc, set, env, library, &paths)?;
     let indexes = index_commands(alloc, set, env, library)?;
     let folder = parent(library).unwrap_or("");
     let lines = link_lines(alloc, set, sources.name.as_str(), folder)?;
