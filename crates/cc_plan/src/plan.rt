@@ -19,7 +19,7 @@ use crate::{
 };
 use cc_env::BuildEnv;
 use cc_host::{Command, Host, World};
-use cc_text::{Text, Words, join, parent};
+use cc_text::{Mem, Text, Words, join, parent};
 use std::alloc::Global;
 use std::sync::Wait;
 
