@@ -1,7 +1,7 @@
 -- What batches are, by induction over the paths.
-use Rattle.std.proofs.Common.{◌≡◌, ℕ, ◌+◌, ◌-◌, ◌<◌, ◌≤◌, List, [], ◌∷◌, ◌++◌, length, true, false, nat_le, if◌then◌else◌, refl, sym, subst, ◌∙◌, ap, append_assoc, arith}
+use Rattle.std.proofs.Common.{◌≡◌, ℕ, ◌+◌, ◌-◌, ◌<◌, ◌≤◌, List, [], ◌∷◌, ◌++◌, length, true, false, nat_le, if◌then◌else◌, refl, sym, subst, ◌∙◌, ap, append_assoc, append-nil, arith}
 use Rattle.std.specs.List.{flat_map, sum_by}
-use Rattle.std.proofs.lemmas.Bool.{leb-true, leb-false}
+use Rattle.std.proofs.lemmas.Bool.{leb-true, leb-false, le-leb, lt-leb}
 use Rattle.std.proofs.lemmas.List.Sums.{sum_by-append}
 use Rattle.cc_plan.specs.Batches.{room, cut_from, batches_of, filled, IsFull, AreBatches, AreBatchesOf}
 
@@ -66,5 +66,45 @@ pub fit : (paths : List (List ℕ)) → AreBatches (batches_of paths)
 fit [] = tt
 fit (path ∷ paths) = fit_from path [] (room - length path) paths (begun_room path)
 
+-- ---- and no other batches of the paths do
+
+-- the batches behind one that is full, as they are cut
+Follow : List (List (List ℕ)) → Type 0
+Follow batches = (first : List ℕ) (batch : List (List ℕ)) (left : ℕ) → filled (first ∷ batch) + left ≡ room → AreBatches ((first ∷ batch) ∷ batches) → cut_from (first ∷ batch) left (flat_map (λ b. b) batches) ≡ (first ∷ batch) ∷ batches
+
+-- the first paths of a batch, and then those that are left of it
+goes_on : (batches : List (List (List ℕ))) → Follow batches → (first : List ℕ) (batch : List (List ℕ)) (left : ℕ) (more : List (List ℕ)) → filled (first ∷ batch) + left ≡ room → AreBatches ((first ∷ (batch ++ more)) ∷ batches) → cut_from (first ∷ batch) left (more ++ flat_map (λ b. b) batches) ≡ (first ∷ (batch ++ more)) ∷ batches
+unfolding Follow
+goes_on batches follow first batch left [] sum are =
+    let same : batch ++ [] ≡ batch = append-nil batch in
+    follow first batch left sum (subst (λ (l : List (List ℕ)). AreBatches ((first ∷ l) ∷ batches)) same are) ∙ ap (λ l. (first ∷ l) ∷ batches) (sym same)
+goes_on batches follow first batch left (path ∷ more) sum are =
+    let all : sum_by length (batch ++ path ∷ more) ≡ sum_by length batch + sum_by length (path ∷ more) = sum_by-append length batch (path ∷ more) in
+    let one : sum_by length (path ∷ more) ≡ sum_by length (path ∷ []) + sum_by length more = sum_by-append length (path ∷ []) more in
+    let within : filled (first ∷ (batch ++ path ∷ more)) ≤ room = are.1.0 in
+    let fits : length path ≤ left = omega (arith, all, one, within, sum) in
+    let next : filled (first ∷ (batch ++ path ∷ [])) ≡ filled (first ∷ batch) + length path = filled_more first batch path in
+    let same : (batch ++ path ∷ []) ++ more ≡ batch ++ path ∷ more = append_assoc batch (path ∷ []) more in
+    let rest = goes_on batches follow first (batch ++ path ∷ []) (left - length path) more (omega (arith, next, fits, sum)) (subst (λ (l : List (List ℕ)). AreBatches ((first ∷ l) ∷ batches)) (sym same) are) in
+    rw (le-leb (length path) left fits) (rest ∙ ap (λ l. (first ∷ l) ∷ batches) same)
+
+follow : (batches : List (List (List ℕ))) → Follow batches
+unfolding Follow
+follow [] first batch left sum are = refl
+follow ([] ∷ batches) first batch left sum are = absurd (are.1.1.1.0 refl)
+follow ((path ∷ more) ∷ batches) first batch left sum are =
+    let full : room < filled (first ∷ (batch ++ path ∷ [])) = are.1.1.0 in
+    let next : filled (first ∷ (batch ++ path ∷ [])) ≡ filled (first ∷ batch) + length path = filled_more first batch path in
+    let long : left < length path = omega (arith, full, next, sum) in
+    rw (lt-leb (length path) left long) (ap (λ l. (first ∷ batch) ∷ l) (goes_on batches (follow batches) path [] (room - length path) more (begun_room path) are.1.1.1))
+
+alone_in : (batches : List (List (List ℕ))) → AreBatches batches → batches_of (flat_map (λ b. b) batches) ≡ batches
+alone_in [] are = refl
+alone_in ([] ∷ batches) are = absurd (are.0 refl)
+alone_in ((path ∷ more) ∷ batches) are = goes_on batches (follow batches) path [] (room - length path) more (begun_room path) are
+
+pub alone : (paths : List (List ℕ)) (batches : List (List (List ℕ))) → flat_map (λ b. b) batches ≡ paths → AreBatches batches → batches ≡ batches_of paths
+alone paths batches is are = sym (alone_in batches are) ∙ ap batches_of is
+
 pub batches_are : (paths : List (List ℕ)) (batches : List (List (List ℕ))) → batches ≡ batches_of paths → AreBatchesOf paths batches
-batches_are paths batches is = subst (AreBatchesOf paths) (sym is) (record { joined = joined paths; fit = fit paths; few = few paths })
+batches_are paths batches is = subst (AreBatchesOf paths) (sym is) (record { joined = joined paths; fit = fit paths; few = few paths; alone = alone paths })

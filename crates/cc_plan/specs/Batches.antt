@@ -35,8 +35,9 @@ abbrev pub AreBatches : List (List (List ℕ)) → Type 0
 AreBatches [] = Unit {0}
 AreBatches (batch ∷ batches) = (batch ≢ []) × ((filled batch ≤ room) × (IsFull batch batches × AreBatches batches))
 
--- batches of these paths: joined they are the paths, and there are no more of them
+-- joined they are the paths, there are no more of them, and no other batches are so
 pub record AreBatchesOf (paths : List (List ℕ)) (batches : List (List (List ℕ))) : Type 0 where
   pub joined : flat_map (λ batch. batch) batches ≡ paths
   pub fit : AreBatches batches
   pub few : length batches ≤ length paths
+  pub alone : (others : List (List (List ℕ))) → flat_map (λ batch. batch) others ≡ paths → AreBatches others → others ≡ batches

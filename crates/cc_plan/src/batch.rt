@@ -27,19 +27,19 @@ fn begun(alloc: Global, path: &str) -> Mem<Batch>
     })
 }
 
-// Takes a path into the batch that is begun where it fits, and else into a new one.
-fn taken(batches: &mut Vec<Words>, mut last: Batch, path: &str) -> Mem<Batch>
+// Takes a path into the batch that is begun where it fits, and else into the next one. Cutting goes on so, whatever the other paths are.
+fn taken(full: &mut Vec<Words>, mut last: Batch, path: &str) -> Mem<Batch>
     ensures { IfOk result (λ b. (rest : List (List ℕ)) →
-        batches.new.items ++ cut_from b.paths b.left rest
-        ≡ batches.old.items ++ cut_from last.paths last.left (path.now ∷ rest)) }
+        full.new.items ++ cut_from b.paths b.left rest
+        ≡ full.old.items ++ cut_from last.paths last.left (path.now ∷ rest)) }
 {
     if path.len() <= last.left {
         last.paths.push(path)?;
         last.left -= path.len();
         return Ok(last);
     }
-    let next = begun(*batches.allocator(), path)?;
-    batches.push(last.paths)?;
+    let next = begun(*full.allocator(), path)?;
+    full.push(last.paths)?;
     Ok(next)
 }
 

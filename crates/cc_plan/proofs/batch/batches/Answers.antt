@@ -8,3 +8,8 @@ pub returns-in_ok-batches-in-len1-up-clause-law : goal.returns-in_ok-batches-in-
 returns-in_ok-batches-in-len1-up-clause-law c =
     let is : c.in_ok-batches-in-len1-up.batches.items ≡ batches_of c.args.paths.now = grind (arith, common_steps) in
     batches_are c.args.paths.now c.in_ok-batches-in-len1-up.batches.items is
+
+pub returns-in-empty-clause-law : goal.returns-in-empty-clause-law
+returns-in-empty-clause-law c =
+    let is : c.new.result.items ≡ batches_of c.args.paths.now = grind (arith, common_steps) in
+    batches_are c.args.paths.now c.new.result.items is
