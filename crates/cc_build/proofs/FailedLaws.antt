@@ -14,7 +14,7 @@ use Rattle.cc_host.specs.declared.event.Event.TheVariants.{Fault}
 use Rattle.cc_host.specs.declared.event.HostCall.TheVariants.{Start, Turn as Turning}
 use Rattle.cc_plan.specs.Given.{is_disabled}
 use Rattle.cc_plan.specs.Refusal.{first_of, early_refusal, late_refusal}
-use Rattle.cc_plan.specs.declared.error.ArgumentCause.TheVariants.{Output, OutDir, NoFileName, SameObject}
+use Rattle.cc_plan.specs.declared.error.ArgumentCause.TheVariants.{Output, OutDir, NoFileName, SameObject, LibraryIsObject}
 use Rattle.cc_plan.specs.declared.error.PlanError.{PlanError}
 use Rattle.cc_plan.specs.declared.error.PlanError.TheVariants.{Argument, NotSet, UnknownTarget, QnxArch, Flag, Host, NoMemory as WantsMemory}
 use Rattle.cc_plan.specs.declared.settings.BuildConfig.{BuildConfig}
@@ -95,6 +95,7 @@ plan_kind set env output (Argument Output) h = cc
 plan_kind set env output (Argument OutDir) h = cc
 plan_kind set env output (Argument (NoFileName place)) h = cc
 plan_kind set env output (Argument (SameObject first second)) h = cc
+plan_kind set env output (Argument (LibraryIsObject place)) h = cc
 plan_kind set env output (NotSet name) h = cc
 plan_kind set env output (UnknownTarget target) h = cc
 plan_kind set env output (QnxArch arch) h = cc

@@ -4,7 +4,7 @@ use Rattle.std.specs.Option.{option_map}
 use Rattle.cc_env.specs.Env.{EnvSeen}
 use Rattle.cc_host.specs.Question.{Look}
 use Rattle.cc_plan.specs.declared.error.ArgumentCause.{ArgumentCause}
-use Rattle.cc_plan.specs.declared.error.ArgumentCause.TheVariants.{Output, OutDir, NoFileName, SameObject}
+use Rattle.cc_plan.specs.declared.error.ArgumentCause.TheVariants.{Output, OutDir, NoFileName, SameObject, LibraryIsObject}
 use Rattle.cc_plan.specs.declared.error.PlanError.{PlanError}
 use Rattle.cc_plan.specs.declared.error.PlanError.TheVariants.{Argument, NotSet, UnknownTarget, QnxArch, Flag, Host, NoMemory as WantsMemory}
 use Rattle.cc_plan.specs.declared.settings.BuildConfig.{BuildConfig}
@@ -17,11 +17,17 @@ use Rattle.cc_build.specs.Stop.{fault_error}
 abbrev pub source_at : BuildConfig → ℕ → List ℕ
 source_at set place = unwrap_or (slice_get set.files place) []
 
+abbrev pub added_at : BuildConfig → ℕ → List ℕ
+added_at set place = unwrap_or (slice_get set.objects place) []
+
 abbrev pub invalid : List ℕ → List ℕ → ErrorSeen
 invalid subject message = record { kind = InvalidArgument; subject = subject; message = message }
 
 abbrev pub same_object_error : List ℕ → ErrorSeen
 same_object_error object = invalid object (codes "two sources have the object " ++ object)
+
+abbrev pub library_error : List ℕ → ErrorSeen
+library_error object = invalid object (codes "the added object " ++ object ++ codes " is the library")
 
 abbrev pub unset_error : List ℕ → ErrorSeen
 unset_error name = record { kind = EnvVarNotFound; subject = name; message = codes "environment variable " ++ name ++ codes " not defined" }
@@ -46,6 +52,7 @@ argument_error set env output Output = invalid output (codes "argument must be a
 argument_error set env output OutDir = invalid [] (codes "out dir must not be empty")
 argument_error set env output (NoFileName place) = invalid (source_at set place) (codes "No file_name for object file path!")
 argument_error set env output (SameObject first second) = same_object_error (object_in set env (source_at set second))
+argument_error set env output (LibraryIsObject place) = library_error (added_at set place)
 
 -- the error of a refusal, for a compile run of these settings with this output
 unfoldable pub plan_error : BuildConfig → EnvSeen → List ℕ → PlanError → ErrorSeen

@@ -29,6 +29,19 @@ impl<W: World> Build<W> {
         Ok(())
     }
 
+    /// Adds an object last that the library gets behind those of the sources: a path, as the archiver is given it, so a relative one counts
+    /// from the program's current folder. It was compiled elsewhere, by another compiler say; the same path twice stands twice. The path
+    /// of the library itself is refused by the compile run. Refused only for memory; the build is as before.
+    pub fn object(&mut self, obj: &str) -> Result<(), Error>
+        ensures ok { OnOk result (Sets self.old self.new
+            (λ c. record c { objects = c.objects ++ obj.now ∷ [] })) }
+        ensures err { OnErr result (self.new ≡ self.old) }
+        ensures refused { IfErr result (λ e. e ≡ no_memory) }
+    {
+        self.config.objects.push(obj)?;
+        Ok(())
+    }
+
     /// Adds a folder of headers last: `-I` and the path, two words. Folders are searched in the order added (GCC's manual, "Options for
     /// Directory Search"). Refused only for memory; the build is as before.
     pub fn include(&mut self, dir: &str) -> Result<(), Error>
@@ -38,6 +51,18 @@ impl<W: World> Build<W> {
         ensures refused { IfErr result (λ e. e ≡ no_memory) }
     {
         self.config.includes.push(dir)?;
+        Ok(())
+    }
+
+    /// Adds a word last that the archiver is given in each of its commands, behind those of `ARFLAGS` and before the word that says what
+    /// is done, as `cqD` (the manual of GNU `ar`, "Controlling ar on the Command Line"). Refused only for memory; the build is as before.
+    pub fn ar_flag(&mut self, flag: &str) -> Result<(), Error>
+        ensures ok { OnOk result (Sets self.old self.new
+            (λ c. record c { ar_flags = c.ar_flags ++ flag.now ∷ [] })) }
+        ensures err { OnErr result (self.new ≡ self.old) }
+        ensures refused { IfErr result (λ e. e ≡ no_memory) }
+    {
+        self.config.ar_flags.push(flag)?;
         Ok(())
     }
 
@@ -53,6 +78,20 @@ impl<W: World> Build<W> {
         Ok(())
     }
 
+    /// Adds a modifier last with which the library is linked, as `+whole-archive`, by which all its members are linked, or `-bundle`. It
+    /// stands in the line that has Cargo link the library; which there are is rustc's matter (rustc's book, "Command-line Arguments",
+    /// `-l`). Refused only for memory; the build is as before.
+    pub fn link_lib_modifier(&mut self, link_lib_modifier: &str) -> Result<(), Error>
+        ensures ok { OnOk result (Sets self.old self.new (λ c. record c {
+          link_lib_modifiers = c.link_lib_modifiers ++ link_lib_modifier.now ∷ [];
+        })) }
+        ensures err { OnErr result (self.new ≡ self.old) }
+        ensures refused { IfErr result (λ e. e ≡ no_memory) }
+    {
+        self.config.link_lib_modifiers.push(link_lib_modifier)?;
+        Ok(())
+    }
+
     /// Adds sources last, in the order of the list, each as `file` does. Refused only for memory; then none is added.
     pub fn files(&mut self, p: &Words) -> Result<(), Error>
         ensures ok { OnOk result (Sets self.old self.new
@@ -61,6 +100,17 @@ impl<W: World> Build<W> {
         ensures refused { IfErr result (λ e. e ≡ no_memory) }
     {
         self.config.files.extend(p)?;
+        Ok(())
+    }
+
+    /// Adds objects last, in the order of the list, each as `object` does. Refused only for memory; then none is added.
+    pub fn objects(&mut self, objs: &Words) -> Result<(), Error>
+        ensures ok { OnOk result (Sets self.old self.new
+            (λ c. record c { objects = c.objects ++ objs.now })) }
+        ensures err { OnErr result (self.new ≡ self.old) }
+        ensures refused { IfErr result (λ e. e ≡ no_memory) }
+    {
+        self.config.objects.extend(objs)?;
         Ok(())
     }
 

@@ -114,6 +114,14 @@ impl<W: World> Build<W> {
         self.config.warnings_into_errors = warnings_into_errors;
     }
 
+    /// Sets whether the link lines are printed, by which Cargo links the library and finds its folder (Cargo's book, "Build Scripts").
+    /// Off, the library is made as before and whoever wants it has to link it. At first it is on. It takes no memory.
+    pub fn cargo_metadata(&mut self, cargo_metadata: bool)
+        ensures { Sets self.old self.new (λ c. record c { cargo_metadata = cargo_metadata }) }
+    {
+        self.config.cargo_metadata = cargo_metadata;
+    }
+
     /// Sets whether the build's warnings and the lines of the commands' standard error are printed as `cargo:warning=` lines, which Cargo
     /// shows (Cargo's book, "Build Scripts"). Off, what commands write on standard error goes nowhere. At first it is on. It takes no
     /// memory.

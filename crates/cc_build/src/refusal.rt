@@ -2,7 +2,7 @@
 ghost use Rattle.std.specs.Prelude.{◌≡◌, IfOk};
 ghost use Rattle.cc_plan.specs.Plan.{dir_of};
 ghost use Rattle.cc_plan.specs.Refusal.{object_in};
-ghost use Rattle.cc_build.specs.Refusal.{source_at, invalid as invalid_error, same_object_error, unset_error, unknown_error, qnx_error, flag_error, disabled_error, argument_error, plan_error};
+ghost use Rattle.cc_build.specs.Refusal.{source_at, added_at, invalid as invalid_error, same_object_error, library_error, unset_error, unknown_error, qnx_error, flag_error, disabled_error, argument_error, plan_error};
 
 use crate::message::host_error;
 use crate::{Error, ErrorKind};
@@ -17,6 +17,15 @@ fn source_at(set: &BuildConfig, place: u64) -> &str
 {
     match set.files.get(place as usize) {
         Some(source) => source.as_str(),
+        None => "",
+    }
+}
+
+fn added_at(set: &BuildConfig, place: u64) -> &str
+    ensures { result.now ≡ added_at set.now place }
+{
+    match set.objects.get(place as usize) {
+        Some(object) => object.as_str(),
         None => "",
     }
 }
@@ -56,6 +65,15 @@ fn same_object(alloc: Global, set: &BuildConfig, env: &BuildEnv, source: &str) -
     Ok(Error::new(ErrorKind::InvalidArgument, subject, message))
 }
 
+fn library_is_object(alloc: Global, object: &str) -> Mem<Error>
+    ensures { IfOk result (λ e. e ≡ library_error object.now) }
+{
+    let mut message = Text::of(alloc, "the added object ")?;
+    message.push_str(object)?;
+    message.push_str(" is the library")?;
+    invalid(alloc, object, message.as_str())
+}
+
 fn argument_error(
     alloc: Global,
     set: &BuildConfig,
@@ -80,6 +98,7 @@ fn argument_error(
         ArgumentCause::SameObject(_, second) => {
             same_object(alloc, set, env, source_at(set, second))
         },
+        ArgumentCause::LibraryIsObject(place) => library_is_object(alloc, added_at(set, place)),
     }
 }
 

@@ -1,10 +1,10 @@
-// The names of libraries and objects, and macros.
+// The names of libraries and objects, batches of paths, and macros.
 use crate::CallError;
 use crate::answer::{Answer, none, one, push, push_number, refused, strs};
-use crate::given::{Read, one_text, snapshot_in, words_of};
+use crate::given::{Read, number, one_text, snapshot_in, words_of};
 use cc_env::EnvSnapshot;
 use cc_plan::{ArgumentCause, Definition, Object, PlanError};
-use cc_text::{Mem, Text};
+use cc_text::{Mem, Text, Words};
 use std::alloc::Global;
 
 // `refused`, the kind and its places.
@@ -24,6 +24,7 @@ fn refused_argument(alloc: Global, cause: ArgumentCause) -> Answer {
         ArgumentCause::SameObject(first, second) => {
             refused_at(alloc, "SameObject", &[first, second])
         }
+        ArgumentCause::LibraryIsObject(place) => refused_at(alloc, "LibraryIsObject", &[place]),
     }
 }
 
@@ -100,6 +101,33 @@ fn objects_from_files(alloc: Global, given: &[String]) -> Answer {
     objects_in(alloc, &env, root.as_str(), dst.as_str(), sources)
 }
 
+// A path of so many bytes.
+fn path_of(alloc: Global, length: &str) -> Read<Text> {
+    let mut path = Text::new(alloc);
+    for _ in 0..number(length)? {
+        path.push('a')?;
+    }
+    Ok(path)
+}
+
+fn paths_of(alloc: Global, lengths: &[String]) -> Read<Words> {
+    let mut paths = Words::new(alloc);
+    for length in lengths {
+        paths.push_text(path_of(alloc, length.as_str())?)?;
+    }
+    Ok(paths)
+}
+
+// The lengths of paths; how many paths each batch has.
+fn batches(alloc: Global, given: &[String]) -> Answer {
+    let batches = cc_plan::batches(alloc, &paths_of(alloc, given)?)?;
+    let mut texts = Vec::new(alloc);
+    for batch in &batches {
+        push_number(&mut texts, batch.len() as u64)?;
+    }
+    Ok(texts)
+}
+
 fn definition(alloc: Global, name: &str, value: Option<&str>) -> Mem<Definition> {
     let value = match value {
         Some(value) => Some(Text::of(alloc, value)?),
@@ -130,6 +158,7 @@ pub fn call(alloc: Global, name: &str, given: &[String]) -> Option<Answer> {
         "lib_and_archive_names" => Some(lib_and_archive_names(alloc, given)),
         "object_path" => Some(object_path(alloc, given)),
         "objects_from_files" => Some(objects_from_files(alloc, given)),
+        "batches" => Some(batches(alloc, given)),
         "definition_clone" => Some(definition_clone(alloc, given)),
         _ => None,
     }

@@ -1,5 +1,5 @@
 -- How many commands a request has at most, and that refused settings spend no turns.
-use Rattle.std.proofs.Common.{◌≡◌, ℕ, ◌+◌, List, [], ◌∷◌, ◌++◌, length, Bool, true, false, Option, Some, None, if◌then◌else◌, is_some, ◌∙◌, ap, zero-add, arith}
+use Rattle.std.proofs.Common.{◌≡◌, ℕ, ◌+◌, ◌*◌, List, [], ◌∷◌, ◌++◌, length, Bool, true, false, Option, Some, None, if◌then◌else◌, is_some, ◌∙◌, ap, zero-add, arith}
 use Rattle.std.specs.Prelude.{◌≤◌}
 use Rattle.std.specs.Option.{option_map}
 use Rattle.std.proofs.lemmas.List.{length-append, length-map}
@@ -8,15 +8,16 @@ use Rattle.cc_host.specs.Part.{Step}
 use Rattle.cc_host.specs.Question.{Look}
 use Rattle.cc_host.specs.declared.event.LineKind.TheVariants.{Warning}
 use Rattle.cc_host.specs.declared.event.Role.TheVariants.{Compile, Archive, Index}
-use Rattle.cc_plan.specs.Archive as archive
+use Rattle.cc_plan.specs.Archive.{paths_of}
+use Rattle.cc_plan.specs.Batches.{batches_of}
 use Rattle.cc_plan.specs.Given.{is_disabled}
-use Rattle.cc_plan.specs.Plan.{objects_of, library_of, compiles_of, archives_of, indexes_of, warning_lines, prints, folder_steps, removal_steps, link_steps}
+use Rattle.cc_plan.specs.Plan.{objects_of, compiles_of, archived_of, archives_of, indexes_of, warning_lines, prints, folder_steps, removal_steps, link_steps}
 use Rattle.cc_plan.specs.Refusal.{first_of, early_refusal, late_refusal}
-use Rattle.cc_plan.specs.declared.error.ArgumentCause.TheVariants.{Output, OutDir, NoFileName, SameObject}
+use Rattle.cc_plan.specs.declared.error.ArgumentCause.TheVariants.{Output, OutDir, NoFileName, SameObject, LibraryIsObject}
 use Rattle.cc_plan.specs.declared.error.PlanError.{PlanError}
 use Rattle.cc_plan.specs.declared.error.PlanError.TheVariants.{Argument, NotSet, UnknownTarget, QnxArch, Flag, Host, NoMemory as WantsMemory}
-use Rattle.cc_plan.specs.declared.object.Object.{Object}
 use Rattle.cc_plan.specs.declared.settings.BuildConfig.{BuildConfig}
+use Rattle.cc_plan.proofs.BatchLaws.{few}
 use Rattle.cc_build.specs.Error.{ErrorSeen}
 use Rattle.cc_build.specs.Refusal.{plan_error, disabled_error, early_error, late_error, refusal_error}
 use Rattle.cc_build.specs.Stage.{Stage, commands_in, calls, planned, beside, in_turn, folder_stages, compile_stages, removal_stages, archive_stages, link_stages, run_stages, late_stages, planned_stages}
@@ -47,19 +48,29 @@ compile_count set env warns_of_link look =
     let e : length (planned Compile (compiles_of set env look)) ≡ length set.files = length-map (compiles_of set env look) _ ∙ length-map (objects_of set env) _ ∙ length-map set.files _ in
     a ∙ ap (λ n. n + count (beside (planned Compile (compiles_of set env look)))) b ∙ zero-add (count (beside (planned Compile (compiles_of set env look)))) ∙ d ∙ e
 
-one_archive : (set : BuildConfig) (env : EnvSeen) (library : List ℕ) (objects : List Object) → length (archive.archives_of set env library objects) ≤ 1
-one_archive set env library [] = omega arith
-one_archive set env library (object ∷ objects) = omega arith
+-- as many objects as sources and added ones
+object_count : (set : BuildConfig) (env : EnvSeen) → length (archived_of set env) ≡ length set.files + length set.objects
+object_count set env =
+    length-append (paths_of (objects_of set env)) set.objects
+    ∙ ap (λ n. n + length set.objects) (length-map (objects_of set env) _ ∙ length-map set.files _)
 
--- an archive command or none, and one of the index
-archive_count : (set : BuildConfig) (env : EnvSeen) (output : List ℕ) → count (archive_stages set env output) ≤ 2
+-- no more archive commands than objects
+archives_few : (set : BuildConfig) (env : EnvSeen) (output : List ℕ) → length (archives_of set env output) ≤ length set.files + length set.objects
+archives_few set env output =
+    let a : length (archives_of set env output) ≡ length (batches_of (archived_of set env)) = length-map (batches_of (archived_of set env)) _ in
+    let b : length (batches_of (archived_of set env)) ≤ length (archived_of set env) = few (archived_of set env) in
+    let d : length (archived_of set env) ≡ length set.files + length set.objects = object_count set env in
+    omega arith
+
+-- the archive commands, and one of the index
+archive_count : (set : BuildConfig) (env : EnvSeen) (output : List ℕ) → count (archive_stages set env output) ≤ length set.files + length set.objects + 1
 unfolding archive_stages
 archive_count set env output =
     let a : count (in_turn (planned Archive (archives_of set env output)) ++ in_turn (planned Index (indexes_of set env output))) ≡ count (in_turn (planned Archive (archives_of set env output))) + count (in_turn (planned Index (indexes_of set env output))) =
     both (in_turn (planned Archive (archives_of set env output))) (in_turn (planned Index (indexes_of set env output))) in
     let b : count (in_turn (planned Archive (archives_of set env output))) ≡ length (archives_of set env output) = ap length (commands_in_turn (planned Archive (archives_of set env output))) ∙ length-map (archives_of set env output) _ in
     let d : count (in_turn (planned Index (indexes_of set env output))) ≡ 1 = ap length (commands_in_turn (planned Index (indexes_of set env output))) in
-    let e : length (archives_of set env output) ≤ 1 = one_archive set env (library_of set env output) (objects_of set env) in
+    let e : length (archives_of set env output) ≤ length set.files + length set.objects = archives_few set env output in
     omega arith
 
 folder_count : (set : BuildConfig) (env : EnvSeen) → count (folder_stages set env) ≡ 0
@@ -74,16 +85,16 @@ link_count : (set : BuildConfig) (env : EnvSeen) (output : List ℕ) → count (
 unfolding link_stages
 link_count set env output = calls_none (link_steps set env output)
 
-four : (a b d e : List Stage) (n : ℕ) → count a ≡ n → count b ≡ 0 → count d ≤ 2 → count e ≡ 0 → count (a ++ (b ++ (d ++ e))) ≤ n + 2
-four a b d e n p q r s =
+four : (a b d e : List Stage) (n m : ℕ) → count a ≡ n → count b ≡ 0 → count d ≤ n + m + 1 → count e ≡ 0 → count (a ++ (b ++ (d ++ e))) ≤ 2 * n + m + 1
+four a b d e n m p q r s =
     let x : count (a ++ (b ++ (d ++ e))) ≡ count a + count (b ++ (d ++ e)) = both a (b ++ (d ++ e)) in
     let y : count (b ++ (d ++ e)) ≡ count b + count (d ++ e) = both b (d ++ e) in
     let z : count (d ++ e) ≡ count d + count e = both d e in
     omega arith
 
-run_count : (set : BuildConfig) (env : EnvSeen) (warns_of_link : Bool) (look : Look) (output : List ℕ) → count (run_stages set env warns_of_link look output) ≤ length set.files + 2
+run_count : (set : BuildConfig) (env : EnvSeen) (warns_of_link : Bool) (look : Look) (output : List ℕ) → count (run_stages set env warns_of_link look output) ≤ 2 * length set.files + length set.objects + 1
 run_count set env warns_of_link look output =
-    four (compile_stages set env warns_of_link look) (removal_stages set env output) (archive_stages set env output) (link_stages set env output) (length set.files)
+    four (compile_stages set env warns_of_link look) (removal_stages set env output) (archive_stages set env output) (link_stages set env output) (length set.files) (length set.objects)
     (compile_count set env warns_of_link look) (removal_count set env output) (archive_count set env output) (link_count set env output)
 
 by_checks : (early disabled late : Bool) (folder run : List Stage) (n : ℕ) → count folder ≡ 0 → count run ≤ n → count (if early then [] else folder ++ (if disabled then [] else Asks ∷ (if late then [] else run))) ≤ n
@@ -92,11 +103,11 @@ by_checks false true late folder run n f r = let x : count (folder ++ []) ≡ co
 by_checks false false true folder run n f r = let x : count (folder ++ Asks ∷ []) ≡ count folder + 0 = both folder (Asks ∷ []) in omega arith
 by_checks false false false folder run n f r = let x : count (folder ++ Asks ∷ run) ≡ count folder + count run = both folder (Asks ∷ run) in omega arith
 
--- no more commands than the sources and two
-pub planned_count : (set : BuildConfig) (env : EnvSeen) (warns_of_link : Bool) (look : Look) (output : List ℕ) → count (planned_stages set env warns_of_link look output) ≤ length set.files + 2
+-- no more commands than twice the sources, the added objects and one
+pub planned_count : (set : BuildConfig) (env : EnvSeen) (warns_of_link : Bool) (look : Look) (output : List ℕ) → count (planned_stages set env warns_of_link look output) ≤ 2 * length set.files + length set.objects + 1
 unfolding planned_stages late_stages
 planned_count set env warns_of_link look output =
-    by_checks (is_some (early_refusal set env output)) (is_disabled env) (is_some (late_refusal set env look)) (folder_stages set env) (run_stages set env warns_of_link look output) (length set.files + 2)
+    by_checks (is_some (early_refusal set env output)) (is_disabled env) (is_some (late_refusal set env look)) (folder_stages set env) (run_stages set env warns_of_link look output) (2 * length set.files + length set.objects + 1)
     (folder_count set env) (run_count set env warns_of_link look output)
 
 -- ---- the error of refused settings
@@ -111,6 +122,7 @@ plan_kind set env output (Argument Output) spent = cc
 plan_kind set env output (Argument OutDir) spent = cc
 plan_kind set env output (Argument (NoFileName place)) spent = cc
 plan_kind set env output (Argument (SameObject first second)) spent = cc
+plan_kind set env output (Argument (LibraryIsObject place)) spent = cc
 plan_kind set env output (NotSet name) spent = cc
 plan_kind set env output (UnknownTarget target) spent = cc
 plan_kind set env output (QnxArch arch) spent = cc

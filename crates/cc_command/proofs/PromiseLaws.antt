@@ -304,13 +304,13 @@ complete look (Err bad) part ended c a = tt
 pub same_error : (e f : ErrorSeen) (ended : Ended) → ended ≡ ended_refused e → ended ≡ ended_refused f → e ≡ f
 same_error e f ended a b = let s : Some e ≡ Some f = ap (λ (x : Ended). x.error) (sym a ∙ b) in cc
 
--- fewer turns than the patience with each command, of which there are at most twice the sources and two
-too_few : (p n files most turned : ℕ) → turned < p * n → n ≤ files + 2 → p * (2 * files + 2) ≤ most → turned ≡ most → ⊥
-too_few p n files most turned few count enough same =
-    let more : p * n ≤ p * (2 * files + 2) = mul-le-mul_left p (omega (arith, count)) in
+-- fewer turns than the patience with each command, of which there are fewer than twice the sources, the added objects and two
+too_few : (p n files objects most turned : ℕ) → turned < p * n → n ≤ 2 * files + objects + 1 → p * (2 * files + objects + 2) ≤ most → turned ≡ most → ⊥
+too_few p n files objects most turned few count enough same =
+    let more : p * n ≤ p * (2 * files + objects + 2) = mul-le-mul_left p (omega (arith, count)) in
     omega arith
 
-enough_of : (look : Look) (q : Request) (part : List Event) (ended : Ended) (c : Course) → Answers look q part ended c → (total p : ℕ) → c.total ≡ Some total → c.patience ≡ Some p → p * (2 * length q.1.config.files + 2) ≤ c.before.left → EndsSpent c.before.left part ended → ⊥
+enough_of : (look : Look) (q : Request) (part : List Event) (ended : Ended) (c : Course) → Answers look q part ended c → (total p : ℕ) → c.total ≡ Some total → c.patience ≡ Some p → p * (2 * length q.1.config.files + length q.1.config.objects + 2) ≤ c.before.left → EndsSpent c.before.left part ended → ⊥
 enough_of look q part ended c (inl well) total p one patient enough spent =
     let s : ended.status ≡ 0 = ap (λ (x : Ended). x.status) well.0 in
     let r : ended.status ≡ 1 = ap (λ (x : Ended). x.status) spent.1.0 in
@@ -324,7 +324,7 @@ enough_of look q part ended c (inr (inl r)) total p one patient enough spent =
     let few : turns r.run < p * length (commands_in (stages_of look q r.run)) =
     halted_bound (terms_in q r.run c) (error_of look q r.run) (stages_of look q r.run) r.run r.error c.before c.after total p one patient
     (never_spent q.1.config (env_in q r.run) look q.0) r.refused (ap (λ (x : ErrorSeen). x.kind) same ∙ spent.1.1) in
-    too_few p (length (commands_in (stages_of look q r.run))) (length q.1.config.files) c.before.left (turns r.run) few (planned_count q.1.config (env_in q r.run) true look q.0) enough
+    too_few p (length (commands_in (stages_of look q r.run))) (length q.1.config.files) (length q.1.config.objects) c.before.left (turns r.run) few (planned_count q.1.config (env_in q r.run) true look q.0) enough
     (sym (turns_same part r.run r.line r.cut (line_of (error_line r.error) r.line r.printed)) ∙ spent.1.2)
 
 pub enough : (look : Look) (words : Result Request BadWord) (part : List Event) (ended : Ended) (c : Course) → AnswersWords look words part ended c → IsEnough look words part ended c

@@ -107,9 +107,9 @@ EndsSpent most part ended = (e : ErrorSeen) × ((ended ≡ ended_refused e) × (
 abbrev pub IsComplete : Look → Result Request BadWord → List Event → Ended → Course → Type 0
 IsComplete look words part ended c = IfOk words (λ request. Valid request.1.config (env_in request part) look request.0 → (Failed part → ⊥) → (HasFault part → ⊥) → (Rose c.before.faults c.after.faults → ⊥) → (ended ≡ ended_well) ⊎ (EndsSpent c.before.left part ended ⊎ (ended ≡ ended_wanting)))
 
--- The turns are enough where one caller owns the pool, the host tells its patience, and there are as many times that as twice the sources and two.
+-- The turns are enough where one caller owns the pool, the host tells its patience, and there are as many times that as twice the sources, the added objects and two.
 abbrev pub IsEnough : Look → Result Request BadWord → List Event → Ended → Course → Type 0
-IsEnough look words part ended c = IfOk words (λ request. (total p : ℕ) → c.total ≡ Some total → c.patience ≡ Some p → p * (2 * length request.1.config.files + 2) ≤ c.before.left → EndsSpent c.before.left part ended → ⊥)
+IsEnough look words part ended c = IfOk words (λ request. (total p : ℕ) → c.total ≡ Some total → c.patience ≡ Some p → p * (2 * length request.1.config.files + length request.1.config.objects + 2) ≤ c.before.left → EndsSpent c.before.left part ended → ⊥)
 
 -- What a run of the words promises of its answer, its part and its course.
 pub record Promises {Z : Type 0} (words : List (String Z)) (ended : Ended) (look : Look) (part : List Event) (c : Course) : Type 0 where

@@ -45,7 +45,9 @@ is_text_key key =
 
 -- a key whose values are kept one after another
 unfoldable pub is_item_key : List ℕ → Bool
-is_item_key key = is key "file" || is key "include" || is key "asm_flag" || is key "flag" || is key "flag_if_supported" || is key "remove_flag" || is key "define"
+is_item_key key =
+    is key "file" || is key "object" || is key "include" || is key "ar_flag" || is key "asm_flag" || is key "link_lib_modifier" || is key "flag"
+    || is key "flag_if_supported" || is key "remove_flag" || is key "define"
 
 -- a key of a setting that is on or off, or unset
 unfoldable pub is_choice_key : List ℕ → Bool
@@ -56,8 +58,8 @@ is_choice_key key =
 -- a key of a setting that is on or off
 unfoldable pub is_switch_key : List ℕ → Bool
 is_switch_key key =
-    is key "no_default_flags" || is key "reproducible_codeview" || is key "cpp" || is key "warnings_into_errors" || is key "cargo_warnings"
-    || is key "cargo_output" || is key "emit_rerun_if_env_changed" || is key "prefer_clang_cl_over_msvc" || is key "inherit_rustflags" || is key "inherit_trim_paths"
+    is key "no_default_flags" || is key "reproducible_codeview" || is key "cpp" || is key "warnings_into_errors" || is key "cargo_metadata"
+    || is key "cargo_warnings" || is key "cargo_output" || is key "emit_rerun_if_env_changed" || is key "prefer_clang_cl_over_msvc" || is key "inherit_rustflags" || is key "inherit_trim_paths"
 
 abbrev pub cause_unless : Bool → Option WordCause
 cause_unless fine = if fine then None else Some BadValue
@@ -165,8 +167,11 @@ abbrev pub settings_of : List (List ℕ) → BuildSeen
 settings_of words = record {
   config = record {
     files = values (by "file") words;
+    objects = values (by "object") words;
     includes = values (by "include") words;
+    ar_flags = values (by "ar_flag") words;
     asm_flags = values (by "asm_flag") words;
+    link_lib_modifiers = values (by "link_lib_modifier") words;
     flags = flags_of words;
     definitions = map definition_of (values (by "define") words);
     remap_source_paths = map variable_of (values (by "remap_source_path") words);
@@ -194,6 +199,7 @@ settings_of words = record {
     reproducible_codeview = latest_truth false (values (by "reproducible_codeview") words);
     cpp = latest_truth false (values (by "cpp") words);
     warnings_into_errors = latest_truth false (values (by "warnings_into_errors") words);
+    cargo_metadata = latest_truth true (values (by "cargo_metadata") words);
     cargo_warnings = latest_truth true (values (by "cargo_warnings") words);
     cargo_output = latest_truth true (values (by "cargo_output") words);
     emit_rerun_if_env_changed = latest_truth true (values (by "emit_rerun_if_env_changed") words);

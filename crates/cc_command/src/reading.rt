@@ -108,8 +108,11 @@ fn set_item<W: World>(
 {
     match key {
         "file" => set(build.file(value)),
+        "object" => set(build.object(value)),
         "include" => set(build.include(value)),
+        "ar_flag" => set(build.ar_flag(value)),
         "asm_flag" => set(build.asm_flag(value)),
+        "link_lib_modifier" => set(build.link_lib_modifier(value)),
         "flag" => set(build.flag(value)),
         "flag_if_supported" => set(build.flag_if_supported(value)),
         "define" => set(define(build, value)),
@@ -150,6 +153,7 @@ fn is_switch_key(key: &str) -> bool
             | "reproducible_codeview"
             | "cpp"
             | "warnings_into_errors"
+            | "cargo_metadata"
             | "cargo_warnings"
             | "cargo_output"
             | "emit_rerun_if_env_changed"
@@ -231,6 +235,10 @@ fn set_switch<W: World>(build: &mut Build<W>, key: &str, on: bool) -> bool
         }
         "warnings_into_errors" => {
             build.warnings_into_errors(on);
+            true
+        }
+        "cargo_metadata" => {
+            build.cargo_metadata(on);
             true
         }
         "cargo_warnings" => {

@@ -33,12 +33,15 @@ commands:
 
 keys that may stand again, each adding one:
   file=PATH              a source
+  object=PATH            an object that the library gets behind those of the sources
   include=DIR            a folder of headers
   define=K, define=K=V   a macro
   flag=WORD              a flag of the compiler
   flag_if_supported=WORD a flag that is left out where the compiler doesn't take it
   remove_flag=WORD       takes out every earlier flag that is this word
   asm_flag=WORD          a flag of sources in assembly
+  ar_flag=WORD           a flag of the archiver
+  link_lib_modifier=WORD a modifier of the link line, as +whole-archive
   env=K=V                a variable of the commands
   remap_source_path=FROM=TO   paths that begin with FROM are told as beginning with TO
 
@@ -55,8 +58,8 @@ keys of which the last counts:
 
 keys of true or false:
   cpp  pic  use_plt  static_crt  static_flag  shared_flag  warnings  extra_warnings  warnings_into_errors
-  no_default_flags  reproducible_codeview  shell_escaped_flags  cargo_warnings  cargo_output  cargo_debug
-  emit_rerun_if_env_changed  prefer_clang_cl_over_msvc  force_frame_pointer  inherit_rustflags  inherit_trim_paths
+  no_default_flags  reproducible_codeview  shell_escaped_flags  cargo_metadata  cargo_warnings  cargo_output
+  cargo_debug  emit_rerun_if_env_changed  prefer_clang_cl_over_msvc  force_frame_pointer  inherit_rustflags  inherit_trim_paths
 
 options:
   --help      print this text

@@ -1,4 +1,6 @@
+pub mod AddedLaws
 pub mod AskingLemmas
+pub mod BatchLaws
 pub mod BeforeLemmas
 pub mod CompilationLemmas
 pub mod CompileLemmas

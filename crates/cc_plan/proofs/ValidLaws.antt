@@ -19,7 +19,9 @@ use Rattle.cc_plan.specs.Tool.{defaults_refusal_by}
 use Rattle.cc_plan.specs.ToolWords.{first_refusal, names_target, musl_sysroot, qnx_refusal, sysroot_refusal, clang_refusal, defaults_refusal}
 use Rattle.cc_plan.specs.declared.error.PlanError.{PlanError}
 use Rattle.cc_plan.specs.declared.error.PlanError.TheVariants.{QnxArch, NotSet}
-use Rattle.cc_plan.specs.Refusal.{place_from, earlier_place, source_refusal, sources_after, out_dir_refusal, unset, target_refusal, platform_refusal, given_refusal, refusal_by, tool_refusal, early_refusal, late_refusal, object_in, is_empty}
+use Rattle.cc_plan.specs.Refusal.{place_from, earlier_place, source_refusal, sources_after, out_dir_refusal, unset, target_refusal, platform_refusal, given_refusal, refusal_by, tool_refusal, early_refusal, late_refusal, object_in, library_in, is_empty}
+use Rattle.cc_plan.specs.Added.{added_refusal}
+use Rattle.cc_plan.proofs.AddedLaws.{added_accepted}
 use Rattle.cc_plan.specs.Valid.{IsNoneOf, AreApart, IsKnown, IsSetNonempty, HasVariant, HasSysroot, Parse, Valid}
 use Rattle.cc_plan.specs.declared.settings.BuildConfig.{BuildConfig}
 
@@ -128,7 +130,8 @@ unfolding early_refusal
 early_accepted set env look output v =
     let dir : out_dir_refusal (out_dir_of set env) ≡ None = dir_set (out_dir_of set env) v.out_dir in
     let sources : sources_after (object_in set env) [] set.files ≡ None = all_taken (object_in set env) [] set.files v.named v.apart in
-    rw (v.name, dir, sources) refl
+    let added : added_refusal (library_in set env output) set.objects ≡ None = added_accepted (library_in set env output) set.objects v.others in
+    rw (v.name, dir, sources, added) refl
 
 -- what the words of the target need is there
 words_accepted : (set : BuildConfig) (env : EnvSeen) (look : Look) (output : List ℕ) → Valid set env look output → is_empty set.files ≡ false → defaults_refusal_of set env look ≡ None

@@ -1,6 +1,8 @@
+pub mod Added
 pub mod Android
 pub mod Archive
 pub mod Asking
+pub mod Batches
 pub mod Blanks
 pub mod Choice
 pub mod Compilation

@@ -1,6 +1,6 @@
 -- The steps of a compile run, as a function of the settings, the environment and the output.
 use Rattle.std.specs.Prelude.{ℕ, Bool, List, [], ◌∷◌, ◌++◌, map, unwrap_or, codes, if◌then◌else◌}
-use Rattle.std.specs.Path.{path_parent, path_join}
+use Rattle.std.specs.Path.{path_parent}
 use Rattle.cc_env.specs.Env.{EnvSeen}
 use Rattle.cc_host.specs.Command.{CommandSeen}
 use Rattle.cc_host.specs.Part.{Step}
@@ -15,9 +15,9 @@ use Rattle.cc_plan.specs.Archive as archive
 use Rattle.cc_plan.specs.Compile as compile
 use Rattle.cc_plan.specs.Given.{out_dir_of}
 use Rattle.cc_plan.specs.Link.{printed_line, link_lines as lines_of}
-use Rattle.cc_plan.specs.Names.{library_name, library_file}
+use Rattle.cc_plan.specs.Names.{library_name}
 use Rattle.cc_plan.specs.Object as object
-use Rattle.cc_plan.specs.Refusal.{is_empty}
+use Rattle.cc_plan.specs.Refusal.{is_empty, library_in}
 use Rattle.cc_plan.specs.Target.{target_info}
 use Rattle.cc_plan.specs.Planned.{tool_of, warnings_of}
 
@@ -29,20 +29,24 @@ abbrev pub objects_of : BuildConfig → EnvSeen → List Object
 objects_of set env = object.objects_of env.inherited set.source_root (dir_of set env) set.files
 
 abbrev pub library_of : BuildConfig → EnvSeen → List ℕ → List ℕ
-library_of set env output = path_join (dir_of set env) (library_file output)
+library_of set env output = library_in set env output
 
 abbrev pub compiles_of : BuildConfig → EnvSeen → Look → List CommandSeen
 compiles_of set env look = compile.compiles_of set (target_info set env) (tool_of set env look) (objects_of set env)
 
+-- the paths that the library gets, in order: those of the objects, and then the added ones
+abbrev pub archived_of : BuildConfig → EnvSeen → List (List ℕ)
+archived_of set env = archive.paths_of (objects_of set env) ++ set.objects
+
 abbrev pub archives_of : BuildConfig → EnvSeen → List ℕ → List CommandSeen
-archives_of set env output = archive.archives_of set env (library_of set env output) (objects_of set env)
+archives_of set env output = archive.archives_of set env (library_of set env output) (archived_of set env)
 
 abbrev pub indexes_of : BuildConfig → EnvSeen → List ℕ → List CommandSeen
 indexes_of set env output = archive.indexes_of set env (library_of set env output)
 
--- the library is linked by its name, and sought in the folder that its path has
+-- the library is linked by its name, and sought in the folder that its path has, where link lines are wanted
 abbrev pub link_lines : BuildConfig → EnvSeen → List ℕ → List (List ℕ)
-link_lines set env output = lines_of (library_name output) (unwrap_or (path_parent (library_of set env output)) [])
+link_lines set env output = lines_of set (library_name output) (unwrap_or (path_parent (library_of set env output)) [])
 
 -- a warning as Cargo reads it
 abbrev pub warning_line : List ℕ → List ℕ

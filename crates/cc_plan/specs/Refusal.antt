@@ -1,8 +1,9 @@
 -- What settings and snapshot are refused for. The answer is that of the first part which doesn't hold, in the order of the definitions.
 use Rattle.std.specs.Prelude.{◌≡◌, ◌⊎◌, Result, OnOk, IfErr, ℕ, ◌+◌, List, [], ◌∷◌, ◌++◌, length, map, Bool, Option, Some, None, is_none, unwrap_or, true, false, codes, bytes_eq, if◌then◌else◌}
 use Rattle.std.specs.Option.{option_map}
-use Rattle.std.specs.Path.{path_file_name}
-use Rattle.cc_plan.specs.Names.{is_output_name}
+use Rattle.std.specs.Path.{path_file_name, path_join}
+use Rattle.cc_plan.specs.Added.{added_refusal}
+use Rattle.cc_plan.specs.Names.{is_output_name, library_file}
 use Rattle.cc_env.specs.Env.{EnvSeen}
 use Rattle.cc_host.specs.Question.{Look}
 use Rattle.cc_target.specs.Targets.{is_known}
@@ -88,9 +89,14 @@ tool_refusal set env look = first_of (given_refusal set env) (refusal_by set env
 abbrev pub object_in : BuildConfig → EnvSeen → List ℕ → List ℕ
 object_in set env source = object_path env.inherited set.source_root (unwrap_or (out_dir_of set env) []) source
 
+-- the library in the out dir
+abbrev pub library_in : BuildConfig → EnvSeen → List ℕ → List ℕ
+library_in set env output = path_join (unwrap_or (out_dir_of set env) []) (library_file output)
+
 -- before the folder of the objects is made
 unfoldable pub early_refusal : BuildConfig → EnvSeen → List ℕ → Option PlanError
-early_refusal set env output = first_of (name_refusal output) (first_of (out_dir_refusal (out_dir_of set env)) (sources_refusal (object_in set env) set.files))
+early_refusal set env output =
+    first_of (name_refusal output) (first_of (out_dir_refusal (out_dir_of set env)) (first_of (sources_refusal (object_in set env) set.files) (added_refusal (library_in set env output) set.objects)))
 
 abbrev pub is_empty : List (List ℕ) → Bool
 is_empty [] = true

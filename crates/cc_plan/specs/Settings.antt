@@ -2,12 +2,15 @@
 use Rattle.std.specs.Prelude.{[], None, true, false}
 use Rattle.cc_plan.specs.declared.settings.BuildConfig.{BuildConfig}
 
--- no source and nothing set, warnings, output of the commands, rerun lines and what Cargo hands down on, all else off
+-- no source and nothing set, link lines, warnings, output of the commands, rerun lines and what Cargo hands down on, all else off
 abbrev pub unset_settings : BuildConfig
 unset_settings = record {
   files = [];
+  objects = [];
   includes = [];
+  ar_flags = [];
   asm_flags = [];
+  link_lib_modifiers = [];
   flags = [];
   definitions = [];
   remap_source_paths = [];
@@ -35,6 +38,7 @@ unset_settings = record {
   reproducible_codeview = false;
   cpp = false;
   warnings_into_errors = false;
+  cargo_metadata = true;
   cargo_warnings = true;
   cargo_output = true;
   emit_rerun_if_env_changed = true;

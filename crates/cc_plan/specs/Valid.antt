@@ -1,7 +1,7 @@
 -- Settings, an environment and an output that a compile run doesn't refuse, with these verdicts.
 use Rattle.std.specs.Prelude.{◌≡◌, ◌≢◌, ℕ, List, [], ◌∷◌, map, true, false, not, Option, Some, None, IsSome}
 use Rattle.std.specs.List.{AllByRecursion, list_all}
-use Rattle.std.specs.Path.{path_file_name}
+use Rattle.std.specs.Path.{path_file_name, path_components}
 use Rattle.cc_plan.specs.Names.{is_output_name}
 use Rattle.cc_env.specs.Env.{EnvSeen}
 use Rattle.cc_host.specs.Question.{Look}
@@ -11,7 +11,7 @@ use Rattle.cc_flags.specs.DefaultWords.{is_qnx, qnx_variant, is_wasm_linux}
 use Rattle.cc_flags.specs.Fields.{is_invalid}
 use Rattle.cc_flags.specs.Pairs.{pairs_of}
 use Rattle.cc_plan.specs.Given.{out_dir_of, target_of, host_of, level_of, is_disabled, has_no_defaults}
-use Rattle.cc_plan.specs.Refusal.{is_empty, object_in}
+use Rattle.cc_plan.specs.Refusal.{is_empty, object_in, library_in}
 use Rattle.cc_plan.specs.Compilation.{CompilationSeen}
 use Rattle.cc_plan.specs.Inherited.{inherited_text}
 use Rattle.cc_plan.specs.Planned.{planned}
@@ -55,6 +55,8 @@ pub record Valid (set : BuildConfig) (env : EnvSeen) (look : Look) (output : Lis
   pub out_dir : IsSetNonempty (out_dir_of set env)
   pub named : AllByRecursion (λ source. IsSome (path_file_name source)) set.files
   pub apart : AreApart (map (object_in set env) set.files)
+  -- no added object is the library
+  pub others : AllByRecursion (λ object. path_components object ≢ path_components (library_in set env output)) set.objects
   -- commands may run
   pub enabled : is_disabled env ≡ false
   pub target : IsKnown (target_of set env)

@@ -1,11 +1,11 @@
 // The archive and index commands.
-ghost use Rattle.std.specs.Prelude.{◌≡◌, [], ◌∷◌, None, IfOk};
-ghost use Rattle.cc_plan.specs.Archive.{archiver_of, archive_env, archiver_in, archive_of, archives_of, index_of, indexes_of};
+ghost use Rattle.std.specs.Prelude.{◌≡◌, [], ◌∷◌, ◌++◌, None, IfOk};
+ghost use Rattle.cc_plan.specs.Archive.{archiver_of, archive_env, archiver_flags, archiver_in, archive_of, archives_of, index_of, indexes_of};
 
-use crate::{BuildConfig, Object};
+use crate::{BuildConfig, batches, variable_flags};
 use cc_env::BuildEnv;
 use cc_host::Command;
-use cc_text::{Mem, Vars};
+use cc_text::{Mem, Vars, Words};
 use std::alloc::Global;
 
 // The set archiver, else `ar`.
@@ -27,19 +27,31 @@ fn archive_env(alloc: Global, env: &BuildEnv) -> Mem<Vars>
     env.inherited().child_vars(alloc, &entries)
 }
 
-// A command of the archiver with these variables, whose words begin with a form and the library.
+// The words before those of a form: the flags of the variables, and then the set ones.
+#[tactic(auto, unfolding(crate::specs::Archive::archiver_flags))]
+fn archiver_flags(alloc: Global, set: &BuildConfig, env: &BuildEnv) -> Mem<Words>
+    ensures { IfOk result (λ flags. flags ≡ archiver_flags set.now env.now) }
+{
+    let mut flags = variable_flags(alloc, set, env, "ARFLAGS")?.unwrap_or(Words::new(alloc));
+    flags.extend(&set.ar_flags)?;
+    Ok(flags)
+}
+
+// A command of the archiver with these variables, whose words are the flags, a form and the library.
 fn archiver_in(
     alloc: Global,
     set: &BuildConfig,
+    env: &BuildEnv,
     vars: &Vars,
     form: &str,
     library: &str,
 ) -> Mem<Command>
     ensures { IfOk result (λ cmd.
-        cmd ≡ archiver_in set.now vars.now (form.now ∷ library.now ∷ [])) }
+        cmd ≡ archiver_in set.now env.now vars.now (form.now ∷ library.now ∷ [])) }
 {
     let mut cmd = Command::new(alloc, archiver_of(set))?;
     cmd.envs(vars)?;
+    cmd.args(&archiver_flags(alloc, set, env)?)?;
     cmd.arg(form)?;
     cmd.arg(library)?;
     Ok(cmd)
@@ -50,43 +62,42 @@ fn archive_start(alloc: Global, set: &BuildConfig, env: &BuildEnv, library: &str
     ensures { IfOk result (λ cmd. cmd ≡ archive_of set.now env.now library.now []) }
 {
     let vars = archive_env(alloc, env)?;
-    archiver_in(alloc, set, &vars, "cqD", library)
-}
-
-fn archive_command(
-    alloc: Global,
-    set: &BuildConfig,
-    env: &BuildEnv,
-    library: &str,
-    objects: &[Object],
-) -> Mem<Command>
-    ensures { IfOk result (λ cmd. cmd ≡ archive_of set.now env.now library.now objects.now) }
-{
-    let mut cmd = archive_start(alloc, set, env, library)?;
-    for object in objects {
-        cmd.arg(object.dst.as_str())?;
-    }
+    let cmd = archiver_in(alloc, set, env, &vars, "cqD", library)?;
     Ok(cmd)
 }
 
-/// The commands that write the objects into the library, in order: one with all of them, or none where there is no object. The archiver
-/// is the set one, else `ar`. Only want of memory refuses.
+// A second command with the words of the first, and then these. They share their environment.
+fn with_words(start: &Command, words: &Words) -> Mem<Command>
+    ensures { IfOk result (λ cmd.
+        cmd ≡ record start.now { args = start.now.args ++ words.now }) }
+{
+    let mut cmd = start.try_clone()?;
+    cmd.args(words)?;
+    Ok(cmd)
+}
+
+/// The commands that write objects of these paths into the library, in order: one a batch, and none where there is no path. The archiver
+/// is the set one, else `ar`; before the word `cqD` it gets the flags of `ARFLAGS`, which is looked up as `CFLAGS` is, and the set ones.
+/// Only want of memory refuses.
 ///
 /// By the manual of GNU `ar`, `c` makes the library without saying so, `q` adds members last without a look at those that are there, and
 /// `D` writes zero for times and owners, so that the same objects give the same bytes. `ZERO_AR_DATE` has Apple's archiver do so for times.
+/// So what an earlier command wrote stays, and one path may come twice. A batch keeps each command line short.
 pub fn archive_commands(
     alloc: Global,
     set: &BuildConfig,
     env: &BuildEnv,
     library: &str,
-    objects: &[Object],
+    paths: &Words,
 ) -> Mem<Vec<Command>>
     ensures { IfOk result (λ cmds.
-        cmds.items ≡ archives_of set.now env.now library.now objects.now) }
+        cmds.items ≡ archives_of set.now env.now library.now paths.now) }
 {
+    let start = archive_start(alloc, set, env, library)?;
+    let batches = batches(alloc, paths)?;
     let mut cmds = Vec::new(alloc);
-    if !objects.is_empty() {
-        cmds.push(archive_command(alloc, set, env, library, objects)?)?;
+    for batch in &batches {
+        cmds.push(with_words(&start, batch)?)?;
     }
     Ok(cmds)
 }
@@ -95,11 +106,11 @@ fn index_command(alloc: Global, set: &BuildConfig, env: &BuildEnv, library: &str
     ensures { IfOk result (λ cmd. cmd ≡ index_of set.now env.now library.now) }
 {
     let vars = env.child_vars(alloc)?;
-    archiver_in(alloc, set, &vars, "sD", library)
+    archiver_in(alloc, set, env, &vars, "sD", library)
 }
 
-/// The commands that write the index of the library, by which a linker finds symbols: one. By the manual of GNU `ar`, `s` writes it, and
-/// `D` without the time. Only want of memory refuses.
+/// The commands that write the index of the library, by which a linker finds symbols: one, with the flags of the archive commands. By the
+/// manual of GNU `ar`, `s` writes it, and `D` without the time. Only want of memory refuses.
 pub fn index_commands(
     alloc: Global,
     set: &BuildConfig,

@@ -6,7 +6,7 @@ use cc_host::{HostCall, Why};
 use cc_text::{NoMemory, Text};
 use std::alloc::{AllocError, AllocFailed};
 
-/// What is wrong with an argument of a build. Places count from 0, in the order in which sources were added.
+/// What is wrong with an argument of a build. Places count from 0, in the order in which sources or objects were added.
 #[derive(Clone, Copy, Debug, PartialEq, Eq)]
 pub enum ArgumentCause {
     /// The output is no name of a library.
@@ -17,6 +17,8 @@ pub enum ArgumentCause {
     NoFileName(u64),
     /// The sources at these two places, the earlier one first, have one object.
     SameObject(u64, u64),
+    /// The added object at this place is the library.
+    LibraryIsObject(u64),
 }
 
 /// Why a plan is refused. A refused plan runs no command; what it asked until then is in the log of the host.

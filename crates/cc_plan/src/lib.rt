@@ -6,8 +6,10 @@
 //! `specs/Refusal.antt` says.
 #![tactic(auto)]
 
+mod added;
 mod android;
 mod archive;
+mod batch;
 mod blanks;
 mod choice;
 mod compilation;
@@ -35,6 +37,7 @@ mod tool;
 mod words;
 
 pub use archive::{archive_commands, index_commands};
+pub use batch::batches;
 pub use choice::Choice;
 pub use compile::compile_command;
 pub use compiler::Compiler;

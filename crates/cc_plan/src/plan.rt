@@ -2,12 +2,14 @@
 ghost use Rattle.std.specs.Prelude.{◌≡◌, [], IfOk, Some, None};
 ghost use Rattle.cc_host.specs.Question.{Settles};
 ghost use Rattle.std.specs.Option.{option_copied};
+ghost use Rattle.cc_plan.specs.Archive.{paths_of};
 ghost use Rattle.cc_plan.specs.Asking.{AsksToPlan, AllowedIn, RefusedIn};
 ghost use Rattle.cc_plan.specs.Names.{library_name};
 ghost use Rattle.cc_plan.specs.Given.{out_dir_of};
 ghost use Rattle.cc_plan.specs.Plan.{objects_of, library_of, compiles_of, archives_of, indexes_of, tool_lines, warning_lines as lines_of_warnings, link_lines as lines_of};
 ghost use Rattle.cc_plan.specs.Refusal.{early_refusal, late_refusal, tool_refusal, platform_refusal, out_dir_refusal, AllowedBy, RefusedBy};
 
+use crate::added::check_added;
 use crate::compile::compile_commands;
 use crate::given::out_dir_of;
 use crate::printing::wanted_lines;
@@ -18,7 +20,7 @@ use crate::{
 };
 use cc_env::BuildEnv;
 use cc_host::{Command, Host, World};
-use cc_text::{Text, Words, join, parent};
+use cc_text::{Mem, Text, Words, join, parent};
 use std::alloc::Global;
 use std::sync::Wait;
 
@@ -42,7 +44,7 @@ pub struct Plan {
     pub warnings: Words,
     /// One command a source, in their order. They share one environment.
     pub compiles: Vec<Command>,
-    /// The commands that write the objects into the library.
+    /// The commands that write the objects into the library, one a batch of them.
     pub archives: Vec<Command>,
     /// The commands that write its index.
     pub indexes: Vec<Command>,
@@ -76,10 +78,11 @@ fn source_root_of(set: &BuildConfig) -> Option<&str>
     }
 }
 
-/// Checks the output, the out dir and the sources, in this order, and names the library and the objects. It asks nothing.
+/// Checks the output, the out dir, the sources and the added objects, in this order, and names the library and the objects. It asks
+/// nothing.
 ///
 /// Refused where the output names no library, the out dir is set nowhere or empty, a source has no file name or the object of an earlier
-/// one; and for memory.
+/// one, or an added object is the library, which is removed before it would be read; and for memory.
 #[tactic(auto, unfolding(crate::specs::Refusal::early_refusal))]
 pub fn plan_sources(
     alloc: Global,
@@ -98,6 +101,7 @@ pub fn plan_sources(
     let dir = checked_out_dir(alloc, set, env)?;
     let objects = objects_from_files(alloc, &set.files, dir, env.inherited(), source_root_of(set))?;
     let library = join(alloc, dir, file.as_str())?;
+    check_added(&set.objects, library.as_str())?;
     Ok(Sources {
         name,
         library,
@@ -183,6 +187,18 @@ fn plan_compiles<W: World, H: Host<W>>(
     }
 }
 
+// The paths that the library gets: those of the objects, and then the added ones.
+fn archived(alloc: Global, set: &BuildConfig, objects: &[Object]) -> Mem<Words>
+    ensures { IfOk result (λ paths. paths ≡ paths_of objects.now ++ set.now.objects) }
+{
+    let mut paths = Words::new(alloc);
+    for object in objects {
+        paths.push(object.dst.as_str())?;
+    }
+    paths.extend(&set.objects)?;
+    Ok(paths)
+}
+
 /// The warnings, commands and lines of a compile run with these sources, which `plan_sources` gave. It asks, and prints nothing. Without a
 /// source no tool is wanted, and nothing is asked.
 ///
@@ -216,10 +232,11 @@ pub fn plan_commands<W: World, H: Host<W>>(
     let alloc = *sources.objects.allocator();
     let library = sources.library.as_str();
     let compiles = plan_compiles(rt, alloc, set, env, &sources.objects, sight)?;
-    let archives = archive_commands(alloc, set, env, library, &sources.objects)?;
+    let paths = archived(alloc, set, &sources.objects)?;
+    let archives = archive_commands(alloc, set, env, library, &paths)?;
     let indexes = index_commands(alloc, set, env, library)?;
     let folder = parent(library).unwrap_or("");
-    let lines = link_lines(alloc, sources.name.as_str(), folder)?;
+    let lines = link_lines(alloc, set, sources.name.as_str(), folder)?;
     Ok(Plan {
         warns_of_link: compiles.warns_of_link,
         warnings: compiles.warnings,

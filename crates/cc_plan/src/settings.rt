@@ -12,10 +12,16 @@ use std::alloc::Global;
 pub struct BuildConfig {
     /// The sources, in the order added.
     pub files: Words,
+    /// The objects that are added to the archive behind those of the sources, in the order added.
+    pub objects: Words,
     /// The folders in which headers are looked for, in the order added.
     pub includes: Words,
+    /// The words that the archiver gets before those of its form, in the order added.
+    pub ar_flags: Words,
     /// The flags that sources in assembly get beside the others.
     pub asm_flags: Words,
+    /// The modifiers with which the library is linked, as `+whole-archive`, in the order added.
+    pub link_lib_modifiers: Words,
     /// The flags, in the order added.
     pub flags: Flags,
     /// The macros, in the order added.
@@ -73,6 +79,8 @@ pub struct BuildConfig {
     pub cpp: bool,
     /// Whether a warning is an error: `-Werror`.
     pub warnings_into_errors: bool,
+    /// Whether the link lines are printed, by which Cargo links the library.
+    pub cargo_metadata: bool,
     /// Whether warnings, and what commands write on standard error, are printed as lines that Cargo shows; else the latter is dropped.
     pub cargo_warnings: bool,
     /// Whether the standard output of the commands goes where that of the program goes.
@@ -90,14 +98,18 @@ pub struct BuildConfig {
 }
 
 impl BuildConfig {
-    /// No source, nothing set, warnings, output of the commands, rerun lines and what Cargo hands down on, all else off. It takes no memory.
+    /// No source, nothing set, link lines, warnings, output of the commands, rerun lines and what Cargo hands down on, all else off. It
+    /// takes no memory.
     pub fn new(alloc: Global) -> BuildConfig
         ensures { result ≡ unset_settings }
     {
         BuildConfig {
             files: Words::new(alloc),
+            objects: Words::new(alloc),
             includes: Words::new(alloc),
+            ar_flags: Words::new(alloc),
             asm_flags: Words::new(alloc),
+            link_lib_modifiers: Words::new(alloc),
             flags: Flags::new(alloc),
             definitions: Definitions::new(alloc),
             remap_source_paths: Vars::new(alloc),
@@ -125,6 +137,7 @@ impl BuildConfig {
             reproducible_codeview: false,
             cpp: false,
             warnings_into_errors: false,
+            cargo_metadata: true,
             cargo_warnings: true,
             cargo_output: true,
             emit_rerun_if_env_changed: true,
@@ -141,8 +154,11 @@ impl BuildConfig {
     {
         Ok(BuildConfig {
             files: self.files.try_clone()?,
+            objects: self.objects.try_clone()?,
             includes: self.includes.try_clone()?,
+            ar_flags: self.ar_flags.try_clone()?,
             asm_flags: self.asm_flags.try_clone()?,
+            link_lib_modifiers: self.link_lib_modifiers.try_clone()?,
             flags: self.flags.try_clone()?,
             definitions: self.definitions.try_clone()?,
             remap_source_paths: self.remap_source_paths.try_clone()?,
@@ -170,6 +186,7 @@ impl BuildConfig {
             reproducible_codeview: self.reproducible_codeview,
             cpp: self.cpp,
             warnings_into_errors: self.warnings_into_errors,
+            cargo_metadata: self.cargo_metadata,
             cargo_warnings: self.cargo_warnings,
             cargo_output: self.cargo_output,
             emit_rerun_if_env_changed: self.emit_rerun_if_env_changed,

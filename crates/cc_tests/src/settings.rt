@@ -39,6 +39,11 @@ fn add_files(build: &mut Build<Bench>, alloc: Global) -> Result<(), Error> {
     build.files(&words)
 }
 
+fn add_objects(build: &mut Build<Bench>, alloc: Global) -> Result<(), Error> {
+    let words = two_words(alloc, "b.o", "a.o")?;
+    build.objects(&words)
+}
+
 fn add_includes(build: &mut Build<Bench>, alloc: Global) -> Result<(), Error> {
     let words = two_words(alloc, "/h", "/g")?;
     build.includes(&words)
@@ -52,9 +57,11 @@ fn add_flags(build: &mut Build<Bench>, alloc: Global) -> Result<(), Error> {
 // Adds one item by itself, and then two at once.
 fn add_all(build: &mut Build<Bench>, alloc: Global) -> Result<(), Error> {
     build.file("c.c")?;
+    build.object("c.o")?;
     build.include("/i")?;
     build.flag_if_supported("-c")?;
     add_files(build, alloc)?;
+    add_objects(build, alloc)?;
     add_includes(build, alloc)?;
     add_flags(build, alloc)
 }
@@ -74,6 +81,7 @@ fn check_flags(rt: &(impl AllocGlobal + Abort), flags: &Flags, want: &str) -> Re
 fn check_added(rt: &(impl AllocGlobal + Abort), build: &mut Build<Bench>) -> Result<(), Fail> {
     add_all(build, rt.alloc())?;
     check_words(rt, build.get_files(), "c.c b.c a.c")?;
+    check_words(rt, &build.settings().objects, "c.o b.o a.o")?;
     check_words(rt, &build.settings().includes, "/i /h /g")?;
     check_flags(rt, &build.settings().flags, "-c where supported\n-b\n-a\n")
 }
