@@ -4,7 +4,6 @@ use Rattle.std.specs.Bool.{Decides}
 use Rattle.std.specs.List.{position_or_len, AllByRecursion}
 use Rattle.std.specs.Path.{path_components}
 use Rattle.std.proofs.lemmas.Bool.Decides.{same_from_decides}
-use Rattle.cc_text.specs.Words.{same_words}
 use Rattle.cc_text.proofs.EqualityLemmas.{same_words-Decides}
 use Rattle.cc_text.proofs.PositionLemmas.{one_more}
 use borrow.Author.Tests.{ltb-true}
