@@ -2,6 +2,7 @@
 use Rattle.std.specs.Prelude.{ℕ, Bool, true, not, List, [], ◌++◌, Option, Some, None, filter, map, is_none, codes, if◌then◌else◌}
 use Rattle.std.specs.Option.{option_map, option_and_then, option_map_or}
 use Rattle.cc_env.specs.Snapshot.{last_value}
+use Rattle.cc_flags.specs.DefaultWords.{value_or_empty}
 use Rattle.cc_flags.specs.Fields.{flags_of, refusal_of}
 use Rattle.cc_flags.specs.MapWords.{cargo_maps, trim_pairs}
 use Rattle.cc_flags.specs.Pairs.{pairs_of}

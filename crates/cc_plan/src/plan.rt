@@ -1,5 +1,5 @@
 // The plan of a compile run, in two parts: what is known before the folder of the objects is made, and the rest, which asks.
-ghost use Rattle.std.specs.Prelude.{◌≡◌, [], IfOk, Some, None};
+ghost use Rattle.std.specs.Prelude.{◌≡◌, ◌++◌, [], IfOk, Some, None};
 ghost use Rattle.cc_host.specs.Question.{Settles};
 ghost use Rattle.std.specs.Option.{option_copied};
 ghost use Rattle.cc_plan.specs.Archive.{paths_of};
