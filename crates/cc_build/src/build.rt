@@ -177,12 +177,14 @@ impl<W: World> Build<W> {
         compiler(rt, self.alloc, host, &self.caches, &self.config, &self.env)
     }
 
-    /// Compiles the sources and archives them into the library of `output`, a name such as `foo` or `libfoo.a`.
+    /// Compiles the sources and archives them, and then the added objects, into the library of `output`, a name such as `foo` or
+    /// `libfoo.a`.
     ///
     /// Makes the out dir where there is a source, asks what the plan wants to know, prints the warnings, runs one compile command per
-    /// source, removes the old library, archives all objects, writes the index, and prints the link lines. Two or more compile commands
-    /// run beside each other, each under a token of the pool. The seat is one of the pool and holds none, before and after. At most
-    /// `turns` turns are made, each of which asks the host once for the news of the running children; `u64::MAX` is as good as no bound.
+    /// source, removes the old library, archives all objects, writes the index, and prints the link lines, where they are wanted. Two or
+    /// more compile commands run beside each other, each under a token of the pool. The seat is one of the pool and holds none, before and
+    /// after. At most `turns` turns are made, each of which asks the host once for the news of the running children; `u64::MAX` is as good
+    /// as no bound.
     ///
     /// Ok means that all of this was done, and nothing else. Else the first stages of it were, every command that was started has ended
     /// or is left alone, and the error is that of the refused settings, or of the event that ended the run; `ErrorKind` lists them. No

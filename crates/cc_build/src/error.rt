@@ -24,7 +24,7 @@ pub enum ErrorKind {
     /// A program can't be found: the subject is the program.
     ToolNotFound,
     /// An argument is wrong. The output names no library: the subject is the output; the out dir is empty: no subject; a source has no
-    /// file name: the source; two sources have one object: the object.
+    /// file name: the source; two sources have one object: the object; an added object is the library: that object.
     InvalidArgument,
     /// A tool has no name for the target's architecture, which is the subject: QNX's compilers alone.
     InvalidTarget,

@@ -132,7 +132,7 @@ impl<W: World> Build<W> {
     }
 
     /// Sets whether the standard output of the commands goes where that of the program goes; off, it goes nowhere. The link lines are
-    /// printed either way. At first it is on. It takes no memory.
+    /// printed either way, as `cargo_metadata` wants it. At first it is on. It takes no memory.
     pub fn cargo_output(&mut self, cargo_output: bool)
         ensures { Sets self.old self.new (λ c. record c { cargo_output = cargo_output }) }
     {

@@ -51,8 +51,9 @@ compile_count set env warns_of_link look =
 -- as many objects as sources and added ones
 object_count : (set : BuildConfig) (env : EnvSeen) → length (archived_of set env) ≡ length set.files + length set.objects
 object_count set env =
-    length-append (paths_of (objects_of set env)) set.objects
-    ∙ ap (λ n. n + length set.objects) (length-map (objects_of set env) _ ∙ length-map set.files _)
+    let a : length (paths_of (objects_of set env)) ≡ length set.files = length-map (objects_of set env) _ ∙ length-map set.files _ in
+    let b : length (archived_of set env) ≡ length (paths_of (objects_of set env)) + length set.objects = length-append (paths_of (objects_of set env)) set.objects in
+    omega arith
 
 -- no more archive commands than objects
 archives_few : (set : BuildConfig) (env : EnvSeen) (output : List ℕ) → length (archives_of set env output) ≤ length set.files + length set.objects

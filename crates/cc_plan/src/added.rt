@@ -30,9 +30,7 @@ pub(crate) fn check_added(objects: &Words, library: &str) -> Result<(), PlanErro
     ensures refused { RefusedBy (added_refusal library.now objects.now) result }
 {
     match library_place(objects.as_slice(), library) {
-        Some(place) => Err(PlanError::Argument(ArgumentCause::LibraryIsObject(
-            place as u64,
-        ))),
+        Some(place) => Err(PlanError::Argument(ArgumentCause::LibraryIsObject(place as u64))),
         None => Ok(()),
     }
 }
