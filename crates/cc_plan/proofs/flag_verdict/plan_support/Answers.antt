@@ -36,6 +36,11 @@ returns-in_err-warnings-clause-refused g c =
     let p = err_from_is_err_and c.from_residual-in_err-warnings.result c.from_residual-in_err-warnings.ensures.1 in
     rw (p.1, p.2) (inl refl)
 
+pub returns-in_err-warnings-clause-own : goal.returns-in_err-warnings-clause-own
+returns-in_err-warnings-clause-own g c =
+    let p = err_from_is_err_and c.from_residual-in_err-warnings.result c.from_residual-in_err-warnings.ensures.1 in
+    rw (p.1, p.2) tt
+
 pub returns-in_err-warnings-clause-asks : goal.returns-in_err-warnings-clause-asks
 returns-in_err-warnings-clause-asks g c =
     only_then (only_more c.found_compiler.ensures.asks (holds_all (tool_for_support c.args.set.now c.args.env.now c.args.flag.now)))
