@@ -31,7 +31,8 @@ fn command_line(alloc: Global, given: &[String]) -> Answer {
     one(alloc, cc_host::command_line(alloc, &cmd)?.as_str())
 }
 
-fn compile_command_of(alloc: Global, given: &[String]) -> Read<CompileCommand> {
+/// A compile command of a folder, a source, an object, a program and its words.
+pub fn compile_command_of(alloc: Global, given: &[String]) -> Read<CompileCommand> {
     let [directory, src, dst, program, words @ ..] = given else {
         return Err(CallError::Given);
     };
@@ -40,7 +41,8 @@ fn compile_command_of(alloc: Global, given: &[String]) -> Read<CompileCommand> {
     Ok(CompileCommand::new(alloc, &cmd, src, dst, directory)?)
 }
 
-fn push_compile_command(texts: &mut Vec<String>, cmd: &CompileCommand) -> Mem<()> {
+/// Adds the folder, the source, the object and the arguments of a compile command last.
+pub fn push_compile_command(texts: &mut Vec<String>, cmd: &CompileCommand) -> Mem<()> {
     push(texts, cmd.directory())?;
     push(texts, cmd.file())?;
     push(texts, cmd.output())?;

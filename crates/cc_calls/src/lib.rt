@@ -6,6 +6,7 @@
 #![tactic(auto)]
 
 mod answer;
+mod databases;
 mod environments;
 mod error;
 mod given;
@@ -59,6 +60,9 @@ fn call_on_settings(alloc: Global, name: &str, given: &[String]) -> Option<answe
 // A call of a function on what is run.
 fn call_on_runs(alloc: Global, name: &str, given: &[String]) -> Option<answer::Answer> {
     if let Some(answer) = host::call(alloc, name, given) {
+        return Some(answer);
+    }
+    if let Some(answer) = databases::call(alloc, name, given) {
         return Some(answer);
     }
     if let Some(answer) = tools::call(alloc, name, given) {

@@ -1,0 +1,3 @@
+pub mod DatabaseLaws
+pub mod EscapeLemmas
+pub mod ReadLemmas
