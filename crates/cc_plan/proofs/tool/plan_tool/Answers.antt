@@ -20,8 +20,8 @@ returns-in_err-target-clause-own g c =
 
 pub returns-in_err-check_compiler-clause-own : goal.returns-in_err-check_compiler-clause-own
 returns-in_err-check_compiler-clause-own g c =
-    let r : c.from_residual-in_err-check_compiler.result ≡ Err c.in_err-check_compiler.field-0.0 = search rules in
-    rw r (built_is_own c.args.set.now c.args.env.now c.in_ok-compiler.compiler c.in_err-check_compiler.field-0.0 c.in_err-check_compiler.ensures.refused)
+    let p = err_from_is_err_and c.from_residual-in_err-check_compiler.result c.from_residual-in_err-check_compiler.ensures.1 in
+    rw (p.1, p.2) (built_is_own c.args.set.now c.args.env.now c.in_ok-compiler.compiler c.in_err-check_compiler.field-0.0 c.in_err-check_compiler.ensures.refused)
 
 pub returns-in_err-supported-clause-asks : goal.returns-in_err-supported-clause-asks
 returns-in_err-supported-clause-asks g c =
@@ -69,8 +69,8 @@ returns-clause-allowed g c =
 
 pub returns-in_err-check_compiler-clause-refused : goal.returns-in_err-check_compiler-clause-refused
 returns-in_err-check_compiler-clause-refused g c =
-    let r : c.from_residual-in_err-check_compiler.result ≡ Err c.in_err-check_compiler.field-0.0 = search (rules, c.from_residual-in_err-check_compiler.ensures) in
-    rw r (refused_by c.args.set.now c.args.env.now c.in_err-check_compiler.field-0.0 c.in_ok-target.ensures.allowed c.in_ok-compiler.ensures.settles c.in_err-check_compiler.ensures.refused)
+    let p = err_from_is_err_and c.from_residual-in_err-check_compiler.result c.from_residual-in_err-check_compiler.ensures.1 in
+    rw (p.1, p.2) (refused_by c.args.set.now c.args.env.now c.in_err-check_compiler.field-0.0 c.in_ok-target.ensures.allowed c.in_ok-compiler.ensures.settles c.in_err-check_compiler.ensures.refused)
 
 pub returns-in_err-warned-clause-refused : goal.returns-in_err-warned-clause-refused
 returns-in_err-warned-clause-refused g c =
@@ -87,3 +87,13 @@ returns-in_err-compiler-clause-asks g c = only_more c.compiler_of.ensures.asks (
 
 pub returns-in_err-check_compiler-clause-asks : goal.returns-in_err-check_compiler-clause-asks
 returns-in_err-check_compiler-clause-asks g c = only_more c.compiler_of.ensures.asks (holds_all (tool_for_plan c.args.set.now c.args.env.now))
+
+pub returns-in_err-supported-clause-refused : goal.returns-in_err-supported-clause-refused
+returns-in_err-supported-clause-refused g c =
+    let p = err_from_is_err_and c.from_residual-in_err-supported.result c.from_residual-in_err-supported.ensures.1 in
+    rw (p.1, p.2) (inl refl)
+
+pub returns-in_err-tool-clause-refused : goal.returns-in_err-tool-clause-refused
+returns-in_err-tool-clause-refused g c =
+    let p = err_from_is_err_and c.from_residual-in_err-tool.result c.from_residual-in_err-tool.ensures.1 in
+    rw (p.1, p.2) (inl refl)
