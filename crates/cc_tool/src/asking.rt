@@ -53,8 +53,7 @@ fn ask_anew<W: World, H: Host<W>>(
     dir: &str,
 ) -> Mem<Heard>
     requires { q.now.ask ≢ AsksExists }
-    ensures probes { Probes dir.now (H.log host.old) (H.log host.new) [] []
-        (heard_answer q.now result) 0 }
+    ensures probes { Probes dir.now (H.log host.old) (H.log host.new) [] [] (heard_answer q.now result) 0 }
     ensures bare { OnlyForFiles q.now (part H.log host.old host.new) }
     ensures steady { IfOk result (λ heard. IsHeard W.steady W.answer q.now heard.verdict) }
     ensures patient { H.patience host.new ≡ H.patience host.old }
@@ -77,8 +76,7 @@ fn hear<W: World, H: Host<W>>(
     dir: &str,
 ) -> Mem<Heard>
     requires { q.now.ask ≢ AsksExists }
-    ensures probes { Probes dir.now (H.log host.old) (H.log host.new) [] []
-        (heard_answer q.now result) 0 }
+    ensures probes { Probes dir.now (H.log host.old) (H.log host.new) [] [] (heard_answer q.now result) 0 }
     ensures bare { OnlyForFiles q.now (part H.log host.old host.new) }
     ensures steady { IfOk result (λ heard. IsHeard W.steady W.answer q.now heard.verdict) }
     ensures patient { H.patience host.new ≡ H.patience host.old }
