@@ -41,8 +41,8 @@ pub fn compile_command_of(alloc: Global, given: &[String]) -> Read<CompileComman
     Ok(CompileCommand::new(alloc, &cmd, src, dst, directory)?)
 }
 
-/// Adds the folder, the source, the object and the arguments of a compile command last.
-pub fn push_compile_command(texts: &mut Vec<String>, cmd: &CompileCommand) -> Mem<()> {
+// Adds the folder, the source, the object and the arguments of a compile command last.
+fn push_compile_command(texts: &mut Vec<String>, cmd: &CompileCommand) -> Mem<()> {
     push(texts, cmd.directory())?;
     push(texts, cmd.file())?;
     push(texts, cmd.output())?;

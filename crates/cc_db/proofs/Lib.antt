@@ -1,3 +1,2 @@
 pub mod DatabaseLaws
 pub mod EscapeLemmas
-pub mod ReadLemmas

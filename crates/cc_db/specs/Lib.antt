@@ -1,2 +1,1 @@
 pub mod Database
-pub mod Read
