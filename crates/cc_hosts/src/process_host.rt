@@ -14,7 +14,7 @@ use cc_host::{
     OutputKind, Pipes, ProbeFiles, Question, Ran, Removal, Role, Scope, Start, Verdict, Why, World,
     exists_of, probe_command,
 };
-use cc_text::{Bytes, Mem, NoMemory, Text, Vars};
+use cc_text::{Bytes, Mem, NoMemory, Text, Vars, Words};
 use std::alloc::Global;
 use std::env::Env;
 use std::io::{Eprint, ErrorKind, Print, Write};
@@ -49,6 +49,7 @@ pub struct ProcessHost<R: Processes> {
     log: ChildLog,
     processes: Vec<Process<R::Started>>,
     drawn: u64,
+    warned: bool,
 }
 
 impl<R: Processes> Model for ProcessHost<R> {
@@ -69,16 +70,23 @@ impl<R: Processes + AllocGlobal> ProcessHost<R> {
             log: ChildLog::new(alloc),
             processes: Vec::new(alloc),
             drawn: 0,
+            warned: false,
         })
     }
 }
 
 const NOT_TEXT: &[u8] = b"cargo:warning=ignoring a variable that is not UTF-8\n";
 
-// Warns once of each variable that was left out.
-fn warn(out: &impl Print, left_out: usize) -> io::Result<()> {
-    for _ in 0..left_out {
-        out.write_all(NOT_TEXT)?;
+// Warns of each variable that was left out, where that wasn't done before. Its name stands on standard error, where a line that can't be
+// written is no fault.
+fn warn<R: Print + Eprint>(rt: &R, warned: bool, left_out: &Words) -> io::Result<()> {
+    if warned {
+        return Ok(());
+    }
+    for name in left_out.as_slice() {
+        rt.write_all(NOT_TEXT)?;
+        let name = name.as_str();
+        let _ = eprintln!(rt; "ignoring the variable {name}, which is not UTF-8");
     }
     Ok(())
 }
@@ -295,8 +303,9 @@ impl<R: Processes + Files + Env + Print + Eprint + RandomSource + AllocGlobal> H
         self.log.reserve(1)?;
         let listing = list_vars(self.alloc, &self.rt)?;
         let vars = listing.vars.try_clone()?;
-        match warn(&self.rt, listing.left_out) {
+        match warn(&self.rt, self.warned, &listing.left_out) {
             Ok(()) => {
+                self.warned = true;
                 self.log.note(Event::Listed { vars });
                 Ok(listing.vars)
             }
