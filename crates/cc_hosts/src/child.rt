@@ -13,9 +13,9 @@ use cc_text::{Bytes, Mem, NoMemory};
 use std::alloc::Global;
 use std::env::Env;
 use std::fs;
-use std::io::ErrorKind;
+use std::io::{self, ErrorKind, Read};
 use std::os::unix::process::CommandExt;
-use std::process::{Child, ExitStatus, OpenProcess, Output, Processes, Stdio};
+use std::process::{Child, ExitStatus, OpenProcess, Processes, Stdio};
 use std::rt::Files;
 
 /// How a child ended, and what was kept of its outputs.
@@ -48,6 +48,8 @@ pub enum Outcome {
     Failed(Why),
     /// It ended.
     Ended(Ended),
+    /// It was waited for, and how it ended can't be learned. What it wrote is kept, and the status is without a code.
+    Lost(Ended, Why),
 }
 
 // Whether the standard output of a child is kept.
@@ -109,30 +111,67 @@ fn not_found<P: OpenProcess + Drop>(files: &impl Files, cmd: &Command) -> Begun<
     }
 }
 
+// What a child wrote on its outputs.
+#[derive(Drop)]
+struct Written {
+    out: Vec<u8>,
+    err: Vec<u8>,
+}
+
 // What is kept of the end of a child.
-fn kept_end(alloc: Global, output: &Output, pipes: Pipes) -> Mem<Ended>
-    ensures status { IfOk result (λ e. e.status ≡ status_of (exit_code output.now.status)) }
+fn kept_end(alloc: Global, status: Status, written: &Written, pipes: Pipes) -> Mem<Ended>
+    ensures status { IfOk result (λ e. e.status ≡ status) }
     ensures out { IfOk result
-        (λ e. e.out ≡ kept (is_captured pipes.out) output.now.stdout.items) }
-    ensures err { IfOk result (λ e. e.err ≡ kept pipes.hear output.now.stderr.items) }
+        (λ e. e.out ≡ kept (is_captured pipes.out) written.now.out.items) }
+    ensures err { IfOk result (λ e. e.err ≡ kept pipes.hear written.now.err.items) }
 {
     Ok(Ended {
-        status: status_of(output.status),
-        out: kept(alloc, is_captured(pipes.out), &output.stdout)?,
-        err: kept(alloc, pipes.hear, &output.stderr)?,
+        status,
+        out: kept(alloc, is_captured(pipes.out), &written.out)?,
+        err: kept(alloc, pipes.hear, &written.err)?,
     })
 }
 
-// Waits for the end of a child that was started. Refused for memory, the child did run, and what it wrote is lost.
-fn finish<P: OpenProcess + Drop>(alloc: Global, child: Child<P>, pipes: Pipes) -> Mem<Outcome>
+// Reads the outputs of a child to their ends.
+fn read_outputs<P: OpenProcess + Drop>(alloc: Global, child: &mut Child<P>) -> io::Result<Written> {
+    let mut out = Vec::new(alloc);
+    let mut err = Vec::new(alloc);
+    match (child.stdout.take(), child.stderr.take()) {
+        (Some(mut stdout), Some(mut stderr)) => {
+            P::read_both(&mut stdout, &mut out, &mut stderr, &mut err)?;
+        }
+        (Some(mut stdout), None) => {
+            stdout.read_to_end(&mut out)?;
+        }
+        (None, Some(mut stderr)) => {
+            stderr.read_to_end(&mut err)?;
+        }
+        (None, None) => {}
+    }
+    Ok(Written { out, err })
+}
+
+// Waits for the end of a child that was started. Refused for memory, the child did run, and what it wrote is lost. One whose outputs
+// can't be read is ended.
+fn finish<P: OpenProcess + Drop>(alloc: Global, mut child: Child<P>, pipes: Pipes) -> Mem<Outcome>
     ensures { IfOk result (IsSilentEnd pipes) }
 {
-    match child.wait_with_output(alloc) {
-        Ok(output) => Ok(Outcome::Ended(kept_end(alloc, &output, pipes)?)),
-        Err(error) => match error.kind() {
-            ErrorKind::OutOfMemory => Err(NoMemory),
-            kind => Ok(Outcome::Failed(why_of(kind))),
+    match read_outputs(alloc, &mut child) {
+        Ok(written) => match child.wait() {
+            Ok(status) => Ok(Outcome::Ended(kept_end(alloc, status_of(status), &written, pipes)?)),
+            Err(error) => {
+                let end = kept_end(alloc, Status::NoCode, &written, pipes)?;
+                Ok(Outcome::Lost(end, why_of(error.kind())))
+            }
         },
+        Err(error) => {
+            let _ = child.kill();
+            let _ = child.wait();
+            match error.kind() {
+                ErrorKind::OutOfMemory => Err(NoMemory),
+                kind => Ok(Outcome::Failed(why_of(kind))),
+            }
+        }
     }
 }
 

@@ -240,7 +240,7 @@ impl<R: Processes + Files + Env + Print + Eprint + RandomSource + AllocGlobal> H
                 Ok(Ran::Missing)
             }
             child::Outcome::Failed(why) => Err(self.log.fault(HostCall::Output, why)),
-            child::Outcome::Ended(end) => {
+            child::Outcome::Ended(end) | child::Outcome::Lost(end, _) => {
                 let Ended { status, out, err } = end.try_clone()?;
                 self.log.note(Event::Ran {
                     role,
@@ -354,7 +354,7 @@ fn outcome_of(end: child::Outcome) -> Mem<Result<(Outcome, Outcome), Why>>
 {
     match end {
         child::Outcome::Missing => Ok(Ok((Outcome::Missing, Outcome::Missing))),
-        child::Outcome::Failed(why) => Ok(Err(why)),
+        child::Outcome::Failed(why) | child::Outcome::Lost(_, why) => Ok(Err(why)),
         child::Outcome::Ended(end) => {
             let copy = end.try_clone()?;
             Ok(Ok((done(end), done(copy))))
