@@ -5,8 +5,8 @@ ghost use Rattle.cc_host.specs.Event.{is_captured};
 ghost use Rattle.cc_host.specs.declared.event.Pipes.{Pipes};
 ghost use Rattle.cc_hosts.specs.Child.{status_of, kept, IsSilentEnd};
 
-use crate::command::child_of;
-use crate::look_up::{Place, look_up};
+use crate::command::{child_of, script_of};
+use crate::look_up::{Place, look_up, path_in};
 use crate::reason::why_of;
 use cc_host::{Command, OutputKind, Pipes, Status, Why};
 use cc_text::{Bytes, Mem, NoMemory};
@@ -15,7 +15,7 @@ use std::env::Env;
 use std::fs;
 use std::io::{self, ErrorKind, Read};
 use std::os::unix::process::CommandExt;
-use std::process::{Child, ExitStatus, OpenProcess, Processes, Stdio};
+use std::process::{self, Child, ExitStatus, OpenProcess, Processes, Stdio};
 use std::rt::Files;
 
 /// How a child ended, and what was kept of its outputs.
@@ -194,30 +194,118 @@ fn stdio_of(kind: OutputKind) -> Stdio {
     }
 }
 
-// Starts a child whose program is at this path.
-fn begin_at<R: Processes + Files>(
-    alloc: Global,
+// Starts a child. Its standard error goes nowhere where it isn't heard.
+fn start<R: Processes>(
     rt: &R,
-    program: &str,
-    cmd: &Command,
+    mut child: process::Command,
     pipes: Pipes,
-) -> Mem<Begun<R::Started>> {
-    let mut child = child_of(alloc, program, cmd)?;
-    child.arg0(cmd.get_program())?;
+) -> io::Result<Child<R::Started>> {
     child.stdout(stdio_of(pipes.out));
     child.stderr(if pipes.hear {
         Stdio::piped()
     } else {
         Stdio::null()
     });
-    match child.spawn(rt) {
-        Ok(started) => Ok(Begun::Child(started)),
+    child.spawn(rt)
+}
+
+// Starts a child whose program is at this path, under the name that was asked for.
+fn start_at<R: Processes + AllocGlobal>(
+    rt: &R,
+    path: &str,
+    cmd: &Command,
+    pipes: Pipes,
+) -> Mem<io::Result<Child<R::Started>>> {
+    let mut child = child_of(rt.alloc(), path, cmd)?;
+    child.arg0(cmd.get_program())?;
+    Ok(start(rt, child, pipes))
+}
+
+// The number of the system's error for a file that is no program.
+const ENOEXEC: i32 = 8;
+
+// Starts a child whose program was found at this path. A file that is no program of the system's is read by the shell, as `execvp` has it.
+fn start_found<R: Processes + AllocGlobal>(
+    rt: &R,
+    path: &str,
+    cmd: &Command,
+    pipes: Pipes,
+) -> Mem<io::Result<Child<R::Started>>> {
+    match start_at(rt, path, cmd, pipes)? {
+        Err(error) if error.raw_os_error() == Some(ENOEXEC) => {
+            Ok(start(rt, script_of(rt.alloc(), path, cmd)?, pipes))
+        }
+        started => Ok(started),
+    }
+}
+
+// What became of a command whose start gave this.
+fn begun_by<P: OpenProcess + Drop>(
+    files: &impl Files,
+    cmd: &Command,
+    started: io::Result<Child<P>>,
+) -> Mem<Begun<P>> {
+    match started {
+        Ok(child) => Ok(Begun::Child(child)),
         Err(error) => match error.kind() {
-            ErrorKind::NotFound => Ok(not_found(rt, cmd)),
+            ErrorKind::NotFound => Ok(not_found(files, cmd)),
             ErrorKind::OutOfMemory => Err(NoMemory),
             kind => Ok(Begun::Failed(why_of(kind))),
         },
     }
+}
+
+// Whether no program can be at a path, as far as that can be told from here: to a child with a folder of its own a relative path is another.
+fn is_absent(files: &impl Files, path: &str, cmd: &Command) -> bool {
+    if !path.starts_with('/') && cmd.get_current_dir().is_some() {
+        return false;
+    }
+    match fs::metadata(files, path) {
+        Ok(_) => false,
+        Err(error) => error.kind() != ErrorKind::PermissionDenied,
+    }
+}
+
+// Whether a search goes on behind a path where a start failed so: nothing is there, or it can't be a path, or it mayn't be run.
+fn is_passed_over(kind: ErrorKind) -> bool {
+    matches!(
+        kind,
+        ErrorKind::NotFound
+            | ErrorKind::NotADirectory
+            | ErrorKind::InvalidFilename
+            | ErrorKind::PermissionDenied
+    )
+}
+
+// Starts the first program of a command's name in these folders that can be started, as `execvp` does: what mayn't be run is the error only
+// where nothing else is found.
+fn search<R: Processes + Files + AllocGlobal>(
+    rt: &R,
+    folders: &str,
+    absolute: bool,
+    cmd: &Command,
+    pipes: Pipes,
+) -> Mem<Begun<R::Started>> {
+    let mut is_denied = false;
+    for folder in folders.split(':') {
+        if absolute && !folder.starts_with('/') {
+            continue;
+        }
+        let path = path_in(rt.alloc(), folder, cmd.get_program())?;
+        if is_absent(rt, path.as_str(), cmd) {
+            continue;
+        }
+        match start_found(rt, path.as_str(), cmd, pipes)? {
+            Err(error) if is_passed_over(error.kind()) => {
+                is_denied = is_denied || error.kind() == ErrorKind::PermissionDenied;
+            }
+            started => return begun_by(rt, cmd, started),
+        }
+    }
+    if is_denied {
+        return Ok(Begun::Failed(Why::Denied));
+    }
+    Ok(not_found(rt, cmd))
 }
 
 /// Starts a command. Its standard error goes nowhere where it isn't heard. Want of memory means that nothing was started.
@@ -227,9 +315,12 @@ pub fn begin<R: Processes + Files + Env + AllocGlobal>(
     pipes: Pipes,
 ) -> Mem<Begun<R::Started>> {
     match look_up(rt, cmd)? {
-        Place::Named => begin_at(rt.alloc(), rt, cmd.get_program(), cmd, pipes),
-        Place::At(path) => begin_at(rt.alloc(), rt, path.as_str(), cmd, pipes),
-        Place::Nowhere => Ok(not_found(rt, cmd)),
+        Place::Named => {
+            let started = start_at(rt, cmd.get_program(), cmd, pipes)?;
+            begun_by(rt, cmd, started)
+        }
+        Place::Own(folders) => search(rt, folders.as_str(), false, cmd, pipes),
+        Place::Absolute(folders) => search(rt, folders.as_str(), true, cmd, pipes),
     }
 }
 
