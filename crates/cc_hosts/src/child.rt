@@ -186,9 +186,29 @@ pub fn heard_only(pipes: Pipes) -> Pipes {
     }
 }
 
-fn stdio_of(kind: OutputKind) -> Stdio {
+/// The standard streams that this process was started without. A child gets the null device in their place.
+#[derive(Clone, Copy, Debug)]
+pub struct Closed {
+    pub input: bool,
+    pub output: bool,
+}
+
+/// What a child gets as its streams.
+#[derive(Clone, Copy, Debug)]
+pub struct Streams {
+    pub pipes: Pipes,
+    pub closed: Closed,
+}
+
+fn stdio_of(kind: OutputKind, is_closed: bool) -> Stdio {
     match kind {
-        OutputKind::Forward => Stdio::inherit(),
+        OutputKind::Forward => {
+            if is_closed {
+                Stdio::null()
+            } else {
+                Stdio::inherit()
+            }
+        }
         OutputKind::Discard => Stdio::null(),
         OutputKind::Capture => Stdio::piped(),
     }
@@ -198,10 +218,13 @@ fn stdio_of(kind: OutputKind) -> Stdio {
 fn start<R: Processes>(
     rt: &R,
     mut child: process::Command,
-    pipes: Pipes,
+    streams: Streams,
 ) -> io::Result<Child<R::Started>> {
-    child.stdout(stdio_of(pipes.out));
-    child.stderr(if pipes.hear {
+    if streams.closed.input {
+        child.stdin(Stdio::null());
+    }
+    child.stdout(stdio_of(streams.pipes.out, streams.closed.output));
+    child.stderr(if streams.pipes.hear {
         Stdio::piped()
     } else {
         Stdio::null()
@@ -214,11 +237,11 @@ fn start_at<R: Processes + AllocGlobal>(
     rt: &R,
     path: &str,
     cmd: &Command,
-    pipes: Pipes,
+    streams: Streams,
 ) -> Mem<io::Result<Child<R::Started>>> {
     let mut child = child_of(rt.alloc(), path, cmd)?;
     child.arg0(cmd.get_program())?;
-    Ok(start(rt, child, pipes))
+    Ok(start(rt, child, streams))
 }
 
 // The number of the system's error for a file that is no program.
@@ -229,11 +252,11 @@ fn start_found<R: Processes + AllocGlobal>(
     rt: &R,
     path: &str,
     cmd: &Command,
-    pipes: Pipes,
+    streams: Streams,
 ) -> Mem<io::Result<Child<R::Started>>> {
-    match start_at(rt, path, cmd, pipes)? {
+    match start_at(rt, path, cmd, streams)? {
         Err(error) if error.raw_os_error() == Some(ENOEXEC) => {
-            Ok(start(rt, script_of(rt.alloc(), path, cmd)?, pipes))
+            Ok(start(rt, script_of(rt.alloc(), path, cmd)?, streams))
         }
         started => Ok(started),
     }
@@ -284,7 +307,7 @@ fn search<R: Processes + Files + AllocGlobal>(
     folders: &str,
     absolute: bool,
     cmd: &Command,
-    pipes: Pipes,
+    streams: Streams,
 ) -> Mem<Begun<R::Started>> {
     let mut is_denied = false;
     for folder in folders.split(':') {
@@ -295,7 +318,7 @@ fn search<R: Processes + Files + AllocGlobal>(
         if is_absent(rt, path.as_str(), cmd) {
             continue;
         }
-        match start_found(rt, path.as_str(), cmd, pipes)? {
+        match start_found(rt, path.as_str(), cmd, streams)? {
             Err(error) if is_passed_over(error.kind()) => {
                 is_denied = is_denied || error.kind() == ErrorKind::PermissionDenied;
             }
@@ -312,15 +335,15 @@ fn search<R: Processes + Files + AllocGlobal>(
 pub fn begin<R: Processes + Files + Env + AllocGlobal>(
     rt: &R,
     cmd: &Command,
-    pipes: Pipes,
+    streams: Streams,
 ) -> Mem<Begun<R::Started>> {
     match look_up(rt, cmd)? {
         Place::Named => {
-            let started = start_at(rt, cmd.get_program(), cmd, pipes)?;
+            let started = start_at(rt, cmd.get_program(), cmd, streams)?;
             begun_by(rt, cmd, started)
         }
-        Place::Own(folders) => search(rt, folders.as_str(), false, cmd, pipes),
-        Place::Absolute(folders) => search(rt, folders.as_str(), true, cmd, pipes),
+        Place::Own(folders) => search(rt, folders.as_str(), false, cmd, streams),
+        Place::Absolute(folders) => search(rt, folders.as_str(), true, cmd, streams),
     }
 }
 
@@ -329,13 +352,13 @@ pub fn begin<R: Processes + Files + Env + AllocGlobal>(
 pub fn run<R: Processes + Files + Env + AllocGlobal>(
     rt: &R,
     cmd: &Command,
-    pipes: Pipes,
+    streams: Streams,
 ) -> Mem<Outcome>
-    ensures { IfOk result (IsSilentEnd pipes) }
+    ensures { IfOk result (IsSilentEnd streams.pipes) }
 {
-    match begin(rt, cmd, pipes)? {
+    match begin(rt, cmd, streams)? {
         Begun::Missing => Ok(Outcome::Missing),
         Begun::Failed(why) => Ok(Outcome::Failed(why)),
-        Begun::Child(child) => finish(rt.alloc(), child, pipes),
+        Begun::Child(child) => finish(rt.alloc(), child, streams.pipes),
     }
 }

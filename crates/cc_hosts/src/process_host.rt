@@ -5,7 +5,7 @@ ghost use Rattle.cc_host.specs.Given.{is_answered};
 ghost use Rattle.cc_host.specs.declared.question.Outcome.TheVariants.{Done};
 ghost use Rattle.cc_hosts.specs.HostSeen.{HostSeen, fresh};
 
-use crate::child::{self, Begun, Ended};
+use crate::child::{self, Begun, Closed, Ended, Streams};
 use crate::entry::list_vars;
 use crate::reason::why_of;
 use crate::running::{self, Process};
@@ -49,6 +49,7 @@ pub struct ProcessHost<R: Processes> {
     log: ChildLog,
     processes: Vec<Process<R::Started>>,
     drawn: u64,
+    closed: Closed,
     warned: bool,
 }
 
@@ -70,8 +71,30 @@ impl<R: Processes + AllocGlobal> ProcessHost<R> {
             log: ChildLog::new(alloc),
             processes: Vec::new(alloc),
             drawn: 0,
+            closed: Closed {
+                input: false,
+                output: false,
+            },
             warned: false,
         })
+    }
+
+    /// Tells the host that this process was started without its standard input or without its standard output. A child gets the null
+    /// device in the place of such a stream, else the first file that it opens would take that place.
+    pub fn lacks(&mut self, closed: Closed)
+        ensures { self.new ≡ self.old }
+    {
+        self.closed = closed;
+    }
+
+    // What a child gets as its streams.
+    fn streams(&self, pipes: Pipes) -> Streams
+        ensures { result.pipes ≡ pipes }
+    {
+        Streams {
+            pipes,
+            closed: self.closed,
+        }
     }
 }
 
@@ -122,7 +145,8 @@ impl<R: Processes + Files + Env + Print + Eprint + RandomSource + AllocGlobal> H
         self.log.reserve_child()?;
         self.processes.reserve(1)?;
         let command = cmd.try_clone()?;
-        match child::begin(&self.rt, cmd, child::heard_only(pipes))? {
+        let streams = self.streams(child::heard_only(pipes));
+        match child::begin(&self.rt, cmd, streams)? {
             Begun::Missing => {
                 self.log.note(Event::Missing { role, cmd: command });
                 Ok(Start::Missing)
@@ -152,7 +176,7 @@ impl<R: Processes + Files + Env + Print + Eprint + RandomSource + AllocGlobal> H
         self.log.reserve(2)?;
         let question = q.try_clone()?;
         let with = files.try_clone()?;
-        match outcome_of(ask(self.alloc, &self.rt, q, files)?)? {
+        match outcome_of(ask(self.alloc, &self.rt, q, files, self.streams(KEPT))?)? {
             Ok((outcome, copy)) => {
                 self.log.note(Event::Answered {
                     question,
@@ -234,7 +258,7 @@ impl<R: Processes + Files + Env + Print + Eprint + RandomSource + AllocGlobal> H
     fn output(&mut self, role: Role, cmd: &Command, pipes: Pipes) -> Result<Ran, HostError> {
         self.log.reserve(1)?;
         let command = cmd.try_clone()?;
-        match child::run(&self.rt, cmd, pipes)? {
+        match child::run(&self.rt, cmd, self.streams(pipes))? {
             child::Outcome::Missing => {
                 self.log.note(Event::Missing { role, cmd: command });
                 Ok(Ran::Missing)
@@ -341,11 +365,12 @@ fn ask<R: Processes + Files + Env + AllocGlobal>(
     rt: &R,
     q: &Question,
     files: &ProbeFiles,
+    streams: Streams,
 ) -> Mem<child::Outcome>
     requires { q.now.ask ≢ AsksExists }
 {
     let cmd = probe_command(alloc, q, files)?;
-    child::run(rt, &cmd, KEPT)
+    child::run(rt, &cmd, streams)
 }
 
 // What a question comes to by the end of its command, and a second outcome that equals it; or why it isn't answered.

@@ -15,7 +15,7 @@ ghost use Rattle.cc_command.specs.Answer.{heard};
 use cc_command::drive;
 use cc_env::EnvSnapshot;
 use cc_host::{Host, HostError, World};
-use cc_hosts::ProcessHost;
+use cc_hosts::{ProcessHost, StandIns};
 use cc_jobs::{OneCaller, pool_size};
 use cc_text::{Mem, NoMemory, Vars};
 use std::alloc::Global;
@@ -132,6 +132,7 @@ fn print_text(rt: &HostRuntime, text: &str) -> ExitCode {
 }
 
 fn main(rt: HostRuntime) -> ExitCode {
+    let stand_ins = StandIns::open(&rt);
     let words = match words_of(&rt) {
         Ok(words) => words,
         Err(error) if error.kind() == io::ErrorKind::InvalidData => {
@@ -146,6 +147,7 @@ fn main(rt: HostRuntime) -> ExitCode {
     let Ok(mut host) = ProcessHost::new(rt) else {
         return ExitCode::from(3);
     };
+    host.lacks(stand_ins.closed());
     match run(&rt, rt.alloc(), &mut host, &words) {
         Ok(status) => ExitCode::from(status),
         Err(NoMemory) => ExitCode::from(3),
