@@ -6,7 +6,7 @@ use Rattle.cc_host.specs.declared.event.Pipes.{Pipes}
 use Rattle.cc_host.specs.declared.event.Status.{Status}
 use Rattle.cc_host.specs.declared.event.Status.TheVariants.{Code, NoCode}
 use Rattle.cc_hosts.specs.declared.child.Outcome.{Outcome}
-use Rattle.cc_hosts.specs.declared.child.Outcome.TheVariants.{Missing, Failed, Ended}
+use Rattle.cc_hosts.specs.declared.child.Outcome.TheVariants.{Missing, Failed, Ended, Lost}
 
 -- what a child gets for a name: the value of the last pair of that name
 abbrev pub child_value : List (List ℕ × List ℕ) → List ℕ → Option (Option (List ℕ))
@@ -26,3 +26,4 @@ abbrev pub IsSilentEnd : Pipes → Outcome → Type 0
 IsSilentEnd pipes Missing = Unit {0}
 IsSilentEnd pipes (Failed why) = Unit {0}
 IsSilentEnd pipes (Ended end) = (is_captured pipes.out ≡ false → end.out ≡ []) × (pipes.hear ≡ false → end.err ≡ [])
+IsSilentEnd pipes (Lost end why) = (is_captured pipes.out ≡ false → end.out ≡ []) × (pipes.hear ≡ false → end.err ≡ [])

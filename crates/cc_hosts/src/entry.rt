@@ -1,17 +1,18 @@
 // The environment of this process.
-ghost use Rattle.std.specs.Prelude.{◌≡◌, ◌≤◌, ◌++◌, vec_len, is_some, IfOk, IfSome, OnOk, OnErr};
-ghost use Rattle.std.specs.Option.{option_copied, option_map};
-ghost use Rattle.cc_hosts.specs.Entry.{text_of, variable_of, entry_vars};
+ghost use Rattle.std.specs.Prelude.{◌≡◌, ◌≤◌, ◌++◌, vec_len, option_to_list, is_some, IfOk, IfSome, OnOk, OnErr};
+ghost use Rattle.std.specs.Option.{option_copied};
+ghost use Rattle.cc_text.specs.Cuts.{key_and_value};
+ghost use Rattle.cc_hosts.specs.Entry.{text_of, variable_of, behind_equals, entry_vars};
 
-use cc_text::{Mem, NoMemory, Vars, key_and_value};
+use cc_text::{Mem, NoMemory, Text, Vars, Words, key_and_value};
 use std::alloc::Global;
 use std::env::{Env, FillError};
 
-/// The variables of an environment, and how many entries were left out since they aren't UTF-8.
+/// The variables of an environment, and the names of those that were left out since they aren't UTF-8, with U+FFFD in place of what isn't text.
 #[derive(Drop)]
 pub struct Listing {
     pub vars: Vars,
-    pub left_out: usize,
+    pub left_out: Words,
 }
 
 // The text of an entry, or none where it isn't UTF-8.
@@ -25,21 +26,40 @@ fn text_of(entry: &[u8]) -> Option<&str>
     }
 }
 
-// The name and the value of an entry, or none where it has no `=` or an empty name.
-#[tactic(auto, using(crate::proofs::EntryLemmas::nameless, crate::proofs::EntryLemmas::named), unfolding(crate::specs::Entry::variable_of))]
-fn variable_of(entry: &str) -> Option<(&str, &str)>
-    ensures { option_map (λ p. (p.0.now, p.1.now)) result ≡ variable_of entry.now }
+// Adds the variable whose name is an `=` and what stands before the first `=` of this, where it has one. Refused for memory, the variables
+// stay as they were.
+fn push_behind_equals(alloc: Global, vars: &mut Vars, rest: &str) -> Mem<()>
+    ensures ok { OnOk result
+        (vars.new ≡ vars.old ++ option_to_list (behind_equals (key_and_value rest.now))) }
+    ensures err { OnErr result (vars.new ≡ vars.old) }
 {
-    let (name, value) = key_and_value(entry)?;
-    if name.is_empty() {
-        return None;
-    }
-    Some((name, value))
+    let Some((name, value)) = key_and_value(rest) else {
+        return Ok(());
+    };
+    let mut whole = Text::of(alloc, "=")?;
+    whole.push_str(name)?;
+    vars.push(whole.as_str(), value)
 }
 
-/// Adds the variable of an entry `NAME=VALUE` last. An entry without a name or without an `=` adds none, and so does one
-/// that isn't UTF-8. Replies whether it is. Refused for memory, the variables stay as they were.
-pub fn add_entry(vars: &mut Vars, entry: &[u8]) -> Mem<bool>
+// Adds the variable of an entry that is text, where it has one. Refused for memory, the variables stay as they were.
+#[tactic(auto, using(crate::proofs::EntryLemmas::nameless, crate::proofs::EntryLemmas::named), unfolding(crate::specs::Entry::variable_of))]
+fn push_variable(alloc: Global, vars: &mut Vars, entry: &str) -> Mem<()>
+    ensures ok { OnOk result
+        (vars.new ≡ vars.old ++ option_to_list (variable_of entry.now)) }
+    ensures err { OnErr result (vars.new ≡ vars.old) }
+{
+    let Some((name, value)) = key_and_value(entry) else {
+        return Ok(());
+    };
+    if name.is_empty() {
+        return push_behind_equals(alloc, vars, value);
+    }
+    vars.push(name, value)
+}
+
+/// Adds the variable of an entry `NAME=VALUE` last, which is parted at the first `=` behind its first byte, as std has it. An entry without
+/// such an `=` adds none, and so does one that isn't UTF-8. Replies whether it is. Refused for memory, the variables stay as they were.
+pub fn add_entry(alloc: Global, vars: &mut Vars, entry: &[u8]) -> Mem<bool>
     ensures ok { OnOk result (vars.new ≡ vars.old ++ entry_vars entry.now) }
     ensures text { IfOk result (λ b. b ≡ is_some (text_of entry.now)) }
     ensures err { OnErr result (vars.new ≡ vars.old) }
@@ -47,9 +67,7 @@ pub fn add_entry(vars: &mut Vars, entry: &[u8]) -> Mem<bool>
     let Some(text) = text_of(entry) else {
         return Ok(false);
     };
-    if let Some((name, value)) = variable_of(text) {
-        vars.push(name, value)?;
-    }
+    push_variable(alloc, vars, text)?;
     Ok(true)
 }
 
@@ -69,11 +87,18 @@ fn read_entry(env: &impl Env, place: usize, buffer: &mut Vec<u8>) -> Mem<Option<
     Err(NoMemory)
 }
 
+// Adds the name of an entry, with U+FFFD in place of what isn't text.
+fn push_name(alloc: Global, names: &mut Words, entry: &[u8]) -> Mem<()> {
+    let name = entry.split(|b| *b == b'=').next().unwrap_or(entry);
+    let text = String::from_utf8_lossy(alloc, name).map_err(NoMemory::from)?;
+    names.push(text.as_str())
+}
+
 /// The variables of this process, in the order of its environment.
 pub fn list_vars(alloc: Global, env: &impl Env) -> Mem<Listing> {
     let mut listing = Listing {
         vars: Vars::new(alloc),
-        left_out: 0,
+        left_out: Words::new(alloc),
     };
     let mut buffer = Vec::new(alloc);
     buffer.resize(256, 0)?;
@@ -81,8 +106,9 @@ pub fn list_vars(alloc: Global, env: &impl Env) -> Mem<Listing> {
         let Some(len) = read_entry(env, place, &mut buffer)? else {
             break;
         };
-        if !add_entry(&mut listing.vars, &buffer[..len])? {
-            listing.left_out = listing.left_out.saturating_add(1);
+        let entry = &buffer[..len];
+        if !add_entry(alloc, &mut listing.vars, entry)? {
+            push_name(alloc, &mut listing.left_out, entry)?;
         }
     }
     Ok(listing)

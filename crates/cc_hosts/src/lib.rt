@@ -13,6 +13,9 @@ mod look_up;
 mod process_host;
 mod reason;
 mod running;
+mod standard;
 
+pub use child::Closed;
 pub use fixed_host::{Fixed, FixedHost};
 pub use process_host::{ProcessHost, Real};
+pub use standard::StandIns;

@@ -1,24 +1,23 @@
-// Where the program of a command is.
+// Where the program of a command is looked for.
 ghost use Rattle.std.specs.Prelude.{◌≡◌};
-ghost use Rattle.cc_hosts.specs.LookUp.{has_slash, has_path};
+ghost use Rattle.std.specs.Option.{option_copied};
+ghost use Rattle.cc_hosts.specs.LookUp.{has_slash, child_path};
 
 use cc_host::Command;
 use cc_text::{Mem, NoMemory, Text, Vars, join};
 use std::alloc::Global;
+use std::env;
 use std::env::{Env, VarError};
-use std::os::unix::fs::PermissionsExt;
-use std::rt::Files;
-use std::{env, fs};
 
-/// Where the program of a command is.
+/// Where the program of a command is looked for.
 #[derive(Drop)]
 pub enum Place {
-    /// Where its own name says, or where the child's PATH leads.
+    /// Where its own name says, or where std looks by itself.
     Named,
-    /// At this path.
-    At(Text),
-    /// Nowhere on the PATH of this process.
-    Nowhere,
+    /// In the folders of the command's own PATH.
+    Own(Text),
+    /// In those folders of this process's PATH that are absolute. Another one would mean another folder to the child.
+    Absolute(Text),
 }
 
 // Whether a name says itself where the program is.
@@ -28,44 +27,35 @@ fn has_slash(program: &str) -> bool
     program.as_bytes().iter().any(|b| *b == b'/')
 }
 
-// Whether the variables give a PATH.
-fn has_path(vars: &Vars) -> bool
-    ensures { result ≡ has_path vars.now }
+// The PATH that a child gets of these variables, or none. Of a name given twice the last counts.
+fn child_path(vars: &Vars) -> Option<&Text>
+    ensures { option_copied result ≡ child_path vars.now }
 {
-    vars.as_slice().iter().any(|pair| pair.0.as_str() == "PATH")
+    let (_, value) = vars
+        .as_slice()
+        .iter()
+        .rev()
+        .find(|pair| pair.0.as_str() == "PATH")?;
+    Some(value)
 }
 
-// Whether a file is there that someone may run.
-fn is_program(files: &impl Files, path: &str) -> bool {
-    match fs::metadata(files, path) {
-        Ok(data) => data.is_file() && data.permissions().mode() & 0o111 != 0,
-        Err(_) => false,
-    }
+/// Where a program of this name is in a folder of a PATH. An empty one is the folder that the child starts in.
+pub fn path_in(alloc: Global, folder: &str, program: &str) -> Mem<Text> {
+    join(alloc, if folder.is_empty() { "." } else { folder }, program)
 }
 
-// The first of these folders that has the program. A folder that isn't absolute is passed over: it would mean another one
-// to the child.
-fn search(alloc: Global, files: &impl Files, folders: &str, program: &str) -> Mem<Place> {
-    for folder in folders.split(':') {
-        if folder.starts_with('/') {
-            let path = join(alloc, folder, program)?;
-            if is_program(files, path.as_str()) {
-                return Ok(Place::At(path));
-            }
-        }
-    }
-    Ok(Place::Nowhere)
-}
-
-/// Where the program of a command is. A name without a slash is searched on the PATH of the command, or on that of this
+/// Where the program of a command is looked for. A name without a slash is searched on the PATH of the command, or on that of this
 /// process where the command has none.
-pub fn look_up<R: Files + Env + AllocGlobal>(rt: &R, cmd: &Command) -> Mem<Place> {
+pub fn look_up<R: Env + AllocGlobal>(rt: &R, cmd: &Command) -> Mem<Place> {
     let program = cmd.get_program();
-    if program.is_empty() || has_slash(program) || has_path(cmd.get_envs()) {
+    if program.is_empty() || has_slash(program) {
         return Ok(Place::Named);
     }
+    if let Some(folders) = child_path(cmd.get_envs()) {
+        return Ok(Place::Own(folders.try_clone()?));
+    }
     match env::var(rt, "PATH") {
-        Ok(folders) => search(rt.alloc(), rt, folders.as_str(), program),
+        Ok(folders) => Ok(Place::Absolute(Text::of(rt.alloc(), folders.as_str())?)),
         Err(VarError::OutOfMemory) => Err(NoMemory),
         Err(VarError::NotPresent | VarError::NotUnicode) => Ok(Place::Named),
     }

@@ -5,7 +5,7 @@ ghost use Rattle.cc_host.specs.Given.{is_answered};
 ghost use Rattle.cc_host.specs.declared.question.Outcome.TheVariants.{Done};
 ghost use Rattle.cc_hosts.specs.HostSeen.{HostSeen, fresh};
 
-use crate::child::{self, Begun, Ended};
+use crate::child::{self, Begun, Closed, Ended, Streams};
 use crate::entry::list_vars;
 use crate::reason::why_of;
 use crate::running::{self, Process};
@@ -14,7 +14,7 @@ use cc_host::{
     OutputKind, Pipes, ProbeFiles, Question, Ran, Removal, Role, Scope, Start, Verdict, Why, World,
     exists_of, probe_command,
 };
-use cc_text::{Bytes, Mem, NoMemory, Text, Vars};
+use cc_text::{Bytes, Mem, NoMemory, Text, Vars, Words};
 use std::alloc::Global;
 use std::env::Env;
 use std::io::{Eprint, ErrorKind, Print, Write};
@@ -49,6 +49,8 @@ pub struct ProcessHost<R: Processes> {
     log: ChildLog,
     processes: Vec<Process<R::Started>>,
     drawn: u64,
+    closed: Closed,
+    warned: bool,
 }
 
 impl<R: Processes> Model for ProcessHost<R> {
@@ -69,16 +71,45 @@ impl<R: Processes + AllocGlobal> ProcessHost<R> {
             log: ChildLog::new(alloc),
             processes: Vec::new(alloc),
             drawn: 0,
+            closed: Closed {
+                input: false,
+                output: false,
+            },
+            warned: false,
         })
+    }
+
+    /// Tells the host that this process was started without its standard input or without its standard output. A child gets the null
+    /// device in the place of such a stream, else the first file that it opens would take that place.
+    pub fn lacks(&mut self, closed: Closed)
+        ensures { self.new ≡ self.old }
+    {
+        self.closed = closed;
+    }
+
+    // What a child gets as its streams.
+    fn streams(&self, pipes: Pipes) -> Streams
+        ensures { result.pipes ≡ pipes }
+    {
+        Streams {
+            pipes,
+            closed: self.closed,
+        }
     }
 }
 
 const NOT_TEXT: &[u8] = b"cargo:warning=ignoring a variable that is not UTF-8\n";
 
-// Warns once of each variable that was left out.
-fn warn(out: &impl Print, left_out: usize) -> io::Result<()> {
-    for _ in 0..left_out {
-        out.write_all(NOT_TEXT)?;
+// Warns of each variable that was left out, where that wasn't done before. Its name stands on standard error, where a line that can't be
+// written is no fault.
+fn warn<R: Print + Eprint>(rt: &R, warned: bool, left_out: &Words) -> io::Result<()> {
+    if warned {
+        return Ok(());
+    }
+    for name in left_out.as_slice() {
+        rt.write_all(NOT_TEXT)?;
+        let name = name.as_str();
+        let _ = eprintln!(rt; "ignoring the variable {name}, which is not UTF-8");
     }
     Ok(())
 }
@@ -114,7 +145,8 @@ impl<R: Processes + Files + Env + Print + Eprint + RandomSource + AllocGlobal> H
         self.log.reserve_child()?;
         self.processes.reserve(1)?;
         let command = cmd.try_clone()?;
-        match child::begin(&self.rt, cmd, child::heard_only(pipes))? {
+        let streams = self.streams(child::heard_only(pipes));
+        match child::begin(&self.rt, cmd, streams)? {
             Begun::Missing => {
                 self.log.note(Event::Missing { role, cmd: command });
                 Ok(Start::Missing)
@@ -144,7 +176,7 @@ impl<R: Processes + Files + Env + Print + Eprint + RandomSource + AllocGlobal> H
         self.log.reserve(2)?;
         let question = q.try_clone()?;
         let with = files.try_clone()?;
-        match outcome_of(ask(self.alloc, &self.rt, q, files)?)? {
+        match outcome_of(ask(self.alloc, &self.rt, q, files, self.streams(KEPT))?)? {
             Ok((outcome, copy)) => {
                 self.log.note(Event::Answered {
                     question,
@@ -226,13 +258,13 @@ impl<R: Processes + Files + Env + Print + Eprint + RandomSource + AllocGlobal> H
     fn output(&mut self, role: Role, cmd: &Command, pipes: Pipes) -> Result<Ran, HostError> {
         self.log.reserve(1)?;
         let command = cmd.try_clone()?;
-        match child::run(&self.rt, cmd, pipes)? {
+        match child::run(&self.rt, cmd, self.streams(pipes))? {
             child::Outcome::Missing => {
                 self.log.note(Event::Missing { role, cmd: command });
                 Ok(Ran::Missing)
             }
             child::Outcome::Failed(why) => Err(self.log.fault(HostCall::Output, why)),
-            child::Outcome::Ended(end) => {
+            child::Outcome::Ended(end) | child::Outcome::Lost(end, _) => {
                 let Ended { status, out, err } = end.try_clone()?;
                 self.log.note(Event::Ran {
                     role,
@@ -295,8 +327,9 @@ impl<R: Processes + Files + Env + Print + Eprint + RandomSource + AllocGlobal> H
         self.log.reserve(1)?;
         let listing = list_vars(self.alloc, &self.rt)?;
         let vars = listing.vars.try_clone()?;
-        match warn(&self.rt, listing.left_out) {
+        match warn(&self.rt, self.warned, &listing.left_out) {
             Ok(()) => {
+                self.warned = true;
                 self.log.note(Event::Listed { vars });
                 Ok(listing.vars)
             }
@@ -332,11 +365,12 @@ fn ask<R: Processes + Files + Env + AllocGlobal>(
     rt: &R,
     q: &Question,
     files: &ProbeFiles,
+    streams: Streams,
 ) -> Mem<child::Outcome>
     requires { q.now.ask ≢ AsksExists }
 {
     let cmd = probe_command(alloc, q, files)?;
-    child::run(rt, &cmd, KEPT)
+    child::run(rt, &cmd, streams)
 }
 
 // What a question comes to by the end of its command, and a second outcome that equals it; or why it isn't answered.
@@ -345,7 +379,7 @@ fn outcome_of(end: child::Outcome) -> Mem<Result<(Outcome, Outcome), Why>>
 {
     match end {
         child::Outcome::Missing => Ok(Ok((Outcome::Missing, Outcome::Missing))),
-        child::Outcome::Failed(why) => Ok(Err(why)),
+        child::Outcome::Failed(why) | child::Outcome::Lost(_, why) => Ok(Err(why)),
         child::Outcome::Ended(end) => {
             let copy = end.try_clone()?;
             Ok(Ok((done(end), done(copy))))

@@ -57,7 +57,7 @@ fn end_of(waited: io::Result<ExitStatus>, unread: bool) -> End
         },
         Err(_) => End {
             status: Status::NoCode,
-            unread: true,
+            unread,
         },
     }
 }

@@ -15,7 +15,7 @@ ghost use Rattle.cc_command.specs.Answer.{heard};
 use cc_command::drive;
 use cc_env::EnvSnapshot;
 use cc_host::{Host, HostError, World};
-use cc_hosts::ProcessHost;
+use cc_hosts::{ProcessHost, StandIns};
 use cc_jobs::{OneCaller, pool_size};
 use cc_text::{Mem, NoMemory, Vars};
 use std::alloc::Global;
@@ -120,24 +120,36 @@ fn answer_to(words: &[String]) -> Option<&'static str> {
     }
 }
 
-fn main(rt: HostRuntime) -> io::Result<ExitCode> {
+// Prints a text, and tells it on standard error where that can't be.
+fn print_text(rt: &HostRuntime, text: &str) -> ExitCode {
+    match print!(rt; "{text}") {
+        Ok(()) => ExitCode::from(0),
+        Err(error) => {
+            let _ = eprintln!(rt; "print failed: {error}");
+            ExitCode::from(1)
+        }
+    }
+}
+
+fn main(rt: HostRuntime) -> ExitCode {
+    let stand_ins = StandIns::open(&rt);
     let words = match words_of(&rt) {
         Ok(words) => words,
         Err(error) if error.kind() == io::ErrorKind::InvalidData => {
-            eprintln!(rt; "a word is not UTF-8")?;
-            return Ok(ExitCode::from(2));
+            let _ = eprintln!(rt; "a word is not UTF-8");
+            return ExitCode::from(2);
         }
-        Err(error) => return Err(error),
+        Err(_) => return ExitCode::from(3),
     };
     if let Some(text) = answer_to(&words) {
-        print!(rt; "{text}")?;
-        return Ok(ExitCode::from(0));
+        return print_text(&rt, text);
     }
     let Ok(mut host) = ProcessHost::new(rt) else {
-        return Ok(ExitCode::from(3));
+        return ExitCode::from(3);
     };
+    host.lacks(stand_ins.closed());
     match run(&rt, rt.alloc(), &mut host, &words) {
-        Ok(status) => Ok(ExitCode::from(status)),
-        Err(NoMemory) => Ok(ExitCode::from(3)),
+        Ok(status) => ExitCode::from(status),
+        Err(NoMemory) => ExitCode::from(3),
     }
 }
