@@ -1,4 +1,5 @@
-use Rattle.std.proofs.Common.{◌≡◌, None, string_bytes, refl, sym, ◌∙◌, ap, arith}
+use Rattle.std.proofs.Common.{◌≡◌, None, inl, string_bytes, refl, sym, ◌∙◌, ap, arith}
+use Rattle.std.proofs.lemmas.Result.{err_from_is_err_and}
 use Rattle.cc_command.specs.Read.{word_cause}
 use Rattle.cc_command.specs.Step.{with_word}
 use Rattle.cc_command.proofs.WordLaws.{fresh_settings, good_here, set_here}
@@ -16,3 +17,8 @@ loop-place-preserved g c =
       rest = good_here string_bytes c.args.words.now c.loop-place.place c.index-words-place.result _ c.loop-place-test.true c.index-words-place.is c.loop-place.invariant.rest fine;
       build = set_here string_bytes c.args.words.now c.loop-place.place c.index-words-place.result c.loop-place.build c.set_word.new.build c.loop-place-test.true c.index-words-place.is c.loop-place.invariant.build set;
     }
+
+pub returns-in_err-cause-clause-refused : goal.returns-in_err-cause-clause-refused
+returns-in_err-cause-clause-refused g c =
+    let p = err_from_is_err_and c.from_residual.result c.from_residual.ensures.1 in
+    rw (p.1, p.2) (inl refl)
