@@ -1,2 +1,3 @@
 pub mod DatabaseLaws
 pub mod EscapeLemmas
+pub mod ReadLemmas

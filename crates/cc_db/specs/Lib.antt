@@ -1,1 +1,2 @@
 pub mod Database
+pub mod Read

@@ -6,5 +6,7 @@
 #![tactic(auto)]
 
 mod database;
+mod read;
 
 pub use database::{json_compilation_database, one_list_a_text};
+pub use read::{DatabaseError, read_database};

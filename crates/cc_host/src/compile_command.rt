@@ -45,6 +45,23 @@ impl CompileCommand {
         })
     }
 
+    /// A command of these parts, taken over as they are: no path is joined to the folder. It takes no memory.
+    pub fn from_parts(directory: Text, file: Text, arguments: Words, output: Text) -> CompileCommand
+        ensures { result ≡ record {
+          directory = directory;
+          file = file;
+          arguments = arguments;
+          output = output;
+        } }
+    {
+        CompileCommand {
+            directory,
+            file,
+            arguments,
+            output,
+        }
+    }
+
     /// The folder that it runs in, lent.
     pub fn directory(&self) -> &str
         ensures { result.now ≡ self.now.directory }
