@@ -19,7 +19,7 @@ use Rattle.cc_plan.specs.Tool.{defaults_refusal_by}
 use Rattle.cc_plan.specs.ToolWords.{first_refusal, names_target, musl_sysroot, qnx_refusal, sysroot_refusal, clang_refusal, defaults_refusal}
 use Rattle.cc_plan.specs.declared.error.PlanError.{PlanError}
 use Rattle.cc_plan.specs.declared.error.PlanError.TheVariants.{QnxArch, NotSet}
-use Rattle.cc_plan.specs.Refusal.{place_from, earlier_place, source_refusal, sources_after, out_dir_refusal, unset, target_refusal, platform_refusal, given_refusal, refusal_by, tool_refusal, early_refusal, late_refusal, object_in, library_in, is_empty}
+use Rattle.cc_plan.specs.Refusal.{place_from, earlier_place, source_refusal, sources_after, out_dir_refusal, unset, target_refusal, platform_refusal, given_refusal, refusal_by, tool_refusal, early_refusal, late_refusal, object_in, library_in, is_empty, archiver_refusal, link_refusal}
 use Rattle.cc_plan.specs.Added.{added_refusal}
 use Rattle.cc_plan.proofs.AddedLaws.{added_accepted}
 use Rattle.cc_plan.specs.Valid.{IsNoneOf, AreApart, IsKnown, IsSetNonempty, HasVariant, HasSysroot, Parse, Valid}
@@ -148,3 +148,13 @@ pub late_accepted : (set : BuildConfig) (env : EnvSeen) (look : Look) (output : 
 unfolding late_refusal
 late_accepted set env look output v =
     late_valid set env look (is_empty set.files) v.target v.host v.level (words_accepted set env look output v) (flags_accepted set env look output v)
+
+-- and what the archiver wants
+pub archiver_accepted : (set : BuildConfig) (env : EnvSeen) (look : Look) (output : List ℕ) → Valid set env look output → archiver_refusal set env look ≡ None
+unfolding archiver_refusal
+archiver_accepted set env look output v = refl
+
+-- and what the link lines want
+pub links_accepted : (set : BuildConfig) (env : EnvSeen) (look : Look) (output : List ℕ) → Valid set env look output → link_refusal set env look ≡ None
+unfolding link_refusal
+links_accepted set env look output v = refl

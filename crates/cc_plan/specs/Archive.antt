@@ -1,42 +1,76 @@
--- The planned archive and index commands, in the words of `ar`: `c` makes the library, `q` adds members last, `s` writes its index,
--- and `D` leaves out times and owners, so that one build gives the same bytes as the next.
-use Rattle.std.specs.Prelude.{ℕ, List, [], ◌∷◌, ◌++◌, map, None, unwrap_or, codes}
+-- The planned archiver, and the archive and index commands, in the words of `ar`: `c` makes the library, `q` adds members last, `s` writes its
+-- index, and `D` leaves out times and owners, so that one build gives the same bytes as the next.
+use Rattle.std.specs.Prelude.{ℕ, Bool, false, true, List, [], ◌∷◌, ◌++◌, map, take, None, unwrap_or, codes, if◌then◌else◌}
 use Rattle.cc_env.specs.Env.{EnvSeen}
 use Rattle.cc_env.specs.Snapshot.{child_of}
 use Rattle.cc_host.specs.Command.{CommandSeen}
+use Rattle.cc_host.specs.Question.{Look}
 use Rattle.cc_plan.specs.Batches.{batches_of}
 use Rattle.cc_plan.specs.Given.{variable_flags}
+use Rattle.cc_plan.specs.declared.archive.Archiver.{Archiver}
 use Rattle.cc_plan.specs.declared.object.Object.{Object}
 use Rattle.cc_plan.specs.declared.settings.BuildConfig.{BuildConfig}
-
-abbrev pub archiver_of : BuildConfig → List ℕ
-archiver_of set = unwrap_or set.archiver (codes "ar")
 
 abbrev pub paths_of : List Object → List (List ℕ)
 paths_of objects = map (λ o. o.dst) objects
 
--- the environment of a command that writes no times into members
-abbrev pub archive_env : EnvSeen → List (List ℕ × List ℕ)
-archive_env env = child_of env.inherited (env.explicit ++ (codes "ZERO_AR_DATE", codes "1") ∷ [])
+-- the program of the archiver
+abbrev pub archiver_program : BuildConfig → List ℕ
+archiver_program set = unwrap_or set.archiver (codes "ar")
 
 -- the words before those of a form: the flags of the variables, and then the set ones
 unfoldable pub archiver_flags : BuildConfig → EnvSeen → List (List ℕ)
 archiver_flags set env = unwrap_or (variable_flags set env (codes "ARFLAGS")) [] ++ set.ar_flags
 
--- a command of the archiver with these variables
-abbrev pub archiver_in : BuildConfig → EnvSeen → List (List ℕ × List ℕ) → List (List ℕ) → CommandSeen
-archiver_in set env vars args = record { program = archiver_of set; args = archiver_flags set env ++ args; env = vars; dir = None }
+-- its command up to the words of a form
+abbrev pub archiver_cmd : BuildConfig → EnvSeen → CommandSeen
+archiver_cmd set env = record { program = archiver_program set; args = archiver_flags set env; env = child_of env.inherited env.explicit; dir = None }
+
+-- the archiver
+unfoldable pub archiver_of : BuildConfig → EnvSeen → Look → Archiver
+archiver_of set env look = record { cmd = archiver_cmd set env }
+
+-- the environment of a command that writes no times into members
+abbrev pub archive_env : EnvSeen → List (List ℕ × List ℕ)
+archive_env env = child_of env.inherited (env.explicit ++ (codes "ZERO_AR_DATE", codes "1") ∷ [])
+
+-- a command of the archiver with these words more
+abbrev pub with_words : Archiver → List (List ℕ) → CommandSeen
+with_words archiver words = record archiver.cmd { args = archiver.cmd.args ++ words }
+
+-- the same where it writes no times into members
+abbrev pub timeless : Archiver → EnvSeen → List (List ℕ) → CommandSeen
+timeless archiver env words = record (with_words archiver words) { env = archive_env env }
+
+-- the word that has members added last: it leaves out owners too, or is the plain one
+abbrev pub adding : Bool → List ℕ
+adding plain = if plain then codes "cq" else codes "cqD"
 
 -- the command of a batch of paths
-abbrev pub archive_of : BuildConfig → EnvSeen → List ℕ → List (List ℕ) → CommandSeen
-archive_of set env library paths = archiver_in set env (archive_env env) (codes "cqD" ∷ library ∷ paths)
+abbrev pub archive_of : Archiver → EnvSeen → List ℕ → Bool → List (List ℕ) → CommandSeen
+archive_of archiver env library plain batch = timeless archiver env (adding plain ∷ library ∷ batch)
 
--- one command a batch: the first makes the library, and each later one adds to it
-abbrev pub archives_of : BuildConfig → EnvSeen → List ℕ → List (List ℕ) → List CommandSeen
-archives_of set env library paths = map (archive_of set env library) (batches_of paths)
+-- where the first form was refused, the refused command comes first
+abbrev pub refused_of : Archiver → EnvSeen → List ℕ → Bool → List (List (List ℕ)) → List CommandSeen
+refused_of archiver env library plain batches = if plain then map (archive_of archiver env library false) (take 1 batches) else []
 
-abbrev pub index_of : BuildConfig → EnvSeen → List ℕ → CommandSeen
-index_of set env library = archiver_in set env (child_of env.inherited env.explicit) (codes "sD" ∷ library ∷ [])
+-- One command a batch: the first makes the library, and each later one adds to it. Where the first form was refused all are in the plain one.
+abbrev pub archives_by : Archiver → EnvSeen → List ℕ → Bool → List (List (List ℕ)) → List CommandSeen
+archives_by archiver env library plain batches = refused_of archiver env library plain batches ++ map (archive_of archiver env library plain) batches
 
-abbrev pub indexes_of : BuildConfig → EnvSeen → List ℕ → List CommandSeen
-indexes_of set env library = index_of set env library ∷ []
+abbrev pub archives_of : Archiver → EnvSeen → List ℕ → Bool → List (List ℕ) → List CommandSeen
+archives_of archiver env library plain paths = archives_by archiver env library plain (batches_of paths)
+
+-- the command that writes the index without the time
+abbrev pub index_of : Archiver → List ℕ → CommandSeen
+index_of archiver library = with_words archiver (codes "sD" ∷ library ∷ [])
+
+-- the same in the plain form
+abbrev pub plain_index_of : Archiver → EnvSeen → List ℕ → CommandSeen
+plain_index_of archiver env library = timeless archiver env (codes "s" ∷ library ∷ [])
+
+-- The command of the index. Where the first form was refused it is the plain one; that of a library without members was the refused one.
+abbrev pub indexes_of : Archiver → EnvSeen → List ℕ → Bool → List (List ℕ) → List CommandSeen
+indexes_of archiver env library false paths = index_of archiver library ∷ []
+indexes_of archiver env library true [] = index_of archiver library ∷ plain_index_of archiver env library ∷ []
+indexes_of archiver env library true (path ∷ paths) = plain_index_of archiver env library ∷ []

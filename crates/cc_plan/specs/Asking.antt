@@ -19,7 +19,7 @@ use Rattle.cc_plan.specs.Choice.{choice_of}
 use Rattle.cc_plan.specs.Given.{probe_folder}
 use Rattle.cc_plan.specs.Link.{printed_line}
 use Rattle.cc_plan.specs.Plan.{prints}
-use Rattle.cc_plan.specs.Questions.{ToolAsks, PlanAsks, SupportAsks}
+use Rattle.cc_plan.specs.Questions.{ToolAsks, PlanAsks, ArchiverAsks, LinkAsks, SupportAsks}
 use Rattle.cc_plan.specs.declared.choice.Choice.{Choice}
 use Rattle.cc_plan.specs.declared.compilation.Inputs.{Inputs}
 use Rattle.cc_plan.specs.declared.error.PlanError.{PlanError}
@@ -44,6 +44,14 @@ AsksFor steady world log patience set env old new = OnlyAsks steady world log pa
 -- a call asks what a plan for them asks
 abbrev pub AsksToPlan : {W H : Type 0} → {ghosts : Ghosts W} → Bool → (Question → Outcome) → (H → List Event) → (H → Option ℕ) → BuildConfig → EnvSeen → Sight W H ghosts → Sight W H ghosts → Type 0
 AsksToPlan steady world log patience set env old new = OnlyAsks steady world log patience (probe_folder set env) (PlanAsks set env) old new
+
+-- a call asks what finds their archiver
+abbrev pub AsksForArchiver : {W H : Type 0} → {ghosts : Ghosts W} → Bool → (Question → Outcome) → (H → List Event) → (H → Option ℕ) → BuildConfig → EnvSeen → Sight W H ghosts → Sight W H ghosts → Type 0
+AsksForArchiver steady world log patience set env old new = OnlyAsks steady world log patience (probe_folder set env) (ArchiverAsks set env) old new
+
+-- a call asks what their link lines want
+abbrev pub AsksForLinks : {W H : Type 0} → {ghosts : Ghosts W} → Bool → (Question → Outcome) → (H → List Event) → (H → Option ℕ) → BuildConfig → EnvSeen → Sight W H ghosts → Sight W H ghosts → Type 0
+AsksForLinks steady world log patience set env old new = OnlyAsks steady world log patience (probe_folder set env) (LinkAsks set env) old new
 
 -- a call asks whether their compiler takes a flag
 abbrev pub AsksOnFlag : {W H : Type 0} → {ghosts : Ghosts W} → Bool → (Question → Outcome) → (H → List Event) → (H → Option ℕ) → BuildConfig → EnvSeen → List ℕ → Sight W H ghosts → Sight W H ghosts → Type 0

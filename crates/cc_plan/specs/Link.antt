@@ -1,6 +1,9 @@
 -- The link lines: what a build script prints so that Cargo links the library.
-use Rattle.std.specs.Prelude.{ℕ, List, [], ◌∷◌, ◌++◌, codes, if◌then◌else◌}
+use Rattle.std.specs.Prelude.{ℕ, Bool, false, not, ◌||◌, List, [], ◌∷◌, ◌++◌, map, filter, codes, if◌then◌else◌}
 use Rattle.std.specs.List.{join_by}
+use Rattle.cc_env.specs.Env.{EnvSeen}
+use Rattle.cc_host.specs.Question.{Look}
+use Rattle.cc_plan.specs.declared.link.LinkLine.{LinkLine}
 use Rattle.cc_plan.specs.declared.settings.BuildConfig.{BuildConfig}
 
 -- the modifiers behind the kind of a library, with commas between
@@ -16,9 +19,22 @@ library_line modifiers name = codes "cargo:rustc-link-lib=static" ++ modifiers_p
 unfoldable pub search_line : List ℕ → List ℕ
 search_line folder = codes "cargo:rustc-link-search=native=" ++ folder
 
--- both lines, unless none are wanted
-abbrev pub link_lines : BuildConfig → List ℕ → List ℕ → List (List ℕ)
-link_lines set name folder = if set.cargo_metadata then library_line set.link_lib_modifiers name ∷ search_line folder ∷ [] else []
+-- a line that is printed at each call
+abbrev pub always : List ℕ → LinkLine
+always text = record { text = text; once = false }
+
+-- the lines for a library in a folder, unless none are wanted
+unfoldable pub link_lines : BuildConfig → EnvSeen → List ℕ → List ℕ → Look → List LinkLine
+link_lines set env name folder look = if set.cargo_metadata then always (library_line set.link_lib_modifiers name) ∷ always (search_line folder) ∷ [] else []
+
+-- A line that is printed once for all builds that share what they know is left out where another printed it, unless lines are repeated.
+-- `is_first` says whether no other did.
+abbrev pub is_printed : Bool → LinkLine → Bool
+is_printed is_first line = not line.once || is_first
+
+-- the texts of those that are printed
+abbrev pub printed_links : Bool → List LinkLine → List (List ℕ)
+printed_links is_first lines = map (λ line. line.text) (filter (is_printed is_first) lines)
 
 -- a line as it is printed
 abbrev pub printed_line : List ℕ → List ℕ

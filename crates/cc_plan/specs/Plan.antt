@@ -14,7 +14,9 @@ use Rattle.cc_plan.specs.declared.settings.BuildConfig.{BuildConfig}
 use Rattle.cc_plan.specs.Archive as archive
 use Rattle.cc_plan.specs.Compile as compile
 use Rattle.cc_plan.specs.Given.{out_dir_of}
-use Rattle.cc_plan.specs.Link.{printed_line, link_lines as lines_of}
+use Rattle.cc_plan.specs.Archive.{archiver_of}
+use Rattle.cc_plan.specs.Link.{printed_line, printed_links, link_lines as lines_of}
+use Rattle.cc_plan.specs.declared.link.LinkLine.{LinkLine}
 use Rattle.cc_plan.specs.Names.{library_name}
 use Rattle.cc_plan.specs.Object as object
 use Rattle.cc_plan.specs.Refusal.{is_empty, library_in}
@@ -38,15 +40,17 @@ compiles_of set env look = compile.compiles_of set (target_info set env) (tool_o
 abbrev pub archived_of : BuildConfig → EnvSeen → List (List ℕ)
 archived_of set env = archive.paths_of (objects_of set env) ++ set.objects
 
-abbrev pub archives_of : BuildConfig → EnvSeen → List ℕ → List CommandSeen
-archives_of set env output = archive.archives_of set env (library_of set env output) (archived_of set env)
+-- the commands that write the library; `plain` says that the first one was refused, so that the plain form took its place
+unfoldable pub archives_of : BuildConfig → EnvSeen → Look → Bool → List ℕ → List CommandSeen
+archives_of set env look plain output = archive.archives_of (archiver_of set env look) env (library_of set env output) plain (archived_of set env)
 
-abbrev pub indexes_of : BuildConfig → EnvSeen → List ℕ → List CommandSeen
-indexes_of set env output = archive.indexes_of set env (library_of set env output)
+-- the commands that write its index
+unfoldable pub indexes_of : BuildConfig → EnvSeen → Look → Bool → List ℕ → List CommandSeen
+indexes_of set env look plain output = archive.indexes_of (archiver_of set env look) env (library_of set env output) plain (archived_of set env)
 
 -- the library is linked by its name, and sought in the folder that its path has, where link lines are wanted
-abbrev pub link_lines : BuildConfig → EnvSeen → List ℕ → List (List ℕ)
-link_lines set env output = lines_of set (library_name output) (unwrap_or (path_parent (library_of set env output)) [])
+unfoldable pub link_lines : BuildConfig → EnvSeen → Look → List ℕ → List LinkLine
+link_lines set env look output = lines_of set env (library_name output) (unwrap_or (path_parent (library_of set env output)) []) look
 
 -- a warning as Cargo reads it
 abbrev pub warning_line : List ℕ → List ℕ
@@ -75,5 +79,5 @@ prints kind lines = map (λ line. Prints kind (printed_line line)) lines
 unfoldable pub removal_steps : BuildConfig → EnvSeen → List ℕ → List Step
 removal_steps set env output = Removes (library_of set env output) ∷ []
 
-unfoldable pub link_steps : BuildConfig → EnvSeen → List ℕ → List Step
-link_steps set env output = prints Link (link_lines set env output)
+unfoldable pub link_steps : BuildConfig → EnvSeen → Look → Bool → List ℕ → List Step
+link_steps set env look is_first output = prints Link (printed_links is_first (link_lines set env look output))

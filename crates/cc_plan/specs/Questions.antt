@@ -57,3 +57,15 @@ PlanAsks set env look q = WordAsks (planned set env look) (asked_words (planned 
 -- one that is asked to learn whether the compiler takes a flag: what finds it, and the one on the flag
 unfoldable pub SupportAsks : BuildConfig → EnvSeen → List ℕ → Look → Question → Type 0
 SupportAsks set env flag look q = ToolAsks set env look q ⊎ (q ≡ flag_question (bare_of (planned set env look) look) flag)
+
+-- one that is asked to find the archiver
+unfoldable pub ArchiverAsks : BuildConfig → EnvSeen → Look → Question → Type 0
+ArchiverAsks set env look q = ToolAsks set env look q
+
+-- one that is asked for the link lines
+unfoldable pub LinkAsks : BuildConfig → EnvSeen → Look → Question → Type 0
+LinkAsks set env look q = PlanAsks set env look q
+
+-- one that a run asks: for the commands that compile, for those that archive, or for the link lines
+unfoldable pub RunAsks : BuildConfig → EnvSeen → Look → Question → Type 0
+RunAsks set env look q = PlanAsks set env look q ⊎ (ArchiverAsks set env look q ⊎ LinkAsks set env look q)

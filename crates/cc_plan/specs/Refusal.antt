@@ -106,6 +106,14 @@ is_empty (s ∷ ss) = false
 unfoldable pub late_refusal : BuildConfig → EnvSeen → Look → Option PlanError
 late_refusal set env look = if is_empty set.files then platform_refusal set env else tool_refusal set env look
 
+-- what the archiver wants, after the commands that compile were run
+unfoldable pub archiver_refusal : BuildConfig → EnvSeen → Look → Option PlanError
+archiver_refusal set env look = None
+
+-- what the link lines want, after the library was written
+unfoldable pub link_refusal : BuildConfig → EnvSeen → Look → Option PlanError
+link_refusal set env look = None
+
 -- on Ok nothing is refused
 abbrev pub AllowedBy : {X : Type 0} → Option PlanError → Result X PlanError → Type 0
 AllowedBy refusal result = OnOk result (refusal ≡ None)

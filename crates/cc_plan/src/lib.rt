@@ -36,7 +36,7 @@ mod support;
 mod tool;
 mod words;
 
-pub use archive::{archive_commands, index_commands};
+pub use archive::{Archiver, archive_commands, archived_paths, archiver_of, index_commands};
 pub use batch::batches;
 pub use choice::Choice;
 pub use compile::compile_command;
@@ -45,7 +45,7 @@ pub use error::{ArgumentCause, PlanError};
 pub use flag_verdict::{FlagSupport, flag_support};
 pub use flags::{BuildFlag, Definition, Definitions, Flags};
 pub use given::{host_of, is_disabled, out_dir_of, target_of, variable_flags};
-pub use link::link_lines;
+pub use link::{LinkLine, link_lines};
 pub use names::lib_and_archive_names;
 pub use object::{Object, object_path, objects_from_files};
 pub use plan::{Plan, Sources, plan_commands, plan_sources};

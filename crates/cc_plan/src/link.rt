@@ -1,10 +1,16 @@
 // The link lines.
 ghost use Rattle.std.specs.Prelude.{◌≡◌, IfOk};
-ghost use Rattle.cc_plan.specs.Link.{modifiers_part, library_line, search_line, link_lines};
+ghost use Rattle.cc_host.specs.Question.{Settles};
+ghost use Rattle.cc_plan.specs.Asking.{AsksForLinks, AllowedIn, RefusedIn};
+ghost use Rattle.cc_plan.specs.Link.{modifiers_part, library_line, search_line, always, link_lines};
+ghost use Rattle.cc_plan.specs.Refusal.{link_refusal};
 
-use crate::BuildConfig;
+use crate::{BuildConfig, PlanError, Sight};
+use cc_env::BuildEnv;
+use cc_host::{Host, World};
 use cc_text::{Mem, Text, Words, join_texts};
 use std::alloc::Global;
+use std::sync::Wait;
 
 // The modifiers behind the kind of a library, with commas between.
 fn modifiers_part(alloc: Global, modifiers: &Words) -> Mem<Text>
@@ -38,19 +44,50 @@ fn search_line(alloc: Global, folder: &str) -> Mem<Text>
     Ok(line)
 }
 
+/// A line for Cargo, without its line feed.
+#[derive(Drop, Debug)]
+pub struct LinkLine {
+    /// What Cargo reads.
+    pub text: Text,
+    /// Whether it is printed once for all builds that share what they know, unless lines are repeated.
+    pub once: bool,
+}
+
+// A line that is printed at each call.
+fn always(text: Text) -> LinkLine
+    ensures { result ≡ always text }
+{
+    LinkLine { text, once: false }
+}
+
 /// The lines by which a build script asks Cargo to link a static library: its name behind the modifiers of the settings, and the folder
-/// that has it, without line feeds. None where the settings want none. Only want of memory refuses.
+/// that has it, without line feeds. None where the settings want none. It asks, and prints nothing. Only want of memory refuses.
 ///
 /// Cargo's book on build scripts has the forms, `cargo:rustc-link-lib=LIB` and `cargo:rustc-link-search=KIND=PATH`; the kind `native` has
 /// the folder searched for libraries alone, not for crates. A LIB is what rustc takes behind `-l`, `KIND:MODIFIERS=NAME`, where commas
 /// part the modifiers (rustc's book, "Command-line Arguments").
-pub fn link_lines(alloc: Global, set: &BuildConfig, name: &str, dir: &str) -> Mem<Words>
-    ensures { IfOk result (λ lines. lines ≡ link_lines set.now name.now dir.now) }
+#[tactic(auto, using(crate::proofs::AskingLemmas::only_none), unfolding(crate::specs::Refusal::link_refusal, crate::specs::Link::link_lines))]
+pub fn link_lines<W: World, H: Host<W>>(
+    rt: &impl Wait,
+    set: &BuildConfig,
+    env: &BuildEnv,
+    name: &str,
+    dir: &str,
+    sight: &mut Sight<'_, W, H>,
+) -> Result<Vec<LinkLine>, PlanError>
+    ensures asks { AsksForLinks W.steady W.answer H.log H.patience set.now env.now
+        sight.old sight.new }
+    ensures lines { IfOk result (λ lines. Settles sight.new.answers.now
+        (link_lines set.now env.now name.now dir.now) lines.items) }
+    ensures allowed { AllowedIn sight.new (link_refusal set.now env.now) result }
+    ensures refused { RefusedIn sight.new (link_refusal set.now env.now) result }
 {
-    let mut lines = Words::new(alloc);
+    let _ = (rt, env);
+    let alloc = sight.answers.allocator();
+    let mut lines = Vec::new(alloc);
     if set.cargo_metadata {
-        lines.push_text(library_line(alloc, &set.link_lib_modifiers, name)?)?;
-        lines.push_text(search_line(alloc, dir)?)?;
+        lines.push(always(library_line(alloc, &set.link_lib_modifiers, name)?))?;
+        lines.push(always(search_line(alloc, dir)?))?;
     }
     Ok(lines)
 }

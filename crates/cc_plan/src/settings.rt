@@ -44,10 +44,14 @@ pub struct BuildConfig {
     pub out_dir: Option<Text>,
     /// The path of the compiler, which comes before all others.
     pub compiler: Option<Text>,
-    /// The path of the archiver, else `ar`.
+    /// The path of the archiver, else the one that the environment or the target names.
     pub archiver: Option<Text>,
+    /// The path of the tool that writes an archive's index alone, else the one that the environment or the target names.
+    pub ranlib: Option<Text>,
     /// The C++ library that the compiler is given by name.
     pub cpp_set_stdlib: Option<Text>,
+    /// The C++ library that a library of C++ is linked with, or none at all; where it isn't set, as the environment or the target says.
+    pub cpp_link_stdlib: Option<Option<Text>>,
     /// Whether the compiler is told `-shared`; not where it isn't set (GCC's manual, "Options for Linking").
     pub shared_flag: Option<bool>,
     /// Whether the compiler is told `-static`; where it isn't set, as Cargo's target links its C library.
@@ -79,6 +83,8 @@ pub struct BuildConfig {
     pub cpp: bool,
     /// Whether a warning is an error: `-Werror`.
     pub warnings_into_errors: bool,
+    /// Whether the C++ library is linked as a static one; `CXXSTDLIB_STATIC` has it so too.
+    pub cpp_link_stdlib_static: bool,
     /// Whether the link lines are printed, by which Cargo links the library.
     pub cargo_metadata: bool,
     /// Whether warnings, and what commands write on standard error, are printed as lines that Cargo shows; else the latter is dropped.
@@ -122,7 +128,9 @@ impl BuildConfig {
             out_dir: None,
             compiler: None,
             archiver: None,
+            ranlib: None,
             cpp_set_stdlib: None,
+            cpp_link_stdlib: None,
             shared_flag: None,
             static_flag: None,
             warnings: None,
@@ -137,6 +145,7 @@ impl BuildConfig {
             reproducible_codeview: false,
             cpp: false,
             warnings_into_errors: false,
+            cpp_link_stdlib_static: false,
             cargo_metadata: true,
             cargo_warnings: true,
             cargo_output: true,
@@ -171,7 +180,9 @@ impl BuildConfig {
             out_dir: second(&self.out_dir)?,
             compiler: second(&self.compiler)?,
             archiver: second(&self.archiver)?,
+            ranlib: second(&self.ranlib)?,
             cpp_set_stdlib: second(&self.cpp_set_stdlib)?,
+            cpp_link_stdlib: second_choice(&self.cpp_link_stdlib)?,
             shared_flag: self.shared_flag,
             static_flag: self.static_flag,
             warnings: self.warnings,
@@ -186,6 +197,7 @@ impl BuildConfig {
             reproducible_codeview: self.reproducible_codeview,
             cpp: self.cpp,
             warnings_into_errors: self.warnings_into_errors,
+            cpp_link_stdlib_static: self.cpp_link_stdlib_static,
             cargo_metadata: self.cargo_metadata,
             cargo_warnings: self.cargo_warnings,
             cargo_output: self.cargo_output,
@@ -204,6 +216,16 @@ fn second(text: &Option<Text>) -> Mem<Option<Text>>
 {
     match text {
         Some(text) => Ok(Some(text.try_clone()?)),
+        None => Ok(None),
+    }
+}
+
+// The same of a text that may be chosen as none.
+fn second_choice(choice: &Option<Option<Text>>) -> Mem<Option<Option<Text>>>
+    ensures { IfOk result (λ c. c ≡ choice.now) }
+{
+    match choice {
+        Some(text) => Ok(Some(second(text)?)),
         None => Ok(None),
     }
 }
