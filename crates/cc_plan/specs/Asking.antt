@@ -16,7 +16,6 @@ use Rattle.cc_tool.specs.Asked.{question_events}
 use Rattle.cc_tool.specs.Asks.{Asks}
 use Rattle.cc_tool.specs.Own.{AnswersAmong}
 use Rattle.cc_plan.specs.Choice.{choice_of}
-use Rattle.cc_plan.specs.Given.{probe_folder}
 use Rattle.cc_plan.specs.Link.{printed_line}
 use Rattle.cc_plan.specs.Plan.{prints}
 use Rattle.cc_plan.specs.Questions.{ToolAsks, PlanAsks, ArchiverAsks, LinkAsks, SupportAsks}
@@ -27,35 +26,36 @@ use Rattle.cc_plan.specs.declared.error.PlanError.TheVariants.{Host, NoMemory}
 use Rattle.cc_plan.specs.declared.settings.BuildConfig.{BuildConfig}
 use Rattle.cc_plan.specs.declared.sight.Sight.{Sight}
 
--- A call asks, and does nothing else: its host and its answers are those that it was lent, log and answers went on by its questions, whose
--- probe files are in the folder, and the host is as patient as before. Whichever verdicts agree with its answers, each question is one that is
+-- A call asks, and does nothing else: its host, its answers and its folder are those that it was lent, log and answers went on by its questions,
+-- whose probe files are in the folder, and the host is as patient as before. Whichever verdicts agree with its answers, each question is one that is
 -- asked under them.
-pub record OnlyAsks {W H : Type 0} {ghosts : Ghosts W} (steady : Bool) (world : Question → Outcome) (log : H → List Event) (patience : H → Option ℕ) (dir : List ℕ) (questions : Look → Question → Type 0) (old new : Sight W H ghosts) : Type 0 where
+pub record OnlyAsks {W H : Type 0} {ghosts : Ghosts W} (steady : Bool) (world : Question → Outcome) (log : H → List Event) (patience : H → Option ℕ) (questions : Look → Question → Type 0) (old new : Sight W H ghosts) : Type 0 where
   pub same_host : new.host.ghost_name ≡ old.host.ghost_name
   pub same_answers : new.answers.ghost_name ≡ old.answers.ghost_name
-  pub asks : Asks steady world dir (log old.host.now) (log new.host.now) old.answers.now new.answers.now
+  pub same_dir : new.dir.now ≡ old.dir.now
+  pub asks : Asks steady world old.dir.now (log old.host.now) (log new.host.now) old.answers.now new.answers.now
   pub own : Holds new.answers.now (λ look. AnswersAmong (questions look) (since (log old.host.now) (log new.host.now)))
   pub patient : patience new.host.now ≡ patience old.host.now
 
--- a call asks what finds the compiler of these settings in this environment, with probe files in their folder, and does nothing else
+-- a call asks what finds the compiler of these settings in this environment, and does nothing else
 abbrev pub AsksFor : {W H : Type 0} → {ghosts : Ghosts W} → Bool → (Question → Outcome) → (H → List Event) → (H → Option ℕ) → BuildConfig → EnvSeen → Sight W H ghosts → Sight W H ghosts → Type 0
-AsksFor steady world log patience set env old new = OnlyAsks steady world log patience (probe_folder set env) (ToolAsks set env) old new
+AsksFor steady world log patience set env old new = OnlyAsks steady world log patience (ToolAsks set env) old new
 
 -- a call asks what a plan for them asks
 abbrev pub AsksToPlan : {W H : Type 0} → {ghosts : Ghosts W} → Bool → (Question → Outcome) → (H → List Event) → (H → Option ℕ) → BuildConfig → EnvSeen → Sight W H ghosts → Sight W H ghosts → Type 0
-AsksToPlan steady world log patience set env old new = OnlyAsks steady world log patience (probe_folder set env) (PlanAsks set env) old new
+AsksToPlan steady world log patience set env old new = OnlyAsks steady world log patience (PlanAsks set env) old new
 
 -- a call asks what finds their archiver
 abbrev pub AsksForArchiver : {W H : Type 0} → {ghosts : Ghosts W} → Bool → (Question → Outcome) → (H → List Event) → (H → Option ℕ) → BuildConfig → EnvSeen → Sight W H ghosts → Sight W H ghosts → Type 0
-AsksForArchiver steady world log patience set env old new = OnlyAsks steady world log patience (probe_folder set env) (ArchiverAsks set env) old new
+AsksForArchiver steady world log patience set env old new = OnlyAsks steady world log patience (ArchiverAsks set env) old new
 
 -- a call asks what their link lines want
 abbrev pub AsksForLinks : {W H : Type 0} → {ghosts : Ghosts W} → Bool → (Question → Outcome) → (H → List Event) → (H → Option ℕ) → BuildConfig → EnvSeen → Sight W H ghosts → Sight W H ghosts → Type 0
-AsksForLinks steady world log patience set env old new = OnlyAsks steady world log patience (probe_folder set env) (LinkAsks set env) old new
+AsksForLinks steady world log patience set env old new = OnlyAsks steady world log patience (LinkAsks set env) old new
 
 -- a call asks whether their compiler takes a flag
 abbrev pub AsksOnFlag : {W H : Type 0} → {ghosts : Ghosts W} → Bool → (Question → Outcome) → (H → List Event) → (H → Option ℕ) → BuildConfig → EnvSeen → List ℕ → Sight W H ghosts → Sight W H ghosts → Type 0
-AsksOnFlag steady world log patience set env flag old new = OnlyAsks steady world log patience (probe_folder set env) (SupportAsks set env flag) old new
+AsksOnFlag steady world log patience set env flag old new = OnlyAsks steady world log patience (SupportAsks set env flag) old new
 
 -- the answers settle that this compiler is chosen, or that it has this path
 abbrev pub IsChosen : {W H : Type 0} → {ghosts : Ghosts W} → Sight W H ghosts → BuildConfig → EnvSeen → Choice → Type 0
@@ -68,7 +68,7 @@ IsChosenAt sight set env path = Settles sight.answers.now (λ look. (choice_of s
 abbrev pub SettledIn : {W H X E : Type 0} → {ghosts : Ghosts W} → Sight W H ghosts → (Look → X) → Result X E → Type 0
 SettledIn sight value result = IfOk result (Settles sight.answers.now value)
 
--- a call asks for these inputs, with probe files in their folder, and does nothing else
+-- a call asks for these inputs, and does nothing else
 abbrev pub AsksBy : {W H : Type 0} → {ghosts : Ghosts W} → Bool → (Question → Outcome) → (H → List Event) → (H → Option ℕ) → Inputs → Sight W H ghosts → Sight W H ghosts → Type 0
 AsksBy steady world log patience inputs old new = AsksFor steady world log patience inputs.set.now inputs.env.now old new
 
@@ -153,7 +153,7 @@ pub record Warns {X : Type 0} (known : List Answer) (warnings : Bool → Look �
   pub silent : question_events part ≡ []
   pub childless : list_any is_of_children part ≡ false
 
--- a call asks such questions for these settings in this environment, and then prints the lines of its warnings
-abbrev pub AsksThenWarns : {W H X : Type 0} → {ghosts : Ghosts W} → Bool → (Question → Outcome) → (H → List Event) → BuildConfig → EnvSeen → (Look → Question → Type 0) → Sight W H ghosts → Sight W H ghosts → (Bool → Look → List (List ℕ)) → Result X PlanError → Type 0
-AsksThenWarns steady world log set env questions old new warnings result =
-    AsksThen steady world (probe_folder set env) questions (log old.host.now) (log new.host.now) old.answers.now new.answers.now (Warns new.answers.now warnings result)
+-- a call asks such questions, and then prints the lines of its warnings
+abbrev pub AsksThenWarns : {W H X : Type 0} → {ghosts : Ghosts W} → Bool → (Question → Outcome) → (H → List Event) → (Look → Question → Type 0) → Sight W H ghosts → Sight W H ghosts → (Bool → Look → List (List ℕ)) → Result X PlanError → Type 0
+AsksThenWarns steady world log questions old new warnings result =
+    AsksThen steady world old.dir.now questions (log old.host.now) (log new.host.now) old.answers.now new.answers.now (Warns new.answers.now warnings result)

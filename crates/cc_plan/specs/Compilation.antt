@@ -2,7 +2,6 @@
 use Rattle.std.specs.Prelude.{ℕ, List}
 use Rattle.cc_env.specs.Env.{EnvSeen}
 use Rattle.cc_target.specs.Targets.{Info, info_seen}
-use Rattle.cc_plan.specs.Given.{probe_folder}
 use Rattle.cc_plan.specs.Target.{target_info}
 use Rattle.cc_plan.specs.declared.compilation.Compilation.{Compilation}
 use Rattle.cc_plan.specs.declared.compiler.Compiler.{Compiler}
@@ -21,7 +20,3 @@ seen c = record { set = c.set.now; env = c.env.now; target = info_seen c.target.
 -- the compilation of these settings by a compiler
 abbrev pub compilation_of : BuildConfig → EnvSeen → Compiler → CompilationSeen
 compilation_of set env compiler = record { set = set; env = env; target = target_info set env; compiler = compiler }
-
--- the folder of its probe files
-abbrev pub folder_of : CompilationSeen → List ℕ
-folder_of c = probe_folder c.set c.env

@@ -4,7 +4,6 @@ ghost use Rattle.cc_plan.specs.Compiler.{family_in, compiler_of};
 
 use crate::choice::choose;
 use crate::compilation::Inputs;
-use crate::given::probe_folder;
 use crate::{BuildConfig, Choice, Sight};
 use cc_env::BuildEnv;
 use cc_host::{Host, World};
@@ -46,7 +45,7 @@ fn family_in<W: World, H: Host<W>>(
         choice.path.as_str(),
         &choice.words,
         env,
-        probe_folder(set, env),
+        sight.dir,
     )
 }
 

@@ -2,7 +2,7 @@
 ghost use Rattle.std.specs.Prelude.{◌≡◌, IfOk, IfErr};
 ghost use Rattle.cc_host.specs.Question.{Settles};
 ghost use Rattle.cc_plan.specs.Asking.{IsOwn, OnlyAsks, AsksBy, AsksOnFlag, AsksThenWarns, SettledIn, SettledBy, AllowedIn, RefusedIn, RefusedInOrByPrint};
-ghost use Rattle.cc_plan.specs.Compilation.{seen, folder_of};
+ghost use Rattle.cc_plan.specs.Compilation.{seen};
 ghost use Rattle.cc_plan.specs.Compiler.{compiler_of};
 ghost use Rattle.cc_plan.specs.FlagSupport as spec;
 ghost use Rattle.cc_plan.specs.Questions.{SupportAsks};
@@ -11,7 +11,6 @@ ghost use Rattle.cc_plan.specs.Refusal.{AllowedBy, RefusedBy};
 
 use crate::compilation::{Compilation, Inputs};
 use crate::compiler::{Compiler, compiler_of};
-use crate::given::probe_folder;
 use crate::inherited::read_handed;
 use crate::printing::{print_warnings, wanted_lines};
 use crate::support::{bare_compiler, flag_settings, is_for_linker, plain_question};
@@ -53,7 +52,7 @@ fn verdict_on<W: World, H: Host<W>>(
     flag: &str,
     sight: &mut Sight<'_, W, H>,
 ) -> Result<Verdict, PlanError>
-    ensures asks { OnlyAsks W.steady W.answer H.log H.patience (folder_of (seen given.now))
+    ensures asks { OnlyAsks W.steady W.answer H.log H.patience
         (λ look q. q ≡ question_on (seen given.now) flag.now) sight.old sight.new }
     ensures verdict { SettledIn sight.new (spec.verdict_on (seen given.now) flag.now) result }
     ensures allowed { AllowedBy (spec.verdict_refusal (seen given.now) flag.now) result }
@@ -63,7 +62,6 @@ fn verdict_on<W: World, H: Host<W>>(
         return Ok(Verdict::No);
     }
     let question = checked_question(given, flag)?;
-    let dir = probe_folder(given.set, given.env);
     let verdict = ask_flag(
         rt,
         given.alloc,
@@ -71,7 +69,7 @@ fn verdict_on<W: World, H: Host<W>>(
         sight.caches,
         sight.answers,
         &question,
-        dir,
+        sight.dir,
     )?;
     Ok(verdict)
 }
@@ -180,7 +178,7 @@ pub fn flag_support<W: World, H: Host<W>>(
 ) -> Result<FlagSupport, PlanError>
     ensures same_host { sight.new.host.ghost_name ≡ sight.old.host.ghost_name }
     ensures same_answers { sight.new.answers.ghost_name ≡ sight.old.answers.ghost_name }
-    ensures asks { AsksThenWarns W.steady W.answer H.log set.now env.now
+    ensures asks { AsksThenWarns W.steady W.answer H.log
         (SupportAsks set.now env.now flag.now) sight.old sight.new
         (λ warns_of_link. spec.support_lines set.now env.now) result }
     ensures compiler { IfOk result (λ found. Settles sight.new.answers.now

@@ -171,9 +171,9 @@ fn temp_folder(env: &BuildEnv) -> &str
     nonempty(env.inherited().get("TMPDIR")).unwrap_or("/tmp")
 }
 
-// The folder of probe files: the out dir, else that for files that don't last.
+/// The folder of probe files, lent: the out dir, where it is set and not empty, else that for files that don't last. It takes no memory.
 #[tactic(auto, unfolding(crate::specs::Given::probe_folder))]
-pub(crate) fn probe_folder<'a>(set: &'a BuildConfig, env: &'a BuildEnv) -> &'a str
+pub fn probe_folder<'a>(set: &'a BuildConfig, env: &'a BuildEnv) -> &'a str
     ensures { result.now ≡ probe_folder set.now env.now }
 {
     nonempty(out_dir_of(set, env)).unwrap_or(temp_folder(env))

@@ -44,7 +44,7 @@ pub use compiler::Compiler;
 pub use error::{ArgumentCause, PlanError};
 pub use flag_verdict::{FlagSupport, flag_support};
 pub use flags::{BuildFlag, Definition, Definitions, Flags};
-pub use given::{host_of, is_disabled, out_dir_of, target_of, variable_flags};
+pub use given::{host_of, is_disabled, out_dir_of, probe_folder, target_of, variable_flags};
 pub use link::{LinkLine, link_lines};
 pub use names::lib_and_archive_names;
 pub use object::{Object, object_path, objects_from_files};

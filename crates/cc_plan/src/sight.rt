@@ -6,7 +6,6 @@ ghost use Rattle.cc_plan.specs.Questions.{IsAndroidCompiler};
 ghost use Rattle.cc_plan.specs.Search.{is_there};
 
 use crate::BuildConfig;
-use crate::given::probe_folder;
 use cc_env::BuildEnv;
 use cc_host::{Ask, Host, Question, World, exists_of, is_yes};
 use cc_text::{Mem, Text, Words};
@@ -24,6 +23,8 @@ pub struct Sight<'a, W: World, H: Host<W>> {
     pub caches: &'a Caches<W>,
     /// The questions of this public call so far, with their verdicts: none of them is asked again.
     pub answers: &'a mut Answers,
+    /// The folder of probe files, as `probe_folder` gives it.
+    pub dir: &'a str,
 }
 
 fn starts_of(alloc: Global, env: &BuildEnv, program: &str) -> Mem<Question>
@@ -50,7 +51,6 @@ pub(crate) fn is_there<W: World, H: Host<W>>(
     ensures asks { AsksFor W.steady W.answer H.log H.patience set.now env.now sight.old sight.new }
     ensures settles { SettledIn sight.new (λ look. is_there look path.now) result }
 {
-    let dir = probe_folder(set, env);
     let question = exists_of(alloc, path)?;
     let verdict = ask(
         rt,
@@ -59,7 +59,7 @@ pub(crate) fn is_there<W: World, H: Host<W>>(
         sight.caches,
         sight.answers,
         &question,
-        dir,
+        sight.dir,
     )?;
     Ok(is_yes(&verdict))
 }
@@ -78,7 +78,6 @@ pub(crate) fn can_start<W: World, H: Host<W>>(
     ensures asks { AsksFor W.steady W.answer H.log H.patience set.now env.now sight.old sight.new }
     ensures settles { SettledIn sight.new (λ look. can_start env.now look program.now) result }
 {
-    let dir = probe_folder(set, env);
     let question = starts_of(alloc, env, program)?;
     let verdict = ask(
         rt,
@@ -87,7 +86,7 @@ pub(crate) fn can_start<W: World, H: Host<W>>(
         sight.caches,
         sight.answers,
         &question,
-        dir,
+        sight.dir,
     )?;
     Ok(is_yes(&verdict))
 }

@@ -1,7 +1,7 @@
 // Words that a compiler is given only where it takes them.
 ghost use Rattle.std.specs.Prelude.{◌≡◌, ◌++◌, [], ◌∷◌, IfOk, OnOk, is_none};
 ghost use Rattle.cc_plan.specs.Asking.{OnlyAsks, AsksFor, IsChosenAt, SettledIn};
-ghost use Rattle.cc_plan.specs.Compilation.{seen, folder_of};
+ghost use Rattle.cc_plan.specs.Compilation.{seen};
 ghost use Rattle.cc_plan.specs.Questions.{FlagAsks, WordAsks};
 ghost use Rattle.cc_plan.specs.Support as spec;
 ghost use Rattle.cc_plan.specs.ToolWords.{asked_words as words_asked};
@@ -9,7 +9,6 @@ ghost use Rattle.cc_text.specs.Words.{when};
 
 use crate::compilation::Compilation;
 use crate::compiler::Compiler;
-use crate::given::probe_folder;
 use crate::tool::{check_compiler, language_variable};
 use crate::words::{asked_words, is_link, tool_words};
 use crate::{BuildConfig, BuildFlag, Choice, Flags, PlanError, Sight};
@@ -187,12 +186,11 @@ fn takes<W: World, H: Host<W>>(
     flag: &str,
     sight: &mut Sight<'_, W, H>,
 ) -> Mem<bool>
-    ensures asks { OnlyAsks W.steady W.answer H.log H.patience (folder_of (seen given.now))
+    ensures asks { OnlyAsks W.steady W.answer H.log H.patience
         (λ look q. q ≡ spec.flag_question (seen given.now) flag.now) sight.old sight.new }
     ensures settles { SettledIn sight.new
         (λ look. spec.takes (seen given.now) look flag.now) result }
 {
-    let dir = probe_folder(given.set, given.env);
     match question_of(given, flag)? {
         None => Ok(false),
         Some(question) => {
@@ -203,7 +201,7 @@ fn takes<W: World, H: Host<W>>(
                 sight.caches,
                 sight.answers,
                 &question,
-                dir,
+                sight.dir,
             )?;
             Ok(is_yes(&verdict))
         }
@@ -227,7 +225,7 @@ fn taken_among<W: World, H: Host<W>>(
     words: &Words,
     sight: &mut Sight<'_, W, H>,
 ) -> Mem<Words>
-    ensures asks { OnlyAsks W.steady W.answer H.log H.patience (folder_of (seen given.now))
+    ensures asks { OnlyAsks W.steady W.answer H.log H.patience
         (λ look. FlagAsks (seen given.now) words.now) sight.old sight.new }
     ensures settles { SettledIn sight.new (spec.taken_among (seen given.now) words.now) result }
 {
@@ -263,7 +261,7 @@ pub(crate) fn bare_compiler<W: World, H: Host<W>>(
         path,
         &none,
         env,
-        probe_folder(set, env),
+        sight.dir,
     )?;
     let compiler = flag_compiler(alloc, path, family)?;
     Ok(compiler)
@@ -279,7 +277,7 @@ fn supported_among<W: World, H: Host<W>>(
 ) -> Mem<Words>
     requires { IsChosenAt sight.old given.now.set.now given.now.env.now
         given.now.compiler.now.choice.path }
-    ensures asks { OnlyAsks W.steady W.answer H.log H.patience (folder_of (seen given.now))
+    ensures asks { OnlyAsks W.steady W.answer H.log H.patience
         (WordAsks (seen given.now) words.now) sight.old sight.new }
     ensures settles { SettledIn sight.new (spec.supported_among (seen given.now) words.now) result }
 {
@@ -307,7 +305,7 @@ pub(crate) fn supported_words<W: World, H: Host<W>>(
 ) -> Mem<Words>
     requires { IsChosenAt sight.old given.now.set.now given.now.env.now
         given.now.compiler.now.choice.path }
-    ensures asks { OnlyAsks W.steady W.answer H.log H.patience (folder_of (seen given.now))
+    ensures asks { OnlyAsks W.steady W.answer H.log H.patience
         (WordAsks (seen given.now) (words_asked (seen given.now))) sight.old sight.new }
     ensures settles { SettledIn sight.new (spec.supported (seen given.now)) result }
 {

@@ -380,7 +380,7 @@ pub fn tool_of<W: World, H: Host<W>>(
 ) -> Result<Tool, PlanError>
     ensures same_host { sight.new.host.ghost_name ≡ sight.old.host.ghost_name }
     ensures same_answers { sight.new.answers.ghost_name ≡ sight.old.answers.ghost_name }
-    ensures asks { AsksThenWarns W.steady W.answer H.log set.now env.now
+    ensures asks { AsksThenWarns W.steady W.answer H.log
         (PlanAsks set.now env.now) sight.old sight.new (tool_lines set.now env.now) result }
     ensures tool { SettledIn sight.new (tool_of set.now env.now) result }
     ensures allowed { AllowedIn sight.new (tool_refusal set.now env.now) result }
