@@ -41,7 +41,7 @@ IsTruthOf text (Some on) = (is_truth text ≡ true) × (on ≡ is text "true")
 unfoldable pub is_text_key : List ℕ → Bool
 is_text_key key =
     is key "source_root" || is key "std" || is key "target" || is key "host" || is key "opt_level_str" || is key "debug_str" || is key "out_dir"
-    || is key "compiler" || is key "archiver" || is key "cpp_set_stdlib"
+    || is key "compiler" || is key "archiver" || is key "ranlib" || is key "cpp_set_stdlib" || is key "cpp_link_stdlib"
 
 -- a key whose values are kept one after another
 unfoldable pub is_item_key : List ℕ → Bool
@@ -58,7 +58,7 @@ is_choice_key key =
 -- a key of a setting that is on or off
 unfoldable pub is_switch_key : List ℕ → Bool
 is_switch_key key =
-    is key "no_default_flags" || is key "reproducible_codeview" || is key "cpp" || is key "warnings_into_errors" || is key "cargo_metadata"
+    is key "no_default_flags" || is key "reproducible_codeview" || is key "cpp" || is key "warnings_into_errors" || is key "cpp_link_stdlib_static" || is key "cargo_metadata"
     || is key "cargo_warnings" || is key "cargo_output" || is key "emit_rerun_if_env_changed" || is key "prefer_clang_cl_over_msvc" || is key "inherit_rustflags" || is key "inherit_trim_paths"
 
 abbrev pub cause_unless : Bool → Option WordCause
@@ -134,6 +134,10 @@ unless_empty (b ∷ text) = Some (b ∷ text)
 abbrev pub latest_nonempty : Option (List ℕ) → List (List ℕ) → Option (List ℕ)
 latest_nonempty before values = fold (λ old value. unless_empty value) before values
 
+-- the last library, which is none where that is empty
+abbrev pub latest_library : Option (Option (List ℕ)) → List (List ℕ) → Option (Option (List ℕ))
+latest_library before values = fold (λ old value. Some (unless_empty value)) before values
+
 -- a macro of `K` or `K=V`
 abbrev pub definition_parts : List ℕ → Option (List ℕ × List ℕ) → Definition
 definition_parts value None = record { name = value; value = None }
@@ -184,7 +188,9 @@ settings_of words = record {
     out_dir = latest None (values (by "out_dir") words);
     compiler = latest None (values (by "compiler") words);
     archiver = latest None (values (by "archiver") words);
+    ranlib = latest None (values (by "ranlib") words);
     cpp_set_stdlib = latest_nonempty None (values (by "cpp_set_stdlib") words);
+    cpp_link_stdlib = latest_library None (values (by_either "cpp_set_stdlib" "cpp_link_stdlib") words);
     shared_flag = latest_choice None (values (by "shared_flag") words);
     static_flag = latest_choice None (values (by "static_flag") words);
     warnings = latest_choice None (values (by "warnings") words);
@@ -199,6 +205,7 @@ settings_of words = record {
     reproducible_codeview = latest_truth false (values (by "reproducible_codeview") words);
     cpp = latest_truth false (values (by "cpp") words);
     warnings_into_errors = latest_truth false (values (by "warnings_into_errors") words);
+    cpp_link_stdlib_static = latest_truth false (values (by "cpp_link_stdlib_static") words);
     cargo_metadata = latest_truth true (values (by "cargo_metadata") words);
     cargo_warnings = latest_truth true (values (by "cargo_warnings") words);
     cargo_output = latest_truth true (values (by "cargo_output") words);

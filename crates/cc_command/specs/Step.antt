@@ -5,7 +5,7 @@ use Rattle.cc_plan.specs.Flags.{without}
 use Rattle.cc_plan.specs.declared.flags.BuildFlag.{BuildFlag}
 use Rattle.cc_plan.specs.declared.flags.BuildFlag.TheVariants.{Always, IfSupported}
 use Rattle.cc_build.specs.Build.{BuildSeen}
-use Rattle.cc_command.specs.Read.{is, by, by_either, value_of, latest, latest_truth, latest_choice, latest_nonempty, definition_of, variable_of}
+use Rattle.cc_command.specs.Read.{is, by, by_either, value_of, latest, latest_truth, latest_choice, latest_nonempty, latest_library, definition_of, variable_of}
 
 -- a list with others behind it
 abbrev pub added : {X : Type 0} → List X → List X → List X
@@ -40,7 +40,9 @@ with_key set key value = record {
     out_dir = latest set.config.out_dir (value_of (by "out_dir") key value);
     compiler = latest set.config.compiler (value_of (by "compiler") key value);
     archiver = latest set.config.archiver (value_of (by "archiver") key value);
+    ranlib = latest set.config.ranlib (value_of (by "ranlib") key value);
     cpp_set_stdlib = latest_nonempty set.config.cpp_set_stdlib (value_of (by "cpp_set_stdlib") key value);
+    cpp_link_stdlib = latest_library set.config.cpp_link_stdlib (value_of (by_either "cpp_set_stdlib" "cpp_link_stdlib") key value);
     shared_flag = latest_choice set.config.shared_flag (value_of (by "shared_flag") key value);
     static_flag = latest_choice set.config.static_flag (value_of (by "static_flag") key value);
     warnings = latest_choice set.config.warnings (value_of (by "warnings") key value);
@@ -55,6 +57,7 @@ with_key set key value = record {
     reproducible_codeview = latest_truth set.config.reproducible_codeview (value_of (by "reproducible_codeview") key value);
     cpp = latest_truth set.config.cpp (value_of (by "cpp") key value);
     warnings_into_errors = latest_truth set.config.warnings_into_errors (value_of (by "warnings_into_errors") key value);
+    cpp_link_stdlib_static = latest_truth set.config.cpp_link_stdlib_static (value_of (by "cpp_link_stdlib_static") key value);
     cargo_metadata = latest_truth set.config.cargo_metadata (value_of (by "cargo_metadata") key value);
     cargo_warnings = latest_truth set.config.cargo_warnings (value_of (by "cargo_warnings") key value);
     cargo_output = latest_truth set.config.cargo_output (value_of (by "cargo_output") key value);

@@ -79,7 +79,9 @@ fn set_key<W: World>(
         "out_dir" => set(build.out_dir(value)),
         "compiler" => set(build.compiler(value)),
         "archiver" => set(build.archiver(value)),
+        "ranlib" => set(build.ranlib(value)),
         "cpp_set_stdlib" => set(build.cpp_set_stdlib(unless_empty(value))),
+        "cpp_link_stdlib" => set(build.cpp_link_stdlib(unless_empty(value))),
         _ => set_item(alloc, build, key, value),
     }
 }
@@ -153,6 +155,7 @@ fn is_switch_key(key: &str) -> bool
             | "reproducible_codeview"
             | "cpp"
             | "warnings_into_errors"
+            | "cpp_link_stdlib_static"
             | "cargo_metadata"
             | "cargo_warnings"
             | "cargo_output"
@@ -235,6 +238,10 @@ fn set_switch<W: World>(build: &mut Build<W>, key: &str, on: bool) -> bool
         }
         "warnings_into_errors" => {
             build.warnings_into_errors(on);
+            true
+        }
+        "cpp_link_stdlib_static" => {
+            build.cpp_link_stdlib_static(on);
             true
         }
         "cargo_metadata" => {

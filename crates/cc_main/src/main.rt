@@ -51,13 +51,16 @@ keys of which the last counts:
   opt_level=NUMBER, opt_level_str=LEVEL   the optimisation level, else OPT_LEVEL
   debug=true, debug=false, debug_str=LEVEL   debug information, else DEBUG
   compiler=PROGRAM         the compiler, else cc or c++
-  archiver=PROGRAM         the archiver, else ar
+  archiver=PROGRAM         the archiver, else AR, else by the target
+  ranlib=PROGRAM           the tool that writes the index of an archive alone, else RANLIB
   source_root=DIR          the folder that folders of sources count from in the names of objects
   std=NAME                 the standard of the language
-  cpp_set_stdlib=NAME      the C++ library that the compiler is told of
+  cpp_set_stdlib=NAME      the C++ library that the compiler is told of, and that Cargo links
+  cpp_link_stdlib=NAME     the C++ library that Cargo links alone; none where NAME is empty
 
 keys of true or false:
-  cpp  pic  use_plt  static_crt  static_flag  shared_flag  warnings  extra_warnings  warnings_into_errors
+  cpp  cpp_link_stdlib_static  pic  use_plt  static_crt  static_flag  shared_flag
+  warnings  extra_warnings  warnings_into_errors
   no_default_flags  reproducible_codeview  shell_escaped_flags  cargo_metadata  cargo_warnings  cargo_output
   cargo_debug  emit_rerun_if_env_changed  prefer_clang_cl_over_msvc  force_frame_pointer  inherit_rustflags  inherit_trim_paths
 

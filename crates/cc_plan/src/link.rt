@@ -69,6 +69,7 @@ fn always(text: Text) -> LinkLine
 #[tactic(auto, using(crate::proofs::AskingLemmas::only_none), unfolding(crate::specs::Refusal::link_refusal, crate::specs::Link::link_lines))]
 pub fn link_lines<W: World, H: Host<W>>(
     rt: &impl Wait,
+    alloc: Global,
     set: &BuildConfig,
     env: &BuildEnv,
     name: &str,
@@ -83,7 +84,6 @@ pub fn link_lines<W: World, H: Host<W>>(
     ensures refused { RefusedIn sight.new (link_refusal set.now env.now) result }
 {
     let _ = (rt, env);
-    let alloc = sight.answers.allocator();
     let mut lines = Vec::new(alloc);
     if set.cargo_metadata {
         lines.push(always(library_line(alloc, &set.link_lib_modifiers, name)?))?;

@@ -39,11 +39,21 @@ pub returns-in-archiver : goal.returns-in-archiver
 unfolding key_cause is_text_key is_item_key
 returns-in-archiver g c = set_done c.args.build.now c.archiver.new.self c.args.key.now (codes "archiver") c.args.value.now c.archiver.result c.set-in-archiver.result c.in-archiver.is refl c.set-in-archiver.ensures c.archiver.ensures.ok
 
+pub returns-in-ranlib : goal.returns-in-ranlib
+unfolding key_cause is_text_key is_item_key
+returns-in-ranlib g c = set_done c.args.build.now c.ranlib.new.self c.args.key.now (codes "ranlib") c.args.value.now c.ranlib.result c.set-in-ranlib.result c.in-ranlib.is refl c.set-in-ranlib.ensures c.ranlib.ensures.ok
+
 pub returns-in-cpp_set_stdlib : goal.returns-in-cpp_set_stdlib
 unfolding key_cause is_text_key is_item_key
 returns-in-cpp_set_stdlib g c =
     let done = rw c.unless_empty.ensures at c.cpp_set_stdlib.ensures.ok in
     set_done c.args.build.now c.cpp_set_stdlib.new.self c.args.key.now (codes "cpp_set_stdlib") c.args.value.now c.cpp_set_stdlib.result c.set-in-cpp_set_stdlib.result c.in-cpp_set_stdlib.is refl c.set-in-cpp_set_stdlib.ensures done
 
+pub returns-in-cpp_link_stdlib : goal.returns-in-cpp_link_stdlib
+unfolding key_cause is_text_key is_item_key
+returns-in-cpp_link_stdlib g c =
+    let done = rw c.unless_empty-in-cpp_link_stdlib.ensures at c.cpp_link_stdlib.ensures.ok in
+    set_done c.args.build.now c.cpp_link_stdlib.new.self c.args.key.now (codes "cpp_link_stdlib") c.args.value.now c.cpp_link_stdlib.result c.set-in-cpp_link_stdlib.result c.in-cpp_link_stdlib.is refl c.set-in-cpp_link_stdlib.ensures done
+
 pub returns-in_default : goal.returns-in_default
-returns-in_default g c = c.set_item.ensures (no_text_key c.args.key.now c.in_default.not-source_root c.in_default.not-std c.in_default.not-target c.in_default.not-host c.in_default.not-opt_level_str c.in_default.not-debug_str c.in_default.not-out_dir c.in_default.not-compiler c.in_default.not-archiver c.in_default.not-cpp_set_stdlib)
+returns-in_default g c = c.set_item.ensures (no_text_key c.args.key.now c.in_default.not-source_root c.in_default.not-std c.in_default.not-target c.in_default.not-host c.in_default.not-opt_level_str c.in_default.not-debug_str c.in_default.not-out_dir c.in_default.not-compiler c.in_default.not-archiver c.in_default.not-ranlib c.in_default.not-cpp_set_stdlib c.in_default.not-cpp_link_stdlib)

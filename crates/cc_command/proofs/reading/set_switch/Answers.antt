@@ -4,7 +4,7 @@ use Rattle.cc_command.proofs.KeyLaws.{known_key, no_switch_key}
 use Rattle.cc_command.proofs.reading.set_switch.Goals as goal
 
 pub returns-in_default-clause-known : goal.returns-in_default-clause-known
-returns-in_default-clause-known g c = sym (no_switch_key c.args.key.now c.in_default.not-no_default_flags c.in_default.not-reproducible_codeview c.in_default.not-cpp c.in_default.not-warnings_into_errors c.in_default.not-cargo_metadata c.in_default.not-cargo_warnings c.in_default.not-cargo_output c.in_default.not-emit_rerun_if_env_changed c.in_default.not-prefer_clang_cl_over_msvc c.in_default.not-inherit_rustflags c.in_default.not-inherit_trim_paths)
+returns-in_default-clause-known g c = sym (no_switch_key c.args.key.now c.in_default.not-no_default_flags c.in_default.not-reproducible_codeview c.in_default.not-cpp c.in_default.not-warnings_into_errors c.in_default.not-cpp_link_stdlib_static c.in_default.not-cargo_metadata c.in_default.not-cargo_warnings c.in_default.not-cargo_output c.in_default.not-emit_rerun_if_env_changed c.in_default.not-prefer_clang_cl_over_msvc c.in_default.not-inherit_rustflags c.in_default.not-inherit_trim_paths)
 
 pub returns-in-no_default_flags-clause-known : goal.returns-in-no_default_flags-clause-known
 unfolding is_switch_key
@@ -21,6 +21,10 @@ returns-in-cpp-clause-known g c = known_key is_switch_key c.args.key.now (codes 
 pub returns-in-warnings_into_errors-clause-known : goal.returns-in-warnings_into_errors-clause-known
 unfolding is_switch_key
 returns-in-warnings_into_errors-clause-known g c = known_key is_switch_key c.args.key.now (codes "warnings_into_errors") c.in-warnings_into_errors.is refl
+
+pub returns-in-cpp_link_stdlib_static-clause-known : goal.returns-in-cpp_link_stdlib_static-clause-known
+unfolding is_switch_key
+returns-in-cpp_link_stdlib_static-clause-known g c = known_key is_switch_key c.args.key.now (codes "cpp_link_stdlib_static") c.in-cpp_link_stdlib_static.is refl
 
 pub returns-in-cargo_metadata-clause-known : goal.returns-in-cargo_metadata-clause-known
 unfolding is_switch_key
