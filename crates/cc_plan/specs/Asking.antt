@@ -52,11 +52,11 @@ AsksForArchiver steady world log patience set env old new = OnlyAsks steady worl
 
 -- a call asks what finds the tool that writes an archive's index
 abbrev pub AsksForRanlib : {W H : Type 0} → {ghosts : Ghosts W} → Bool → (Question → Outcome) → (H → List Event) → (H → Option ℕ) → BuildConfig → EnvSeen → Sight W H ghosts → Sight W H ghosts → Type 0
-AsksForRanlib steady world log patience set env old new = OnlyAsks steady world log patience (probe_folder set env) (RanlibAsks set env) old new
+AsksForRanlib steady world log patience set env old new = OnlyAsks steady world log patience (RanlibAsks set env) old new
 
 -- a call asks what finds either of the two
 abbrev pub AsksForEither : {W H : Type 0} → {ghosts : Ghosts W} → Bool → (Question → Outcome) → (H → List Event) → (H → Option ℕ) → ArchiveTool → BuildConfig → EnvSeen → Sight W H ghosts → Sight W H ghosts → Type 0
-AsksForEither steady world log patience tool set env old new = OnlyAsks steady world log patience (probe_folder set env) (ArchiveToolAsks tool set env) old new
+AsksForEither steady world log patience tool set env old new = OnlyAsks steady world log patience (ArchiveToolAsks tool set env) old new
 
 -- a call asks what their link lines want
 abbrev pub AsksForLinks : {W H : Type 0} → {ghosts : Ghosts W} → Bool → (Question → Outcome) → (H → List Event) → (H → Option ℕ) → BuildConfig → EnvSeen → Sight W H ghosts → Sight W H ghosts → Type 0
@@ -89,10 +89,9 @@ AsksBy steady world log patience inputs old new = AsksFor steady world log patie
 abbrev pub AsksForTool : {W H : Type 0} → {ghosts : Ghosts W} → Bool → (Question → Outcome) → (H → List Event) → (H → Option ℕ) → ArchiveTool → Inputs → Sight W H ghosts → Sight W H ghosts → Type 0
 AsksForTool steady world log patience tool inputs old new = AsksForEither steady world log patience tool inputs.set.now inputs.env.now old new
 
--- a call asks for these inputs this question alone
-abbrev pub AsksThis : {W H : Type 0} → {ghosts : Ghosts W} → Bool → (Question → Outcome) → (H → List Event) → (H → Option ℕ) → Question → Inputs → Sight W H ghosts → Sight W H ghosts → Type 0
-AsksThis steady world log patience question inputs old new =
-    OnlyAsks steady world log patience (probe_folder inputs.set.now inputs.env.now) (λ look q. q ≡ question) old new
+-- a call asks this question alone
+abbrev pub AsksThis : {W H : Type 0} → {ghosts : Ghosts W} → Bool → (Question → Outcome) → (H → List Event) → (H → Option ℕ) → Question → Sight W H ghosts → Sight W H ghosts → Type 0
+AsksThis steady world log patience question old new = OnlyAsks steady world log patience (λ look q. q ≡ question) old new
 
 -- on Ok the answers settle the value of these inputs
 abbrev pub SettledBy : {W H X E : Type 0} → {ghosts : Ghosts W} → Sight W H ghosts → (BuildConfig → EnvSeen → Look → X) → Inputs → Result X E → Type 0

@@ -13,7 +13,7 @@ use crate::choice::{bare, cross_prefix, is_wasm};
 use crate::compilation::Inputs;
 use crate::compiler::compiler_of;
 use crate::env_tool::env_tool;
-use crate::given::{probe_folder, target_name};
+use crate::given::target_name;
 use crate::inherited::read_handed;
 use crate::search::which_in;
 use crate::tool::known_target;
@@ -170,12 +170,11 @@ fn search_dirs<W: World, H: Host<W>>(
     sight: &mut Sight<'_, W, H>,
 ) -> Mem<Verdict>
     ensures asks { AsksThis W.steady W.answer H.log H.patience
-        (spec.search_question inputs.now.env.now path.now) inputs.now sight.old sight.new }
+        (spec.search_question inputs.now.env.now path.now) sight.old sight.new }
     ensures settles { SettledIn sight.new
         (λ look. look (spec.search_question inputs.now.env.now path.now)) result }
 {
     let alloc = inputs.alloc;
-    let dir = probe_folder(inputs.set, inputs.env);
     let vars = inputs.env.child_vars(alloc)?;
     let question = question_of(alloc, Ask::SearchDirs, path, &Words::new(alloc), &vars)?;
     let verdict = ask(
@@ -185,7 +184,7 @@ fn search_dirs<W: World, H: Host<W>>(
         sight.caches,
         sight.answers,
         &question,
-        dir,
+        sight.dir,
     )?;
     Ok(verdict)
 }
@@ -200,12 +199,11 @@ fn prints_version<W: World, H: Host<W>>(
     sight: &mut Sight<'_, W, H>,
 ) -> Mem<bool>
     ensures asks { AsksThis W.steady W.answer H.log H.patience
-        (spec.version_question vars.now program.now) inputs.now sight.old sight.new }
+        (spec.version_question vars.now program.now) sight.old sight.new }
     ensures settles { SettledIn sight.new
         (λ look. spec.is_versioned vars.now program.now look) result }
 {
     let alloc = inputs.alloc;
-    let dir = probe_folder(inputs.set, inputs.env);
     let question = question_of(alloc, Ask::ToolVersion, program, &Words::new(alloc), vars)?;
     let verdict = ask(
         rt,
@@ -214,7 +212,7 @@ fn prints_version<W: World, H: Host<W>>(
         sight.caches,
         sight.answers,
         &question,
-        dir,
+        sight.dir,
     )?;
     Ok(is_yes(&verdict))
 }
@@ -330,7 +328,7 @@ fn if_versioned<W: World, H: Host<W>>(
     sight: &mut Sight<'_, W, H>,
 ) -> Mem<Option<Text>>
     ensures asks { AsksThis W.steady W.answer H.log H.patience
-        (spec.version_question inputs.now.env.now.inherited program) inputs.now
+        (spec.version_question inputs.now.env.now.inherited program)
         sight.old sight.new }
     ensures settles { SettledIn sight.new
         (spec.if_versioned inputs.now.env.now program) result }
