@@ -122,17 +122,30 @@ clang_tool tool env path look = tool_in_dirs tool (look (search_question env pat
 abbrev pub tool_of_clang : ArchiveTool → EnvSeen → Compiler → Look → Option (List ℕ)
 tool_of_clang tool env compiler look = if is_clang compiler.family then clang_tool tool env compiler.choice.path look else None
 
+abbrev pub compiler_tool : ArchiveTool → BuildConfig → EnvSeen → Look → Option (List ℕ)
+compiler_tool tool set env look = tool_of_clang tool env (compiler_of set env look) look
+
 -- for WebAssembly, where the compiler is Clang
 abbrev pub wasm_tool : ArchiveTool → BuildConfig → EnvSeen → Look → Option (List ℕ)
-wasm_tool tool set env look = if is_wasm (target_info set env) then tool_of_clang tool env (compiler_of set env look) look else None
+wasm_tool tool set env look = if is_wasm (target_info set env) then compiler_tool tool set env look else None
 
--- for Android: LLVM's, where it prints its version
+-- LLVM's prints its version
+abbrev pub llvm_is_there : ArchiveTool → EnvSeen → Look → Bool
+llvm_is_there tool env look = is_yes (look (llvm_question tool env))
+
+-- for Android: LLVM's, where it does
 abbrev pub android_tool : ArchiveTool → BuildConfig → EnvSeen → Look → List ℕ
-android_tool tool set env look = if is_yes (look (llvm_question tool env)) then llvm_name tool else android_name tool (target_name set env)
+android_tool tool set env look = if llvm_is_there tool env look then llvm_name tool else android_name tool (target_name set env)
 
 -- behind the prefix of the GNU tools: the first that prints its version
+abbrev pub plain_tool : ArchiveTool → EnvSeen → List ℕ → Look → Option (List ℕ)
+plain_tool tool env prefix look = if_versioned env (plain_name tool prefix) look
+
+abbrev pub gcc_tool : ArchiveTool → EnvSeen → List ℕ → Look → Option (List ℕ)
+gcc_tool tool env prefix look = if_versioned env (gcc_name tool prefix) look
+
 abbrev pub prefixed_tool : ArchiveTool → EnvSeen → List ℕ → Look → Option (List ℕ)
-prefixed_tool tool env prefix look = option_or (if_versioned env (plain_name tool prefix) look) (if_versioned env (gcc_name tool prefix) look)
+prefixed_tool tool env prefix look = option_or (plain_tool tool env prefix look) (gcc_tool tool env prefix look)
 
 abbrev pub tool_behind : ArchiveTool → EnvSeen → Option (List ℕ) → Look → Option (List ℕ)
 tool_behind tool env None look = None
@@ -142,18 +155,29 @@ tool_behind tool env (Some prefix) look = prefixed_tool tool env prefix look
 abbrev pub cross_tool : ArchiveTool → BuildConfig → EnvSeen → Look → Option (List ℕ)
 cross_tool tool set env look = tool_behind tool env (cross_prefix set env look) look
 
--- that of the system, else behind a prefix, else by its name alone
+-- behind a prefix, else by its name alone
+abbrev pub gnu_tool : ArchiveTool → BuildConfig → EnvSeen → Look → List ℕ
+gnu_tool tool set env look = unwrap_or (cross_tool tool set env look) (tool_name tool)
+
+-- that of the system, else one of GNU's
 abbrev pub named_tool : ArchiveTool → BuildConfig → EnvSeen → Look → List ℕ
-named_tool tool set env look = unwrap_or (option_or (system_name tool (target_info set env)) (cross_tool tool set env look)) (tool_name tool)
+named_tool tool set env look = unwrap_or (system_name tool (target_info set env)) (gnu_tool tool set env look)
 
 -- the one that the target wants
 abbrev pub target_tool : ArchiveTool → BuildConfig → EnvSeen → Look → List ℕ
 target_tool tool set env look = if is (target_info set env).os "android" then android_tool tool set env look else named_tool tool set env look
 
+-- that of Clang for WebAssembly comes before
+abbrev pub wasm_or_target : ArchiveTool → BuildConfig → EnvSeen → Look → List ℕ
+wasm_or_target tool set env look = unwrap_or (wasm_tool tool set env look) (target_tool tool set env look)
+
 -- the one where neither settings nor environment name one
 abbrev pub own_tool : ArchiveTool → BuildConfig → EnvSeen → Look → List ℕ
-own_tool tool set env look =
-    if is (target_info set env).os "emscripten" then behind (codes "em") tool else unwrap_or (wasm_tool tool set env look) (target_tool tool set env look)
+own_tool tool set env look = if is (target_info set env).os "emscripten" then behind (codes "em") tool else wasm_or_target tool set env look
+
+-- the same without words
+abbrev pub own_choice : ArchiveTool → BuildConfig → EnvSeen → Look → Choice
+own_choice tool set env look = bare (own_tool tool set env look)
 
 -- the one that the environment names, with its words
 abbrev pub variable_tool : ArchiveTool → BuildConfig → EnvSeen → Look → Option Choice
@@ -161,7 +185,7 @@ variable_tool tool set env look = env_tool set env (tool_variable tool) look
 
 -- the one where the settings name none
 abbrev pub found_tool : ArchiveTool → BuildConfig → EnvSeen → Look → Choice
-found_tool tool set env look = unwrap_or (variable_tool tool set env look) (bare (own_tool tool set env look))
+found_tool tool set env look = unwrap_or (variable_tool tool set env look) (own_choice tool set env look)
 
 abbrev pub tool_by : ArchiveTool → BuildConfig → EnvSeen → Look → Option (List ℕ) → Choice
 tool_by tool set env look None = found_tool tool set env look

@@ -20,7 +20,7 @@ use crate::tool::known_target;
 use crate::{BuildConfig, Choice, PlanError, Sight};
 use cc_env::BuildEnv;
 use cc_flags::is_qnx;
-use cc_host::{Ask, Host, Verdict, World, is_yes};
+use cc_host::{Ask, Host, Question, Verdict, World, is_yes};
 use cc_target::TargetInfo;
 use cc_text::{Mem, Text, Vars, Words, is_clang};
 use cc_tool::{ask, question_of};
@@ -161,6 +161,19 @@ fn system_name(alloc: Global, tool: ArchiveTool, target: &TargetInfo) -> Mem<Opt
     }
 }
 
+fn search_question(alloc: Global, env: &BuildEnv, path: &str) -> Mem<Question>
+    ensures { IfOk result (λ q. q ≡ spec.search_question env.now path.now) }
+{
+    let vars = env.child_vars(alloc)?;
+    question_of(alloc, Ask::SearchDirs, path, &Words::new(alloc), &vars)
+}
+
+fn version_question(alloc: Global, vars: &Vars, program: &str) -> Mem<Question>
+    ensures { IfOk result (λ q. q ≡ spec.version_question vars.now program.now) }
+{
+    question_of(alloc, Ask::ToolVersion, program, &Words::new(alloc), vars)
+}
+
 // Where a compiler looks for programs, as it prints it.
 #[tactic(auto, using(crate::proofs::AskingLemmas::only_none))]
 fn search_dirs<W: World, H: Host<W>>(
@@ -174,12 +187,10 @@ fn search_dirs<W: World, H: Host<W>>(
     ensures settles { SettledIn sight.new
         (λ look. look (spec.search_question inputs.now.env.now path.now)) result }
 {
-    let alloc = inputs.alloc;
-    let vars = inputs.env.child_vars(alloc)?;
-    let question = question_of(alloc, Ask::SearchDirs, path, &Words::new(alloc), &vars)?;
+    let question = search_question(inputs.alloc, inputs.env, path)?;
     let verdict = ask(
         rt,
-        alloc,
+        inputs.alloc,
         sight.host,
         sight.caches,
         sight.answers,
@@ -203,11 +214,10 @@ fn prints_version<W: World, H: Host<W>>(
     ensures settles { SettledIn sight.new
         (λ look. spec.is_versioned vars.now program.now look) result }
 {
-    let alloc = inputs.alloc;
-    let question = question_of(alloc, Ask::ToolVersion, program, &Words::new(alloc), vars)?;
+    let question = version_question(inputs.alloc, vars, program)?;
     let verdict = ask(
         rt,
-        alloc,
+        inputs.alloc,
         sight.host,
         sight.caches,
         sight.answers,
@@ -273,8 +283,29 @@ fn clang_tool<W: World, H: Host<W>>(
     Ok(found)
 }
 
-// LLVM's tool for WebAssembly, where the compiler is Clang: it isn't among the programs of the system, as Clang for other systems comes in a
-// kit of its own.
+// The same, where the compiler is Clang.
+#[tactic(auto, using(crate::proofs::QuestionLemmas::chosen_at))]
+fn compiler_tool<W: World, H: Host<W>>(
+    rt: &impl Wait,
+    tool: ArchiveTool,
+    inputs: &Inputs<'_>,
+    sight: &mut Sight<'_, W, H>,
+) -> Mem<Option<Text>>
+    requires { IsForWasm inputs.now.set.now inputs.now.env.now }
+    ensures asks { AsksForTool W.steady W.answer H.log H.patience tool inputs.now
+        sight.old sight.new }
+    ensures settles { SettledBy sight.new (spec.compiler_tool tool) inputs.now result }
+{
+    let compiler = compiler_of(rt, inputs, sight)?;
+    if !is_clang(compiler.family) {
+        return Ok(None);
+    }
+    let path = compiler.choice.path.as_str();
+    let found = clang_tool(rt, tool, inputs, path, sight)?;
+    Ok(found)
+}
+
+// LLVM's tool for WebAssembly: the folders of Clang come first, as a kit for it has tools that fit.
 #[tactic(auto, using(crate::proofs::AskingLemmas::only_none))]
 fn wasm_tool<W: World, H: Host<W>>(
     rt: &impl Wait,
@@ -286,19 +317,34 @@ fn wasm_tool<W: World, H: Host<W>>(
         sight.old sight.new }
     ensures settles { SettledBy sight.new (spec.wasm_tool tool) inputs.now result }
 {
-    if !is_wasm(inputs.target) {
-        return Ok(None);
+    if is_wasm(inputs.target) {
+        compiler_tool(rt, tool, inputs, sight)
+    } else {
+        Ok(None)
     }
-    let compiler = compiler_of(rt, inputs, sight)?;
-    if !is_clang(compiler.family) {
-        return Ok(None);
-    }
-    let found = clang_tool(rt, tool, inputs, compiler.choice.path.as_str(), sight)?;
-    Ok(found)
+}
+
+// Whether LLVM's tool prints its version, in the environment of a child.
+#[tactic(auto, using(crate::proofs::AskingLemmas::only_none))]
+fn llvm_is_there<W: World, H: Host<W>>(
+    rt: &impl Wait,
+    tool: ArchiveTool,
+    inputs: &Inputs<'_>,
+    sight: &mut Sight<'_, W, H>,
+) -> Mem<bool>
+    requires { IsForAndroid inputs.now.set.now inputs.now.env.now }
+    ensures asks { AsksForTool W.steady W.answer H.log H.patience tool inputs.now
+        sight.old sight.new }
+    ensures settles { SettledIn sight.new
+        (spec.llvm_is_there tool inputs.now.env.now) result }
+{
+    let name = behind(inputs.alloc, "llvm-", tool)?;
+    let vars = inputs.env.child_vars(inputs.alloc)?;
+    let prints = prints_version(rt, inputs, &vars, name.as_str(), sight)?;
+    Ok(prints)
 }
 
 // LLVM's tool for Android, which newer kits have, where it prints its version; else that of older ones.
-#[tactic(auto, using(crate::proofs::AskingLemmas::only_none))]
 fn android_tool<W: World, H: Host<W>>(
     rt: &impl Wait,
     tool: ArchiveTool,
@@ -310,17 +356,13 @@ fn android_tool<W: World, H: Host<W>>(
         sight.old sight.new }
     ensures settles { SettledBy sight.new (spec.android_tool tool) inputs.now result }
 {
-    let alloc = inputs.alloc;
-    let llvm = behind(alloc, "llvm-", tool)?;
-    let vars = inputs.env.child_vars(alloc)?;
-    if prints_version(rt, inputs, &vars, llvm.as_str(), sight)? {
-        return Ok(llvm);
+    if llvm_is_there(rt, tool, inputs, sight)? {
+        return behind(inputs.alloc, "llvm-", tool);
     }
-    let name = android_name(alloc, tool, target_name(inputs.set, inputs.env))?;
-    Ok(name)
+    android_name(inputs.alloc, tool, target_name(inputs.set, inputs.env))
 }
 
-// The program, where it prints its version in the environment that was inherited.
+// The program, one behind a prefix, where it prints its version in the environment that was inherited.
 fn if_versioned<W: World, H: Host<W>>(
     rt: &impl Wait,
     inputs: &Inputs<'_>,
@@ -328,8 +370,7 @@ fn if_versioned<W: World, H: Host<W>>(
     sight: &mut Sight<'_, W, H>,
 ) -> Mem<Option<Text>>
     ensures asks { AsksThis W.steady W.answer H.log H.patience
-        (spec.version_question inputs.now.env.now.inherited program)
-        sight.old sight.new }
+        (spec.version_question inputs.now.env.now.inherited program) sight.old sight.new }
     ensures settles { SettledIn sight.new
         (spec.if_versioned inputs.now.env.now program) result }
 {
@@ -341,8 +382,47 @@ fn if_versioned<W: World, H: Host<W>>(
     }
 }
 
-// Behind the prefix of the GNU tools: that of binutils, else GCC's own, which loads its plugin for link time optimisation.
+// That of binutils behind a prefix.
 #[tactic(auto, using(crate::proofs::AskingLemmas::only_none))]
+fn plain_tool<W: World, H: Host<W>>(
+    rt: &impl Wait,
+    tool: ArchiveTool,
+    inputs: &Inputs<'_>,
+    prefix: &str,
+    sight: &mut Sight<'_, W, H>,
+) -> Mem<Option<Text>>
+    requires { IsPrefix sight.old inputs.now prefix.now }
+    ensures asks { AsksForTool W.steady W.answer H.log H.patience tool inputs.now
+        sight.old sight.new }
+    ensures settles { SettledIn sight.new
+        (spec.plain_tool tool inputs.now.env.now prefix.now) result }
+{
+    let name = plain_name(inputs.alloc, tool, prefix)?;
+    let found = if_versioned(rt, inputs, name, sight)?;
+    Ok(found)
+}
+
+// GCC's own there, which loads its plugin for link time optimisation.
+#[tactic(auto, using(crate::proofs::AskingLemmas::only_none))]
+fn gcc_tool<W: World, H: Host<W>>(
+    rt: &impl Wait,
+    tool: ArchiveTool,
+    inputs: &Inputs<'_>,
+    prefix: &str,
+    sight: &mut Sight<'_, W, H>,
+) -> Mem<Option<Text>>
+    requires { IsPrefix sight.old inputs.now prefix.now }
+    ensures asks { AsksForTool W.steady W.answer H.log H.patience tool inputs.now
+        sight.old sight.new }
+    ensures settles { SettledIn sight.new
+        (spec.gcc_tool tool inputs.now.env.now prefix.now) result }
+{
+    let name = gcc_name(inputs.alloc, tool, prefix)?;
+    let found = if_versioned(rt, inputs, name, sight)?;
+    Ok(found)
+}
+
+// Behind the prefix of the GNU tools: the first of the two that prints its version.
 fn prefixed_tool<W: World, H: Host<W>>(
     rt: &impl Wait,
     tool: ArchiveTool,
@@ -356,13 +436,11 @@ fn prefixed_tool<W: World, H: Host<W>>(
     ensures settles { SettledIn sight.new
         (spec.prefixed_tool tool inputs.now.env.now prefix.now) result }
 {
-    let plain = plain_name(inputs.alloc, tool, prefix)?;
-    let own = gcc_name(inputs.alloc, tool, prefix)?;
-    match if_versioned(rt, inputs, plain, sight)? {
+    match plain_tool(rt, tool, inputs, prefix, sight)? {
         Some(name) => Ok(Some(name)),
         None => {
-            let name = if_versioned(rt, inputs, own, sight)?;
-            Ok(name)
+            let path = gcc_tool(rt, tool, inputs, prefix, sight)?;
+            Ok(path)
         }
     }
 }
@@ -380,14 +458,34 @@ fn cross_tool<W: World, H: Host<W>>(
 {
     match cross_prefix(rt, inputs, sight)? {
         Some(prefix) => {
-            let name = prefixed_tool(rt, tool, inputs, prefix.as_str(), sight)?;
-            Ok(name)
+            let path = prefixed_tool(rt, tool, inputs, prefix.as_str(), sight)?;
+            Ok(path)
         }
         None => Ok(None),
     }
 }
 
-// That of the system, else behind a prefix, else by its name alone.
+// Behind a prefix, else by its name alone.
+fn gnu_tool<W: World, H: Host<W>>(
+    rt: &impl Wait,
+    tool: ArchiveTool,
+    inputs: &Inputs<'_>,
+    sight: &mut Sight<'_, W, H>,
+) -> Mem<Text>
+    ensures asks { AsksForTool W.steady W.answer H.log H.patience tool inputs.now
+        sight.old sight.new }
+    ensures settles { SettledBy sight.new (spec.gnu_tool tool) inputs.now result }
+{
+    match cross_tool(rt, tool, inputs, sight)? {
+        Some(path) => Ok(path),
+        None => {
+            let path = Text::of(inputs.alloc, tool_name(tool))?;
+            Ok(path)
+        }
+    }
+}
+
+// That of the system, else one of GNU's.
 #[tactic(auto, using(crate::proofs::AskingLemmas::only_none))]
 fn named_tool<W: World, H: Host<W>>(
     rt: &impl Wait,
@@ -399,15 +497,9 @@ fn named_tool<W: World, H: Host<W>>(
         sight.old sight.new }
     ensures settles { SettledBy sight.new (spec.named_tool tool) inputs.now result }
 {
-    if let Some(name) = system_name(inputs.alloc, tool, inputs.target)? {
-        return Ok(name);
-    }
-    match cross_tool(rt, tool, inputs, sight)? {
+    match system_name(inputs.alloc, tool, inputs.target)? {
         Some(name) => Ok(name),
-        None => {
-            let name = Text::of(inputs.alloc, tool_name(tool))?;
-            Ok(name)
-        }
+        None => gnu_tool(rt, tool, inputs, sight),
     }
 }
 
@@ -429,6 +521,26 @@ fn target_tool<W: World, H: Host<W>>(
     }
 }
 
+// That of Clang for WebAssembly, else the one that the target wants.
+fn wasm_or_target<W: World, H: Host<W>>(
+    rt: &impl Wait,
+    tool: ArchiveTool,
+    inputs: &Inputs<'_>,
+    sight: &mut Sight<'_, W, H>,
+) -> Mem<Text>
+    ensures asks { AsksForTool W.steady W.answer H.log H.patience tool inputs.now
+        sight.old sight.new }
+    ensures settles { SettledBy sight.new (spec.wasm_or_target tool) inputs.now result }
+{
+    match wasm_tool(rt, tool, inputs, sight)? {
+        Some(path) => Ok(path),
+        None => {
+            let path = target_tool(rt, tool, inputs, sight)?;
+            Ok(path)
+        }
+    }
+}
+
 // The one where neither settings nor environment name one. Emscripten has its own.
 #[tactic(auto, using(crate::proofs::AskingLemmas::only_none))]
 fn own_tool<W: World, H: Host<W>>(
@@ -442,15 +554,26 @@ fn own_tool<W: World, H: Host<W>>(
     ensures settles { SettledBy sight.new (spec.own_tool tool) inputs.now result }
 {
     if inputs.target.os == "emscripten" {
-        return behind(inputs.alloc, "em", tool);
+        behind(inputs.alloc, "em", tool)
+    } else {
+        wasm_or_target(rt, tool, inputs, sight)
     }
-    match wasm_tool(rt, tool, inputs, sight)? {
-        Some(path) => Ok(path),
-        None => {
-            let path = target_tool(rt, tool, inputs, sight)?;
-            Ok(path)
-        }
-    }
+}
+
+// The same without words.
+fn own_choice<W: World, H: Host<W>>(
+    rt: &impl Wait,
+    tool: ArchiveTool,
+    inputs: &Inputs<'_>,
+    sight: &mut Sight<'_, W, H>,
+) -> Mem<Choice>
+    ensures asks { AsksForTool W.steady W.answer H.log H.patience tool inputs.now
+        sight.old sight.new }
+    ensures settles { SettledBy sight.new (spec.own_choice tool) inputs.now result }
+{
+    let path = own_tool(rt, tool, inputs, sight)?;
+    let choice = bare(inputs.alloc, path.as_str())?;
+    Ok(choice)
 }
 
 // The one where the settings name none.
@@ -475,9 +598,8 @@ fn found_tool<W: World, H: Host<W>>(
         Some(choice) => Ok(choice),
         None => {
             check_qnx_arch(alloc, inputs.target)?;
-            let path = own_tool(rt, tool, inputs, sight)?;
-            let choice = bare(alloc, path.as_str())?;
-            Ok(choice)
+            let own = own_choice(rt, tool, inputs, sight)?;
+            Ok(own)
         }
     }
 }
