@@ -5,8 +5,8 @@ use Rattle.cc_plan.proofs.AskingLemmas.{only_then, only_more}
 use Rattle.cc_tool.proofs.SettleLemmas.{settles_on, settles_so, settles_two, holds_all}
 use Rattle.cc_plan.proofs.archive_tool.prefixed_tool.Goals as goal
 
-pub gcc_tool-requires-in-None : goal.gcc_tool-requires-in-None
-gcc_tool-requires-in-None g c = settles_on (asks_grows c.plain_tool.ensures.asks.asks) c.requires
+pub gcc_tool-requires-after_bounds : goal.gcc_tool-requires-after_bounds
+gcc_tool-requires-after_bounds g c κs within = settles_on (asks_grows c.plain_tool.ensures.asks.asks) c.requires
 
 pub returns-in_err-path-in-None-clause-asks : goal.returns-in_err-path-in-None-clause-asks
 returns-in_err-path-in-None-clause-asks g c = only_then c.plain_tool.ensures.asks c.gcc_tool.ensures.asks
