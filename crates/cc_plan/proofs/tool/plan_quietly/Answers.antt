@@ -11,7 +11,7 @@ use Rattle.cc_plan.proofs.CompilationLemmas.{is_known, with_target}
 use Rattle.cc_plan.proofs.ResultLemmas.{allowed_by, refused_by}
 use Rattle.cc_plan.proofs.OwnLemmas.{given_is_own, built_is_own}
 use Rattle.cc_plan.proofs.QuestionLemmas.{tool_for_plan, plan_words}
-use Rattle.cc_plan.proofs.tool.plan_tool.Goals as goal
+use Rattle.cc_plan.proofs.tool.plan_quietly.Goals as goal
 
 pub returns-in_err-target-clause-own : goal.returns-in_err-target-clause-own
 returns-in_err-target-clause-own g c =
@@ -33,8 +33,8 @@ returns-in_err-tool-clause-asks g c =
     only_then (only_more c.compiler_of.ensures.asks (holds_all (tool_for_plan c.args.set.now c.args.env.now)))
     (only_more c.supported_words.ensures.asks (plan_words c.args.set.now c.args.env.now c.in_ok-compiler.compiler (is_known c.args.set.now c.args.env.now c.in_ok-compiler.compiler c.in_ok-target.ensures.info) (settles_on (asks_grows c.supported_words.ensures.asks.asks) c.in_ok-compiler.ensures.settles)))
 
-pub returns-in_err-warned-clause-asks : goal.returns-in_err-warned-clause-asks
-returns-in_err-warned-clause-asks g c =
+pub returns-in_err-unmarked-clause-asks : goal.returns-in_err-unmarked-clause-asks
+returns-in_err-unmarked-clause-asks g c =
     only_then (only_more c.compiler_of.ensures.asks (holds_all (tool_for_plan c.args.set.now c.args.env.now)))
     (only_more c.supported_words.ensures.asks (plan_words c.args.set.now c.args.env.now c.in_ok-compiler.compiler (is_known c.args.set.now c.args.env.now c.in_ok-compiler.compiler c.in_ok-target.ensures.info) (settles_on (asks_grows c.supported_words.ensures.asks.asks) c.in_ok-compiler.ensures.settles)))
 
@@ -56,12 +56,12 @@ returns-clause-tool g c =
 pub returns-clause-warnings : goal.returns-clause-warnings
 returns-clause-warnings g c =
     let known = is_known c.args.set.now c.args.env.now c.in_ok-compiler.compiler c.in_ok-target.ensures.info in
-    settles_two (settles_on (asks_grows c.supported_words.ensures.asks.asks) c.in_ok-compiler.ensures.settles) c.in_ok-supported.ensures.settles
+    λ is_first. settles_two (settles_on (asks_grows c.supported_words.ensures.asks.asks) c.in_ok-compiler.ensures.settles) c.in_ok-supported.ensures.settles
     (λ look a b.
-    ap (λ k. warnings_by (compilation_of c.args.set.now c.args.env.now k) (supported (compilation_of c.args.set.now c.args.env.now k) look) c.in_ok-warned.warned.is_first) a
-    ∙ ap (λ k. warnings_by k (supported k look) c.in_ok-warned.warned.is_first) (sym known)
-    ∙ ap (λ s. warnings_by (with_target c.args.set.now c.args.env.now c.in_ok-compiler.compiler (info_seen c.in_ok-target.target)) s c.in_ok-warned.warned.is_first) (b ∙ sym c.as_slice-supported.ensures)
-    ∙ sym c.in_ok-warned.ensures)
+    ap (λ k. warnings_by (compilation_of c.args.set.now c.args.env.now k) (supported (compilation_of c.args.set.now c.args.env.now k) look) is_first) a
+    ∙ ap (λ k. warnings_by k (supported k look) is_first) (sym known)
+    ∙ ap (λ s. warnings_by (with_target c.args.set.now c.args.env.now c.in_ok-compiler.compiler (info_seen c.in_ok-target.target)) s is_first) (b ∙ sym c.as_slice-supported.ensures)
+    ∙ sym (c.in_ok-unmarked.ensures is_first))
 
 pub returns-clause-allowed : goal.returns-clause-allowed
 returns-clause-allowed g c =
@@ -72,14 +72,14 @@ returns-in_err-check_compiler-clause-refused g c =
     let p = err_from_is_err_and c.from_residual-in_err-check_compiler.result c.from_residual-in_err-check_compiler.ensures.1 in
     rw (p.1, p.2) (refused_by c.args.set.now c.args.env.now c.in_err-check_compiler.field-0.0 c.in_ok-target.ensures.allowed c.in_ok-compiler.ensures.settles c.in_err-check_compiler.ensures.refused)
 
-pub returns-in_err-warned-clause-refused : goal.returns-in_err-warned-clause-refused
-returns-in_err-warned-clause-refused g c =
-    let p = err_from_is_err_and c.from_residual-in_err-warned.result c.from_residual-in_err-warned.ensures.1 in
+pub returns-in_err-unmarked-clause-refused : goal.returns-in_err-unmarked-clause-refused
+returns-in_err-unmarked-clause-refused g c =
+    let p = err_from_is_err_and c.from_residual-in_err-unmarked.result c.from_residual-in_err-unmarked.ensures.1 in
     rw (p.1, p.2) (inl refl)
 
-pub returns-in_err-warned-clause-own : goal.returns-in_err-warned-clause-own
-returns-in_err-warned-clause-own g c =
-    let p = err_from_is_err_and c.from_residual-in_err-warned.result c.from_residual-in_err-warned.ensures.1 in
+pub returns-in_err-unmarked-clause-own : goal.returns-in_err-unmarked-clause-own
+returns-in_err-unmarked-clause-own g c =
+    let p = err_from_is_err_and c.from_residual-in_err-unmarked.result c.from_residual-in_err-unmarked.ensures.1 in
     rw (p.1, p.2) tt
 
 pub returns-in_err-compiler-clause-asks : goal.returns-in_err-compiler-clause-asks
