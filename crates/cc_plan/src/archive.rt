@@ -66,7 +66,7 @@ pub fn archiver_of<W: World, H: Host<W>>(
     ensures allowed { AllowedIn sight.new (archiver_refusal set.now env.now) result }
     ensures refused { RefusedIn sight.new (archiver_refusal set.now env.now) result }
 {
-    let _ = (rt, &sight);
+    let _ = rt;
     let cmd = archiver_command(alloc, set, env)?;
     Ok(Archiver { cmd })
 }
