@@ -5,6 +5,7 @@ use Rattle.std.specs.Option.{option_map, option_and_then}
 use Rattle.std.specs.Path.{path_file_name}
 use Rattle.std.proofs.lemmas.Slice.Eq.{bytes_eq-Decides}
 use Rattle.cc_env.specs.Env.{EnvSeen}
+use Rattle.cc_env.specs.Snapshot.{last_value}
 use Rattle.cc_host.specs.Question.{Look}
 use Rattle.cc_text.specs.Families.{is_gnu_like}
 use Rattle.cc_flags.specs.DefaultWords.{is_qnx, qnx_variant, lacks_qnx_variant, is_wasm_linux}
@@ -17,13 +18,13 @@ use Rattle.cc_plan.specs.Compilation.{CompilationSeen}
 use Rattle.cc_plan.specs.Given.{out_dir_of, target_of, host_of, level_of, has_no_defaults}
 use Rattle.cc_plan.specs.Inherited.{inherited_text, inherited_refusal, plan_refusal}
 use Rattle.cc_plan.specs.Planned.{planned, defaults_refusal_of}
+use Rattle.cc_plan.specs.Target.{target_info}
 use Rattle.cc_plan.specs.Tool.{defaults_refusal_by}
 use Rattle.cc_plan.specs.ToolWords.{first_refusal, names_target, musl_sysroot, qnx_refusal, sysroot_refusal, clang_refusal, defaults_refusal}
-use Rattle.cc_plan.specs.Target.{target_info}
 use Rattle.cc_plan.specs.declared.archive_tool.ArchiveTool.TheVariants.{Archiver}
 use Rattle.cc_plan.specs.declared.error.PlanError.{PlanError}
 use Rattle.cc_plan.specs.declared.error.PlanError.TheVariants.{QnxArch, NotSet}
-use Rattle.cc_plan.specs.Refusal.{place_from, earlier_place, source_refusal, sources_after, out_dir_refusal, unset, target_refusal, platform_refusal, given_refusal, refusal_by, tool_refusal, early_refusal, late_refusal, object_in, library_in, is_empty, archiver_refusal, link_refusal, qnx_arch_refusal, found_refusal, known_refusal, choice_refusal, look_up_refusal, first_of}
+use Rattle.cc_plan.specs.Refusal.{place_from, earlier_place, source_refusal, sources_after, out_dir_refusal, unset, target_refusal, platform_refusal, given_refusal, refusal_by, tool_refusal, early_refusal, late_refusal, object_in, library_in, is_empty, archiver_refusal, links_cpp, musl_variable, cpp_refusal, link_refusal, qnx_arch_refusal, found_refusal, known_refusal, choice_refusal, look_up_refusal, first_of}
 use Rattle.cc_plan.specs.Added.{added_refusal}
 use Rattle.cc_plan.proofs.AddedLaws.{added_accepted}
 use Rattle.cc_plan.specs.Valid.{IsNoneOf, AreApart, IsKnown, IsSetNonempty, HasVariant, HasSysroot, Parse, Valid}
@@ -186,7 +187,18 @@ archiver_accepted set env look output v =
     both_none (choice_refusal Archiver set env look) (first_of (unset (codes "TARGET") (target_of set env)) (unset (codes "HOST") (host_of set env))) choice
     (both_none (unset (codes "TARGET") (target_of set env)) (unset (codes "HOST") (host_of set env)) (set_target (target_of set env) v.target) (is_set (codes "HOST") (host_of set env) v.host))
 
+-- a value that stands where it is needed isn't unset
+stands_where : (name : List ℕ) (a b : Bool) (value : Option (List ℕ)) → (a ≡ true → b ≡ true → IsSome value) → (if a && b then unset name value else None) ≡ None
+stands_where name true true value h = is_set name value (h refl refl)
+stands_where name true false value h = refl
+stands_where name false true value h = refl
+stands_where name false false value h = refl
+
+has_linked : (set : BuildConfig) (env : EnvSeen) → (links_cpp set ≡ true → is_wasm_linux (target_info set env) ≡ true → IsSome (last_value env.inherited musl_variable)) → cpp_refusal set env ≡ None
+unfolding cpp_refusal
+has_linked set env h = stands_where musl_variable (links_cpp set) (is_wasm_linux (target_info set env)) (last_value env.inherited musl_variable) h
+
 -- and what the link lines want
 pub links_accepted : (set : BuildConfig) (env : EnvSeen) (look : Look) (output : List ℕ) → Valid set env look output → link_refusal set env look ≡ None
 unfolding link_refusal
-links_accepted set env look output v = refl
+links_accepted set env look output v = has_linked set env v.linked

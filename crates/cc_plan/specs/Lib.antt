@@ -27,6 +27,7 @@ pub mod Refusal
 pub mod Search
 pub mod SettingWords
 pub mod Settings
+pub mod Stdlib
 pub mod Support
 pub mod Target
 pub mod Tool

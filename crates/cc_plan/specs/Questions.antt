@@ -1,17 +1,20 @@
 -- The questions that a plan asks, under these verdicts.
-use Rattle.std.specs.Prelude.{◌≡◌, ◌⊎◌, ℕ, true, List, [], Some}
+use Rattle.std.specs.Prelude.{◌≡◌, ◌⊎◌, ℕ, true, List, [], Some, None}
 use Rattle.std.specs.List.{Contains}
 use Rattle.cc_env.specs.Env.{EnvSeen}
 use Rattle.cc_flags.specs.Texts.{is}
 use Rattle.cc_host.specs.Question.{Look, exists_question}
 use Rattle.cc_host.specs.declared.question.Question.{Question}
 use Rattle.cc_tool.specs.Family.{IsOfFamilyIn}
+use Rattle.cc_tool.specs.Libcxx.{libcxx_question}
 use Rattle.cc_plan.specs.Android.{kit_compiler, older_name, starts_question}
 use Rattle.cc_plan.specs.ArchiveTool.{search_question, llvm_question, version_question, plain_name, gcc_name}
 use Rattle.cc_plan.specs.Choice.{choice_of, cross_prefix, is_wasm}
 use Rattle.cc_plan.specs.Compilation.{CompilationSeen}
 use Rattle.cc_plan.specs.Languages.{gnu_name}
-use Rattle.cc_plan.specs.Planned.{planned}
+use Rattle.cc_plan.specs.Planned.{planned, tool_of}
+use Rattle.cc_plan.specs.Refusal.{links_cpp}
+use Rattle.cc_plan.specs.Stdlib.{given_library, may_ask}
 use Rattle.cc_plan.specs.Support.{bare_of, flag_question}
 use Rattle.cc_plan.specs.Target.{target_info, target_name}
 use Rattle.cc_plan.specs.ToolWords.{asked_words}
@@ -95,9 +98,17 @@ ArchiverAsks set env look q = ArchiveToolAsks Archiver set env look q
 unfoldable pub RanlibAsks : BuildConfig → EnvSeen → Look → Question → Type 0
 RanlibAsks set env look q = ArchiveToolAsks Ranlib set env look q
 
+-- one that is asked for the C++ library: one that the plan of the tool asks, or the one on its library
+unfoldable pub LibraryAsks : BuildConfig → EnvSeen → Look → Question → Type 0
+LibraryAsks set env look q = PlanAsks set env look q ⊎ (q ≡ libcxx_question (tool_of set env look))
+
+-- the C++ library that is linked is the compiler's
+abbrev pub IsSought : BuildConfig → EnvSeen → Type 0
+IsSought set env = (links_cpp set ≡ true) × (given_library set env ≡ None) × (may_ask set env ≡ true)
+
 -- one that is asked for the link lines
 unfoldable pub LinkAsks : BuildConfig → EnvSeen → Look → Question → Type 0
-LinkAsks set env look q = PlanAsks set env look q
+LinkAsks set env look q = IsSought set env × LibraryAsks set env look q
 
 -- one that a run asks: for the commands that compile, for those that archive, or for the link lines
 unfoldable pub RunAsks : BuildConfig → EnvSeen → Look → Question → Type 0

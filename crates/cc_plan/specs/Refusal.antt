@@ -1,10 +1,12 @@
 -- What settings and snapshot are refused for. The answer is that of the first part which doesn't hold, in the order of the definitions.
-use Rattle.std.specs.Prelude.{◌≡◌, ◌⊎◌, Result, OnOk, IfErr, ℕ, ◌+◌, List, [], ◌∷◌, ◌++◌, length, map, Bool, Option, Some, None, is_none, unwrap_or, true, false, codes, bytes_eq, if◌then◌else◌}
+use Rattle.std.specs.Prelude.{◌≡◌, ◌⊎◌, Result, OnOk, IfErr, ℕ, ◌+◌, List, [], ◌∷◌, ◌++◌, length, map, Bool, ◌&&◌, Option, Some, None, is_none, unwrap_or, true, false, codes, bytes_eq, if◌then◌else◌}
 use Rattle.std.specs.Option.{option_map}
 use Rattle.std.specs.Path.{path_file_name, path_join}
 use Rattle.cc_plan.specs.Added.{added_refusal}
 use Rattle.cc_plan.specs.Names.{is_output_name, library_file}
 use Rattle.cc_env.specs.Env.{EnvSeen}
+use Rattle.cc_env.specs.Snapshot.{last_value}
+use Rattle.cc_flags.specs.DefaultWords.{is_wasm_linux}
 use Rattle.cc_host.specs.Question.{Look}
 use Rattle.cc_target.specs.Targets.{Info, is_known}
 use Rattle.cc_plan.specs.ArchiveTool.{lacks_qnx_arch, set_program, variable_tool}
@@ -140,9 +142,21 @@ archiver_refusal set env look = archive_tool_refusal Archiver set env look
 unfoldable pub ranlib_refusal : BuildConfig → EnvSeen → Look → Option PlanError
 ranlib_refusal set env look = archive_tool_refusal Ranlib set env look
 
+-- lines for a library of C++ are wanted
+abbrev pub links_cpp : BuildConfig → Bool
+links_cpp set = set.cargo_metadata && set.cpp
+
+-- the variable of the sysroot that WebAssembly's threads want
+abbrev pub musl_variable : List ℕ
+musl_variable = codes "WASM_MUSL_SYSROOT"
+
+-- a library of C++ for WebAssembly's threads is linked with what the sysroot has
+unfoldable pub cpp_refusal : BuildConfig → EnvSeen → Option PlanError
+cpp_refusal set env = if links_cpp set && is_wasm_linux (target_info set env) then unset musl_variable (last_value env.inherited musl_variable) else None
+
 -- what the link lines want, after the library was written
 unfoldable pub link_refusal : BuildConfig → EnvSeen → Look → Option PlanError
-link_refusal set env look = None
+link_refusal set env look = cpp_refusal set env
 
 -- on Ok nothing is refused
 abbrev pub AllowedBy : {X : Type 0} → Option PlanError → Result X PlanError → Type 0

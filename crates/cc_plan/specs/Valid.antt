@@ -4,6 +4,7 @@ use Rattle.std.specs.List.{AllByRecursion, list_all}
 use Rattle.std.specs.Path.{path_file_name, path_components}
 use Rattle.cc_plan.specs.Names.{is_output_name}
 use Rattle.cc_env.specs.Env.{EnvSeen}
+use Rattle.cc_env.specs.Snapshot.{last_value}
 use Rattle.cc_host.specs.Question.{Look}
 use Rattle.cc_target.specs.Targets.{is_known}
 use Rattle.cc_text.specs.Families.{is_gnu_like}
@@ -11,7 +12,7 @@ use Rattle.cc_flags.specs.DefaultWords.{is_qnx, qnx_variant, is_wasm_linux}
 use Rattle.cc_flags.specs.Fields.{is_invalid}
 use Rattle.cc_flags.specs.Pairs.{pairs_of}
 use Rattle.cc_plan.specs.Given.{out_dir_of, target_of, host_of, level_of, is_disabled, has_no_defaults}
-use Rattle.cc_plan.specs.Refusal.{is_empty, object_in, library_in}
+use Rattle.cc_plan.specs.Refusal.{is_empty, object_in, library_in, links_cpp, musl_variable}
 use Rattle.cc_plan.specs.ArchiveTool.{qnx_arch, variable_tool}
 use Rattle.cc_plan.specs.Compilation.{CompilationSeen}
 use Rattle.cc_plan.specs.Inherited.{inherited_text}
@@ -74,5 +75,7 @@ pub record Valid (set : BuildConfig) (env : EnvSeen) (look : Look) (output : Lis
   pub variant : is_empty set.files ≡ false → has_no_defaults set env ≡ false → HasVariant (planned set env look)
   pub sysroot : is_empty set.files ≡ false → has_no_defaults set env ≡ false → HasSysroot (planned set env look)
   pub archiver : HasArchiver set env look
+  -- and so is the sysroot with which a library of C++ is linked
+  pub linked : links_cpp set ≡ true → is_wasm_linux (target_info set env) ≡ true → IsSome (last_value env.inherited musl_variable)
   -- the flags of Rust code parse, where they are read
   pub rustflags : is_empty set.files ≡ false → Parse (inherited_text set.inherit_rustflags env.inherited)

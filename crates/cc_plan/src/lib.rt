@@ -33,6 +33,7 @@ mod printing;
 mod search;
 mod settings;
 mod sight;
+mod stdlib;
 mod support;
 mod tool;
 mod words;
