@@ -9,6 +9,8 @@
 mod added;
 mod android;
 mod archive;
+mod archive_asks;
+mod archive_names;
 mod archive_tool;
 mod batch;
 mod blanks;

@@ -2,7 +2,7 @@ use Rattle.std.proofs.Common.{◌≡◌, refl, rules}
 use Rattle.cc_tool.proofs.SettleLemmas.{settles_yes}
 use Rattle.cc_plan.specs.ArchiveTool.{version_question}
 use Rattle.cc_plan.proofs.AskingLemmas.{own_one}
-use Rattle.cc_plan.proofs.archive_tool.prints_version.Goals as goal
+use Rattle.cc_plan.proofs.archive_asks.prints_version.Goals as goal
 
 pub returns-clause-settles : goal.returns-clause-settles
 returns-clause-settles g c = settles_yes c.in_ok-verdict.ensures.settles c.in_ok-question.ensures refl c.is_yes.ensures

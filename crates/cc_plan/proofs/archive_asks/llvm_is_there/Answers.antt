@@ -6,7 +6,7 @@ use Rattle.cc_tool.proofs.SettleLemmas.{settles_on, settles_so, settles_two, hol
 use Rattle.cc_plan.proofs.ArchiveToolLemmas.{llvm_for_archive}
 use Rattle.cc_plan.specs.ArchiveTool.{llvm_question, version_question}
 use Rattle.std.proofs.Common.{◌≡◌}
-use Rattle.cc_plan.proofs.archive_tool.llvm_is_there.Goals as goal
+use Rattle.cc_plan.proofs.archive_asks.llvm_is_there.Goals as goal
 
 pub returns-in_err-prints-clause-asks : goal.returns-in_err-prints-clause-asks
 returns-in_err-prints-clause-asks g c = only_more c.prints_version.ensures.asks (holds_all (llvm_for_archive c.args.tool c.args.inputs.now.set.now c.args.inputs.now.env.now _ _ (rw (c.as_str.ensures, c.in_ok-name.ensures, c.in_ok-vars.ensures) refl) c.requires))

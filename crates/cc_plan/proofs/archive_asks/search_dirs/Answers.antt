@@ -2,7 +2,7 @@ use Rattle.std.proofs.Common.{◌≡◌, refl, rules}
 use Rattle.cc_tool.proofs.SettleLemmas.{settles_question}
 use Rattle.cc_plan.specs.ArchiveTool.{search_question}
 use Rattle.cc_plan.proofs.AskingLemmas.{own_one}
-use Rattle.cc_plan.proofs.archive_tool.search_dirs.Goals as goal
+use Rattle.cc_plan.proofs.archive_asks.search_dirs.Goals as goal
 
 pub returns-clause-settles : goal.returns-clause-settles
 returns-clause-settles g c = settles_question c.in_ok-verdict.ensures.settles c.in_ok-question.ensures refl

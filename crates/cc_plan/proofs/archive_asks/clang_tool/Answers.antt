@@ -5,7 +5,7 @@ use Rattle.cc_plan.proofs.AskingLemmas.{only_then, only_more}
 use Rattle.cc_tool.proofs.SettleLemmas.{settles_on, settles_so, settles_two, holds_all}
 use Rattle.cc_plan.proofs.ArchiveToolLemmas.{tool_for_archive, search_for_archive}
 use Rattle.cc_plan.specs.ArchiveTool.{tool_in_dirs}
-use Rattle.cc_plan.proofs.archive_tool.clang_tool.Goals as goal
+use Rattle.cc_plan.proofs.archive_asks.clang_tool.Goals as goal
 
 pub returns-in_err-verdict-clause-asks : goal.returns-in_err-verdict-clause-asks
 returns-in_err-verdict-clause-asks g c = only_more c.search_dirs.ensures.asks (search_for_archive c.args.tool c.args.inputs.now.set.now c.args.inputs.now.env.now c.args.path.now c.requires.wasm (settles_on (asks_grows c.search_dirs.ensures.asks.asks) c.requires.chosen))
