@@ -64,7 +64,7 @@ with_words archiver words = record archiver.cmd { args = archiver.cmd.args ++ wo
 
 -- the same where it writes no times into members
 abbrev pub timeless : Archiver → EnvSeen → List (List ℕ) → CommandSeen
-timeless archiver env words = record (with_words archiver words) { env = archive_env env }
+timeless archiver env words = record { program = archiver.cmd.program; args = archiver.cmd.args ++ words; env = archive_env env; dir = None }
 
 -- the word that has members added last: it leaves out owners too, or is the plain one
 abbrev pub adding : Bool → List ℕ

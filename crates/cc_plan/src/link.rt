@@ -83,7 +83,7 @@ pub fn link_lines<W: World, H: Host<W>>(
     ensures allowed { AllowedIn sight.new (link_refusal set.now env.now) result }
     ensures refused { RefusedIn sight.new (link_refusal set.now env.now) result }
 {
-    let _ = (rt, env);
+    let _ = rt;
     let mut lines = Vec::new(alloc);
     if set.cargo_metadata {
         lines.push(always(library_line(alloc, &set.link_lib_modifiers, name)?))?;
