@@ -1,10 +1,11 @@
 -- How a tool of archives is found: which questions are asked, and what is refused.
 use Rattle.std.proofs.Common.{◌≡◌, ◌⊎◌, inl, inr, ℕ, List, Option, Some, None, true, false, is_none, refl, sym, ap, ◌∙◌}
 use Rattle.cc_env.specs.Env.{EnvSeen}
+use Rattle.cc_env.specs.Snapshot.{child_of}
 use Rattle.cc_host.specs.Question.{Look, Answer, Settles, Holds}
 use Rattle.cc_host.specs.declared.question.Question.{Question}
 use Rattle.cc_tool.proofs.SettleLemmas.{settles_so}
-use Rattle.cc_plan.specs.ArchiveTool.{search_question, llvm_question, version_question, plain_name, gcc_name, set_program, variable_tool}
+use Rattle.cc_plan.specs.ArchiveTool.{llvm_name, search_question, version_question, plain_name, gcc_name, set_program, variable_tool}
 use Rattle.cc_plan.specs.Choice.{choice_of, cross_prefix}
 use Rattle.cc_plan.specs.Given.{target_of}
 use Rattle.cc_plan.specs.Questions.{IsForAndroid, IsForWasm, ToolAsks, ArchiveToolAsks}
@@ -33,9 +34,9 @@ module _ (tool : ArchiveTool) (set : BuildConfig) (env : EnvSeen) where
   search_for_archive path wasm s = record { under = λ look a q h. on_search look path q wasm (s.is look a) h }
 
   -- whether LLVM's tool prints its version
-  pub llvm_for_archive : (program : List ℕ) (vars : List (List ℕ × List ℕ)) → version_question vars program ≡ llvm_question tool env → IsForAndroid set env → (look : Look) (q : Question) → q ≡ version_question vars program → ArchiveToolAsks tool set env look q
+  pub llvm_for_archive : (program : List ℕ) (vars : List (List ℕ × List ℕ)) → program ≡ llvm_name tool → vars ≡ child_of env.inherited env.explicit → IsForAndroid set env → (look : Look) (q : Question) → q ≡ version_question vars program → ArchiveToolAsks tool set env look q
   unfolding ArchiveToolAsks
-  llvm_for_archive program vars is android look q h = inr (inr (inl (android, h ∙ is)))
+  llvm_for_archive program vars name child android look q h = inr (inr (inl (android, h ∙ ap (λ (v : List (List ℕ × List ℕ)). version_question v program) child ∙ ap (version_question (child_of env.inherited env.explicit)) name)))
 
   on_plain : (look : Look) (prefix : List ℕ) (q : Question) → cross_prefix set env look ≡ Some prefix → q ≡ version_question env.inherited (plain_name tool prefix) → ArchiveToolAsks tool set env look q
   unfolding ArchiveToolAsks

@@ -1,4 +1,5 @@
 // The C++ library that a library of C++ is linked with, and the lines by which Cargo links it.
+ghost use Rattle.std.specs.List.{list_any};
 ghost use Rattle.std.specs.Prelude.{◌≡◌, ◌++◌, IfOk, OnOk, Some};
 ghost use Rattle.cc_host.specs.Question.{Look};
 ghost use Rattle.cc_target.specs.Targets.{Info, info_seen};
@@ -19,7 +20,7 @@ use cc_env::{BuildEnv, env_value_is_true};
 use cc_flags::is_wasm_linux;
 use cc_host::{Host, World};
 use cc_target::TargetInfo;
-use cc_text::{Mem, NoMemory, Text, contains};
+use cc_text::{Mem, NoMemory, Text, Words, contains};
 use cc_tool::{Tool, ask_libcxx};
 use std::alloc::Global;
 use std::sync::Wait;
@@ -147,12 +148,18 @@ fn is_headerless(arg: &Text) -> bool
     arg.as_str() == "-nostdinc++" || arg.as_str() == "-nostdinc"
 }
 
+fn is_without_headers(args: &Words) -> bool
+    ensures { result ≡ list_any stdlib.is_headerless args.now }
+{
+    args.as_slice().iter().any(is_headerless)
+}
+
 // Clang, with the headers of its own C++ library.
 #[tactic(auto, unfolding(crate::specs::Stdlib::has_own_headers))]
 fn has_own_headers(tool: &Tool) -> bool
     ensures { result ≡ stdlib.has_own_headers tool.now }
 {
-    tool.is_like_clang() && !tool.args().as_slice().iter().any(is_headerless)
+    tool.is_like_clang() && !is_without_headers(tool.args())
 }
 
 // Whether the C++ library of a tool is libc++, where it is Clang.
