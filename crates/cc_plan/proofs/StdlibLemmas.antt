@@ -8,7 +8,7 @@ use Rattle.cc_tool.specs.Tool.{ToolSeen}
 use Rattle.cc_tool.proofs.SettleLemmas.{settles_so, settles_two}
 use Rattle.cc_plan.specs.Planned.{tool_of}
 use Rattle.cc_plan.specs.Questions.{PlanAsks, LibraryAsks, IsSought, LinkAsks}
-use Rattle.cc_plan.specs.Refusal.{tool_refusal, links_cpp, cpp_refusal, link_refusal}
+use Rattle.cc_plan.specs.Refusal.{tool_refusal, links_cpp}
 use Rattle.cc_plan.specs.Link.{lines_by, link_lines}
 use Rattle.cc_plan.specs.Stdlib.{tool_unless, allowed_tool, is_memory, has_own_headers, uses_libcxx, may_ask, library_by, given_library, cpp_library_of, linked_library}
 use Rattle.cc_plan.specs.declared.error.PlanError.{PlanError}
@@ -21,7 +21,7 @@ use Rattle.cc_plan.specs.declared.settings.BuildConfig.{BuildConfig}
 pub unasked : {known : List Answer} (tool : ToolSeen) → has_own_headers tool ≡ false → Settles known (λ look. uses_libcxx look (Some tool)) false
 unasked tool other = record { is = λ look a. rw other refl }
 
-pub answered : {known : List Answer} {yes : Bool} (tool : ToolSeen) → has_own_headers tool ≡ true → Settles known (λ look. is_yes (look (libcxx_question tool))) yes → Settles known (λ look. uses_libcxx look (Some tool)) yes
+pub answered : {known : List Answer} {uses : Bool} (tool : ToolSeen) → has_own_headers tool ≡ true → Settles known (λ look. is_yes (look (libcxx_question tool))) uses → Settles known (λ look. uses_libcxx look (Some tool)) uses
 answered tool own s = settles_so s (λ look a. rw own a)
 
 there : (refusal : Option PlanError) (tool other : ToolSeen) → tool_unless refusal tool ≡ Some other → tool ≡ other
@@ -38,7 +38,7 @@ module _ (set : BuildConfig) (env : EnvSeen) where
   tool_refused e other (inl memory) = let is : is_memory e ≡ true = ap is_memory memory in absurd (cc)
   tool_refused e other (inr s) = settles_so s (λ look a. ap (λ r. tool_unless r (tool_of set env look)) a)
 
-  pub some_uses : {known : List Answer} {yes : Bool} (tool : ToolSeen) → Settles known (allowed_tool set env) (Some tool) → Settles known (λ look. uses_libcxx look (Some tool)) yes → Settles known (λ look. uses_libcxx look (allowed_tool set env look)) yes
+  pub some_uses : {known : List Answer} {uses : Bool} (tool : ToolSeen) → Settles known (allowed_tool set env) (Some tool) → Settles known (λ look. uses_libcxx look (Some tool)) uses → Settles known (λ look. uses_libcxx look (allowed_tool set env look)) uses
   some_uses tool s t = settles_two s t (λ look a b. ap (uses_libcxx look) a ∙ b)
 
   pub none_uses : {known : List Answer} → Settles known (allowed_tool set env) None → Settles known (λ look. uses_libcxx look (allowed_tool set env look)) false
@@ -58,9 +58,9 @@ module _ (set : BuildConfig) (env : EnvSeen) where
   unfolding linked_library cpp_library_of
   plain_linked library on given unasked is = record { is = λ look a. rw (on, given, unasked) (ap (λ l. Some l) (sym is)) }
 
-  pub asked_linked : {known : List Answer} (library : List ℕ) (yes : Bool) → links_cpp set ≡ true → given_library set env ≡ None → may_ask set env ≡ true → Settles known (λ look. uses_libcxx look (allowed_tool set env look)) yes → library ≡ library_by yes → Settles known (linked_library set env) (Some library)
+  pub asked_linked : {known : List Answer} (library : List ℕ) (uses : Bool) → links_cpp set ≡ true → given_library set env ≡ None → may_ask set env ≡ true → Settles known (λ look. uses_libcxx look (allowed_tool set env look)) uses → library ≡ library_by uses → Settles known (linked_library set env) (Some library)
   unfolding linked_library cpp_library_of
-  asked_linked library yes on given may s is = settles_so s (λ look a. rw (on, given, may) (ap (λ b. Some (library_by b)) a ∙ ap (λ l. Some l) (sym is)))
+  asked_linked library uses on given may s is = settles_so s (λ look a. rw (on, given, may) (ap (λ b. Some (library_by b)) a ∙ ap (λ l. Some l) (sym is)))
 
   -- ---- the questions
 
@@ -84,11 +84,3 @@ module _ (set : BuildConfig) (env : EnvSeen) where
   pub lines_settled : {known : List Answer} {lines : List LinkLine} {library : Option (List ℕ)} (name folder : List ℕ) → Settles known (linked_library set env) library → lines ≡ lines_by set env name folder library → Settles known (link_lines set env name folder) lines
   unfolding link_lines
   lines_settled name folder s is = settles_so s (λ look a. ap (lines_by set env name folder) a ∙ sym is)
-
-  pub links_settled : {known : List Answer} {refusal : Option PlanError} → cpp_refusal set env ≡ refusal → Settles known (link_refusal set env) refusal
-  unfolding link_refusal
-  links_settled is = record { is = λ look a. is }
-
-  pub links_refused : {known : List Answer} (e : PlanError) → (e ≡ WantsMemory) ⊎ (cpp_refusal set env ≡ Some e) → (e ≡ WantsMemory) ⊎ Settles known (link_refusal set env) (Some e)
-  links_refused e (inl memory) = inl memory
-  links_refused e (inr refused) = inr (links_settled refused)

@@ -1,8 +1,7 @@
 // The C++ library that a library of C++ is linked with, and the lines by which Cargo links it.
-ghost use Rattle.std.specs.List.{list_any};
 ghost use Rattle.std.specs.Prelude.{◌≡◌, ◌++◌, IfOk, OnOk, Some};
-ghost use Rattle.cc_host.specs.Question.{Look};
-ghost use Rattle.cc_target.specs.Targets.{Info, info_seen};
+ghost use Rattle.std.specs.List.{list_any};
+ghost use Rattle.cc_target.specs.Targets.{info_seen};
 ghost use Rattle.cc_tool.specs.Libcxx.{libcxx_question};
 ghost use Rattle.cc_plan.specs.Asking.{OnlyAsks, AsksForLinks, AsksToPlan, SettledIn};
 ghost use Rattle.cc_plan.specs.Blanks.{nonempty};
@@ -148,7 +147,7 @@ fn is_headerless(arg: &Text) -> bool
     arg.as_str() == "-nostdinc++" || arg.as_str() == "-nostdinc"
 }
 
-fn is_without_headers(args: &Words) -> bool
+fn has_headerless(args: &Words) -> bool
     ensures { result ≡ list_any stdlib.is_headerless args.now }
 {
     args.as_slice().iter().any(is_headerless)
@@ -159,7 +158,7 @@ fn is_without_headers(args: &Words) -> bool
 fn has_own_headers(tool: &Tool) -> bool
     ensures { result ≡ stdlib.has_own_headers tool.now }
 {
-    tool.is_like_clang() && !is_without_headers(tool.args())
+    tool.is_like_clang() && !has_headerless(tool.args())
 }
 
 // Whether the C++ library of a tool is libc++, where it is Clang.
@@ -251,8 +250,9 @@ pub(crate) fn linked_library<W: World, H: Host<W>>(
     if !links_cpp(set) {
         return Ok(None);
     }
-    if let Some(library) = given_library(alloc, set, env)? {
-        return Ok(library);
+    match given_library(alloc, set, env)? {
+        Some(library) => return Ok(library),
+        None => {}
     }
     if !may_ask(set, env) {
         return Ok(Some(Text::of(alloc, library_by(false))?));
