@@ -1,4 +1,5 @@
 pub mod AddedLaws
+pub mod ArchiveToolLemmas
 pub mod AskingLemmas
 pub mod BatchLaws
 pub mod BeforeLemmas

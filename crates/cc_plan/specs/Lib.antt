@@ -1,6 +1,7 @@
 pub mod Added
 pub mod Android
 pub mod Archive
+pub mod ArchiveTool
 pub mod Asking
 pub mod Batches
 pub mod Blanks
