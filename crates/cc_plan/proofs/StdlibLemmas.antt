@@ -1,7 +1,7 @@
 -- What is settled of the C++ library, and by which questions.
-use Rattle.std.proofs.Common.{◌≡◌, ◌⊎◌, inl, inr, ℕ, Bool, true, false, List, Option, Some, None, codes, refl, sym, ap, ◌∙◌}
+use Rattle.std.proofs.Common.{◌≡◌, inl, inr, ℕ, Bool, true, false, List, Option, Some, None, refl, sym, ap, ◌∙◌}
 use Rattle.cc_env.specs.Env.{EnvSeen}
-use Rattle.cc_host.specs.Question.{Look, Answer, Settles, Holds, is_yes}
+use Rattle.cc_host.specs.Question.{Look, Answer, Settles, Holds}
 use Rattle.cc_host.specs.declared.question.Question.{Question}
 use Rattle.cc_tool.specs.Libcxx.{libcxx_question}
 use Rattle.cc_tool.specs.Tool.{ToolSeen}
@@ -10,39 +10,20 @@ use Rattle.cc_plan.specs.Planned.{tool_of}
 use Rattle.cc_plan.specs.Questions.{PlanAsks, LibraryAsks, IsSought, LinkAsks}
 use Rattle.cc_plan.specs.Refusal.{tool_refusal, links_cpp}
 use Rattle.cc_plan.specs.Link.{lines_by, link_lines}
-use Rattle.cc_plan.specs.Stdlib.{tool_unless, allowed_tool, is_memory, has_own_headers, uses_libcxx, may_ask, library_by, given_library, cpp_library_of, linked_library}
+use Rattle.cc_plan.specs.Stdlib.{tool_unless, allowed_tool, uses_libcxx, may_ask, library_by, given_library, cpp_library_of, linked_library}
 use Rattle.cc_plan.specs.declared.error.PlanError.{PlanError}
-use Rattle.cc_plan.specs.declared.error.PlanError.TheVariants.{NoMemory as WantsMemory}
 use Rattle.cc_plan.specs.declared.link.LinkLine.{LinkLine}
 use Rattle.cc_plan.specs.declared.settings.BuildConfig.{BuildConfig}
-
--- ---- whether a tool's is libc++
-
-pub unasked : {known : List Answer} (tool : ToolSeen) → has_own_headers tool ≡ false → Settles known (λ look. uses_libcxx look (Some tool)) false
-unasked tool other = record { is = λ look a. rw other refl }
-
-pub answered : {known : List Answer} {uses : Bool} (tool : ToolSeen) → has_own_headers tool ≡ true → Settles known (λ look. is_yes (look (libcxx_question tool))) uses → Settles known (λ look. uses_libcxx look (Some tool)) uses
-answered tool own s = settles_so s (λ look a. rw own a)
 
 there : (refusal : Option PlanError) (tool other : ToolSeen) → tool_unless refusal tool ≡ Some other → tool ≡ other
 there None tool other e = cc
 there (Some refusal) tool other e = absurd (cc)
 
 module _ (set : BuildConfig) (env : EnvSeen) where
-  -- ---- the planned tool
-
-  pub tool_allowed : {known : List Answer} {tool : ToolSeen} → Settles known (tool_refusal set env) None → Settles known (tool_of set env) tool → Settles known (allowed_tool set env) (Some tool)
-  tool_allowed s t = settles_two s t (λ look a b. ap (λ r. tool_unless r (tool_of set env look)) a ∙ ap (λ u. Some u) b)
-
-  pub tool_refused : {known : List Answer} (e : PlanError) → is_memory e ≡ false → (e ≡ WantsMemory) ⊎ Settles known (tool_refusal set env) (Some e) → Settles known (allowed_tool set env) None
-  tool_refused e other (inl memory) = let is : is_memory e ≡ true = ap is_memory memory in absurd (cc)
-  tool_refused e other (inr s) = settles_so s (λ look a. ap (λ r. tool_unless r (tool_of set env look)) a)
+  -- ---- whether the planned tool's is libc++
 
   pub some_uses : {known : List Answer} {uses : Bool} (tool : ToolSeen) → Settles known (allowed_tool set env) (Some tool) → Settles known (λ look. uses_libcxx look (Some tool)) uses → Settles known (λ look. uses_libcxx look (allowed_tool set env look)) uses
   some_uses tool s t = settles_two s t (λ look a b. ap (uses_libcxx look) a ∙ b)
-
-  pub none_uses : {known : List Answer} → Settles known (allowed_tool set env) None → Settles known (λ look. uses_libcxx look (allowed_tool set env look)) false
-  none_uses s = settles_so s (λ look a. ap (uses_libcxx look) a)
 
   -- ---- the library
 

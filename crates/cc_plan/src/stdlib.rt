@@ -147,7 +147,7 @@ fn is_headerless(arg: &Text) -> bool
     arg.as_str() == "-nostdinc++" || arg.as_str() == "-nostdinc"
 }
 
-fn has_headerless(args: &Words) -> bool
+fn is_without_headers(args: &Words) -> bool
     ensures { result ≡ list_any stdlib.is_headerless args.now }
 {
     args.as_slice().iter().any(is_headerless)
@@ -158,7 +158,7 @@ fn has_headerless(args: &Words) -> bool
 fn has_own_headers(tool: &Tool) -> bool
     ensures { result ≡ stdlib.has_own_headers tool.now }
 {
-    tool.is_like_clang() && !has_headerless(tool.args())
+    tool.is_like_clang() && !is_without_headers(tool.args())
 }
 
 // Whether the C++ library of a tool is libc++, where it is Clang.

@@ -1,8 +1,5 @@
-use Rattle.std.proofs.Common.{◌≡◌, Some, None, Bool, true, false, not, refl, sym, ◌∙◌, arith}
-use Rattle.std.proofs.lemmas.Grind.{common_steps}
+use Rattle.std.proofs.Common.{sym, ◌∙◌}
 use Rattle.cc_tool.proofs.SettleLemmas.{holds_all}
-use Rattle.cc_plan.specs.Refusal.{links_cpp}
-use Rattle.cc_plan.specs.Stdlib.{may_ask, given_library}
 use Rattle.cc_plan.proofs.AskingLemmas.{only_more}
 use Rattle.cc_plan.proofs.StdlibLemmas.{none_linked, given_linked, plain_linked, asked_linked, library_for_links}
 use Rattle.cc_plan.proofs.stdlib.linked_library.Goals as goal

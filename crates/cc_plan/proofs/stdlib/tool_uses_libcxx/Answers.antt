@@ -1,6 +1,5 @@
-use Rattle.std.proofs.Common.{refl, sym, ◌∙◌, rules}
+use Rattle.std.proofs.Common.{refl, rules}
 use Rattle.cc_tool.proofs.SettleLemmas.{holds_all}
-use Rattle.cc_plan.proofs.StdlibLemmas.{unasked, answered}
 use Rattle.cc_plan.proofs.stdlib.tool_uses_libcxx.Goals as goal
 
 pub returns-in_err-uses-clause-asks : goal.returns-in_err-uses-clause-asks

@@ -1,5 +1,3 @@
-use Rattle.std.proofs.Common.{◌≡◌, Some, None, subst}
-use Rattle.cc_host.specs.Question.{Settles}
 use Rattle.cc_tool.proofs.AskLemmas.{asks_grows}
 use Rattle.cc_tool.proofs.SettleLemmas.{settles_on, settles_is, holds_all}
 use Rattle.cc_plan.proofs.AskingLemmas.{only_then, only_more}
