@@ -8,14 +8,25 @@ use Rattle.cc_tool.proofs.SettleLemmas.{settles_so}
 use Rattle.cc_plan.specs.ArchiveTool.{llvm_name, search_question, version_question, plain_name, gcc_name, set_program, variable_tool}
 use Rattle.cc_plan.specs.Choice.{choice_of, cross_prefix}
 use Rattle.cc_plan.specs.Given.{target_of}
-use Rattle.cc_plan.specs.Questions.{IsForAndroid, IsForWasm, ToolAsks, ArchiveToolAsks}
+use Rattle.cc_plan.specs.Questions.{IsForAndroid, IsForWasm, ToolAsks, ArchiveToolAsks, ArchiverAsks, RanlibAsks}
 use Rattle.cc_plan.specs.Refusal.{target_refusal, qnx_arch_refusal, found_refusal, known_refusal, choice_refusal, look_up_refusal, archive_tool_refusal}
 use Rattle.cc_plan.specs.Target.{target_info}
 use Rattle.cc_plan.specs.declared.archive_tool.ArchiveTool.{ArchiveTool}
+use Rattle.cc_plan.specs.declared.archive_tool.ArchiveTool.TheVariants.{Archiver, Ranlib}
 use Rattle.cc_plan.specs.declared.choice.Choice.{Choice}
 use Rattle.cc_plan.specs.declared.error.PlanError.{PlanError}
 use Rattle.cc_plan.specs.declared.error.PlanError.TheVariants.{NoMemory as WantsMemory}
 use Rattle.cc_plan.specs.declared.settings.BuildConfig.{BuildConfig}
+
+-- what finds the archiver is what its plan asks
+pub archiver_asks : (set : BuildConfig) (env : EnvSeen) (look : Look) (q : Question) → ArchiveToolAsks Archiver set env look q → ArchiverAsks set env look q
+unfolding ArchiverAsks
+archiver_asks set env look q h = h
+
+-- the same of the tool that writes the index
+pub ranlib_asks : (set : BuildConfig) (env : EnvSeen) (look : Look) (q : Question) → ArchiveToolAsks Ranlib set env look q → RanlibAsks set env look q
+unfolding RanlibAsks
+ranlib_asks set env look q h = h
 
 module _ (tool : ArchiveTool) (set : BuildConfig) (env : EnvSeen) where
   -- ---- questions

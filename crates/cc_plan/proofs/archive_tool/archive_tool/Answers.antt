@@ -9,11 +9,11 @@ use Rattle.std.proofs.Common.{None}
 use Rattle.cc_plan.proofs.archive_tool.archive_tool.Goals as goal
 
 pub returns-in_ok-choice-in-Some-clause-allowed : goal.returns-in_ok-choice-in-Some-clause-allowed
-returns-in_ok-choice-in-Some-clause-allowed g c = set_allowed c.args.tool c.args.set.now c.args.env.now (grind (arith, common_steps, c.set_program.ensures, c.in-Some.is))
+returns-in_ok-choice-in-Some-clause-allowed g c = set_allowed c.args.tool c.args.set.now c.args.env.now {path = c.in-Some.path.now} (grind (arith, common_steps, c.set_program.ensures, c.in-Some.is))
 
 pub returns-in_err-choice-in-Some-clause-refused : goal.returns-in_err-choice-in-Some-clause-refused
 returns-in_err-choice-in-Some-clause-refused g c =
-    let p = err_from_is_err_and c.from_residual-in_err-choice-in-Some.result c.from_residual-in_err-choice-in-Some.ensures.1 in
+    let p = err_from_is_err_and c.from_residual.result c.from_residual.ensures.1 in
     rw (p.1, p.2) (inl refl)
 
 pub returns-in_err-choice-in-None-clause-refused : goal.returns-in_err-choice-in-None-clause-refused

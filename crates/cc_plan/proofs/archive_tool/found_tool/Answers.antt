@@ -16,7 +16,7 @@ pub returns-in-Some-clause-asks : goal.returns-in-Some-clause-asks
 returns-in-Some-clause-asks g c = only_more c.env_tool.ensures.asks (holds_all (tool_for_archive c.args.tool c.args.inputs.now.set.now c.args.inputs.now.env.now))
 
 pub returns-in-Some-clause-allowed : goal.returns-in-Some-clause-allowed
-returns-in-Some-clause-allowed g c = variable_allowed c.args.tool c.args.inputs.now.set.now c.args.inputs.now.env.now (settles_so c.in_ok-choice.ensures.settles (λ look a. grind (arith, common_steps, a, c.in-Some.is, c.tool_variable-variable.ensures)))
+returns-in-Some-clause-allowed g c = variable_allowed c.args.tool c.args.inputs.now.set.now c.args.inputs.now.env.now {choice = c.in-Some.choice} (settles_so c.in_ok-choice.ensures.settles (λ look a. grind (arith, common_steps, a, c.in-Some.is, c.tool_variable-variable.ensures)))
 
 pub returns-in_err-check_qnx_arch-in-None-clause-asks : goal.returns-in_err-check_qnx_arch-in-None-clause-asks
 returns-in_err-check_qnx_arch-in-None-clause-asks g c = only_more c.env_tool.ensures.asks (holds_all (tool_for_archive c.args.tool c.args.inputs.now.set.now c.args.inputs.now.env.now))

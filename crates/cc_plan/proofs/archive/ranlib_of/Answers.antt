@@ -1,0 +1,16 @@
+use Rattle.cc_plan.proofs.AskingLemmas.{only_more}
+use Rattle.cc_plan.proofs.ArchiveToolLemmas.{ranlib_asks}
+use Rattle.cc_tool.proofs.SettleLemmas.{holds_all}
+use Rattle.cc_plan.proofs.archive.ranlib_of.Goals as goal
+
+pub returns-in_err-choice-clause-asks : goal.returns-in_err-choice-clause-asks
+returns-in_err-choice-clause-asks g c = only_more c.tool_with_flags.ensures.asks (holds_all (ranlib_asks c.args.set.now c.args.env.now))
+
+pub returns-in_err-flags-clause-asks : goal.returns-in_err-flags-clause-asks
+returns-in_err-flags-clause-asks g c = only_more c.tool_with_flags.ensures.asks (holds_all (ranlib_asks c.args.set.now c.args.env.now))
+
+pub returns-in_err-cmd-clause-asks : goal.returns-in_err-cmd-clause-asks
+returns-in_err-cmd-clause-asks g c = only_more c.tool_with_flags.ensures.asks (holds_all (ranlib_asks c.args.set.now c.args.env.now))
+
+pub returns-clause-asks : goal.returns-clause-asks
+returns-clause-asks g c = only_more c.tool_with_flags.ensures.asks (holds_all (ranlib_asks c.args.set.now c.args.env.now))
