@@ -10,9 +10,9 @@ use Rattle.cc_run.specs.declared.planned.Planned.{Planned}
 use Rattle.cc_run.specs.declared.planned.Shows.{Shows}
 use Rattle.cc_build.specs.Course.{Course, OnCourse}
 use Rattle.cc_build.specs.Error.{ErrorSeen}
-use Rattle.cc_build.specs.Refusal.{plan_error, archiver_error, link_error}
+use Rattle.cc_build.specs.Refusal.{plan_error}
 use Rattle.cc_build.specs.Stage.{Stage, calls, tried, asked_then, compile_stages, library_stages, link_stages, asked_stages}
-use Rattle.cc_build.specs.Stage.Stage.{Tries}
+use Rattle.cc_build.specs.Stage.Stage.{Asks, Tries}
 use Rattle.cc_build.specs.Way.{Way, Repeats}
 use Rattle.cc_build.specs.Went.{Terms, Means, terms, Went, Halted, Ends}
 use Rattle.cc_build.specs.declared.task.Task.{Task}
@@ -31,9 +31,12 @@ PhaseEnds task refusal stages result part c = Ends (task_terms task c) (error_in
 abbrev pub CompileEnds : {T : Type 0} → Task → Result T ErrorSeen → Look → List Event → Course → Type 0
 CompileEnds task result look part c = (warns_of_link : Bool) × PhaseEnds task (late_refusal task.set.now task.env.now look) (compile_stages task.set.now task.env.now warns_of_link look) result part c
 
--- the library was written
+-- the library was written; or the run ended before the questions behind it
 abbrev pub LibraryEnds : {T : Type 0} → Task → Result T ErrorSeen → Look → List Event → Course → Type 0
-LibraryEnds task result look part c = (is_plain : Bool) × PhaseEnds task (archiver_refusal task.set.now task.env.now look) (library_stages task.set.now task.env.now is_plain look task.output.now) result part c
+LibraryEnds task (Ok _) look part c =
+    (is_plain : Bool) × ((archiver_refusal task.set.now task.env.now look ≡ None) × Went (task_terms task c) (Asks ∷ library_stages task.set.now task.env.now is_plain look task.output.now) part c.before c.after)
+LibraryEnds task (Err e) look part c =
+    (is_plain : Bool) × Halted (task_terms task c) (error_in task (archiver_refusal task.set.now task.env.now look)) (asked_then (archiver_refusal task.set.now task.env.now look) (library_stages task.set.now task.env.now is_plain look task.output.now ++ Asks ∷ [])) part e c.before c.after
 
 -- the link lines were printed
 abbrev pub LinkEnds : {T : Type 0} → Task → Result T ErrorSeen → Look → List Event → Course → Type 0
@@ -63,7 +66,8 @@ behind (s ∷ ss) = ss
 abbrev pub BehindEnds : {T : Type 0} → Shows → List Stage → Result T ErrorSeen → List Event → Course → Type 0
 BehindEnds shows stages result part c = Ends (terms shows c.total c.patience) None (behind stages) part result c.before c.after
 
--- The old library of this path was removed, and the commands were run, the first of which was tried; or the error has its cause. Which commands they
--- are is given by whether the first was refused.
+-- The old library of this path was removed, and the commands were run, the first of which was tried; or the run ended before the questions behind
+-- them. Which commands they are is given by whether the first was refused.
 abbrev pub WriteEnds : {T : Type 0} → Shows → List ℕ → (Bool → List Planned) → Result T ErrorSeen → List Event → Course → Type 0
-WriteEnds shows path cmds result part c = (is_plain : Bool) × Ends (terms shows c.total c.patience) None (calls (Removes path ∷ []) ++ tried is_plain (cmds is_plain)) part result c.before c.after
+WriteEnds shows path cmds (Ok _) part c = (is_plain : Bool) × Went (terms shows c.total c.patience) (calls (Removes path ∷ []) ++ tried is_plain (cmds is_plain)) part c.before c.after
+WriteEnds shows path cmds (Err e) part c = (is_plain : Bool) × Halted (terms shows c.total c.patience) None ((calls (Removes path ∷ []) ++ tried is_plain (cmds is_plain)) ++ Asks ∷ []) part e c.before c.after

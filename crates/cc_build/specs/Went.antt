@@ -96,10 +96,10 @@ Went t (s ∷ ss) part x z = (front rest : List Event) × (y : Means) × ((part 
 abbrev pub IsOf : ErrorSeen → ErrorSeen → Type 0
 IsOf is e = (e ≡ no_memory) ⊎ (e ≡ is)
 
--- the part refused this stage
+-- The part refused this stage. Questions are refused for want of memory alone.
 abbrev pub Stops : Terms → Stage → List Event → ErrorSeen → Means → Means → Type 0
 Stops t (Calls step) part e x y = (event : Event) × ((part ≡ event ∷ []) × Refuses step event × IsOf (stop_error step event) e × (y ≡ x))
-Stops t Asks part e x y = ⊥
+Stops t Asks part e x y = (e ≡ no_memory) × (list_all is_asked part ≡ true) × (y ≡ x)
 Stops t (Tries refused p) part e x y = (error : RunError) × ((is_refusal error ≡ false) × IsSilentRun t.shows p (Err error) part × IsOf (run_error (p ∷ []) error) e × (y ≡ x))
 Stops t (RunsOne p) part e x y = (error : RunError) × (RanOne t p part (Err error) x y × IsOf (run_error (p ∷ []) error) e)
 Stops t (RunsAll ps) part e x y = (error : RunError) × (RanAll t ps part (Err error) x y × IsOf (run_error ps error) e)
