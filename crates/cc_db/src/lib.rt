@@ -1,8 +1,8 @@
-//! The compilation database: compile commands as a JSON text.
+//! The compilation database: compile commands as a JSON text, written and read.
 //!
-//! Stands on `cc_text` and `cc_host`. Its layout and what an entry has are those of LLVM's page "JSON Compilation
-//! Database Format Specification". Two things are promised: the text that is written is `database` of the commands,
-//! and two lists of commands have two texts.
+//! Stands on `cc_text`, `cc_host` and `serde_json`. Its layout and what an entry has are those of LLVM's page "JSON
+//! Compilation Database Format Specification". Three things are promised: the text that is written is `database` of
+//! the commands, two lists of commands have two texts, and what is read of a text is `read_database` of it.
 #![tactic(auto)]
 
 mod database;

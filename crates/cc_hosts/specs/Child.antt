@@ -27,3 +27,10 @@ IsSilentEnd pipes Missing = Unit {0}
 IsSilentEnd pipes (Failed why) = Unit {0}
 IsSilentEnd pipes (Ended end) = (is_captured pipes.out ≡ false → end.out ≡ []) × (pipes.hear ≡ false → end.err ≡ [])
 IsSilentEnd pipes (Lost end why) = (is_captured pipes.out ≡ false → end.out ≡ []) × (pipes.hear ≡ false → end.err ≡ [])
+
+-- an end that can't be learned has no code
+abbrev pub IsLostEnd : Outcome → Type 0
+IsLostEnd Missing = Unit {0}
+IsLostEnd (Failed why) = Unit {0}
+IsLostEnd (Ended end) = Unit {0}
+IsLostEnd (Lost end why) = end.status ≡ NoCode

@@ -3,7 +3,7 @@ ghost use Rattle.std.specs.Prelude.{◌≡◌, IfOk};
 ghost use Rattle.std.specs.Process.{exit_code};
 ghost use Rattle.cc_host.specs.Event.{is_captured};
 ghost use Rattle.cc_host.specs.declared.event.Pipes.{Pipes};
-ghost use Rattle.cc_hosts.specs.Child.{status_of, kept, IsSilentEnd};
+ghost use Rattle.cc_hosts.specs.Child.{status_of, kept, IsSilentEnd, IsLostEnd};
 
 use crate::command::{child_of, script_of};
 use crate::look_up::{Place, look_up, path_in};
@@ -132,6 +132,17 @@ fn kept_end(alloc: Global, status: Status, written: &Written, pipes: Pipes) -> M
     })
 }
 
+// What is kept of the end of a child that ended with this status.
+fn kept_exit(alloc: Global, status: ExitStatus, written: &Written, pipes: Pipes) -> Mem<Ended>
+    ensures status { IfOk result (λ e. e.status ≡ status_of (exit_code status)) }
+    ensures out { IfOk result
+        (λ e. e.out ≡ kept (is_captured pipes.out) written.now.out.items) }
+    ensures err { IfOk result (λ e. e.err ≡ kept pipes.hear written.now.err.items) }
+{
+    let end = kept_end(alloc, status_of(status), written, pipes)?;
+    Ok(end)
+}
+
 // Reads the outputs of a child to their ends.
 fn read_outputs<P: OpenProcess + Drop>(alloc: Global, child: &mut Child<P>) -> io::Result<Written> {
     let mut out = Vec::new(alloc);
@@ -154,11 +165,12 @@ fn read_outputs<P: OpenProcess + Drop>(alloc: Global, child: &mut Child<P>) -> i
 // Waits for the end of a child that was started. Refused for memory, the child did run, and what it wrote is lost. One whose outputs
 // can't be read is ended.
 fn finish<P: OpenProcess + Drop>(alloc: Global, mut child: Child<P>, pipes: Pipes) -> Mem<Outcome>
-    ensures { IfOk result (IsSilentEnd pipes) }
+    ensures silent { IfOk result (IsSilentEnd pipes) }
+    ensures lost { IfOk result IsLostEnd }
 {
     match read_outputs(alloc, &mut child) {
         Ok(written) => match child.wait() {
-            Ok(status) => Ok(Outcome::Ended(kept_end(alloc, status_of(status), &written, pipes)?)),
+            Ok(status) => Ok(Outcome::Ended(kept_exit(alloc, status, &written, pipes)?)),
             Err(error) => {
                 let end = kept_end(alloc, Status::NoCode, &written, pipes)?;
                 Ok(Outcome::Lost(end, why_of(error.kind())))
@@ -354,7 +366,8 @@ pub fn run<R: Processes + Files + Env + AllocGlobal>(
     cmd: &Command,
     streams: Streams,
 ) -> Mem<Outcome>
-    ensures { IfOk result (IsSilentEnd streams.pipes) }
+    ensures silent { IfOk result (IsSilentEnd streams.pipes) }
+    ensures lost { IfOk result IsLostEnd }
 {
     match begin(rt, cmd, streams)? {
         Begun::Missing => Ok(Outcome::Missing),

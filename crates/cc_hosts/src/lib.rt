@@ -5,6 +5,7 @@
 //! with contracts of their own.
 #![tactic(auto)]
 
+mod asking;
 mod child;
 mod command;
 mod entry;

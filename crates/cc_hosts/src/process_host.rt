@@ -1,18 +1,15 @@
 // A host over the machine.
-ghost use Rattle.std.specs.Prelude.{◌≡◌, ◌≢◌, None, true, IfOk};
-ghost use Rattle.cc_host.specs.declared.question.Ask.TheVariants.{Exists as AsksExists};
-ghost use Rattle.cc_host.specs.Given.{is_answered};
-ghost use Rattle.cc_host.specs.declared.question.Outcome.TheVariants.{Done};
+ghost use Rattle.std.specs.Prelude.{◌≡◌, None, IfOk};
 ghost use Rattle.cc_hosts.specs.HostSeen.{HostSeen, fresh};
 
+use crate::asking::{KEPT, ask, outcome_of};
 use crate::child::{self, Begun, Closed, Ended, Streams};
 use crate::entry::list_vars;
 use crate::reason::why_of;
 use crate::running::{self, Process};
 use cc_host::{
-    ChildLog, Command, Created, Event, Host, HostCall, HostError, LineKind, News, Outcome,
-    OutputKind, Pipes, ProbeFiles, Question, Ran, Removal, Role, Scope, Start, Verdict, Why, World,
-    exists_of, probe_command,
+    ChildLog, Command, Created, Event, Host, HostCall, HostError, LineKind, News, Outcome, Pipes,
+    ProbeFiles, Question, Ran, Removal, Role, Scope, Start, Verdict, Why, World, exists_of,
 };
 use cc_text::{Bytes, Mem, NoMemory, Text, Vars, Words};
 use std::alloc::Global;
@@ -351,49 +348,6 @@ fn remove(files: &impl Files, path: &str) -> Result<Removal, Why> {
             ErrorKind::NotADirectory => Ok(Removal::Absent),
             kind => Err(why_of(kind)),
         },
-    }
-}
-
-const KEPT: Pipes = Pipes {
-    out: OutputKind::Capture,
-    hear: true,
-};
-
-// Runs the command of a question to its end.
-fn ask<R: Processes + Files + Env + AllocGlobal>(
-    alloc: Global,
-    rt: &R,
-    q: &Question,
-    files: &ProbeFiles,
-    streams: Streams,
-) -> Mem<child::Outcome>
-    requires { q.now.ask ≢ AsksExists }
-{
-    let cmd = probe_command(alloc, q, files)?;
-    child::run(rt, &cmd, streams)
-}
-
-// What a question comes to by the end of its command, and a second outcome that equals it; or why it isn't answered.
-fn outcome_of(end: child::Outcome) -> Mem<Result<(Outcome, Outcome), Why>>
-    ensures { IfOk result (λ r. IfOk r (λ p. (p.0 ≡ p.1) × (is_answered p.0 ≡ true))) }
-{
-    match end {
-        child::Outcome::Missing => Ok(Ok((Outcome::Missing, Outcome::Missing))),
-        child::Outcome::Failed(why) | child::Outcome::Lost(_, why) => Ok(Err(why)),
-        child::Outcome::Ended(end) => {
-            let copy = end.try_clone()?;
-            Ok(Ok((done(end), done(copy))))
-        }
-    }
-}
-
-fn done(end: Ended) -> Outcome
-    ensures { result ≡ Done end.status end.out end.err }
-{
-    Outcome::Done {
-        status: end.status,
-        out: end.out,
-        err: end.err,
     }
 }
 

@@ -4,6 +4,7 @@ pub mod EmittedLemmas
 pub mod FamilyLemmas
 pub mod KnownLemmas
 pub mod LevelLemmas
+pub mod LibcxxLemmas
 pub mod OpenLemmas
 pub mod OwnLemmas
 pub mod ProbeLemmas

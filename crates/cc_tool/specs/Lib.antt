@@ -7,6 +7,7 @@ pub mod Files
 pub mod Founded
 pub mod Heard
 pub mod Known
+pub mod Libcxx
 pub mod Own
 pub mod Probing
 pub mod Tempfile

@@ -61,14 +61,18 @@ with_wrapper_word tool word = record tool { wrapper_words = tool.wrapper_words +
 abbrev pub bare_command : ToolSeen → CommandSeen
 bare_command tool = record { program = program_of tool.wrapper tool.path; args = path_words tool.wrapper tool.path; env = []; dir = None }
 
--- the command of a tool
-unfoldable pub tool_command : ToolSeen → CommandSeen
-tool_command tool = record {
+-- the command of a tool, with these words for its args
+abbrev pub command_with : ToolSeen → List (List ℕ) → CommandSeen
+command_with tool args = record {
   program = program_of tool.wrapper tool.path;
-  args = path_words tool.wrapper tool.path ++ (tool.wrapper_words ++ kept_args tool);
+  args = path_words tool.wrapper tool.path ++ (tool.wrapper_words ++ args);
   env = child_of tool.inherited tool.entries;
   dir = None;
 }
+
+-- the command of a tool
+unfoldable pub tool_command : ToolSeen → CommandSeen
+tool_command tool = command_with tool (kept_args tool)
 
 -- the words with a space between two of them
 abbrev pub spaced : List (List ℕ) → List ℕ

@@ -2,17 +2,19 @@
 ghost use Rattle.std.specs.Prelude.{IfOk, IfSome};
 ghost use Rattle.cc_tool.specs.Known.{IsSteady, MayKeep};
 
-use crate::Known;
+use crate::{Emitted, Known};
 use cc_host::{Question, Verdict, World};
 use cc_text::Mem;
 use std::alloc::Global;
 use std::sync::{Arc, Mutex, Wait};
 
-/// The verdicts that are kept of a world, and whether a warning was given. Shared ones are the same, on all threads: what one call
-/// keeps another finds, so that a question is asked once in a program, unless its verdict may change.
+/// The verdicts that are kept of a world, the lines of libraries that were printed once, and whether a warning was given. Shared ones
+/// are the same, on all threads: what one call keeps another finds, so that a question is asked once in a program, unless its verdict
+/// may change.
 #[derive(Drop)]
 pub struct Caches<W: World> {
     known: Arc<Mutex<Known<W>>, Global>,
+    libraries: Arc<Mutex<Emitted>, Global>,
     warned: Arc<Mutex<bool>, Global>,
 }
 
@@ -21,6 +23,7 @@ impl<W: World> Caches<W> {
     pub fn new(alloc: Global) -> Mem<Caches<W>> {
         Ok(Caches {
             known: Arc::new(alloc, Mutex::new(Known::new(alloc)))?,
+            libraries: Arc::new(alloc, Mutex::new(Emitted::new(alloc)))?,
             warned: Arc::new(alloc, Mutex::new(false))?,
         })
     }
@@ -29,6 +32,7 @@ impl<W: World> Caches<W> {
     pub fn share(&self) -> Mem<Caches<W>> {
         Ok(Caches {
             known: Arc::try_clone(&self.known)?,
+            libraries: Arc::try_clone(&self.libraries)?,
             warned: Arc::try_clone(&self.warned)?,
         })
     }
@@ -53,6 +57,14 @@ impl<W: World> Caches<W> {
     {
         let mut known = self.known.lock(rt);
         known.keep_on(q, v)
+    }
+
+    /// Whether this is the first call for the value of a library, over all that share these caches: the text behind
+    /// `cargo:rustc-link-lib=`, which a caller prints where the answer is true, and leaves out where it is false. It waits for the
+    /// lock. Refused for memory, what is kept stays as it was, so that a later call may still be the first.
+    pub fn new_library(&self, rt: &impl Wait, line: &str) -> Mem<bool> {
+        let mut libraries = self.libraries.lock(rt);
+        libraries.push_if_new(line)
     }
 
     /// Whether this is the first call, over all that share these caches. It waits for the lock and takes no memory.

@@ -209,7 +209,7 @@ impl Tool {
 
     // The args that weren't removed.
     #[tactic(auto, unfolding(crate::specs::Tool::kept_args))]
-    fn kept_args(&self) -> Mem<Words>
+    pub(crate) fn kept_args(&self) -> Mem<Words>
         ensures { IfOk result (λ words. words ≡ tools.kept_args self.now) }
     {
         let mut words = Words::new(self.alloc);
@@ -235,17 +235,24 @@ impl Tool {
         }
     }
 
+    // The command, with these words for its args.
+    pub(crate) fn command_with(&self, args: &Words) -> Mem<Command>
+        ensures { IfOk result (λ c. c ≡ tools.command_with self.now args.now) }
+    {
+        let mut cmd = self.program()?;
+        cmd.args(&self.wrapper_words)?;
+        cmd.args(args)?;
+        cmd.envs(&self.inherited.child_vars(self.alloc, &self.entries)?)?;
+        Ok(cmd)
+    }
+
     /// The command: the wrapper and the path, or the path; the words before the args; the args that weren't removed; in
     /// the inherited environment, to which the tool's variables are applied in order. Refused for memory, there is none.
     #[tactic(auto, unfolding(crate::specs::Tool::tool_command))]
     pub fn to_command(&self) -> Mem<Command>
         ensures { IfOk result (λ c. c ≡ tool_command self.now) }
     {
-        let mut cmd = self.program()?;
-        cmd.args(&self.wrapper_words)?;
-        cmd.args(&self.kept_args()?)?;
-        cmd.envs(&self.inherited.child_vars(self.alloc, &self.entries)?)?;
-        Ok(cmd)
+        self.command_with(&self.kept_args()?)
     }
 
     /// The wrapper, the path and the words before the args, with spaces between, as make takes them

@@ -18,6 +18,7 @@ returns-in_err-verdict-clause-asks g c =
     record {
       same_host = refl;
       same_answers = refl;
+      same_dir = refl;
       asks = search (rules, c.ask_flag.ensures.asks);
       own = own_one (λ look q. q ≡ question) c.in_ok-question.question question _ _ c.ask_flag.result c.in_ok-question.ensures.question refl (λ look. refl) c.ask_flag.ensures.own;
       patient = c.ask_flag.ensures.patient;
@@ -29,6 +30,7 @@ returns-clause-asks g c =
     record {
       same_host = refl;
       same_answers = refl;
+      same_dir = refl;
       asks = search (rules, c.ask_flag.ensures.asks);
       own = own_one (λ look q. q ≡ question) c.in_ok-question.question question _ _ c.ask_flag.result c.in_ok-question.ensures.question refl (λ look. refl) c.ask_flag.ensures.own;
       patient = c.ask_flag.ensures.patient;

@@ -13,6 +13,7 @@ pub returns-in_err-verdict-clause-asks : goal.returns-in_err-verdict-clause-asks
 returns-in_err-verdict-clause-asks g c = record {
   same_host = refl;
   same_answers = refl;
+  same_dir = refl;
   asks = search (rules, c.ask.ensures.asks);
   own = own_one (ToolAsks c.args.set.now c.args.env.now) c.in_ok-question.question (starts_question c.args.env.now c.args.program.now) _ _ c.ask.result c.in_ok-question.ensures refl (λ look. asks_start c.args.set.now c.args.env.now c.args.program.now look c.requires) c.ask.ensures.own;
   patient = c.ask.ensures.patient;
@@ -22,6 +23,7 @@ pub returns-clause-asks : goal.returns-clause-asks
 returns-clause-asks g c = record {
   same_host = refl;
   same_answers = refl;
+  same_dir = refl;
   asks = search (rules, c.ask.ensures.asks);
   own = own_one (ToolAsks c.args.set.now c.args.env.now) c.in_ok-question.question (starts_question c.args.env.now c.args.program.now) _ _ c.ask.result c.in_ok-question.ensures refl (λ look. asks_start c.args.set.now c.args.env.now c.args.program.now look c.requires) c.ask.ensures.own;
   patient = c.ask.ensures.patient;

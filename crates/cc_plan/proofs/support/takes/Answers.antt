@@ -29,6 +29,7 @@ returns-in_err-verdict-in-Some-clause-asks g c =
     record {
       same_host = refl;
       same_answers = refl;
+      same_dir = refl;
       asks = search (rules, c.ask_flag.ensures.asks);
       own = own_one (λ look q. q ≡ question) c.in-Some.question question _ _ c.ask_flag.result (chosen (is_asked_of (seen c.args.given.now) c.args.flag.now) question some) refl (λ look. refl) c.ask_flag.ensures.own;
       patient = c.ask_flag.ensures.patient;
@@ -41,6 +42,7 @@ returns-in_ok-verdict-in-Some-clause-asks g c =
     record {
       same_host = refl;
       same_answers = refl;
+      same_dir = refl;
       asks = search (rules, c.ask_flag.ensures.asks);
       own = own_one (λ look q. q ≡ question) c.in-Some.question question _ _ c.ask_flag.result (chosen (is_asked_of (seen c.args.given.now) c.args.flag.now) question some) refl (λ look. refl) c.ask_flag.ensures.own;
       patient = c.ask_flag.ensures.patient;

@@ -1,0 +1,17 @@
+use Rattle.std.proofs.Common.{◌≡◌, refl}
+use Rattle.cc_host.specs.Call.{part}
+use Rattle.cc_tool.specs.Libcxx as libcxx
+use Rattle.cc_tool.specs.Libcxx.{libcxx_question}
+use Rattle.cc_tool.proofs.OwnLemmas.{among_own, own_is}
+use Rattle.cc_tool.proofs.SettleLemmas.{settles_yes}
+use Rattle.cc_tool.proofs.LibcxxLemmas.{asked_plain, own_plain}
+use Rattle.cc_tool.proofs.libcxx.ask_libcxx.Goals as goal
+
+pub returns-clause-settles : goal.returns-clause-settles
+returns-clause-settles g c = settles_yes c.in_ok-verdict.ensures.settles c.in_ok-q.ensures (asked_plain c.args.tool.now) c.is_yes.ensures
+
+pub returns-in_err-verdict-clause-own : goal.returns-in_err-verdict-clause-own
+returns-in_err-verdict-clause-own g c = own_plain c.args.tool.now c.in_ok-q.q _ (part g.H.Host.log c.args.host.now c.ask.new.host) c.ask.result c.in_ok-q.ensures c.ask.ensures.own
+
+pub returns-clause-own : goal.returns-clause-own
+returns-clause-own g c = own_plain c.args.tool.now c.in_ok-q.q _ (part g.H.Host.log c.args.host.now c.ask.new.host) c.ask.result c.in_ok-q.ensures c.ask.ensures.own
