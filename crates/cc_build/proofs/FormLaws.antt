@@ -88,10 +88,10 @@ formed_unless : (b : Bool) (stages : List Stage) → FormFirst stages → FormFi
 formed_unless true stages first = tt
 formed_unless false stages first = first
 
-tried_first : (refused : Bool) (as is : List CommandSeen) (more : List Stage) → FormFirst more → FormFirst (tried refused (planned Archive as ++ planned Index is) ++ more)
+tried_first : (refused : Bool) (archives indexes : List CommandSeen) (more : List Stage) → FormFirst more → FormFirst (tried refused (planned Archive archives ++ planned Index indexes) ++ more)
 tried_first refused [] [] more first = first
-tried_first refused [] (i ∷ is) more first = inl refl
-tried_first refused (a ∷ as) is more first = inl refl
+tried_first refused [] (index ∷ indexes) more first = inl refl
+tried_first refused (archive ∷ archives) indexes more first = inl refl
 
 none_first : (stages : List Stage) → NoArchive stages → FormFirst stages
 none_first [] none = tt

@@ -1,5 +1,5 @@
 -- How a part of a run ends, by what it asked and by the stages that it did.
-use Rattle.std.proofs.Common.{◌≡◌, ◌⊎◌, inl, inr, ℕ, List, [], ◌∷◌, ◌++◌, Bool, true, false, Option, Some, None, Result, Ok, Err, refl, sym, ◌∙◌, ap, subst, append_assoc, append-nil, option_map}
+use Rattle.std.proofs.Common.{◌≡◌, ◌⊎◌, inl, inr, ℕ, List, [], ◌∷◌, ◌++◌, Bool, true, false, Option, Some, None, Result, Ok, Err, map, refl, sym, ◌∙◌, ap, subst, append_assoc, append-nil, option_map}
 use Rattle.std.specs.List.{list_all}
 use Rattle.cc_host.specs.Part.{since}
 use Rattle.cc_host.specs.Part.Step.{Removes}
@@ -80,19 +80,20 @@ library_is task path cmds look is_plain p c = rw (p, c) refl
 no_batches : (paths : List (List ℕ)) → batches_of paths ≡ [] → paths ≡ []
 no_batches paths none = sym (joined paths) ∙ ap (λ b. flat_map (λ x. x) b) none
 
+first_eq : {a b : Planned} {k l : List Planned} → a ∷ k ≡ b ∷ l → a ≡ b
+first_eq h = cc
+
 -- they begin with the same command
 module _ (library : Library) where
   plain_first : (batches : List (List (List ℕ))) (paths : List (List ℕ)) (p : Planned) (ps : List Planned) → (batches ≡ [] → paths ≡ [])
       → planned Archive (archive.archives_by library.archiver.now library.env.now library.path.now false batches) ++ planned Index (archive.indexes_of library.archiver.now library.env.now library.path.now false paths) ≡ p ∷ ps
       → (more : List Planned) × (planned Archive (archive.archives_by library.archiver.now library.env.now library.path.now true batches) ++ planned Index (archive.indexes_of library.archiver.now library.env.now library.path.now true paths) ≡ p ∷ more)
-  plain_first (batch ∷ batches) paths p ps none e = (_, ap (λ q. q ∷ _) (first_of_two e))
-    where
-      first_of_two : {a b : Planned} {as bs : List Planned} → a ∷ as ≡ b ∷ bs → a ≡ b
-      first_of_two h = cc
-  plain_first [] [] p ps none e = (_, ap (λ q. q ∷ _) (first_of_two e))
-    where
-      first_of_two : {a b : Planned} {as bs : List Planned} → a ∷ as ≡ b ∷ bs → a ≡ b
-      first_of_two h = cc
+  plain_first (batch ∷ batches) paths p ps none e =
+      let more = planned Archive (map (archive.archive_of library.archiver.now library.env.now library.path.now true) (batch ∷ batches)) ++ planned Index (archive.indexes_of library.archiver.now library.env.now library.path.now true paths) in
+      (more, ap (λ q. q ∷ more) (first_eq e))
+  plain_first [] [] p ps none e =
+      let more = planned Index (archive.plain_index_of library.archiver.now library.env.now library.path.now ∷ []) in
+      (more, ap (λ q. q ∷ more) (first_eq e))
   plain_first [] (path ∷ paths) p ps none e = absurd (let k : path ∷ paths ≡ [] = none refl in cc)
 
   form_first : (is_plain : Bool) (p : Planned) (ps : List Planned) → commands_for library false ≡ p ∷ ps → (more : List Planned) × (commands_for library is_plain ≡ p ∷ more)

@@ -11,7 +11,7 @@ use Rattle.cc_host.specs.Part.{Step, since, step_of, Refuses, is_probing}
 use Rattle.cc_host.specs.Part.Step.{Runs, Makes, Removes, Prints, Lists}
 use Rattle.cc_host.specs.Question.{Look}
 use Rattle.cc_host.specs.declared.event.Event.{Event}
-use Rattle.cc_host.specs.declared.event.Event.TheVariants.{Abandoned, Fault}
+use Rattle.cc_host.specs.declared.event.Event.TheVariants.{Abandoned, Ran, Missing, Fault}
 use Rattle.cc_host.specs.declared.event.HostCall.{HostCall}
 use Rattle.cc_host.specs.declared.event.HostCall.TheVariants.{Start, Turn as Turning}
 use Rattle.cc_host.specs.declared.event.LineKind.{LineKind}
@@ -507,13 +507,19 @@ did_form t Asks part x y h d = absurd (cc)
 did_form t (RunsOne p) part x y h d = absurd (cc)
 did_form t (RunsAll ps) part x y h d = absurd (cc)
 
+either_form : (a b : List Event) → (list_any is_form a ≡ true) ⊎ (list_any is_form b ≡ true) → list_any is_form (a ++ b) ≡ true
+either_form a b (inl here) = list_any-append is_form a b ∙ ap (λ x. x || list_any is_form b) here
+either_form a b (inr there) = list_any-append is_form a b ∙ or_right (list_any is_form a) (list_any is_form b) there
+
 pub went_form : (t : Terms) (stages : List Stage) (part : List Event) (x y : Means) → list_any tries_form stages ≡ true → Went t stages part x y → list_any is_form part ≡ true
 went_form t [] part x y h w = absurd (cc)
-went_form t (s ∷ ss) part x y h w = ap (list_any is_form) w.3.0 ∙ list_any-append is_form w.0 w.1 ∙ by_stage (either_true (tries_form s) (list_any tries_form ss) h)
+went_form t (s ∷ ss) part x y h w =
+    ap (list_any is_form) w.3.0
+    ∙ either_form w.0 w.1 (by_stage (either_true (tries_form s) (list_any tries_form ss) h) (λ here. did_form t s w.0 x w.2 here w.3.1) (λ there. went_form t ss w.1 w.2 y there w.3.2))
   where
-    by_stage : (tries_form s ≡ true) ⊎ (list_any tries_form ss ≡ true) → (list_any is_form w.0 || list_any is_form w.1) ≡ true
-    by_stage (inl here) = ap (λ b. b || list_any is_form w.1) (did_form t s w.0 x w.2 here w.3.1)
-    by_stage (inr there) = or_right (list_any is_form w.0) (list_any is_form w.1) (went_form t ss w.1 w.2 y there w.3.2)
+    by_stage : (tries_form s ≡ true) ⊎ (list_any tries_form ss ≡ true) → (tries_form s ≡ true → list_any is_form w.0 ≡ true) → (list_any tries_form ss ≡ true → list_any is_form w.1 ≡ true) → (list_any is_form w.0 ≡ true) ⊎ (list_any is_form w.1 ≡ true)
+    by_stage (inl here) f g = inl (f here)
+    by_stage (inr there) f g = inr (g there)
 
 -- What was tried before a stage: the first form of the archive, or else no command of it, and then the stage tries it or has none either.
 abbrev pub IsFormed : List Event → List Event → Type 0

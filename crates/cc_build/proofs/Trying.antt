@@ -1,5 +1,5 @@
 -- What a part says of a command that was tried: it was run in one call of the host.
-use Rattle.std.proofs.Common.{◌≡◌, ◌⊎◌, inl, inr, ℕ, List, [], ◌∷◌, ◌++◌, length, take, Bool, true, false, not, ◌||◌, ◌&&◌, if◌then◌else◌, None, Ok, Err, refl, sym, ◌∙◌, ap, ap₂, append-nil}
+use Rattle.std.proofs.Common.{◌≡◌, ◌⊎◌, inl, inr, ℕ, List, [], ◌∷◌, ◌++◌, length, take, Bool, true, false, not, ◌||◌, ◌&&◌, if◌then◌else◌, None, Ok, Err, refl, sym, ◌∙◌, ap, ap₂, append_assoc, append-nil}
 use Rattle.std.specs.List.{list_all, list_any, flat_map}
 use Rattle.std.proofs.lemmas.Bool.{and_parts, and_from}
 use Rattle.std.proofs.lemmas.Grind.{flat_map-append}
@@ -140,7 +140,7 @@ module _ (shows : Shows) (p : Planned) (part : List Event) where
     tried = ran shows p w.status w.output w.stderr ∷ [];
     rest = prints (take w.count (behind shows false None w.status w.stderr));
     last = Fault call why ∷ [];
-    cut = w.is ∙ ap (λ l. prints (announced shows p.cmd) ++ ran shows p w.status w.output w.stderr ∷ (prints (take w.count (behind shows false None w.status w.stderr)) ++ l)) last;
+    cut = w.is ∙ append_assoc (prints (announced shows p.cmd)) (ran shows p w.status w.output w.stderr ∷ prints (take w.count (behind shows false None w.status w.stderr))) w.rest ∙ ap (λ l. prints (announced shows p.cmd) ++ (ran shows p w.status w.output w.stderr ∷ (prints (take w.count (behind shows false None w.status w.stderr)) ++ l))) last;
     lines_before = all_lines (announced shows p.cmd);
     lines_behind = all_lines (take w.count (behind shows false None w.status w.stderr));
     of_command = (refl, refl);
@@ -153,7 +153,7 @@ module _ (shows : Shows) (p : Planned) (part : List Event) where
     tried = ran shows p w.status w.output w.stderr ∷ [];
     rest = prints (take w.count (behind shows false None w.status w.stderr));
     last = [];
-    cut = w.is ∙ ap (λ l. prints (announced shows p.cmd) ++ ran shows p w.status w.output w.stderr ∷ (prints (take w.count (behind shows false None w.status w.stderr)) ++ l)) last;
+    cut = w.is ∙ append_assoc (prints (announced shows p.cmd)) (ran shows p w.status w.output w.stderr ∷ prints (take w.count (behind shows false None w.status w.stderr))) w.rest ∙ ap (λ l. prints (announced shows p.cmd) ++ (ran shows p w.status w.output w.stderr ∷ (prints (take w.count (behind shows false None w.status w.stderr)) ++ l))) last;
     lines_before = all_lines (announced shows p.cmd);
     lines_behind = all_lines (take w.count (behind shows false None w.status w.stderr));
     of_command = (refl, refl);
@@ -174,7 +174,7 @@ module _ (shows : Shows) (p : Planned) (part : List Event) where
       either_true false = refl
   broken_fault (HostFault call why) r (is, inl alone) = inr (ap (list_any is_fault) alone ∙ ap (λ b. not b || false) (ap is_probing is))
   broken_fault (HostFault call why) r (is, inr (w, last)) =
-      inr (ap (list_any is_fault) w.is
+      inr (ap (list_any is_fault) (w.is ∙ append_assoc (prints (announced shows p.cmd)) (ran shows p w.status w.output w.stderr ∷ prints (take w.count (behind shows false None w.status w.stderr))) w.rest)
       ∙ list_any-append is_fault (prints (announced shows p.cmd)) (ran shows p w.status w.output w.stderr ∷ (prints (take w.count (behind shows false None w.status w.stderr)) ++ w.rest))
       ∙ or_second (list_any is_fault (prints (announced shows p.cmd))) _ (list_any-append is_fault (prints (take w.count (behind shows false None w.status w.stderr))) w.rest
       ∙ or_second (list_any is_fault (prints (take w.count (behind shows false None w.status w.stderr)))) (list_any is_fault w.rest) (ap (list_any is_fault) last ∙ ap (λ b. not b || false) (ap is_probing is))))
