@@ -10,6 +10,7 @@ pub mod Keeping
 pub mod Looks
 pub mod OrderLaws
 pub mod Outcomes
+pub mod PartLaws
 pub mod PhaseLaws
 pub mod PromiseLaws
 pub mod RunLaws
