@@ -52,9 +52,6 @@ module _ (ss : List Coded) (i : ℕ) (s : Coded) (within : i < length ss) (is : 
 
 -- ---- the list that is done
 
-pub seen_both : (a b : List Coded) → stages_seen (a ++ b) ≡ stages_seen a ++ stages_seen b
-seen_both a b = map-append stage_seen a b
-
 pub seen_more : (a : List Coded) (s : Coded) → stages_seen (a ++ s ∷ []) ≡ stages_seen a ++ stage_seen s ∷ []
 seen_more a s = map-append stage_seen a (s ∷ [])
 

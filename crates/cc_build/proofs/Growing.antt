@@ -115,11 +115,7 @@ module _ (steady : Bool) (world : Question → Outcome) (dir : List ℕ) (questi
     pub asking_aside : (old new : X) (known : List Answer) → Aside log patience old new → Asking steady world dir questions log patience old new known known
     asking_aside old new known a = record { patient = a.patient; extends = a.extends; asks = on_none (since (log old) (log new)) known a.asks_none }
 
-    -- a call behind one that asks nothing
-    pub asking_behind : (old mid new : X) (known after : List Answer) → Aside log patience old mid → Asking steady world dir questions log patience mid new known after → Asking steady world dir questions log patience old new known after
-    asking_behind old mid new known after a b = asking_then old mid new known known after (asking_aside old mid known a) b
-
-    -- and before one
+    -- a call before one that asks nothing
     pub asking_before : (old mid new : X) (known after : List Answer) → Asking steady world dir questions log patience old mid known after → Aside log patience mid new → Asking steady world dir questions log patience old new known after
     asking_before old mid new known after a b = asking_then old mid new known after after a (asking_aside mid new after b)
 

@@ -24,13 +24,9 @@ use Rattle.cc_build.specs.Stage.Stage.{Asks}
 use Rattle.cc_build.specs.Way.{Way, Repeats}
 use Rattle.cc_build.specs.Went.{Terms, Means, terms, Went, Halted, Ends}
 use Rattle.cc_build.specs.declared.task.Task.{Task}
+use Rattle.cc_build.proofs.Going.{phase_went}
 use Rattle.cc_build.proofs.PhaseLaws.{way_of, sources_halted, library_halted, links_end}
 use Rattle.cc_build.proofs.Stages.{unchecked, folder_refused, behind_folder, enabled_ends, disabled_halted}
-
--- questions and stages that were done were not refused
-allowed_done : (t : Terms) (f : PlanError → ErrorSeen) (p : Option PlanError) (stages : List Stage) (part : List Event) (x y : Means) → option_map f p ≡ None → Went t (asked_then p stages) part x y → (p ≡ None) × Went t (Asks ∷ stages) part x y
-allowed_done t f None stages part x y none w = (refl, w)
-allowed_done t f (Some error) stages part x y none w = absurd (cc)
 
 module _ (task : Task) (look : Look) where
   abbrev shown : Option ℕ → Option ℕ → Terms
@@ -43,7 +39,7 @@ module _ (task : Task) (look : Look) where
 
   module _ (total patience : Option ℕ) (old mid : List Event) (x y : Means) (v : Unit {0}) (first : mid ≡ old ++ since old mid) (sources : CompileEnds task (Ok v) look (since old mid) (course total patience x y)) where
     done : (late_refusal task.set.now task.env.now look ≡ None) × Went (shown total patience) (Asks ∷ compile_stages task.set.now task.env.now sources.0 look) (since old mid) x y
-    done = allowed_done (shown total patience) (plan_error task.set.now task.env.now task.output.now) (late_refusal task.set.now task.env.now look) (compile_stages task.set.now task.env.now sources.0 look) (since old mid) x y sources.1.0 sources.1.1
+    done = phase_went (shown total patience) (plan_error task.set.now task.env.now task.output.now) (late_refusal task.set.now task.env.now look) (compile_stages task.set.now task.env.now sources.0 look) (since old mid) v x y sources.1
 
     -- the run ended at the library
     pub library_stopped : (total' patience' : Option ℕ) (new : List Event) (e : ErrorSeen) (z : Means) → total' ≡ total → patience' ≡ patience → new ≡ mid ++ since mid new → LibraryEnds {T = Unit {0}} task (Err e) look (since mid new) (course total' patience' y z) → AskedEnds {T = Unit {0}} task (Err e) look (since old new) (course total patience x z)
