@@ -31,7 +31,7 @@ returns-in-Err-archive_objects-clause-outcome g c =
     record {
       under = λ look agree.
           library_stopped c.args.task.now look (g.J.Jobs.total c.args.seat.now) (g.H.Host.patience c.args.host.now) old mid x y _ c.compile_sources.ensures.asks.extends
-          (c.in-Ok.ensures.outcome.under look (agrees_earlier look c.compile_sources.new.answers.now c.archive_objects.new.answers.now (answers (since mid new)) c.archive_objects.ensures.asks.asks.answered agree))
+          (c.in-Ok.ensures.outcome.under look (agrees_earlier look c.compile_sources.new.answers c.archive_objects.new.answers (answers (since mid new)) c.archive_objects.ensures.asks.asks.answered agree))
           (g.J.Jobs.total c.compile_sources.new.seat) (g.H.Host.patience c.compile_sources.new.host) new c.in-Err-archive_objects.error z c.compile_sources.ensures.total c.compile_sources.ensures.asks.patient c.archive_objects.ensures.asks.extends
           (c.in-Err-archive_objects.ensures.outcome.under look agree);
     }
@@ -56,8 +56,8 @@ returns-clause-outcome g c =
     let end = left_at g.J.Jobs.faults g.J.Jobs.taken g.J.Jobs.load c.print_links.new.turns c.print_links.new.seat in
     record {
       under = λ look agree.
-          let among = agrees_earlier look c.archive_objects.new.answers.now c.print_links.new.answers.now (answers (since made new)) c.print_links.ensures.asks.asks.answered agree in
-          let before = agrees_earlier look c.compile_sources.new.answers.now c.archive_objects.new.answers.now (answers (since mid made)) c.archive_objects.ensures.asks.asks.answered among in
+          let among = agrees_earlier look c.archive_objects.new.answers c.print_links.new.answers (answers (since made new)) c.print_links.ensures.asks.asks.answered agree in
+          let before = agrees_earlier look c.compile_sources.new.answers c.archive_objects.new.answers (answers (since mid made)) c.archive_objects.ensures.asks.asks.answered among in
           links_ended c.args.task.now look (g.J.Jobs.total c.args.seat.now) (g.H.Host.patience c.args.host.now) old mid x y _ c.compile_sources.ensures.asks.extends
           (c.in-Ok.ensures.outcome.under look before)
           (g.J.Jobs.total c.compile_sources.new.seat) (g.H.Host.patience c.compile_sources.new.host) (g.J.Jobs.total c.archive_objects.new.seat) (g.H.Host.patience c.archive_objects.new.host) made new _ c.print_links.result z end
