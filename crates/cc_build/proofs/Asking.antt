@@ -5,7 +5,7 @@ use Rattle.cc_env.specs.Env.{EnvSeen}
 use Rattle.cc_host.specs.declared.event.Event.{Event}
 use Rattle.cc_host.specs.declared.question.Outcome.{Outcome}
 use Rattle.cc_host.specs.declared.question.Question.{Question}
-use Rattle.cc_host.specs.Question.{Look, Answer, answers, Agrees, Settles, Holds}
+use Rattle.cc_host.specs.Question.{Look, Answer, Agrees, Settles, Holds}
 use Rattle.cc_tool.specs.Asked.{Asked}
 use Rattle.cc_plan.specs.declared.error.PlanError.{PlanError}
 use Rattle.cc_plan.specs.declared.error.PlanError.TheVariants.{NoMemory as WantsMemory}

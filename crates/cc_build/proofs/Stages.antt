@@ -1,24 +1,22 @@
 -- How the checks of settings and the parts of a run make up a compile run.
-use Rattle.std.proofs.Common.{◌≡◌, ◌⊎◌, inl, inr, ℕ, List, [], ◌∷◌, ◌++◌, Option, Some, None, Bool, true, false, if◌then◌else◌, is_some, Result, Ok, Err, refl, sym, ◌∙◌, ap, subst, append_assoc, option_map}
-use Rattle.std.specs.List.{list_all}
+use Rattle.std.proofs.Common.{◌≡◌, ◌⊎◌, inl, inr, ℕ, List, [], ◌∷◌, ◌++◌, Option, Some, None, Bool, true, false, if◌then◌else◌, is_some, Result, refl, sym, ◌∙◌, ap, subst, option_map}
 use Rattle.cc_env.specs.Env.{EnvSeen}
-use Rattle.cc_host.specs.Part.{Step, since}
-use Rattle.cc_host.proofs.Parts.{since_since, since_extends}
+use Rattle.cc_host.specs.Part.{since}
 use Rattle.cc_host.specs.Question.{Look}
 use Rattle.cc_host.specs.declared.event.Event.{Event}
 use Rattle.cc_plan.specs.Given.{is_disabled}
 use Rattle.cc_plan.specs.Plan.{folder_steps}
-use Rattle.cc_plan.specs.Refusal.{first_of, early_refusal, late_refusal, archiver_refusal, link_refusal}
+use Rattle.cc_plan.specs.Refusal.{first_of, early_refusal, late_refusal}
 use Rattle.cc_plan.specs.declared.error.PlanError.{PlanError}
 use Rattle.cc_plan.specs.declared.error.PlanError.TheVariants.{NoMemory as WantsMemory}
 use Rattle.cc_plan.specs.declared.settings.BuildConfig.{BuildConfig}
 use Rattle.cc_build.specs.Error.{ErrorSeen, no_memory}
 use Rattle.cc_build.specs.Refusal.{plan_error, disabled_error, refusal_error, early_error, late_error, archiver_error, link_error}
 use Rattle.cc_build.specs.Stage.{Stage, calls, folder_stages, asked_stages, late_stages, planned_stages}
-use Rattle.cc_build.specs.Stage.Stage.{Asks, Calls}
+use Rattle.cc_build.specs.Stage.Stage.{Asks}
 use Rattle.cc_build.specs.Way.{Way}
 use Rattle.cc_build.specs.Went.{Terms, Means, Went, Halted, Ends}
-use Rattle.cc_build.proofs.Going.{IsOpen, went_none, halted_none, halted_more, halted_end, halted_from, ends_from}
+use Rattle.cc_build.proofs.Going.{IsOpen, went_none, halted_none, halted_more, halted_end, ends_from}
 
 -- the error of a refused plan, by its cause
 pub plan_cause : (set : BuildConfig) (env : EnvSeen) (output : List ℕ) (error : PlanError) (e : ErrorSeen) (r : Option PlanError) → (e ≡ no_memory) ⊎ (e ≡ plan_error set env output error) → (error ≡ WantsMemory) ⊎ (r ≡ Some error) → (e ≡ no_memory) ⊎ (option_map (plan_error set env output) r ≡ Some e)

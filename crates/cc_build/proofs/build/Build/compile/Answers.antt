@@ -9,7 +9,7 @@ use Rattle.cc_tool.specs.Asked.{Asked, question_events}
 use Rattle.cc_tool.proofs.Asides.{asked_none, asked_behind}
 use Rattle.cc_build.specs.Build.{BuildSeen, AsksByRun}
 use Rattle.cc_build.specs.Course.{course}
-use Rattle.cc_build.specs.Kept.{left_at, AsksOn}
+use Rattle.cc_build.specs.Kept.{AsksOn}
 use Rattle.cc_build.specs.Promises.{RunEnds}
 use Rattle.cc_build.specs.Shows.{shows_of}
 use Rattle.cc_build.specs.Went.{terms, means}
