@@ -1,6 +1,7 @@
 use Rattle.std.proofs.Common.{◌≡◌, ◌∙◌, ◌∷◌, ◌++◌, [], List, None, Ok, Err, true, false, refl, sym, ap, subst}
 use Rattle.std.proofs.lemmas.Result.{err_from_is_err_and}
 use Rattle.cc_host.specs.Part.{since}
+use Rattle.cc_plan.specs.Archive.{paths_of}
 use Rattle.cc_plan.specs.Refusal.{archiver_refusal}
 use Rattle.cc_build.specs.Error.{no_memory}
 use Rattle.cc_build.specs.Kept.{left_at}
@@ -56,5 +57,5 @@ returns-clause-outcome g c =
     record {
       under = λ look agree.
           library_ends c.args.task.now c.library look total patience (g.H.Host.patience c.plan_archiver.new.host) old mid new x z c.plan_archiver.ensures.asks.patient c.plan_archiver.ensures.asks.extends c.write_library.ensures.aside.extends c.plan_archiver.ensures.quiet
-          (c.in-Ok.ensures.planned.under look agree) refl (c.as_str.ensures ∙ c.requires.library) (c.in_ok-paths.ensures ∙ ?) c.write_library.result c.write_library.ensures.outcome;
+          (c.in-Ok.ensures.planned.under look agree) refl (c.as_str.ensures ∙ c.requires.library) (c.in_ok-paths.ensures ∙ ap (λ o. paths_of o ++ c.args.task.now.set.now.objects) (c.deref.ensures.value ∙ c.requires.objects)) c.write_library.result c.write_library.ensures.outcome;
     }

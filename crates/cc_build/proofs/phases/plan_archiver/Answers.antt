@@ -16,3 +16,10 @@ returns-in-Err-clause-asks g c =
 pub returns-in-Err-clause-refused : goal.returns-in-Err-clause-refused
 returns-in-Err-clause-refused g c =
     holds_at _ _ _ (grind arith) (λ look agree. plan_cause_under c.args.task.now.set.now c.args.task.now.env.now c.args.task.now.output.now c.in-Err.error c.refused.result _ (archiver_refusal c.args.task.now.set.now c.args.task.now.env.now) look agree c.refused.ensures c.in-Err.ensures.refused)
+
+pub returns-in-Ok-clause-planned : goal.returns-in-Ok-clause-planned
+returns-in-Ok-clause-planned g c =
+    holds_at _ _ _ (grind arith) (λ look agree. record {
+      allowed = c.in-Ok.ensures.allowed.is look agree;
+      is = sym (c.in-Ok.ensures.settles.is look agree);
+    })

@@ -1,8 +1,10 @@
-use Rattle.std.proofs.Common.{sym, arith}
+use Rattle.std.proofs.Common.{◌∙◌, [], unwrap_or, sym, ap, arith}
+use Rattle.std.specs.Path.{path_parent}
 use Rattle.cc_plan.specs.Questions.{RunAsks}
 use Rattle.cc_plan.specs.Refusal.{link_refusal}
 use Rattle.cc_build.proofs.Asking.{plan_cause_under}
 use Rattle.cc_build.proofs.Growing.{asked_for, holds_at, of_links}
+use Rattle.cc_build.proofs.PhaseLaws.{links_planned}
 use Rattle.cc_build.proofs.phases.plan_links.Goals as goal
 
 pub returns-in-Ok-clause-asks : goal.returns-in-Ok-clause-asks
@@ -17,7 +19,7 @@ pub returns-in-Ok-clause-planned : goal.returns-in-Ok-clause-planned
 returns-in-Ok-clause-planned g c =
     holds_at _ _ _ (grind arith) (λ look agree. record {
       allowed = c.in-Ok.ensures.allowed.is look agree;
-      are = sym (links_planned c.args.task.now.set.now c.args.task.now.env.now look c.args.task.now.output.now _ _ _ (c.as_str.ensures ∙ c.requires.name) (c.folder_of.ensures ∙ ap (λ p. unwrap_or (path_parent p) []) (c.as_str-folder_of.ensures ∙ c.requires.library)) (c.in-Ok.ensures.lines.is look agree));
+      are = sym (links_planned c.args.task.now.set.now c.args.task.now.env.now look c.args.task.now.output.now _ _ _ (c.as_str.ensures ∙ c.requires.name) (c.folder_of.ensures ∙ ap (λ p. unwrap_or (path_parent p) []) (c.as_str-2.ensures ∙ c.requires.library)) (c.in-Ok.ensures.lines.is look agree));
     })
 
 pub returns-in-Err-clause-refused : goal.returns-in-Err-clause-refused
