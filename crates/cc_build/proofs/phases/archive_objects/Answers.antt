@@ -56,6 +56,6 @@ returns-clause-outcome g c =
     let z = left_at g.J.Jobs.faults g.J.Jobs.taken g.J.Jobs.load c.write_library.new.turns c.write_library.new.seat in
     record {
       under = λ look agree.
-          library_ends c.args.task.now c.library look total patience (g.H.Host.patience c.plan_archiver.new.host) old mid new x z c.plan_archiver.ensures.asks.patient c.plan_archiver.ensures.asks.extends c.write_library.ensures.aside.extends c.plan_archiver.ensures.quiet
+          library_ends c.args.task.now (record { archiver = record { ref_ptr = c.args.task.ref_ptr; now = c.in-Ok.archiver }; env = c.args.task.now.env; path = c.as_str.result; paths = record { ref_ptr = c.args.task.ref_ptr; now = c.in_ok-paths.paths } }) look total patience (g.H.Host.patience c.plan_archiver.new.host) old mid new x z c.plan_archiver.ensures.asks.patient c.plan_archiver.ensures.asks.extends c.write_library.ensures.aside.extends c.plan_archiver.ensures.quiet
           (c.in-Ok.ensures.planned.under look agree) refl (c.as_str.ensures ∙ c.requires.library) (c.in_ok-paths.ensures ∙ ap (λ o. paths_of o ++ c.args.task.now.set.now.objects) (c.deref.ensures.value ∙ c.requires.objects)) c.write_library.result c.write_library.ensures.outcome;
     }
