@@ -32,7 +32,7 @@ use cc_plan::{
     link_lines, plan_commands, probe_folder,
 };
 use cc_run::Turns;
-use cc_text::{Mem, Text, Words, after_prefix, parent};
+use cc_text::{Mem, Words, after_prefix, parent};
 use cc_tool::{Answers, Caches};
 use std::alloc::Global;
 use std::sync::Wait;
@@ -104,10 +104,10 @@ fn plan_archiver<W: World, H: Host<W>>(
 }
 
 // The folder that has the library.
-fn folder_of(library: &Text) -> &str
+fn folder_of(library: &str) -> &str
     ensures { result.now ≡ unwrap_or (path_parent library.now) [] }
 {
-    match parent(library.as_str()) {
+    match parent(library) {
         Some(folder) => folder,
         None => "",
     }
@@ -139,7 +139,7 @@ fn plan_links<W: World, H: Host<W>>(
         answers,
         dir: probe_folder(task.set, task.env),
     };
-    let (name, dir) = (sources.name.as_str(), folder_of(&sources.library));
+    let (name, dir) = (sources.name.as_str(), folder_of(sources.library.as_str()));
     match link_lines(rt, task.reporting.alloc, task.set, task.env, name, dir, &mut sight) {
         Ok(lines) => Ok(lines),
         Err(error) => Err(refused(task, error)),

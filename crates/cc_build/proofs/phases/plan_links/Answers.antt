@@ -20,7 +20,7 @@ pub returns-in-Ok-clause-planned : goal.returns-in-Ok-clause-planned
 returns-in-Ok-clause-planned g c =
     holds_at _ _ _ (grind arith) (λ look agree. record {
       allowed = c.in-Ok.ensures.allowed.is look agree;
-      are = sym (links_planned c.args.task.now.set.now c.args.task.now.env.now look c.args.task.now.output.now _ _ _ (c.as_str.ensures ∙ c.requires.name) (c.folder_of.ensures ∙ ap (λ p. unwrap_or (path_parent p) []) c.requires.library) (c.in-Ok.ensures.lines.is look agree));
+      are = sym (links_planned c.args.task.now.set.now c.args.task.now.env.now look c.args.task.now.output.now _ _ _ (c.as_str-name.ensures ∙ c.requires.name) (c.folder_of-dir.ensures ∙ ap (λ p. unwrap_or (path_parent p) []) (c.as_str.ensures ∙ c.requires.library)) (c.in-Ok.ensures.lines.is look agree));
     })
 
 pub returns-in-Err-clause-refused : goal.returns-in-Err-clause-refused
