@@ -140,7 +140,15 @@ fn plan_links<W: World, H: Host<W>>(
         dir: probe_folder(task.set, task.env),
     };
     let (name, dir) = (sources.name.as_str(), folder_of(sources.library.as_str()));
-    match link_lines(rt, task.reporting.alloc, task.set, task.env, name, dir, &mut sight) {
+    match link_lines(
+        rt,
+        task.reporting.alloc,
+        task.set,
+        task.env,
+        name,
+        dir,
+        &mut sight,
+    ) {
         Ok(lines) => Ok(lines),
         Err(error) => Err(refused(task, error)),
     }

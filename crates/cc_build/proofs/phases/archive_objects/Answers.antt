@@ -1,4 +1,4 @@
-use Rattle.std.proofs.Common.{◌≡◌, ◌∙◌, ◌∷◌, ◌++◌, [], List, None, Ok, Err, true, false, refl, sym, ap, subst}
+use Rattle.std.proofs.Common.{◌∙◌, ◌∷◌, ◌++◌, [], false, refl, ap}
 use Rattle.std.proofs.lemmas.Result.{err_from_is_err_and}
 use Rattle.cc_host.specs.Part.{since}
 use Rattle.cc_plan.specs.Archive.{paths_of}
@@ -6,10 +6,9 @@ use Rattle.cc_plan.specs.Refusal.{archiver_refusal}
 use Rattle.cc_build.specs.Error.{no_memory}
 use Rattle.cc_build.specs.Kept.{left_at}
 use Rattle.cc_build.specs.Refusal.{plan_error}
-use Rattle.cc_build.specs.Seen.{stages_seen}
 use Rattle.cc_build.specs.Stage.Stage.{Asks}
 use Rattle.cc_build.specs.Went.{terms}
-use Rattle.cc_build.proofs.Going.{same_patience, asked_halted, phase_wanting}
+use Rattle.cc_build.proofs.Going.{asked_halted, phase_wanting}
 use Rattle.cc_build.proofs.Growing.{asking_before}
 use Rattle.cc_build.specs.Stage.{library_stages}
 use Rattle.cc_build.proofs.PhaseLaws.{library_ends}
