@@ -130,8 +130,11 @@ module _ (set : BuildConfig) (env : EnvSeen) (way : Way) (look : Look) (output :
   unfolding late_stages
   late_first =
       formed_unless (is_disabled env) (asked_stages set env way look output)
-      (inr (refl, formed_unless (is_some (late_refusal set env look)) (compile_stages set env way.warns_of_link look ++ later_stages set env way look output)
-      (formed_then (compile_stages set env way.warns_of_link look) (later_stages set env way look output) (no_compile_archives set env way.warns_of_link look) later_first)))
+      (inr (
+        refl,
+        formed_unless (is_some (late_refusal set env look)) (compile_stages set env way.warns_of_link look ++ later_stages set env way look output)
+            (formed_then (compile_stages set env way.warns_of_link look) (later_stages set env way look output) (no_compile_archives set env way.warns_of_link look) later_first),
+      ))
 
   -- the first command of the archive is tried
   pub planned_first : FormFirst (planned_stages set env way look output)

@@ -1,5 +1,5 @@
 -- How a part of a run ends, by what it asked and by the stages that it did.
-use Rattle.std.proofs.Common.{◌≡◌, ◌⊎◌, inl, inr, ℕ, List, [], ◌∷◌, ◌++◌, Bool, true, false, Option, Some, None, Result, Ok, Err, map, refl, sym, ◌∙◌, ap, subst, append_assoc, append-nil, option_map}
+use Rattle.std.proofs.Common.{◌≡◌, ◌⊎◌, inl, inr, ℕ, List, [], ◌∷◌, ◌++◌, Bool, true, false, Option, Some, None, Result, Ok, Err, map, slice_get, refl, sym, ◌∙◌, ap, subst, append_assoc, append-nil, option_map}
 use Rattle.std.specs.List.{list_all}
 use Rattle.cc_host.specs.Part.{since}
 use Rattle.cc_host.specs.Part.Step.{Removes}
@@ -26,6 +26,7 @@ use Rattle.cc_plan.specs.declared.link.LinkLine.{LinkLine}
 use Rattle.cc_plan.specs.declared.plan.Plan.{Plan}
 use Rattle.cc_plan.proofs.BatchLaws.{joined}
 use Rattle.cc_run.specs.declared.planned.Planned.{Planned}
+use Rattle.cc_run.specs.declared.planned.Shows.{Shows}
 use Rattle.cc_tool.specs.Probing.{is_asked}
 use Rattle.cc_build.specs.Error.{ErrorSeen, no_memory}
 use Rattle.cc_build.specs.Course.{course}
@@ -175,6 +176,26 @@ module _ (t : Terms) (path : List ℕ) (library : Library) where
             halted_more t None (removal ++ tried is_plain (commands_for library is_plain)) (Asks ∷ []) (since old end) e x z
             (subst (λ (l : List Planned). Halted t None (removal ++ tried is_plain l) (since old end) e x z) (sym are)
             (halted_from t None old new end (removal ++ Tries is_plain p ∷ []) (in_turn more) e x x z (since_extends old made new first last) grew both (subst (λ (l : List Stage). Halted t None l (since new end) e x z) left h)))
+
+-- the library is written, by the commands that were left
+module _ (shows : Shows) (total patience before : Option ℕ) (library : Library) (old made new end : List Event) (x z : Means) (first : made ≡ old ++ since old made) (removed : Went (terms shows total patience) (calls (Removes library.path.now ∷ [])) (since old made) x x) (p : Planned) (rest : List Planned) (is : commands_for library false ≡ p ∷ rest) (is_plain : Bool) (tried_it : Went (terms shows total patience) (Tries is_plain p ∷ []) (since made new) x x) (last : new ≡ made ++ since made new) (these : List Stage) (of : these ≡ in_turn (commands_for library is_plain)) (grew : end ≡ new ++ since new end) (patient : before ≡ patience) where
+  pub write_ends : {T : Type 0} (r : Result T ErrorSeen) → Ends (terms shows total before) None (behind these) (since new end) r x z → WriteEnds shows library.path.now (commands_for library) r (since old end) (course total patience x z)
+  write_ends (Ok v) o = (
+    is_plain,
+    write_done (terms shows total patience) library.path.now library old made new x first removed p rest is is_plain tried_it last end z these of grew (subst (λ (m : Option ℕ). Went (terms shows total m) (behind these) (since new end) x z) patient o.1),
+  )
+  write_ends (Err e) h = (
+    is_plain,
+    write_halted (terms shows total patience) library.path.now library old made new x first removed p rest is is_plain tried_it last end z these of grew e (subst (λ (m : Option ℕ). Halted (terms shows total m) None (behind these) (since new end) e x z) patient h),
+  )
+
+some_eq : {a b : Planned} → Some a ≡ Some b → a ≡ b
+some_eq h = cc
+
+-- the first of these commands
+pub first_command : (l k : List Planned) (p : Planned) → Some p ≡ slice_get l 0 → l ≡ k → (rest : List Planned) × (k ≡ p ∷ rest)
+first_command [] k p at is = absurd (let none : Some p ≡ None = at in cc)
+first_command (q ∷ l) k p at is = (l, sym is ∙ ap (λ o. o ∷ l) (some_eq (sym at)))
 
 -- ---- one part after another
 

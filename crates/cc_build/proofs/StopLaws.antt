@@ -443,9 +443,11 @@ module _ (set : BuildConfig) (env : EnvSeen) where
   plain_later way look output = (tt, plain_unless (is_some (archiver_refusal set env look)) (library_stages set env way.is_plain look output ++ ending_stages set env way look output) (plain_library way look output))
 
   plain_asked : (way : Way) (look : Look) (output : List ℕ) → ArePlain (asked_stages set env way look output)
-  plain_asked way look output =
-      (tt, plain_unless (is_some (late_refusal set env look)) (compile_stages set env way.warns_of_link look ++ later_stages set env way look output)
-      (plain_then (compile_stages set env way.warns_of_link look) (later_stages set env way look output) (plain_compile way.warns_of_link look) (plain_later way look output)))
+  plain_asked way look output = (
+    tt,
+    plain_unless (is_some (late_refusal set env look)) (compile_stages set env way.warns_of_link look ++ later_stages set env way look output)
+        (plain_then (compile_stages set env way.warns_of_link look) (later_stages set env way look output) (plain_compile way.warns_of_link look) (plain_later way look output)),
+  )
 
   plain_late : (way : Way) (look : Look) (output : List ℕ) → ArePlain (late_stages set env way look output)
   unfolding late_stages
@@ -562,4 +564,3 @@ module _ (t : Terms) (refusal : Option ErrorSeen) (before : List Stage) (front r
   halts_cause [] plain h = unbegun_cause h.0
   halts_cause (s ∷ ss) plain (inl h) = inl h.0
   halts_cause (s ∷ ss) plain (inr stop) = behind_cause (stop_cause t s rest e y z (length (children_in before)) plain.0 stop)
-

@@ -32,7 +32,7 @@ use cc_plan::{
     link_lines, plan_commands, probe_folder,
 };
 use cc_run::Turns;
-use cc_text::{Mem, Words, parent};
+use cc_text::{Mem, Words, after_prefix, parent};
 use cc_tool::{Answers, Caches};
 use std::alloc::Global;
 use std::sync::Wait;
@@ -140,7 +140,15 @@ fn plan_links<W: World, H: Host<W>>(
         dir: probe_folder(task.set, task.env),
     };
     let (name, dir) = (sources.name.as_str(), folder_of(sources.library.as_str()));
-    match link_lines(rt, task.reporting.alloc, task.set, task.env, name, dir, &mut sight) {
+    match link_lines(
+        rt,
+        task.reporting.alloc,
+        task.set,
+        task.env,
+        name,
+        dir,
+        &mut sight,
+    ) {
         Ok(lines) => Ok(lines),
         Err(error) => Err(refused(task, error)),
     }
@@ -220,6 +228,24 @@ pub(crate) fn archive_objects<W: World, H: Host<W>, J: Jobs>(
     write_library(task.reporting, host, jobs, seat, turns, &library)
 }
 
+// The value of a library, behind the key of its line.
+fn value_of(line: &str) -> &str {
+    match after_prefix(line, "cargo:rustc-link-lib=") {
+        Some(value) => value,
+        None => line,
+    }
+}
+
+// Whether the line that is printed once, if there is one, is new to the caches.
+fn is_new<W: World>(rt: &impl Wait, caches: &Caches<W>, lines: &[LinkLine]) -> Mem<bool> {
+    for line in lines {
+        if line.once {
+            return caches.new_library(rt, value_of(line.text.as_str()));
+        }
+    }
+    Ok(true)
+}
+
 // Whether this run, of those that share its caches, is the one that prints the line that is printed once. No clause says which run it is, since
 // the mark stands behind a lock.
 fn is_first_link<W: World>(
@@ -230,8 +256,7 @@ fn is_first_link<W: World>(
 ) -> Mem<bool>
     ensures { IfOk result (λ is_first. Repeats set.now is_first) }
 {
-    let _ = (rt, caches, set, lines);
-    Ok(true)
+    Ok(set.repeat_lines || is_new(rt, caches, lines)?)
 }
 
 // The texts of the lines that are printed.

@@ -1,14 +1,14 @@
-use Rattle.std.proofs.Common.{◌≡◌, ◌∙◌, ◌∷◌, ◌++◌, [], List, None, Ok, Err, true, false, refl, sym, ap, subst}
+use Rattle.std.proofs.Common.{◌∙◌, ◌∷◌, ◌++◌, [], false, refl, ap}
 use Rattle.std.proofs.lemmas.Result.{err_from_is_err_and}
 use Rattle.cc_host.specs.Part.{since}
+use Rattle.cc_plan.specs.Archive.{paths_of}
 use Rattle.cc_plan.specs.Refusal.{archiver_refusal}
 use Rattle.cc_build.specs.Error.{no_memory}
 use Rattle.cc_build.specs.Kept.{left_at}
 use Rattle.cc_build.specs.Refusal.{plan_error}
-use Rattle.cc_build.specs.Seen.{stages_seen}
 use Rattle.cc_build.specs.Stage.Stage.{Asks}
 use Rattle.cc_build.specs.Went.{terms}
-use Rattle.cc_build.proofs.Going.{same_patience, asked_halted, phase_wanting}
+use Rattle.cc_build.proofs.Going.{asked_halted, phase_wanting}
 use Rattle.cc_build.proofs.Growing.{asking_before}
 use Rattle.cc_build.specs.Stage.{library_stages}
 use Rattle.cc_build.proofs.PhaseLaws.{library_ends}
@@ -55,6 +55,6 @@ returns-clause-outcome g c =
     let z = left_at g.J.Jobs.faults g.J.Jobs.taken g.J.Jobs.load c.write_library.new.turns c.write_library.new.seat in
     record {
       under = λ look agree.
-          library_ends c.args.task.now c.library look total patience (g.H.Host.patience c.plan_archiver.new.host) old mid new x z c.plan_archiver.ensures.asks.patient c.plan_archiver.ensures.asks.extends c.write_library.ensures.aside.extends c.plan_archiver.ensures.quiet
-          (c.in-Ok.ensures.planned.under look agree) refl (c.as_str.ensures ∙ c.requires.library) (c.in_ok-paths.ensures ∙ ?) c.write_library.result c.write_library.ensures.outcome;
+          library_ends c.args.task.now (record { archiver = record { ref_ptr = c.args.task.ref_ptr; now = c.in-Ok.archiver }; env = c.args.task.now.env; path = c.as_str.result; paths = record { ref_ptr = c.args.task.ref_ptr; now = c.in_ok-paths.paths } }) look total patience (g.H.Host.patience c.plan_archiver.new.host) old mid new x z c.plan_archiver.ensures.asks.patient c.plan_archiver.ensures.asks.extends c.write_library.ensures.aside.extends c.plan_archiver.ensures.quiet
+          (c.in-Ok.ensures.planned.under look agree) refl (c.as_str.ensures ∙ c.requires.library) (c.in_ok-paths.ensures ∙ ap (λ o. paths_of o ++ c.args.task.now.set.now.objects) (c.deref.ensures.value ∙ c.requires.objects)) c.write_library.result c.write_library.ensures.outcome;
     }

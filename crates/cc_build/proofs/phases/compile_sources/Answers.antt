@@ -1,14 +1,11 @@
-use Rattle.std.proofs.Common.{◌≡◌, ◌∙◌, ◌∷◌, ◌++◌, [], List, None, Ok, Err, true, false, refl, sym, ap, subst}
-use Rattle.std.proofs.lemmas.Result.{err_from_is_err_and}
+use Rattle.std.proofs.Common.{◌∙◌, None, false, ap}
 use Rattle.cc_host.specs.Part.{since}
 use Rattle.cc_plan.specs.Refusal.{late_refusal}
-use Rattle.cc_build.specs.Error.{no_memory}
 use Rattle.cc_build.specs.Kept.{left_at}
 use Rattle.cc_build.specs.Refusal.{plan_error}
 use Rattle.cc_build.specs.Seen.{stages_seen}
-use Rattle.cc_build.specs.Stage.Stage.{Asks}
 use Rattle.cc_build.specs.Went.{terms}
-use Rattle.cc_build.proofs.Going.{same_patience, asked_halted, phase_wanting}
+use Rattle.cc_build.proofs.Going.{same_patience, asked_halted}
 use Rattle.cc_build.proofs.Growing.{asking_before}
 use Rattle.cc_build.specs.Stage.{compile_stages}
 use Rattle.cc_build.proofs.PhaseLaws.{phase_done, plan_stages}
@@ -41,8 +38,10 @@ returns-clause-outcome g c =
     let z = left_at g.J.Jobs.faults g.J.Jobs.taken g.J.Jobs.load c.do_stages.new.turns c.do_stages.new.seat in
     record {
       under = λ look agree.
-          let plan = c.in-Ok.ensures.planned.under look agree in
-          (c.in-Ok.plan.warns_of_link, phase_done t (plan_error c.args.task.now.set.now c.args.task.now.env.now c.args.task.now.output.now) (late_refusal c.args.task.now.set.now c.args.task.now.env.now look) (compile_stages c.args.task.now.set.now c.args.task.now.env.now c.in-Ok.plan.warns_of_link look) old mid new x c.plan_compiles.ensures.asks.extends c.do_stages.ensures.aside.extends c.plan_compiles.ensures.quiet plan.allowed (stages_seen c.deref.result.now) c.do_stages.result z
-          (plan_stages c.args.task.now c.in-Ok.plan look (stages_seen c.deref.result.now) (ap stages_seen c.deref.ensures.value ∙ c.in_ok-stages.ensures) plan)
-          (same_patience c.args.task.now.reporting.shows total (g.H.Host.patience c.plan_compiles.new.host) patience None (stages_seen c.deref.result.now) (since mid new) c.do_stages.result x z c.plan_compiles.ensures.asks.patient c.do_stages.ensures.outcome));
+          let plan = c.in-Ok.ensures.planned.under look agree in (
+            c.in-Ok.plan.warns_of_link,
+            phase_done t (plan_error c.args.task.now.set.now c.args.task.now.env.now c.args.task.now.output.now) (late_refusal c.args.task.now.set.now c.args.task.now.env.now look) (compile_stages c.args.task.now.set.now c.args.task.now.env.now c.in-Ok.plan.warns_of_link look) old mid new x c.plan_compiles.ensures.asks.extends c.do_stages.ensures.aside.extends c.plan_compiles.ensures.quiet plan.allowed (stages_seen c.deref.result.now) c.do_stages.result z
+                (plan_stages c.args.task.now c.in-Ok.plan look (stages_seen c.deref.result.now) (ap stages_seen c.deref.ensures.value ∙ c.in_ok-stages.ensures) plan)
+                (same_patience c.args.task.now.reporting.shows total (g.H.Host.patience c.plan_compiles.new.host) patience None (stages_seen c.deref.result.now) (since mid new) c.do_stages.result x z c.plan_compiles.ensures.asks.patient c.do_stages.ensures.outcome),
+          );
     }
