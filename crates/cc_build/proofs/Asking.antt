@@ -1,42 +1,19 @@
 -- A call that asks with answers of its own.
-use Rattle.std.proofs.Common.{◌≡◌, ◌⊎◌, inl, inr, ℕ, List, [], Bool, true, Option, Some, sym, ◌∙◌, ap, subst}
-use Rattle.std.specs.List.{list_all}
+use Rattle.std.proofs.Common.{◌≡◌, ◌⊎◌, inl, inr, ℕ, List, Bool, Option, Some, subst}
 use Rattle.std.specs.Option.{option_map}
 use Rattle.cc_env.specs.Env.{EnvSeen}
 use Rattle.cc_host.specs.declared.event.Event.{Event}
 use Rattle.cc_host.specs.declared.question.Outcome.{Outcome}
 use Rattle.cc_host.specs.declared.question.Question.{Question}
-use Rattle.cc_host.specs.Part.{since}
-use Rattle.cc_host.specs.Question.{Look, Answer, answers, Agrees, Settles, Holds}
+use Rattle.cc_host.specs.Question.{Look, Answer, Agrees, Settles, Holds}
 use Rattle.cc_tool.specs.Asked.{Asked}
-use Rattle.cc_tool.specs.Asks.{Asks}
-use Rattle.cc_tool.specs.Own.{AnswersAmong}
-use Rattle.cc_tool.specs.Probing.{is_asked}
-use Rattle.cc_tool.proofs.Asides.{asked_by}
 use Rattle.cc_plan.specs.declared.error.PlanError.{PlanError}
 use Rattle.cc_plan.specs.declared.error.PlanError.TheVariants.{NoMemory as WantsMemory}
 use Rattle.cc_plan.specs.declared.settings.BuildConfig.{BuildConfig}
 use Rattle.cc_build.specs.Build.{BuildSeen, probes}
 use Rattle.cc_build.specs.Error.{ErrorSeen, no_memory}
 use Rattle.cc_build.specs.Refusal.{plan_error}
-use Rattle.cc_build.proofs.Going.{part_is}
 use Rattle.cc_build.proofs.Stages.{plan_cause}
-
-module _ (steady : Bool) (world : Question → Outcome) (dir : List ℕ) (questions : Look → Question → Type 0) (old mid new : List Event) (none known : List Answer) (asks : Asks steady world dir old mid none known) (own : Holds known (λ look. AnswersAmong (questions look) (since old mid))) (is : new ≡ mid) (empty : none ≡ []) where
-  from_nothing : Asks steady world dir old mid [] known
-  from_nothing = subst (λ (l : List Answer). Asks steady world dir old mid l known) empty asks
-
-  pub quiet_at : list_all is_asked (since old new) ≡ true
-  quiet_at = subst (λ (l : List Event). list_all is_asked l ≡ true) (sym (ap (since old) is ∙ part_is old mid asks.part asks.extends)) asks.asked
-
-  pub asked_at : Asked steady world dir questions (since old new)
-  asked_at = subst (λ (l : List Event). Asked steady world dir questions (since old l)) (sym is) (asked_by steady world dir questions old mid known from_nothing own).0
-
-  -- what the answers of the call settle holds under those of its part
-  pub under_answers : {P : Look → Type 0} → ((look : Look) → Agrees look known → P look) → Holds (answers (since old new)) P
-  under_answers so =
-      let same : answers (since old new) ≡ known = ap (λ l. answers (since old l)) is ∙ sym (asked_by steady world dir questions old mid known from_nothing own).1 in
-      record { under = λ look agree. so look (subst (Agrees look) same agree) }
 
 -- what the fields of a build are seen as is what the build is seen as
 pub asked_seen : (steady : Bool) (world : Question → Outcome) (asks : BuildSeen → Look → Question → Type 0) (part : List Event) (inside seen : BuildSeen) → inside ≡ seen → Asked steady world (probes inside) (asks inside) part → Asked steady world (probes seen) (asks seen) part

@@ -15,7 +15,7 @@ use Rattle.cc_host.specs.declared.event.Role.TheVariants.{Compile, Archive, Inde
 use Rattle.cc_host.proofs.Parts.{since_append}
 use Rattle.cc_plan.specs.Given.{is_disabled}
 use Rattle.cc_plan.specs.Plan.{prints, compiles_of, archives_of, indexes_of, warning_lines, objects_of, folder_steps, removal_steps, link_steps}
-use Rattle.cc_plan.specs.Refusal.{early_refusal, late_refusal}
+use Rattle.cc_plan.specs.Refusal.{early_refusal, late_refusal, archiver_refusal, link_refusal}
 use Rattle.cc_plan.specs.declared.settings.BuildConfig.{BuildConfig}
 use Rattle.cc_host.specs.declared.event.LineKind.TheVariants.{Warning}
 use Rattle.cc_run.specs.Part.{turns, turns_of, Within, Greedy}
@@ -26,10 +26,11 @@ use Rattle.cc_run.specs.declared.planned.Planned.{Planned}
 use Rattle.cc_build.specs.Attempts.{attempt_of, attempts, to_attempt}
 use Rattle.cc_build.specs.Error.{ErrorSeen}
 use Rattle.cc_build.specs.Promises.{is_compiling, RunBeside}
-use Rattle.cc_build.specs.Stage.{Stage, commands_in, calls, planned, beside, in_turn, folder_stages, compile_stages, removal_stages, archive_stages, link_stages, late_stages, planned_stages}
-use Rattle.cc_build.specs.Stage.Stage.{Calls, Asks, RunsOne, RunsAll}
+use Rattle.cc_build.specs.Stage.{Stage, commands_in, calls, planned, beside, tried, folder_stages, compile_stages, removal_stages, library_commands, archive_stages, link_stages, library_stages, ending_stages, later_stages, late_stages, planned_stages}
+use Rattle.cc_build.specs.Way.{Way}
+use Rattle.cc_build.specs.Stage.Stage.{Calls, Asks, Tries, RunsOne, RunsAll}
 use Rattle.cc_build.specs.Went.{Terms, Means, RanAll, Did, Stops, Partly}
-use Rattle.cc_build.proofs.RunLaws.{commands_then, commands_calls, commands_in_turn}
+use Rattle.cc_build.proofs.RunLaws.{commands_then, commands_calls, commands_tried}
 use Rattle.cc_build.proofs.SettledLaws.{partly_first}
 use Rattle.cc_build.proofs.StopLaws.{ArePlain}
 use Rattle.cc_build.proofs.TurnLaws.{step_turns, asked_turns, refused_turns}
@@ -39,6 +40,7 @@ use Rattle.cc_build.proofs.TurnLaws.{step_turns, asked_turns, refused_turns}
 abbrev pub is_quiet : Stage → Bool
 is_quiet (Calls step) = true
 is_quiet Asks = true
+is_quiet (Tries refused p) = false
 is_quiet (RunsOne p) = false
 is_quiet (RunsAll ps) = false
 
@@ -50,6 +52,7 @@ pub quiet_commands : (stages : List Stage) → AreQuiet stages → commands_in s
 quiet_commands [] q = refl
 quiet_commands (Calls step ∷ ss) q = quiet_commands ss q.1
 quiet_commands (Asks ∷ ss) q = quiet_commands ss q.1
+quiet_commands (Tries refused p ∷ ss) q = absurd (let k : false ≡ true = q.0 in cc)
 quiet_commands (RunsOne p ∷ ss) q = absurd (let k : false ≡ true = q.0 in cc)
 quiet_commands (RunsAll ps ∷ ss) q = absurd (let k : false ≡ true = q.0 in cc)
 
@@ -64,12 +67,14 @@ quiet_calls (step ∷ steps) = (refl, quiet_calls steps)
 did_turnless : (t : Terms) (s : Stage) (part : List Event) (x y : Means) → is_quiet s ≡ true → Did t s part x y → turns part ≡ 0
 did_turnless t (Calls step) part x y q d = ap turns d.1.0 ∙ step_turns step d.0 d.1.1
 did_turnless t Asks part x y q d = asked_turns part d.0
+did_turnless t (Tries refused p) part x y q d = absurd (let k : false ≡ true = q in cc)
 did_turnless t (RunsOne p) part x y q d = absurd (let k : false ≡ true = q in cc)
 did_turnless t (RunsAll ps) part x y q d = absurd (let k : false ≡ true = q in cc)
 
 stop_turnless : (t : Terms) (s : Stage) (part : List Event) (e : ErrorSeen) (x y : Means) → is_quiet s ≡ true → Stops t s part e x y → turns part ≡ 0
 stop_turnless t (Calls step) part e x y q d = ap turns d.1.0 ∙ refused_turns step d.0 d.1.1
-stop_turnless t Asks part e x y q d = absurd d
+stop_turnless t Asks part e x y q d = asked_turns part d.1
+stop_turnless t (Tries refused p) part e x y q d = absurd (let k : false ≡ true = q in cc)
 stop_turnless t (RunsOne p) part e x y q d = absurd (let k : false ≡ true = q in cc)
 stop_turnless t (RunsAll ps) part e x y q d = absurd (let k : false ≡ true = q in cc)
 
@@ -221,30 +226,46 @@ none_then a b p q =
     ∙ list_any-append is_compiling (map to_attempt (commands_in a)) (map to_attempt (commands_in b))
     ∙ or_none (list_any is_compiling (map to_attempt (commands_in a))) (list_any is_compiling (map to_attempt (commands_in b))) p q
 
-module _ (set : BuildConfig) (env : EnvSeen) (output : List ℕ) where
+none_unless : (b : Bool) (stages : List Stage) → CompileNone stages → CompileNone (if b then [] else stages)
+none_unless true stages p = refl
+none_unless false stages p = p
+
+module _ (set : BuildConfig) (env : EnvSeen) (way : Way) (look : Look) (output : List ℕ) where
   none_removal : CompileNone (removal_stages set env output)
   unfolding removal_stages
   none_removal = none_calls (removal_steps set env output)
 
-  none_links : CompileNone (link_stages set env output)
+  none_links : CompileNone (link_stages set env look way.is_first output)
   unfolding link_stages
-  none_links = none_calls (link_steps set env output)
+  none_links = none_calls (link_steps set env look way.is_first output)
 
-  none_archives : CompileNone (archive_stages set env output)
+  none_archives : CompileNone (archive_stages set env look way.is_plain output)
   unfolding archive_stages
   none_archives =
-      none_then (in_turn (planned Archive (archives_of set env output))) (in_turn (planned Index (indexes_of set env output)))
-      (ap (λ l. list_any is_compiling (map to_attempt l)) (commands_in_turn (planned Archive (archives_of set env output))) ∙ none_archive (archives_of set env output))
-      (ap (λ l. list_any is_compiling (map to_attempt l)) (commands_in_turn (planned Index (indexes_of set env output))) ∙ none_index (indexes_of set env output))
+      let archives = archives_of set env look way.is_plain output in
+      let indexes = indexes_of set env look way.is_plain output in
+      ap (λ l. list_any is_compiling (map to_attempt l)) (commands_tried way.is_plain (library_commands set env look way.is_plain output))
+      ∙ ap (list_any is_compiling) (map-append to_attempt (planned Archive archives) (planned Index indexes))
+      ∙ list_any-append is_compiling (map to_attempt (planned Archive archives)) (map to_attempt (planned Index indexes))
+      ∙ or_none (list_any is_compiling (map to_attempt (planned Archive archives))) (list_any is_compiling (map to_attempt (planned Index indexes))) (none_archive archives) (none_index indexes)
 
-  none_behind : CompileNone (removal_stages set env output ++ (archive_stages set env output ++ link_stages set env output))
-  none_behind = none_then (removal_stages set env output) (archive_stages set env output ++ link_stages set env output) none_removal (none_then (archive_stages set env output) (link_stages set env output) none_archives none_links)
+  none_ending : CompileNone (ending_stages set env way look output)
+  none_ending = none_unless (is_some (link_refusal set env look)) (link_stages set env look way.is_first output) none_links
+
+  none_library : CompileNone (library_stages set env way.is_plain look output ++ ending_stages set env way look output)
+  none_library =
+      none_then (library_stages set env way.is_plain look output) (ending_stages set env way look output)
+      (none_then (removal_stages set env output) (archive_stages set env look way.is_plain output) none_removal none_archives) none_ending
+
+  none_behind : CompileNone (later_stages set env way look output)
+  unfolding later_stages
+  none_behind = none_unless (is_some (archiver_refusal set env look)) (library_stages set env way.is_plain look output ++ ending_stages set env way look output) none_library
 
 quiet_folder : (set : BuildConfig) (env : EnvSeen) → AreQuiet (folder_stages set env)
 unfolding folder_stages
 quiet_folder set env = quiet_calls (folder_steps set env)
 
-module _ (set : BuildConfig) (env : EnvSeen) (warns_of_link : Bool) (look : Look) (output : List ℕ) where
+module _ (set : BuildConfig) (env : EnvSeen) (way : Way) (look : Look) (output : List ℕ) where
   abbrev pub sources : List Planned
   sources = planned Compile (compiles_of set env look)
 
@@ -252,18 +273,18 @@ module _ (set : BuildConfig) (env : EnvSeen) (warns_of_link : Bool) (look : Look
   pub source_count : length sources ≡ length set.files
   source_count = length-map (compiles_of set env look) _ ∙ length-map (objects_of set env) _ ∙ length-map set.files _
 
-  compiled : 2 ≤ length set.files → compile_stages set env warns_of_link look ≡ calls (prints Warning (warning_lines set env warns_of_link look)) ++ RunsAll sources ∷ []
+  compiled : 2 ≤ length set.files → compile_stages set env way.warns_of_link look ≡ calls (prints Warning (warning_lines set env way.warns_of_link look)) ++ RunsAll sources ∷ []
   unfolding compile_stages
-  compiled many = ap (λ l. calls (prints Warning (warning_lines set env warns_of_link look)) ++ l) (two_beside sources (subst (λ (n : ℕ). 2 ≤ n) (sym source_count) many))
+  compiled many = ap (λ l. calls (prints Warning (warning_lines set env way.warns_of_link look)) ++ l) (two_beside sources (subst (λ (n : ℕ). 2 ≤ n) (sym source_count) many))
 
-  pub shape_of : 2 ≤ length set.files → AreQuiet (planned_stages set env warns_of_link look output) ⊎ Shape sources (planned_stages set env warns_of_link look output)
+  pub shape_of : 2 ≤ length set.files → AreQuiet (planned_stages set env way look output) ⊎ Shape sources (planned_stages set env way look output)
   unfolding planned_stages late_stages
   shape_of many =
       let same = compiled many in
       rw same
-      (by_checks (is_some (early_refusal set env output)) (is_disabled env) (is_some (late_refusal set env look)) (folder_stages set env) (calls (prints Warning (warning_lines set env warns_of_link look))) sources
-      (removal_stages set env output ++ (archive_stages set env output ++ link_stages set env output))
-      (quiet_folder set env) (quiet_calls (prints Warning (warning_lines set env warns_of_link look))) (none_behind set env output))
+      (by_checks (is_some (early_refusal set env output)) (is_disabled env) (is_some (late_refusal set env look)) (folder_stages set env) (calls (prints Warning (warning_lines set env way.warns_of_link look))) sources
+      (later_stages set env way look output)
+      (quiet_folder set env) (quiet_calls (prints Warning (warning_lines set env way.warns_of_link look))) (none_behind set env way look output))
 
 -- commands of such stages run in one stretch of the part
 pub shaped_beside : (t : Terms) (ps : List Planned) (stages : List Stage) (part : List Event) (x z : Means) → ArePlain stages → AreQuiet stages ⊎ Shape ps stages → Partly t stages part x z → RunBeside t.total (length ps) part
@@ -276,7 +297,7 @@ shape_behind ps step stages (inl q) = inl (refl, q)
 shape_behind ps step stages (inr s) = inr (record { first = Calls step ∷ s.first; more = s.more; are = ap (λ l. Calls step ∷ l) s.are; quiet = (refl, s.quiet); others = s.others })
 
 -- the sources are compiled in one stretch of the part
-pub compiled_beside : (t : Terms) (set : BuildConfig) (env : EnvSeen) (warns_of_link : Bool) (look : Look) (output : List ℕ) (part : List Event) (x z : Means) → ArePlain (planned_stages set env warns_of_link look output) → 2 ≤ length set.files → Partly t (planned_stages set env warns_of_link look output) part x z → RunBeside t.total (length set.files) part
-compiled_beside t set env warns_of_link look output part x z plain many p =
-    subst (λ (n : ℕ). RunBeside t.total n part) (source_count set env warns_of_link look output)
-    (shaped_beside t (sources set env warns_of_link look output) (planned_stages set env warns_of_link look output) part x z plain (shape_of set env warns_of_link look output many) p)
+pub compiled_beside : (t : Terms) (set : BuildConfig) (env : EnvSeen) (way : Way) (look : Look) (output : List ℕ) (part : List Event) (x z : Means) → ArePlain (planned_stages set env way look output) → 2 ≤ length set.files → Partly t (planned_stages set env way look output) part x z → RunBeside t.total (length set.files) part
+compiled_beside t set env way look output part x z plain many p =
+    subst (λ (n : ℕ). RunBeside t.total n part) (source_count set env way look output)
+    (shaped_beside t (sources set env way look output) (planned_stages set env way look output) part x z plain (shape_of set env way look output many) p)

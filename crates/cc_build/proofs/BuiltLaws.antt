@@ -1,7 +1,8 @@
 -- A part that did all the stages of a compile run is built.
-use Rattle.std.proofs.Common.{◌≡◌, List, [], ◌∷◌, ◌++◌, ◌+◌, ℕ, length, Option, Some, None, Bool, true, false, if◌then◌else◌, Result, Ok, Err, OnOk, refl, sym, ◌∙◌, ap, ap₂, subst, append_assoc, zero-add, length-append}
+use Rattle.std.proofs.Common.{◌≡◌, List, [], ◌∷◌, ◌++◌, ◌+◌, ℕ, length, Option, Some, None, Bool, true, false, if◌then◌else◌, Result, Ok, Err, OnOk, refl, sym, ◌∙◌, ap, ap₂, subst, append_assoc, append-nil, map, zero-add}
 use Rattle.std.specs.Option.{option_map}
 use Rattle.std.proofs.lemmas.List.{length-map}
+use Rattle.std.proofs.lemmas.Grind.{flat_map-append}
 use Rattle.cc_env.specs.Env.{EnvSeen}
 use Rattle.cc_host.specs.Command.{CommandSeen}
 use Rattle.cc_host.specs.Part.{step_of}
@@ -16,8 +17,8 @@ use Rattle.cc_host.specs.declared.event.Role.{Role}
 use Rattle.cc_host.specs.declared.event.Role.TheVariants.{Compile, Archive, Index}
 use Rattle.cc_host.specs.declared.event.Scope.TheVariants.{Build, Probe as ForProbes}
 use Rattle.cc_plan.specs.Given.{is_disabled}
-use Rattle.cc_plan.specs.Plan.{library_of, compiles_of, archives_of, indexes_of, warning_lines, prints, folder_steps, removal_steps}
-use Rattle.cc_plan.specs.Refusal.{early_refusal, late_refusal, first_of}
+use Rattle.cc_plan.specs.Plan.{library_of, compiles_of, warning_lines, prints, folder_steps, removal_steps}
+use Rattle.cc_plan.specs.Refusal.{early_refusal, late_refusal, archiver_refusal, link_refusal, first_of}
 use Rattle.cc_plan.specs.declared.settings.BuildConfig.{BuildConfig}
 use Rattle.cc_run.specs.Part.{started}
 use Rattle.cc_run.specs.Planned.{asked}
@@ -25,11 +26,16 @@ use Rattle.cc_run.specs.Run.{run_from, nothing}
 use Rattle.cc_run.specs.declared.planned.Planned.{Planned}
 use Rattle.cc_build.specs.Built.{Accepted, Built, ended_well}
 use Rattle.cc_build.specs.Error.{ErrorSeen}
-use Rattle.cc_build.specs.Refusal.{early_error, late_error, refusal_error, plan_error, disabled_error}
-use Rattle.cc_build.specs.Stage.{Stage, commands_in, calls, planned, beside, in_turn, folder_stages, compile_stages, removal_stages, archive_stages, link_stages, run_stages, late_stages, planned_stages}
+use Rattle.cc_build.specs.Refusal.{early_error, late_error, archiver_error, link_error, refusal_error, plan_error, disabled_error}
+use Rattle.cc_build.specs.Stage.{Stage, commands_in, children_in, calls, planned, beside, tried, behind_first, folder_stages, compile_stages, removal_stages, library_commands, archive_stages, link_stages, library_stages, ending_stages, later_stages, late_stages, planned_stages}
+use Rattle.cc_build.specs.Way.{Way, Repeats}
 use Rattle.cc_build.specs.Stage.Stage.{Asks}
 use Rattle.cc_build.specs.Went.{Terms, Means, Went, Ends}
-use Rattle.cc_build.proofs.RunLaws.{commands_then, commands_calls, commands_beside, commands_in_turn, went_started, went_run, went_split}
+use Rattle.cc_build.specs.Attempts.{attempts, to_attempt, tried_of, all_tried, first_tried}
+use Rattle.cc_build.proofs.RunLaws.{commands_tried, children_then, children_calls, children_beside, children_tried, went_started, went_run, went_split}
+use Rattle.cc_build.proofs.SettledLaws.{went_attempts, in_turn_tried}
+use Rattle.cc_build.proofs.StopLaws.{plain_archive}
+use Rattle.cc_build.proofs.Trying.{done_of, done_tried}
 
 first_none : {X : Type 0} (a b : Option X) → first_of a b ≡ None → (a ≡ None) × (b ≡ None)
 first_none None b h = (refl, h)
@@ -46,57 +52,104 @@ chosen_none false x r h = (refl, h)
 -- settings whose error is none are not refused
 pub no_error : (set : BuildConfig) (env : EnvSeen) (look : Look) (output : List ℕ) → refusal_error set env look output ≡ None → Accepted set env look output
 no_error set env look output h =
-    let n = first_none (early_error set env output) (late_error set env look output) h in
-    let late = chosen_none (is_disabled env) disabled_error (option_map (plan_error set env output) (late_refusal set env look)) n.1 in
-    record { early = unmapped (plan_error set env output) (early_refusal set env output) n.0; enabled = late.0; late = unmapped (plan_error set env output) (late_refusal set env look) late.1 }
+    let n = first_none (early_error set env output) (first_of (late_error set env look output) (first_of (archiver_error set env look output) (link_error set env look output))) h in
+    let m = first_none (late_error set env look output) (first_of (archiver_error set env look output) (link_error set env look output)) n.1 in
+    let k = first_none (archiver_error set env look output) (link_error set env look output) m.1 in
+    let late = chosen_none (is_disabled env) disabled_error (option_map (plan_error set env output) (late_refusal set env look)) m.0 in
+    record {
+      early = unmapped (plan_error set env output) (early_refusal set env output) n.0;
+      enabled = late.0;
+      late = unmapped (plan_error set env output) (late_refusal set env look) late.1;
+      archiver = unmapped (plan_error set env output) (archiver_refusal set env look) k.0;
+      links = unmapped (plan_error set env output) (link_refusal set env look) k.1;
+    }
 
--- what is planned where nothing is refused: the folder, questions and the compile commands, and then the rest
-accepted_stages : (set : BuildConfig) (env : EnvSeen) (warns_of_link : Bool) (look : Look) (output : List ℕ) → Accepted set env look output → planned_stages set env warns_of_link look output ≡ (folder_stages set env ++ Asks ∷ compile_stages set env warns_of_link look) ++ (removal_stages set env output ++ (archive_stages set env output ++ link_stages set env output))
-unfolding planned_stages late_stages
-accepted_stages set env warns_of_link look output a =
-    let early : early_refusal set env output ≡ None = a.early in
-    let enabled : is_disabled env ≡ false = a.enabled in
-    let late : late_refusal set env look ≡ None = a.late in
-    let joined : planned_stages set env warns_of_link look output ≡ folder_stages set env ++ Asks ∷ run_stages set env warns_of_link look output = rw (early, enabled, late) refl in
-    joined ∙ sym (append_assoc (folder_stages set env) (Asks ∷ compile_stages set env warns_of_link look) (removal_stages set env output ++ (archive_stages set env output ++ link_stages set env output)))
+module _ (set : BuildConfig) (env : EnvSeen) (way : Way) (look : Look) (output : List ℕ) where
+  -- the sources with the questions on both sides, the library, and the lines with the questions before them
+  abbrev first_part : List Stage
+  first_part = folder_stages set env ++ (Asks ∷ (compile_stages set env way.warns_of_link look ++ (Asks ∷ [])))
 
--- ---- the commands of the stages
+  abbrev last_part : List Stage
+  last_part = Asks ∷ link_stages set env look way.is_first output
 
-folder_commands : (set : BuildConfig) (env : EnvSeen) → commands_in (folder_stages set env) ≡ []
+  -- what is planned where nothing is refused
+  accepted_stages : Accepted set env look output → planned_stages set env way look output ≡ first_part ++ (removal_stages set env output ++ (archive_stages set env look way.is_plain output ++ last_part))
+  unfolding planned_stages late_stages later_stages
+  accepted_stages a =
+      let early : early_refusal set env output ≡ None = a.early in
+      let enabled : is_disabled env ≡ false = a.enabled in
+      let late : late_refusal set env look ≡ None = a.late in
+      let archiver : archiver_refusal set env look ≡ None = a.archiver in
+      let links : link_refusal set env look ≡ None = a.links in
+      let compiles = compile_stages set env way.warns_of_link look in
+      let removal = removal_stages set env output in
+      let archive = archive_stages set env look way.is_plain output in
+      let joined : planned_stages set env way look output ≡ folder_stages set env ++ (Asks ∷ (compiles ++ (Asks ∷ ((removal ++ archive) ++ last_part)))) = rw (early, enabled, late, archiver, links) refl in
+      joined
+      ∙ ap (λ l. folder_stages set env ++ (Asks ∷ (compiles ++ (Asks ∷ l)))) (append_assoc removal archive last_part)
+      ∙ ap (λ l. folder_stages set env ++ (Asks ∷ l)) (sym (append_assoc compiles (Asks ∷ []) (removal ++ (archive ++ last_part))))
+      ∙ sym (append_assoc (folder_stages set env) (Asks ∷ (compiles ++ (Asks ∷ []))) (removal ++ (archive ++ last_part)))
+
+-- ---- the children of the stages
+
+folder_children : (set : BuildConfig) (env : EnvSeen) → children_in (folder_stages set env) ≡ []
 unfolding folder_stages
-folder_commands set env = commands_calls (folder_steps set env)
+folder_children set env = children_calls (folder_steps set env)
 
-compile_commands : (set : BuildConfig) (env : EnvSeen) (warns_of_link : Bool) (look : Look) → commands_in (compile_stages set env warns_of_link look) ≡ planned Compile (compiles_of set env look)
+compile_children : (set : BuildConfig) (env : EnvSeen) (warns_of_link : Bool) (look : Look) → children_in (compile_stages set env warns_of_link look) ≡ planned Compile (compiles_of set env look)
 unfolding compile_stages
-compile_commands set env warns_of_link look =
+compile_children set env warns_of_link look =
     let lines = prints Warning (warning_lines set env warns_of_link look) in
     let cmds = planned Compile (compiles_of set env look) in
-    commands_then (calls lines) (beside cmds) ∙ ap₂ (λ u v. u ++ v) (commands_calls lines) (commands_beside cmds)
+    children_then (calls lines) (beside cmds) ∙ ap₂ (λ u v. u ++ v) (children_calls lines) (children_beside cmds)
 
-archive_commands : (set : BuildConfig) (env : EnvSeen) (output : List ℕ) → commands_in (archive_stages set env output) ≡ planned Archive (archives_of set env output) ++ planned Index (indexes_of set env output)
-unfolding archive_stages
-archive_commands set env output =
-    let first = planned Archive (archives_of set env output) in
-    let second = planned Index (indexes_of set env output) in
-    commands_then (in_turn first) (in_turn second) ∙ ap₂ (λ u v. u ++ v) (commands_in_turn first) (commands_in_turn second)
-
-source_commands : (set : BuildConfig) (env : EnvSeen) (warns_of_link : Bool) (look : Look) → commands_in (folder_stages set env ++ Asks ∷ compile_stages set env warns_of_link look) ≡ planned Compile (compiles_of set env look)
-source_commands set env warns_of_link look =
-    commands_then (folder_stages set env) (Asks ∷ compile_stages set env warns_of_link look) ∙ ap₂ (λ u v. u ++ v) (folder_commands set env) (compile_commands set env warns_of_link look)
+source_children : (set : BuildConfig) (env : EnvSeen) (way : Way) (look : Look) (output : List ℕ) → children_in (first_part set env way look output) ≡ planned Compile (compiles_of set env look)
+source_children set env way look output =
+    children_then (folder_stages set env) (Asks ∷ (compile_stages set env way.warns_of_link look ++ (Asks ∷ [])))
+    ∙ ap (λ l. l ++ children_in (compile_stages set env way.warns_of_link look ++ (Asks ∷ []))) (folder_children set env)
+    ∙ children_then (compile_stages set env way.warns_of_link look) (Asks ∷ [])
+    ∙ append-nil (children_in (compile_stages set env way.warns_of_link look))
+    ∙ compile_children set env way.warns_of_link look
 
 planned_length : (role : Role) (cmds : List CommandSeen) → length (planned role cmds) ≡ length cmds
 planned_length role cmds = length-map cmds (λ cmd. record { role = role; cmd = cmd; message = None })
 
-both_length : (first second : List CommandSeen) → length (planned Archive first ++ planned Index second) ≡ length (first ++ second)
-both_length first second = length-append (planned Archive first) (planned Index second) ∙ ap₂ (λ m n. m + n) (planned_length Archive first) (planned_length Index second) ∙ sym (length-append first second)
-
--- the commands of these stages were started, and nothing else
-started_from : (t : Terms) (stages : List Stage) (part : List Event) (x y : Means) (cmds : List Planned) → Went t stages part x y → commands_in stages ≡ cmds → started part ≡ asked t.shows cmds
+-- the children of these stages were started, and nothing else
+started_from : (t : Terms) (stages : List Stage) (part : List Event) (x y : Means) (cmds : List Planned) → Went t stages part x y → children_in stages ≡ cmds → started part ≡ asked t.shows cmds
 started_from t stages part x y cmds w is = went_started t stages part x y w ∙ ap (asked t.shows) is
 
 -- and each of them has ended with 0
-ended_from : (t : Terms) (stages : List Stage) (part : List Event) (x y : Means) (cmds : List Planned) (count : ℕ) → Went t stages part x y → commands_in stages ≡ cmds → length cmds ≡ count → run_from nothing part ≡ ended_well count
-ended_from t stages part x y cmds count w is long = went_run t stages part x y 0 w ∙ ap ended_well (zero-add (length (commands_in stages)) ∙ ap length is ∙ long)
+ended_from : (t : Terms) (stages : List Stage) (part : List Event) (x y : Means) (cmds : List Planned) (count : ℕ) → Went t stages part x y → children_in stages ≡ cmds → length cmds ≡ count → run_from nothing part ≡ ended_well count
+ended_from t stages part x y cmds count w is long = went_run t stages part x y 0 w ∙ ap ended_well (zero-add (length (children_in stages)) ∙ ap length is ∙ long)
+
+-- ---- the commands of the archive
+
+tried_from : (t : Terms) (refused : Bool) (cmds : List Planned) (part : List Event) (x y : Means) → Went t (tried refused cmds) part x y → all_tried part ≡ first_tried refused cmds
+tried_from t refused [] part x y w = ap all_tried w.0
+tried_from t refused (p ∷ ps) part x y w =
+    ap all_tried w.3.0
+    ∙ flat_map-append tried_of w.0 w.1
+    ∙ ap₂ (λ u v. u ++ v) (done_tried p refused w.0 (done_of t p w.0 refused w.3.1.0)) (in_turn_tried t ps w.1 w.2 y w.3.2)
+
+module _ (t : Terms) (set : BuildConfig) (env : EnvSeen) (look : Look) (is_plain : Bool) (output : List ℕ) (part : List Event) (x y : Means) (w : Went t (archive_stages set env look is_plain output) part x y) where
+  abbrev cmds : List Planned
+  cmds = library_commands set env look is_plain output
+
+  archive_writes : attempts part ≡ map to_attempt cmds
+  unfolding archive_stages
+  archive_writes = went_attempts t (tried is_plain cmds) part x y (plain_archive set env look is_plain output) w ∙ ap (map to_attempt) (commands_tried is_plain cmds)
+
+  archive_first : all_tried part ≡ first_tried is_plain cmds
+  unfolding archive_stages
+  archive_first = tried_from t is_plain cmds part x y w
+
+  archive_others : started part ≡ asked t.shows (behind_first cmds)
+  unfolding archive_stages
+  archive_others = started_from t (tried is_plain cmds) part x y (behind_first cmds) w (children_tried is_plain cmds)
+
+  archive_ended : run_from nothing part ≡ ended_well (length (behind_first cmds))
+  unfolding archive_stages
+  archive_ended = ended_from t (tried is_plain cmds) part x y (behind_first cmds) (length (behind_first cmds)) w (children_tried is_plain cmds) refl
 
 -- ---- the removal
 
@@ -124,35 +177,39 @@ removal_is t set env output part x y w =
 glued : (part runs back removal rest archives lines : List Event) (x : Event) → part ≡ runs ++ back → back ≡ removal ++ rest → removal ≡ x ∷ [] → rest ≡ archives ++ lines → part ≡ runs ++ x ∷ archives ++ lines
 glued part runs back removal rest archives lines x e1 e2 e3 e4 = e1 ∙ ap (λ l. runs ++ l) (e2 ∙ ap₂ (λ u v. u ++ v) e3 e4) ∙ sym (append_assoc runs (x ∷ archives) lines)
 
-pub built : (t : Terms) (set : BuildConfig) (env : EnvSeen) (warns_of_link : Bool) (look : Look) (output : List ℕ) (part : List Event) (x y : Means) → refusal_error set env look output ≡ None → Went t (planned_stages set env warns_of_link look output) part x y → Built t set env look output part
-built t set env warns_of_link look output part x y h w =
+pub built : (t : Terms) (set : BuildConfig) (env : EnvSeen) (way : Way) (look : Look) (output : List ℕ) (part : List Event) (x y : Means) → Repeats set way.is_first → refusal_error set env look output ≡ None → Went t (planned_stages set env way look output) part x y → Built t set env look output part
+built t set env way look output part x y repeats h w =
     let accepted : Accepted set env look output = no_error set env look output h in
-    let sources = folder_stages set env ++ Asks ∷ compile_stages set env warns_of_link look in
-    let archive = archive_stages set env output in
-    let link = link_stages set env output in
-    let all : Went t (sources ++ (removal_stages set env output ++ (archive ++ link))) part x y = subst (λ (stages : List Stage). Went t stages part x y) (accepted_stages set env warns_of_link look output accepted) w in
+    let sources = first_part set env way look output in
+    let archive = archive_stages set env look way.is_plain output in
+    let link = last_part set env way look output in
+    let compiles = planned Compile (compiles_of set env look) in
+    let all : Went t (sources ++ (removal_stages set env output ++ (archive ++ link))) part x y = subst (λ (stages : List Stage). Went t stages part x y) (accepted_stages set env way look output accepted) w in
     let c1 = went_split t sources (removal_stages set env output ++ (archive ++ link)) part x y all in
     let c2 = went_split t (removal_stages set env output) (archive ++ link) c1.1 c1.2 y c1.3.2 in
     let c3 = went_split t archive link c2.1 c2.2 y c2.3.2 in
     let removal = removal_is t set env output c2.0 c1.2 c2.2 c2.3.1 in
     record {
       accepted = accepted;
-      warns_of_link = warns_of_link;
+      way = way;
+      repeats = repeats;
       runs = c1.0;
       how = removal.0;
       archives = c3.0;
       lines = c3.1;
       cut = glued part c1.0 c1.1 c2.0 c2.1 c3.0 c3.1 (Removed (library_of set env output) removal.0) c1.3.0 c2.3.0 removal.1 c3.3.0;
       compiled = (x, c1.2, c1.3.1);
-      compiles = started_from t sources c1.0 x c1.2 (planned Compile (compiles_of set env look)) c1.3.1 (source_commands set env warns_of_link look);
-      ended = ended_from t sources c1.0 x c1.2 (planned Compile (compiles_of set env look)) (length (compiles_of set env look)) c1.3.1 (source_commands set env warns_of_link look) (planned_length Compile (compiles_of set env look));
+      compiles = started_from t sources c1.0 x c1.2 compiles c1.3.1 (source_children set env way look output);
+      ended = ended_from t sources c1.0 x c1.2 compiles (length (compiles_of set env look)) c1.3.1 (source_children set env way look output) (planned_length Compile (compiles_of set env look));
       archived = (c2.2, c3.2, c3.3.1);
-      writes = started_from t archive c3.0 c2.2 c3.2 (planned Archive (archives_of set env output) ++ planned Index (indexes_of set env output)) c3.3.1 (archive_commands set env output);
-      written = ended_from t archive c3.0 c2.2 c3.2 (planned Archive (archives_of set env output) ++ planned Index (indexes_of set env output)) (length (archives_of set env output ++ indexes_of set env output)) c3.3.1 (archive_commands set env output) (both_length (archives_of set env output) (indexes_of set env output));
+      writes = archive_writes t set env look way.is_plain output c3.0 c2.2 c3.2 c3.3.1;
+      first = archive_first t set env look way.is_plain output c3.0 c2.2 c3.2 c3.3.1;
+      others = archive_others t set env look way.is_plain output c3.0 c2.2 c3.2 c3.3.1;
+      written = archive_ended t set env look way.is_plain output c3.0 c2.2 c3.2 c3.3.1;
       linked = (c3.2, y, c3.3.2);
     }
 
 -- a run that answers Ok is built
-pub built_on_ok : {T : Type 0} (t : Terms) (set : BuildConfig) (env : EnvSeen) (warns_of_link : Bool) (look : Look) (output : List ℕ) (part : List Event) (r : Result T ErrorSeen) (x y : Means) → Ends t (refusal_error set env look output) (planned_stages set env warns_of_link look output) part r x y → OnOk r (Built t set env look output part)
-built_on_ok t set env warns_of_link look output part (Ok v) x y o = built t set env warns_of_link look output part x y o.0 o.1
-built_on_ok t set env warns_of_link look output part (Err e) x y o = tt
+pub built_on_ok : {T : Type 0} (t : Terms) (set : BuildConfig) (env : EnvSeen) (way : Way) (look : Look) (output : List ℕ) (part : List Event) (r : Result T ErrorSeen) (x y : Means) → Repeats set way.is_first → Ends t (refusal_error set env look output) (planned_stages set env way look output) part r x y → OnOk r (Built t set env look output part)
+built_on_ok t set env way look output part (Ok v) x y repeats o = built t set env way look output part x y repeats o.0 o.1
+built_on_ok t set env way look output part (Err e) x y repeats o = tt

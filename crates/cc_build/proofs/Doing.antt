@@ -52,16 +52,13 @@ module _ (ss : List Coded) (i : ℕ) (s : Coded) (within : i < length ss) (is : 
 
 -- ---- the list that is done
 
-pub seen_both : (a b : List Coded) → stages_seen (a ++ b) ≡ stages_seen a ++ stages_seen b
-seen_both a b = map-append stage_seen a b
-
 pub seen_more : (a : List Coded) (s : Coded) → stages_seen (a ++ s ∷ []) ≡ stages_seen a ++ stage_seen s ∷ []
 seen_more a s = map-append stage_seen a (s ∷ [])
 
 -- commands that run alone, as stages
-pub alone_seen : (role : Role) (cmds : List CommandSeen) (ss : List Coded) → ss ≡ map (λ cmd. RunOne (record { role = role; cmd = cmd; message = None })) cmds → stages_seen ss ≡ in_turn (planned role cmds)
-alone_seen role [] ss is = ap stages_seen is
-alone_seen role (cmd ∷ cmds) ss is = ap stages_seen is ∙ ap (λ l. RunsOne (record { role = role; cmd = cmd; message = None }) ∷ l) (alone_seen role cmds _ refl)
+pub alone_seen : (cmds : List Planned) (ss : List Coded) → ss ≡ map RunOne cmds → stages_seen ss ≡ in_turn cmds
+alone_seen [] ss is = ap stages_seen is
+alone_seen (cmd ∷ cmds) ss is = ap stages_seen is ∙ ap (λ l. RunsOne cmd ∷ l) (alone_seen cmds _ refl)
 
 -- no line was added
 pub lines_none : (ss : List Stage) (kind : LineKind) → ss ≡ ss ++ calls (prints kind [])

@@ -13,7 +13,7 @@ use Rattle.cc_host.specs.declared.event.Event.{Event}
 use Rattle.cc_host.specs.declared.event.Event.TheVariants.{Fault}
 use Rattle.cc_host.specs.declared.event.HostCall.TheVariants.{Start, Turn as Turning}
 use Rattle.cc_plan.specs.Given.{is_disabled}
-use Rattle.cc_plan.specs.Refusal.{first_of, early_refusal, late_refusal}
+use Rattle.cc_plan.specs.Refusal.{first_of, early_refusal, late_refusal, archiver_refusal, link_refusal}
 use Rattle.cc_plan.specs.declared.error.ArgumentCause.TheVariants.{Output, OutDir, NoFileName, SameObject, LibraryIsObject}
 use Rattle.cc_plan.specs.declared.error.PlanError.{PlanError}
 use Rattle.cc_plan.specs.declared.error.PlanError.TheVariants.{Argument, NotSet, UnknownTarget, QnxArch, Flag, Host, NoMemory as WantsMemory}
@@ -26,15 +26,16 @@ use Rattle.cc_run.specs.declared.planned.Planned.{Planned}
 use Rattle.cc_run.specs.declared.planned.Shows.{Shows}
 use Rattle.cc_build.specs.Error.{ErrorSeen, no_memory}
 use Rattle.cc_build.specs.Failed.{HasFault, is_fault}
-use Rattle.cc_build.specs.Refusal.{plan_error, disabled_error, early_error, late_error, refusal_error}
+use Rattle.cc_build.specs.Refusal.{plan_error, disabled_error, early_error, late_error, archiver_error, link_error, refusal_error}
 use Rattle.cc_build.specs.RunErrors.{command_at, error_of, run_error}
-use Rattle.cc_build.specs.Stage.{Stage, commands_of, commands_in}
-use Rattle.cc_build.specs.Stage.Stage.{Calls, Asks, RunsOne, RunsAll}
+use Rattle.cc_build.specs.Stage.{Stage, children_of, children_in}
+use Rattle.cc_build.specs.Stage.Stage.{Calls, Asks, Tries, RunsOne, RunsAll}
 use Rattle.cc_build.specs.Stop.{missing_error, failed_error, unstarted_error, fault_error, stop_error}
 use Rattle.cc_build.specs.Went.{Terms, Means, IsOf, Stops, Halts, Halted}
 use Rattle.cc_build.specs.declared.error.ErrorKind.TheVariants.{ToolExecError}
 use Rattle.cc_build.proofs.BesideLaws.{is_quiet, AreQuiet, Shape}
 use Rattle.cc_build.proofs.RunLaws.{went_started}
+use Rattle.cc_build.proofs.Trying.{broken_fault}
 use Rattle.cc_build.proofs.StopLaws.{Said, said_all, said_one, IsPlain, ArePlain, plain_behind, or_right, some_fault, whole_work, went_kept}
 
 -- ---- the error of a command that ended badly
@@ -74,9 +75,14 @@ run_all_started cmds ps part TurnsSpent s h sound = absurd (cc)
 run_all_started cmds ps part NoMemory s h sound = absurd (cc)
 
 -- such a stage is one of commands, which were all started
-stop_started : (t : Terms) (s : Stage) (part : List Event) (e : ErrorSeen) (x y : Means) → IsPlain s → Stops t s part e x y → e.kind ≡ ToolExecError → (HasFault part → ⊥) → (is_quiet s ≡ false) × (started part ≡ asked t.shows (commands_of s)) × (abandoned part ≡ [])
+stop_started : (t : Terms) (s : Stage) (part : List Event) (e : ErrorSeen) (x y : Means) → IsPlain s → Stops t s part e x y → e.kind ≡ ToolExecError → (HasFault part → ⊥) → (is_quiet s ≡ false) × (started part ≡ asked t.shows (children_of s)) × (abandoned part ≡ [])
 stop_started t (Calls step) part e x y plain d h sound = absurd (call_kind step d.0 plain d.1.1 (ended_badly (stop_error step d.0) e h d.1.2))
-stop_started t Asks part e x y plain d h sound = absurd d
+stop_started t Asks part e x y plain d h sound = absurd (let k : no_memory.kind ≡ ToolExecError = ap (λ o. o.kind) (sym d.0) ∙ h in cc)
+stop_started t (Tries refused p) part e x y plain d h sound = absurd (tried_sound p d.0 (ended_badly (run_error (p ∷ []) d.0) e h d.1.2) sound (broken_fault t.shows p part d.0 d.1.0 d.1.1))
+  where
+    tried_sound : (p : Planned) (error : RunError) → (run_error (p ∷ []) error).kind ≡ ToolExecError → (HasFault part → ⊥) → (error ≡ NoMemory) ⊎ (list_any is_fault part ≡ true) → ⊥
+    tried_sound p error k sound (inl wanted) = let kind : no_memory.kind ≡ ToolExecError = ap (λ (o : RunError). (run_error (p ∷ []) o).kind) (sym wanted) ∙ k in cc
+    tried_sound p error k sound (inr fault) = sound fault
 stop_started t (RunsOne p) part e x y plain d h sound =
     let r = run_all_started (asked t.shows (p ∷ [])) (p ∷ []) part d.0 (said_one t p part (Err d.0) x y d.1.0) (ended_badly (run_error (p ∷ []) d.0) e h d.1.1) sound in
     (refl, r.0, r.1)
@@ -122,9 +128,11 @@ first_never (Some x) b f g e is h = f e is h
 
 pub never_ran : (set : BuildConfig) (env : EnvSeen) (look : Look) (output : List ℕ) → NeverRan (refusal_error set env look output)
 never_ran set env look output =
-    first_never (early_error set env output) (late_error set env look output)
-    (mapped set env output (early_refusal set env output))
-    (disabled_or (is_disabled env) _ (mapped set env output (late_refusal set env look)))
+    first_never (early_error set env output) _ (mapped set env output (early_refusal set env output)) (
+    first_never (late_error set env look output) _ (disabled_or (is_disabled env) _ (mapped set env output (late_refusal set env look))) (
+    first_never (archiver_error set env look output) (link_error set env look output) (mapped set env output (archiver_refusal set env look)) (mapped set env output (link_refusal set env look))
+    )
+    )
 
 -- ---- the stage at which it ended
 
@@ -138,12 +146,12 @@ record Reached (shows : Shows) (before after : List Stage) (rest : List Event) :
   more : List Stage
   are : after ≡ stage ∷ more
   loud : is_quiet stage ≡ false
-  begun : started rest ≡ asked shows (commands_of stage)
+  begun : started rest ≡ asked shows (children_of stage)
   kept : abandoned rest ≡ []
 
 reached : (t : Terms) (refusal : Option ErrorSeen) (before after : List Stage) (rest : List Event) (e : ErrorSeen) (x y : Means) → NeverRan refusal → ArePlain after → Halts t refusal after rest e x y → e.kind ≡ ToolExecError → (HasFault rest → ⊥) → Reached t.shows before after rest
 reached t refusal before [] rest e x y f plain h k sound = absurd (unmemory refusal e f h.0 k)
-reached t refusal before (s ∷ ss) rest e x y f plain (inl h) k sound = absurd (unmemory refusal e f h.0 k)
+reached t refusal before (s ∷ ss) rest e x y f plain (inl h) k sound = absurd (unmemory refusal e f (inl h.0) k)
 reached t refusal before (s ∷ ss) rest e x y f plain (inr stop) k sound =
     let r = stop_started t s rest e x y plain.0 stop k sound in
     record { stage = s; more = ss; are = refl; loud = r.0; begun = r.1; kept = r.2 }
@@ -158,19 +166,20 @@ first_eq x y xs ys e = cc
 rest_eq : {X : Type 0} (x y : X) (xs ys : List X) → x ∷ xs ≡ y ∷ ys → xs ≡ ys
 rest_eq x y xs ys e = cc
 
-quiet_none : (s : Stage) → is_quiet s ≡ true → commands_of s ≡ []
+quiet_none : (s : Stage) → is_quiet s ≡ true → children_of s ≡ []
 quiet_none (Calls step) q = refl
 quiet_none Asks q = refl
+quiet_none (Tries refused p) q = absurd (let k : false ≡ true = q in cc)
 quiet_none (RunsOne p) q = absurd (let k : false ≡ true = q in cc)
 quiet_none (RunsAll ps) q = absurd (let k : false ≡ true = q in cc)
 
 -- a stage of commands stands at the first one of these, or behind it
-behind_shape : (ps : List Planned) (first more before after : List Stage) (s : Stage) → AreQuiet first → is_quiet s ≡ false → before ++ s ∷ after ≡ first ++ RunsAll ps ∷ more → (rest : List Planned) × (commands_in before ++ commands_of s ≡ ps ++ rest)
-behind_shape ps [] more [] after s q loud e = ([], ap commands_of (first_eq s (RunsAll ps) after more e) ∙ sym (append-nil ps))
+behind_shape : (ps : List Planned) (first more before after : List Stage) (s : Stage) → AreQuiet first → is_quiet s ≡ false → before ++ s ∷ after ≡ first ++ RunsAll ps ∷ more → (rest : List Planned) × (children_in before ++ children_of s ≡ ps ++ rest)
+behind_shape ps [] more [] after s q loud e = ([], ap children_of (first_eq s (RunsAll ps) after more e) ∙ sym (append-nil ps))
 behind_shape ps [] more (b ∷ before) after s q loud e =
     let same : b ≡ RunsAll ps = first_eq b (RunsAll ps) (before ++ s ∷ after) more e in (
-      commands_in before ++ commands_of s,
-      ap (λ l. (l ++ commands_in before) ++ commands_of s) (ap commands_of same) ∙ append_assoc ps (commands_in before) (commands_of s),
+      children_in before ++ children_of s,
+      ap (λ l. (l ++ children_in before) ++ children_of s) (ap children_of same) ∙ append_assoc ps (children_in before) (children_of s),
     )
 behind_shape ps (f ∷ first) more [] after s q loud e =
     let same : s ≡ f = first_eq s f after (first ++ RunsAll ps ∷ more) e in
@@ -178,9 +187,9 @@ behind_shape ps (f ∷ first) more [] after s q loud e =
     absurd (cc)
 behind_shape ps (f ∷ first) more (b ∷ before) after s q loud e =
     let same : b ≡ f = first_eq b f (before ++ s ∷ after) (first ++ RunsAll ps ∷ more) e in
-    let none : commands_of b ≡ [] = quiet_none b (ap is_quiet same ∙ q.0) in
+    let none : children_of b ≡ [] = quiet_none b (ap is_quiet same ∙ q.0) in
     let r = behind_shape ps first more before after s q.1 loud (rest_eq b f (before ++ s ∷ after) (first ++ RunsAll ps ∷ more) e) in
-    (r.0, ap (λ l. (l ++ commands_in before) ++ commands_of s) none ∙ r.1)
+    (r.0, ap (λ l. (l ++ children_in before) ++ children_of s) none ∙ r.1)
 
 module _ (t : Terms) (ps : List Planned) (refusal : Option ErrorSeen) (stages : List Stage) (part : List Event) (e : ErrorSeen) (x z : Means) (never : NeverRan refusal) (plain : ArePlain stages) (shape : AreQuiet stages ⊎ Shape ps stages) (h : Halted t refusal stages part e x z) (badly : e.kind ≡ ToolExecError) where
   -- these were started, and none was left alone
@@ -196,7 +205,7 @@ module _ (t : Terms) (ps : List Planned) (refusal : Option ErrorSeen) (stages : 
           ap started h.cut
               ∙ flat_map-append started_of h.front h.rest
               ∙ ap₂ (λ u v. u ++ v) (went_started t h.before h.front x h.y h.went) r.begun
-              ∙ sym (map-append (asked_by t.shows) (commands_in h.before) (commands_of r.stage))
+              ∙ sym (map-append (asked_by t.shows) (children_in h.before) (children_of r.stage))
               ∙ ap (map (asked_by t.shows)) k.1
               ∙ map-append (asked_by t.shows) ps k.0,
         ),

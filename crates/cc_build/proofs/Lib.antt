@@ -3,11 +3,15 @@ pub mod BesideLaws
 pub mod BuiltLaws
 pub mod Doing
 pub mod FailedLaws
+pub mod FormLaws
 pub mod Going
+pub mod Growing
 pub mod Keeping
 pub mod Looks
 pub mod OrderLaws
 pub mod Outcomes
+pub mod PartLaws
+pub mod PhaseLaws
 pub mod PromiseLaws
 pub mod RunLaws
 pub mod Running
@@ -16,4 +20,5 @@ pub mod Stages
 pub mod StopLaws
 pub mod SupportLaws
 pub mod Telling
+pub mod Trying
 pub mod TurnLaws

@@ -1,9 +1,9 @@
 -- Verdicts that agree with the answers of a run agree with those of each of its stages.
-use Rattle.std.proofs.Common.{◌≡◌, List, [], ◌∷◌, ◌++◌, Result, Ok, Err, OnOk, subst}
+use Rattle.std.proofs.Common.{◌≡◌, List, [], ◌∷◌, ◌++◌, subst}
 use Rattle.std.proofs.lemmas.Grind.{flat_map-append}
 use Rattle.cc_host.specs.declared.event.Event.{Event}
 use Rattle.cc_host.specs.Part.{since}
-use Rattle.cc_host.specs.Question.{Look, Answer, answer_of, answers, Agrees, Holds}
+use Rattle.cc_host.specs.Question.{Look, Answer, answer_of, answers, Agrees}
 use Rattle.cc_host.proofs.Parts.{since_since}
 
 agrees_both : (look : Look) (xs ys : List Answer) → Agrees look (xs ++ ys) → Agrees look xs × Agrees look ys
@@ -17,15 +17,3 @@ agrees_parts look a b h = agrees_both look (answers a) (answers b) (subst (Agree
 pub agrees_since : (look : Look) (old mid new : List Event) → mid ≡ old ++ since old mid → new ≡ mid ++ since mid new → Agrees look (answers (since old new)) → Agrees look (answers (since old mid)) × Agrees look (answers (since mid new))
 agrees_since look old mid new e f h =
     agrees_parts look (since old mid) (since mid new) (subst (λ (p : List Event). Agrees look (answers p)) (since_since old mid new e f) h)
-
--- what holds under the answers of a stage holds under those of the run
-pub holds_first : (P : Look → Type 0) (old mid new : List Event) → mid ≡ old ++ since old mid → new ≡ mid ++ since mid new → Holds (answers (since old mid)) P → Holds (answers (since old new)) P
-holds_first P old mid new e f h = record { under = λ look agree. h.under look (agrees_since look old mid new e f agree).0 }
-
-pub holds_second : (P : Look → Type 0) (old mid new : List Event) → mid ≡ old ++ since old mid → new ≡ mid ++ since mid new → Holds (answers (since mid new)) P → Holds (answers (since old new)) P
-holds_second P old mid new e f h = record { under = λ look agree. h.under look (agrees_since look old mid new e f agree).1 }
-
--- an answer that is Ok under all verdicts
-pub ok_holds : {T E : Type 0} (P : Look → Type 0) (known : List Answer) (r : Result T E) → Holds known (λ look. OnOk r (P look)) → OnOk r (Holds known P)
-ok_holds P known (Ok x) h = record { under = λ look agree. h.under look agree }
-ok_holds P known (Err e) h = tt

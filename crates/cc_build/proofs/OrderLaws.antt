@@ -33,11 +33,13 @@ use Rattle.cc_run.specs.declared.planned.Planned.{Planned}
 use Rattle.cc_run.specs.declared.planned.Shows.{Shows}
 use Rattle.cc_tool.specs.Probing.{is_asked}
 use Rattle.cc_build.specs.Error.{ErrorSeen}
-use Rattle.cc_build.specs.Order.{is_archive_event, ArchivesLast}
+use Rattle.cc_build.specs.Order.{is_archive_role, is_archive_event, ArchivesLast}
 use Rattle.cc_build.specs.Refusal.{refusal_error}
-use Rattle.cc_build.specs.Stage.{Stage, calls, planned as planned_in, beside, folder_stages, compile_stages, removal_stages, archive_stages, link_stages, late_stages, planned_stages}
-use Rattle.cc_build.specs.Stage.Stage.{Calls, Asks, RunsOne, RunsAll}
+use Rattle.cc_build.specs.Stage.{Stage, calls, planned as planned_in, beside, folder_stages, compile_stages, later_stages, late_stages, planned_stages}
+use Rattle.cc_build.specs.Way.{Way}
+use Rattle.cc_build.specs.Stage.Stage.{Calls, Asks, Tries, RunsOne, RunsAll}
 use Rattle.cc_build.specs.Went.{Terms, Means, RanAll, RanOne, Did, Went, Stops, Halts, Halted, Ends, Partly, Goes}
+use Rattle.cc_build.proofs.Trying.{done_of, done_silent, broken_of, broken_silent}
 
 -- ---- a part that went through the first of its stages
 
@@ -66,10 +68,6 @@ ended_partly t refusal stages part (Err e) x y o = halted_partly t refusal stage
 
 -- ---- stages without an archive command
 
-abbrev is_archive_role : Role → Bool
-is_archive_role Archive = true
-is_archive_role _ = false
-
 abbrev is_archive_command : Planned → Bool
 is_archive_command p = is_archive_role p.role
 
@@ -81,6 +79,7 @@ is_command _ = false
 abbrev pub may_archive : Stage → Bool
 may_archive (Calls step) = is_command step
 may_archive Asks = false
+may_archive (Tries refused p) = is_archive_command p
 may_archive (RunsOne p) = is_archive_command p
 may_archive (RunsAll ps) = list_any is_archive_command ps
 
@@ -89,10 +88,10 @@ abbrev pub NoArchive : List Stage → Type 0
 NoArchive stages = list_any may_archive stages ≡ false
 
 -- no event is one of an archive command
-abbrev IsSilent : List Event → Type 0
+abbrev pub IsSilent : List Event → Type 0
 IsSilent part = list_any is_archive_event part ≡ false
 
-no_archive_then : (a b : List Stage) → NoArchive a → NoArchive b → NoArchive (a ++ b)
+pub no_archive_then : (a b : List Stage) → NoArchive a → NoArchive b → NoArchive (a ++ b)
 no_archive_then a b m n = list_any-append may_archive a b ∙ or_from (list_any may_archive a) (list_any may_archive b) m n
 
 silent_then : (a b : List Event) → IsSilent a → IsSilent b → IsSilent (a ++ b)
@@ -150,14 +149,12 @@ by_answer cmds (Err e) none = missing_none cmds e none
 run_silent : (part : List Event) → list_all is_of_run part ≡ true → list_any asks_archive (started part) ≡ false → list_any lacks_archive (missing part) ≡ false → IsSilent part
 unfolding asks_archive lacks_archive
 run_silent [] own s m = refl
-run_silent (Started id Archive cmd pipes held ∷ part) own s m = absurd (cc)
-run_silent (Started id Compile cmd pipes held ∷ part) own s m = run_silent part own s m
-run_silent (Started id Index cmd pipes held ∷ part) own s m = run_silent part own s m
-run_silent (Started id Expand cmd pipes held ∷ part) own s m = run_silent part own s m
-run_silent (Missing Archive cmd ∷ part) own s m = absurd (cc)
-run_silent (Missing Compile cmd ∷ part) own s m = run_silent part own s m
-run_silent (Missing Index cmd ∷ part) own s m = run_silent part own s m
-run_silent (Missing Expand cmd ∷ part) own s m = run_silent part own s m
+run_silent (Started id role cmd pipes held ∷ part) own s m =
+    let k = or_parts (is_archive_role role) (list_any asks_archive (started part)) s in
+    or_from (is_archive_role role) (list_any is_archive_event part) k.0 (run_silent part own k.1 m)
+run_silent (Missing role cmd ∷ part) own s m =
+    let k = or_parts (is_archive_role role) (list_any lacks_archive (missing part)) m in
+    or_from (is_archive_role role) (list_any is_archive_event part) k.0 (run_silent part own s k.1)
 run_silent (Ran role cmd pipes status out err ∷ part) own s m = absurd (cc)
 run_silent (event ∷ part) own s m = run_silent part (and_parts (is_of_run event) (list_all is_of_run part) own).1 s m
 
@@ -232,17 +229,19 @@ asked_silent (event ∷ part) all =
 did_silent : (t : Terms) (s : Stage) (part : List Event) (x y : Means) → may_archive s ≡ false → Did t s part x y → IsSilent part
 did_silent t (Calls step) part x y none d = silent_one d.0 part d.1.0 (call_silent step d.0 none d.1.1)
 did_silent t Asks part x y none d = asked_silent part d.0
+did_silent t (Tries refused p) part x y none d = done_silent p refused part none (done_of t p part refused d.0)
 did_silent t (RunsOne p) part x y none d = one_silent t part (Ok tt) x y p none d
 did_silent t (RunsAll ps) part x y none d = all_silent t part (Ok tt) x y ps none d
 
-stop_silent : (t : Terms) (s : Stage) (part : List Event) (e : ErrorSeen) (x y : Means) → may_archive s ≡ false → Stops t s part e x y → IsSilent part
+pub stop_silent : (t : Terms) (s : Stage) (part : List Event) (e : ErrorSeen) (x y : Means) → may_archive s ≡ false → Stops t s part e x y → IsSilent part
 stop_silent t (Calls step) part e x y none d = silent_one d.0 part d.1.0 (refusal_silent step d.0 none d.1.1)
-stop_silent t Asks part e x y none d = absurd d
+stop_silent t Asks part e x y none d = asked_silent part d.1
+stop_silent t (Tries refused p) part e x y none d = broken_silent p part none (broken_of t.shows p part d.0 d.1.0 d.1.1)
 stop_silent t (RunsOne p) part e x y none d = one_silent t part (Err d.0) x y p none d.1.0
 stop_silent t (RunsAll ps) part e x y none d = all_silent t part (Err d.0) x y ps none d.1.0
 
 -- a part of stages of which none archives has no archive command
-partly_silent : (t : Terms) (stages : List Stage) (part : List Event) (x z : Means) → NoArchive stages → Partly t stages part x z → IsSilent part
+pub partly_silent : (t : Terms) (stages : List Stage) (part : List Event) (x z : Means) → NoArchive stages → Partly t stages part x z → IsSilent part
 partly_silent t [] part x z none p = silent_none part p.0
 partly_silent t (s ∷ ss) part x z none (inl p) = silent_none part p.0
 partly_silent t (s ∷ ss) part x z none (inr (inl p)) = stop_silent t s part p.0 x z (or_parts (may_archive s) (list_any may_archive ss) none).0 p.1
@@ -292,7 +291,7 @@ archives_behind t first stages part x y none p (inr alone) before after event is
 
 -- ---- the stages of a compile run
 
-no_folder_archives : (set : BuildConfig) (env : EnvSeen) → NoArchive (folder_stages set env)
+pub no_folder_archives : (set : BuildConfig) (env : EnvSeen) → NoArchive (folder_stages set env)
 unfolding folder_stages folder_steps
 no_folder_archives set env = by_files (is_empty set.files)
   where
@@ -300,7 +299,7 @@ no_folder_archives set env = by_files (is_empty set.files)
     by_files true = refl
     by_files false = refl
 
-no_line_archives : (kind : LineKind) (lines : List (List ℕ)) → NoArchive (calls (prints kind lines))
+pub no_line_archives : (kind : LineKind) (lines : List (List ℕ)) → NoArchive (calls (prints kind lines))
 unfolding prints
 no_line_archives kind [] = refl
 no_line_archives kind (line ∷ lines) = no_line_archives kind lines
@@ -314,7 +313,7 @@ no_source_command [] = refl
 no_source_command (cmd ∷ []) = refl
 no_source_command (cmd ∷ next ∷ cmds) = or_from (list_any is_archive_command (planned_in Compile cmds)) false (compiles_alone cmds) refl
 
-no_compile_archives : (set : BuildConfig) (env : EnvSeen) (warns_of_link : Bool) (look : Look) → NoArchive (compile_stages set env warns_of_link look)
+pub no_compile_archives : (set : BuildConfig) (env : EnvSeen) (warns_of_link : Bool) (look : Look) → NoArchive (compile_stages set env warns_of_link look)
 unfolding compile_stages
 no_compile_archives set env warns_of_link look = no_archive_then (calls (prints Warning (warning_lines set env warns_of_link look))) (beside (planned_in Compile (compiles_of set env look))) (no_line_archives Warning (warning_lines set env warns_of_link look)) (no_source_command (compiles_of set env look))
 
@@ -332,17 +331,16 @@ by_checks false true late folder compile more none = inr (no_archive_then folder
 by_checks false false true folder compile more none = inr (no_archive_then folder (Asks ∷ []) none refl)
 by_checks false false false folder compile more none = inl (more, sym (append_assoc folder (Asks ∷ compile) more))
 
-pub planned : (set : BuildConfig) (env : EnvSeen) (warns_of_link : Bool) (look : Look) (output : List ℕ) → IsOrdered (folder_stages set env) (compile_stages set env warns_of_link look) (planned_stages set env warns_of_link look output)
+pub planned : (set : BuildConfig) (env : EnvSeen) (way : Way) (look : Look) (output : List ℕ) → IsOrdered (folder_stages set env) (compile_stages set env way.warns_of_link look) (planned_stages set env way look output)
 unfolding planned_stages late_stages
-planned set env warns_of_link look output =
-    by_checks (is_some (early_refusal set env output)) (is_disabled env) (is_some (late_refusal set env look)) (folder_stages set env) (compile_stages set env warns_of_link look)
-    (removal_stages set env output ++ (archive_stages set env output ++ link_stages set env output))
-    (no_folder_archives set env)
+planned set env way look output =
+    by_checks (is_some (early_refusal set env output)) (is_disabled env) (is_some (late_refusal set env look)) (folder_stages set env) (compile_stages set env way.warns_of_link look)
+    (later_stages set env way look output) (no_folder_archives set env)
 
 -- a compile run archives behind the folder, the questions and all sources
-pub ordered : {T : Type 0} (t : Terms) (set : BuildConfig) (env : EnvSeen) (warns_of_link : Bool) (look : Look) (output : List ℕ) (part : List Event) (r : Result T ErrorSeen) (x y : Means) → Ends t (refusal_error set env look output) (planned_stages set env warns_of_link look output) part r x y → ArchivesLast t set env look part
-ordered t set env warns_of_link look output part r x y o = λ before after event is archives.
-    let stages = planned_stages set env warns_of_link look output in
-    let first = folder_stages set env ++ Asks ∷ compile_stages set env warns_of_link look in
-    let found = archives_behind t first stages part x y (no_source_archives set env warns_of_link look) (ended_partly t (refusal_error set env look output) stages part r x y o) (planned set env warns_of_link look output) before after event is archives in
-    (warns_of_link, record { runs = found.0; rest = found.1; cut = found.2.0; compiled = found.2.1 })
+pub ordered : {T : Type 0} (t : Terms) (set : BuildConfig) (env : EnvSeen) (way : Way) (look : Look) (output : List ℕ) (part : List Event) (r : Result T ErrorSeen) (x y : Means) → Ends t (refusal_error set env look output) (planned_stages set env way look output) part r x y → ArchivesLast t set env look part
+ordered t set env way look output part r x y o = λ before after event is archives.
+    let stages = planned_stages set env way look output in
+    let first = folder_stages set env ++ Asks ∷ compile_stages set env way.warns_of_link look in
+    let found = archives_behind t first stages part x y (no_source_archives set env way.warns_of_link look) (ended_partly t (refusal_error set env look output) stages part r x y o) (planned set env way look output) before after event is archives in
+    (way.warns_of_link, record { runs = found.0; rest = found.1; cut = found.2.0; compiled = found.2.1 })

@@ -1,5 +1,5 @@
 -- What follows from how a compile run ended.
-use Rattle.std.proofs.Common.{◌≡◌, ◌≤◌, inl, inr, ℕ, List, [], ◌∷◌, ◌++◌, length, map, Bool, true, false, not, ◌||◌, Result, Ok, Err, sym, ◌∙◌, ap}
+use Rattle.std.proofs.Common.{◌≡◌, ◌≤◌, inl, inr, ℕ, List, [], ◌∷◌, ◌++◌, length, map, Bool, true, false, not, Result, Ok, Err, sym, ◌∙◌, ap}
 use Rattle.std.specs.List.{list_any}
 use Rattle.cc_host.specs.Part.{is_probing}
 use Rattle.cc_host.specs.Question.{Look}
@@ -25,30 +25,13 @@ use Rattle.cc_build.proofs.Going.{went_one}
 use Rattle.cc_build.proofs.OrderLaws.{ended_partly, ordered}
 use Rattle.cc_build.proofs.SettledLaws.{partly_settled, partly_first}
 use Rattle.cc_build.proofs.StopLaws.{went_faultless, stop_faults, planned_plain}
+use Rattle.cc_build.proofs.Trying.{beyond}
 
 -- ---- a fault is last
 
 pub none_inside : (before after : List Event) (event : Event) → [] ≡ before ++ event ∷ after → ⊥
 none_inside [] after event h = cc
 none_inside (b ∷ before) after event h = cc
-
-no_clash : (a b : Bool) → (a || b) ≡ false → a ≡ true → ⊥
-no_clash true b none is = cc
-no_clash false b none is = cc
-
-or_second : (a b : Bool) → (a || b) ≡ false → b ≡ false
-or_second true b none = absurd (cc)
-or_second false b none = none
-
--- a fault of a list stands behind its first events, of which none is one
-beyond : (front rest before after : List Event) (event : Event) → list_any is_fault front ≡ false → is_fault event ≡ true → front ++ rest ≡ before ++ event ∷ after → (more : List Event) × (rest ≡ more ++ event ∷ after)
-beyond [] rest before after event none fault e = (before, e)
-beyond (x ∷ front) rest [] after event none fault e =
-    let same : x ≡ event = cc in
-    absurd (no_clash (is_fault x) (list_any is_fault front) none (ap is_fault same ∙ fault))
-beyond (x ∷ front) rest (b ∷ before) after event none fault e =
-    let others : front ++ rest ≡ before ++ event ∷ after = cc in
-    beyond front rest before after event (or_second (is_fault x) (list_any is_fault front) none) fault others
 
 -- behind a fault of a run children are abandoned, and nothing else is done
 pub fault_ends : (t : Terms) (stages : List Stage) (run : List Event) (x z : Means) (before after : List Event) (call : HostCall) (why : Why) → is_probing call ≡ false → run ≡ before ++ Fault call why ∷ after → Partly t stages run x z → (ids : List ℕ) × (after ≡ map Abandoned ids)
@@ -63,10 +46,10 @@ fault_ends t (s ∷ stages) run x z before after call why real is (inr (inr d)) 
 
 module _ {T : Type 0} (b : BuildSeen) (output : List ℕ) (result : Result T ErrorSeen) (look : Look) (part : List Event) (c : Course) (run : RunEnds b output result look part c) where
   partly : Partly (terms_for b c) (stages_for b run.0 look output) part c.before c.after
-  partly = ended_partly (terms_for b c) (refusal_error b.config b.env look output) (stages_for b run.0 look output) part result c.before c.after run.1
+  partly = ended_partly (terms_for b c) (refusal_error b.config b.env look output) (stages_for b run.0 look output) part result c.before c.after run.1.1
 
   pub built_so : IsBuilt b output result look part c
-  built_so = built_on_ok (terms_for b c) b.config b.env run.0 look output part result c.before c.after run.1
+  built_so = built_on_ok (terms_for b c) b.config b.env run.0 look output part result c.before c.after run.1.0 run.1.1
 
   pub nothing_runs : NothingRuns part
   nothing_runs = partly_settled (terms_for b c) (stages_for b run.0 look output) part c.before c.after 0 partly
@@ -76,12 +59,13 @@ module _ {T : Type 0} (b : BuildSeen) (output : List ℕ) (result : Result T Err
 
   pub promised : Promises b output result look part c
   promised = record {
-    warns_of_link = run.0;
-    outcome = run.1;
-    order = ordered (terms_for b c) b.config b.env run.0 look output part result c.before c.after run.1;
+    way = run.0;
+    repeats = run.1.0;
+    outcome = run.1.1;
+    order = ordered (terms_for b c) b.config b.env run.0 look output part result c.before c.after run.1.1;
     prefix = partly_first (terms_for b c) (stages_for b run.0 look output) part c.before c.after (planned_plain b.config b.env run.0 look output) partly;
     beside = λ many. compiled_beside (terms_for b c) b.config b.env run.0 look output part c.before c.after (planned_plain b.config b.env run.0 look output) many partly;
-    failed = all_badly result run.1;
+    failed = all_badly result run.1.1;
   }
     where
       all_badly : (r : Result T ErrorSeen) → Ends (terms_for b c) (refusal_error b.config b.env look output) (stages_for b run.0 look output) part r c.before c.after → (e : ErrorSeen) → 2 ≤ length b.config.files → r ≡ Err e → e.kind ≡ ToolExecError → (HasFault part → ⊥) → AllStarted (shows_of b.config b.env) (compiles_of b.config b.env look) part

@@ -19,9 +19,10 @@ use Rattle.cc_run.specs.declared.planned.Shows.{Shows}
 use Rattle.cc_run.proofs.Runs.{run_from-append}
 use Rattle.cc_tool.specs.Probing.{is_asked}
 use Rattle.cc_build.specs.Built.{ended_well}
-use Rattle.cc_build.specs.Stage.{Stage, calls, beside, in_turn, commands_of, commands_in}
-use Rattle.cc_build.specs.Stage.Stage.{Calls, Asks, RunsOne, RunsAll}
-use Rattle.cc_build.specs.Went.{Terms, Means, RanAll, RanOne, Did, Went}
+use Rattle.cc_build.specs.Stage.{Stage, calls, beside, in_turn, tried, behind_first, commands_of, commands_in, children_of, children_in}
+use Rattle.cc_build.specs.Stage.Stage.{Calls, Asks, Tries, RunsOne, RunsAll}
+use Rattle.cc_build.specs.Went.{Terms, Means, Tried, RanAll, RanOne, Did, Went}
+use Rattle.cc_build.proofs.Trying.{done_of, done_sole, sole_run, sole_started}
 
 -- ---- the same run behind others
 
@@ -109,41 +110,55 @@ ran_all t ps part x y h = whole_leaves (asked t.shows ps) h.log h.run.mid part h
 ran_one : (t : Terms) (p : Planned) (part : List Event) (x y : Means) → RanOne t p part (Ok tt) x y → Leaves (asked t.shows (p ∷ [])) part
 ran_one t p part x y h = whole_leaves (asked t.shows (p ∷ [])) h.log h.run.mid part h.run.run h.run.work.run h.run.work.begun h.run.dropped h.run.missing_is h.run.done.0 h.run.done.1
 
+-- no program of such a run was missing
+pub all_found : (t : Terms) (ps : List Planned) (part : List Event) (x y : Means) → RanAll t ps part (Ok tt) x y → missing part ≡ []
+all_found t ps part x y h = (ran_all t ps part x y h).found
+
+pub one_found : (t : Terms) (p : Planned) (part : List Event) (x y : Means) → RanOne t p part (Ok tt) x y → missing part ≡ []
+one_found t p part x y h = (ran_one t p part x y h).found
+
 -- ---- events of other stages
 
--- no command of a run was started or missing, and none ended
+-- each of these commands was started, and each has ended with 0
+record Leads (cmds : List Asked) (part : List Event) : Type 0 where
+  ended : (k : ℕ) → run_from (ended_well k) part ≡ ended_well (k + length cmds)
+  begun : started part ≡ cmds
+
+-- no command of a run was started, and none ended
 abbrev IsAside : Event → Type 0
-IsAside event = ((r : Run) → run_after r event ≡ r) × (started_of event ≡ []) × (missing_of event ≡ [])
+IsAside event = ((r : Run) → run_after r event ≡ r) × (started_of event ≡ [])
 
 step_aside : (event : Event) (step : Step) → step_of event ≡ step ∷ [] → IsAside event
 step_aside (Started id role cmd pipes held) step e = absurd (cc)
 step_aside (Ended id status) step e = absurd (cc)
 step_aside (Abandoned id) step e = absurd (cc)
-step_aside (Missing role cmd) step e = absurd (cc)
-step_aside event step e = ((λ r. refl), refl, refl)
+step_aside event step e = ((λ r. refl), refl)
 
 asked_aside : (event : Event) → is_asked event ≡ true → IsAside event
 asked_aside (Started id role cmd pipes held) e = absurd (cc)
 asked_aside (Ended id status) e = absurd (cc)
 asked_aside (Abandoned id) e = absurd (cc)
-asked_aside (Missing role cmd) e = absurd (cc)
-asked_aside event e = ((λ r. refl), refl, refl)
+asked_aside event e = ((λ r. refl), refl)
 
-leaves_nothing : Leaves [] []
-leaves_nothing = record { ended = (λ k. ap ended_well (sym (add-zero k))); begun = refl; found = refl }
+leads_nothing : Leads [] []
+leads_nothing = record { ended = (λ k. ap ended_well (sym (add-zero k))); begun = refl }
 
-aside_leaves : (event : Event) (part : List Event) → IsAside event → Leaves [] part → Leaves [] (event ∷ part)
-aside_leaves event part a l = record {
+aside_leads : (event : Event) (part : List Event) → IsAside event → Leads [] part → Leads [] (event ∷ part)
+aside_leads event part a l = record {
   ended = (λ k. ap (λ r. run_from r part) (a.0 (ended_well k)) ∙ l.ended k);
   begun = ap (λ s. s ++ started part) a.1 ∙ l.begun;
-  found = ap (λ s. s ++ missing part) a.2 ∙ l.found;
 }
 
-asked_leaves : (part : List Event) → list_all is_asked part ≡ true → Leaves [] part
-asked_leaves [] h = leaves_nothing
-asked_leaves (event ∷ part) h =
+asked_leads : (part : List Event) → list_all is_asked part ≡ true → Leads [] part
+asked_leads [] h = leads_nothing
+asked_leads (event ∷ part) h =
     let k = and_parts (is_asked event) (list_all is_asked part) h in
-    aside_leaves event part (asked_aside event k.0) (asked_leaves part k.1)
+    aside_leads event part (asked_aside event k.0) (asked_leads part k.1)
+
+tried_leads : (t : Terms) (p : Planned) (refused : Bool) (part : List Event) → Tried t p refused part → Leads [] part
+tried_leads t p refused part d =
+    let sole = done_sole p refused part (done_of t p part refused d) in
+    record { ended = (λ k. sole_run (ended_well k) part sole ∙ ap ended_well (sym (add-zero k))); begun = sole_started part sole }
 
 -- ---- stages
 
@@ -164,38 +179,63 @@ pub commands_in_turn : (ps : List Planned) → commands_in (in_turn ps) ≡ ps
 commands_in_turn [] = refl
 commands_in_turn (p ∷ ps) = ap (λ l. p ∷ l) (commands_in_turn ps)
 
-leaves_then : (shows : Shows) (a b : List Planned) (p q : List Event) → Leaves (asked shows a) p → Leaves (asked shows b) q → Leaves (asked shows (a ++ b)) (p ++ q)
-leaves_then shows a b p q l m = record {
+pub commands_tried : (refused : Bool) (ps : List Planned) → commands_in (tried refused ps) ≡ ps
+commands_tried refused [] = refl
+commands_tried refused (p ∷ ps) = ap (λ l. p ∷ l) (commands_in_turn ps)
+
+-- ---- the children of stages
+
+pub children_then : (a b : List Stage) → children_in (a ++ b) ≡ children_in a ++ children_in b
+children_then a b = flat_map-append children_of a b
+
+pub children_calls : (steps : List Step) → children_in (calls steps) ≡ []
+children_calls [] = refl
+children_calls (step ∷ steps) = children_calls steps
+
+pub children_beside : (ps : List Planned) → children_in (beside ps) ≡ ps
+children_beside [] = refl
+children_beside (p ∷ []) = refl
+children_beside (p ∷ q ∷ ps) = append-nil (p ∷ q ∷ ps)
+
+pub children_in_turn : (ps : List Planned) → children_in (in_turn ps) ≡ ps
+children_in_turn [] = refl
+children_in_turn (p ∷ ps) = ap (λ l. p ∷ l) (children_in_turn ps)
+
+pub children_tried : (refused : Bool) (ps : List Planned) → children_in (tried refused ps) ≡ behind_first ps
+children_tried refused [] = refl
+children_tried refused (p ∷ ps) = children_in_turn ps
+
+leads_then : (shows : Shows) (a b : List Planned) (p q : List Event) → Leads (asked shows a) p → Leads (asked shows b) q → Leads (asked shows (a ++ b)) (p ++ q)
+leads_then shows a b p q l m = record {
   ended = (λ k.
       run_from-append (ended_well k) p q ∙ ap (λ r. run_from r q) (l.ended k) ∙ m.ended (k + length (asked shows a))
       ∙ ap ended_well (add_assoc k (length (asked shows a)) (length (asked shows b)) ∙ ap (λ n. k + n) (sym (length-append (asked shows a) (asked shows b)) ∙ ap length (sym (map-append (asked_by shows) a b)))));
   begun = flat_map-append started_of p q ∙ ap₂ (λ u v. u ++ v) l.begun m.begun ∙ sym (map-append (asked_by shows) a b);
-  found = flat_map-append missing_of p q ∙ ap₂ (λ u v. u ++ v) l.found m.found;
 }
 
-did_leaves : (t : Terms) (s : Stage) (part : List Event) (x y : Means) → Did t s part x y → Leaves (asked t.shows (commands_of s)) part
-did_leaves t (Calls step) part x y d = subst (λ (l : List Event). Leaves [] l) (sym d.1.0) (aside_leaves d.0 [] (step_aside d.0 step d.1.1) leaves_nothing)
-did_leaves t Asks part x y d = asked_leaves part d.0
-did_leaves t (RunsOne p) part x y d = ran_one t p part x y d
-did_leaves t (RunsAll ps) part x y d = ran_all t ps part x y d
+leads_of : (cmds : List Asked) (part : List Event) → Leaves cmds part → Leads cmds part
+leads_of cmds part l = record { ended = l.ended; begun = l.begun }
 
-went_leaves : (t : Terms) (stages : List Stage) (part : List Event) (x y : Means) → Went t stages part x y → Leaves (asked t.shows (commands_in stages)) part
-went_leaves t [] part x y w = subst (λ (l : List Event). Leaves [] l) (sym w.0) leaves_nothing
-went_leaves t (s ∷ ss) part x y w =
-    subst (λ (l : List Event). Leaves (asked t.shows (commands_of s ++ commands_in ss)) l) (sym w.3.0)
-    (leaves_then t.shows (commands_of s) (commands_in ss) w.0 w.1 (did_leaves t s w.0 x w.2 w.3.1) (went_leaves t ss w.1 w.2 y w.3.2))
+did_leads : (t : Terms) (s : Stage) (part : List Event) (x y : Means) → Did t s part x y → Leads (asked t.shows (children_of s)) part
+did_leads t (Calls step) part x y d = subst (λ (l : List Event). Leads [] l) (sym d.1.0) (aside_leads d.0 [] (step_aside d.0 step d.1.1) leads_nothing)
+did_leads t Asks part x y d = asked_leads part d.0
+did_leads t (Tries refused p) part x y d = tried_leads t p refused part d.0
+did_leads t (RunsOne p) part x y d = leads_of (asked t.shows (p ∷ [])) part (ran_one t p part x y d)
+did_leads t (RunsAll ps) part x y d = leads_of (asked t.shows ps) part (ran_all t ps part x y d)
 
--- the commands of the stages were started, and nothing else
-pub went_started : (t : Terms) (stages : List Stage) (part : List Event) (x y : Means) → Went t stages part x y → started part ≡ asked t.shows (commands_in stages)
-went_started t stages part x y w = (went_leaves t stages part x y w).begun
+went_leads : (t : Terms) (stages : List Stage) (part : List Event) (x y : Means) → Went t stages part x y → Leads (asked t.shows (children_in stages)) part
+went_leads t [] part x y w = subst (λ (l : List Event). Leads [] l) (sym w.0) leads_nothing
+went_leads t (s ∷ ss) part x y w =
+    subst (λ (l : List Event). Leads (asked t.shows (children_of s ++ children_in ss)) l) (sym w.3.0)
+    (leads_then t.shows (children_of s) (children_in ss) w.0 w.1 (did_leads t s w.0 x w.2 w.3.1) (went_leads t ss w.1 w.2 y w.3.2))
+
+-- the commands of the stages were started, but one that was tried, and nothing else
+pub went_started : (t : Terms) (stages : List Stage) (part : List Event) (x y : Means) → Went t stages part x y → started part ≡ asked t.shows (children_in stages)
+went_started t stages part x y w = (went_leads t stages part x y w).begun
 
 -- and each of them has ended with 0
-pub went_run : (t : Terms) (stages : List Stage) (part : List Event) (x y : Means) (k : ℕ) → Went t stages part x y → run_from (ended_well k) part ≡ ended_well (k + length (commands_in stages))
-went_run t stages part x y k w = (went_leaves t stages part x y w).ended k ∙ ap (λ n. ended_well (k + n)) (length-map (commands_in stages) (asked_by t.shows))
-
--- no program was missing
-pub went_missing : (t : Terms) (stages : List Stage) (part : List Event) (x y : Means) → Went t stages part x y → missing part ≡ []
-went_missing t stages part x y w = (went_leaves t stages part x y w).found
+pub went_run : (t : Terms) (stages : List Stage) (part : List Event) (x y : Means) (k : ℕ) → Went t stages part x y → run_from (ended_well k) part ≡ ended_well (k + length (children_in stages))
+went_run t stages part x y k w = (went_leads t stages part x y w).ended k ∙ ap (λ n. ended_well (k + n)) (length-map (children_in stages) (asked_by t.shows))
 
 -- a part that did two lists of stages is cut between them
 pub went_split : (t : Terms) (a b : List Stage) (part : List Event) (x z : Means) → Went t (a ++ b) part x z → (p q : List Event) × (y : Means) × ((part ≡ p ++ q) × Went t a p x y × Went t b q y z)

@@ -1,5 +1,5 @@
 -- Runs of commands as stages.
-use Rattle.std.proofs.Common.{◌≡◌, ◌⊎◌, ◌+◌, inl, inr, List, [], ◌∷◌, ◌++◌, length, ◌≤◌, true, false, None, Result, Ok, Err, refl, sym, ◌∙◌, ap, subst}
+use Rattle.std.proofs.Common.{◌≡◌, ◌⊎◌, ◌+◌, inl, inr, Bool, List, [], ◌∷◌, ◌++◌, length, ◌≤◌, true, false, None, Result, Ok, Err, refl, sym, ◌∙◌, ap, subst}
 use Rattle.std.specs.Prelude.{IfSome}
 use Rattle.std.specs.List.{list_all}
 use Rattle.std.proofs.lemmas.Bool.{and_parts}
@@ -26,7 +26,10 @@ use Rattle.cc_tool.specs.Asked.{question_event, question_events}
 use Rattle.cc_build.specs.Error.{ErrorSeen, no_memory}
 use Rattle.cc_build.specs.RunErrors.{run_error}
 use Rattle.cc_build.specs.Stage.Stage.{RunsOne, RunsAll}
-use Rattle.cc_build.specs.Went.{Terms, Means, RanOne, RanAll, Went, Halted}
+use Rattle.cc_run.specs.Output.{IsSilentRun}
+use Rattle.cc_run.specs.declared.planned.Shows.{Shows}
+use Rattle.cc_build.specs.Went.{Terms, Means, terms, is_refusal, Tried, RanOne, RanAll, IsOf, Went, Halted}
+use Rattle.cc_build.proofs.Trying.{done_of, done_sole, broken_of, broken_sole, sole_asks_none}
 use Rattle.cc_build.proofs.Going.{went_one, halted_at, part_is}
 
 -- ---- a run asks nothing
@@ -83,6 +86,19 @@ alone_done t p part x y ran = went_one t (RunsOne p) part x y ran
 pub alone_refused : (t : Terms) (p : Planned) (part : List Event) (x y : Means) (error : RunError) (e : ErrorSeen) → RanOne t p part (Err error) x y → (e ≡ run_error (p ∷ []) error) ⊎ (e ≡ no_memory) → Halted t None (RunsOne p ∷ []) part e x y
 alone_refused t p part x y error e ran (inl is) = halted_at t None (RunsOne p) [] part e x y (error, (ran, inr is))
 alone_refused t p part x y error e ran (inr memory) = halted_at t None (RunsOne p) [] part e x y (error, (ran, inl memory))
+
+-- ---- a command that is tried
+
+-- it asks nothing
+pub tried_asks_none : (shows : Shows) (p : Planned) (refused : Bool) (part : List Event) → Tried (terms shows None None) p refused part → question_events part ≡ []
+tried_asks_none shows p refused part d = sole_asks_none part (done_sole p refused part (done_of (terms shows None None) p part refused d))
+
+pub broken_asks_none : (shows : Shows) (p : Planned) (part : List Event) (error : RunError) → is_refusal error ≡ false → IsSilentRun shows p (Err error) part → question_events part ≡ []
+broken_asks_none shows p part error r h = sole_asks_none part (broken_sole p part (broken_of shows p part error r h))
+
+pub cause_of : (p : Planned) (error : RunError) (e : ErrorSeen) → (e ≡ run_error (p ∷ []) error) ⊎ (e ≡ no_memory) → IsOf (run_error (p ∷ []) error) e
+cause_of p error e (inl is) = inr is
+cause_of p error e (inr memory) = inl memory
 
 -- ---- commands beside each other
 

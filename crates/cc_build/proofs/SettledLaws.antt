@@ -9,7 +9,7 @@ use Rattle.cc_host.specs.Part.{Step, step_of, Refuses}
 use Rattle.cc_host.specs.Part.Step.{Runs, Makes, Removes, Prints, Lists}
 use Rattle.cc_host.specs.Status.{is_success}
 use Rattle.cc_host.specs.declared.event.Event.{Event}
-use Rattle.cc_host.specs.declared.event.Event.TheVariants.{Started, Ran, Missing, Fault}
+use Rattle.cc_host.specs.declared.event.Event.TheVariants.{Started, Ended, Abandoned, Ran, Missing, Fault}
 use Rattle.cc_host.specs.declared.event.Role.{Role}
 use Rattle.cc_host.specs.declared.event.Status.{Status}
 use Rattle.cc_run.specs.Own.{is_of_run}
@@ -23,15 +23,16 @@ use Rattle.cc_run.specs.declared.planned.Shows.{Shows}
 use Rattle.cc_run.proofs.Runs.{run_from-append}
 use Rattle.cc_run.proofs.Drops.{gone_missing}
 use Rattle.cc_tool.specs.Probing.{is_asked}
-use Rattle.cc_build.specs.Attempts.{attempt_of, attempts, to_attempt}
+use Rattle.cc_build.specs.Attempts.{attempt_of, attempts, to_attempt, tried_of, all_tried}
 use Rattle.cc_build.specs.Built.{ended_well}
 use Rattle.cc_build.specs.Error.{ErrorSeen}
-use Rattle.cc_build.specs.Stage.{Stage, commands_of, commands_in}
-use Rattle.cc_build.specs.Stage.Stage.{Calls, Asks, RunsOne, RunsAll}
-use Rattle.cc_build.specs.Went.{Terms, Means, Did, Stops, Partly}
+use Rattle.cc_build.specs.Stage.{Stage, commands_of, commands_in, children_of, children_in, in_turn}
+use Rattle.cc_build.specs.Stage.Stage.{Calls, Asks, Tries, RunsOne, RunsAll}
+use Rattle.cc_build.specs.Went.{Terms, Means, Did, Went, Stops, Partly}
 use Rattle.cc_build.proofs.Going.{went_one}
-use Rattle.cc_build.proofs.RunLaws.{shifted, went_started, went_run, went_missing}
+use Rattle.cc_build.proofs.RunLaws.{shifted, went_started, went_run, one_found, all_found}
 use Rattle.cc_build.proofs.StopLaws.{Said, said_all, said_one, IsPlain, ArePlain}
+use Rattle.cc_build.proofs.Trying.{done_of, done_attempts, broken_of, broken_sole, broken_first, sole_run}
 
 -- ---- no child runs
 
@@ -67,9 +68,22 @@ refused_still (Prints kind bytes) (Fault call why) r h = refl
 refused_still Lists (Fault call why) r h = refl
 refused_still _ _ r h = absurd h
 
+asked_still : (event : Event) (r : Run) → is_asked event ≡ true → run_after r event ≡ r
+asked_still (Started id role cmd pipes held) r h = absurd (cc)
+asked_still (Ended id status) r h = absurd (cc)
+asked_still (Abandoned id) r h = absurd (cc)
+asked_still event r h = refl
+
+asked_settled : (r : Run) (part : List Event) → r.live ≡ [] → list_all is_asked part ≡ true → (run_from r part).live ≡ []
+asked_settled r [] none h = none
+asked_settled r (event ∷ part) none h =
+    let k = and_parts (is_asked event) (list_all is_asked part) h in
+    ap (λ (s : Run). (run_from s part).live) (asked_still event r k.0) ∙ asked_settled r part none k.1
+
 stop_settled : (t : Terms) (s : Stage) (part : List Event) (e : ErrorSeen) (x y : Means) (k : ℕ) → Stops t s part e x y → (run_from (ended_well k) part).live ≡ []
 stop_settled t (Calls step) part e x y k d = ap (λ p. (run_from (ended_well k) p).live) d.1.0 ∙ ap (λ (r : Run). r.live) (refused_still step d.0 (ended_well k) d.1.1)
-stop_settled t Asks part e x y k d = absurd d
+stop_settled t Asks part e x y k d = asked_settled (ended_well k) part refl d.1
+stop_settled t (Tries refused p) part e x y k d = ap (λ (r : Run). r.live) (sole_run (ended_well k) part (broken_sole p part (broken_of t.shows p part d.0 d.1.0 d.1.1)))
 stop_settled t (RunsOne p) part e x y k d = settled_behind k part (run_settled (asked t.shows (p ∷ [])) part (Err d.0) (said_one t p part (Err d.0) x y d.1.0))
 stop_settled t (RunsAll ps) part e x y k d = settled_behind k part (run_settled (asked t.shows ps) part (Err d.0) (said_all t ps part (Err d.0) x y d.1.0))
 
@@ -82,7 +96,7 @@ partly_settled t (s ∷ ss) part x z k (inr (inr d)) =
     ap (λ l. (run_from (ended_well k) l).live) d.3.0
     ∙ ap (λ (r : Run). r.live) (run_from-append (ended_well k) d.0 d.1)
     ∙ ap (λ r. (run_from r d.1).live) (went_run t (s ∷ []) d.0 x d.2 k (went_one t s d.0 x d.2 d.3.1))
-    ∙ partly_settled t ss d.1 d.2 z (k + length (commands_in (s ∷ []))) d.3.2
+    ∙ partly_settled t ss d.1 d.2 z (k + length (children_in (s ∷ []))) d.3.2
 
 -- ---- one attempt for each command
 
@@ -229,23 +243,50 @@ all_none (event ∷ part) h =
 
 module _ (t : Terms) (s : Stage) (part : List Event) (x y : Means) (d : Did t s part x y) where
   -- a run whose commands have all ended with 0
-  whole_attempts : list_all is_of_run part ≡ true → attempts part ≡ map to_attempt (commands_of s)
-  whole_attempts own =
+  whole_attempts : list_all is_of_run part ≡ true → missing part ≡ [] → attempts part ≡ map to_attempt (children_of s)
+  whole_attempts own found =
       let w = went_one t s part x y d in
-      calm_attempts part [] (ap (list_all is_of_run) (append-nil part) ∙ own) (went_missing t (s ∷ []) part x y w)
+      calm_attempts part [] (ap (list_all is_of_run) (append-nil part) ∙ own) found
       ∙ ap (map as_attempt) (went_started t (s ∷ []) part x y w)
-      ∙ attempts_asked t.shows (commands_in (s ∷ []))
-      ∙ ap (map to_attempt) (append-nil (commands_of s))
+      ∙ attempts_asked t.shows (children_in (s ∷ []))
+      ∙ ap (map to_attempt) (append-nil (children_of s))
 
 did_attempts : (t : Terms) (s : Stage) (part : List Event) (x y : Means) → IsPlain s → Did t s part x y → attempts part ≡ map to_attempt (commands_of s)
 did_attempts t (Calls step) part x y plain d = ap attempts d.1.0 ∙ append-nil (attempt_of d.0) ∙ called_none step d.0 plain d.1.1
 did_attempts t Asks part x y plain d = all_none part d.0
-did_attempts t (RunsOne p) part x y plain d = whole_attempts t (RunsOne p) part x y d d.own
-did_attempts t (RunsAll ps) part x y plain d = whole_attempts t (RunsAll ps) part x y d d.own
+did_attempts t (Tries refused p) part x y plain d = done_attempts p refused part (done_of t p part refused d.0)
+did_attempts t (RunsOne p) part x y plain d = whole_attempts t (RunsOne p) part x y d d.own (one_found t p part x y d)
+did_attempts t (RunsAll ps) part x y plain d = whole_attempts t (RunsAll ps) part x y d d.own (all_found t ps part x y d)
+
+-- each command of stages that were done was tried once, and no other
+pub went_attempts : (t : Terms) (stages : List Stage) (part : List Event) (x y : Means) → ArePlain stages → Went t stages part x y → attempts part ≡ map to_attempt (commands_in stages)
+went_attempts t [] part x y plain w = ap attempts w.0
+went_attempts t (s ∷ ss) part x y plain w =
+    ap attempts w.3.0
+    ∙ flat_map-append attempt_of w.0 w.1
+    ∙ ap (λ l. l ++ attempts w.1) (did_attempts t s w.0 x w.2 plain.0 w.3.1)
+    ∙ ap (λ l. map to_attempt (commands_of s) ++ l) (went_attempts t ss w.1 w.2 y plain.1 w.3.2)
+    ∙ sym (map-append to_attempt (commands_of s) (commands_in ss))
+
+calm_tried : (part : List Event) → list_all is_of_run part ≡ true → missing part ≡ [] → all_tried part ≡ []
+calm_tried [] own none = refl
+calm_tried (Missing role cmd ∷ part) own none = absurd (cc)
+calm_tried (Ran role cmd pipes status out err ∷ part) own none = absurd (cc)
+calm_tried (event ∷ part) own none = let k = and_parts (is_of_run event) (list_all is_of_run part) own in calm_tried part k.1 none
+
+-- commands that were started as children and have all ended with 0 were not run in one call
+pub in_turn_tried : (t : Terms) (ps : List Planned) (part : List Event) (x y : Means) → Went t (in_turn ps) part x y → all_tried part ≡ []
+in_turn_tried t [] part x y w = ap all_tried w.0
+in_turn_tried t (p ∷ ps) part x y w =
+    ap all_tried w.3.0
+    ∙ flat_map-append tried_of w.0 w.1
+    ∙ ap (λ l. l ++ all_tried w.1) (calm_tried w.0 w.3.1.own (one_found t p w.0 x w.2 w.3.1))
+    ∙ in_turn_tried t ps w.1 w.2 y w.3.2
 
 stop_first : (t : Terms) (s : Stage) (part : List Event) (e : ErrorSeen) (x y : Means) → IsPlain s → Stops t s part e x y → AreFirst (map to_attempt (commands_of s)) (attempts part)
 stop_first t (Calls step) part e x y plain d = ([], ap (λ l. l ++ []) (sym (ap attempts d.1.0 ∙ append-nil (attempt_of d.0) ∙ uncalled_none step d.0 plain d.1.1)))
-stop_first t Asks part e x y plain d = absurd d
+stop_first t Asks part e x y plain d = ([], ap (λ l. l ++ []) (sym (all_none part d.1)))
+stop_first t (Tries refused p) part e x y plain d = broken_first p part (broken_of t.shows p part d.0 d.1.0 d.1.1)
 stop_first t (RunsOne p) part e x y plain d =
     let r = run_first (asked t.shows (p ∷ [])) part d.0 (said_one t p part (Err d.0) x y d.1.0) in
     (r.0, sym (attempts_asked t.shows (p ∷ [])) ∙ r.1)

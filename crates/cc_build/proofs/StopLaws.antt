@@ -11,7 +11,7 @@ use Rattle.cc_host.specs.Part.{Step, since, step_of, Refuses, is_probing}
 use Rattle.cc_host.specs.Part.Step.{Runs, Makes, Removes, Prints, Lists}
 use Rattle.cc_host.specs.Question.{Look}
 use Rattle.cc_host.specs.declared.event.Event.{Event}
-use Rattle.cc_host.specs.declared.event.Event.TheVariants.{Abandoned, Fault}
+use Rattle.cc_host.specs.declared.event.Event.TheVariants.{Abandoned, Ran, Missing, Fault}
 use Rattle.cc_host.specs.declared.event.HostCall.{HostCall}
 use Rattle.cc_host.specs.declared.event.HostCall.TheVariants.{Start, Turn as Turning}
 use Rattle.cc_host.specs.declared.event.LineKind.{LineKind}
@@ -24,8 +24,9 @@ use Rattle.cc_host.specs.declared.event.Why.{Why}
 use Rattle.cc_host.proofs.Parts.{since_append}
 use Rattle.cc_jobs.specs.Seats.{Rose}
 use Rattle.cc_plan.specs.Given.{is_disabled}
-use Rattle.cc_plan.specs.Plan.{dir_of, link_lines, warning_lines, compiles_of, archives_of, indexes_of, prints, folder_steps, removal_steps, link_steps}
-use Rattle.cc_plan.specs.Refusal.{early_refusal, late_refusal, is_empty}
+use Rattle.cc_plan.specs.Link.{printed_links}
+use Rattle.cc_plan.specs.Plan.{dir_of, link_lines, warning_lines, compiles_of, prints, folder_steps, removal_steps, link_steps}
+use Rattle.cc_plan.specs.Refusal.{early_refusal, late_refusal, archiver_refusal, link_refusal, is_empty}
 use Rattle.cc_plan.specs.declared.settings.BuildConfig.{BuildConfig}
 use Rattle.cc_run.specs.Outcome.{missing_by, faults_by, IsDone, IsRunError, EndsAt}
 use Rattle.cc_run.specs.Own.{is_of_run}
@@ -39,13 +40,16 @@ use Rattle.cc_run.proofs.Runs.{run_from-append}
 use Rattle.cc_tool.specs.Probing.{is_asked}
 use Rattle.cc_build.specs.Built.{ended_well}
 use Rattle.cc_build.specs.Error.{ErrorSeen, no_memory}
-use Rattle.cc_build.specs.Failed.{Failed, is_fault, HasFault}
+use Rattle.cc_build.specs.Failed.{Failed, is_fault, is_form, form_aside, HasFault}
+use Rattle.cc_build.specs.Order.{is_archive_role, is_archive_event}
 use Rattle.cc_build.specs.RunErrors.{run_error}
-use Rattle.cc_build.specs.Stage.{Stage, commands_in, calls, planned, beside, in_turn, folder_stages, compile_stages, removal_stages, archive_stages, link_stages, run_stages, late_stages, planned_stages}
-use Rattle.cc_build.specs.Stage.Stage.{Calls, Asks, RunsOne, RunsAll}
+use Rattle.cc_build.specs.Stage.{Stage, children_in, calls, planned, beside, in_turn, tried, asked_then, folder_stages, compile_stages, removal_stages, library_commands, archive_stages, link_stages, library_stages, ending_stages, later_stages, asked_stages, late_stages, planned_stages}
+use Rattle.cc_build.specs.Stage.Stage.{Calls, Asks, Tries, RunsOne, RunsAll}
+use Rattle.cc_build.specs.Way.{Way}
 use Rattle.cc_build.specs.Went.{Terms, Means, RanAll, RanOne, Did, Went, IsOf, Stops, Halts, Halted}
 use Rattle.cc_build.specs.declared.error.ErrorKind.TheVariants.{TurnsSpent as SpendsTurns}
-use Rattle.cc_build.proofs.RunLaws.{shift, shifted, went_run, went_missing}
+use Rattle.cc_build.proofs.RunLaws.{shift, shifted, went_run}
+use Rattle.cc_build.proofs.Trying.{done_of, done_sole, done_faultless, done_forms, broken_of, broken_fault, broken_last, sole_kept, no_such_fault}
 use Rattle.cc_build.proofs.TurnLaws.{went_faults}
 
 -- ---- faults
@@ -178,6 +182,7 @@ run_kept cmds part s = ap abandoned (whole_work part s.work s.run.live s.cut s.d
 did_faultless : (t : Terms) (s : Stage) (part : List Event) (x y : Means) → Did t s part x y → list_any is_fault part ≡ false
 did_faultless t (Calls step) part x y d = ap (list_any is_fault) d.1.0 ∙ step_faultless step d.0 d.1.1
 did_faultless t Asks part x y d = all_faultless part d.0
+did_faultless t (Tries refused p) part x y d = done_faultless p refused part (done_of t p part refused d.0)
 did_faultless t (RunsOne p) part x y d = no_fault part (said_one t p part (Ok tt) x y d).faults_are
 did_faultless t (RunsAll ps) part x y d = no_fault part (said_all t ps part (Ok tt) x y d).faults_are
 
@@ -190,6 +195,7 @@ went_faultless t (s ∷ ss) part x y w =
 did_kept : (t : Terms) (s : Stage) (part : List Event) (x y : Means) → Did t s part x y → abandoned part ≡ []
 did_kept t (Calls step) part x y d = ap abandoned d.1.0 ∙ step_kept step d.0 d.1.1
 did_kept t Asks part x y d = all_kept part d.0
+did_kept t (Tries refused p) part x y d = sole_kept part (done_sole p refused part (done_of t p part refused d.0))
 did_kept t (RunsOne p) part x y d = run_kept (asked t.shows (p ∷ [])) part (said_one t p part (Ok tt) x y d)
 did_kept t (RunsAll ps) part x y d = run_kept (asked t.shows ps) part (said_all t ps part (Ok tt) x y d)
 
@@ -288,7 +294,8 @@ alone_after (x ∷ y ∷ before) after e f h = absurd (cc)
 -- behind a fault of a stage that was refused, but one of what a question wants, children are abandoned
 pub stop_faults : (t : Terms) (s : Stage) (part : List Event) (e : ErrorSeen) (x y : Means) → Stops t s part e x y → (before after : List Event) (call : HostCall) (why : Why) → is_probing call ≡ false → part ≡ before ++ Fault call why ∷ after → (ids : List ℕ) × (after ≡ map Abandoned ids)
 stop_faults t (Calls step) part e x y d before after call why p here = ([], alone_after before after d.0 (Fault call why) (sym d.1.0 ∙ here))
-stop_faults t Asks part e x y d before after call why p here = absurd d
+stop_faults t Asks part e x y d before after call why p here = absurd (no_such_fault part before after call why (all_faultless part d.1) p here)
+stop_faults t (Tries refused c) part e x y d before after call why p here = ([], broken_last c part before after call why (broken_of t.shows c part d.0 d.1.0 d.1.1) p here)
 stop_faults t (RunsOne c) part e x y d before after call why p here = run_faults (asked t.shows (c ∷ [])) part before after call why here d.0 (said_one t c part (Err d.0) x y d.1.0)
 stop_faults t (RunsAll ps) part e x y d before after call why p here = run_faults (asked t.shows ps) part before after call why here d.0 (said_all t ps part (Err d.0) x y d.1.0)
 
@@ -347,7 +354,13 @@ call_cause _ _ plain r = absurd r
 -- a stage is refused for one of these causes, wherever in the run it stands
 pub stop_cause : (t : Terms) (s : Stage) (part : List Event) (e : ErrorSeen) (x y : Means) (k : ℕ) → IsPlain s → Stops t s part e x y → (e ≡ no_memory) ⊎ (HasFault part ⊎ ((missing part ≢ []) ⊎ (((run_from (ended_well k) part).failed ≢ None) ⊎ (Rose x.faults y.faults ⊎ ((e.kind ≡ SpendsTurns) × (y.left ≡ 0))))))
 stop_cause t (Calls step) part e x y k plain d = inr (inl (subst HasFault (sym d.1.0) (call_cause step d.0 plain d.1.1)))
-stop_cause t Asks part e x y k plain d = absurd d
+stop_cause t Asks part e x y k plain d = inl d.0
+stop_cause t (Tries refused p) part e x y k plain d = tried_cause p e d.0 d.1.2 (broken_fault t.shows p part d.0 d.1.0 d.1.1)
+  where
+    tried_cause : (p : Planned) (e : ErrorSeen) (error : RunError) → IsOf (run_error (p ∷ []) error) e → (error ≡ NoMemory) ⊎ (list_any is_fault part ≡ true) → IsCause k part e x y
+    tried_cause p e error (inl memory) cause = inl memory
+    tried_cause p e error (inr is) (inl wanted) = inl (is ∙ ap (run_error (p ∷ [])) wanted)
+    tried_cause p e error (inr is) (inr fault) = inr (inl fault)
 stop_cause t (RunsOne p) part e x y k plain d =
     let r = d.1.0 in
     run_cause (asked t.shows (p ∷ [])) (p ∷ []) part e k x y d.0 (said_one t p part (Err d.0) x y r) d.1.1
@@ -381,6 +394,10 @@ plain_in_turn : (ps : List Planned) → ArePlain (in_turn ps)
 plain_in_turn [] = tt
 plain_in_turn (p ∷ ps) = (tt, plain_in_turn ps)
 
+plain_tried : (refused : Bool) (ps : List Planned) → ArePlain (tried refused ps)
+plain_tried refused [] = tt
+plain_tried refused (p ∷ ps) = (tt, plain_in_turn ps)
+
 plain_unless : (b : Bool) (stages : List Stage) → ArePlain stages → ArePlain (if b then [] else stages)
 plain_unless true stages p = tt
 plain_unless false stages p = p
@@ -404,36 +421,44 @@ module _ (set : BuildConfig) (env : EnvSeen) where
   unfolding removal_stages removal_steps
   plain_removal output = (tt, tt)
 
-  plain_archive : (output : List ℕ) → ArePlain (archive_stages set env output)
+  pub plain_archive : (look : Look) (is_plain : Bool) (output : List ℕ) → ArePlain (archive_stages set env look is_plain output)
   unfolding archive_stages
-  plain_archive output =
-      plain_then (in_turn (planned Archive (archives_of set env output))) (in_turn (planned Index (indexes_of set env output)))
-      (plain_in_turn (planned Archive (archives_of set env output))) (plain_in_turn (planned Index (indexes_of set env output)))
+  plain_archive look is_plain output = plain_tried is_plain (library_commands set env look is_plain output)
 
-  plain_link : (output : List ℕ) → ArePlain (link_stages set env output)
+  plain_link : (look : Look) (is_first : Bool) (output : List ℕ) → ArePlain (link_stages set env look is_first output)
   unfolding link_stages link_steps
-  plain_link output = plain_lines Link (link_lines set env output)
+  plain_link look is_first output = plain_lines Link (printed_links is_first (link_lines set env look output))
 
-  plain_run : (warns_of_link : Bool) (look : Look) (output : List ℕ) → ArePlain (run_stages set env warns_of_link look output)
-  plain_run warns_of_link look output =
-      plain_then (compile_stages set env warns_of_link look) (removal_stages set env output ++ (archive_stages set env output ++ link_stages set env output)) (plain_compile warns_of_link look) (
-      plain_then (removal_stages set env output) (archive_stages set env output ++ link_stages set env output) (plain_removal output) (
-      plain_then (archive_stages set env output) (link_stages set env output) (plain_archive output) (plain_link output)
-      )
-      )
+  plain_ending : (way : Way) (look : Look) (output : List ℕ) → ArePlain (ending_stages set env way look output)
+  plain_ending way look output = (tt, plain_unless (is_some (link_refusal set env look)) (link_stages set env look way.is_first output) (plain_link look way.is_first output))
 
-  plain_late : (warns_of_link : Bool) (look : Look) (output : List ℕ) → ArePlain (late_stages set env warns_of_link look output)
+  plain_library : (way : Way) (look : Look) (output : List ℕ) → ArePlain (library_stages set env way.is_plain look output ++ ending_stages set env way look output)
+  plain_library way look output =
+      plain_then (library_stages set env way.is_plain look output) (ending_stages set env way look output)
+      (plain_then (removal_stages set env output) (archive_stages set env look way.is_plain output) (plain_removal output) (plain_archive look way.is_plain output))
+      (plain_ending way look output)
+
+  plain_later : (way : Way) (look : Look) (output : List ℕ) → ArePlain (later_stages set env way look output)
+  unfolding later_stages
+  plain_later way look output = (tt, plain_unless (is_some (archiver_refusal set env look)) (library_stages set env way.is_plain look output ++ ending_stages set env way look output) (plain_library way look output))
+
+  plain_asked : (way : Way) (look : Look) (output : List ℕ) → ArePlain (asked_stages set env way look output)
+  plain_asked way look output = (
+    tt,
+    plain_unless (is_some (late_refusal set env look)) (compile_stages set env way.warns_of_link look ++ later_stages set env way look output)
+        (plain_then (compile_stages set env way.warns_of_link look) (later_stages set env way look output) (plain_compile way.warns_of_link look) (plain_later way look output)),
+  )
+
+  plain_late : (way : Way) (look : Look) (output : List ℕ) → ArePlain (late_stages set env way look output)
   unfolding late_stages
-  plain_late warns_of_link look output =
-      plain_unless (is_disabled env) (Asks ∷ (if is_some (late_refusal set env look) then [] else run_stages set env warns_of_link look output))
-      (tt, plain_unless (is_some (late_refusal set env look)) (run_stages set env warns_of_link look output) (plain_run warns_of_link look output))
+  plain_late way look output = plain_unless (is_disabled env) (asked_stages set env way look output) (plain_asked way look output)
 
   -- the stages of a compile run are so
-  pub planned_plain : (warns_of_link : Bool) (look : Look) (output : List ℕ) → ArePlain (planned_stages set env warns_of_link look output)
+  pub planned_plain : (way : Way) (look : Look) (output : List ℕ) → ArePlain (planned_stages set env way look output)
   unfolding planned_stages
-  planned_plain warns_of_link look output =
-      plain_unless (is_some (early_refusal set env output)) (folder_stages set env ++ late_stages set env warns_of_link look output)
-      (plain_then (folder_stages set env) (late_stages set env warns_of_link look output) plain_folder (plain_late warns_of_link look output))
+  planned_plain way look output =
+      plain_unless (is_some (early_refusal set env output)) (folder_stages set env ++ late_stages set env way look output)
+      (plain_then (folder_stages set env) (late_stages set env way look output) plain_folder (plain_late way look output))
 
 -- ---- the causes of a whole run
 
@@ -441,15 +466,90 @@ module _ (set : BuildConfig) (env : EnvSeen) where
 abbrev pub HasCause : Option ErrorSeen → List Event → ErrorSeen → Means → Means → Type 0
 HasCause refusal part e x y = (e ≡ no_memory) ⊎ ((refusal ≡ Some e) ⊎ (HasFault part ⊎ (Failed part ⊎ (Rose x.faults y.faults ⊎ ((e.kind ≡ SpendsTurns) × (y.left ≡ 0))))))
 
-module _ (t : Terms) (refusal : Option ErrorSeen) (before : List Stage) (front rest part : List Event) (e : ErrorSeen) (x y z : Means) (cut : part ≡ front ++ rest) (w : Went t before front x y) where
-  behind_cause : IsCause (length (commands_in before)) rest e y z → HasCause refusal part e x z
+-- ---- the first form of the archive
+
+either_false : (a b : Bool) → (a || b) ≡ false → (a ≡ false) × (b ≡ false)
+either_false true b h = absurd (cc)
+either_false false b h = (refl, h)
+
+either_true : (a b : Bool) → (a || b) ≡ true → (a ≡ true) ⊎ (b ≡ true)
+either_true true b h = inl refl
+either_true false b h = inr h
+
+form_archives : (event : Event) → is_archive_event event ≡ false → is_form event ≡ false
+form_archives (Ran role cmd pipes status out err) h = h
+form_archives (Missing role cmd) h = h
+form_archives event h = refl
+
+-- a part without a command of the archive has no such form
+no_form : (part : List Event) → list_any is_archive_event part ≡ false → form_aside part ≡ part
+no_form [] h = refl
+no_form (event ∷ part) h =
+    let k = either_false (is_archive_event event) (list_any is_archive_event part) h in
+    ap (λ b. if b then part else event ∷ form_aside part) (form_archives event k.0) ∙ ap (λ l. event ∷ l) (no_form part k.1)
+
+-- where the first events have one, those behind them stay
+form_before : (front rest : List Event) → list_any is_form front ≡ true → form_aside (front ++ rest) ≡ form_aside front ++ rest
+form_before [] rest h = absurd (cc)
+form_before (event ∷ front) rest h = by_form (is_form event) h (λ k. form_before front rest k)
+  where
+    by_form : (b : Bool) → (b || list_any is_form front) ≡ true → (list_any is_form front ≡ true → form_aside (front ++ rest) ≡ form_aside front ++ rest) → (if b then front ++ rest else event ∷ form_aside (front ++ rest)) ≡ (if b then front else event ∷ form_aside front) ++ rest
+    by_form true k more = refl
+    by_form false k more = ap (λ l. event ∷ l) (more k)
+
+-- the stage tries a command of the archive
+abbrev pub tries_form : Stage → Bool
+tries_form (Tries refused p) = is_archive_role p.role
+tries_form _ = false
+
+did_form : (t : Terms) (s : Stage) (part : List Event) (x y : Means) → tries_form s ≡ true → Did t s part x y → list_any is_form part ≡ true
+did_form t (Tries refused p) part x y h d = done_forms p refused part h (done_of t p part refused d.0)
+did_form t (Calls step) part x y h d = absurd (cc)
+did_form t Asks part x y h d = absurd (cc)
+did_form t (RunsOne p) part x y h d = absurd (cc)
+did_form t (RunsAll ps) part x y h d = absurd (cc)
+
+either_form : (a b : List Event) → (list_any is_form a ≡ true) ⊎ (list_any is_form b ≡ true) → list_any is_form (a ++ b) ≡ true
+either_form a b (inl here) = list_any-append is_form a b ∙ ap (λ x. x || list_any is_form b) here
+either_form a b (inr there) = list_any-append is_form a b ∙ or_right (list_any is_form a) (list_any is_form b) there
+
+pub went_form : (t : Terms) (stages : List Stage) (part : List Event) (x y : Means) → list_any tries_form stages ≡ true → Went t stages part x y → list_any is_form part ≡ true
+went_form t [] part x y h w = absurd (cc)
+went_form t (s ∷ ss) part x y h w =
+    ap (list_any is_form) w.3.0
+    ∙ either_form w.0 w.1 (by_stage (either_true (tries_form s) (list_any tries_form ss) h) (λ here. did_form t s w.0 x w.2 here w.3.1) (λ there. went_form t ss w.1 w.2 y there w.3.2))
+  where
+    by_stage : (tries_form s ≡ true) ⊎ (list_any tries_form ss ≡ true) → (tries_form s ≡ true → list_any is_form w.0 ≡ true) → (list_any tries_form ss ≡ true → list_any is_form w.1 ≡ true) → (list_any is_form w.0 ≡ true) ⊎ (list_any is_form w.1 ≡ true)
+    by_stage (inl here) f g = inl (f here)
+    by_stage (inr there) f g = inr (g there)
+
+-- What was tried before a stage: the first form of the archive, or else no command of it, and then the stage tries it or has none either.
+abbrev pub IsFormed : List Event → List Event → Type 0
+IsFormed front rest = (list_any is_form front ≡ true) ⊎ ((list_any is_archive_event front ≡ false) × (list_any is_archive_event rest ≡ false))
+
+-- a program that is missing behind the first form is so in the part without it
+missing_aside : (front rest : List Event) → IsFormed front rest → missing rest ≢ [] → missing (form_aside (front ++ rest)) ≢ []
+missing_aside front rest (inl before) some none =
+    some (last_none (missing (form_aside front)) (missing rest) (sym (flat_map-append missing_of (form_aside front) rest) ∙ sym (ap missing (form_before front rest before)) ∙ none))
+  where
+    last_none : (a b : List (Role × CommandSeen)) → a ++ b ≡ [] → b ≡ []
+    last_none [] b e = e
+    last_none (m ∷ a) b e = absurd (cc)
+missing_aside front rest (inr silent) some none =
+    let whole : form_aside (front ++ rest) ≡ front ++ rest = no_form (front ++ rest) (list_any-append is_archive_event front rest ∙ or_none (list_any is_archive_event front) (list_any is_archive_event rest) silent.0 silent.1) in
+    some (last_none (missing front) (missing rest) (sym (flat_map-append missing_of front rest) ∙ sym (ap missing whole) ∙ none))
+  where
+    last_none : (a b : List (Role × CommandSeen)) → a ++ b ≡ [] → b ≡ []
+    last_none [] b e = e
+    last_none (m ∷ a) b e = absurd (cc)
+
+module _ (t : Terms) (refusal : Option ErrorSeen) (before : List Stage) (front rest part : List Event) (e : ErrorSeen) (x y z : Means) (cut : part ≡ front ++ rest) (w : Went t before front x y) (formed : missing rest ≢ [] → IsFormed front rest) where
+  behind_cause : IsCause (length (children_in before)) rest e y z → HasCause refusal part e x z
   behind_cause (inl memory) = inl memory
   behind_cause (inr (inl fault)) = inr (inr (inl (ap (list_any is_fault) cut ∙ list_any-append is_fault front rest ∙ or_right (list_any is_fault front) (list_any is_fault rest) fault)))
-  behind_cause (inr (inr (inl absent))) =
-      let same : missing part ≡ missing rest = ap missing cut ∙ flat_map-append missing_of front rest ∙ ap (λ l. l ++ missing rest) (went_missing t before front x y w) in
-      inr (inr (inr (inl (inl (λ none. absent (sym same ∙ none))))))
+  behind_cause (inr (inr (inl absent))) = inr (inr (inr (inl (inl (subst (λ (l : List Event). missing (form_aside l) ≢ []) (sym cut) (missing_aside front rest (formed absent) absent))))))
   behind_cause (inr (inr (inr (inl failed)))) =
-      let count = length (commands_in before) in
+      let count = length (children_in before) in
       let begun : run_from nothing front ≡ ended_well count = went_run t before front x y 0 w ∙ ap ended_well (zero-add count) in
       let same : run_from nothing part ≡ run_from (ended_well count) rest = ap (run_from nothing) cut ∙ run_from-append nothing front rest ∙ ap (λ r. run_from r rest) begun in
       inr (inr (inr (inl (inr (inl (λ none. failed (sym (ap (λ r. r.failed) same) ∙ none)))))))
@@ -460,12 +560,7 @@ module _ (t : Terms) (refusal : Option ErrorSeen) (before : List Stage) (front r
   unbegun_cause (inl memory) = inl memory
   unbegun_cause (inr refused) = inr (inl refused)
 
-  halts_cause : (after : List Stage) → ArePlain after → Halts t refusal after rest e y z → HasCause refusal part e x z
+  pub halts_cause : (after : List Stage) → ArePlain after → Halts t refusal after rest e y z → HasCause refusal part e x z
   halts_cause [] plain h = unbegun_cause h.0
-  halts_cause (s ∷ ss) plain (inl h) = unbegun_cause h.0
-  halts_cause (s ∷ ss) plain (inr stop) = behind_cause (stop_cause t s rest e y z (length (commands_in before)) plain.0 stop)
-
--- a run that ended before its stages were done has one of these causes
-pub halted_cause : (t : Terms) (refusal : Option ErrorSeen) (stages : List Stage) (part : List Event) (e : ErrorSeen) (x z : Means) → ArePlain stages → Halted t refusal stages part e x z → HasCause refusal part e x z
-halted_cause t refusal stages part e x z plain h =
-    halts_cause t refusal h.before h.front h.rest part e x h.y z h.cut h.went h.after (plain_behind h.before h.after (subst ArePlain h.stages_are plain)) h.halts
+  halts_cause (s ∷ ss) plain (inl h) = inl h.0
+  halts_cause (s ∷ ss) plain (inr stop) = behind_cause (stop_cause t s rest e y z (length (children_in before)) plain.0 stop)

@@ -109,8 +109,11 @@ module _ (steady : Bool) (world : Question → WorldOutcome) (dir : List ℕ) (q
   pub then_extends : new ≡ old ++ since old new
   then_extends = since_extends old asked.mid new grown behind
 
-  pub then_asked : Asked steady world dir questions (since old new)
-  then_asked = asked_before steady world dir questions old asked.mid new grown behind (asked_by steady world dir questions old asked.mid known asks asked.own).0 silent
+  -- the probe files are in the folder, by another name
+  pub then_asked : (folder : List ℕ) → dir ≡ folder → Asked steady world folder questions (since old new)
+  then_asked folder same =
+      subst (λ (d : List ℕ). Asked steady world d questions (since old new)) same
+      (asked_before steady world dir questions old asked.mid new grown behind (asked_by steady world dir questions old asked.mid known asks asked.own).0 silent)
 
   answers_are : answers (since old new) ≡ known
   answers_are =

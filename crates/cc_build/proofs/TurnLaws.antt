@@ -1,5 +1,5 @@
 -- How many turns the stages of a run take, and how many faults of its pool they count.
-use Rattle.std.proofs.Common.{◌≡◌, ◌⊎◌, inl, inr, ℕ, ◌+◌, ◌*◌, ◌<◌, ◌≤◌, List, [], ◌∷◌, ◌++◌, length, true, Option, Some, None, Err, IfSome, refl, sym, ◌∙◌, ap, subst, arith}
+use Rattle.std.proofs.Common.{◌≡◌, ◌⊎◌, inl, inr, ℕ, ◌+◌, ◌*◌, ◌<◌, ◌≤◌, List, [], ◌∷◌, ◌++◌, length, Bool, true, Option, Some, None, Err, IfSome, refl, sym, ◌∙◌, ap, subst, arith}
 use Rattle.std.proofs.lemmas.Bool.{and_parts}
 use Rattle.std.proofs.lemmas.List.{length-append}
 use Rattle.std.proofs.lemmas.List.Sums.{sum_by-cons, sum_by-append}
@@ -11,6 +11,7 @@ use Rattle.cc_host.specs.Part.Step.{Runs, Makes, Removes, Prints, Lists}
 use Rattle.cc_host.specs.declared.event.Event.{Event}
 use Rattle.cc_host.specs.declared.event.Event.TheVariants.{Turn, Ran, Missing, Fault}
 use Rattle.cc_run.specs.Part.{turns, turns_of}
+use Rattle.cc_run.specs.Output.{IsSilentRun}
 use Rattle.cc_run.specs.Patience.{Bounded, Unspent}
 use Rattle.cc_run.specs.declared.error.RunError.{RunError}
 use Rattle.cc_run.specs.declared.error.RunError.TheVariants.{ToolNotFound, Failed, StartFault, WaitFault, HostFault, JobFault, TurnsSpent, NoMemory}
@@ -19,11 +20,12 @@ use Rattle.cc_tool.specs.Probing.{is_asked}
 use Rattle.cc_build.specs.Error.{ErrorSeen, no_memory}
 use Rattle.cc_build.specs.RunErrors.{run_error, error_of, command_at}
 use Rattle.cc_build.specs.Stage.{Stage, commands_of, commands_in}
-use Rattle.cc_build.specs.Stage.Stage.{Calls, Asks, RunsOne, RunsAll}
+use Rattle.cc_build.specs.Stage.Stage.{Calls, Asks, Tries, RunsOne, RunsAll}
 use Rattle.cc_build.specs.Stop.{stop_error, missing_error, failed_error, unstarted_error, fault_error}
-use Rattle.cc_build.specs.Went.{Terms, Means, Did, Went, IsOf, Stops, Halts, Halted}
+use Rattle.cc_build.specs.Went.{Terms, Means, Tried, Did, Went, IsOf, Stops, Halts, Halted}
 use Rattle.cc_build.specs.declared.error.ErrorKind.TheVariants.{TurnsSpent as SpendsTurns}
 use Rattle.cc_build.proofs.RunLaws.{commands_then}
+use Rattle.cc_build.proofs.Trying.{done_of, done_sole, broken_of, broken_sole, sole_turns}
 
 -- ---- the turns that are left
 
@@ -55,6 +57,10 @@ refused_turns _ _ h = refl
 both_turns : (part front rest : List Event) → part ≡ front ++ rest → turns part ≡ turns front + turns rest
 both_turns part front rest cut = ap turns cut ∙ sum_by-append turns_of front rest
 
+-- a command that is tried makes no turn
+tried_turns : (t : Terms) (p : Planned) (refused : Bool) (part : List Event) → Tried t p refused part → turns part ≡ 0
+tried_turns t p refused part d = sole_turns part (done_sole p refused part (done_of t p part refused d))
+
 did_turns : (t : Terms) (s : Stage) (part : List Event) (x y : Means) → Did t s part x y → y.left + turns part ≡ x.left
 did_turns t (Calls step) part x y d =
     let none : turns part ≡ 0 = ap turns d.1.0 ∙ step_turns step d.0 d.1.1 in
@@ -62,6 +68,10 @@ did_turns t (Calls step) part x y d =
     omega arith
 did_turns t Asks part x y d =
     let none : turns part ≡ 0 = asked_turns part d.0 in
+    let same : y.left ≡ x.left = ap (λ m. m.left) d.1 in
+    omega arith
+did_turns t (Tries refused p) part x y d =
+    let none : turns part ≡ 0 = tried_turns t p refused part d.0 in
     let same : y.left ≡ x.left = ap (λ m. m.left) d.1 in
     omega arith
 did_turns t (RunsOne p) part x y d = d.turned
@@ -84,7 +94,14 @@ stops_turns t (Calls step) part e x y d =
     let none : turns part ≡ 0 = ap turns d.1.0 ∙ refused_turns step d.0 d.1.1 in
     let same : y.left ≡ x.left = ap (λ m. m.left) d.1.3 in
     omega arith
-stops_turns t Asks part e x y d = absurd d
+stops_turns t Asks part e x y d =
+    let none : turns part ≡ 0 = asked_turns part d.1 in
+    let same : y.left ≡ x.left = ap (λ m. m.left) d.2 in
+    omega arith
+stops_turns t (Tries refused p) part e x y d =
+    let none : turns part ≡ 0 = sole_turns part (broken_sole p part (broken_of t.shows p part d.0 d.1.0 d.1.1)) in
+    let same : y.left ≡ x.left = ap (λ m. m.left) d.1.3 in
+    omega arith
 stops_turns t (RunsOne p) part e x y d = d.1.0.turned
 stops_turns t (RunsAll ps) part e x y d = d.1.0.turned
 
@@ -112,6 +129,7 @@ halted_turns t refusal stages part e x y h =
 did_faults : (t : Terms) (s : Stage) (part : List Event) (x y : Means) → Did t s part x y → x.faults ≤ y.faults
 did_faults t (Calls step) part x y d = let same : y.faults ≡ x.faults = ap (λ m. m.faults) d.1.2 in omega arith
 did_faults t Asks part x y d = let same : y.faults ≡ x.faults = ap (λ m. m.faults) d.1 in omega arith
+did_faults t (Tries refused p) part x y d = let same : y.faults ≡ x.faults = ap (λ m. m.faults) d.1 in omega arith
 did_faults t (RunsOne p) part x y d = let same : y.faults ≡ x.faults = d.seat.0 in omega arith
 did_faults t (RunsAll ps) part x y d = d.later
 
@@ -125,7 +143,8 @@ went_faults t (s ∷ ss) part x y w =
 
 stops_faults : (t : Terms) (s : Stage) (part : List Event) (e : ErrorSeen) (x y : Means) → Stops t s part e x y → x.faults ≤ y.faults
 stops_faults t (Calls step) part e x y d = let same : y.faults ≡ x.faults = ap (λ m. m.faults) d.1.3 in omega arith
-stops_faults t Asks part e x y d = absurd d
+stops_faults t Asks part e x y d = let same : y.faults ≡ x.faults = ap (λ m. m.faults) d.2 in omega arith
+stops_faults t (Tries refused p) part e x y d = let same : y.faults ≡ x.faults = ap (λ m. m.faults) d.1.3 in omega arith
 stops_faults t (RunsOne p) part e x y d = let same : y.faults ≡ x.faults = d.1.0.seat.0 in omega arith
 stops_faults t (RunsAll ps) part e x y d = d.1.0.later
 
@@ -155,6 +174,7 @@ module _ (t : Terms) (total p : ℕ) (owned : t.total ≡ Some total) (patient :
   did_bound : (s : Stage) (part : List Event) (x y : Means) → Did t s part x y → turns part ≤ p * length (commands_of s)
   did_bound (Calls step) part x y d = let none : turns part ≡ 0 = ap turns d.1.0 ∙ step_turns step d.0 d.1.1 in omega arith
   did_bound Asks part x y d = let none : turns part ≡ 0 = asked_turns part d.0 in omega arith
+  did_bound (Tries refused c) part x y d = let none : turns part ≡ 0 = tried_turns t c refused part d.0 in omega arith
   did_bound (RunsOne c) part x y d = bounded t.patience p 1 part patient d.bound
   did_bound (RunsAll ps) part x y d = bounded t.patience p (length ps) part patient (where_some (λ _. Bounded t.patience (length ps) part) t.total total owned d.bound)
 
@@ -205,9 +225,14 @@ spends is e h (inl memory) = absurd (let k : no_memory.kind ≡ SpendsTurns = ap
 spends is e h (inr same) = ap (λ o. o.kind) (sym same) ∙ h
 
 module _ (t : Terms) (total p : ℕ) (owned : t.total ≡ Some total) (patient : t.patience ≡ Some p) where
+  -- no command that is tried spends turns
+  not_tried : (c : Planned) (part : List Event) (error : RunError) → error ≡ TurnsSpent → IsSilentRun t.shows c (Err error) part → ⊥
+  not_tried c part error is h = subst (λ (o : RunError). IsSilentRun t.shows c (Err o) part) is h
+
   stops_bound : (s : Stage) (part : List Event) (e : ErrorSeen) (x y : Means) → Stops t s part e x y → e.kind ≡ SpendsTurns → turns part < p * length (commands_of s)
   stops_bound (Calls step) part e x y d h = absurd (stop_kind step d.0 (spends (stop_error step d.0) e h d.1.2))
-  stops_bound Asks part e x y d h = absurd d
+  stops_bound Asks part e x y d h = absurd (let k : no_memory.kind ≡ SpendsTurns = ap (λ o. o.kind) (sym d.0) ∙ h in cc)
+  stops_bound (Tries refused c) part e x y d h = absurd (not_tried c part d.0 (run_kind (c ∷ []) d.0 (spends (run_error (c ∷ []) d.0) e h d.1.2)) d.1.1)
   stops_bound (RunsOne c) part e x y d h =
       let is : d.0 ≡ TurnsSpent = run_kind (c ∷ []) d.0 (spends (run_error (c ∷ []) d.0) e h d.1.1) in
       unspent t.patience p 1 part patient (d.1.0.enough (ap Err is))
@@ -221,7 +246,7 @@ module _ (t : Terms) (total p : ℕ) (owned : t.total ≡ Some total) (patient :
 
   halts_bound : (refusal : Option ErrorSeen) (stages : List Stage) (part : List Event) (e : ErrorSeen) (x y : Means) → ((e' : ErrorSeen) → refusal ≡ Some e' → e'.kind ≡ SpendsTurns → ⊥) → Halts t refusal stages part e x y → e.kind ≡ SpendsTurns → turns part < p * length (commands_in stages)
   halts_bound refusal [] part e x y other h k = absurd (unspent_refusal refusal e other h.0 k)
-  halts_bound refusal (s ∷ ss) part e x y other (inl h) k = absurd (unspent_refusal refusal e other h.0 k)
+  halts_bound refusal (s ∷ ss) part e x y other (inl h) k = absurd (unspent_refusal refusal e other (inl h.0) k)
   halts_bound refusal (s ∷ ss) part e x y other (inr h) k =
       let first : turns part < p * length (commands_of s) = stops_bound s part e x y h k in
       let sum : p * length (commands_in (s ∷ ss)) ≡ p * length (commands_of s) + p * length (commands_in ss) = ap (λ n. p * n) (length-append (commands_of s) (commands_in ss)) ∙ mul-add p (length (commands_of s)) (length (commands_in ss)) in

@@ -1,7 +1,8 @@
 -- The commands that a part of a log tells of, in order.
-use Rattle.std.specs.Prelude.{List, [], ◌∷◌}
+use Rattle.std.specs.Prelude.{List, [], ◌∷◌, Bool, false, not}
 use Rattle.std.specs.List.{flat_map}
 use Rattle.cc_host.specs.Command.{CommandSeen}
+use Rattle.cc_host.specs.Status.{is_success}
 use Rattle.cc_host.specs.declared.event.Event.{Event}
 use Rattle.cc_host.specs.declared.event.Event.TheVariants.{Started, Missing, Ran}
 use Rattle.cc_host.specs.declared.event.Role.{Role}
@@ -21,3 +22,18 @@ attempts = flat_map attempt_of
 -- a command that is to run, with its role
 abbrev pub to_attempt : Planned → Role × CommandSeen
 to_attempt planned = (planned.role, planned.cmd)
+
+-- a command that was run to its end in one call of the host, or whose program can't be found, and whether it ended with 0
+abbrev pub tried_of : Event → List (CommandSeen × Bool)
+tried_of (Ran role cmd pipes status out err) = (cmd, is_success status) ∷ []
+tried_of (Missing role cmd) = (cmd, false) ∷ []
+tried_of _ = []
+
+-- these of a part, in order
+abbrev pub all_tried : List Event → List (CommandSeen × Bool)
+all_tried = flat_map tried_of
+
+-- the first of these commands alone, which was refused or ended with 0
+abbrev pub first_tried : Bool → List Planned → List (CommandSeen × Bool)
+first_tried refused [] = []
+first_tried refused (p ∷ ps) = (p.cmd, not refused) ∷ []

@@ -6,7 +6,7 @@ use Rattle.cc_host.specs.declared.event.Event.{Event}
 use Rattle.cc_host.specs.declared.question.Outcome.{Outcome}
 use Rattle.cc_host.specs.declared.question.Question.{Question}
 use Rattle.cc_plan.specs.Given.{variable_flags, probe_folder}
-use Rattle.cc_plan.specs.Questions.{PlanAsks, SupportAsks}
+use Rattle.cc_plan.specs.Questions.{PlanAsks, RunAsks, SupportAsks}
 use Rattle.cc_plan.specs.Settings.{unset_settings}
 use Rattle.cc_plan.specs.declared.flags.Definition.{Definition}
 use Rattle.cc_plan.specs.declared.settings.BuildConfig.{BuildConfig}
@@ -44,6 +44,10 @@ probes b = probe_folder b.config b.env
 -- each question of a part is one that the plan of a build asks, with its probe files in their folder
 abbrev pub AsksByPlan : Bool → (Question → Outcome) → BuildSeen → List Event → Type 0
 AsksByPlan steady world b part = Asked steady world (probes b) (PlanAsks b.config b.env) part
+
+-- the same of one that a compile run asks
+abbrev pub AsksByRun : Bool → (Question → Outcome) → BuildSeen → List Event → Type 0
+AsksByRun steady world b part = Asked steady world (probes b) (RunAsks b.config b.env) part
 
 -- the same of one that is asked to learn whether its compiler takes a flag
 abbrev pub AsksByFlag : Bool → (Question → Outcome) → BuildSeen → List ℕ → List Event → Type 0

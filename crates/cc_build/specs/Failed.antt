@@ -1,21 +1,34 @@
 -- A part in which a command failed, and one in which the host did.
-use Rattle.std.specs.Prelude.{◌≡◌, ◌≢◌, ◌⊎◌, List, [], None, Bool, true, false, not}
+use Rattle.std.specs.Prelude.{◌≡◌, ◌≢◌, ◌⊎◌, List, [], ◌∷◌, None, Bool, true, false, not, if◌then◌else◌}
 use Rattle.std.specs.List.{list_any}
 use Rattle.cc_host.specs.Part.{is_probing}
 use Rattle.cc_host.specs.declared.event.Event.{Event}
 use Rattle.cc_host.specs.Status.{is_success}
-use Rattle.cc_host.specs.declared.event.Event.TheVariants.{Fault, Ran}
+use Rattle.cc_host.specs.declared.event.Event.TheVariants.{Fault, Ran, Missing}
 use Rattle.cc_run.specs.Part.{missing}
 use Rattle.cc_run.specs.Run.{run_from, nothing}
+use Rattle.cc_build.specs.Order.{is_archive_role}
 
 -- a command was run to another end than 0
 abbrev pub ran_badly : Event → Bool
 ran_badly (Ran role cmd pipes status out err) = not (is_success status)
 ran_badly _ = false
 
--- some command of the part is missing, was started in it and ended with another status than 0, or was run to such an end
+-- a command of the archive that was run to its end in one call of the host, or whose program is missing
+abbrev pub is_form : Event → Bool
+is_form (Ran role cmd pipes status out err) = is_archive_role role
+is_form (Missing role cmd) = is_archive_role role
+is_form _ = false
+
+-- a part without the first of these: the first form of the archive, which may be refused
+abbrev pub form_aside : List Event → List Event
+form_aside [] = []
+form_aside (event ∷ part) = if is_form event then part else event ∷ form_aside part
+
+-- The first form of the archive aside, some command of the part is missing, was started in it and ended with another status than 0, or was run
+-- to such an end.
 abbrev pub Failed : List Event → Type 0
-Failed part = (missing part ≢ []) ⊎ (((run_from nothing part).failed ≢ None) ⊎ (list_any ran_badly part ≡ true))
+Failed part = (missing (form_aside part) ≢ []) ⊎ (((run_from nothing part).failed ≢ None) ⊎ (list_any ran_badly (form_aside part) ≡ true))
 
 -- a fault, but one of what a question wants
 abbrev pub is_fault : Event → Bool

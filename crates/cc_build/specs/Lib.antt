@@ -13,6 +13,7 @@ pub mod Flags
 pub mod Kept
 pub mod Order
 pub mod Outcome
+pub mod Phases
 pub mod Promises
 pub mod Questions
 pub mod Refusal
@@ -22,4 +23,5 @@ pub mod Shows
 pub mod Stage
 pub mod Stop
 pub mod Values
+pub mod Way
 pub mod Went

@@ -25,6 +25,7 @@ use Rattle.cc_build.specs.Order.{ArchivesLast}
 use Rattle.cc_build.specs.Refusal.{refusal_error}
 use Rattle.cc_build.specs.Shows.{shows_of}
 use Rattle.cc_build.specs.Stage.{Stage, planned, planned_stages, commands_in}
+use Rattle.cc_build.specs.Way.{Way, Repeats}
 use Rattle.cc_build.specs.Went.{Terms, terms, Ends}
 use Rattle.cc_build.specs.declared.error.ErrorKind.TheVariants.{ToolExecError}
 
@@ -32,13 +33,13 @@ use Rattle.cc_build.specs.declared.error.ErrorKind.TheVariants.{ToolExecError}
 abbrev pub terms_for : BuildSeen → Course → Terms
 terms_for b c = terms (shows_of b.config b.env) c.total c.patience
 
--- the stages of a build's run; `warns_of_link` says whether the run is one that warns of flags for the linker
-abbrev pub stages_for : BuildSeen → Bool → Look → List ℕ → List Stage
-stages_for b warns_of_link look output = planned_stages b.config b.env warns_of_link look output
+-- the stages of a build's run
+abbrev pub stages_for : BuildSeen → Way → Look → List ℕ → List Stage
+stages_for b way look output = planned_stages b.config b.env way look output
 
 -- Ok: nothing is refused, and all stages were done. Else the first ones were, and the error has its cause.
 abbrev pub RunEnds : {T : Type 0} → BuildSeen → List ℕ → Result T ErrorSeen → Look → List Event → Course → Type 0
-RunEnds b output result look part c = (warns_of_link : Bool) × Ends (terms_for b c) (refusal_error b.config b.env look output) (stages_for b warns_of_link look output) part result c.before c.after
+RunEnds b output result look part c = (way : Way) × (Repeats b.config way.is_first × Ends (terms_for b c) (refusal_error b.config b.env look output) (stages_for b way look output) part result c.before c.after)
 
 -- Ok: the library is built.
 abbrev pub IsBuilt : {T : Type 0} → BuildSeen → List ℕ → Result T ErrorSeen → Look → List Event → Course → Type 0
@@ -85,14 +86,15 @@ FaultsEnd part = (before after : List Event) (call : HostCall) (why : Why) → i
 
 -- What a compile run promises of its answer, its part and its course.
 pub record Promises {T : Type 0} (b : BuildSeen) (output : List ℕ) (result : Result T ErrorSeen) (look : Look) (part : List Event) (c : Course) : Type 0 where
-  -- whether the run is one that warns of flags for the linker
-  pub warns_of_link : Bool
+  -- what the run finds out as it goes; where lines are repeated, all link lines are printed
+  pub way : Way
+  pub repeats : Repeats b.config way.is_first
   -- Ok: nothing is refused, and all stages were done. Else the first ones were, and the error has its cause.
-  pub outcome : Ends (terms_for b c) (refusal_error b.config b.env look output) (stages_for b warns_of_link look output) part result c.before c.after
-  -- no archive command stands in the part unless every source was compiled before it
+  pub outcome : Ends (terms_for b c) (refusal_error b.config b.env look output) (stages_for b way look output) part result c.before c.after
+  -- no command of the archive stands in the part unless every source was compiled before it
   pub order : ArchivesLast (terms_for b c) b.config b.env look part
   -- one attempt for each of the first planned commands, and no other
-  pub prefix : AreFirst (stages_for b warns_of_link look output) part
+  pub prefix : AreFirst (stages_for b way look output) part
   -- two sources or more are compiled beside each other, each under a token, and as many at once as there are tokens
   pub beside : 2 ≤ length b.config.files → RunBeside c.total (length b.config.files) part
   -- a failed child stops no later start: where a command ended badly and the host is sound, every source's command was started and has ended

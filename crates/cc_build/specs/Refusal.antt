@@ -9,7 +9,7 @@ use Rattle.cc_plan.specs.declared.error.PlanError.{PlanError}
 use Rattle.cc_plan.specs.declared.error.PlanError.TheVariants.{Argument, NotSet, UnknownTarget, QnxArch, Flag, Host, NoMemory as WantsMemory}
 use Rattle.cc_plan.specs.declared.settings.BuildConfig.{BuildConfig}
 use Rattle.cc_plan.specs.Given.{is_disabled}
-use Rattle.cc_plan.specs.Refusal.{first_of, object_in, early_refusal, late_refusal}
+use Rattle.cc_plan.specs.Refusal.{first_of, object_in, early_refusal, late_refusal, archiver_refusal, link_refusal}
 use Rattle.cc_build.specs.declared.error.ErrorKind.TheVariants.{InvalidArgument, InvalidTarget, InvalidFlag, EnvVarNotFound, Disabled, UnknownTarget as IsUnknown}
 use Rattle.cc_build.specs.Error.{ErrorSeen, no_memory}
 use Rattle.cc_build.specs.Stop.{fault_error}
@@ -72,6 +72,15 @@ early_error set env output = option_map (plan_error set env output) (early_refus
 abbrev pub late_error : BuildConfig → EnvSeen → Look → List ℕ → Option ErrorSeen
 late_error set env look output = if is_disabled env then Some disabled_error else option_map (plan_error set env output) (late_refusal set env look)
 
+-- the same, behind the sources and before the library
+abbrev pub archiver_error : BuildConfig → EnvSeen → Look → List ℕ → Option ErrorSeen
+archiver_error set env look output = option_map (plan_error set env output) (archiver_refusal set env look)
+
+-- the same, behind the library and before the link lines
+abbrev pub link_error : BuildConfig → EnvSeen → Look → List ℕ → Option ErrorSeen
+link_error set env look output = option_map (plan_error set env output) (link_refusal set env look)
+
 -- the error of settings that are refused: that of the first part which doesn't hold
 abbrev pub refusal_error : BuildConfig → EnvSeen → Look → List ℕ → Option ErrorSeen
-refusal_error set env look output = first_of (early_error set env output) (late_error set env look output)
+refusal_error set env look output =
+    first_of (early_error set env output) (first_of (late_error set env look output) (first_of (archiver_error set env look output) (link_error set env look output)))

@@ -1,5 +1,5 @@
 -- The stages of a compile run: what it asks of its host, one after another.
-use Rattle.std.specs.Prelude.{ℕ, Bool, List, [], ◌∷◌, ◌++◌, map, None, is_some, if◌then◌else◌}
+use Rattle.std.specs.Prelude.{ℕ, Bool, List, [], ◌∷◌, ◌++◌, map, Option, None, is_some, if◌then◌else◌}
 use Rattle.std.specs.List.{flat_map}
 use Rattle.cc_env.specs.Env.{EnvSeen}
 use Rattle.cc_host.specs.Command.{CommandSeen}
@@ -10,26 +10,42 @@ use Rattle.cc_host.specs.declared.event.Role.{Role}
 use Rattle.cc_host.specs.declared.event.Role.TheVariants.{Compile, Archive, Index}
 use Rattle.cc_plan.specs.Given.{is_disabled}
 use Rattle.cc_plan.specs.Plan.{compiles_of, archives_of, indexes_of, warning_lines, prints, folder_steps, removal_steps, link_steps}
-use Rattle.cc_plan.specs.Refusal.{early_refusal, late_refusal}
+use Rattle.cc_plan.specs.Refusal.{early_refusal, late_refusal, archiver_refusal, link_refusal}
+use Rattle.cc_plan.specs.declared.error.PlanError.{PlanError}
 use Rattle.cc_plan.specs.declared.settings.BuildConfig.{BuildConfig}
 use Rattle.cc_run.specs.declared.planned.Planned.{Planned}
+use Rattle.cc_build.specs.Way.{Way}
 
--- a call of the host, questions, a command that runs alone, or commands that run beside each other
+-- A call of the host, questions, a command that is tried, a command that runs alone, or commands that run beside each other. One that is tried
+-- runs to its end, and says whether it was refused: the run goes on either way.
 pub data Stage : Type 0 where
   Calls : Step → Stage
   Asks : Stage
+  Tries : Bool → Planned → Stage
   RunsOne : Planned → Stage
   RunsAll : List Planned → Stage
 
 abbrev pub commands_of : Stage → List Planned
 commands_of (Calls step) = []
 commands_of Asks = []
+commands_of (Tries refused p) = p ∷ []
 commands_of (RunsOne p) = p ∷ []
 commands_of (RunsAll ps) = ps
 
 -- the commands of these stages, in order
 abbrev pub commands_in : List Stage → List Planned
 commands_in = flat_map commands_of
+
+-- those of them that are started as children: one that is tried runs in one call of the host
+abbrev pub children_of : Stage → List Planned
+children_of (Calls step) = []
+children_of Asks = []
+children_of (Tries refused p) = []
+children_of (RunsOne p) = p ∷ []
+children_of (RunsAll ps) = ps
+
+abbrev pub children_in : List Stage → List Planned
+children_in = flat_map children_of
 
 -- one call of the host after another
 abbrev pub calls : List Step → List Stage
@@ -49,6 +65,20 @@ beside (p ∷ q ∷ ps) = RunsAll (p ∷ q ∷ ps) ∷ []
 abbrev pub in_turn : List Planned → List Stage
 in_turn = map RunsOne
 
+-- all of these commands but the first
+abbrev pub behind_first : List Planned → List Planned
+behind_first [] = []
+behind_first (p ∷ ps) = ps
+
+-- one command after another, of which the first is tried
+abbrev pub tried : Bool → List Planned → List Stage
+tried refused [] = []
+tried refused (p ∷ ps) = Tries refused p ∷ in_turn ps
+
+-- questions, and then these stages, unless the answers refuse them
+abbrev pub asked_then : Option PlanError → List Stage → List Stage
+asked_then refusal stages = Asks ∷ (if is_some refusal then [] else stages)
+
 -- the folder is made where there is a source
 unfoldable pub folder_stages : BuildConfig → EnvSeen → List Stage
 folder_stages set env = calls (folder_steps set env)
@@ -61,22 +91,38 @@ compile_stages set env warns_of_link look = calls (prints Warning (warning_lines
 unfoldable pub removal_stages : BuildConfig → EnvSeen → List ℕ → List Stage
 removal_stages set env output = calls (removal_steps set env output)
 
--- the objects are archived, and then the index is written
-unfoldable pub archive_stages : BuildConfig → EnvSeen → List ℕ → List Stage
-archive_stages set env output = in_turn (planned Archive (archives_of set env output)) ++ in_turn (planned Index (indexes_of set env output))
+-- the commands that write the library, and then its index
+abbrev pub library_commands : BuildConfig → EnvSeen → Look → Bool → List ℕ → List Planned
+library_commands set env look is_plain output = planned Archive (archives_of set env look is_plain output) ++ planned Index (indexes_of set env look is_plain output)
+
+-- They run one after another. The first is tried, since the archiver may not know its form: where it is refused, those of the plain form follow.
+unfoldable pub archive_stages : BuildConfig → EnvSeen → Look → Bool → List ℕ → List Stage
+archive_stages set env look is_plain output = tried is_plain (library_commands set env look is_plain output)
 
 -- the link lines are printed
-unfoldable pub link_stages : BuildConfig → EnvSeen → List ℕ → List Stage
-link_stages set env output = calls (link_steps set env output)
+unfoldable pub link_stages : BuildConfig → EnvSeen → Look → Bool → List ℕ → List Stage
+link_stages set env look is_first output = calls (link_steps set env look is_first output)
 
--- the stages behind the questions
-abbrev pub run_stages : BuildConfig → EnvSeen → Bool → Look → List ℕ → List Stage
-run_stages set env warns_of_link look output = compile_stages set env warns_of_link look ++ (removal_stages set env output ++ (archive_stages set env output ++ link_stages set env output))
+-- questions on the link lines, which are then printed
+abbrev pub ending_stages : BuildConfig → EnvSeen → Way → Look → List ℕ → List Stage
+ending_stages set env way look output = asked_then (link_refusal set env look) (link_stages set env look way.is_first output)
 
--- The stages behind the folder: none where no command may run, questions alone where the settings are refused by the answers.
-unfoldable pub late_stages : BuildConfig → EnvSeen → Bool → Look → List ℕ → List Stage
-late_stages set env warns_of_link look output = if is_disabled env then [] else Asks ∷ (if is_some (late_refusal set env look) then [] else run_stages set env warns_of_link look output)
+-- the old library is removed, and the new one is written
+abbrev pub library_stages : BuildConfig → EnvSeen → Bool → Look → List ℕ → List Stage
+library_stages set env is_plain look output = removal_stages set env output ++ archive_stages set env look is_plain output
+
+-- the stages behind the sources
+unfoldable pub later_stages : BuildConfig → EnvSeen → Way → Look → List ℕ → List Stage
+later_stages set env way look output = asked_then (archiver_refusal set env look) (library_stages set env way.is_plain look output ++ ending_stages set env way look output)
+
+-- The stages where commands may run. The questions of each part come right before it, and behind what the answers refuse comes nothing.
+abbrev pub asked_stages : BuildConfig → EnvSeen → Way → Look → List ℕ → List Stage
+asked_stages set env way look output = asked_then (late_refusal set env look) (compile_stages set env way.warns_of_link look ++ later_stages set env way look output)
+
+-- the stages behind the folder: none where no command may run
+unfoldable pub late_stages : BuildConfig → EnvSeen → Way → Look → List ℕ → List Stage
+late_stages set env way look output = if is_disabled env then [] else asked_stages set env way look output
 
 -- The stages of a compile run. Settings that are refused before the folder is made have none.
-unfoldable pub planned_stages : BuildConfig → EnvSeen → Bool → Look → List ℕ → List Stage
-planned_stages set env warns_of_link look output = if is_some (early_refusal set env output) then [] else folder_stages set env ++ late_stages set env warns_of_link look output
+unfoldable pub planned_stages : BuildConfig → EnvSeen → Way → Look → List ℕ → List Stage
+planned_stages set env way look output = if is_some (early_refusal set env output) then [] else folder_stages set env ++ late_stages set env way look output

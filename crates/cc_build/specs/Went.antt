@@ -1,5 +1,5 @@
 -- What a part says of the stages of a run.
-use Rattle.std.specs.Prelude.{◌≡◌, ◌⊎◌, ◌≤◌, ◌+◌, ℕ, true, false, List, [], ◌∷◌, ◌++◌, Option, Some, None, IfSome, is_some, length, Result, Ok, Err}
+use Rattle.std.specs.Prelude.{◌≡◌, ◌⊎◌, ◌≤◌, ◌+◌, ℕ, Bool, true, false, List, [], ◌∷◌, ◌++◌, Option, Some, None, IfSome, is_some, length, Result, Ok, Err}
 use Rattle.std.specs.List.{list_all}
 use Rattle.cc_host.specs.Part.{step_of, Refuses}
 use Rattle.cc_host.specs.declared.event.Event.{Event}
@@ -7,20 +7,21 @@ use Rattle.cc_jobs.specs.Seats.{Rose}
 use Rattle.cc_run.specs.Children.{nothing_kept}
 use Rattle.cc_run.specs.Own.{is_of_run}
 use Rattle.cc_run.specs.Part.{turns}
+use Rattle.cc_run.specs.Output.{IsSilentRun}
 use Rattle.cc_run.specs.Patience.{Bounded, Unspent}
 use Rattle.cc_run.specs.Planned.{asked}
 use Rattle.cc_run.specs.Printing.{IsPrinted}
 use Rattle.cc_run.specs.Solo.{IsSolo}
 use Rattle.cc_run.specs.Whole.{IsRun}
 use Rattle.cc_run.specs.declared.error.RunError.{RunError}
-use Rattle.cc_run.specs.declared.error.RunError.TheVariants.{TurnsSpent, JobFault}
+use Rattle.cc_run.specs.declared.error.RunError.TheVariants.{ToolNotFound, Failed, TurnsSpent, JobFault}
 use Rattle.cc_run.specs.declared.planned.Planned.{Planned}
 use Rattle.cc_run.specs.declared.planned.Shows.{Shows}
 use Rattle.cc_tool.specs.Probing.{is_asked}
 use Rattle.cc_build.specs.Error.{ErrorSeen, no_memory}
 use Rattle.cc_build.specs.RunErrors.{run_error}
 use Rattle.cc_build.specs.Stage.{Stage}
-use Rattle.cc_build.specs.Stage.Stage.{Calls, Asks, RunsOne, RunsAll}
+use Rattle.cc_build.specs.Stage.Stage.{Calls, Asks, Tries, RunsOne, RunsAll}
 use Rattle.cc_build.specs.Stop.{stop_error}
 
 -- what a run is given: what it shows, the total of its pool where one caller owns it, and the patience of its host where it is known
@@ -67,10 +68,22 @@ pub record RanOne (t : Terms) (p : Planned) (part : List Event) (result : Result
   pub lines : IsPrinted t.shows false (p ∷ []) nothing_kept result part
   pub seat : (y.faults ≡ x.faults) × (y.taken ≡ x.taken) × (y.load ≡ x.load)
 
+-- the command is missing, or it ended with another status than 0
+abbrev pub is_refusal : RunError → Bool
+is_refusal (ToolNotFound place) = true
+is_refusal (Failed place status) = true
+is_refusal _ = false
+
+-- this command was run to its end, in one call of the host, and whether it was refused
+abbrev pub Tried : Terms → Planned → Bool → List Event → Type 0
+Tried t p false part = IsSilentRun t.shows p (Ok tt) part
+Tried t p true part = (error : RunError) × ((is_refusal error ≡ true) × IsSilentRun t.shows p (Err error) part)
+
 -- the part did this stage
 abbrev pub Did : Terms → Stage → List Event → Means → Means → Type 0
 Did t (Calls step) part x y = (event : Event) × ((part ≡ event ∷ []) × (step_of event ≡ step ∷ []) × (y ≡ x))
 Did t Asks part x y = (list_all is_asked part ≡ true) × (y ≡ x)
+Did t (Tries refused p) part x y = Tried t p refused part × (y ≡ x)
 Did t (RunsOne p) part x y = RanOne t p part (Ok tt) x y
 Did t (RunsAll ps) part x y = RanAll t ps part (Ok tt) x y
 
@@ -83,18 +96,19 @@ Went t (s ∷ ss) part x z = (front rest : List Event) × (y : Means) × ((part 
 abbrev pub IsOf : ErrorSeen → ErrorSeen → Type 0
 IsOf is e = (e ≡ no_memory) ⊎ (e ≡ is)
 
--- the part refused this stage
+-- The part refused this stage. Questions are refused for want of memory alone.
 abbrev pub Stops : Terms → Stage → List Event → ErrorSeen → Means → Means → Type 0
 Stops t (Calls step) part e x y = (event : Event) × ((part ≡ event ∷ []) × Refuses step event × IsOf (stop_error step event) e × (y ≡ x))
-Stops t Asks part e x y = ⊥
+Stops t Asks part e x y = (e ≡ no_memory) × (list_all is_asked part ≡ true) × (y ≡ x)
+Stops t (Tries refused p) part e x y = (error : RunError) × ((is_refusal error ≡ false) × IsSilentRun t.shows p (Err error) part × IsOf (run_error (p ∷ []) error) e × (y ≡ x))
 Stops t (RunsOne p) part e x y = (error : RunError) × (RanOne t p part (Err error) x y × IsOf (run_error (p ∷ []) error) e)
 Stops t (RunsAll ps) part e x y = (error : RunError) × (RanAll t ps part (Err error) x y × IsOf (run_error ps error) e)
 
--- The run ended before these stages: the settings are refused or memory was wanted, and nothing was done; or the first of them was refused.
--- Behind the last stage nothing ends it but refused settings.
+-- The run ended before these stages, since memory was wanted, or the first of them was refused. Behind the last one it ended since the settings
+-- are refused.
 abbrev pub Halts : Terms → Option ErrorSeen → List Stage → List Event → ErrorSeen → Means → Means → Type 0
 Halts t refusal [] part e x y = ((e ≡ no_memory) ⊎ (refusal ≡ Some e)) × (part ≡ []) × (y ≡ x) × (is_some refusal ≡ true)
-Halts t refusal (s ∷ ss) part e x y = (((e ≡ no_memory) ⊎ (refusal ≡ Some e)) × (part ≡ []) × (y ≡ x)) ⊎ Stops t s part e x y
+Halts t refusal (s ∷ ss) part e x y = ((e ≡ no_memory) × (part ≡ []) × (y ≡ x)) ⊎ Stops t s part e x y
 
 -- the first stages were done, and there the run ended
 pub record Halted (t : Terms) (refusal : Option ErrorSeen) (stages : List Stage) (part : List Event) (e : ErrorSeen) (x z : Means) : Type 0 where

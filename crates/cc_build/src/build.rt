@@ -4,7 +4,7 @@ ghost use Rattle.std.specs.List.{list_any};
 ghost use Rattle.cc_host.specs.Call.{part, ByAnswers};
 ghost use Rattle.cc_plan.specs.Asking.{is_of_children};
 ghost use Rattle.cc_tool.specs.Asked.{question_events};
-ghost use Rattle.cc_build.specs.Build.{Sets, TakesVars, flags_in, fresh_build, AsksByPlan};
+ghost use Rattle.cc_build.specs.Build.{Sets, TakesVars, flags_in, fresh_build, AsksByPlan, AsksByRun};
 ghost use Rattle.cc_build.specs.Captured.{Captures, CaptureEnds};
 ghost use Rattle.cc_build.specs.Compiler.{IsTool, ToolEnds};
 ghost use Rattle.cc_build.specs.Course.{ByPart, ByRun};
@@ -180,9 +180,10 @@ impl<W: World> Build<W> {
     /// Compiles the sources and archives them, and then the added objects, into the library of `output`, a name such as `foo` or
     /// `libfoo.a`.
     ///
-    /// Makes the out dir where there is a source, asks what the plan wants to know, prints the warnings, runs one compile command per
-    /// source, removes the old library, archives all objects, writes the index, and prints the link lines, where they are wanted. Two or
-    /// more compile commands run beside each other, each under a token of the pool. The seat is one of the pool and holds none, before and
+    /// Makes the out dir where there is a source, asks what the compile commands want to know, prints the warnings, runs one compile command
+    /// per source, asks for the archiver, removes the old library, archives all objects, writes the index, and asks for and prints the link
+    /// lines, where they are wanted. The first archive command is tried in a form that not each archiver knows: where it is refused, the same
+    /// objects are archived by the plain form. Two or more compile commands run beside each other, each under a token of the pool. The seat is one of the pool and holds none, before and
     /// after. At most `turns` turns are made, each of which asks the host once for the news of the running children; `u64::MAX` is as good
     /// as no bound.
     ///
@@ -206,7 +207,7 @@ impl<W: World> Build<W> {
         ensures total { J.total seat.new ≡ J.total seat.old }
         ensures patient { H.patience host.new ≡ H.patience host.old }
         ensures extends { H.log host.new ≡ H.log host.old ++ part H.log host.old host.new }
-        ensures asked { AsksByPlan W.steady W.answer self.now (part H.log host.old host.new) }
+        ensures asked { AsksByRun W.steady W.answer self.now (part H.log host.old host.new) }
 
         // Ok: the library is built.
         ensures built { ByRun H.log H.patience J.total J.faults J.taken J.load turns

@@ -15,7 +15,7 @@ use crate::message::or_no_memory;
 use crate::refusal::plan_error;
 use cc_env::BuildEnv;
 use cc_host::{Host, World};
-use cc_plan::{BuildConfig, Sight, tool_of};
+use cc_plan::{BuildConfig, Sight, probe_folder, tool_of};
 use cc_tool::{Answers, Caches, Tool};
 use std::alloc::Global;
 use std::sync::Wait;
@@ -43,6 +43,7 @@ pub(crate) fn compiler<W: World, H: Host<W>>(
         host,
         caches,
         answers: &mut answers,
+        dir: probe_folder(set, env),
     };
     match tool_of(rt, alloc, set, env, &mut sight) {
         Ok(tool) => Ok(tool),

@@ -1,33 +1,30 @@
-// The stages of a compile run.
-ghost use Rattle.std.specs.Prelude.{◌≡◌, ◌++◌, true, IfOk, IfErr};
-ghost use Rattle.std.specs.List.{list_all};
-ghost use Rattle.cc_host.specs.Call.{part, ByAnswers};
-ghost use Rattle.cc_plan.specs.Given.{is_disabled};
+// A compile run, part by part.
+ghost use Rattle.std.specs.Prelude.{◌≡◌, ◌+◌, ◌<◌, ◌^◌, ◌++◌, IfOk};
+ghost use Rattle.cc_host.specs.Call.{part};
 ghost use Rattle.cc_plan.specs.Names.{library_name};
 ghost use Rattle.cc_plan.specs.Plan.{objects_of, library_of, folder_steps};
 ghost use Rattle.cc_run.specs.Keeping.{IsIdle};
-ghost use Rattle.cc_tool.specs.Probing.{is_asked};
-ghost use Rattle.cc_build.specs.Build.{AsksByPlan};
+ghost use Rattle.cc_build.specs.Build.{AsksByRun};
 ghost use Rattle.cc_build.specs.Course.{CallsEnd, ByRun};
-ghost use Rattle.cc_build.specs.Kept.{Aside};
+ghost use Rattle.cc_build.specs.Kept.{Aside, AsksFor};
+ghost use Rattle.cc_build.specs.Phases.{ByKnown, AskedEnds};
 ghost use Rattle.cc_build.specs.Promises.{RunEnds};
-ghost use Rattle.cc_build.specs.Questions.{AsksOnly, Plans, IsPlanError, Drafts, IsLateError};
-ghost use Rattle.cc_build.specs.Seen.{stages_seen};
 
 use crate::goal::Goal;
 use crate::message::or_no_memory;
+use crate::phases::{archive_objects, compile_sources, print_links};
 use crate::refusal::{dir_of, disabled, plan_error};
 use crate::reporting::Reporting;
 use crate::run::make_folder;
 use crate::shows::shows_of;
-use crate::stage::{Stage, do_stages, stages_of};
+use crate::task::Task;
 use crate::{Build, Error};
 use cc_env::BuildEnv;
 use cc_host::{Host, World};
 use cc_jobs::Jobs;
-use cc_plan::{BuildConfig, Plan, Sight, Sources, is_disabled, plan_commands, plan_sources};
+use cc_plan::{BuildConfig, Sources, is_disabled, plan_sources};
 use cc_run::Turns;
-use cc_tool::Answers;
+use cc_tool::{Answers, Caches};
 use std::alloc::Global;
 use std::sync::Wait;
 
@@ -49,78 +46,47 @@ fn prepare_folder<W: World, H: Host<W>>(
     make_folder(alloc, host, dir_of(set, env))
 }
 
+// Does the parts behind the folder, one after another. A question is asked once in all of them.
+#[tactic(auto, using(cc_host::proofs::Parts::since_append))]
+fn run_parts<W: World, H: Host<W>, J: Jobs>(
+    rt: &impl Wait,
+    task: &Task<'_>,
+    host: &mut H,
+    jobs: &J,
+    seat: &mut J::Seat,
+    turns: &mut Turns,
+    caches: &Caches<W>,
+    answers: &mut Answers,
+    sources: &Sources,
+) -> Result<(), Error>
+    requires idle { IsIdle J.fits J.held jobs.now seat.old }
+    requires few { turns.old.left + turns.old.used < 2 ^ 64 }
+    requires name { sources.now.name ≡ library_name task.now.output.now }
+    requires library { sources.now.library
+        ≡ library_of task.now.set.now task.now.env.now task.now.output.now }
+    requires objects { sources.now.objects.items ≡ objects_of task.now.set.now task.now.env.now }
+    ensures idle { IsIdle J.fits J.held jobs.now seat.new }
+    ensures total { J.total seat.new ≡ J.total seat.old }
+    ensures sum { turns.new.left + turns.new.used ≡ turns.old.left + turns.old.used }
+    ensures asks { AsksFor W.steady W.answer task.now H.log H.patience
+        host.old host.new answers.old answers.new }
+    ensures outcome { ByKnown answers.new
+        H.log H.patience J.total J.faults J.taken J.load turns.old.left turns.new.left
+        host.old host.new seat.old seat.new (AskedEnds task.now result) }
+{
+    match compile_sources(rt, task, host, jobs, seat, turns, caches, answers, sources) {
+        Ok(()) => {}
+        Err(error) => return Err(error),
+    }
+    match archive_objects(rt, task, host, jobs, seat, turns, caches, answers, sources) {
+        Ok(()) => {}
+        Err(error) => return Err(error),
+    }
+    print_links(rt, task, host, jobs, seat, turns, caches, answers, sources)
+}
+
 impl<W: World> Build<W> {
-    // Plans the commands, by questions to the host. Nothing else is done.
-    #[tactic(auto, using(cc_host::proofs::Parts::since_append))]
-    fn plan_run<H: Host<W>>(
-        &self,
-        rt: &impl Wait,
-        host: &mut H,
-        output: &str,
-        sources: &Sources,
-    ) -> Result<Plan, Error>
-        requires name { sources.now.name ≡ library_name output.now }
-        requires library { sources.now.library
-            ≡ library_of self.now.config self.now.env output.now }
-        requires objects { sources.now.objects.items ≡ objects_of self.now.config self.now.env }
-        ensures extends { H.log host.new ≡ H.log host.old ++ part H.log host.old host.new }
-        ensures patient { H.patience host.new ≡ H.patience host.old }
-        ensures quiet { list_all is_asked (part H.log host.old host.new) ≡ true }
-        ensures asked { AsksByPlan W.steady W.answer self.now (part H.log host.old host.new) }
-        ensures planned { IfOk result (λ plan. ByAnswers H.log host.old host.new
-            (Plans self.now.config self.now.env output.now plan)) }
-        ensures refused { IfErr result (λ e. ByAnswers H.log host.old host.new
-            (IsPlanError self.now.config self.now.env output.now e)) }
-    {
-        let (alloc, set, env) = (self.alloc, &self.config, &self.env);
-        let mut answers = Answers::new(alloc);
-        let mut sight = Sight {
-            host,
-            caches: &self.caches,
-            answers: &mut answers,
-        };
-        match plan_commands(rt, set, env, output, sources, &mut sight) {
-            Ok(plan) => Ok(plan),
-            Err(error) => Err(or_no_memory(plan_error(alloc, set, env, output, error))),
-        }
-    }
-
-    // The stages behind the folder of the objects, by questions to the host. No question is asked where no command may run.
-    #[tactic(auto, using(cc_host::proofs::Parts::since_append))]
-    fn plan_stages<H: Host<W>>(
-        &self,
-        rt: &impl Wait,
-        host: &mut H,
-        output: &str,
-        sources: &Sources,
-    ) -> Result<Vec<Stage>, Error>
-        requires name { sources.now.name ≡ library_name output.now }
-        requires library { sources.now.library
-            ≡ library_of self.now.config self.now.env output.now }
-        requires objects { sources.now.objects.items ≡ objects_of self.now.config self.now.env }
-        ensures extends { H.log host.new ≡ H.log host.old ++ part H.log host.old host.new }
-        ensures patient { H.patience host.new ≡ H.patience host.old }
-        ensures quiet { AsksOnly (is_disabled self.now.env) (part H.log host.old host.new) }
-        ensures asked { AsksByPlan W.steady W.answer self.now (part H.log host.old host.new) }
-        ensures planned { IfOk result (λ stages. ByAnswers H.log host.old host.new
-            (Drafts self.now.config self.now.env output.now (stages_seen stages.items))) }
-        ensures refused { IfErr result (λ e. ByAnswers H.log host.old host.new
-            (IsLateError self.now.config self.now.env output.now e)) }
-    {
-        if is_disabled(&self.env) {
-            return Err(or_no_memory(disabled(self.alloc)));
-        }
-        let plan = match self.plan_run(rt, host, output, sources) {
-            Ok(plan) => plan,
-            Err(error) => return Err(error),
-        };
-        match stages_of(self.alloc, plan, sources.library.as_str()) {
-            Ok(stages) => Ok(stages),
-            Err(_) => Err(Error::no_memory()),
-        }
-    }
-
-    // Checks the settings, makes the folder, plans the stages behind it and does them.
+    // Checks the settings, makes the folder, and does the parts behind it. No question is asked where no command may run.
     #[tactic(auto, using(cc_host::proofs::Parts::since_append))]
     pub(crate) fn compile<H: Host<W>, J: Jobs>(
         &self,
@@ -135,7 +101,7 @@ impl<W: World> Build<W> {
         ensures total { J.total seat.new ≡ J.total seat.old }
         ensures patient { H.patience host.new ≡ H.patience host.old }
         ensures extends { H.log host.new ≡ H.log host.old ++ part H.log host.old host.new }
-        ensures asked { AsksByPlan W.steady W.answer self.now (part H.log host.old host.new) }
+        ensures asked { AsksByRun W.steady W.answer self.now (part H.log host.old host.new) }
         ensures outcome { ByRun H.log H.patience J.total J.faults J.taken J.load goal.entry.turns
             host.old host.new seat.old seat.new
             (RunEnds self.now goal.entry.output.now result) }
@@ -146,16 +112,32 @@ impl<W: World> Build<W> {
             Err(error) => return Err(or_no_memory(plan_error(alloc, set, env, output, error))),
         };
         prepare_folder(alloc, host, set, env)?;
-        let stages = match self.plan_stages(rt, host, output, &sources) {
-            Ok(stages) => stages,
-            Err(error) => return Err(error),
-        };
+        if is_disabled(env) {
+            return Err(or_no_memory(disabled(alloc)));
+        }
+        let mut answers = Answers::new(alloc);
         let mut turns = Turns {
             left: goal.turns,
             used: 0,
         };
         let shows = shows_of(set, env);
         let reporting = Reporting { alloc, shows };
-        do_stages(reporting, host, jobs, seat, &mut turns, &stages)
+        let task = Task {
+            reporting,
+            set,
+            env,
+            output,
+        };
+        run_parts(
+            rt,
+            &task,
+            host,
+            jobs,
+            seat,
+            &mut turns,
+            &self.caches,
+            &mut answers,
+            &sources,
+        )
     }
 }

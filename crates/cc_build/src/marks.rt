@@ -104,6 +104,14 @@ impl<W: World> Build<W> {
         self.config.cpp = cpp;
     }
 
+    /// Sets whether the C++ library is linked as a static one. At first it isn't, unless `CXXSTDLIB_STATIC` says so. It takes no memory.
+    pub fn cpp_link_stdlib_static(&mut self, cpp_link_stdlib_static: bool)
+        ensures { Sets self.old self.new
+            (λ c. record c { cpp_link_stdlib_static = cpp_link_stdlib_static }) }
+    {
+        self.config.cpp_link_stdlib_static = cpp_link_stdlib_static;
+    }
+
     /// Sets whether a warning is an error, which fails the build: `-Werror`, or `-WX` for Visual Studio's compilers (GCC's manual,
     /// "Options to Request or Suppress Warnings"). Whoever has another compiler may then fail to build, so at first it is off. It takes
     /// no memory.

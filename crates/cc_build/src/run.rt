@@ -1,4 +1,4 @@
-// The stages of a run, asked of a host one after another up to the first that is refused.
+// What the stages of a run ask of a host.
 ghost use Rattle.std.specs.Prelude.{◌≡◌, ◌+◌, ◌<◌, ◌≤◌, ◌^◌, [], ◌∷◌, length, IfOk};
 ghost use Rattle.std.specs.List.{All};
 ghost use Rattle.cc_host.specs.Call.{part};
@@ -10,8 +10,10 @@ ghost use Rattle.cc_plan.specs.Link.{printed_line as line_of};
 ghost use Rattle.cc_run.specs.Keeping.{IsIdle};
 ghost use Rattle.cc_build.specs.Course.{OnCourse, DoesAlone, Does, CallsEnd};
 ghost use Rattle.cc_build.specs.Kept.{Aside};
+ghost use Rattle.cc_build.specs.Phases.{TryEnds};
 ghost use Rattle.cc_build.specs.Stage.{planned};
 ghost use Rattle.cc_build.specs.Stage.Stage.{RunsOne, RunsAll};
+ghost use Rattle.cc_build.specs.Went.{is_refusal as is_refusal_of};
 
 use crate::Error;
 use crate::message::{host_error, or_no_memory};
@@ -19,7 +21,7 @@ use crate::reporting::Reporting;
 use cc_host::{Command, Host, LineKind, Role, Scope, World};
 use cc_jobs::Jobs;
 use cc_plan::printed_line;
-use cc_run::{Planned, Turns, run_all, run_one};
+use cc_run::{Planned, RunError, Turns, run_all, run_one, run_silent};
 use cc_text::{Mem, Vars};
 use std::alloc::Global;
 use std::slice;
@@ -56,6 +58,35 @@ pub(crate) fn run_alone<W: World, H: Host<W>>(
     match run_one(reporting.alloc, host, turns, cmd, &reporting.shows) {
         Ok(()) => Ok(()),
         Err(e) => Err(Error::of_run(reporting.alloc, e, slice::from_ref(cmd))),
+    }
+}
+
+// The command is missing, or it ended with another status than 0.
+fn is_refusal(e: RunError) -> bool
+    ensures { result ≡ is_refusal_of e }
+{
+    matches!(e, RunError::ToolNotFound(_) | RunError::Failed(_, _))
+}
+
+/// Tries a command: runs it to its end, without a turn. Whether it was refused: its program is missing, or it ended with another status than 0.
+#[tactic(auto, using(cc_host::proofs::Parts::since_append))]
+pub(crate) fn try_form<W: World, H: Host<W>>(
+    reporting: Reporting,
+    host: &mut H,
+    cmd: &Planned,
+) -> Result<bool, Error>
+    ensures aside { Aside H.log H.patience host.old host.new }
+    ensures outcome { TryEnds reporting.shows cmd.now result (part H.log host.old host.new) }
+{
+    match run_silent(reporting.alloc, host, cmd, &reporting.shows) {
+        Ok(()) => Ok(false),
+        Err(e) => {
+            if is_refusal(e) {
+                Ok(true)
+            } else {
+                Err(Error::of_run(reporting.alloc, e, slice::from_ref(cmd)))
+            }
+        }
     }
 }
 

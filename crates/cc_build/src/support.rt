@@ -13,7 +13,7 @@ use crate::message::or_no_memory;
 use crate::refusal::plan_error;
 use crate::{Build, Error, ErrorKind};
 use cc_host::{Host, Verdict, World, is_yes};
-use cc_plan::{FlagSupport, Sight, flag_support};
+use cc_plan::{FlagSupport, Sight, flag_support, probe_folder};
 use cc_text::{Mem, Text, quoted};
 use cc_tool::Answers;
 use std::alloc::Global;
@@ -83,6 +83,7 @@ impl<W: World> Build<W> {
             host,
             caches: &self.caches,
             answers: &mut answers,
+            dir: probe_folder(set, env),
         };
         match flag_support(rt, alloc, set, env, flag, &mut sight) {
             Ok(support) => verdict_answer(alloc, &support),

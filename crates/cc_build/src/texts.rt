@@ -137,6 +137,18 @@ impl<W: World> Build<W> {
         Ok(())
     }
 
+    /// Sets the program that writes the index of a library: a path, or a name that is looked up on the `PATH`. Refused only for memory; the
+    /// build is as before.
+    pub fn ranlib(&mut self, ranlib: &str) -> Result<(), Error>
+        ensures ok { OnOk result (Sets self.old self.new
+            (λ c. record c { ranlib = Some ranlib.now })) }
+        ensures err { OnErr result (self.new ≡ self.old) }
+        ensures refused { IfErr result (λ e. e ≡ no_memory) }
+    {
+        self.config.ranlib = Some(Text::of(self.alloc, ranlib)?);
+        Ok(())
+    }
+
     /// Sets the optimisation level to a number, which is kept in decimal: what `opt_level_str` does with that text. Cargo has 0 to 3;
     /// others aren't refused here. Refused only for memory; the build is as before.
     pub fn opt_level(&mut self, opt_level: u32) -> Result<(), Error>
@@ -150,18 +162,35 @@ impl<W: World> Build<W> {
         Ok(())
     }
 
-    /// Sets the C++ library that the compiler is told of, or none: `-stdlib=lib` and the name, as `c++`, for GCC and Clang where the
-    /// sources are C++ (Clang's "Clang command line argument reference"). It is not put among the link lines. With none, Clang is told
-    /// `libc++` on FreeBSD and nothing elsewhere. Visual Studio's compilers have no such word: the compile run warns. Refused only for
-    /// memory; the build is as before.
-    pub fn cpp_set_stdlib(&mut self, cpp_set_stdlib: Option<&str>) -> Result<(), Error>
+    /// Sets the C++ library that Cargo links where the sources are C++, as `c++` or `stdc++`, or that it links none. Unset, it is that of
+    /// `CXXSTDLIB`, else the one of the target. Refused only for memory; the build is as before.
+    pub fn cpp_link_stdlib(&mut self, cpp_link_stdlib: Option<&str>) -> Result<(), Error>
         ensures ok { OnOk result (Sets self.old self.new
-            (λ c. record c { cpp_set_stdlib = option_copied cpp_set_stdlib.entry })) }
+            (λ c. record c { cpp_link_stdlib = Some (option_copied cpp_link_stdlib.entry) })) }
+        ensures err { OnErr result (self.new ≡ self.old) }
+        ensures refused { IfErr result (λ e. e ≡ no_memory) }
+    {
+        let library = kept(self.alloc, cpp_link_stdlib)?;
+        self.config.cpp_link_stdlib = Some(library);
+        Ok(())
+    }
+
+    /// Sets the C++ library that the compiler is told of, or none: `-stdlib=lib` and the name, as `c++`, for GCC and Clang where the
+    /// sources are C++ (Clang's "Clang command line argument reference"). Cargo is told to link the same, as by `cpp_link_stdlib`. With
+    /// none, Clang is told `libc++` on FreeBSD and nothing elsewhere. Visual Studio's compilers have no such word: the compile run warns.
+    /// Refused only for memory; the build is as before.
+    pub fn cpp_set_stdlib(&mut self, cpp_set_stdlib: Option<&str>) -> Result<(), Error>
+        ensures ok { OnOk result (Sets self.old self.new (λ c. record c {
+          cpp_set_stdlib = option_copied cpp_set_stdlib.entry;
+          cpp_link_stdlib = Some (option_copied cpp_set_stdlib.entry);
+        })) }
         ensures err { OnErr result (self.new ≡ self.old) }
         ensures refused { IfErr result (λ e. e ≡ no_memory) }
     {
         let library = kept(self.alloc, cpp_set_stdlib)?;
+        let linked = kept(self.alloc, cpp_set_stdlib)?;
         self.config.cpp_set_stdlib = library;
+        self.config.cpp_link_stdlib = Some(linked);
         Ok(())
     }
 }

@@ -1,5 +1,5 @@
 -- What the answers of the program say.
-use Rattle.std.proofs.Common.{◌≡◌, ◌⊎◌, inl, inr, ℕ, List, [], ◌∷◌, ◌++◌, Bool, true, Option, Some, Result, Ok, Err, refl, sym, ◌∙◌, ap, subst, append-nil}
+use Rattle.std.proofs.Common.{◌≡◌, ◌⊎◌, inl, inr, ℕ, List, [], ◌∷◌, ◌++◌, Bool, true, false, Option, Some, Result, Ok, Err, refl, sym, ◌∙◌, ap, subst, append-nil}
 use Rattle.cc_host.specs.Question.{Look}
 use Rattle.cc_host.specs.Part.{since}
 use Rattle.cc_host.specs.Part.Step.{Lists}
@@ -23,9 +23,9 @@ use Rattle.cc_host.specs.declared.question.Question.{Question}
 use Rattle.cc_tool.specs.Asked.{Asked}
 use Rattle.cc_tool.proofs.Asides.{asked_around}
 use Rattle.cc_plan.specs.Given.{probe_folder}
-use Rattle.cc_plan.specs.Questions.{PlanAsks}
+use Rattle.cc_plan.specs.Questions.{RunAsks}
 use Rattle.cc_command.specs.Asks.{AsksFor}
-use Rattle.cc_command.specs.Answer.{IsHalted, Answers, AnswersError, AnswersWords, env_in, terms_in, error_of, stages_of, ended_well, ended_wanting}
+use Rattle.cc_command.specs.Answer.{IsHalted, Answers, AnswersError, AnswersWords, env_in, terms_in, error_of, repeating, stages_of, ended_well, ended_wanting}
 use Rattle.cc_command.proofs.RepeatLaws.{went_same, halted_same}
 use Rattle.cc_command.specs.Read.{Request, refusal_of}
 use Rattle.cc_command.specs.declared.top.Ended.{Ended}
@@ -34,21 +34,23 @@ use Rattle.cc_command.specs.declared.words.ReadError.{ReadError}
 use Rattle.cc_command.specs.declared.words.ReadError.TheVariants.{Bad, NoMemory as WantsMemory}
 
 -- a request that was refused, and the line behind it
-pub answers_refused : (look : Look) (q : Request) (run line part : List Event) (e : ErrorSeen) (ended : Ended) (c : Course) → part ≡ run ++ line → Halted (terms_in q run c) (error_of look q run) (stages_of look q run) run e c.before c.after → AnswersError e line ended → Answers look q part ended c
+pub answers_refused : (look : Look) (q : Request) (run line part : List Event) (e : ErrorSeen) (ended : Ended) (c : Course) → part ≡ run ++ line → (is_plain : Bool) × Halted (terms_in q run c) (error_of look q run) (stages_of look q is_plain run) run e c.before c.after → AnswersError e line ended → Answers look q part ended c
 answers_refused look q run line part e ended c cut refused (inl printed) =
-    inr (inl (record { error = e; run = run; line = line; cut = cut; printed = printed.2; refused = refused; known = printed.1; is = printed.0 }))
+    inr (inl (record { error = e; run = run; line = line; cut = cut; printed = printed.2; is_plain = refused.0; refused = refused.1; known = printed.1; is = printed.0 }))
 answers_refused look q run line part e ended c cut refused (inr wanting) =
     let same : part ≡ run = cut ∙ ap (λ l. run ++ l) wanting.1 ∙ append-nil run in
     inr (inr (
       wanting.0,
-      subst (λ (p : List Event). IsHalted (terms_in q p c) (error_of look q p) (stages_of look q p) p c.before c.after) (sym same) (e, refused),
+      (refused.0, subst (λ (p : List Event). IsHalted (terms_in q p c) (error_of look q p) (stages_of look q refused.0 p) p c.before c.after) (sym same) (e, refused.1)),
     ))
 
 -- the variables were not listed, or memory for their snapshot was wanted
-pub uncaptured : (look : Look) (q : Request) (run : List Event) (e : ErrorSeen) (t : Terms) (x : Means) → CaptureEnds run (Err e) → Halted t (error_of look q run) (stages_of look q run) run e x x
-uncaptured look q run e t x (inl h) = halted_more t (error_of look q run) (Calls Lists ∷ []) (planned_stages q.1.config (env_in q run) true look q.0) run e x x (h t x)
-uncaptured look q run e t x (inr w) =
-    halted_among t (error_of look q run) (Calls Lists ∷ []) (planned_stages q.1.config (env_in q run) true look q.0) run e x x (w.1 t x).1 (inl w.0) (planned_open q.1.config (env_in q run) true look q.0)
+pub uncaptured : (look : Look) (q : Request) (run : List Event) (e : ErrorSeen) (t : Terms) (x : Means) → CaptureEnds run (Err e) → (is_plain : Bool) × Halted t (error_of look q run) (stages_of look q is_plain run) run e x x
+uncaptured look q run e t x (inl h) = (false, halted_more t (error_of look q run) (Calls Lists ∷ []) (planned_stages q.1.config (env_in q run) (repeating false) look q.0) run e x x (h t x))
+uncaptured look q run e t x (inr w) = (
+  false,
+  halted_among t (error_of look q run) (Calls Lists ∷ []) (planned_stages q.1.config (env_in q run) (repeating false) look q.0) run e x x (w.1 t x).1 w.0 (planned_open q.1.config (env_in q run) (repeating false) look q.0),
+)
 
 -- the host listed its variables
 listing_done : (t : Terms) (vars : List (List ℕ × List ℕ)) (x : Means) → Did t (Calls Lists) (Listed vars ∷ []) x x
@@ -80,19 +82,23 @@ module _ (look : Look) (name : List ℕ) (before after : BuildSeen) (old mid new
   pub answers_built : (ended : Ended) → ended ≡ ended_well → Built (terms_for after (course total p x y)) after.config after.env look name (since mid new) → Promises {T = Unit {0}} after name (Ok tt) look (since mid new) (course total p x y) → Answers look (name, before) (since old new) ended (course total q x y)
   answers_built ended is built h =
       let promises = as_taken {T = Unit {0}} (Ok tt) h in
-      let run : Went t (planned_stages before.config taken.env true look name) (since mid new) x y = went_same before.config taken.env promises.warns_of_link look name t (since mid new) x y repeats promises.outcome.1 in
-      let went : Went t (Calls Lists ∷ planned_stages before.config taken.env true look name) (Listed k.vars ∷ since mid new) x y = (Listed k.vars ∷ [], since mid new, x, (refl, listing_done t k.vars x, run)) in
+      let way = promises.way in
+      let run : Went t (planned_stages before.config taken.env (repeating way.is_plain) look name) (since mid new) x y = went_same before.config taken.env way look name t (since mid new) x y repeats promises.repeats promises.outcome.1 in
+      let went : Went t (Calls Lists ∷ planned_stages before.config taken.env (repeating way.is_plain) look name) (Listed k.vars ∷ since mid new) x y = (Listed k.vars ∷ [], since mid new, x, (refl, listing_done t k.vars x, run)) in
       subst (λ (part : List Event). Answers look (name, before) part ended (course total q x y)) (sym listed)
-      (inl (is, (record { vars = k.vars; run = since mid new; cut = refl; built = built_taken built }, went)))
+      (inl (is, (record { vars = k.vars; run = since mid new; cut = refl; built = built_taken built }, (way.is_plain, went))))
 
   -- it was refused behind the listing
-  pub halted_listed : (e : ErrorSeen) → Promises {T = Unit {0}} after name (Err e) look (since mid new) (course total p x y) → Halted (terms_in (name, before) (since old new) (course total q x y)) (error_of look (name, before) (since old new)) (stages_of look (name, before) (since old new)) (since old new) e x y
+  pub halted_listed : (e : ErrorSeen) → Promises {T = Unit {0}} after name (Err e) look (since mid new) (course total p x y) → (is_plain : Bool) × Halted (terms_in (name, before) (since old new) (course total q x y)) (error_of look (name, before) (since old new)) (stages_of look (name, before) is_plain (since old new)) (since old new) e x y
   halted_listed e h =
       let promises = as_taken {T = Unit {0}} (Err e) h in
+      let way = promises.way in
       let refusal = refusal_error before.config taken.env look name in
-      let run : Halted t refusal (planned_stages before.config taken.env true look name) (since mid new) e x y = halted_same before.config taken.env promises.warns_of_link look name t refusal (since mid new) e x y repeats promises.outcome in
-      subst (λ (part : List Event). Halted (terms_in (name, before) part (course total q x y)) (error_of look (name, before) part) (stages_of look (name, before) part) part e x y) (sym listed)
-      (halted_then t refusal (Calls Lists ∷ []) (planned_stages before.config taken.env true look name) (Listed k.vars ∷ []) (since mid new) e x x y (called t Lists (Listed k.vars) (Listed k.vars ∷ []) x refl refl) run)
+      let run : Halted t refusal (planned_stages before.config taken.env (repeating way.is_plain) look name) (since mid new) e x y = halted_same before.config taken.env way look name t refusal (since mid new) e x y repeats promises.repeats promises.outcome in (
+        way.is_plain,
+        subst (λ (part : List Event). Halted (terms_in (name, before) part (course total q x y)) (error_of look (name, before) part) (stages_of look (name, before) way.is_plain part) part e x y) (sym listed)
+            (halted_then t refusal (Calls Lists ∷ []) (planned_stages before.config taken.env (repeating way.is_plain) look name) (Listed k.vars ∷ []) (since mid new) e x x y (called t Lists (Listed k.vars) (Listed k.vars ∷ []) x refl refl) run),
+      )
 
 -- the same request, by its name
 pub answers_named : (look : Look) (a b : List ℕ) (build : BuildSeen) (part : List Event) (ended : Ended) (c : Course) → a ≡ b → Answers look (a, build) part ended c → Answers look (b, build) part ended c
@@ -114,15 +120,18 @@ answers_wanting look (Ok q) log ended c is same =
     let none : since log log ≡ [] = part_is log log [] (sym (append-nil log)) in
     inr (inr (
       is,
-      subst (λ (y : Means). IsHalted (terms_in q (since log log) c) (error_of look q (since log log)) (stages_of look q (since log log)) (since log log) c.before y) (sym same)
-          (no_memory, halted_none (terms_in q (since log log) c) (error_of look q (since log log)) (stages_of look q (since log log)) (since log log) no_memory c.before none (inl refl) (λ empty. absurd (cc))),
+      (
+        false,
+        subst (λ (y : Means). IsHalted (terms_in q (since log log) c) (error_of look q (since log log)) (stages_of look q false (since log log)) (since log log) c.before y) (sym same)
+            (no_memory, halted_none (terms_in q (since log log) c) (error_of look q (since log log)) (stages_of look q false (since log log)) (since log log) no_memory c.before none refl (λ empty. absurd (cc))),
+      ),
     ))
 answers_wanting look (Err bad) log ended c is same = (inr (is, part_is log log [] (sym (append-nil log))), same)
 
 -- what a call asks behind the listing of the variables, it asks for the request
-pub asked_captured : (steady : Bool) (world : Question → Outcome) (name : List ℕ) (before after : BuildSeen) (old mid new : List Event) → mid ≡ old ++ since old mid → new ≡ mid ++ since mid new → Captures before after (since old mid) → Asked steady world (probe_folder after.config after.env) (PlanAsks after.config after.env) (since mid new) → AsksFor steady world (name, before) (since old new)
+pub asked_captured : (steady : Bool) (world : Question → Outcome) (name : List ℕ) (before after : BuildSeen) (old mid new : List Event) → mid ≡ old ++ since old mid → new ≡ mid ++ since mid new → Captures before after (since old mid) → Asked steady world (probe_folder after.config after.env) (RunAsks after.config after.env) (since mid new) → AsksFor steady world (name, before) (since old new)
 asked_captured steady world name before after old mid new f h c k =
     let part : since old new ≡ (Listed c.vars ∷ []) ++ (since mid new ++ []) = since_since old mid new f h ∙ ap (λ l. l ++ since mid new) c.listed ∙ ap (λ l. Listed c.vars ∷ l) (sym (append-nil (since mid new))) in
-    let there : Asked steady world (probe_folder before.config (with_vars before.env c.vars)) (PlanAsks before.config (with_vars before.env c.vars)) (since mid new) =
-    subst (λ (b : BuildSeen). Asked steady world (probe_folder b.config b.env) (PlanAsks b.config b.env) (since mid new)) c.is k in
-    subst (λ (p : List Event). AsksFor steady world (name, before) p) (sym part) (asked_around steady world (probe_folder before.config (with_vars before.env c.vars)) (PlanAsks before.config (with_vars before.env c.vars)) (Listed c.vars ∷ []) (since mid new) [] refl refl there)
+    let there : Asked steady world (probe_folder before.config (with_vars before.env c.vars)) (RunAsks before.config (with_vars before.env c.vars)) (since mid new) =
+    subst (λ (b : BuildSeen). Asked steady world (probe_folder b.config b.env) (RunAsks b.config b.env) (since mid new)) c.is k in
+    subst (λ (p : List Event). AsksFor steady world (name, before) p) (sym part) (asked_around steady world (probe_folder before.config (with_vars before.env c.vars)) (RunAsks before.config (with_vars before.env c.vars)) (Listed c.vars ∷ []) (since mid new) [] refl refl there)

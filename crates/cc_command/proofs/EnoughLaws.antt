@@ -1,5 +1,5 @@
 -- How many commands a request has at most, and that refused settings spend no turns.
-use Rattle.std.proofs.Common.{◌≡◌, ℕ, ◌+◌, ◌*◌, List, [], ◌∷◌, ◌++◌, length, Bool, true, false, Option, Some, None, if◌then◌else◌, is_some, ◌∙◌, ap, zero-add, arith}
+use Rattle.std.proofs.Common.{◌≡◌, ℕ, ◌+◌, ◌*◌, List, [], ◌∷◌, ◌++◌, length, Bool, true, false, Option, Some, None, if◌then◌else◌, is_some, map, refl, sym, ◌∙◌, ap, zero-add, arith}
 use Rattle.std.specs.Prelude.{◌≤◌}
 use Rattle.std.specs.Option.{option_map}
 use Rattle.std.proofs.lemmas.List.{length-append, length-map}
@@ -8,23 +8,26 @@ use Rattle.cc_host.specs.Part.{Step}
 use Rattle.cc_host.specs.Question.{Look}
 use Rattle.cc_host.specs.declared.event.LineKind.TheVariants.{Warning}
 use Rattle.cc_host.specs.declared.event.Role.TheVariants.{Compile, Archive, Index}
-use Rattle.cc_plan.specs.Archive.{paths_of}
+use Rattle.cc_plan.specs.Archive as archive
+use Rattle.cc_plan.specs.Archive.{paths_of, archiver_of}
 use Rattle.cc_plan.specs.Batches.{batches_of}
 use Rattle.cc_plan.specs.Given.{is_disabled}
-use Rattle.cc_plan.specs.Plan.{objects_of, compiles_of, archived_of, archives_of, indexes_of, warning_lines, prints, folder_steps, removal_steps, link_steps}
-use Rattle.cc_plan.specs.Refusal.{first_of, early_refusal, late_refusal}
+use Rattle.cc_plan.specs.Plan.{objects_of, library_of, compiles_of, archived_of, archives_of, indexes_of, warning_lines, prints, folder_steps, removal_steps, link_steps}
+use Rattle.cc_plan.specs.Refusal.{first_of, early_refusal, late_refusal, archiver_refusal, link_refusal}
 use Rattle.cc_plan.specs.declared.error.ArgumentCause.TheVariants.{Output, OutDir, NoFileName, SameObject, LibraryIsObject}
 use Rattle.cc_plan.specs.declared.error.PlanError.{PlanError}
 use Rattle.cc_plan.specs.declared.error.PlanError.TheVariants.{Argument, NotSet, UnknownTarget, QnxArch, Flag, Host, NoMemory as WantsMemory}
+use Rattle.cc_plan.specs.declared.archive.Archiver.{Archiver}
 use Rattle.cc_plan.specs.declared.settings.BuildConfig.{BuildConfig}
 use Rattle.cc_plan.proofs.BatchLaws.{few}
 use Rattle.cc_build.specs.Error.{ErrorSeen}
-use Rattle.cc_build.specs.Refusal.{plan_error, disabled_error, early_error, late_error, refusal_error}
-use Rattle.cc_build.specs.Stage.{Stage, commands_in, calls, planned, beside, in_turn, folder_stages, compile_stages, removal_stages, archive_stages, link_stages, run_stages, late_stages, planned_stages}
+use Rattle.cc_build.specs.Refusal.{plan_error, disabled_error, early_error, late_error, archiver_error, link_error, refusal_error}
+use Rattle.cc_build.specs.Stage.{Stage, commands_in, calls, planned, beside, tried, folder_stages, compile_stages, removal_stages, library_commands, archive_stages, link_stages, library_stages, ending_stages, later_stages, late_stages, planned_stages}
+use Rattle.cc_build.specs.Way.{Way}
 use Rattle.cc_build.specs.Stage.Stage.{Asks}
 use Rattle.cc_build.specs.Stop.{fault_error}
 use Rattle.cc_build.specs.declared.error.ErrorKind.TheVariants.{TurnsSpent}
-use Rattle.cc_build.proofs.RunLaws.{commands_then, commands_calls, commands_beside, commands_in_turn}
+use Rattle.cc_build.proofs.RunLaws.{commands_then, commands_calls, commands_beside, commands_tried}
 
 -- how many commands stages have
 abbrev pub count : List Stage → ℕ
@@ -55,23 +58,34 @@ object_count set env =
     let b : length (archived_of set env) ≡ length (paths_of (objects_of set env)) + length set.objects = length-append (paths_of (objects_of set env)) set.objects in
     omega arith
 
--- no more archive commands than objects
-archives_few : (set : BuildConfig) (env : EnvSeen) (output : List ℕ) → length (archives_of set env output) ≤ length set.files + length set.objects
-archives_few set env output =
-    let a : length (archives_of set env output) ≡ length (batches_of (archived_of set env)) = length-map (batches_of (archived_of set env)) _ in
+-- no more commands of the archive than batches, and two
+commands_few : (archiver : Archiver) (env : EnvSeen) (library : List ℕ) (is_plain : Bool) (batches : List (List (List ℕ))) (paths : List (List ℕ)) → length batches ≤ length paths → length (archive.archives_by archiver env library is_plain batches) + length (archive.indexes_of archiver env library is_plain paths) ≤ length batches + 2
+commands_few archiver env library false batches paths h = let a : length (map (archive.archive_of archiver env library false) batches) ≡ length batches = length-map batches _ in omega arith
+commands_few archiver env library true [] [] h = omega arith
+commands_few archiver env library true [] (path ∷ paths) h = omega arith
+commands_few archiver env library true (batch ∷ batches) [] h = absurd (omega (arith, h))
+commands_few archiver env library true (batch ∷ batches) (path ∷ paths) h = let a : length (map (archive.archive_of archiver env library true) batches) ≡ length batches = length-map batches _ in omega arith
+
+object_commands : (set : BuildConfig) (env : EnvSeen) (look : Look) (is_plain : Bool) (output : List ℕ) → length (archives_of set env look is_plain output) + length (indexes_of set env look is_plain output) ≤ length set.files + length set.objects + 2
+unfolding archives_of indexes_of
+object_commands set env look is_plain output =
+    let a : length (archive.archives_by (archiver_of set env look) env (library_of set env output) is_plain (batches_of (archived_of set env))) + length (archive.indexes_of (archiver_of set env look) env (library_of set env output) is_plain (archived_of set env)) ≤ length (batches_of (archived_of set env)) + 2 =
+    commands_few (archiver_of set env look) env (library_of set env output) is_plain (batches_of (archived_of set env)) (archived_of set env) (few (archived_of set env)) in
     let b : length (batches_of (archived_of set env)) ≤ length (archived_of set env) = few (archived_of set env) in
     let d : length (archived_of set env) ≡ length set.files + length set.objects = object_count set env in
     omega arith
 
--- the archive commands, and one of the index
-archive_count : (set : BuildConfig) (env : EnvSeen) (output : List ℕ) → count (archive_stages set env output) ≤ length set.files + length set.objects + 1
+-- the archive commands, and those of the index
+archive_count : (set : BuildConfig) (env : EnvSeen) (look : Look) (is_plain : Bool) (output : List ℕ) → count (archive_stages set env look is_plain output) ≤ length set.files + length set.objects + 2
 unfolding archive_stages
-archive_count set env output =
-    let a : count (in_turn (planned Archive (archives_of set env output)) ++ in_turn (planned Index (indexes_of set env output))) ≡ count (in_turn (planned Archive (archives_of set env output))) + count (in_turn (planned Index (indexes_of set env output))) =
-    both (in_turn (planned Archive (archives_of set env output))) (in_turn (planned Index (indexes_of set env output))) in
-    let b : count (in_turn (planned Archive (archives_of set env output))) ≡ length (archives_of set env output) = ap length (commands_in_turn (planned Archive (archives_of set env output))) ∙ length-map (archives_of set env output) _ in
-    let d : count (in_turn (planned Index (indexes_of set env output))) ≡ 1 = ap length (commands_in_turn (planned Index (indexes_of set env output))) in
-    let e : length (archives_of set env output) ≤ length set.files + length set.objects = archives_few set env output in
+archive_count set env look is_plain output =
+    let archives = archives_of set env look is_plain output in
+    let indexes = indexes_of set env look is_plain output in
+    let a : count (tried is_plain (library_commands set env look is_plain output)) ≡ length (planned Archive archives ++ planned Index indexes) = ap length (commands_tried is_plain (library_commands set env look is_plain output)) in
+    let b : length (planned Archive archives ++ planned Index indexes) ≡ length (planned Archive archives) + length (planned Index indexes) = length-append (planned Archive archives) (planned Index indexes) in
+    let d : length (planned Archive archives) ≡ length archives = length-map archives _ in
+    let e : length (planned Index indexes) ≡ length indexes = length-map indexes _ in
+    let f : length archives + length indexes ≤ length set.files + length set.objects + 2 = object_commands set env look is_plain output in
     omega arith
 
 folder_count : (set : BuildConfig) (env : EnvSeen) → count (folder_stages set env) ≡ 0
@@ -82,21 +96,37 @@ removal_count : (set : BuildConfig) (env : EnvSeen) (output : List ℕ) → coun
 unfolding removal_stages
 removal_count set env output = calls_none (removal_steps set env output)
 
-link_count : (set : BuildConfig) (env : EnvSeen) (output : List ℕ) → count (link_stages set env output) ≡ 0
+link_count : (set : BuildConfig) (env : EnvSeen) (look : Look) (is_first : Bool) (output : List ℕ) → count (link_stages set env look is_first output) ≡ 0
 unfolding link_stages
-link_count set env output = calls_none (link_steps set env output)
+link_count set env look is_first output = calls_none (link_steps set env look is_first output)
 
-four : (a b d e : List Stage) (n m : ℕ) → count a ≡ n → count b ≡ 0 → count d ≤ n + m + 1 → count e ≡ 0 → count (a ++ (b ++ (d ++ e))) ≤ 2 * n + m + 1
-four a b d e n m p q r s =
-    let x : count (a ++ (b ++ (d ++ e))) ≡ count a + count (b ++ (d ++ e)) = both a (b ++ (d ++ e)) in
-    let y : count (b ++ (d ++ e)) ≡ count b + count (d ++ e) = both b (d ++ e) in
-    let z : count (d ++ e) ≡ count d + count e = both d e in
+unless_few : (b : Bool) (stages : List Stage) (n : ℕ) → count stages ≤ n → count (if b then [] else stages) ≤ n
+unless_few true stages n h = omega arith
+unless_few false stages n h = h
+
+unless_none : (b : Bool) (stages : List Stage) → count stages ≡ 0 → count (if b then [] else stages) ≡ 0
+unless_none true stages h = refl
+unless_none false stages h = h
+
+three : (b d e : List Stage) (n m : ℕ) → count b ≡ 0 → count d ≤ n + m + 2 → count e ≡ 0 → count ((b ++ d) ++ e) ≤ n + m + 2
+three b d e n m q r s =
+    let x : count ((b ++ d) ++ e) ≡ count (b ++ d) + count e = both (b ++ d) e in
+    let y : count (b ++ d) ≡ count b + count d = both b d in
     omega arith
 
-run_count : (set : BuildConfig) (env : EnvSeen) (warns_of_link : Bool) (look : Look) (output : List ℕ) → count (run_stages set env warns_of_link look output) ≤ 2 * length set.files + length set.objects + 1
-run_count set env warns_of_link look output =
-    four (compile_stages set env warns_of_link look) (removal_stages set env output) (archive_stages set env output) (link_stages set env output) (length set.files) (length set.objects)
-    (compile_count set env warns_of_link look) (removal_count set env output) (archive_count set env output) (link_count set env output)
+later_count : (set : BuildConfig) (env : EnvSeen) (way : Way) (look : Look) (output : List ℕ) → count (later_stages set env way look output) ≤ length set.files + length set.objects + 2
+unfolding later_stages
+later_count set env way look output =
+    unless_few (is_some (archiver_refusal set env look)) (library_stages set env way.is_plain look output ++ ending_stages set env way look output) (length set.files + length set.objects + 2)
+    (three (removal_stages set env output) (archive_stages set env look way.is_plain output) (ending_stages set env way look output) (length set.files) (length set.objects)
+    (removal_count set env output) (archive_count set env look way.is_plain output)
+    (unless_none (is_some (link_refusal set env look)) (link_stages set env look way.is_first output) (link_count set env look way.is_first output)))
+
+two : (a b : List Stage) (n m : ℕ) → count a ≡ n → count b ≤ n + m + 2 → count (a ++ b) ≤ 2 * n + m + 2
+two a b n m p q = let x : count (a ++ b) ≡ count a + count b = both a b in omega arith
+
+run_count : (set : BuildConfig) (env : EnvSeen) (way : Way) (look : Look) (output : List ℕ) → count (compile_stages set env way.warns_of_link look ++ later_stages set env way look output) ≤ 2 * length set.files + length set.objects + 2
+run_count set env way look output = two (compile_stages set env way.warns_of_link look) (later_stages set env way look output) (length set.files) (length set.objects) (compile_count set env way.warns_of_link look) (later_count set env way look output)
 
 by_checks : (early disabled late : Bool) (folder run : List Stage) (n : ℕ) → count folder ≡ 0 → count run ≤ n → count (if early then [] else folder ++ (if disabled then [] else Asks ∷ (if late then [] else run))) ≤ n
 by_checks true disabled late folder run n f r = omega arith
@@ -104,12 +134,12 @@ by_checks false true late folder run n f r = let x : count (folder ++ []) ≡ co
 by_checks false false true folder run n f r = let x : count (folder ++ Asks ∷ []) ≡ count folder + 0 = both folder (Asks ∷ []) in omega arith
 by_checks false false false folder run n f r = let x : count (folder ++ Asks ∷ run) ≡ count folder + count run = both folder (Asks ∷ run) in omega arith
 
--- no more commands than twice the sources, the added objects and one
-pub planned_count : (set : BuildConfig) (env : EnvSeen) (warns_of_link : Bool) (look : Look) (output : List ℕ) → count (planned_stages set env warns_of_link look output) ≤ 2 * length set.files + length set.objects + 1
+-- no more commands than twice the sources, the added objects and two
+pub planned_count : (set : BuildConfig) (env : EnvSeen) (way : Way) (look : Look) (output : List ℕ) → count (planned_stages set env way look output) ≤ 2 * length set.files + length set.objects + 2
 unfolding planned_stages late_stages
-planned_count set env warns_of_link look output =
-    by_checks (is_some (early_refusal set env output)) (is_disabled env) (is_some (late_refusal set env look)) (folder_stages set env) (run_stages set env warns_of_link look output) (2 * length set.files + length set.objects + 1)
-    (folder_count set env) (run_count set env warns_of_link look output)
+planned_count set env way look output =
+    by_checks (is_some (early_refusal set env output)) (is_disabled env) (is_some (late_refusal set env look)) (folder_stages set env) (compile_stages set env way.warns_of_link look ++ later_stages set env way look output) (2 * length set.files + length set.objects + 2)
+    (folder_count set env) (run_count set env way look output)
 
 -- ---- the error of refused settings
 
@@ -150,6 +180,8 @@ first_never (Some x) b f g e is spent = f e is spent
 
 pub never_spent : (set : BuildConfig) (env : EnvSeen) (look : Look) (output : List ℕ) → NeverSpent (refusal_error set env look output)
 never_spent set env look output =
-    first_never (early_error set env output) (late_error set env look output)
-    (mapped set env output (early_refusal set env output))
-    (disabled_or (is_disabled env) _ (mapped set env output (late_refusal set env look)))
+    first_never (early_error set env output) _ (mapped set env output (early_refusal set env output)) (
+    first_never (late_error set env look output) _ (disabled_or (is_disabled env) _ (mapped set env output (late_refusal set env look))) (
+    first_never (archiver_error set env look output) (link_error set env look output) (mapped set env output (archiver_refusal set env look)) (mapped set env output (link_refusal set env look))
+    )
+    )

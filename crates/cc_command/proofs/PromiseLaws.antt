@@ -1,5 +1,5 @@
 -- What follows from an answer.
-use Rattle.std.proofs.Common.{◌≡◌, ◌⊎◌, inl, inr, ℕ, ◌+◌, ◌<◌, List, [], ◌∷◌, ◌++◌, length, map, Bool, true, false, ◌||◌, None, Some, Result, Ok, Err, refl, sym, ◌∙◌, ap, subst, append-nil, arith}
+use Rattle.std.proofs.Common.{◌≡◌, ◌⊎◌, inl, inr, ℕ, ◌+◌, ◌<◌, List, [], ◌∷◌, ◌++◌, length, map, Bool, true, false, ◌||◌, if◌then◌else◌, None, Some, Result, Ok, Err, refl, sym, ◌∙◌, ap, subst, append-nil, arith}
 use Rattle.std.specs.Prelude.{◌≤◌, ◌*◌, IfOk}
 use Rattle.std.specs.List.{list_any}
 use Rattle.std.proofs.Math.Nat.{mul-le-mul_left}
@@ -17,14 +17,14 @@ use Rattle.cc_host.specs.declared.event.LineKind.TheVariants.{Fault as FaultLine
 use Rattle.cc_jobs.specs.Seats.{Rose}
 use Rattle.cc_plan.specs.declared.settings.BuildConfig.{BuildConfig}
 use Rattle.cc_plan.specs.Valid.{Valid}
-use Rattle.cc_plan.proofs.ValidLaws.{early_accepted, late_accepted}
+use Rattle.cc_plan.proofs.ValidLaws.{early_accepted, late_accepted, archiver_accepted, links_accepted}
 use Rattle.cc_run.specs.Part.{missing, missing_of, turns, turns_of}
 use Rattle.cc_run.specs.Run.{Run, run_from, nothing}
 use Rattle.cc_run.proofs.Runs.{run_from-append}
 use Rattle.cc_build.specs.Captured.{with_vars}
 use Rattle.cc_build.specs.Error.{ErrorSeen, no_memory}
 use Rattle.cc_build.specs.Course.{Course}
-use Rattle.cc_build.specs.Failed.{Failed, HasFault, is_fault, ran_badly}
+use Rattle.cc_build.specs.Failed.{Failed, HasFault, is_fault, is_form, form_aside, ran_badly}
 use Rattle.cc_build.specs.Order.{is_archive_event}
 use Rattle.cc_build.specs.Refusal.{refusal_error}
 use Rattle.cc_build.specs.Stage.{Stage, commands_in, folder_stages, compile_stages, planned_stages}
@@ -33,9 +33,10 @@ use Rattle.cc_build.specs.Went.{Terms, Partly, Goes}
 use Rattle.cc_build.specs.declared.error.ErrorKind.TheVariants.{TurnsSpent}
 use Rattle.cc_build.proofs.OrderLaws.{NoArchive, planned, archives_behind, no_source_archives, went_partly, halted_partly}
 use Rattle.cc_build.proofs.PromiseLaws.{none_inside, fault_ends}
-use Rattle.cc_build.proofs.StopLaws.{HasCause, planned_plain, halted_cause}
+use Rattle.cc_build.proofs.FormLaws.{planned_first, halted_cause}
+use Rattle.cc_build.proofs.StopLaws.{HasCause, planned_plain}
 use Rattle.cc_build.proofs.TurnLaws.{halted_turns, halted_bound}
-use Rattle.cc_command.specs.Answer.{Answers, AnswersWords, BuiltBy, Refused, PrintsLine, first_listing, heard, env_in, terms_of, terms_in, stages_of, error_of, error_line, word_line, is_wanting, ended_well, ended_refused, ended_wanting}
+use Rattle.cc_command.specs.Answer.{Answers, AnswersWords, BuiltBy, Refused, PrintsLine, first_listing, heard, env_in, terms_of, terms_in, repeating, stages_of, error_of, error_line, word_line, is_wanting, ended_well, ended_refused, ended_wanting}
 use Rattle.cc_command.specs.Promises.{PrintsLast, IsLine, Begun, IsBegun, ArchivesBehind, CompilesFirst, EndsAlone, FaultsLast, EndsSpent, IsComplete, IsEnough}
 use Rattle.cc_command.specs.Read.{Request}
 use Rattle.cc_command.specs.declared.top.Ended.{Ended}
@@ -69,19 +70,21 @@ line_of line part (inr faulted) = inr (inr faulted)
 -- ---- the first stages were done
 
 begun_of : (look : Look) (q : Request) (part : List Event) (ended : Ended) (c : Course) → Answers look q part ended c → Begun look q part c
-begun_of look q part ended c (inl well) = record { run = part; line = []; cut = sym (append-nil part); partly = went_partly (terms_in q part c) (stages_of look q part) part c.before c.after well.1.1; printed = inl refl }
+begun_of look q part ended c (inl well) = record { run = part; line = []; cut = sym (append-nil part); is_plain = well.1.1.0; partly = went_partly (terms_in q part c) (stages_of look q well.1.1.0 part) part c.before c.after well.1.1.1; printed = inl refl }
 begun_of look q part ended c (inr (inl r)) = record {
   run = r.run;
   line = r.line;
   cut = r.cut;
-  partly = halted_partly (terms_in q r.run c) (error_of look q r.run) (stages_of look q r.run) r.run r.error c.before c.after r.refused;
+  is_plain = r.is_plain;
+  partly = halted_partly (terms_in q r.run c) (error_of look q r.run) (stages_of look q r.is_plain r.run) r.run r.error c.before c.after r.refused;
   printed = line_of (error_line r.error) r.line r.printed;
 }
 begun_of look q part ended c (inr (inr wanting)) = record {
   run = part;
   line = [];
   cut = sym (append-nil part);
-  partly = halted_partly (terms_in q part c) (error_of look q part) (stages_of look q part) part wanting.1.0 c.before c.after wanting.1.1;
+  is_plain = wanting.1.0;
+  partly = halted_partly (terms_in q part c) (error_of look q part) (stages_of look q wanting.1.0 part) part wanting.1.1.0 c.before c.after wanting.1.1.1;
   printed = inl refl;
 }
 
@@ -175,16 +178,16 @@ listed_first : (first stages : List Stage) → ((rest : List Stage) × (stages �
 listed_first first stages (inl k) = inl (k.0, ap (λ l. Calls Lists ∷ l) k.1)
 listed_first first stages (inr none) = inr none
 
-order_in : (look : Look) (q : Request) (run : List Event) (c : Course) → Partly (terms_in q run c) (stages_of look q run) run c.before c.after → Behind (terms_in q run c) (first_stages look q (heard run)) run
-order_in look q run c p =
-    archives_behind (terms_in q run c) (first_stages look q (heard run)) (stages_of look q run) run c.before c.after (no_source_archives q.1.config (env_in q run) true look) p
-    (listed_first (folder_stages q.1.config (env_in q run) ++ Asks ∷ compile_stages q.1.config (env_in q run) true look) (planned_stages q.1.config (env_in q run) true look q.0) (planned q.1.config (env_in q run) true look q.0))
+order_in : (look : Look) (q : Request) (is_plain : Bool) (run : List Event) (c : Course) → Partly (terms_in q run c) (stages_of look q is_plain run) run c.before c.after → Behind (terms_in q run c) (first_stages look q (heard run)) run
+order_in look q is_plain run c p =
+    archives_behind (terms_in q run c) (first_stages look q (heard run)) (stages_of look q is_plain run) run c.before c.after (no_source_archives q.1.config (env_in q run) true look) p
+    (listed_first (folder_stages q.1.config (env_in q run) ++ Asks ∷ compile_stages q.1.config (env_in q run) true look) (planned_stages q.1.config (env_in q run) (repeating is_plain) look q.0) (planned q.1.config (env_in q run) (repeating is_plain) look q.0))
 
 order_of : (look : Look) (q : Request) (part : List Event) (c : Course) → Begun look q part c → ArchivesBehind look q part c
 order_of look q part c b before after event is archive =
     let order : Behind (terms_in q part c) (first_stages look q (heard part)) part =
     subst (λ (vars : List (List ℕ × List ℕ)). Behind (terms_of q.1.config (with_vars q.1.env vars) c) (first_stages look q vars) part) (sym (heard_same part b.run b.line b.cut b.printed))
-    (still_behind (terms_in q b.run c) (first_stages look q (heard b.run)) part b.run b.line b.cut b.printed (order_in look q b.run c b.partly)) in
+    (still_behind (terms_in q b.run c) (first_stages look q (heard b.run)) part b.run b.line b.cut b.printed (order_in look q b.is_plain b.run c b.partly)) in
     let found = order before after event is archive in
     record { runs = found.0; rest = found.1; cut = found.2.0; compiled = found.2.1 }
 
@@ -202,7 +205,7 @@ faults_behind : (look : Look) (q : Request) (part : List Event) (c : Course) →
 faults_behind look q part c b before after call why real is = by_line b.printed
   where
     in_it : (rest : List Event) → b.run ≡ before ++ Fault call why ∷ rest → (ids : List ℕ) × (rest ≡ map Abandoned ids)
-    in_it rest e = fault_ends (terms_in q b.run c) (stages_of look q b.run) b.run c.before c.after before rest call why real e b.partly
+    in_it rest e = fault_ends (terms_in q b.run c) (stages_of look q b.is_plain b.run) b.run c.before c.after before rest call why real e b.partly
 
     by_line : IsLine b.line → EndsAlone after
     by_line (inl none) =
@@ -235,7 +238,7 @@ faults_last look (Err bad) part ended c (inr (is, none), same) = λ before after
 
 no_refusal : (look : Look) (set : BuildConfig) (env : EnvSeen) (name : List ℕ) (e : ErrorSeen) → Valid set env look name → refusal_error set env look name ≡ Some e → ⊥
 no_refusal look set env name e valid refused =
-    let none : refusal_error set env look name ≡ None = rw (early_accepted set env look name valid, valid.enabled, late_accepted set env look name valid) refl in cc
+    let none : refusal_error set env look name ≡ None = rw (early_accepted set env look name valid, valid.enabled, late_accepted set env look name valid, archiver_accepted set env look name valid, links_accepted set env look name valid) refl in cc
 
 front_empty : {X : Type 0} (a b : List X) → a ++ b ≡ [] → a ≡ []
 front_empty [] b h = refl
@@ -257,6 +260,20 @@ valid_in look q part ended c r valid =
 known_memory : (e : ErrorSeen) → is_wanting e.kind ≡ false → e ≡ no_memory → ⊥
 known_memory e known memory = let t : true ≡ false = sym (ap (λ (x : ErrorSeen). is_wanting x.kind) memory) ∙ known in cc
 
+-- the first form of a run is not in the line behind it
+aside_none : (line : List Event) → IsLine line → form_aside line ≡ line
+aside_none line (inl none) = ap form_aside none ∙ sym none
+aside_none line (inr (inl printed)) = ap form_aside printed.1 ∙ sym printed.1
+aside_none line (inr (inr faulted)) = ap form_aside faulted.1 ∙ sym faulted.1
+
+aside_line : (run line : List Event) → IsLine line → form_aside (run ++ line) ≡ form_aside run ++ line
+aside_line [] line printed = aside_none line printed
+aside_line (event ∷ run) line printed = by_form (is_form event) (aside_line run line printed)
+  where
+    by_form : (b : Bool) → form_aside (run ++ line) ≡ form_aside run ++ line → (if b then run ++ line else event ∷ form_aside (run ++ line)) ≡ (if b then run else event ∷ form_aside run) ++ line
+    by_form true e = refl
+    by_form false e = ap (λ l. event ∷ l) e
+
 module _ (look : Look) (q : Request) (part : List Event) (ended : Ended) (c : Course) (r : Refused look q part ended c) (valid : Valid q.1.config (env_in q r.run) look q.0) (nothing_failed : Failed part → ⊥) (no_fault : HasFault part → ⊥) (none_rose : Rose c.before.faults c.after.faults → ⊥) where
   printed : IsLine r.line
   printed = line_of (error_line r.error) r.line r.printed
@@ -265,14 +282,17 @@ module _ (look : Look) (q : Request) (part : List Event) (ended : Ended) (c : Co
   fault_in : HasFault r.run → HasFault part
   fault_in h = ap (list_any is_fault) r.cut ∙ any_before is_fault r.run r.line h
 
+  aside : form_aside part ≡ form_aside r.run ++ r.line
+  aside = ap form_aside r.cut ∙ aside_line r.run r.line printed
+
   failed_in : Failed r.run → Failed part
-  failed_in (inl some) = inl (λ none. some (front_empty (missing r.run) (missing r.line) (sym (flat_map-append missing_of r.run r.line) ∙ sym (ap missing r.cut) ∙ none)))
+  failed_in (inl some) = inl (λ none. some (front_empty (missing (form_aside r.run)) (missing r.line) (sym (flat_map-append missing_of (form_aside r.run) r.line) ∙ sym (ap missing aside) ∙ none)))
   failed_in (inr (inl some)) = inr (inl (λ none. some (sym (ap (λ (s : Run). s.failed) (run_same part r.run r.line r.cut printed)) ∙ none)))
-  failed_in (inr (inr some)) = inr (inr (ap (list_any ran_badly) r.cut ∙ any_before ran_badly r.run r.line some))
+  failed_in (inr (inr some)) = inr (inr (ap (list_any ran_badly) aside ∙ any_before ran_badly (form_aside r.run) r.line some))
 
   spent_of : (r.error.kind ≡ TurnsSpent) × (c.after.left ≡ 0) → EndsSpent c.before.left part ended
   spent_of spent =
-      let sum : c.after.left + turns r.run ≡ c.before.left = halted_turns (terms_in q r.run c) (error_of look q r.run) (stages_of look q r.run) r.run r.error c.before c.after r.refused in
+      let sum : c.after.left + turns r.run ≡ c.before.left = halted_turns (terms_in q r.run c) (error_of look q r.run) (stages_of look q r.is_plain r.run) r.run r.error c.before c.after r.refused in
       let all : turns part ≡ turns r.run = turns_same part r.run r.line r.cut printed in
       let none : c.after.left ≡ 0 = spent.1 in
       (r.error, (r.is, spent.0, omega arith))
@@ -288,7 +308,7 @@ module _ (look : Look) (q : Request) (part : List Event) (ended : Ended) (c : Co
   -- then the turns are spent
   spends : EndsSpent c.before.left part ended
   spends =
-      by_cause (halted_cause (terms_in q r.run c) (error_of look q r.run) (stages_of look q r.run) r.run r.error c.before c.after (tt, planned_plain q.1.config (env_in q r.run) true look q.0) r.refused)
+      by_cause (halted_cause (terms_in q r.run c) (error_of look q r.run) (stages_of look q r.is_plain r.run) r.run r.error c.before c.after (tt, planned_plain q.1.config (env_in q r.run) (repeating r.is_plain) look q.0) (inr (refl, planned_first q.1.config (env_in q r.run) (repeating r.is_plain) look q.0)) r.refused)
 
 complete_of : (look : Look) (q : Request) (part : List Event) (ended : Ended) (c : Course) → Answers look q part ended c → Valid q.1.config (env_in q part) look q.0 → (Failed part → ⊥) → (HasFault part → ⊥) → (Rose c.before.faults c.after.faults → ⊥) → (ended ≡ ended_well) ⊎ (EndsSpent c.before.left part ended ⊎ (ended ≡ ended_wanting))
 complete_of look q part ended c (inl well) valid failed fault rose = inl well.0
@@ -304,8 +324,8 @@ complete look (Err bad) part ended c a = tt
 pub same_error : (e f : ErrorSeen) (ended : Ended) → ended ≡ ended_refused e → ended ≡ ended_refused f → e ≡ f
 same_error e f ended a b = let s : Some e ≡ Some f = ap (λ (x : Ended). x.error) (sym a ∙ b) in cc
 
--- fewer turns than the patience with each command, of which there are fewer than twice the sources, the added objects and two
-too_few : (p n files objects most turned : ℕ) → turned < p * n → n ≤ 2 * files + objects + 1 → p * (2 * files + objects + 2) ≤ most → turned ≡ most → ⊥
+-- fewer turns than the patience with each command, of which there are no more than twice the sources, the added objects and two
+too_few : (p n files objects most turned : ℕ) → turned < p * n → n ≤ 2 * files + objects + 2 → p * (2 * files + objects + 2) ≤ most → turned ≡ most → ⊥
 too_few p n files objects most turned few count enough same =
     let more : p * n ≤ p * (2 * files + objects + 2) = mul-le-mul_left p (omega (arith, count)) in
     omega arith
@@ -321,10 +341,10 @@ enough_of look q part ended c (inr (inr wanting)) total p one patient enough spe
     cc
 enough_of look q part ended c (inr (inl r)) total p one patient enough spent =
     let same : r.error ≡ spent.0 = same_error r.error spent.0 ended r.is spent.1.0 in
-    let few : turns r.run < p * length (commands_in (stages_of look q r.run)) =
-    halted_bound (terms_in q r.run c) (error_of look q r.run) (stages_of look q r.run) r.run r.error c.before c.after total p one patient
+    let few : turns r.run < p * length (commands_in (stages_of look q r.is_plain r.run)) =
+    halted_bound (terms_in q r.run c) (error_of look q r.run) (stages_of look q r.is_plain r.run) r.run r.error c.before c.after total p one patient
     (never_spent q.1.config (env_in q r.run) look q.0) r.refused (ap (λ (x : ErrorSeen). x.kind) same ∙ spent.1.1) in
-    too_few p (length (commands_in (stages_of look q r.run))) (length q.1.config.files) (length q.1.config.objects) c.before.left (turns r.run) few (planned_count q.1.config (env_in q r.run) true look q.0) enough
+    too_few p (length (commands_in (stages_of look q r.is_plain r.run))) (length q.1.config.files) (length q.1.config.objects) c.before.left (turns r.run) few (planned_count q.1.config (env_in q r.run) (repeating r.is_plain) look q.0) enough
     (sym (turns_same part r.run r.line r.cut (line_of (error_line r.error) r.line r.printed)) ∙ spent.1.2)
 
 pub enough : (look : Look) (words : Result Request BadWord) (part : List Event) (ended : Ended) (c : Course) → AnswersWords look words part ended c → IsEnough look words part ended c

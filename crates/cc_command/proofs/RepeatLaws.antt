@@ -9,7 +9,9 @@ use Rattle.cc_plan.specs.Planned.{planned, warnings_of, supported_of}
 use Rattle.cc_plan.specs.Tool.{link_warnings, other_warnings}
 use Rattle.cc_plan.specs.declared.settings.BuildConfig.{BuildConfig}
 use Rattle.cc_build.specs.Error.{ErrorSeen}
-use Rattle.cc_build.specs.Stage.{Stage, compile_stages, late_stages, planned_stages}
+use Rattle.cc_build.specs.Stage.{Stage, compile_stages, later_stages, late_stages, planned_stages}
+use Rattle.cc_build.specs.Way.{Way, Repeats}
+use Rattle.cc_command.specs.Answer.{repeating}
 use Rattle.cc_build.specs.Went.{Terms, Means, Went, Halted}
 use Rattle.cc_command.specs.Read.{Request, is, read, read_settings, settings_of, first_bad}
 use Rattle.cc_command.specs.declared.words.BadWord.{BadWord}
@@ -47,13 +49,16 @@ compile_same : (set : BuildConfig) (env : EnvSeen) (warns_of_link : Bool) (look 
 unfolding compile_stages
 compile_same set env warns_of_link look repeats = let same = warnings_same set env warns_of_link look repeats in rw same refl
 
-pub stages_same : (set : BuildConfig) (env : EnvSeen) (warns_of_link : Bool) (look : Look) (output : List ℕ) → set.repeat_lines ≡ true → planned_stages set env warns_of_link look output ≡ planned_stages set env true look output
-unfolding planned_stages late_stages
-stages_same set env warns_of_link look output repeats = let same = compile_same set env warns_of_link look repeats in rw same refl
+pub stages_same : (set : BuildConfig) (env : EnvSeen) (way : Way) (look : Look) (output : List ℕ) → set.repeat_lines ≡ true → Repeats set way.is_first → planned_stages set env way look output ≡ planned_stages set env (repeating way.is_plain) look output
+unfolding planned_stages late_stages later_stages
+stages_same set env way look output repeats all =
+    let same = compile_same set env way.warns_of_link look repeats in
+    let first : way.is_first ≡ true = all repeats in
+    rw (same, first) refl
 
 -- a run of such settings, whether it warns or not
-pub went_same : (set : BuildConfig) (env : EnvSeen) (warns_of_link : Bool) (look : Look) (output : List ℕ) (t : Terms) (part : List Event) (x y : Means) → set.repeat_lines ≡ true → Went t (planned_stages set env warns_of_link look output) part x y → Went t (planned_stages set env true look output) part x y
-went_same set env warns_of_link look output t part x y repeats w = subst (λ (stages : List Stage). Went t stages part x y) (stages_same set env warns_of_link look output repeats) w
+pub went_same : (set : BuildConfig) (env : EnvSeen) (way : Way) (look : Look) (output : List ℕ) (t : Terms) (part : List Event) (x y : Means) → set.repeat_lines ≡ true → Repeats set way.is_first → Went t (planned_stages set env way look output) part x y → Went t (planned_stages set env (repeating way.is_plain) look output) part x y
+went_same set env way look output t part x y repeats all w = subst (λ (stages : List Stage). Went t stages part x y) (stages_same set env way look output repeats all) w
 
-pub halted_same : (set : BuildConfig) (env : EnvSeen) (warns_of_link : Bool) (look : Look) (output : List ℕ) (t : Terms) (refusal : Option ErrorSeen) (part : List Event) (e : ErrorSeen) (x y : Means) → set.repeat_lines ≡ true → Halted t refusal (planned_stages set env warns_of_link look output) part e x y → Halted t refusal (planned_stages set env true look output) part e x y
-halted_same set env warns_of_link look output t refusal part e x y repeats h = subst (λ (stages : List Stage). Halted t refusal stages part e x y) (stages_same set env warns_of_link look output repeats) h
+pub halted_same : (set : BuildConfig) (env : EnvSeen) (way : Way) (look : Look) (output : List ℕ) (t : Terms) (refusal : Option ErrorSeen) (part : List Event) (e : ErrorSeen) (x y : Means) → set.repeat_lines ≡ true → Repeats set way.is_first → Halted t refusal (planned_stages set env way look output) part e x y → Halted t refusal (planned_stages set env (repeating way.is_plain) look output) part e x y
+halted_same set env way look output t refusal part e x y repeats all h = subst (λ (stages : List Stage). Halted t refusal stages part e x y) (stages_same set env way look output repeats all) h

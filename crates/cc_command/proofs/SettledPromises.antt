@@ -14,7 +14,7 @@ use Rattle.cc_build.proofs.SettledLaws.{partly_settled, partly_first}
 use Rattle.cc_build.proofs.StopLaws.{planned_plain}
 use Rattle.cc_build.specs.Course.{Course}
 use Rattle.cc_build.specs.Promises.{NothingRuns}
-use Rattle.cc_command.specs.Answer.{AnswersWords, asked_for, env_in, terms_in, stages_of, word_line}
+use Rattle.cc_command.specs.Answer.{AnswersWords, asked_for, env_in, terms_in, repeating, stages_of, word_line}
 use Rattle.cc_command.specs.Promises.{Begun, IsLine, IsPrefix, Promises}
 use Rattle.cc_command.specs.Read.{Request}
 use Rattle.cc_command.specs.declared.top.Ended.{Ended}
@@ -27,7 +27,7 @@ use Rattle.cc_command.proofs.StartedPromises.{no_attempt, beside, failed}
 settled_of : (look : Look) (q : Request) (part : List Event) (c : Course) → Begun look q part c → NothingRuns part
 settled_of look q part c b =
     ap (λ (r : Run). r.live) (run_same part b.run b.line b.cut b.printed)
-    ∙ partly_settled (terms_in q b.run c) (stages_of look q b.run) b.run c.before c.after 0 b.partly
+    ∙ partly_settled (terms_in q b.run c) (stages_of look q b.is_plain b.run) b.run c.before c.after 0 b.partly
 
 line_settled : (part : List Event) → IsLine part → NothingRuns part
 line_settled part line = ap (λ (r : Run). r.live) (no_child nothing part line)
@@ -47,12 +47,15 @@ attempts_same part run line cut printed =
 pub first : (look : Look) (words : Result Request BadWord) (part : List Event) (ended : Ended) (c : Course) → AnswersWords look words part ended c → IsPrefix look words part
 first look (Ok q) part ended c a =
     let b : Begun look q part c = is_begun look (Ok q) part ended c a in
-    let p = partly_first (terms_in q b.run c) (stages_of look q b.run) b.run c.before c.after (tt, planned_plain q.1.config (env_in q b.run) true look q.0) b.partly in
+    let p = partly_first (terms_in q b.run c) (stages_of look q b.is_plain b.run) b.run c.before c.after (tt, planned_plain q.1.config (env_in q b.run) (repeating b.is_plain) look q.0) b.partly in
     let same = attempts_same part b.run b.line b.cut b.printed in (
-      p.0,
-      ap (λ (vars : List (List ℕ × List ℕ)). map to_attempt (commands_in (Calls Lists ∷ planned_stages q.1.config (with_vars q.1.env vars) true look q.0))) (heard_same part b.run b.line b.cut b.printed)
-          ∙ p.1
-          ∙ ap (λ l. l ++ p.0) (sym same),
+      b.is_plain,
+      (
+        p.0,
+        ap (λ (vars : List (List ℕ × List ℕ)). map to_attempt (commands_in (Calls Lists ∷ planned_stages q.1.config (with_vars q.1.env vars) (repeating b.is_plain) look q.0))) (heard_same part b.run b.line b.cut b.printed)
+            ∙ p.1
+            ∙ ap (λ l. l ++ p.0) (sym same),
+      ),
     )
 first look (Err bad) part ended c a = tt
 

@@ -21,7 +21,7 @@ use Rattle.cc_build.specs.declared.error.ErrorKind.TheVariants.{ToolExecError}
 use Rattle.cc_build.proofs.BesideLaws.{sources, source_count, shape_of, shape_behind, shaped_beside}
 use Rattle.cc_build.proofs.FailedLaws.{never_ran, all_started}
 use Rattle.cc_build.proofs.StopLaws.{planned_plain}
-use Rattle.cc_command.specs.Answer.{AnswersWords, Refused, env_in, terms_in, stages_of, error_of, error_line}
+use Rattle.cc_command.specs.Answer.{AnswersWords, Refused, env_in, terms_in, repeating, stages_of, error_of, error_line}
 use Rattle.cc_command.specs.Promises.{Begun, IsLine, IsBeside, StartsAll}
 use Rattle.cc_command.specs.Read.{Request}
 use Rattle.cc_command.specs.declared.top.Ended.{Ended}
@@ -54,9 +54,9 @@ beside_of look q part c b many =
     let set = q.1.config in
     let env = env_in q b.run in
     beside_line c.total (length set.files) part b.run b.line b.cut b.printed
-    (subst (λ (n : ℕ). RunBeside c.total n b.run) (source_count set env true look q.0)
-    (shaped_beside (terms_in q b.run c) (sources set env true look q.0) (stages_of look q b.run) b.run c.before c.after (tt, planned_plain set env true look q.0)
-    (shape_behind (sources set env true look q.0) Lists (planned_stages set env true look q.0) (shape_of set env true look q.0 many)) b.partly))
+    (subst (λ (n : ℕ). RunBeside c.total n b.run) (source_count set env (repeating b.is_plain) look q.0)
+    (shaped_beside (terms_in q b.run c) (sources set env (repeating b.is_plain) look q.0) (stages_of look q b.is_plain b.run) b.run c.before c.after (tt, planned_plain set env (repeating b.is_plain) look q.0)
+    (shape_behind (sources set env (repeating b.is_plain) look q.0) Lists (planned_stages set env (repeating b.is_plain) look q.0) (shape_of set env (repeating b.is_plain) look q.0 many)) b.partly))
 
 pub beside : (look : Look) (words : Result Request BadWord) (part : List Event) (ended : Ended) (c : Course) → AnswersWords look words part ended c → IsBeside words part c
 beside look (Ok q) part ended c a = beside_of look q part c (is_begun look (Ok q) part ended c a)
@@ -78,10 +78,10 @@ failed_of : (look : Look) (q : Request) (part : List Event) (ended : Ended) (c :
 failed_of look q part ended c r many badly sound =
     let set = q.1.config in
     let env = env_in q r.run in
-    let ps = sources set env true look q.0 in
+    let ps = sources set env (repeating r.is_plain) look q.0 in
     let printed = line_of (error_line r.error) r.line r.printed in
-    let s = all_started (terms_in q r.run c) ps (error_of look q r.run) (stages_of look q r.run) r.run r.error c.before c.after (never_ran set env look q.0) (tt, planned_plain set env true look q.0)
-    (shape_behind ps Lists (planned_stages set env true look q.0) (shape_of set env true look q.0 many)) r.refused badly
+    let s = all_started (terms_in q r.run c) ps (error_of look q r.run) (stages_of look q r.is_plain r.run) r.run r.error c.before c.after (never_ran set env look q.0) (tt, planned_plain set env (repeating r.is_plain) look q.0)
+    (shape_behind ps Lists (planned_stages set env (repeating r.is_plain) look q.0) (shape_of set env (repeating r.is_plain) look q.0 many)) r.refused badly
     (λ fault. sound (ap (list_any is_fault) r.cut ∙ any_before is_fault r.run r.line fault)) in
     subst (λ (vars : List (List ℕ × List ℕ)). AllStarted (shows_of set (with_vars q.1.env vars)) (compiles_of set (with_vars q.1.env vars) look) part) (sym (heard_same part r.run r.line r.cut printed)) (
       (

@@ -18,6 +18,7 @@ use Rattle.cc_build.specs.Error.{ErrorSeen}
 use Rattle.cc_build.specs.Shows.{shows_of}
 use Rattle.cc_build.specs.Stage.{Stage, planned_stages}
 use Rattle.cc_build.specs.Stage.Stage.{Calls}
+use Rattle.cc_build.specs.Way.{Way}
 use Rattle.cc_build.specs.Went.{Terms, Means, terms, Went, Halted}
 use Rattle.cc_build.specs.declared.error.ErrorKind.{ErrorKind}
 use Rattle.cc_build.specs.declared.error.ErrorKind.TheVariants.{NoMemory}
@@ -94,10 +95,14 @@ heard part = first_listing (listings part)
 abbrev pub env_in : Request → List Event → EnvSeen
 env_in request part = with_vars request.1.env (heard part)
 
--- The stages of a request: the host lists its variables, then come those of the compile run. The settings of words repeat their lines, so a
--- run warns of flags for the linker whenever it leaves some off.
-abbrev pub stages_of : Look → Request → List Event → List Stage
-stages_of look request part = Calls Lists ∷ planned_stages request.1.config (env_in request part) true look request.0
+-- The settings of words repeat their lines: a run warns of flags for the linker whenever it leaves some off, and prints all link lines.
+abbrev pub repeating : Bool → Way
+repeating is_plain = record { warns_of_link = true; is_plain = is_plain; is_first = true }
+
+-- The stages of a request: the host lists its variables, then come those of the compile run. `is_plain` says whether the first form of its archive was
+-- refused.
+abbrev pub stages_of : Look → Request → Bool → List Event → List Stage
+stages_of look request is_plain part = Calls Lists ∷ planned_stages request.1.config (env_in request part) (repeating is_plain) look request.0
 
 -- the terms of a request's run
 abbrev pub terms_in : Request → List Event → Course → Terms
@@ -121,16 +126,17 @@ pub record Refused (look : Look) (request : Request) (part : List Event) (ended 
   pub line : List Event
   pub cut : part ≡ run ++ line
   pub printed : PrintsLine (error_line error) line
-  pub refused : Halted (terms_in request run c) (error_of look request run) (stages_of look request run) run error c.before c.after
+  pub is_plain : Bool
+  pub refused : Halted (terms_in request run c) (error_of look request run) (stages_of look request is_plain run) run error c.before c.after
   pub known : is_wanting error.kind ≡ false
   pub is : ended ≡ ended_refused error
 
 -- a request: it is built by its stages, or refused, or refused with an error that no memory could tell
 abbrev pub Answers : Look → Request → List Event → Ended → Course → Type 0
 Answers look request part ended c =
-    ((ended ≡ ended_well) × (BuiltBy look request part c × Went (terms_in request part c) (stages_of look request part) part c.before c.after))
+    ((ended ≡ ended_well) × (BuiltBy look request part c × ((is_plain : Bool) × Went (terms_in request part c) (stages_of look request is_plain part) part c.before c.after)))
     ⊎ (Refused look request part ended c
-    ⊎ ((ended ≡ ended_wanting) × IsHalted (terms_in request part c) (error_of look request part) (stages_of look request part) part c.before c.after))
+    ⊎ ((ended ≡ ended_wanting) × ((is_plain : Bool) × IsHalted (terms_in request part c) (error_of look request part) (stages_of look request is_plain part) part c.before c.after)))
 
 -- bad words: their line alone was printed, or memory for it was wanted
 abbrev pub AnswersBad : BadWord → List Event → Ended → Type 0

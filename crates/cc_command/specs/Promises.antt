@@ -1,5 +1,5 @@
 -- What follows from an answer, each in one sentence.
-use Rattle.std.specs.Prelude.{◌≡◌, ◌⊎◌, ◌≤◌, ◌*◌, ◌+◌, ℕ, List, [], ◌∷◌, ◌++◌, length, map, Some, true, false, Result, IfOk, String}
+use Rattle.std.specs.Prelude.{◌≡◌, ◌⊎◌, ◌≤◌, ◌*◌, ◌+◌, ℕ, List, [], ◌∷◌, ◌++◌, length, map, Some, Bool, true, false, Result, IfOk, String}
 use Rattle.cc_host.specs.Question.{Look}
 use Rattle.cc_host.specs.Part.{is_probing}
 use Rattle.cc_host.specs.Part.Step.{Lists}
@@ -59,7 +59,8 @@ pub record Begun (look : Look) (request : Request) (part : List Event) (c : Cour
   pub run : List Event
   pub line : List Event
   pub cut : part ≡ run ++ line
-  pub partly : Partly (terms_in request run c) (stages_of look request run) run c.before c.after
+  pub is_plain : Bool
+  pub partly : Partly (terms_in request run c) (stages_of look request is_plain run) run c.before c.after
   pub printed : IsLine line
 
 abbrev pub IsBegun : Look → Result Request BadWord → List Event → Course → Type 0
@@ -89,7 +90,7 @@ FaultsLast part = (before after : List Event) (call : HostCall) (why : Why) → 
 
 -- The commands of the part, those that are missing among them, are the first of the planned ones: one attempt for each, and no other command.
 abbrev pub IsPrefix : Look → Result Request BadWord → List Event → Type 0
-IsPrefix look words part = IfOk words (λ request. AreFirst (stages_of look request part) part)
+IsPrefix look words part = IfOk words (λ request. (is_plain : Bool) × AreFirst (stages_of look request is_plain part) part)
 
 -- Two sources or more are compiled beside each other, each under a token, and as many at once as there are tokens.
 abbrev pub IsBeside : Result Request BadWord → List Event → Course → Type 0

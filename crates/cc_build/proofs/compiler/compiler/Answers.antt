@@ -8,7 +8,7 @@ use Rattle.cc_build.proofs.Telling.{then_extends, then_asked, then_childless, un
 use Rattle.cc_build.proofs.compiler.compiler.Goals as goal
 
 pub returns-in-Ok-clause-asked : goal.returns-in-Ok-clause-asked
-returns-in-Ok-clause-asked g c = then_asked _ _ _ _ _ _ _ _ _ _ c.tool_of.ensures.asks (grind arith) c.new-answers.ensures c.tool_of.ensures.asks.holds.silent
+returns-in-Ok-clause-asked g c = then_asked _ _ _ _ _ _ _ _ _ _ c.tool_of.ensures.asks (grind arith) c.new-answers.ensures c.tool_of.ensures.asks.holds.silent _ c.probe_folder.ensures
 
 pub returns-in-Ok-clause-tool : goal.returns-in-Ok-clause-tool
 returns-in-Ok-clause-tool g c =
@@ -32,7 +32,7 @@ pub returns-clause-extends : goal.returns-clause-extends
 returns-clause-extends g c = then_extends _ _ _ _ _ _ _ _ _ _ c.tool_of.ensures.asks (grind arith) c.new-answers.ensures c.tool_of.ensures.asks.holds.silent
 
 pub returns-clause-asked : goal.returns-clause-asked
-returns-clause-asked g c = then_asked _ _ _ _ _ _ _ _ _ _ c.tool_of.ensures.asks (grind arith) c.new-answers.ensures c.tool_of.ensures.asks.holds.silent
+returns-clause-asked g c = then_asked _ _ _ _ _ _ _ _ _ _ c.tool_of.ensures.asks (grind arith) c.new-answers.ensures c.tool_of.ensures.asks.holds.silent _ c.probe_folder.ensures
 
 pub returns-clause-childless : goal.returns-clause-childless
 returns-clause-childless g c = then_childless _ _ _ _ _ _ _ _ _ _ c.tool_of.ensures.asks (grind arith) c.new-answers.ensures c.tool_of.ensures.asks.holds.silent c.tool_of.ensures.asks.holds.childless

@@ -1,25 +1,22 @@
-use Rattle.std.proofs.Common.{◌≡◌, ◌∙◌, ℕ, List, None, false, Err, sym, ap, subst}
+use Rattle.std.proofs.Common.{◌≡◌, ℕ, List, [], Err, refl, sym, ap, subst}
 use Rattle.std.proofs.lemmas.Result.{err_from_is_err_and}
 use Rattle.cc_host.specs.Part.{since}
-use Rattle.cc_host.specs.Question.{answers, Holds}
-use Rattle.cc_host.proofs.Parts.{since_extends}
-use Rattle.cc_plan.specs.Given.{is_disabled}
-use Rattle.cc_tool.specs.Asked.{question_events}
-use Rattle.cc_tool.proofs.Asides.{asked_none, asked_before, asked_behind}
-use Rattle.cc_run.specs.declared.planned.Shows.{Shows}
-use Rattle.cc_build.specs.Build.{BuildSeen}
-use Rattle.cc_build.specs.Course.{course}
-use Rattle.cc_build.specs.Promises.{RunEnds}
-use Rattle.cc_build.specs.Questions.{AsksOnly, Drafts, IsLateError}
-use Rattle.cc_build.specs.Seen.{stages_seen}
-use Rattle.cc_build.specs.Shows.{shows_of}
-use Rattle.cc_build.specs.Went.{terms, means, Ends}
-use Rattle.cc_build.specs.declared.stage.Stage.{Stage as Coded}
-use Rattle.cc_build.proofs.Going.{same_patience}
+use Rattle.cc_host.specs.Question.{Answer, Agrees, answers, Holds}
+use Rattle.cc_plan.specs.Given.{probe_folder}
+use Rattle.cc_plan.specs.Questions.{RunAsks}
 use Rattle.cc_plan.proofs.LineLemmas.{since_none}
+use Rattle.cc_tool.specs.Asked.{Asked, question_events}
+use Rattle.cc_tool.proofs.Asides.{asked_none, asked_behind}
+use Rattle.cc_build.specs.Build.{BuildSeen, AsksByRun}
+use Rattle.cc_build.specs.Course.{course}
+use Rattle.cc_build.specs.Kept.{AsksOn}
+use Rattle.cc_build.specs.Promises.{RunEnds}
+use Rattle.cc_build.specs.Shows.{shows_of}
+use Rattle.cc_build.specs.Went.{terms, means}
+use Rattle.cc_build.proofs.Growing.{on_asked}
 use Rattle.cc_build.proofs.Looks.{agrees_since}
 use Rattle.cc_build.proofs.Outcomes.{made_or_memory}
-use Rattle.cc_build.proofs.Stages.{unchecked, folder_refused, run_unplanned, run_planned}
+use Rattle.cc_build.proofs.PartLaws.{run_unchecked, run_unfoldered, run_disabled, run_enabled}
 use Rattle.cc_build.proofs.build.Build.compile.Goals as goal
 
 pub returns-in-Err-clause-outcome : goal.returns-in-Err-clause-outcome
@@ -35,11 +32,8 @@ returns-in-Err-clause-outcome g c =
     (record {
       under = λ look agree. (
         c.args.goal.turns,
-        (
-          false,
-          unchecked (terms (shows_of c.self.inside.config c.self.inside.env) total patience) c.self.inside.config c.self.inside.env look c.args.goal.output.now (since old old) c.or_no_memory.result x c.in-Err.error (since_none old)
-              (made_or_memory c.plan_error.result c.or_no_memory.result _ c.or_no_memory.ensures c.plan_error.ensures) c.in-Err.ensures.refused,
-        ),
+        run_unchecked c.self.inside.config c.self.inside.env look c.args.goal.output.now total patience (since old old) c.or_no_memory.result x c.in-Err.error (since_none old)
+            (made_or_memory c.plan_error.result c.or_no_memory.result _ c.or_no_memory.ensures c.plan_error.ensures) c.in-Err.ensures.refused,
       );
     })
 
@@ -60,83 +54,79 @@ returns-in_err-prepare_folder-clause-outcome g c =
     rw (p.1, p.2)
     (subst (λ (b : BuildSeen). Holds (answers part) (λ look. (left : ℕ) × RunEnds {T = Unit {0}} b c.args.goal.output.now (Err e) look part (course total patience x (means left faults taken load)))) c.self.view_is
     (record {
-      under = λ look agree.
-          let t = terms (shows_of c.self.inside.config c.self.inside.env) total patience in
-          (c.args.goal.turns, (false, folder_refused t c.self.inside.config c.self.inside.env look c.args.goal.output.now part e x c.in-Ok.ensures.allowed (c.in_err-prepare_folder.ensures.outcome t x)));
+      under = λ look agree. (
+        c.args.goal.turns,
+        run_unfoldered c.self.inside.config c.self.inside.env look c.args.goal.output.now total patience part e x c.in-Ok.ensures.allowed
+            (c.in_err-prepare_folder.ensures.outcome (terms (shows_of c.self.inside.config c.self.inside.env) total patience) x),
+      );
     }))
 
 pub returns-in_err-prepare_folder-clause-asked : goal.returns-in_err-prepare_folder-clause-asked
 returns-in_err-prepare_folder-clause-asked g c = asked_none _ _ _ _ (since (g.H.Host.log c.args.host.now) (g.H.Host.log c.prepare_folder.new.host)) c.prepare_folder.ensures.aside.asks_none
 
-pub returns-in-Err-plan_stages-clause-outcome : goal.returns-in-Err-plan_stages-clause-outcome
-returns-in-Err-plan_stages-clause-outcome g c =
+pub returns-then-is_disabled-clause-outcome : goal.returns-then-is_disabled-clause-outcome
+returns-then-is_disabled-clause-outcome g c =
     let old = g.H.Host.log c.args.host.now in
     let made = g.H.Host.log c.prepare_folder.new.host in
-    let new = g.H.Host.log c.plan_stages.new.host in
     let total = g.J.Jobs.total c.args.seat.now in
     let patience = g.H.Host.patience c.args.host.now in
     let faults = g.J.Jobs.faults c.args.seat.now in
     let taken = g.J.Jobs.taken c.args.seat.now in
     let load = g.J.Jobs.load c.args.seat.now in
     let x = means c.args.goal.turns faults taken load in
-    subst (λ (b : BuildSeen). Holds (answers (since old new)) (λ look. (left : ℕ) × RunEnds {T = Unit {0}} b c.args.goal.output.now (Err c.in-Err-plan_stages.error) look (since old new) (course total patience x (means left faults taken load)))) c.self.view_is
+    let e = c.or_no_memory-then-is_disabled.result in
+    subst (λ (b : BuildSeen). Holds (answers (since old made)) (λ look. (left : ℕ) × RunEnds {T = Unit {0}} b c.args.goal.output.now (Err e) look (since old made) (course total patience x (means left faults taken load)))) c.self.view_is
     (record {
-      under = λ look agree.
-          let t = terms (shows_of c.self.inside.config c.self.inside.env) total patience in
-          let agreed = (agrees_since look old made new c.prepare_folder.ensures.aside.extends c.plan_stages.ensures.extends agree).1 in (
-            c.args.goal.turns,
-            (
-              false,
-              run_unplanned t c.self.inside.config c.self.inside.env look c.args.goal.output.now c.in-Ok.ensures.allowed old made x c.prepare_folder.ensures.aside.extends (c.in_ok-prepare_folder.ensures.outcome t x).1
-                  false new c.in-Err-plan_stages.error c.plan_stages.ensures.extends (subst (λ (b : BuildSeen). AsksOnly (is_disabled b.env) (since made new)) (sym c.self.view_is) c.plan_stages.ensures.quiet)
-                  (subst (λ (b : BuildSeen). IsLateError b.config b.env c.args.goal.output.now c.in-Err-plan_stages.error look) (sym c.self.view_is) (c.in-Err-plan_stages.ensures.refused.under look agreed)),
-            ),
-          );
+      under = λ look agree. (
+        c.args.goal.turns,
+        run_disabled c.self.inside.config c.self.inside.env look c.args.goal.output.now total patience c.in-Ok.ensures.allowed old made x c.prepare_folder.ensures.aside.extends
+            (c.in_ok-prepare_folder.ensures.outcome (terms (shows_of c.self.inside.config c.self.inside.env) total patience) x).1
+            e (sym c.if-is_disabled.ensures) (made_or_memory c.disabled.result e _ c.or_no_memory-then-is_disabled.ensures c.disabled.ensures),
+      );
     })
 
-pub returns-in-Err-plan_stages-clause-asked : goal.returns-in-Err-plan_stages-clause-asked
-returns-in-Err-plan_stages-clause-asked g c =
-    asked_behind _ _ _ _ (g.H.Host.log c.args.host.now) (g.H.Host.log c.prepare_folder.new.host) (g.H.Host.log c.plan_stages.new.host) c.prepare_folder.ensures.aside.extends c.plan_stages.ensures.extends c.prepare_folder.ensures.aside.asks_none c.plan_stages.ensures.asked
+pub returns-then-is_disabled-clause-asked : goal.returns-then-is_disabled-clause-asked
+returns-then-is_disabled-clause-asked g c = asked_none _ _ _ _ (since (g.H.Host.log c.args.host.now) (g.H.Host.log c.prepare_folder.new.host)) c.prepare_folder.ensures.aside.asks_none
 
 pub returns-clause-outcome : goal.returns-clause-outcome
 returns-clause-outcome g c =
     let old = g.H.Host.log c.args.host.now in
     let made = g.H.Host.log c.prepare_folder.new.host in
-    let asked = g.H.Host.log c.plan_stages.new.host in
-    let new = g.H.Host.log c.do_stages.new.host in
+    let new = g.H.Host.log c.run_parts.new.host in
     let total = g.J.Jobs.total c.args.seat.now in
     let patience = g.H.Host.patience c.args.host.now in
     let x = means c.args.goal.turns (g.J.Jobs.faults c.args.seat.now) (g.J.Jobs.taken c.args.seat.now) (g.J.Jobs.load c.args.seat.now) in
-    let faults = g.J.Jobs.faults c.do_stages.new.seat in
-    let taken = g.J.Jobs.taken c.do_stages.new.seat in
-    let load = g.J.Jobs.load c.do_stages.new.seat in
-    let left = c.do_stages.new.turns.left in
-    let z = means left faults taken load in
-    let result = c.do_stages.result in
-    subst (λ (b : BuildSeen). Holds (answers (since old new)) (λ look. (left : ℕ) × RunEnds b c.args.goal.output.now result look (since old new) (course total patience x (means left faults taken load)))) c.self.view_is
+    let faults = g.J.Jobs.faults c.run_parts.new.seat in
+    let taken = g.J.Jobs.taken c.run_parts.new.seat in
+    let load = g.J.Jobs.load c.run_parts.new.seat in
+    let left = c.run_parts.new.turns.left in
+    let set = c.self.inside.config in
+    let env = c.self.inside.env in
+    let on : AsksOn g.W.World.steady g.W.World.answer (probe_folder set env) (RunAsks set env) (since made new) [] c.run_parts.new.answers =
+    subst (λ (l : List Answer). AsksOn g.W.World.steady g.W.World.answer (probe_folder set env) (RunAsks set env) (since made new) l c.run_parts.new.answers) c.new-answers.ensures c.run_parts.ensures.asks.asks in
+    let same : c.run_parts.new.answers ≡ answers (since made new) = (on_asked g.W.World.steady g.W.World.answer (probe_folder set env) (RunAsks set env) (since made new) c.run_parts.new.answers on).1 in
+    subst (λ (b : BuildSeen). Holds (answers (since old new)) (λ look. (left : ℕ) × RunEnds b c.args.goal.output.now c.run_parts.result look (since old new) (course total patience x (means left faults taken load)))) c.self.view_is
     (record {
       under = λ look agree.
-          let set = c.self.inside.config in
-          let env = c.self.inside.env in
-          let t = terms (shows_of set env) total patience in
-          let behind = (agrees_since look old made new c.prepare_folder.ensures.aside.extends (since_extends made asked new c.plan_stages.ensures.extends c.do_stages.ensures.aside.extends) agree).1 in
-          let agreed = (agrees_since look made asked new c.plan_stages.ensures.extends c.do_stages.ensures.aside.extends behind).0 in
-          let stages = stages_seen c.in-Ok-plan_stages.stages.items in
-          let draft : Drafts set env c.args.goal.output.now stages look = subst (λ (b : BuildSeen). Drafts b.config b.env c.args.goal.output.now stages look) (sym c.self.view_is) (c.in-Ok-plan_stages.ensures.planned.under look agreed) in
-          let patient : g.H.Host.patience c.plan_stages.new.host ≡ g.H.Host.patience c.args.host.now = c.plan_stages.ensures.patient ∙ c.prepare_folder.ensures.aside.patient in
-          let shown : Ends (terms (shows_of set env) total (g.H.Host.patience c.plan_stages.new.host)) None (stages_seen c.deref.result.now) (since asked new) result x z =
-          subst (λ (s : Shows). Ends (terms s total (g.H.Host.patience c.plan_stages.new.host)) None (stages_seen c.deref.result.now) (since asked new) result x z) c.shows_of-shows.ensures c.do_stages.ensures.outcome in
-          let ran : Ends t None stages (since asked new) result x z =
-          same_patience (shows_of set env) total (g.H.Host.patience c.plan_stages.new.host) patience None stages (since asked new) result x z patient
-          (subst (λ (items : List Coded). Ends (terms (shows_of set env) total (g.H.Host.patience c.plan_stages.new.host)) None (stages_seen items) (since asked new) result x z) c.deref.ensures.value shown) in
-          let whole = run_planned t set env look c.args.goal.output.now c.in-Ok.ensures.allowed old made x c.prepare_folder.ensures.aside.extends (c.in_ok-prepare_folder.ensures.outcome t x).1
-          asked new stages draft result z c.plan_stages.ensures.extends c.do_stages.ensures.aside.extends c.plan_stages.ensures.quiet.0 ran in
-          (left, (draft.warns_of_link, whole));
+          let behind = (agrees_since look old made new c.prepare_folder.ensures.aside.extends c.run_parts.ensures.asks.extends agree).1 in
+          let known : Agrees look c.run_parts.new.answers = subst (Agrees look) (sym same) behind in
+          (
+            left,
+            run_enabled set env look c.args.goal.output.now total patience c.in-Ok.ensures.allowed old made x c.prepare_folder.ensures.aside.extends
+                (c.in_ok-prepare_folder.ensures.outcome (terms (shows_of set env) total patience) x).1
+                c.shows_of-shows.result total (g.H.Host.patience c.prepare_folder.new.host) new c.run_parts.result (means left faults taken load) c.shows_of-shows.ensures refl c.prepare_folder.ensures.aside.patient (sym c.if-is_disabled.ensures) c.run_parts.ensures.asks.extends
+                (c.run_parts.ensures.outcome.under look known),
+          );
     })
 
 pub returns-clause-asked : goal.returns-clause-asked
 returns-clause-asked g c =
-    asked_behind _ _ _ _ (g.H.Host.log c.args.host.now) (g.H.Host.log c.prepare_folder.new.host) (g.H.Host.log c.do_stages.new.host) c.prepare_folder.ensures.aside.extends
-    (since_extends (g.H.Host.log c.prepare_folder.new.host) (g.H.Host.log c.plan_stages.new.host) (g.H.Host.log c.do_stages.new.host) c.plan_stages.ensures.extends c.do_stages.ensures.aside.extends)
-    c.prepare_folder.ensures.aside.asks_none
-    (asked_before _ _ _ _ (g.H.Host.log c.prepare_folder.new.host) (g.H.Host.log c.plan_stages.new.host) (g.H.Host.log c.do_stages.new.host) c.plan_stages.ensures.extends c.do_stages.ensures.aside.extends c.plan_stages.ensures.asked c.do_stages.ensures.aside.asks_none)
+    let made = g.H.Host.log c.prepare_folder.new.host in
+    let new = g.H.Host.log c.run_parts.new.host in
+    let set = c.self.inside.config in
+    let env = c.self.inside.env in
+    let on : AsksOn g.W.World.steady g.W.World.answer (probe_folder set env) (RunAsks set env) (since made new) [] c.run_parts.new.answers =
+    subst (λ (l : List Answer). AsksOn g.W.World.steady g.W.World.answer (probe_folder set env) (RunAsks set env) (since made new) l c.run_parts.new.answers) c.new-answers.ensures c.run_parts.ensures.asks.asks in
+    let asked : Asked g.W.World.steady g.W.World.answer (probe_folder set env) (RunAsks set env) (since made new) = (on_asked g.W.World.steady g.W.World.answer (probe_folder set env) (RunAsks set env) (since made new) c.run_parts.new.answers on).0 in
+    asked_behind _ _ _ _ (g.H.Host.log c.args.host.now) made new c.prepare_folder.ensures.aside.extends c.run_parts.ensures.asks.extends c.prepare_folder.ensures.aside.asks_none
+    (subst (λ (b : BuildSeen). AsksByRun g.W.World.steady g.W.World.answer b (since made new)) c.self.view_is asked)

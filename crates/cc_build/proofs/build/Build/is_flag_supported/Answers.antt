@@ -17,7 +17,7 @@ pub returns-in-Ok-clause-extends : goal.returns-in-Ok-clause-extends
 returns-in-Ok-clause-extends g c = then_extends _ _ _ _ _ _ _ _ _ _ c.flag_support.ensures.asks (grind arith) c.new-answers.ensures c.flag_support.ensures.asks.holds.silent
 
 pub returns-in-Ok-clause-asked : goal.returns-in-Ok-clause-asked
-returns-in-Ok-clause-asked g c = asked_seen _ _ (λ (b : BuildSeen). SupportAsks b.config b.env c.args.flag.now) _ _ c.args.self.now c.self.view_is (then_asked _ _ _ _ _ _ _ _ _ _ c.flag_support.ensures.asks (grind arith) c.new-answers.ensures c.flag_support.ensures.asks.holds.silent)
+returns-in-Ok-clause-asked g c = asked_seen _ _ (λ (b : BuildSeen). SupportAsks b.config b.env c.args.flag.now) _ _ c.args.self.now c.self.view_is (then_asked _ _ _ _ _ _ _ _ _ _ c.flag_support.ensures.asks (grind arith) c.new-answers.ensures c.flag_support.ensures.asks.holds.silent _ c.probe_folder.ensures)
 
 pub returns-in-Ok-clause-childless : goal.returns-in-Ok-clause-childless
 returns-in-Ok-clause-childless g c = then_childless _ _ _ _ _ _ _ _ _ _ c.flag_support.ensures.asks (grind arith) c.new-answers.ensures c.flag_support.ensures.asks.holds.silent c.flag_support.ensures.asks.holds.childless
@@ -48,7 +48,7 @@ pub returns-clause-extends : goal.returns-clause-extends
 returns-clause-extends g c = then_extends _ _ _ _ _ _ _ _ _ _ c.flag_support.ensures.asks (grind arith) c.new-answers.ensures c.flag_support.ensures.asks.holds.silent
 
 pub returns-clause-asked : goal.returns-clause-asked
-returns-clause-asked g c = asked_seen _ _ (λ (b : BuildSeen). SupportAsks b.config b.env c.args.flag.now) _ _ c.args.self.now c.self.view_is (then_asked _ _ _ _ _ _ _ _ _ _ c.flag_support.ensures.asks (grind arith) c.new-answers.ensures c.flag_support.ensures.asks.holds.silent)
+returns-clause-asked g c = asked_seen _ _ (λ (b : BuildSeen). SupportAsks b.config b.env c.args.flag.now) _ _ c.args.self.now c.self.view_is (then_asked _ _ _ _ _ _ _ _ _ _ c.flag_support.ensures.asks (grind arith) c.new-answers.ensures c.flag_support.ensures.asks.holds.silent _ c.probe_folder.ensures)
 
 pub returns-clause-childless : goal.returns-clause-childless
 returns-clause-childless g c = then_childless _ _ _ _ _ _ _ _ _ _ c.flag_support.ensures.asks (grind arith) c.new-answers.ensures c.flag_support.ensures.asks.holds.silent c.flag_support.ensures.asks.holds.childless

@@ -1,0 +1,26 @@
+use Rattle.std.proofs.Common.{sym, arith}
+use Rattle.cc_host.specs.Part.{since}
+use Rattle.cc_plan.specs.Questions.{RunAsks}
+use Rattle.cc_plan.specs.Refusal.{archiver_refusal}
+use Rattle.cc_build.proofs.Asking.{plan_cause_under}
+use Rattle.cc_build.proofs.Growing.{asked_for, holds_at, of_archiver}
+use Rattle.cc_build.proofs.phases.plan_archiver.Goals as goal
+
+pub returns-in-Ok-clause-asks : goal.returns-in-Ok-clause-asks
+returns-in-Ok-clause-asks g c =
+    asked_for _ _ (RunAsks c.args.task.now.set.now c.args.task.now.env.now) g.H.Host.log g.H.Host.patience _ _ _ _ _ _ _ _ c.probe_folder.ensures c.archiver_of.ensures.asks.asks (of_archiver c.args.task.now.set.now c.args.task.now.env.now (since (g.H.Host.log c.args.host.now) (g.H.Host.log c.archiver_of.new.sight.host.now)) c.archiver_of.new.sight.answers.now c.archiver_of.ensures.asks.own) c.archiver_of.ensures.asks.patient (grind arith) (grind arith)
+
+pub returns-in-Err-clause-asks : goal.returns-in-Err-clause-asks
+returns-in-Err-clause-asks g c =
+    asked_for _ _ (RunAsks c.args.task.now.set.now c.args.task.now.env.now) g.H.Host.log g.H.Host.patience _ _ _ _ _ _ _ _ c.probe_folder.ensures c.archiver_of.ensures.asks.asks (of_archiver c.args.task.now.set.now c.args.task.now.env.now (since (g.H.Host.log c.args.host.now) (g.H.Host.log c.archiver_of.new.sight.host.now)) c.archiver_of.new.sight.answers.now c.archiver_of.ensures.asks.own) c.archiver_of.ensures.asks.patient (grind arith) (grind arith)
+
+pub returns-in-Err-clause-refused : goal.returns-in-Err-clause-refused
+returns-in-Err-clause-refused g c =
+    holds_at _ _ _ (grind arith) (λ look agree. plan_cause_under c.args.task.now.set.now c.args.task.now.env.now c.args.task.now.output.now c.in-Err.error c.refused.result _ (archiver_refusal c.args.task.now.set.now c.args.task.now.env.now) look agree c.refused.ensures c.in-Err.ensures.refused)
+
+pub returns-in-Ok-clause-planned : goal.returns-in-Ok-clause-planned
+returns-in-Ok-clause-planned g c =
+    holds_at _ _ _ (grind arith) (λ look agree. record {
+      allowed = c.in-Ok.ensures.allowed.is look agree;
+      is = sym (c.in-Ok.ensures.settles.is look agree);
+    })
