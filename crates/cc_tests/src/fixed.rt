@@ -33,9 +33,7 @@ turns
 ends
 ends
 removes nothing at /o/libfoo.a
-starts ar
-turns
-ends
+runs ar
 starts ar
 turns
 ends
