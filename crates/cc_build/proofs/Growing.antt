@@ -123,6 +123,16 @@ module _ (steady : Bool) (world : Question → Outcome) (dir : List ℕ) (questi
     pub asking_before : (old mid new : X) (known after : List Answer) → Asking steady world dir questions log patience old mid known after → Aside log patience mid new → Asking steady world dir questions log patience old new known after
     asking_before old mid new known after a b = asking_then old mid new known after after a (asking_aside mid new after b)
 
+-- a call that asks alone, with its folder and its answers by other names
+pub asked_for : (steady : Bool) (world : Question → Outcome) (questions : Look → Question → Type 0) {X : Type 0} (log : X → List Event) (patience : X → Option ℕ) (dir folder : List ℕ) (old mid new : X) (known after known' : List Answer) → dir ≡ folder → Asks steady world dir (log old) (log mid) known after → Holds after (λ look. AnswersAmong (questions look) (since (log old) (log mid))) → patience mid ≡ patience old → new ≡ mid → known' ≡ after → Asking steady world folder questions log patience old new known known'
+asked_for steady world questions log patience dir folder old mid new known after known' same_dir k own patient same answered =
+    subst (λ (d : List ℕ). Asking steady world d questions log patience old new known known') same_dir
+    (subst (λ (l : List Answer). Asking steady world dir questions log patience old new known l) (sym answered) (asking_of steady world dir questions log patience old mid new known after k own patient same))
+
+-- what the answers settle holds under them, by another name
+pub holds_at : (known after : List Answer) (P : Look → Type 0) → after ≡ known → ((look : Look) → Agrees look known → P look) → Holds after P
+holds_at known after P same so = record { under = λ look agree. so look (subst (Agrees look) same agree) }
+
 -- questions alone were asked
 pub quiet_of : (steady : Bool) (world : Question → Outcome) (dir : List ℕ) (old mid new : List Event) (known after : List Answer) → Asks steady world dir old mid known after → new ≡ mid → list_all is_asked (since old new) ≡ true
 quiet_of steady world dir old mid new known after k same = ap (λ l. list_all is_asked (since old l)) same ∙ ap (list_all is_asked) (part_is old mid k.part k.extends) ∙ k.asked

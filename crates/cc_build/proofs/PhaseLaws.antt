@@ -12,9 +12,14 @@ use Rattle.cc_host.proofs.Parts.{since_since, since_extends}
 use Rattle.cc_plan.specs.Archive as archive
 use Rattle.cc_plan.specs.Archive.{archiver_of}
 use Rattle.cc_plan.specs.Batches.{batches_of}
-use Rattle.cc_plan.specs.Link.{printed_links}
+use Rattle.cc_plan.specs.Link.{printed_links, link_lines as lines_of}
+use Rattle.cc_plan.specs.Names.{library_name}
+use Rattle.cc_plan.specs.declared.settings.BuildConfig.{BuildConfig}
+use Rattle.cc_env.specs.Env.{EnvSeen}
+use Rattle.std.specs.Path.{path_parent}
+use Rattle.std.specs.Prelude.{unwrap_or}
 use Rattle.cc_plan.specs.Plan.{library_of, archived_of, archives_of, indexes_of, link_lines, prints, removal_steps, link_steps}
-use Rattle.cc_plan.specs.Refusal.{first_of}
+use Rattle.cc_plan.specs.Refusal.{first_of, late_refusal, archiver_refusal, link_refusal}
 use Rattle.cc_plan.specs.declared.archive.Archiver.{Archiver}
 use Rattle.cc_plan.specs.declared.error.PlanError.{PlanError}
 use Rattle.cc_plan.specs.declared.link.LinkLine.{LinkLine}
@@ -23,13 +28,15 @@ use Rattle.cc_plan.proofs.BatchLaws.{joined}
 use Rattle.cc_run.specs.declared.planned.Planned.{Planned}
 use Rattle.cc_tool.specs.Probing.{is_asked}
 use Rattle.cc_build.specs.Error.{ErrorSeen, no_memory}
-use Rattle.cc_build.specs.Phases.{behind}
+use Rattle.cc_build.specs.Course.{course}
+use Rattle.cc_build.specs.Phases.{behind, error_in, WriteEnds, LibraryEnds}
 use Rattle.cc_build.specs.Questions.{Plans, Archives, Links}
 use Rattle.cc_build.specs.Refusal.{plan_error}
 use Rattle.cc_build.specs.Seen.{stages_of, commands_for}
-use Rattle.cc_build.specs.Stage.{Stage, calls, planned, in_turn, tried, behind_first, asked_then, compile_stages, removal_stages, archive_stages, link_stages, library_stages, library_commands}
+use Rattle.cc_build.specs.Stage.{Stage, calls, planned, in_turn, tried, behind_first, asked_then, compile_stages, removal_stages, archive_stages, link_stages, library_stages, library_commands, ending_stages, later_stages, asked_stages}
+use Rattle.cc_build.specs.Way.{Way}
 use Rattle.cc_build.specs.Stage.Stage.{Asks, Tries, RunsOne}
-use Rattle.cc_build.specs.Went.{Terms, Means, Went, Halted, Ends}
+use Rattle.cc_build.specs.Went.{Terms, Means, terms, Went, Halted, Ends}
 use Rattle.cc_build.specs.declared.library.Library.{Library}
 use Rattle.cc_build.specs.declared.task.Task.{Task}
 use Rattle.cc_build.proofs.Going.{went_one, went_then, went_from, ends_then, halted_none, halted_more, halted_among, halted_from, asked_halted, phase_ends, phase_wanting, ends_join, halted_join}
@@ -146,7 +153,7 @@ module _ (t : Terms) (path : List ℕ) (library : Library) where
       pub write_wanting : (e : ErrorSeen) → e ≡ no_memory → Halted t None ((removal ++ tried is_plain (commands_for library is_plain)) ++ Asks ∷ []) (since old new) e x x
       write_wanting e memory =
           subst (λ (l : List Stage). Halted t None l (since old new) e x x) (sym (split (Asks ∷ [])))
-          (halted_among t None (removal ++ Tries is_plain p ∷ []) (in_turn more ++ Asks ∷ []) (since old new) e x x both memory (λ none. some_last (in_turn more) none))
+          (halted_among t None (removal ++ Tries is_plain p ∷ []) (in_turn more ++ Asks ∷ []) (since old new) e x x both memory (λ none. absurd (some_last (in_turn more) none)))
         where
           some_last : (a : List Stage) → a ++ Asks ∷ [] ≡ [] → ⊥
           some_last [] h = cc
@@ -183,3 +190,86 @@ module _ (t : Terms) (f : PlanError → ErrorSeen) where
   part_before p q refusal a b part e x z h =
       subst (λ (l : List Stage). Halted t (first_of (option_map f p) refusal) (asked_then p l) part e x z) (append_assoc a (Asks ∷ []) _)
       (halted_join t f p refusal (a ++ Asks ∷ []) _ part e x z h)
+
+-- ---- the whole of the parts
+
+abbrev pub way_of : Bool → Bool → Bool → Way
+way_of warns_of_link is_plain is_first = record { warns_of_link = warns_of_link; is_plain = is_plain; is_first = is_first }
+
+module _ (t : Terms) (task : Task) (look : Look) where
+  abbrev late : Option PlanError
+  late = late_refusal task.set.now task.env.now look
+
+  abbrev archiver : Option PlanError
+  archiver = archiver_refusal task.set.now task.env.now look
+
+  abbrev links : Option PlanError
+  links = link_refusal task.set.now task.env.now look
+
+  abbrev behind_sources : Option ErrorSeen
+  behind_sources = first_of (error_in task archiver) (error_in task links)
+
+  abbrev compiles : Bool → List Stage
+  compiles warns_of_link = compile_stages task.set.now task.env.now warns_of_link look
+
+  abbrev writes : Bool → List Stage
+  writes is_plain = library_stages task.set.now task.env.now is_plain look task.output.now
+
+  abbrev stages_in : Way → List Stage
+  stages_in way = asked_stages task.set.now task.env.now way look task.output.now
+
+  later_is : (way : Way) → asked_then archiver (writes way.is_plain ++ ending_stages task.set.now task.env.now way look task.output.now) ≡ later_stages task.set.now task.env.now way look task.output.now
+  unfolding later_stages
+  later_is way = refl
+
+  -- the run ended among the sources
+  pub sources_halted : (warns_of_link : Bool) (part : List Event) (e : ErrorSeen) (x z : Means) → Halted t (error_in task late) (asked_then late (compiles warns_of_link)) part e x z → Halted t (first_of (error_in task late) behind_sources) (stages_in (way_of warns_of_link false true)) part e x z
+  sources_halted warns_of_link part e x z h =
+      halted_join t (plan_error task.set.now task.env.now task.output.now) late behind_sources (compiles warns_of_link) (later_stages task.set.now task.env.now (way_of warns_of_link false true) look task.output.now) part e x z h
+
+  -- what stands behind the sources ended so
+  pub sources_then : {T : Type 0} (way : Way) (old mid new : List Event) (r : Result T ErrorSeen) (x y z : Means) → mid ≡ old ++ since old mid → new ≡ mid ++ since mid new → late ≡ None → Went t (Asks ∷ compiles way.warns_of_link) (since old mid) x y → Ends t behind_sources (asked_then archiver (writes way.is_plain ++ ending_stages task.set.now task.env.now way look task.output.now)) (since mid new) r y z → Ends t (first_of (error_in task late) behind_sources) (stages_in way) (since old new) r x z
+  sources_then way old mid new r x y z first last allowed w o =
+      part_then t (plan_error task.set.now task.env.now task.output.now) late behind_sources (compiles way.warns_of_link) (later_stages task.set.now task.env.now way look task.output.now) old mid new r x y z first last allowed w
+      (subst (λ (l : List Stage). Ends t behind_sources l (since mid new) r y z) (later_is way) o)
+
+  -- the run ended at the library
+  pub library_halted : (warns_of_link is_plain : Bool) (old mid new : List Event) (e : ErrorSeen) (x y z : Means) → mid ≡ old ++ since old mid → new ≡ mid ++ since mid new → late ≡ None → Went t (Asks ∷ compiles warns_of_link) (since old mid) x y → Halted t (error_in task archiver) (asked_then archiver (writes is_plain ++ Asks ∷ [])) (since mid new) e y z → Halted t (first_of (error_in task late) behind_sources) (stages_in (way_of warns_of_link is_plain true)) (since old new) e x z
+  library_halted warns_of_link is_plain old mid new e x y z first last allowed w h =
+      sources_then {T = Unit {0}} (way_of warns_of_link is_plain true) old mid new (Err e) x y z first last allowed w
+      (part_before t (plan_error task.set.now task.env.now task.output.now) archiver links (error_in task links) (writes is_plain) (link_stages task.set.now task.env.now look true task.output.now) (since mid new) e y z h)
+
+  -- all of it, to the link lines
+  pub links_end : {T : Type 0} (warns_of_link is_plain is_first : Bool) (old mid made new : List Event) (r : Result T ErrorSeen) (x y z u : Means) → mid ≡ old ++ since old mid → made ≡ mid ++ since mid made → new ≡ made ++ since made new → late ≡ None → Went t (Asks ∷ compiles warns_of_link) (since old mid) x y → archiver ≡ None → Went t (Asks ∷ writes is_plain) (since mid made) y z → Ends t (error_in task links) (asked_then links (link_stages task.set.now task.env.now look is_first task.output.now)) (since made new) r z u → Ends t (first_of (error_in task late) behind_sources) (stages_in (way_of warns_of_link is_plain is_first)) (since old new) r x u
+  links_end warns_of_link is_plain is_first old mid made new r x y z u first next last allowed w allowed' w' o =
+      sources_then (way_of warns_of_link is_plain is_first) old mid new r x y u first (since_extends mid made new next last) allowed w
+      (part_then t (plan_error task.set.now task.env.now task.output.now) archiver (error_in task links) (writes is_plain) (ending_stages task.set.now task.env.now (way_of warns_of_link is_plain is_first) look task.output.now) mid made new r y z u next last allowed' w' o)
+
+-- ---- the library of a part
+
+module _ (task : Task) (library : Library) (look : Look) (total patience before : Option ℕ) (old mid new : List Event) (x z : Means) (patient : before ≡ patience) (first : mid ≡ old ++ since old mid) (last : new ≡ mid ++ since mid new) (asked : list_all is_asked (since old mid) ≡ true) (plan : Archives task library.archiver.now look) (env : library.env.now ≡ task.env.now) (path : library.path.now ≡ library_of task.set.now task.env.now task.output.now) (paths : library.paths.now ≡ archived_of task.set.now task.env.now) where
+  abbrev in_terms : Option ℕ → Terms
+  in_terms p = terms task.reporting.shows total p
+
+  same_stages : (is_plain : Bool) → calls (Removes library.path.now ∷ []) ++ tried is_plain (commands_for library is_plain) ≡ library_stages task.set.now task.env.now is_plain look task.output.now
+  same_stages is_plain = library_is task library.path.now (commands_for library is_plain) look is_plain path (commands_are task library look is_plain plan env path paths)
+
+  pub library_ends : {T : Type 0} (r : Result T ErrorSeen) → WriteEnds task.reporting.shows library.path.now (commands_for library) r (since mid new) (course total before x z) → LibraryEnds task r look (since old new) (course total patience x z)
+  library_ends (Ok v) w = (
+    w.0,
+    (
+      plan.allowed,
+      phase_went_on (in_terms patience) (plan_error task.set.now task.env.now task.output.now) (archiver_refusal task.set.now task.env.now look) (library_stages task.set.now task.env.now w.0 look task.output.now) old mid new x first last asked plan.allowed
+          (calls (Removes library.path.now ∷ []) ++ tried w.0 (commands_for library w.0)) z (same_stages w.0) (subst (λ (p : Option ℕ). Went (in_terms p) (calls (Removes library.path.now ∷ []) ++ tried w.0 (commands_for library w.0)) (since mid new) x z) patient w.1),
+    ),
+  )
+  library_ends (Err e) h = (
+    h.0,
+    phase_halted (in_terms patience) (plan_error task.set.now task.env.now task.output.now) (archiver_refusal task.set.now task.env.now look) (library_stages task.set.now task.env.now h.0 look task.output.now ++ Asks ∷ []) old mid new x first last asked plan.allowed
+        ((calls (Removes library.path.now ∷ []) ++ tried h.0 (commands_for library h.0)) ++ Asks ∷ []) e z (ap (λ l. l ++ Asks ∷ []) (same_stages h.0)) (subst (λ (p : Option ℕ). Halted (in_terms p) None ((calls (Removes library.path.now ∷ []) ++ tried h.0 (commands_for library h.0)) ++ Asks ∷ []) (since mid new) e x z) patient h.1),
+  )
+
+-- the planned link lines, by the name and the folder of the library
+pub links_planned : (set : BuildConfig) (env : EnvSeen) (look : Look) (output name folder : List ℕ) (lines : List LinkLine) → name ≡ library_name output → folder ≡ unwrap_or (path_parent (library_of set env output)) [] → lines_of set env name folder look ≡ lines → link_lines set env look output ≡ lines
+unfolding link_lines
+links_planned set env look output name folder lines n f is = ap (λ m. lines_of set env m (unwrap_or (path_parent (library_of set env output)) []) look) (sym n) ∙ ap (λ k. lines_of set env name k look) (sym f) ∙ is

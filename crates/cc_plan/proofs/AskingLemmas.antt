@@ -17,14 +17,14 @@ use Rattle.cc_tool.proofs.SettleLemmas.{holds_on, holds_all}
 use Rattle.cc_plan.specs.Asking.{OnlyAsks}
 use Rattle.cc_plan.specs.declared.sight.Sight.{Sight}
 
+-- in the same folder
+same_folder : {steady : Bool} {world : Question → Outcome} {dir other : List ℕ} {before after : List Event} {old new : List Answer} → other ≡ dir → Asks steady world other before after old new → Asks steady world dir before after old new
+same_folder {steady} {world} {dir} {other} {before} {after} {old} {new} is asks = subst (λ (d : List ℕ). Asks steady world d before after old new) is asks
+
 module _ {W H : Type 0} {ghosts : Ghosts W} {steady : Bool} {world : Question → Outcome} {log : H → List Event} {patience : H → Option ℕ} {questions : Look → Question → Type 0} where
   -- no question
   pub only_none : (s : Sight W H ghosts) → OnlyAsks steady world log patience questions s s
   only_none s = record { same_host = refl; same_answers = refl; same_dir = refl; asks = asks_none _ _; own = holds_all (λ look. among_none (questions look) (log s.host.now)); patient = refl }
-
-  -- in the same folder
-  more : {dir other : List ℕ} {before after : List Event} {old new : List Answer} → other ≡ dir → Asks steady world other before after old new → Asks steady world dir before after old new
-  more {dir} {other} {before} {after} {old} {new} is asks = subst (λ (d : List ℕ). Asks steady world d before after old new) is asks
 
   -- some questions, and then some more
   pub only_then : {a b c : Sight W H ghosts} → OnlyAsks steady world log patience questions a b → OnlyAsks steady world log patience questions b c → OnlyAsks steady world log patience questions a c
@@ -32,10 +32,10 @@ module _ {W H : Type 0} {ghosts : Ghosts W} {steady : Bool} {world : Question �
     same_host = g.same_host ∙ f.same_host;
     same_answers = g.same_answers ∙ f.same_answers;
     same_dir = g.same_dir ∙ f.same_dir;
-    asks = asks_then f.asks (more f.same_dir g.asks);
+    asks = asks_then f.asks (same_folder f.same_dir g.asks);
     own = record {
       under = λ look s.
-          among_then (questions look) steady world a.dir.now (log a.host.now) (log b.host.now) (log c.host.now) a.answers.now b.answers.now c.answers.now f.asks (more f.same_dir g.asks)
+          among_then (questions look) steady world a.dir.now (log a.host.now) (log b.host.now) (log c.host.now) a.answers.now b.answers.now c.answers.now f.asks (same_folder f.same_dir g.asks)
           ((holds_on (asks_grows g.asks) f.own).under look s) (g.own.under look s);
     };
     patient = g.patient ∙ f.patient;

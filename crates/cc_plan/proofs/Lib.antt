@@ -1,4 +1,5 @@
 pub mod AddedLaws
+pub mod ArchiveToolLemmas
 pub mod AskingLemmas
 pub mod BatchLaws
 pub mod BeforeLemmas
@@ -11,6 +12,7 @@ pub mod OwnLemmas
 pub mod QuestionLemmas
 pub mod ResultLemmas
 pub mod SourceLaws
+pub mod StdlibLemmas
 pub mod SupportLemmas
 pub mod ValidLaws
 pub mod VerdictLemmas

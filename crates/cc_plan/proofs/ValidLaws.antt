@@ -5,21 +5,26 @@ use Rattle.std.specs.Option.{option_map, option_and_then}
 use Rattle.std.specs.Path.{path_file_name}
 use Rattle.std.proofs.lemmas.Slice.Eq.{bytes_eq-Decides}
 use Rattle.cc_env.specs.Env.{EnvSeen}
+use Rattle.cc_env.specs.Snapshot.{last_value}
 use Rattle.cc_host.specs.Question.{Look}
 use Rattle.cc_text.specs.Families.{is_gnu_like}
 use Rattle.cc_flags.specs.DefaultWords.{is_qnx, qnx_variant, lacks_qnx_variant, is_wasm_linux}
 use Rattle.cc_flags.specs.Fields.{is_invalid, invalid_pair, refusal_of}
 use Rattle.cc_flags.specs.Pairs.{pairs_of}
 use Rattle.cc_flags.specs.declared.pairs.Pair.{Pair}
+use Rattle.cc_target.specs.Targets.{Info}
+use Rattle.cc_plan.specs.ArchiveTool.{qnx_arch, lacks_qnx_arch, variable_tool}
 use Rattle.cc_plan.specs.Compilation.{CompilationSeen}
 use Rattle.cc_plan.specs.Given.{out_dir_of, target_of, host_of, level_of, has_no_defaults}
 use Rattle.cc_plan.specs.Inherited.{inherited_text, inherited_refusal, plan_refusal}
 use Rattle.cc_plan.specs.Planned.{planned, defaults_refusal_of}
+use Rattle.cc_plan.specs.Target.{target_info}
 use Rattle.cc_plan.specs.Tool.{defaults_refusal_by}
 use Rattle.cc_plan.specs.ToolWords.{first_refusal, names_target, musl_sysroot, qnx_refusal, sysroot_refusal, clang_refusal, defaults_refusal}
+use Rattle.cc_plan.specs.declared.archive_tool.ArchiveTool.TheVariants.{Archiver}
 use Rattle.cc_plan.specs.declared.error.PlanError.{PlanError}
 use Rattle.cc_plan.specs.declared.error.PlanError.TheVariants.{QnxArch, NotSet}
-use Rattle.cc_plan.specs.Refusal.{place_from, earlier_place, source_refusal, sources_after, out_dir_refusal, unset, target_refusal, platform_refusal, given_refusal, refusal_by, tool_refusal, early_refusal, late_refusal, object_in, library_in, is_empty, archiver_refusal, link_refusal}
+use Rattle.cc_plan.specs.Refusal.{place_from, earlier_place, source_refusal, sources_after, out_dir_refusal, unset, target_refusal, platform_refusal, given_refusal, refusal_by, tool_refusal, early_refusal, late_refusal, object_in, library_in, is_empty, archiver_refusal, links_cpp, musl_variable, cpp_refusal, link_refusal, qnx_arch_refusal, found_refusal, known_refusal, choice_refusal, look_up_refusal, first_of}
 use Rattle.cc_plan.specs.Added.{added_refusal}
 use Rattle.cc_plan.proofs.AddedLaws.{added_accepted}
 use Rattle.cc_plan.specs.Valid.{IsNoneOf, AreApart, IsKnown, IsSetNonempty, HasVariant, HasSysroot, Parse, Valid}
@@ -149,12 +154,51 @@ unfolding late_refusal
 late_accepted set env look output v =
     late_valid set env look (is_empty set.files) v.target v.host v.level (words_accepted set env look output v) (flags_accepted set env look output v)
 
+-- a target that is known is set
+set_target : (target : Option (List ℕ)) → IsKnown target → unset (codes "TARGET") target ≡ None
+set_target None h = absurd h
+set_target (Some target) h = refl
+
+-- a name that stands where it is needed isn't lacking
+no_name_lacks : {X : Type 0} (x : X) (b : Bool) (name : Option (List ℕ)) → (b ≡ true → IsSome name) → (if b && is_none name then Some x else None) ≡ None
+no_name_lacks x true None h = let there = h refl in absurd (cc)
+no_name_lacks x true (Some name) h = refl
+no_name_lacks x false name h = refl
+
+has_arch : (target : Info) → (is_qnx target ≡ true → IsSome (qnx_arch target)) → qnx_arch_refusal target ≡ None
+unfolding qnx_arch_refusal lacks_qnx_arch
+has_arch target h = no_name_lacks (QnxArch target.full_arch) (is_qnx target) (qnx_arch target) h
+
+-- what isn't refused where there is none
+where_none : {X : Type 0} (value : Option X) (refusal : Option PlanError) → (value ≡ None → refusal ≡ None) → (if is_none value then refusal else None) ≡ None
+where_none None refusal h = h refl
+where_none (Some x) refusal h = refl
+
+both_none : (first second : Option PlanError) → first ≡ None → second ≡ None → first_of first second ≡ None
+both_none first second f s = rw (f, s) refl
+
 -- and what the archiver wants
 pub archiver_accepted : (set : BuildConfig) (env : EnvSeen) (look : Look) (output : List ℕ) → Valid set env look output → archiver_refusal set env look ≡ None
-unfolding archiver_refusal
-archiver_accepted set env look output v = refl
+unfolding archiver_refusal look_up_refusal
+archiver_accepted set env look output v =
+    let found : set.archiver ≡ None → found_refusal Archiver set env look ≡ None = λ none. where_none (variable_tool Archiver set env look) (qnx_arch_refusal (target_info set env)) (λ unnamed. has_arch (target_info set env) (v.archiver none unnamed)) in
+    let known : set.archiver ≡ None → known_refusal Archiver set env look ≡ None = λ none. both_none (target_refusal (target_of set env)) (found_refusal Archiver set env look) (is_known (target_of set env) v.target) (found none) in
+    let choice : choice_refusal Archiver set env look ≡ None = where_none set.archiver (known_refusal Archiver set env look) known in
+    both_none (choice_refusal Archiver set env look) (first_of (unset (codes "TARGET") (target_of set env)) (unset (codes "HOST") (host_of set env))) choice
+    (both_none (unset (codes "TARGET") (target_of set env)) (unset (codes "HOST") (host_of set env)) (set_target (target_of set env) v.target) (is_set (codes "HOST") (host_of set env) v.host))
+
+-- a value that stands where it is needed isn't unset
+stands_where : (name : List ℕ) (a b : Bool) (value : Option (List ℕ)) → (a ≡ true → b ≡ true → IsSome value) → (if a && b then unset name value else None) ≡ None
+stands_where name true true value h = is_set name value (h refl refl)
+stands_where name true false value h = refl
+stands_where name false true value h = refl
+stands_where name false false value h = refl
+
+has_linked : (set : BuildConfig) (env : EnvSeen) → (links_cpp set ≡ true → is_wasm_linux (target_info set env) ≡ true → IsSome (last_value env.inherited musl_variable)) → cpp_refusal set env ≡ None
+unfolding cpp_refusal
+has_linked set env h = stands_where musl_variable (links_cpp set) (is_wasm_linux (target_info set env)) (last_value env.inherited musl_variable) h
 
 -- and what the link lines want
 pub links_accepted : (set : BuildConfig) (env : EnvSeen) (look : Look) (output : List ℕ) → Valid set env look output → link_refusal set env look ≡ None
 unfolding link_refusal
-links_accepted set env look output v = refl
+links_accepted set env look output v = has_linked set env v.linked

@@ -1,34 +1,58 @@
 -- The planned archiver, and the archive and index commands, in the words of `ar`: `c` makes the library, `q` adds members last, `s` writes its
 -- index, and `D` leaves out times and owners, so that one build gives the same bytes as the next.
-use Rattle.std.specs.Prelude.{ℕ, Bool, false, true, List, [], ◌∷◌, ◌++◌, map, take, None, unwrap_or, codes, if◌then◌else◌}
+use Rattle.std.specs.Prelude.{ℕ, Bool, false, true, ◌||◌, List, [], ◌∷◌, ◌++◌, map, take, None, unwrap_or, is_some, codes, if◌then◌else◌}
 use Rattle.cc_env.specs.Env.{EnvSeen}
 use Rattle.cc_env.specs.Snapshot.{child_of}
 use Rattle.cc_host.specs.Command.{CommandSeen}
 use Rattle.cc_host.specs.Question.{Look}
+use Rattle.cc_plan.specs.ArchiveTool.{archive_tool}
 use Rattle.cc_plan.specs.Batches.{batches_of}
 use Rattle.cc_plan.specs.Given.{variable_flags}
 use Rattle.cc_plan.specs.declared.archive.Archiver.{Archiver}
+use Rattle.cc_plan.specs.declared.archive_tool.ArchiveTool.TheVariants.{Archiver as ForMembers, Ranlib as ForIndex}
+use Rattle.cc_plan.specs.declared.choice.Choice.{Choice}
 use Rattle.cc_plan.specs.declared.object.Object.{Object}
 use Rattle.cc_plan.specs.declared.settings.BuildConfig.{BuildConfig}
 
 abbrev pub paths_of : List Object → List (List ℕ)
 paths_of objects = map (λ o. o.dst) objects
 
--- the program of the archiver
-abbrev pub archiver_program : BuildConfig → List ℕ
-archiver_program set = unwrap_or set.archiver (codes "ar")
+abbrev pub has_words : List (List ℕ) → Bool
+has_words [] = false
+has_words (word ∷ words) = true
 
 -- the words before those of a form: the flags of the variables, and then the set ones
 unfoldable pub archiver_flags : BuildConfig → EnvSeen → List (List ℕ)
 archiver_flags set env = unwrap_or (variable_flags set env (codes "ARFLAGS")) [] ++ set.ar_flags
 
--- its command up to the words of a form
-abbrev pub archiver_cmd : BuildConfig → EnvSeen → CommandSeen
-archiver_cmd set env = record { program = archiver_program set; args = archiver_flags set env; env = child_of env.inherited env.explicit; dir = None }
+-- whether there is a variable of such flags, or a set one
+unfoldable pub has_flags : BuildConfig → EnvSeen → Bool
+has_flags set env = is_some (variable_flags set env (codes "ARFLAGS")) || has_words set.ar_flags
+
+-- the command of a tool of archives: its words, and then flags. Its wrapper is dropped.
+abbrev pub archive_tool_cmd : EnvSeen → Choice → List (List ℕ) → CommandSeen
+archive_tool_cmd env choice flags = record { program = choice.path; args = choice.words ++ flags; env = child_of env.inherited env.explicit; dir = None }
+
+-- the archiver of a choice
+abbrev pub archiver_by : BuildConfig → EnvSeen → Choice → Archiver
+archiver_by set env choice = record {
+  cmd = archive_tool_cmd env choice (archiver_flags set env);
+  name = choice.path;
+  any_flags = has_flags set env;
+  any_args = has_words choice.words;
+}
 
 -- the archiver
 unfoldable pub archiver_of : BuildConfig → EnvSeen → Look → Archiver
-archiver_of set env look = record { cmd = archiver_cmd set env }
+archiver_of set env look = archiver_by set env (archive_tool ForMembers set env look)
+
+-- the flags of the tool that writes an archive's index
+unfoldable pub ranlib_flags : BuildConfig → EnvSeen → List (List ℕ)
+ranlib_flags set env = unwrap_or (variable_flags set env (codes "RANLIBFLAGS")) []
+
+-- its command
+unfoldable pub ranlib_cmd_of : BuildConfig → EnvSeen → Look → CommandSeen
+ranlib_cmd_of set env look = archive_tool_cmd env (archive_tool ForIndex set env look) (ranlib_flags set env)
 
 -- the environment of a command that writes no times into members
 abbrev pub archive_env : EnvSeen → List (List ℕ × List ℕ)
@@ -40,7 +64,7 @@ with_words archiver words = record archiver.cmd { args = archiver.cmd.args ++ wo
 
 -- the same where it writes no times into members
 abbrev pub timeless : Archiver → EnvSeen → List (List ℕ) → CommandSeen
-timeless archiver env words = record (with_words archiver words) { env = archive_env env }
+timeless archiver env words = record { program = archiver.cmd.program; args = archiver.cmd.args ++ words; env = archive_env env; dir = None }
 
 -- the word that has members added last: it leaves out owners too, or is the plain one
 abbrev pub adding : Bool → List ℕ

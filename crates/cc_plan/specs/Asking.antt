@@ -15,10 +15,11 @@ use Rattle.cc_host.specs.declared.question.Question.{Question}
 use Rattle.cc_tool.specs.Asked.{question_events}
 use Rattle.cc_tool.specs.Asks.{Asks}
 use Rattle.cc_tool.specs.Own.{AnswersAmong}
-use Rattle.cc_plan.specs.Choice.{choice_of}
+use Rattle.cc_plan.specs.Choice.{choice_of, cross_prefix}
 use Rattle.cc_plan.specs.Link.{printed_line}
 use Rattle.cc_plan.specs.Plan.{prints}
-use Rattle.cc_plan.specs.Questions.{ToolAsks, PlanAsks, ArchiverAsks, LinkAsks, SupportAsks}
+use Rattle.cc_plan.specs.Questions.{ToolAsks, PlanAsks, ArchiveToolAsks, ArchiverAsks, RanlibAsks, LinkAsks, SupportAsks}
+use Rattle.cc_plan.specs.declared.archive_tool.ArchiveTool.{ArchiveTool}
 use Rattle.cc_plan.specs.declared.choice.Choice.{Choice}
 use Rattle.cc_plan.specs.declared.compilation.Inputs.{Inputs}
 use Rattle.cc_plan.specs.declared.error.PlanError.{PlanError}
@@ -49,6 +50,14 @@ AsksToPlan steady world log patience set env old new = OnlyAsks steady world log
 abbrev pub AsksForArchiver : {W H : Type 0} → {ghosts : Ghosts W} → Bool → (Question → Outcome) → (H → List Event) → (H → Option ℕ) → BuildConfig → EnvSeen → Sight W H ghosts → Sight W H ghosts → Type 0
 AsksForArchiver steady world log patience set env old new = OnlyAsks steady world log patience (ArchiverAsks set env) old new
 
+-- a call asks what finds the tool that writes an archive's index
+abbrev pub AsksForRanlib : {W H : Type 0} → {ghosts : Ghosts W} → Bool → (Question → Outcome) → (H → List Event) → (H → Option ℕ) → BuildConfig → EnvSeen → Sight W H ghosts → Sight W H ghosts → Type 0
+AsksForRanlib steady world log patience set env old new = OnlyAsks steady world log patience (RanlibAsks set env) old new
+
+-- a call asks what finds either of the two
+abbrev pub AsksForEither : {W H : Type 0} → {ghosts : Ghosts W} → Bool → (Question → Outcome) → (H → List Event) → (H → Option ℕ) → ArchiveTool → BuildConfig → EnvSeen → Sight W H ghosts → Sight W H ghosts → Type 0
+AsksForEither steady world log patience tool set env old new = OnlyAsks steady world log patience (ArchiveToolAsks tool set env) old new
+
 -- a call asks what their link lines want
 abbrev pub AsksForLinks : {W H : Type 0} → {ghosts : Ghosts W} → Bool → (Question → Outcome) → (H → List Event) → (H → Option ℕ) → BuildConfig → EnvSeen → Sight W H ghosts → Sight W H ghosts → Type 0
 AsksForLinks steady world log patience set env old new = OnlyAsks steady world log patience (LinkAsks set env) old new
@@ -64,6 +73,10 @@ IsChosen sight set env choice = Settles sight.answers.now (choice_of set env) ch
 abbrev pub IsChosenAt : {W H : Type 0} → {ghosts : Ghosts W} → Sight W H ghosts → BuildConfig → EnvSeen → List ℕ → Type 0
 IsChosenAt sight set env path = Settles sight.answers.now (λ look. (choice_of set env look).path) path
 
+-- the answers settle that tools for the target of these inputs, which is another than the host, have this prefix
+abbrev pub IsPrefix : {W H : Type 0} → {ghosts : Ghosts W} → Sight W H ghosts → Inputs → List ℕ → Type 0
+IsPrefix sight inputs prefix = Settles sight.answers.now (cross_prefix inputs.set.now inputs.env.now) (Some prefix)
+
 -- on Ok the answers settle the value, by a function of all verdicts
 abbrev pub SettledIn : {W H X E : Type 0} → {ghosts : Ghosts W} → Sight W H ghosts → (Look → X) → Result X E → Type 0
 SettledIn sight value result = IfOk result (Settles sight.answers.now value)
@@ -71,6 +84,14 @@ SettledIn sight value result = IfOk result (Settles sight.answers.now value)
 -- a call asks for these inputs, and does nothing else
 abbrev pub AsksBy : {W H : Type 0} → {ghosts : Ghosts W} → Bool → (Question → Outcome) → (H → List Event) → (H → Option ℕ) → Inputs → Sight W H ghosts → Sight W H ghosts → Type 0
 AsksBy steady world log patience inputs old new = AsksFor steady world log patience inputs.set.now inputs.env.now old new
+
+-- a call asks for these inputs what finds a tool of archives
+abbrev pub AsksForTool : {W H : Type 0} → {ghosts : Ghosts W} → Bool → (Question → Outcome) → (H → List Event) → (H → Option ℕ) → ArchiveTool → Inputs → Sight W H ghosts → Sight W H ghosts → Type 0
+AsksForTool steady world log patience tool inputs old new = AsksForEither steady world log patience tool inputs.set.now inputs.env.now old new
+
+-- a call asks this question alone
+abbrev pub AsksThis : {W H : Type 0} → {ghosts : Ghosts W} → Bool → (Question → Outcome) → (H → List Event) → (H → Option ℕ) → Question → Sight W H ghosts → Sight W H ghosts → Type 0
+AsksThis steady world log patience question old new = OnlyAsks steady world log patience (λ look q. q ≡ question) old new
 
 -- on Ok the answers settle the value of these inputs
 abbrev pub SettledBy : {W H X E : Type 0} → {ghosts : Ghosts W} → Sight W H ghosts → (BuildConfig → EnvSeen → Look → X) → Inputs → Result X E → Type 0

@@ -1,6 +1,7 @@
 pub mod Added
 pub mod Android
 pub mod Archive
+pub mod ArchiveTool
 pub mod Asking
 pub mod Batches
 pub mod Blanks
@@ -26,6 +27,7 @@ pub mod Refusal
 pub mod Search
 pub mod SettingWords
 pub mod Settings
+pub mod Stdlib
 pub mod Support
 pub mod Target
 pub mod Tool

@@ -1,8 +1,11 @@
 -- The link lines: what a build script prints so that Cargo links the library.
-use Rattle.std.specs.Prelude.{ℕ, Bool, false, not, ◌||◌, List, [], ◌∷◌, ◌++◌, map, filter, codes, if◌then◌else◌}
+use Rattle.std.specs.Prelude.{ℕ, Bool, false, not, ◌||◌, List, [], ◌∷◌, ◌++◌, map, filter, Option, codes}
 use Rattle.std.specs.List.{join_by}
 use Rattle.cc_env.specs.Env.{EnvSeen}
 use Rattle.cc_host.specs.Question.{Look}
+use Rattle.cc_text.specs.Words.{when}
+use Rattle.cc_plan.specs.Refusal.{links_cpp}
+use Rattle.cc_plan.specs.Stdlib.{linked_library, cpp_lines}
 use Rattle.cc_plan.specs.declared.link.LinkLine.{LinkLine}
 use Rattle.cc_plan.specs.declared.settings.BuildConfig.{BuildConfig}
 
@@ -24,8 +27,15 @@ abbrev pub always : List ℕ → LinkLine
 always text = record { text = text; once = false }
 
 -- the lines for a library in a folder, unless none are wanted
+abbrev pub library_lines : BuildConfig → List ℕ → List ℕ → List LinkLine
+library_lines set name folder = when set.cargo_metadata (always (library_line set.link_lib_modifiers name) ∷ always (search_line folder) ∷ [])
+
+-- and those for the C++ library behind them
+unfoldable pub lines_by : BuildConfig → EnvSeen → List ℕ → List ℕ → Option (List ℕ) → List LinkLine
+lines_by set env name folder library = library_lines set name folder ++ when (links_cpp set) (cpp_lines set env library)
+
 unfoldable pub link_lines : BuildConfig → EnvSeen → List ℕ → List ℕ → Look → List LinkLine
-link_lines set env name folder look = if set.cargo_metadata then always (library_line set.link_lib_modifiers name) ∷ always (search_line folder) ∷ [] else []
+link_lines set env name folder look = lines_by set env name folder (linked_library set env look)
 
 -- A line that is printed once for all builds that share what they know is left out where another printed it, unless lines are repeated.
 -- `is_first` says whether no other did.

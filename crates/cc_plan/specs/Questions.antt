@@ -1,19 +1,25 @@
 -- The questions that a plan asks, under these verdicts.
-use Rattle.std.specs.Prelude.{◌≡◌, ◌⊎◌, ℕ, true, List, [], Some}
+use Rattle.std.specs.Prelude.{◌≡◌, ◌⊎◌, ℕ, true, List, [], Some, None}
 use Rattle.std.specs.List.{Contains}
 use Rattle.cc_env.specs.Env.{EnvSeen}
 use Rattle.cc_flags.specs.Texts.{is}
 use Rattle.cc_host.specs.Question.{Look, exists_question}
 use Rattle.cc_host.specs.declared.question.Question.{Question}
 use Rattle.cc_tool.specs.Family.{IsOfFamilyIn}
+use Rattle.cc_tool.specs.Libcxx.{libcxx_question}
 use Rattle.cc_plan.specs.Android.{kit_compiler, older_name, starts_question}
-use Rattle.cc_plan.specs.Choice.{choice_of}
+use Rattle.cc_plan.specs.ArchiveTool.{search_question, llvm_question, version_question, plain_name, gcc_name}
+use Rattle.cc_plan.specs.Choice.{choice_of, cross_prefix, is_wasm}
 use Rattle.cc_plan.specs.Compilation.{CompilationSeen}
 use Rattle.cc_plan.specs.Languages.{gnu_name}
-use Rattle.cc_plan.specs.Planned.{planned}
+use Rattle.cc_plan.specs.Planned.{planned, tool_of}
+use Rattle.cc_plan.specs.Refusal.{links_cpp}
+use Rattle.cc_plan.specs.Stdlib.{given_library, may_ask}
 use Rattle.cc_plan.specs.Support.{bare_of, flag_question}
 use Rattle.cc_plan.specs.Target.{target_info, target_name}
 use Rattle.cc_plan.specs.ToolWords.{asked_words}
+use Rattle.cc_plan.specs.declared.archive_tool.ArchiveTool.{ArchiveTool}
+use Rattle.cc_plan.specs.declared.archive_tool.ArchiveTool.TheVariants.{Archiver, Ranlib}
 use Rattle.cc_plan.specs.declared.choice.Choice.{Choice}
 use Rattle.cc_plan.specs.declared.settings.BuildConfig.{BuildConfig}
 
@@ -58,13 +64,51 @@ PlanAsks set env look q = WordAsks (planned set env look) (asked_words (planned 
 unfoldable pub SupportAsks : BuildConfig → EnvSeen → List ℕ → Look → Question → Type 0
 SupportAsks set env flag look q = ToolAsks set env look q ⊎ (q ≡ flag_question (bare_of (planned set env look) look) flag)
 
+-- the target is one of WebAssembly
+abbrev pub IsForWasm : BuildConfig → EnvSeen → Type 0
+IsForWasm set env = is_wasm (target_info set env) ≡ true
+
+-- where the compiler looks for programs
+abbrev pub IsOnSearch : BuildConfig → EnvSeen → Look → Question → Type 0
+IsOnSearch set env look q = IsForWasm set env × (q ≡ search_question env (choice_of set env look).path)
+
+-- whether LLVM's tool prints its version
+abbrev pub IsOnLlvm : ArchiveTool → BuildConfig → EnvSeen → Question → Type 0
+IsOnLlvm tool set env q = IsForAndroid set env × (q ≡ llvm_question tool env)
+
+-- whether a tool behind a prefix does: the GNU tools' own, or GCC's
+abbrev pub IsOnPrefixed : ArchiveTool → EnvSeen → List ℕ → Question → Type 0
+IsOnPrefixed tool env prefix q =
+    (q ≡ version_question env.inherited (plain_name tool prefix)) ⊎ (q ≡ version_question env.inherited (gcc_name tool prefix))
+
+-- the same behind that of the target, which is another than the host
+abbrev pub IsOnCross : ArchiveTool → BuildConfig → EnvSeen → Look → Question → Type 0
+IsOnCross tool set env look q = (prefix : List ℕ) × ((cross_prefix set env look ≡ Some prefix) × IsOnPrefixed tool env prefix q)
+
+-- one that finds a tool of archives: for a file, or one that finds the compiler; where it looks for programs; or whether a program prints its version
+unfoldable pub ArchiveToolAsks : ArchiveTool → BuildConfig → EnvSeen → Look → Question → Type 0
+ArchiveToolAsks tool set env look q =
+    ToolAsks set env look q ⊎ (IsOnSearch set env look q ⊎ (IsOnLlvm tool set env q ⊎ IsOnCross tool set env look q))
+
 -- one that is asked to find the archiver
 unfoldable pub ArchiverAsks : BuildConfig → EnvSeen → Look → Question → Type 0
-ArchiverAsks set env look q = ToolAsks set env look q
+ArchiverAsks set env look q = ArchiveToolAsks Archiver set env look q
+
+-- one that is asked to find the tool that writes an archive's index
+unfoldable pub RanlibAsks : BuildConfig → EnvSeen → Look → Question → Type 0
+RanlibAsks set env look q = ArchiveToolAsks Ranlib set env look q
+
+-- one that is asked for the C++ library: one that the plan of the tool asks, or the one on its library
+unfoldable pub LibraryAsks : BuildConfig → EnvSeen → Look → Question → Type 0
+LibraryAsks set env look q = PlanAsks set env look q ⊎ (q ≡ libcxx_question (tool_of set env look))
+
+-- the C++ library that is linked is the compiler's
+abbrev pub IsSought : BuildConfig → EnvSeen → Type 0
+IsSought set env = (links_cpp set ≡ true) × (given_library set env ≡ None) × (may_ask set env ≡ true)
 
 -- one that is asked for the link lines
 unfoldable pub LinkAsks : BuildConfig → EnvSeen → Look → Question → Type 0
-LinkAsks set env look q = PlanAsks set env look q
+LinkAsks set env look q = IsSought set env × LibraryAsks set env look q
 
 -- one that a run asks: for the commands that compile, for those that archive, or for the link lines
 unfoldable pub RunAsks : BuildConfig → EnvSeen → Look → Question → Type 0

@@ -1,22 +1,28 @@
 -- What settings and snapshot are refused for. The answer is that of the first part which doesn't hold, in the order of the definitions.
-use Rattle.std.specs.Prelude.{◌≡◌, ◌⊎◌, Result, OnOk, IfErr, ℕ, ◌+◌, List, [], ◌∷◌, ◌++◌, length, map, Bool, Option, Some, None, is_none, unwrap_or, true, false, codes, bytes_eq, if◌then◌else◌}
+use Rattle.std.specs.Prelude.{◌≡◌, ◌⊎◌, Result, OnOk, IfErr, ℕ, ◌+◌, List, [], ◌∷◌, ◌++◌, length, map, Bool, ◌&&◌, Option, Some, None, is_none, unwrap_or, true, false, codes, bytes_eq, if◌then◌else◌}
 use Rattle.std.specs.Option.{option_map}
 use Rattle.std.specs.Path.{path_file_name, path_join}
 use Rattle.cc_plan.specs.Added.{added_refusal}
 use Rattle.cc_plan.specs.Names.{is_output_name, library_file}
 use Rattle.cc_env.specs.Env.{EnvSeen}
+use Rattle.cc_env.specs.Snapshot.{last_value}
+use Rattle.cc_flags.specs.DefaultWords.{is_wasm_linux}
 use Rattle.cc_host.specs.Question.{Look}
-use Rattle.cc_target.specs.Targets.{is_known}
+use Rattle.cc_target.specs.Targets.{Info, is_known}
+use Rattle.cc_plan.specs.ArchiveTool.{lacks_qnx_arch, set_program, variable_tool}
 use Rattle.cc_plan.specs.Given.{out_dir_of, target_of, host_of, level_of}
 use Rattle.cc_plan.specs.Object.{object_path}
 use Rattle.cc_plan.specs.Compiler.{compiler_of}
 use Rattle.cc_plan.specs.Inherited.{inherited_refusal}
+use Rattle.cc_plan.specs.Target.{target_info}
 use Rattle.cc_plan.specs.Tool.{defaults_refusal_by}
+use Rattle.cc_plan.specs.declared.archive_tool.ArchiveTool.{ArchiveTool}
+use Rattle.cc_plan.specs.declared.archive_tool.ArchiveTool.TheVariants.{Archiver, Ranlib}
 use Rattle.cc_plan.specs.declared.compiler.Compiler.{Compiler}
 use Rattle.cc_plan.specs.declared.error.ArgumentCause.{ArgumentCause}
 use Rattle.cc_plan.specs.declared.error.ArgumentCause.TheVariants.{Output, OutDir, NoFileName, SameObject}
 use Rattle.cc_plan.specs.declared.error.PlanError.{PlanError}
-use Rattle.cc_plan.specs.declared.error.PlanError.TheVariants.{Argument, NotSet, UnknownTarget, NoMemory}
+use Rattle.cc_plan.specs.declared.error.PlanError.TheVariants.{Argument, NotSet, UnknownTarget, QnxArch, NoMemory}
 use Rattle.cc_plan.specs.declared.settings.BuildConfig.{BuildConfig}
 
 -- the place of the first equal text, where the first of them counts as n
@@ -106,13 +112,51 @@ is_empty (s ∷ ss) = false
 unfoldable pub late_refusal : BuildConfig → EnvSeen → Look → Option PlanError
 late_refusal set env look = if is_empty set.files then platform_refusal set env else tool_refusal set env look
 
+-- what names of QNX's tools of archives want: one for the architecture
+unfoldable pub qnx_arch_refusal : Info → Option PlanError
+qnx_arch_refusal target = if lacks_qnx_arch target then Some (QnxArch target.full_arch) else None
+
+-- what the choice of a tool of archives wants, where the settings name none: a known target and, where the environment names none either, its name
+abbrev pub found_refusal : ArchiveTool → BuildConfig → EnvSeen → Look → Option PlanError
+found_refusal tool set env look = if is_none (variable_tool tool set env look) then qnx_arch_refusal (target_info set env) else None
+
+abbrev pub known_refusal : ArchiveTool → BuildConfig → EnvSeen → Look → Option PlanError
+known_refusal tool set env look = first_of (target_refusal (target_of set env)) (found_refusal tool set env look)
+
+abbrev pub choice_refusal : ArchiveTool → BuildConfig → EnvSeen → Look → Option PlanError
+choice_refusal tool set env look = if is_none (set_program tool set) then known_refusal tool set env look else None
+
+-- what flags of the environment want: the target and the host, which they are looked up by
+unfoldable pub look_up_refusal : BuildConfig → EnvSeen → Option PlanError
+look_up_refusal set env = first_of (unset (codes "TARGET") (target_of set env)) (unset (codes "HOST") (host_of set env))
+
+-- what a tool of archives wants: its choice, and then its flags
+abbrev pub archive_tool_refusal : ArchiveTool → BuildConfig → EnvSeen → Look → Option PlanError
+archive_tool_refusal tool set env look = first_of (choice_refusal tool set env look) (look_up_refusal set env)
+
 -- what the archiver wants, after the commands that compile were run
 unfoldable pub archiver_refusal : BuildConfig → EnvSeen → Look → Option PlanError
-archiver_refusal set env look = None
+archiver_refusal set env look = archive_tool_refusal Archiver set env look
+
+-- what the tool that writes an archive's index wants
+unfoldable pub ranlib_refusal : BuildConfig → EnvSeen → Look → Option PlanError
+ranlib_refusal set env look = archive_tool_refusal Ranlib set env look
+
+-- lines for a library of C++ are wanted
+abbrev pub links_cpp : BuildConfig → Bool
+links_cpp set = set.cargo_metadata && set.cpp
+
+-- the variable of the sysroot that WebAssembly's threads want
+abbrev pub musl_variable : List ℕ
+musl_variable = codes "WASM_MUSL_SYSROOT"
+
+-- a library of C++ for WebAssembly's threads is linked with what the sysroot has
+unfoldable pub cpp_refusal : BuildConfig → EnvSeen → Option PlanError
+cpp_refusal set env = if links_cpp set && is_wasm_linux (target_info set env) then unset musl_variable (last_value env.inherited musl_variable) else None
 
 -- what the link lines want, after the library was written
 unfoldable pub link_refusal : BuildConfig → EnvSeen → Look → Option PlanError
-link_refusal set env look = None
+link_refusal set env look = cpp_refusal set env
 
 -- on Ok nothing is refused
 abbrev pub AllowedBy : {X : Type 0} → Option PlanError → Result X PlanError → Type 0

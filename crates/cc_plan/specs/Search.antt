@@ -38,3 +38,7 @@ first_there look paths = find (is_there look) paths
 -- where a tool is, which a shell would find
 abbrev pub which : EnvSeen → List ℕ → Look → Option (List ℕ)
 which env tool look = first_there look (places_of (path_folders env) tool)
+
+-- where a tool is in the folders of a list
+abbrev pub which_in : List ℕ → List ℕ → Look → Option (List ℕ)
+which_in list tool look = first_there look (places_of (folders_of list) tool)

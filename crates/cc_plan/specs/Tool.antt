@@ -18,6 +18,7 @@ use Rattle.cc_plan.specs.ToolWords.{rust_words, trimmed, remapped, tool_words, t
 use Rattle.cc_plan.specs.declared.compiler.Compiler.{Compiler}
 use Rattle.cc_plan.specs.declared.error.PlanError.{PlanError}
 use Rattle.cc_plan.specs.declared.settings.BuildConfig.{BuildConfig}
+use Rattle.cc_plan.specs.declared.tool.Unmarked.{Unmarked}
 
 -- messages of the compiler are not translated
 abbrev pub language_variable : ToolFamily → List ℕ × List ℕ
@@ -50,6 +51,10 @@ link_warning warns = when warns (codes "Ignoring linker flags after /link" ∷ [
 unfoldable pub link_warnings : BuildConfig → EnvSeen → ToolFamily → Bool → List (List ℕ)
 link_warnings set env family is_first =
     link_warning (leaves_off family set.flags (environment_flags set env) && (set.repeat_lines || is_first))
+
+-- warnings with that one, where the call is the first or not
+abbrev pub marked_by : BuildConfig → Unmarked → Bool → List (List ℕ)
+marked_by set unmarked is_first = unmarked.warnings ++ link_warning (unmarked.leaves_off && (set.repeat_lines || is_first))
 
 -- how the family of the compiler was found
 abbrev pub detected_warnings : Compiler → List (List ℕ)

@@ -4,6 +4,7 @@ use Rattle.std.specs.List.{AllByRecursion, list_all}
 use Rattle.std.specs.Path.{path_file_name, path_components}
 use Rattle.cc_plan.specs.Names.{is_output_name}
 use Rattle.cc_env.specs.Env.{EnvSeen}
+use Rattle.cc_env.specs.Snapshot.{last_value}
 use Rattle.cc_host.specs.Question.{Look}
 use Rattle.cc_target.specs.Targets.{is_known}
 use Rattle.cc_text.specs.Families.{is_gnu_like}
@@ -11,11 +12,14 @@ use Rattle.cc_flags.specs.DefaultWords.{is_qnx, qnx_variant, is_wasm_linux}
 use Rattle.cc_flags.specs.Fields.{is_invalid}
 use Rattle.cc_flags.specs.Pairs.{pairs_of}
 use Rattle.cc_plan.specs.Given.{out_dir_of, target_of, host_of, level_of, is_disabled, has_no_defaults}
-use Rattle.cc_plan.specs.Refusal.{is_empty, object_in, library_in}
+use Rattle.cc_plan.specs.Refusal.{is_empty, object_in, library_in, links_cpp, musl_variable}
+use Rattle.cc_plan.specs.ArchiveTool.{qnx_arch, variable_tool}
 use Rattle.cc_plan.specs.Compilation.{CompilationSeen}
 use Rattle.cc_plan.specs.Inherited.{inherited_text}
 use Rattle.cc_plan.specs.Planned.{planned}
 use Rattle.cc_plan.specs.ToolWords.{names_target, musl_sysroot}
+use Rattle.cc_plan.specs.Target.{target_info}
+use Rattle.cc_plan.specs.declared.archive_tool.ArchiveTool.TheVariants.{Archiver}
 use Rattle.cc_plan.specs.declared.settings.BuildConfig.{BuildConfig}
 
 -- a text is none of these
@@ -45,6 +49,11 @@ HasVariant c = is_gnu_like c.compiler.family ≡ true → is_qnx c.target ≡ tr
 abbrev pub HasSysroot : CompilationSeen → Type 0
 HasSysroot c = names_target c ≡ true → is_wasm_linux c.target ≡ true → IsSome (musl_sysroot c)
 
+-- where neither the settings nor the environment name an archiver, that of QNX has a name for the architecture
+abbrev pub HasArchiver : BuildConfig → EnvSeen → Look → Type 0
+HasArchiver set env look =
+    set.archiver ≡ None → variable_tool Archiver set env look ≡ None → is_qnx (target_info set env) ≡ true → IsSome (qnx_arch (target_info set env))
+
 -- each of these flags of Rust code has the value that it needs
 abbrev pub Parse : Option (List ℕ) → Type 0
 Parse None = Unit {0}
@@ -65,5 +74,8 @@ pub record Valid (set : BuildConfig) (env : EnvSeen) (look : Look) (output : Lis
   -- what the words of the target need is there, unless they are left out
   pub variant : is_empty set.files ≡ false → has_no_defaults set env ≡ false → HasVariant (planned set env look)
   pub sysroot : is_empty set.files ≡ false → has_no_defaults set env ≡ false → HasSysroot (planned set env look)
+  pub archiver : HasArchiver set env look
+  -- and so is the sysroot with which a library of C++ is linked
+  pub linked : links_cpp set ≡ true → is_wasm_linux (target_info set env) ≡ true → IsSome (last_value env.inherited musl_variable)
   -- the flags of Rust code parse, where they are read
   pub rustflags : is_empty set.files ≡ false → Parse (inherited_text set.inherit_rustflags env.inherited)

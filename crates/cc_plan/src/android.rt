@@ -32,7 +32,7 @@ fn kit_compiler(name: &str) -> Option<&'static str>
 }
 
 // The text with another in place of each needle, which has a byte.
-fn replaced(alloc: Global, text: &str, needle: &str, to: &str) -> Mem<Text>
+pub(crate) fn replaced(alloc: Global, text: &str, needle: &str, to: &str) -> Mem<Text>
     requires { needle.now ≢ [] }
     ensures { IfOk result (λ out. out ≡ spec.replaced needle.now to.now text.now) }
 {

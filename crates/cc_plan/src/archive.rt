@@ -1,13 +1,17 @@
 // The archiver, and the archive and index commands.
 ghost use Rattle.std.specs.Prelude.{◌≡◌, [], ◌∷◌, ◌++◌, map, take, Bool, true, false, IfOk, IfErr, if◌then◌else◌};
-ghost use Rattle.cc_plan.specs.Archive.{archiver_of, archiver_program, archiver_flags, archiver_cmd, archive_env, with_words as worded, timeless, adding, archive_of, archives_by, archives_of, index_of, plain_index_of, indexes_of, paths_of};
-ghost use Rattle.cc_plan.specs.Asking.{AsksForArchiver, SettledIn, AllowedIn, RefusedIn};
-ghost use Rattle.cc_plan.specs.Refusal.{archiver_refusal};
+ghost use Rattle.cc_plan.specs.Archive.{archiver_of, archiver_by, has_words, archive_tool_cmd, ranlib_flags, ranlib_cmd_of, archive_env, with_words as worded, timeless, adding, archive_of, archives_by, archives_of, index_of, plain_index_of, indexes_of, paths_of};
+ghost use Rattle.cc_plan.specs.ArchiveTool.{archive_tool};
+ghost use Rattle.cc_plan.specs.Asking.{AsksForArchiver, AsksForRanlib, AsksForEither, SettledIn, AllowedIn, RefusedIn};
+ghost use Rattle.cc_plan.specs.Refusal.{AllowedBy, RefusedBy, look_up_refusal, archive_tool_refusal, archiver_refusal, ranlib_refusal};
 
-use crate::{BuildConfig, Object, PlanError, Sight, batches, variable_flags};
+use crate::archive_tool::{ArchiveTool, archive_tool};
+use crate::{
+    BuildConfig, Choice, Object, PlanError, Sight, batches, host_of, target_of, variable_flags,
+};
 use cc_env::BuildEnv;
 use cc_host::{Command, Host, World};
-use cc_text::{Mem, Vars, Words};
+use cc_text::{Mem, Text, Vars, Words};
 use std::alloc::Global;
 use std::slice;
 use std::sync::Wait;
@@ -15,44 +19,103 @@ use std::sync::Wait;
 /// An archiver.
 #[derive(Drop, Debug)]
 pub struct Archiver {
-    /// Its command up to the words of a form: the program with the flags that it is always given, in the environment of a child.
+    /// Its command up to the words of a form: the program with the words behind its name in `AR` and the flags that it is always given, in the
+    /// environment of a child.
     pub cmd: Command,
+    /// Its name, by which it takes words in one form or another: the program.
+    pub name: Text,
+    /// Whether a variable of `ARFLAGS` is set, or a flag.
+    pub any_flags: bool,
+    /// Whether there are words behind its name in `AR`.
+    pub any_args: bool,
 }
 
-// The set archiver, else `ar`.
-fn archiver_program(set: &BuildConfig) -> &str
-    ensures { result.now ≡ archiver_program set.now }
+// The command of a tool of archives.
+fn tool_command(alloc: Global, env: &BuildEnv, choice: &Choice, flags: &Words) -> Mem<Command>
+    ensures { IfOk result (λ cmd. cmd ≡ archive_tool_cmd env.now choice.now flags.now) }
 {
-    match &set.archiver {
-        Some(archiver) => archiver.as_str(),
-        None => "ar",
-    }
-}
-
-// The words before those of a form: the flags of the variables, and then the set ones.
-#[tactic(auto, unfolding(crate::specs::Archive::archiver_flags))]
-fn archiver_flags(alloc: Global, set: &BuildConfig, env: &BuildEnv) -> Mem<Words>
-    ensures { IfOk result (λ flags. flags ≡ archiver_flags set.now env.now) }
-{
-    let mut flags = variable_flags(alloc, set, env, "ARFLAGS")?.unwrap_or(Words::new(alloc));
-    flags.extend(&set.ar_flags)?;
-    Ok(flags)
-}
-
-fn archiver_command(alloc: Global, set: &BuildConfig, env: &BuildEnv) -> Mem<Command>
-    ensures { IfOk result (λ cmd. cmd ≡ archiver_cmd set.now env.now) }
-{
-    let mut cmd = Command::new(alloc, archiver_program(set))?;
-    cmd.args(&archiver_flags(alloc, set, env)?)?;
+    let mut cmd = Command::new(alloc, choice.path.as_str())?;
+    cmd.args(&choice.words)?;
+    cmd.args(flags)?;
     cmd.envs(&env.child_vars(alloc)?)?;
     Ok(cmd)
 }
 
-/// The archiver of these settings in this environment: the set one, else `ar`, with the flags of `ARFLAGS`, which is looked up as
-/// `CFLAGS` is, and the set ones. It asks, and prints nothing.
+fn has_words(words: &Words) -> bool
+    ensures { result ≡ has_words words.now }
+{
+    match words.as_slice() {
+        [] => false,
+        [_, ..] => true,
+    }
+}
+
+// The archiver of a choice: the flags of the variables, and then the set ones.
+#[tactic(auto, unfolding(crate::specs::Archive::archiver_flags, crate::specs::Archive::has_flags))]
+fn archiver_by(alloc: Global, set: &BuildConfig, env: &BuildEnv, choice: &Choice) -> Mem<Archiver>
+    ensures { IfOk result (λ archiver. archiver ≡ archiver_by set.now env.now choice.now) }
+{
+    let listed = variable_flags(alloc, set, env, "ARFLAGS")?;
+    let any_flags = listed.is_some() || has_words(&set.ar_flags);
+    let mut flags = listed.unwrap_or(Words::new(alloc));
+    flags.extend(&set.ar_flags)?;
+    Ok(Archiver {
+        cmd: tool_command(alloc, env, choice, &flags)?,
+        name: choice.path.try_clone()?,
+        any_flags,
+        any_args: has_words(&choice.words),
+    })
+}
+
+#[tactic(auto, unfolding(crate::specs::Archive::ranlib_flags))]
+fn ranlib_flags(alloc: Global, set: &BuildConfig, env: &BuildEnv) -> Mem<Words>
+    ensures { IfOk result (λ flags. flags ≡ ranlib_flags set.now env.now) }
+{
+    Ok(variable_flags(alloc, set, env, "RANLIBFLAGS")?.unwrap_or(Words::new(alloc)))
+}
+
+// The target and the host are set, which flags of the environment are looked up by.
+#[tactic(auto, unfolding(crate::specs::Refusal::look_up_refusal))]
+fn check_look_up(alloc: Global, set: &BuildConfig, env: &BuildEnv) -> Result<(), PlanError>
+    ensures allowed { AllowedBy (look_up_refusal set.now env.now) result }
+    ensures refused { RefusedBy (look_up_refusal set.now env.now) result }
+{
+    if target_of(set, env).is_none() {
+        return Err(PlanError::NotSet(Text::of(alloc, "TARGET")?));
+    }
+    if host_of(set, env).is_none() {
+        return Err(PlanError::NotSet(Text::of(alloc, "HOST")?));
+    }
+    Ok(())
+}
+
+// A tool of archives, whose flags can be looked up.
+fn tool_with_flags<W: World, H: Host<W>>(
+    rt: &impl Wait,
+    tool: ArchiveTool,
+    alloc: Global,
+    set: &BuildConfig,
+    env: &BuildEnv,
+    sight: &mut Sight<'_, W, H>,
+) -> Result<Choice, PlanError>
+    ensures asks { AsksForEither W.steady W.answer H.log H.patience tool set.now env.now
+        sight.old sight.new }
+    ensures settles { SettledIn sight.new (archive_tool tool set.now env.now) result }
+    ensures allowed { AllowedIn sight.new (archive_tool_refusal tool set.now env.now) result }
+    ensures refused { RefusedIn sight.new (archive_tool_refusal tool set.now env.now) result }
+{
+    let choice = archive_tool(rt, tool, alloc, set, env, sight)?;
+    check_look_up(alloc, set, env)?;
+    Ok(choice)
+}
+
+/// The archiver of these settings in this environment: the set one, else that of `AR`, which is looked up as `CC` is, with its words, else the
+/// one that the target wants. Behind the words are the flags of `ARFLAGS`, which is looked up as `CFLAGS` is, and the set ones. It asks,
+/// and prints nothing.
 ///
-/// Only want of memory refuses. The answers until then stay in the sight.
-#[tactic(auto, using(crate::proofs::AskingLemmas::only_none), unfolding(crate::specs::Refusal::archiver_refusal, crate::specs::Archive::archiver_of))]
+/// Refused where the settings name none and the target isn't known, or is QNX on an architecture for which its tools have no name and `AR`
+/// names none; then where the target or the host is set nowhere; and for memory. The answers until then stay in the sight.
+#[tactic(auto, unfolding(crate::specs::Refusal::archiver_refusal, crate::specs::Archive::archiver_of))]
 pub fn archiver_of<W: World, H: Host<W>>(
     rt: &impl Wait,
     alloc: Global,
@@ -66,9 +129,31 @@ pub fn archiver_of<W: World, H: Host<W>>(
     ensures allowed { AllowedIn sight.new (archiver_refusal set.now env.now) result }
     ensures refused { RefusedIn sight.new (archiver_refusal set.now env.now) result }
 {
-    let _ = (rt, &sight);
-    let cmd = archiver_command(alloc, set, env)?;
-    Ok(Archiver { cmd })
+    let choice = tool_with_flags(rt, ArchiveTool::Archiver, alloc, set, env, sight)?;
+    let archiver = archiver_by(alloc, set, env, &choice)?;
+    Ok(archiver)
+}
+
+/// The command of the tool that writes an archive's index, in the environment of a child: the set one, else that of `RANLIB`, else the one that
+/// the target wants, as the archiver is found; with the flags of `RANLIBFLAGS`. It asks, and prints nothing. It is refused as the archiver is.
+#[tactic(auto, unfolding(crate::specs::Refusal::ranlib_refusal, crate::specs::Archive::ranlib_cmd_of))]
+pub fn ranlib_of<W: World, H: Host<W>>(
+    rt: &impl Wait,
+    alloc: Global,
+    set: &BuildConfig,
+    env: &BuildEnv,
+    sight: &mut Sight<'_, W, H>,
+) -> Result<Command, PlanError>
+    ensures asks { AsksForRanlib W.steady W.answer H.log H.patience set.now env.now
+        sight.old sight.new }
+    ensures settles { SettledIn sight.new (ranlib_cmd_of set.now env.now) result }
+    ensures allowed { AllowedIn sight.new (ranlib_refusal set.now env.now) result }
+    ensures refused { RefusedIn sight.new (ranlib_refusal set.now env.now) result }
+{
+    let choice = tool_with_flags(rt, ArchiveTool::Ranlib, alloc, set, env, sight)?;
+    let flags = ranlib_flags(alloc, set, env)?;
+    let cmd = tool_command(alloc, env, &choice, &flags)?;
+    Ok(cmd)
 }
 
 // The environment of a command that writes no times into members.

@@ -37,7 +37,7 @@ pub struct Choice {
 }
 
 // A tool alone.
-fn bare(alloc: Global, path: &str) -> Mem<Choice>
+pub(crate) fn bare(alloc: Global, path: &str) -> Mem<Choice>
     ensures { IfOk result (λ choice. choice ≡ spec.bare path.now) }
 {
     Ok(Choice {
@@ -48,7 +48,7 @@ fn bare(alloc: Global, path: &str) -> Mem<Choice>
 }
 
 #[tactic(auto, unfolding(crate::specs::Choice::is_wasm))]
-fn is_wasm(target: &TargetInfo) -> bool
+pub(crate) fn is_wasm(target: &TargetInfo) -> bool
     ensures { result ≡ spec.is_wasm (info_seen target.now) }
 {
     target.arch == "wasm32" || target.arch == "wasm64"
@@ -187,7 +187,7 @@ fn default_compiler<W: World, H: Host<W>>(
 
 // The prefix of compilers for another target than the host.
 #[tactic(auto, using(crate::proofs::AskingLemmas::only_none))]
-fn cross_prefix<W: World, H: Host<W>>(
+pub(crate) fn cross_prefix<W: World, H: Host<W>>(
     rt: &impl Wait,
     inputs: &Inputs<'_>,
     sight: &mut Sight<'_, W, H>,

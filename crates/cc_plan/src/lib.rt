@@ -9,6 +9,9 @@
 mod added;
 mod android;
 mod archive;
+mod archive_asks;
+mod archive_names;
+mod archive_tool;
 mod batch;
 mod blanks;
 mod choice;
@@ -32,11 +35,14 @@ mod printing;
 mod search;
 mod settings;
 mod sight;
+mod stdlib;
 mod support;
 mod tool;
 mod words;
 
-pub use archive::{Archiver, archive_commands, archived_paths, archiver_of, index_commands};
+pub use archive::{
+    Archiver, archive_commands, archived_paths, archiver_of, index_commands, ranlib_of,
+};
 pub use batch::batches;
 pub use choice::Choice;
 pub use compile::compile_command;

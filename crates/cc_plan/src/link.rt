@@ -1,10 +1,13 @@
 // The link lines.
-ghost use Rattle.std.specs.Prelude.{◌≡◌, IfOk};
+ghost use Rattle.std.specs.Prelude.{◌≡◌, ◌++◌, IfOk, OnOk};
 ghost use Rattle.cc_host.specs.Question.{Settles};
 ghost use Rattle.cc_plan.specs.Asking.{AsksForLinks, AllowedIn, RefusedIn};
-ghost use Rattle.cc_plan.specs.Link.{modifiers_part, library_line, search_line, always, link_lines};
-ghost use Rattle.cc_plan.specs.Refusal.{link_refusal};
+ghost use Rattle.cc_plan.specs.Link.{modifiers_part, library_line, search_line, always, library_lines, lines_by, link_lines};
+ghost use Rattle.cc_plan.specs.Refusal.{link_refusal, links_cpp as wants_cpp};
+ghost use Rattle.cc_plan.specs.Stdlib.{cpp_lines};
+ghost use Rattle.cc_text.specs.Words.{when};
 
+use crate::stdlib::{check_cpp, linked_library, links_cpp, push_cpp_lines};
 use crate::{BuildConfig, PlanError, Sight};
 use cc_env::BuildEnv;
 use cc_host::{Host, World};
@@ -60,13 +63,70 @@ fn always(text: Text) -> LinkLine
     LinkLine { text, once: false }
 }
 
+// The lines for the library and its folder, where they are wanted.
+fn push_library_lines(
+    lines: &mut Vec<LinkLine>,
+    alloc: Global,
+    set: &BuildConfig,
+    name: &str,
+    dir: &str,
+) -> Mem<()>
+    ensures { OnOk result (lines.new.items
+        ≡ lines.old.items ++ library_lines set.now name.now dir.now) }
+{
+    if set.cargo_metadata {
+        lines.push(always(library_line(alloc, &set.link_lib_modifiers, name)?))?;
+        lines.push(always(search_line(alloc, dir)?))?;
+    }
+    Ok(())
+}
+
+// The lines for a C++ library, where they are wanted.
+fn push_wanted_cpp_lines(
+    lines: &mut Vec<LinkLine>,
+    alloc: Global,
+    set: &BuildConfig,
+    env: &BuildEnv,
+    library: &Option<Text>,
+) -> Mem<()>
+    ensures { OnOk result (lines.new.items
+        ≡ lines.old.items ++ when (wants_cpp set.now) (cpp_lines set.now env.now library.now)) }
+{
+    if links_cpp(set) {
+        push_cpp_lines(lines, alloc, set, env, library)?;
+    }
+    Ok(())
+}
+
+// The lines for a library that is linked with this C++ library.
+#[tactic(auto, unfolding(crate::specs::Link::lines_by))]
+fn lines_by(
+    alloc: Global,
+    set: &BuildConfig,
+    env: &BuildEnv,
+    name: &str,
+    dir: &str,
+    library: &Option<Text>,
+) -> Mem<Vec<LinkLine>>
+    ensures { IfOk result (λ lines.
+        lines.items ≡ lines_by set.now env.now name.now dir.now library.now) }
+{
+    let mut lines = Vec::new(alloc);
+    push_library_lines(&mut lines, alloc, set, name, dir)?;
+    push_wanted_cpp_lines(&mut lines, alloc, set, env, library)?;
+    Ok(lines)
+}
+
 /// The lines by which a build script asks Cargo to link a static library: its name behind the modifiers of the settings, and the folder
-/// that has it, without line feeds. None where the settings want none. It asks, and prints nothing. Only want of memory refuses.
+/// that has it, without line feeds; for C++ also the C++ library, and for WebAssembly the folder that has that one. None where the
+/// settings want none. It asks, and prints nothing. Refused where `WASM_MUSL_SYSROOT` isn't set and C++ for WebAssembly's threads wants
+/// it, and for memory.
 ///
-/// Cargo's book on build scripts has the forms, `cargo:rustc-link-lib=LIB` and `cargo:rustc-link-search=KIND=PATH`; the kind `native` has
-/// the folder searched for libraries alone, not for crates. A LIB is what rustc takes behind `-l`, `KIND:MODIFIERS=NAME`, where commas
-/// part the modifiers (rustc's book, "Command-line Arguments").
-#[tactic(auto, using(crate::proofs::AskingLemmas::only_none), unfolding(crate::specs::Refusal::link_refusal, crate::specs::Link::link_lines))]
+/// Cargo's book on build scripts has the forms, `cargo:rustc-link-lib=LIB`, `cargo:rustc-link-search=KIND=PATH` and
+/// `cargo:rustc-flags=FLAGS`; the kind `native` has the folder searched for libraries alone, not for crates. A LIB is what rustc takes
+/// behind `-l`, `KIND:MODIFIERS=NAME`, where commas part the modifiers; `-bundle` leaves a static library out of the crate's own file, so
+/// that the linker takes it (rustc's book, "Command-line Arguments").
+#[tactic(auto, unfolding(crate::specs::Refusal::link_refusal))]
 pub fn link_lines<W: World, H: Host<W>>(
     rt: &impl Wait,
     alloc: Global,
@@ -83,11 +143,8 @@ pub fn link_lines<W: World, H: Host<W>>(
     ensures allowed { AllowedIn sight.new (link_refusal set.now env.now) result }
     ensures refused { RefusedIn sight.new (link_refusal set.now env.now) result }
 {
-    let _ = (rt, env);
-    let mut lines = Vec::new(alloc);
-    if set.cargo_metadata {
-        lines.push(always(library_line(alloc, &set.link_lib_modifiers, name)?))?;
-        lines.push(always(search_line(alloc, dir)?))?;
-    }
+    let library = linked_library(rt, alloc, set, env, sight)?;
+    check_cpp(alloc, set, env)?;
+    let lines = lines_by(alloc, set, env, name, dir, &library)?;
     Ok(lines)
 }

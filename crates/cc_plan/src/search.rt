@@ -20,16 +20,24 @@ fn folders_of(alloc: Global, list: &str) -> Mem<Vec<&str>>
     Ok(folders)
 }
 
+// The folders of a list, as words.
+fn listed_folders(alloc: Global, list: &str) -> Mem<Words>
+    ensures { IfOk result (λ folders. folders ≡ spec.folders_of list.now) }
+{
+    let mut folders = Words::new(alloc);
+    folders.push_all(&folders_of(alloc, list)?)?;
+    Ok(folders)
+}
+
 // The folders in which a shell looks for programs.
 #[tactic(auto, unfolding(crate::specs::Search::path_folders))]
 pub(crate) fn path_folders(alloc: Global, env: &BuildEnv) -> Mem<Words>
     ensures { IfOk result (λ folders. folders ≡ spec.path_folders env.now) }
 {
-    let mut folders = Words::new(alloc);
-    if let Some(list) = env.inherited().get("PATH") {
-        folders.push_all(&folders_of(alloc, list)?)?;
+    match env.inherited().get("PATH") {
+        Some(list) => listed_folders(alloc, list),
+        None => Ok(Words::new(alloc)),
     }
-    Ok(folders)
 }
 
 // The tool is a path of two or more components.
@@ -100,6 +108,25 @@ pub(crate) fn which<W: World, H: Host<W>>(
     ensures settles { SettledIn sight.new (spec.which env.now tool.now) result }
 {
     let folders = path_folders(alloc, env)?;
+    let paths = places_of(alloc, folders.as_slice(), tool)?;
+    first_there(rt, alloc, set, env, paths.as_slice(), sight)
+}
+
+// Where a tool is in the folders of a list.
+#[tactic(auto, using(crate::proofs::AskingLemmas::only_none))]
+pub(crate) fn which_in<W: World, H: Host<W>>(
+    rt: &impl Wait,
+    alloc: Global,
+    set: &BuildConfig,
+    env: &BuildEnv,
+    list: &str,
+    tool: &str,
+    sight: &mut Sight<'_, W, H>,
+) -> Mem<Option<Text>>
+    ensures asks { AsksFor W.steady W.answer H.log H.patience set.now env.now sight.old sight.new }
+    ensures settles { SettledIn sight.new (spec.which_in list.now tool.now) result }
+{
+    let folders = listed_folders(alloc, list)?;
     let paths = places_of(alloc, folders.as_slice(), tool)?;
     first_there(rt, alloc, set, env, paths.as_slice(), sight)
 }

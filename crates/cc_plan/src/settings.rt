@@ -211,7 +211,7 @@ impl BuildConfig {
 }
 
 // A second text, equal to this one, or none.
-fn second(text: &Option<Text>) -> Mem<Option<Text>>
+pub(crate) fn second(text: &Option<Text>) -> Mem<Option<Text>>
     ensures { IfOk result (λ t. t ≡ text.now) }
 {
     match text {

@@ -1,5 +1,5 @@
 // The tool of a compile command: the compiler with the words and variables that all sources share.
-ghost use Rattle.std.specs.Prelude.{◌≡◌, ◌++◌, ◌&&◌, ◌||◌, IfOk, IfErr, OnOk, ◌⊎◌, Some};
+ghost use Rattle.std.specs.Prelude.{◌≡◌, ◌++◌, ◌&&◌, ◌||◌, Bool, IfOk, IfErr, OnOk, ◌⊎◌, Some};
 ghost use Rattle.std.specs.Option.{option_copied};
 ghost use Rattle.cc_host.specs.Question.{Settles};
 ghost use Rattle.cc_target.specs.Targets.{info_seen};
@@ -12,7 +12,7 @@ ghost use Rattle.cc_plan.specs.Refusal.{AllowedBy, RefusedBy, unset, target_refu
 ghost use Rattle.cc_plan.specs.Target.{target_info};
 ghost use Rattle.cc_plan.specs.Planned.{warnings_of, tool_of};
 ghost use Rattle.cc_plan.specs.Support.{compiler_refusal};
-ghost use Rattle.cc_plan.specs.Tool.{language_variable, gnu_warnings, lacks_by, lacks_of, detected_warnings, found_warnings, other_warnings, link_warning, warnings_by, wrapped_tool, tool_by};
+ghost use Rattle.cc_plan.specs.Tool.{language_variable, gnu_warnings, lacks_by, lacks_of, detected_warnings, found_warnings, other_warnings, link_warning, warnings_by, marked_by, wrapped_tool, tool_by};
 ghost use Rattle.cc_plan.specs.declared.error.PlanError.TheVariants.{NoMemory as WantsMemory, NotSet};
 
 use crate::compilation::{Compilation, Inputs};
@@ -48,6 +48,21 @@ pub(crate) struct Warned {
     pub warnings: Words,
 }
 
+/// Warnings, but for that of flags for the linker, and whether such flags are left off.
+#[derive(Drop, Debug)]
+pub(crate) struct Unmarked {
+    pub warnings: Words,
+    pub leaves_off: bool,
+}
+
+/// A tool with what it is for and what a user may be warned of.
+#[derive(Drop)]
+pub(crate) struct QuietPlan {
+    pub target: TargetInfo,
+    pub tool: Tool,
+    pub unmarked: Unmarked,
+}
+
 fn not_set(alloc: Global, name: &str) -> PlanError
     ensures { (result ≡ WantsMemory) ⊎ (result ≡ NotSet name.now) }
 {
@@ -58,7 +73,11 @@ fn not_set(alloc: Global, name: &str) -> PlanError
 }
 
 // A value that is set, or else the refusal by its variable.
-fn demand<'a>(alloc: Global, name: &str, value: Option<&'a str>) -> Result<&'a str, PlanError>
+pub(crate) fn demand<'a>(
+    alloc: Global,
+    name: &str,
+    value: Option<&'a str>,
+) -> Result<&'a str, PlanError>
     ensures value { IfOk result (λ text. option_copied value.entry ≡ Some text.now) }
     ensures allowed { AllowedBy (unset name.now (option_copied value.entry)) result }
     ensures refused { RefusedBy (unset name.now (option_copied value.entry)) result }
@@ -297,41 +316,54 @@ fn other_warnings(given: &Compilation<'_>, supported: &[Text]) -> Mem<Words>
     Ok(warnings)
 }
 
-// What a user is warned of.
+// What a user may be warned of.
 #[tactic(auto, unfolding(crate::specs::Tool::link_warnings))]
-fn warnings_by<W: World>(
+fn unmarked_by(given: &Compilation<'_>, supported: &[Text]) -> Mem<Unmarked>
+    ensures { IfOk result (λ unmarked. (is_first : Bool) →
+        marked_by given.now.set.now unmarked is_first
+        ≡ warnings_by (seen given.now) supported.now is_first) }
+{
+    let warnings = other_warnings(given, supported)?;
+    let leaves_off = leaves_off(given.alloc, given.set, given.env, given.compiler.family)?;
+    Ok(Unmarked {
+        warnings,
+        leaves_off,
+    })
+}
+
+// What a user is warned of, where the caches are asked whether the call is the first that warns of flags for the linker.
+fn marked<W: World>(
     rt: &impl Wait,
     caches: &Caches<W>,
-    given: &Compilation<'_>,
-    supported: &[Text],
+    set: &BuildConfig,
+    unmarked: Unmarked,
 ) -> Mem<Warned>
     ensures { IfOk result (λ warned.
-        warned.warnings ≡ warnings_by (seen given.now) supported.now warned.is_first) }
+        warned.warnings ≡ marked_by set.now unmarked warned.is_first) }
 {
-    let set = given.set;
-    let mut warnings = other_warnings(given, supported)?;
-    let leaves_off = leaves_off(given.alloc, set, given.env, given.compiler.family)?;
-    let is_first = is_first_warning(rt, caches, set, leaves_off);
-    push_link_warning(&mut warnings, set, leaves_off, is_first)?;
+    let mut warnings = unmarked.warnings;
+    let is_first = is_first_warning(rt, caches, set, unmarked.leaves_off);
+    push_link_warning(&mut warnings, set, unmarked.leaves_off, is_first)?;
     Ok(Warned { is_first, warnings })
 }
 
-/// The tool of these settings in this environment, with its target and its warnings. It asks, and prints nothing.
+/// The tool of these settings in this environment, with its target and what a user may be warned of. It asks, and prints nothing; the
+/// mark of the caches that flags for the linker were warned of stays.
 #[tactic(auto, using(crate::proofs::QuestionLemmas::chosen_at, crate::proofs::AskingLemmas::only_none))]
-pub(crate) fn plan_tool<W: World, H: Host<W>>(
+pub(crate) fn plan_quietly<W: World, H: Host<W>>(
     rt: &impl Wait,
     alloc: Global,
     set: &BuildConfig,
     env: &BuildEnv,
     sight: &mut Sight<'_, W, H>,
-) -> Result<ToolPlan, PlanError>
+) -> Result<QuietPlan, PlanError>
     ensures asks { AsksToPlan W.steady W.answer H.log H.patience set.now env.now
         sight.old sight.new }
     ensures info { IfOk result (λ plan. info_seen plan.target ≡ target_info set.now env.now) }
     ensures tool { IfOk result (λ plan. Settles sight.new.answers.now
         (tool_of set.now env.now) plan.tool) }
-    ensures warnings { IfOk result (λ plan. Settles sight.new.answers.now
-        (warnings_of set.now env.now plan.warned.is_first) plan.warned.warnings) }
+    ensures warnings { IfOk result (λ plan. (is_first : Bool) → Settles sight.new.answers.now
+        (warnings_of set.now env.now is_first) (marked_by set.now plan.unmarked is_first)) }
     ensures allowed { AllowedIn sight.new (tool_refusal set.now env.now) result }
     ensures refused { RefusedIn sight.new (tool_refusal set.now env.now) result }
     ensures own { IfErr result IsOwn }
@@ -358,10 +390,38 @@ pub(crate) fn plan_tool<W: World, H: Host<W>>(
     let supported = supported_words(rt, &given, sight)?;
     let supported = supported.as_slice();
     let tool = tool_by(&given, supported)?;
-    let warned = warnings_by(rt, sight.caches, &given, supported)?;
-    Ok(ToolPlan {
+    let unmarked = unmarked_by(&given, supported)?;
+    Ok(QuietPlan {
         target,
         tool,
+        unmarked,
+    })
+}
+
+/// The tool of these settings in this environment, with its target and its warnings. It asks, and prints nothing.
+pub(crate) fn plan_tool<W: World, H: Host<W>>(
+    rt: &impl Wait,
+    alloc: Global,
+    set: &BuildConfig,
+    env: &BuildEnv,
+    sight: &mut Sight<'_, W, H>,
+) -> Result<ToolPlan, PlanError>
+    ensures asks { AsksToPlan W.steady W.answer H.log H.patience set.now env.now
+        sight.old sight.new }
+    ensures info { IfOk result (λ plan. info_seen plan.target ≡ target_info set.now env.now) }
+    ensures tool { IfOk result (λ plan. Settles sight.new.answers.now
+        (tool_of set.now env.now) plan.tool) }
+    ensures warnings { IfOk result (λ plan. Settles sight.new.answers.now
+        (warnings_of set.now env.now plan.warned.is_first) plan.warned.warnings) }
+    ensures allowed { AllowedIn sight.new (tool_refusal set.now env.now) result }
+    ensures refused { RefusedIn sight.new (tool_refusal set.now env.now) result }
+    ensures own { IfErr result IsOwn }
+{
+    let plan = plan_quietly(rt, alloc, set, env, sight)?;
+    let warned = marked(rt, sight.caches, set, plan.unmarked)?;
+    Ok(ToolPlan {
+        target: plan.target,
+        tool: plan.tool,
         warned,
     })
 }

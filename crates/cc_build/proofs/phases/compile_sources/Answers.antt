@@ -1,31 +1,48 @@
-use Rattle.std.proofs.Common.{rules, ◌≡◌, ◌⊎◌, ◌+◌, ◌<◌, ◌^◌, [], unwrap_or, IfOk, IfErr, ℕ, ◌-◌, ◌*◌, ◌≤◌, length, ◌/◌, ◌%◌, Bool, true, false, nat_eq, nat_lt, List, ◌∷◌, ◌++◌, slice_index_or, slice_set, bit_and, bit_or, Fits, w8, w32, w64, Bor, MutBor}
-use Rattle.std.specs.Path.{path_parent}
-use Rattle.cc_host.specs.Call.{part}
-use Rattle.cc_host.specs.Question.{Holds}
-use Rattle.cc_plan.specs.Link.{printed_links}
-use Rattle.cc_plan.specs.Names.{library_name}
-use Rattle.cc_plan.specs.Plan.{objects_of, library_of, prints}
-use Rattle.cc_plan.specs.Refusal.{late_refusal, archiver_refusal, link_refusal}
-use Rattle.cc_run.specs.Keeping.{IsIdle}
+use Rattle.std.proofs.Common.{◌≡◌, ◌∙◌, ◌∷◌, ◌++◌, [], List, None, Ok, Err, true, false, refl, sym, ap, subst}
+use Rattle.std.proofs.lemmas.Result.{err_from_is_err_and}
+use Rattle.cc_host.specs.Part.{since}
+use Rattle.cc_plan.specs.Refusal.{late_refusal}
 use Rattle.cc_build.specs.Error.{no_memory}
-use Rattle.cc_build.specs.Kept.{AsksFor}
-use Rattle.cc_build.specs.Phases.{ByKnown, CompileEnds, LibraryEnds, LinkEnds}
-use Rattle.cc_build.specs.Questions.{Plans, Archives, Links, IsRefusedBy, AsksOnly}
-use Rattle.cc_build.specs.Refusal.{plan_error as error_of_plan}
+use Rattle.cc_build.specs.Kept.{left_at}
+use Rattle.cc_build.specs.Refusal.{plan_error}
 use Rattle.cc_build.specs.Seen.{stages_seen}
-use Rattle.cc_build.specs.Stage.{calls}
-use Rattle.cc_build.specs.Way.{Repeats}
-use Rattle.cc_host.specs.declared.event.LineKind.TheVariants.{Link}
+use Rattle.cc_build.specs.Stage.Stage.{Asks}
+use Rattle.cc_build.specs.Went.{terms}
+use Rattle.cc_build.proofs.Going.{same_patience, asked_halted, phase_wanting}
+use Rattle.cc_build.proofs.Growing.{asking_before}
+use Rattle.cc_build.specs.Stage.{compile_stages}
+use Rattle.cc_build.proofs.PhaseLaws.{phase_done, plan_stages}
 use Rattle.cc_build.proofs.phases.compile_sources.Goals as goal
 
--- src/phases.rt:176:23
 pub returns-in-Err-clause-outcome : goal.returns-in-Err-clause-outcome
-returns-in-Err-clause-outcome g c = ?
+returns-in-Err-clause-outcome g c =
+    let old = g.H.Host.log c.args.host.now in
+    let total = g.J.Jobs.total c.args.seat.now in
+    let patience = g.H.Host.patience c.args.host.now in
+    let t = terms c.args.task.now.reporting.shows total patience in
+    let x = left_at g.J.Jobs.faults g.J.Jobs.taken g.J.Jobs.load c.args.turns.now c.args.seat.now in
+    let part = since old (g.H.Host.log c.plan_compiles.new.host) in
+    record {
+      under = λ look agree. (false, asked_halted t (plan_error c.args.task.now.set.now c.args.task.now.env.now c.args.task.now.output.now) (late_refusal c.args.task.now.set.now c.args.task.now.env.now look) (compile_stages c.args.task.now.set.now c.args.task.now.env.now false look) part c.in-Err.error x c.plan_compiles.ensures.quiet (c.in-Err.ensures.refused.under look agree));
+    }
 
--- src/phases.rt:150:1
 pub returns-clause-asks : goal.returns-clause-asks
-returns-clause-asks g c = ?
+returns-clause-asks g c = asking_before _ _ _ _ g.H.Host.log g.H.Host.patience c.args.host.now c.plan_compiles.new.host c.do_stages.new.host _ _ c.plan_compiles.ensures.asks c.do_stages.ensures.aside
 
--- src/phases.rt:150:1
 pub returns-clause-outcome : goal.returns-clause-outcome
-returns-clause-outcome g c = ?
+returns-clause-outcome g c =
+    let old = g.H.Host.log c.args.host.now in
+    let total = g.J.Jobs.total c.args.seat.now in
+    let patience = g.H.Host.patience c.args.host.now in
+    let t = terms c.args.task.now.reporting.shows total patience in
+    let x = left_at g.J.Jobs.faults g.J.Jobs.taken g.J.Jobs.load c.args.turns.now c.args.seat.now in
+    let mid = g.H.Host.log c.plan_compiles.new.host in
+    let new = g.H.Host.log c.do_stages.new.host in
+    let z = left_at g.J.Jobs.faults g.J.Jobs.taken g.J.Jobs.load c.do_stages.new.turns c.do_stages.new.seat in
+    record {
+      under = λ look agree.
+          let plan = c.in-Ok.ensures.planned.under look agree in
+          (c.in-Ok.plan.warns_of_link, phase_done t (plan_error c.args.task.now.set.now c.args.task.now.env.now c.args.task.now.output.now) (late_refusal c.args.task.now.set.now c.args.task.now.env.now look) (compile_stages c.args.task.now.set.now c.args.task.now.env.now c.in-Ok.plan.warns_of_link look) old mid new x c.plan_compiles.ensures.asks.extends c.do_stages.ensures.aside.extends c.plan_compiles.ensures.quiet plan.allowed (stages_seen c.deref.result.now) c.do_stages.result z
+          (plan_stages c.args.task.now c.in-Ok.plan look (stages_seen c.deref.result.now) (ap stages_seen c.deref.ensures.value ∙ c.in_ok-stages.ensures) plan)
+          (same_patience c.args.task.now.reporting.shows total (g.H.Host.patience c.plan_compiles.new.host) patience None (stages_seen c.deref.result.now) (since mid new) c.do_stages.result x z c.plan_compiles.ensures.asks.patient c.do_stages.ensures.outcome));
+    }

@@ -1,35 +1,26 @@
-use Rattle.std.proofs.Common.{rules, ◌≡◌, ◌⊎◌, ◌+◌, ◌<◌, ◌^◌, [], unwrap_or, IfOk, IfErr, ℕ, ◌-◌, ◌*◌, ◌≤◌, length, ◌/◌, ◌%◌, Bool, true, false, nat_eq, nat_lt, List, ◌∷◌, ◌++◌, slice_index_or, slice_set, bit_and, bit_or, Fits, w8, w32, w64, Bor, MutBor}
-use Rattle.std.specs.Path.{path_parent}
-use Rattle.cc_host.specs.Call.{part}
-use Rattle.cc_host.specs.Question.{Holds}
-use Rattle.cc_plan.specs.Link.{printed_links}
-use Rattle.cc_plan.specs.Names.{library_name}
-use Rattle.cc_plan.specs.Plan.{objects_of, library_of, prints}
-use Rattle.cc_plan.specs.Refusal.{late_refusal, archiver_refusal, link_refusal}
-use Rattle.cc_run.specs.Keeping.{IsIdle}
-use Rattle.cc_build.specs.Error.{no_memory}
-use Rattle.cc_build.specs.Kept.{AsksFor}
-use Rattle.cc_build.specs.Phases.{ByKnown, CompileEnds, LibraryEnds, LinkEnds}
-use Rattle.cc_build.specs.Questions.{Plans, Archives, Links, IsRefusedBy, AsksOnly}
-use Rattle.cc_build.specs.Refusal.{plan_error as error_of_plan}
-use Rattle.cc_build.specs.Seen.{stages_seen}
-use Rattle.cc_build.specs.Stage.{calls}
-use Rattle.cc_build.specs.Way.{Repeats}
-use Rattle.cc_host.specs.declared.event.LineKind.TheVariants.{Link}
+use Rattle.std.proofs.Common.{sym, arith}
+use Rattle.cc_plan.specs.Questions.{RunAsks}
+use Rattle.cc_plan.specs.Refusal.{late_refusal}
+use Rattle.cc_build.proofs.Asking.{plan_cause_under}
+use Rattle.cc_build.proofs.Growing.{asked_for, holds_at, of_plan}
 use Rattle.cc_build.proofs.phases.plan_compiles.Goals as goal
 
--- src/phases.rt:49:1
 pub returns-in-Ok-clause-asks : goal.returns-in-Ok-clause-asks
-returns-in-Ok-clause-asks g c = ?
+returns-in-Ok-clause-asks g c =
+    asked_for _ _ (RunAsks c.args.task.now.set.now c.args.task.now.env.now) g.H.Host.log g.H.Host.patience _ _ _ _ _ _ _ _ c.probe_folder.ensures c.plan_commands.ensures.asks.asks (of_plan c.args.task.now.set.now c.args.task.now.env.now _ _ c.plan_commands.ensures.asks.own) c.plan_commands.ensures.asks.patient (grind arith) (grind arith)
 
--- src/phases.rt:49:1
-pub returns-in-Ok-clause-planned : goal.returns-in-Ok-clause-planned
-returns-in-Ok-clause-planned g c = ?
-
--- src/phases.rt:49:1
 pub returns-in-Err-clause-asks : goal.returns-in-Err-clause-asks
-returns-in-Err-clause-asks g c = ?
+returns-in-Err-clause-asks g c =
+    asked_for _ _ (RunAsks c.args.task.now.set.now c.args.task.now.env.now) g.H.Host.log g.H.Host.patience _ _ _ _ _ _ _ _ c.probe_folder.ensures c.plan_commands.ensures.asks.asks (of_plan c.args.task.now.set.now c.args.task.now.env.now _ _ c.plan_commands.ensures.asks.own) c.plan_commands.ensures.asks.patient (grind arith) (grind arith)
 
--- src/phases.rt:49:1
+pub returns-in-Ok-clause-planned : goal.returns-in-Ok-clause-planned
+returns-in-Ok-clause-planned g c =
+    holds_at _ _ _ (grind arith) (λ look agree. record {
+      allowed = c.in-Ok.ensures.allowed.is look agree;
+      warnings = sym (c.in-Ok.ensures.warnings.is look agree);
+      compiles = sym (c.in-Ok.ensures.compiles.is look agree);
+    })
+
 pub returns-in-Err-clause-refused : goal.returns-in-Err-clause-refused
-returns-in-Err-clause-refused g c = ?
+returns-in-Err-clause-refused g c =
+    holds_at _ _ _ (grind arith) (λ look agree. plan_cause_under c.args.task.now.set.now c.args.task.now.env.now c.args.task.now.output.now c.in-Err.error c.refused.result _ (late_refusal c.args.task.now.set.now c.args.task.now.env.now) look agree c.refused.ensures c.in-Err.ensures.refused)

@@ -1,39 +1,76 @@
-use Rattle.std.proofs.Common.{rules, ◌≡◌, ◌⊎◌, ◌+◌, ◌<◌, ◌^◌, [], unwrap_or, IfOk, IfErr, ℕ, ◌-◌, ◌*◌, ◌≤◌, length, ◌/◌, ◌%◌, Bool, true, false, nat_eq, nat_lt, List, ◌∷◌, ◌++◌, slice_index_or, slice_set, bit_and, bit_or, Fits, w8, w32, w64, Bor, MutBor}
-use Rattle.std.specs.Path.{path_parent}
-use Rattle.cc_host.specs.Call.{part}
-use Rattle.cc_host.specs.Question.{Holds}
-use Rattle.cc_plan.specs.Link.{printed_links}
-use Rattle.cc_plan.specs.Names.{library_name}
-use Rattle.cc_plan.specs.Plan.{objects_of, library_of, prints}
-use Rattle.cc_plan.specs.Refusal.{late_refusal, archiver_refusal, link_refusal}
-use Rattle.cc_run.specs.Keeping.{IsIdle}
+use Rattle.std.proofs.Common.{◌≡◌, ◌∙◌, ◌∷◌, ◌++◌, [], List, None, Ok, Err, true, false, refl, sym, ap, subst}
+use Rattle.std.proofs.lemmas.Result.{err_from_is_err_and}
+use Rattle.cc_host.specs.Part.{since}
+use Rattle.cc_plan.specs.Refusal.{link_refusal}
 use Rattle.cc_build.specs.Error.{no_memory}
-use Rattle.cc_build.specs.Kept.{AsksFor}
-use Rattle.cc_build.specs.Phases.{ByKnown, CompileEnds, LibraryEnds, LinkEnds}
-use Rattle.cc_build.specs.Questions.{Plans, Archives, Links, IsRefusedBy, AsksOnly}
-use Rattle.cc_build.specs.Refusal.{plan_error as error_of_plan}
+use Rattle.cc_build.specs.Kept.{left_at}
+use Rattle.cc_build.specs.Refusal.{plan_error}
 use Rattle.cc_build.specs.Seen.{stages_seen}
-use Rattle.cc_build.specs.Stage.{calls}
-use Rattle.cc_build.specs.Way.{Repeats}
-use Rattle.cc_host.specs.declared.event.LineKind.TheVariants.{Link}
+use Rattle.cc_build.specs.Stage.Stage.{Asks}
+use Rattle.cc_build.specs.Went.{terms}
+use Rattle.cc_build.proofs.Going.{same_patience, asked_halted, phase_wanting}
+use Rattle.cc_build.proofs.Growing.{asking_before}
+use Rattle.cc_build.specs.Stage.{link_stages}
+use Rattle.cc_build.proofs.PhaseLaws.{phase_done, line_stages}
 use Rattle.cc_build.proofs.phases.print_links.Goals as goal
 
--- src/phases.rt:290:23
 pub returns-in-Err-clause-outcome : goal.returns-in-Err-clause-outcome
-returns-in-Err-clause-outcome g c = ?
+returns-in-Err-clause-outcome g c =
+    let old = g.H.Host.log c.args.host.now in
+    let total = g.J.Jobs.total c.args.seat.now in
+    let patience = g.H.Host.patience c.args.host.now in
+    let t = terms c.args.task.now.reporting.shows total patience in
+    let x = left_at g.J.Jobs.faults g.J.Jobs.taken g.J.Jobs.load c.args.turns.now c.args.seat.now in
+    let part = since old (g.H.Host.log c.plan_links.new.host) in
+    record {
+      under = λ look agree. (true, ((λ h. refl), asked_halted t (plan_error c.args.task.now.set.now c.args.task.now.env.now c.args.task.now.output.now) (link_refusal c.args.task.now.set.now c.args.task.now.env.now look) (link_stages c.args.task.now.set.now c.args.task.now.env.now look true c.args.task.now.output.now) part c.in-Err.error x c.plan_links.ensures.quiet (c.in-Err.ensures.refused.under look agree)));
+    }
 
--- src/phases.rt:292:20
 pub returns-in_err-is_first-clause-outcome : goal.returns-in_err-is_first-clause-outcome
-returns-in_err-is_first-clause-outcome g c = ?
+returns-in_err-is_first-clause-outcome g c =
+    let p = err_from_is_err_and c.from_residual.result c.from_residual.ensures.1 in
+    let old = g.H.Host.log c.args.host.now in
+    let total = g.J.Jobs.total c.args.seat.now in
+    let patience = g.H.Host.patience c.args.host.now in
+    let t = terms c.args.task.now.reporting.shows total patience in
+    let x = left_at g.J.Jobs.faults g.J.Jobs.taken g.J.Jobs.load c.args.turns.now c.args.seat.now in
+    let part = since old (g.H.Host.log c.plan_links.new.host) in
+    rw (p.1, p.2)
+    (record {
+      under = λ look agree. (true, ((λ h. refl), phase_wanting t (plan_error c.args.task.now.set.now c.args.task.now.env.now c.args.task.now.output.now) (link_refusal c.args.task.now.set.now c.args.task.now.env.now look) (link_stages c.args.task.now.set.now c.args.task.now.env.now look true c.args.task.now.output.now) part no_memory x c.plan_links.ensures.quiet refl));
+    })
 
--- src/phases.rt:293:18
 pub returns-in_err-stages-clause-outcome : goal.returns-in_err-stages-clause-outcome
-returns-in_err-stages-clause-outcome g c = ?
+returns-in_err-stages-clause-outcome g c =
+    let p = err_from_is_err_and c.from_residual-in_err-stages.result c.from_residual-in_err-stages.ensures.1 in
+    let old = g.H.Host.log c.args.host.now in
+    let total = g.J.Jobs.total c.args.seat.now in
+    let patience = g.H.Host.patience c.args.host.now in
+    let t = terms c.args.task.now.reporting.shows total patience in
+    let x = left_at g.J.Jobs.faults g.J.Jobs.taken g.J.Jobs.load c.args.turns.now c.args.seat.now in
+    let part = since old (g.H.Host.log c.plan_links.new.host) in
+    rw (p.1, p.2)
+    (record {
+      under = λ look agree. (true, ((λ h. refl), phase_wanting t (plan_error c.args.task.now.set.now c.args.task.now.env.now c.args.task.now.output.now) (link_refusal c.args.task.now.set.now c.args.task.now.env.now look) (link_stages c.args.task.now.set.now c.args.task.now.env.now look true c.args.task.now.output.now) part no_memory x c.plan_links.ensures.quiet refl));
+    })
 
--- src/phases.rt:262:1
 pub returns-clause-asks : goal.returns-clause-asks
-returns-clause-asks g c = ?
+returns-clause-asks g c = asking_before _ _ _ _ g.H.Host.log g.H.Host.patience c.args.host.now c.plan_links.new.host c.do_stages.new.host _ _ c.plan_links.ensures.asks c.do_stages.ensures.aside
 
--- src/phases.rt:262:1
 pub returns-clause-outcome : goal.returns-clause-outcome
-returns-clause-outcome g c = ?
+returns-clause-outcome g c =
+    let old = g.H.Host.log c.args.host.now in
+    let total = g.J.Jobs.total c.args.seat.now in
+    let patience = g.H.Host.patience c.args.host.now in
+    let t = terms c.args.task.now.reporting.shows total patience in
+    let x = left_at g.J.Jobs.faults g.J.Jobs.taken g.J.Jobs.load c.args.turns.now c.args.seat.now in
+    let mid = g.H.Host.log c.plan_links.new.host in
+    let new = g.H.Host.log c.do_stages.new.host in
+    let z = left_at g.J.Jobs.faults g.J.Jobs.taken g.J.Jobs.load c.do_stages.new.turns c.do_stages.new.seat in
+    record {
+      under = λ look agree.
+          let plan = c.in-Ok.ensures.planned.under look agree in
+          (c.in_ok-is_first.is_first, (c.in_ok-is_first.ensures, phase_done t (plan_error c.args.task.now.set.now c.args.task.now.env.now c.args.task.now.output.now) (link_refusal c.args.task.now.set.now c.args.task.now.env.now look) (link_stages c.args.task.now.set.now c.args.task.now.env.now look c.in_ok-is_first.is_first c.args.task.now.output.now) old mid new x c.plan_links.ensures.asks.extends c.do_stages.ensures.aside.extends c.plan_links.ensures.quiet plan.allowed (stages_seen c.deref.result.now) c.do_stages.result z
+          (line_stages c.args.task.now c.in-Ok.lines.items c.in_ok-is_first.is_first look (stages_seen c.deref.result.now) ? plan)
+          (same_patience c.args.task.now.reporting.shows total (g.H.Host.patience c.plan_links.new.host) patience None (stages_seen c.deref.result.now) (since mid new) c.do_stages.result x z c.plan_links.ensures.asks.patient c.do_stages.ensures.outcome)));
+    }

@@ -1,0 +1,94 @@
+-- What is settled of the C++ library, and by which questions.
+use Rattle.std.proofs.Common.{◌≡◌, ◌⊎◌, inl, inr, ℕ, Bool, true, false, List, Option, Some, None, codes, refl, sym, ap, ◌∙◌}
+use Rattle.cc_env.specs.Env.{EnvSeen}
+use Rattle.cc_host.specs.Question.{Look, Answer, Settles, Holds, is_yes}
+use Rattle.cc_host.specs.declared.question.Question.{Question}
+use Rattle.cc_tool.specs.Libcxx.{libcxx_question}
+use Rattle.cc_tool.specs.Tool.{ToolSeen}
+use Rattle.cc_tool.proofs.SettleLemmas.{settles_so, settles_two}
+use Rattle.cc_plan.specs.Planned.{tool_of}
+use Rattle.cc_plan.specs.Questions.{PlanAsks, LibraryAsks, IsSought, LinkAsks}
+use Rattle.cc_plan.specs.Refusal.{tool_refusal, links_cpp, cpp_refusal, link_refusal}
+use Rattle.cc_plan.specs.Link.{lines_by, link_lines}
+use Rattle.cc_plan.specs.Stdlib.{tool_unless, allowed_tool, is_memory, has_own_headers, uses_libcxx, may_ask, library_by, given_library, cpp_library_of, linked_library}
+use Rattle.cc_plan.specs.declared.error.PlanError.{PlanError}
+use Rattle.cc_plan.specs.declared.error.PlanError.TheVariants.{NoMemory as WantsMemory}
+use Rattle.cc_plan.specs.declared.link.LinkLine.{LinkLine}
+use Rattle.cc_plan.specs.declared.settings.BuildConfig.{BuildConfig}
+
+-- ---- whether a tool's is libc++
+
+pub unasked : {known : List Answer} (tool : ToolSeen) → has_own_headers tool ≡ false → Settles known (λ look. uses_libcxx look (Some tool)) false
+unasked tool other = record { is = λ look a. rw other refl }
+
+pub answered : {known : List Answer} {yes : Bool} (tool : ToolSeen) → has_own_headers tool ≡ true → Settles known (λ look. is_yes (look (libcxx_question tool))) yes → Settles known (λ look. uses_libcxx look (Some tool)) yes
+answered tool own s = settles_so s (λ look a. rw own a)
+
+there : (refusal : Option PlanError) (tool other : ToolSeen) → tool_unless refusal tool ≡ Some other → tool ≡ other
+there None tool other e = cc
+there (Some refusal) tool other e = absurd (cc)
+
+module _ (set : BuildConfig) (env : EnvSeen) where
+  -- ---- the planned tool
+
+  pub tool_allowed : {known : List Answer} {tool : ToolSeen} → Settles known (tool_refusal set env) None → Settles known (tool_of set env) tool → Settles known (allowed_tool set env) (Some tool)
+  tool_allowed s t = settles_two s t (λ look a b. ap (λ r. tool_unless r (tool_of set env look)) a ∙ ap (λ u. Some u) b)
+
+  pub tool_refused : {known : List Answer} (e : PlanError) → is_memory e ≡ false → (e ≡ WantsMemory) ⊎ Settles known (tool_refusal set env) (Some e) → Settles known (allowed_tool set env) None
+  tool_refused e other (inl memory) = let is : is_memory e ≡ true = ap is_memory memory in absurd (cc)
+  tool_refused e other (inr s) = settles_so s (λ look a. ap (λ r. tool_unless r (tool_of set env look)) a)
+
+  pub some_uses : {known : List Answer} {yes : Bool} (tool : ToolSeen) → Settles known (allowed_tool set env) (Some tool) → Settles known (λ look. uses_libcxx look (Some tool)) yes → Settles known (λ look. uses_libcxx look (allowed_tool set env look)) yes
+  some_uses tool s t = settles_two s t (λ look a b. ap (uses_libcxx look) a ∙ b)
+
+  pub none_uses : {known : List Answer} → Settles known (allowed_tool set env) None → Settles known (λ look. uses_libcxx look (allowed_tool set env look)) false
+  none_uses s = settles_so s (λ look a. ap (uses_libcxx look) a)
+
+  -- ---- the library
+
+  pub none_linked : {known : List Answer} → links_cpp set ≡ false → Settles known (linked_library set env) None
+  unfolding linked_library
+  none_linked off = record { is = λ look a. rw off refl }
+
+  pub given_linked : {known : List Answer} (library : Option (List ℕ)) → links_cpp set ≡ true → given_library set env ≡ Some library → Settles known (linked_library set env) library
+  unfolding linked_library cpp_library_of
+  given_linked library on given = record { is = λ look a. rw (on, given) refl }
+
+  pub plain_linked : {known : List Answer} (library : List ℕ) → links_cpp set ≡ true → given_library set env ≡ None → may_ask set env ≡ false → library ≡ library_by false → Settles known (linked_library set env) (Some library)
+  unfolding linked_library cpp_library_of
+  plain_linked library on given unasked is = record { is = λ look a. rw (on, given, unasked) (ap (λ l. Some l) (sym is)) }
+
+  pub asked_linked : {known : List Answer} (library : List ℕ) (yes : Bool) → links_cpp set ≡ true → given_library set env ≡ None → may_ask set env ≡ true → Settles known (λ look. uses_libcxx look (allowed_tool set env look)) yes → library ≡ library_by yes → Settles known (linked_library set env) (Some library)
+  unfolding linked_library cpp_library_of
+  asked_linked library yes on given may s is = settles_so s (λ look a. rw (on, given, may) (ap (λ b. Some (library_by b)) a ∙ ap (λ l. Some l) (sym is)))
+
+  -- ---- the questions
+
+  pub plan_for_library : (look : Look) (q : Question) → PlanAsks set env look q → LibraryAsks set env look q
+  unfolding LibraryAsks
+  plan_for_library look q h = inl h
+
+  libcxx_for_library : (look : Look) (tool : ToolSeen) (q : Question) → tool_of set env look ≡ tool → q ≡ libcxx_question tool → LibraryAsks set env look q
+  unfolding LibraryAsks
+  libcxx_for_library look tool q is h = inr (h ∙ ap libcxx_question (sym is))
+
+  pub asked_of_tool : {known : List Answer} (tool : ToolSeen) → Settles known (allowed_tool set env) (Some tool) → Holds known (λ look. (q : Question) → q ≡ libcxx_question tool → LibraryAsks set env look q)
+  asked_of_tool tool s = record { under = λ look a q h. libcxx_for_library look tool q (there (tool_refusal set env look) (tool_of set env look) tool (s.is look a)) h }
+
+  pub library_for_links : IsSought set env → (look : Look) (q : Question) → LibraryAsks set env look q → LinkAsks set env look q
+  unfolding LinkAsks
+  library_for_links sought look q h = (sought, h)
+
+  -- ---- the lines
+
+  pub lines_settled : {known : List Answer} {lines : List LinkLine} {library : Option (List ℕ)} (name folder : List ℕ) → Settles known (linked_library set env) library → lines ≡ lines_by set env name folder library → Settles known (link_lines set env name folder) lines
+  unfolding link_lines
+  lines_settled name folder s is = settles_so s (λ look a. ap (lines_by set env name folder) a ∙ sym is)
+
+  pub links_settled : {known : List Answer} {refusal : Option PlanError} → cpp_refusal set env ≡ refusal → Settles known (link_refusal set env) refusal
+  unfolding link_refusal
+  links_settled is = record { is = λ look a. is }
+
+  pub links_refused : {known : List Answer} (e : PlanError) → (e ≡ WantsMemory) ⊎ (cpp_refusal set env ≡ Some e) → (e ≡ WantsMemory) ⊎ Settles known (link_refusal set env) (Some e)
+  links_refused e (inl memory) = inl memory
+  links_refused e (inr refused) = inr (links_settled refused)

@@ -1,0 +1,196 @@
+-- The tools of archives, the archiver and the one that writes their index, and how they are found: one table, in which each has its own name.
+use Rattle.std.specs.Prelude.{ℕ, Bool, ◌&&◌, ◌||◌, List, [], ◌++◌, Option, Some, None, is_none, unwrap_or, codes, if◌then◌else◌}
+use Rattle.std.specs.Option.{option_map, option_and_then, option_or}
+use Rattle.cc_env.specs.Env.{EnvSeen}
+use Rattle.cc_env.specs.Snapshot.{child_of}
+use Rattle.cc_flags.specs.DefaultWords.{is_qnx}
+use Rattle.cc_flags.specs.Texts.{is}
+use Rattle.cc_host.specs.Question.{Look, is_yes}
+use Rattle.cc_host.specs.declared.question.Ask.TheVariants.{SearchDirs, ToolVersion}
+use Rattle.cc_host.specs.declared.question.Question.{Question}
+use Rattle.cc_host.specs.declared.question.Verdict.{Verdict}
+use Rattle.cc_host.specs.declared.question.Verdict.TheVariants.{Dirs}
+use Rattle.cc_target.specs.Targets.{Info}
+use Rattle.cc_text.specs.Families.{is_clang}
+use Rattle.cc_tool.specs.Family.{question}
+use Rattle.cc_plan.specs.Android.{replaced}
+use Rattle.cc_plan.specs.Choice.{bare, cross_prefix, is_wasm}
+use Rattle.cc_plan.specs.Compiler.{compiler_of}
+use Rattle.cc_plan.specs.EnvTool.{env_tool}
+use Rattle.cc_plan.specs.Search.{which_in}
+use Rattle.cc_plan.specs.Target.{target_info, target_name}
+use Rattle.cc_plan.specs.declared.archive_tool.ArchiveTool.{ArchiveTool}
+use Rattle.cc_plan.specs.declared.archive_tool.ArchiveTool.TheVariants.{Archiver, Ranlib}
+use Rattle.cc_plan.specs.declared.choice.Choice.{Choice}
+use Rattle.cc_plan.specs.declared.compiler.Compiler.{Compiler}
+use Rattle.cc_plan.specs.declared.settings.BuildConfig.{BuildConfig}
+
+-- its name
+abbrev pub tool_name : ArchiveTool → List ℕ
+tool_name Archiver = codes "ar"
+tool_name Ranlib = codes "ranlib"
+
+-- the variable that names it
+abbrev pub tool_variable : ArchiveTool → List ℕ
+tool_variable Archiver = codes "AR"
+tool_variable Ranlib = codes "RANLIB"
+
+-- the one that the settings name
+abbrev pub set_program : ArchiveTool → BuildConfig → Option (List ℕ)
+set_program Archiver set = set.archiver
+set_program Ranlib set = set.ranlib
+
+-- ---- names
+
+-- its name behind a text
+abbrev pub behind : List ℕ → ArchiveTool → List ℕ
+behind front tool = front ++ tool_name tool
+
+-- that of LLVM
+abbrev pub llvm_name : ArchiveTool → List ℕ
+llvm_name tool = behind (codes "llvm-") tool
+
+-- that of the GNU tools behind a prefix, and GCC's own there
+abbrev pub plain_name : ArchiveTool → List ℕ → List ℕ
+plain_name tool prefix = behind (prefix ++ codes "-") tool
+
+abbrev pub gcc_name : ArchiveTool → List ℕ → List ℕ
+gcc_name tool prefix = behind (prefix ++ codes "-gcc-") tool
+
+-- that of older kits for Android: behind the target's name, where Arm has no version
+abbrev pub android_name : ArchiveTool → List ℕ → List ℕ
+android_name tool name = plain_name tool (replaced (codes "armv7") (codes "arm") name)
+
+-- the architecture as the names of QNX's tools have it
+unfoldable pub qnx_arch : Info → Option (List ℕ)
+qnx_arch target =
+    if is target.full_arch "i686" || is target.full_arch "i586" then Some (codes "x86")
+    else (if is target.full_arch "x86" || is target.full_arch "aarch64" || is target.full_arch "x86_64" then Some target.arch
+    else None)
+
+abbrev pub qnx_name : ArchiveTool → List ℕ → List ℕ
+qnx_name tool arch = plain_name tool (codes "nto" ++ arch)
+
+abbrev pub qnx_tool : ArchiveTool → Info → Option (List ℕ)
+qnx_tool tool target = option_map (qnx_name tool) (qnx_arch target)
+
+-- QNX on an architecture for which its tools have no name
+unfoldable pub lacks_qnx_arch : Info → Bool
+lacks_qnx_arch target = is_qnx target && is_none (qnx_arch target)
+
+-- that of a system that has its own
+unfoldable pub system_name : ArchiveTool → Info → Option (List ℕ)
+system_name tool target =
+    if is target.os "illumos" then Some (behind (codes "g") tool)
+    else (if is target.os "vxworks" then Some (behind (codes "wr-") tool)
+    else (if is_qnx target then qnx_tool tool target
+    else None))
+
+-- ---- questions
+
+-- where a compiler looks for programs
+abbrev pub search_question : EnvSeen → List ℕ → Question
+search_question env path = question SearchDirs path [] (child_of env.inherited env.explicit)
+
+-- whether a program prints its version, with these variables
+abbrev pub version_question : List (List ℕ × List ℕ) → List ℕ → Question
+version_question vars program = question ToolVersion program [] vars
+
+-- it does
+abbrev pub is_versioned : List (List ℕ × List ℕ) → List ℕ → Look → Bool
+is_versioned vars program look = is_yes (look (version_question vars program))
+
+-- whether LLVM's tool does, in the environment of a child
+abbrev pub llvm_question : ArchiveTool → EnvSeen → Question
+llvm_question tool env = version_question (child_of env.inherited env.explicit) (llvm_name tool)
+
+-- the program, where it prints its version in the environment that was inherited
+abbrev pub if_versioned : EnvSeen → List ℕ → Look → Option (List ℕ)
+if_versioned env program look = if is_versioned env.inherited program look then Some program else None
+
+-- ---- the table
+
+-- LLVM's tool in the folders that a compiler names
+abbrev pub tool_in_dirs : ArchiveTool → Verdict → Look → Option (List ℕ)
+tool_in_dirs tool (Dirs list) look = which_in list (llvm_name tool) look
+tool_in_dirs tool verdict look = None
+
+-- the same where Clang looks for programs
+abbrev pub clang_tool : ArchiveTool → EnvSeen → List ℕ → Look → Option (List ℕ)
+clang_tool tool env path look = tool_in_dirs tool (look (search_question env path)) look
+
+abbrev pub tool_of_clang : ArchiveTool → EnvSeen → Compiler → Look → Option (List ℕ)
+tool_of_clang tool env compiler look = if is_clang compiler.family then clang_tool tool env compiler.choice.path look else None
+
+abbrev pub compiler_tool : ArchiveTool → BuildConfig → EnvSeen → Look → Option (List ℕ)
+compiler_tool tool set env look = tool_of_clang tool env (compiler_of set env look) look
+
+-- for WebAssembly, where the compiler is Clang
+abbrev pub wasm_tool : ArchiveTool → BuildConfig → EnvSeen → Look → Option (List ℕ)
+wasm_tool tool set env look = if is_wasm (target_info set env) then compiler_tool tool set env look else None
+
+-- LLVM's prints its version
+abbrev pub llvm_is_there : ArchiveTool → EnvSeen → Look → Bool
+llvm_is_there tool env look = is_yes (look (llvm_question tool env))
+
+-- for Android: LLVM's, where it does
+abbrev pub android_tool : ArchiveTool → BuildConfig → EnvSeen → Look → List ℕ
+android_tool tool set env look = if llvm_is_there tool env look then llvm_name tool else android_name tool (target_name set env)
+
+-- behind the prefix of the GNU tools: the first that prints its version
+abbrev pub plain_tool : ArchiveTool → EnvSeen → List ℕ → Look → Option (List ℕ)
+plain_tool tool env prefix look = if_versioned env (plain_name tool prefix) look
+
+abbrev pub gcc_tool : ArchiveTool → EnvSeen → List ℕ → Look → Option (List ℕ)
+gcc_tool tool env prefix look = if_versioned env (gcc_name tool prefix) look
+
+abbrev pub prefixed_tool : ArchiveTool → EnvSeen → List ℕ → Look → Option (List ℕ)
+prefixed_tool tool env prefix look = option_or (plain_tool tool env prefix look) (gcc_tool tool env prefix look)
+
+abbrev pub tool_behind : ArchiveTool → EnvSeen → Option (List ℕ) → Look → Option (List ℕ)
+tool_behind tool env None look = None
+tool_behind tool env (Some prefix) look = prefixed_tool tool env prefix look
+
+-- for another target than the host, where there is a prefix
+abbrev pub cross_tool : ArchiveTool → BuildConfig → EnvSeen → Look → Option (List ℕ)
+cross_tool tool set env look = tool_behind tool env (cross_prefix set env look) look
+
+-- behind a prefix, else by its name alone
+abbrev pub gnu_tool : ArchiveTool → BuildConfig → EnvSeen → Look → List ℕ
+gnu_tool tool set env look = unwrap_or (cross_tool tool set env look) (tool_name tool)
+
+-- that of the system, else one of GNU's
+abbrev pub named_tool : ArchiveTool → BuildConfig → EnvSeen → Look → List ℕ
+named_tool tool set env look = unwrap_or (system_name tool (target_info set env)) (gnu_tool tool set env look)
+
+-- the one that the target wants
+abbrev pub target_tool : ArchiveTool → BuildConfig → EnvSeen → Look → List ℕ
+target_tool tool set env look = if is (target_info set env).os "android" then android_tool tool set env look else named_tool tool set env look
+
+-- that of Clang for WebAssembly comes before
+abbrev pub wasm_or_target : ArchiveTool → BuildConfig → EnvSeen → Look → List ℕ
+wasm_or_target tool set env look = unwrap_or (wasm_tool tool set env look) (target_tool tool set env look)
+
+-- the one where neither settings nor environment name one
+abbrev pub own_tool : ArchiveTool → BuildConfig → EnvSeen → Look → List ℕ
+own_tool tool set env look = if is (target_info set env).os "emscripten" then behind (codes "em") tool else wasm_or_target tool set env look
+
+-- the same without words
+abbrev pub own_choice : ArchiveTool → BuildConfig → EnvSeen → Look → Choice
+own_choice tool set env look = bare (own_tool tool set env look)
+
+-- the one that the environment names, with its words
+abbrev pub variable_tool : ArchiveTool → BuildConfig → EnvSeen → Look → Option Choice
+variable_tool tool set env look = env_tool set env (tool_variable tool) look
+
+-- the one where the settings name none
+abbrev pub found_tool : ArchiveTool → BuildConfig → EnvSeen → Look → Choice
+found_tool tool set env look = unwrap_or (variable_tool tool set env look) (own_choice tool set env look)
+
+abbrev pub tool_by : ArchiveTool → BuildConfig → EnvSeen → Look → Option (List ℕ) → Choice
+tool_by tool set env look None = found_tool tool set env look
+tool_by tool set env look (Some path) = bare path
+
+-- the choice
+abbrev pub archive_tool : ArchiveTool → BuildConfig → EnvSeen → Look → Choice
+archive_tool tool set env look = tool_by tool set env look (set_program tool set)

@@ -1,0 +1,143 @@
+// The names of the tools of archives: those of LLVM, of GNU, of kits and of systems that have their own.
+ghost use Rattle.std.specs.Prelude.{◌≡◌, ◌++◌, IfOk};
+ghost use Rattle.std.specs.Option.{option_copied};
+ghost use Rattle.cc_target.specs.Targets.{info_seen};
+ghost use Rattle.cc_plan.specs.ArchiveTool as spec;
+ghost use Rattle.cc_plan.specs.Refusal.{AllowedBy, RefusedBy, qnx_arch_refusal};
+
+use crate::android::replaced;
+use crate::archive_tool::ArchiveTool;
+use crate::{BuildConfig, PlanError};
+use cc_flags::is_qnx;
+use cc_target::TargetInfo;
+use cc_text::{Mem, Text};
+use std::alloc::Global;
+
+pub(crate) fn tool_name(tool: ArchiveTool) -> &'static str
+    ensures { result.now ≡ spec.tool_name tool }
+{
+    match tool {
+        ArchiveTool::Archiver => "ar",
+        ArchiveTool::Ranlib => "ranlib",
+    }
+}
+
+pub(crate) fn tool_variable(tool: ArchiveTool) -> &'static str
+    ensures { result.now ≡ spec.tool_variable tool }
+{
+    match tool {
+        ArchiveTool::Archiver => "AR",
+        ArchiveTool::Ranlib => "RANLIB",
+    }
+}
+
+// The one that the settings name.
+pub(crate) fn set_program(tool: ArchiveTool, set: &BuildConfig) -> Option<&str>
+    ensures { option_copied result ≡ spec.set_program tool set.now }
+{
+    let program = match tool {
+        ArchiveTool::Archiver => &set.archiver,
+        ArchiveTool::Ranlib => &set.ranlib,
+    };
+    match program {
+        Some(program) => Some(program.as_str()),
+        None => None,
+    }
+}
+
+// Its name behind a text.
+pub(crate) fn behind(alloc: Global, front: &str, tool: ArchiveTool) -> Mem<Text>
+    ensures { IfOk result (λ name. name ≡ spec.behind front.now tool) }
+{
+    let mut name = Text::of(alloc, front)?;
+    name.push_str(tool_name(tool))?;
+    Ok(name)
+}
+
+// That of the GNU tools behind a prefix.
+pub(crate) fn plain_name(alloc: Global, tool: ArchiveTool, prefix: &str) -> Mem<Text>
+    ensures { IfOk result (λ name. name ≡ spec.plain_name tool prefix.now) }
+{
+    let mut front = Text::of(alloc, prefix)?;
+    front.push_str("-")?;
+    behind(alloc, front.as_str(), tool)
+}
+
+// GCC's own there.
+pub(crate) fn gcc_name(alloc: Global, tool: ArchiveTool, prefix: &str) -> Mem<Text>
+    ensures { IfOk result (λ name. name ≡ spec.gcc_name tool prefix.now) }
+{
+    let mut front = Text::of(alloc, prefix)?;
+    front.push_str("-gcc-")?;
+    behind(alloc, front.as_str(), tool)
+}
+
+// That of kits for Android up to release 22, which had GNU tools behind the target's name.
+pub(crate) fn android_name(alloc: Global, tool: ArchiveTool, name: &str) -> Mem<Text>
+    ensures { IfOk result (λ path. path ≡ spec.android_name tool name.now) }
+{
+    let plain = replaced(alloc, name, "armv7", "arm")?;
+    plain_name(alloc, tool, plain.as_str())
+}
+
+// The architecture as the names of QNX's tools have it, as its Utilities Reference lists them at `ar`.
+#[tactic(auto, unfolding(crate::specs::ArchiveTool::qnx_arch))]
+fn qnx_arch(target: &TargetInfo) -> Option<&'static str>
+    ensures { option_copied result ≡ spec.qnx_arch (info_seen target.now) }
+{
+    match target.full_arch {
+        "i686" | "i586" => Some("x86"),
+        "x86" | "aarch64" | "x86_64" => Some(target.arch),
+        _ => None,
+    }
+}
+
+fn qnx_name(alloc: Global, tool: ArchiveTool, arch: &str) -> Mem<Text>
+    ensures { IfOk result (λ name. name ≡ spec.qnx_name tool arch.now) }
+{
+    let mut front = Text::of(alloc, "nto")?;
+    front.push_str(arch)?;
+    plain_name(alloc, tool, front.as_str())
+}
+
+// QNX has a name for the architecture, where its tools are wanted.
+#[tactic(auto, unfolding(crate::specs::Refusal::qnx_arch_refusal, crate::specs::ArchiveTool::lacks_qnx_arch))]
+pub(crate) fn check_qnx_arch(alloc: Global, target: &TargetInfo) -> Result<(), PlanError>
+    ensures allowed { AllowedBy (qnx_arch_refusal (info_seen target.now)) result }
+    ensures refused { RefusedBy (qnx_arch_refusal (info_seen target.now)) result }
+{
+    if is_qnx(target) && qnx_arch(target).is_none() {
+        return Err(PlanError::QnxArch(Text::of(alloc, target.full_arch)?));
+    }
+    Ok(())
+}
+
+fn qnx_tool(alloc: Global, tool: ArchiveTool, target: &TargetInfo) -> Mem<Option<Text>>
+    ensures { IfOk result (λ name.
+        name ≡ spec.qnx_tool tool (info_seen target.now)) }
+{
+    match qnx_arch(target) {
+        Some(arch) => Ok(Some(qnx_name(alloc, tool, arch)?)),
+        None => Ok(None),
+    }
+}
+
+// That of a system that has its own. illumos has tools of its own in place of GNU's, which take other words; theirs are behind a `g`.
+#[tactic(auto, unfolding(crate::specs::ArchiveTool::system_name))]
+pub(crate) fn system_name(
+    alloc: Global,
+    tool: ArchiveTool,
+    target: &TargetInfo,
+) -> Mem<Option<Text>>
+    ensures { IfOk result (λ name. name ≡ spec.system_name tool (info_seen target.now)) }
+{
+    if target.os == "illumos" {
+        Ok(Some(behind(alloc, "g", tool)?))
+    } else if target.os == "vxworks" {
+        Ok(Some(behind(alloc, "wr-", tool)?))
+    } else if is_qnx(target) {
+        qnx_tool(alloc, tool, target)
+    } else {
+        Ok(None)
+    }
+}
