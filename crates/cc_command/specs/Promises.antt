@@ -88,7 +88,8 @@ EndsAlone part = (ids : List ℕ) × (line : List Event) × ((part ≡ map Aband
 abbrev pub FaultsLast : List Event → Type 0
 FaultsLast part = (before after : List Event) (call : HostCall) (why : Why) → is_probing call ≡ false → part ≡ before ++ Fault call why ∷ after → EndsAlone after
 
--- The commands of the part, those that are missing among them, are the first of the planned ones: one attempt for each, and no other command.
+-- The commands of the part, those that are missing among them, are the first of the planned ones, where the first form of the archive was taken or where
+-- it was refused: one attempt for each, and no other command.
 abbrev pub IsPrefix : Look → Result Request BadWord → List Event → Type 0
 IsPrefix look words part = IfOk words (λ request. (is_plain : Bool) × AreFirst (stages_of look request is_plain part) part)
 
@@ -104,7 +105,8 @@ StartsAll look words part ended = IfOk words (λ request. (e : ErrorSeen) → 2 
 abbrev pub EndsSpent : ℕ → List Event → Ended → Type 0
 EndsSpent most part ended = (e : ErrorSeen) × ((ended ≡ ended_refused e) × (e.kind ≡ TurnsSpent) × (turns part ≡ most))
 
--- Valid settings, no failed command, no fault of the host and none of the pool: it is done, or the turns are spent, or memory was wanted.
+-- Valid settings, no failed or missing command but the first form of the archive, no fault of the host and none of the pool: it is done, or the turns
+-- are spent, or memory was wanted.
 abbrev pub IsComplete : Look → Result Request BadWord → List Event → Ended → Course → Type 0
 IsComplete look words part ended c = IfOk words (λ request. Valid request.1.config (env_in request part) look request.0 → (Failed part → ⊥) → (HasFault part → ⊥) → (Rose c.before.faults c.after.faults → ⊥) → (ended ≡ ended_well) ⊎ (EndsSpent c.before.left part ended ⊎ (ended ≡ ended_wanting)))
 
@@ -126,7 +128,8 @@ pub record Promises {Z : Type 0} (words : List (String Z)) (ended : Ended) (look
   pub beside : IsBeside (asked_for words) part c
   -- a failed child stops no later start
   pub failed : StartsAll look (asked_for words) part ended
-  -- valid settings, no failed command, no fault of the host and none of the pool: it is done, the turns are spent, or memory was wanted
+  -- valid settings, no failed command but the first form of the archive, no fault of the host and none of the pool: it is done, the turns are spent, or
+  -- memory was wanted
   pub complete : IsComplete look (asked_for words) part ended c
   -- where one caller owns the pool and the host tells its patience, so many turns are enough
   pub enough : IsEnough look (asked_for words) part ended c

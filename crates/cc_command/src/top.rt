@@ -243,7 +243,8 @@ fn run<W: World, H: Host<W>, J: Jobs>(
 ///
 /// Status 0 of `compile NAME ..` means: in the part of the log that this call added the host listed its variables; then it starts one
 /// planned compile command per source, in the order added, each ended with 0; then the old library is removed; then the planned archive
-/// and index commands ended with 0; then exactly the link lines were printed.
+/// and index commands ended with 0, but for the first, which those of the plain form follow where the archiver refuses its form; then
+/// exactly the link lines were printed.
 ///
 /// Another status leaves what the first stages did. Its line, `error occurred in cc-rs: <message>` or `word <place>: <cause>`, is the
 /// last event, of kind Fault, or else the fault of its print; want of memory prints none. Each command that was started has ended or was
