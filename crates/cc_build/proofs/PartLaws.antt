@@ -57,8 +57,7 @@ module _ (task : Task) (look : Look) where
         (subst (λ (n : Option ℕ). LibraryEnds task (Ok u) look (since mid made) (course t' n y z)) b l) in
         let links : LinkEnds task r look (since made new) (course total patience z end) =
         subst (λ (n : Option ℕ). LinkEnds task r look (since made new) (course n patience z end)) (a' ∙ a)
-        (subst (λ (n : Option ℕ). LinkEnds task r look (since made new) (course t'' n z end)) (b' ∙ b) k) in
-        (
+        (subst (λ (n : Option ℕ). LinkEnds task r look (since made new) (course t'' n z end)) (b' ∙ b) k) in (
           way_of sources.0 library.0 links.0,
           (links.1.0, links_end (shown total patience) task look sources.0 library.0 links.0 old mid made new r x y z end first next last done.0 done.1 library.1.0 library.1.1 links.1.1),
         )

@@ -109,8 +109,7 @@ returns-clause-outcome g c =
     (record {
       under = λ look agree.
           let behind = (agrees_since look old made new c.prepare_folder.ensures.aside.extends c.run_parts.ensures.asks.extends agree).1 in
-          let known : Agrees look c.run_parts.new.answers = subst (Agrees look) (sym same) behind in
-          (
+          let known : Agrees look c.run_parts.new.answers = subst (Agrees look) (sym same) behind in (
             left,
             run_enabled set env look c.args.goal.output.now total patience c.in-Ok.ensures.allowed old made x c.prepare_folder.ensures.aside.extends
                 (c.in_ok-prepare_folder.ensures.outcome (terms (shows_of set env) total patience) x).1
