@@ -1,10 +1,10 @@
--- The news of a turn of the children of a host in memory.
-use Rattle.std.proofs.Common.{◌≡◌, inl, inr, ℕ, zero, suc, ◌+◌, ◌<◌, ◌≤◌, Bool, true, false, ◌&&◌, nat_le, List, [], ◌∷◌, ◌++◌, map, filter, slice_get, Option, Some, None, is_some, if◌then◌else◌, refl, sym, subst, arith, pos}
+-- The news of a turn of the children of a host.
+use Rattle.std.proofs.Common.{◌≡◌, inl, inr, ap, ℕ, zero, suc, ◌+◌, ◌<◌, ◌≤◌, Bool, true, false, ◌&&◌, nat_le, List, [], ◌∷◌, ◌++◌, map, filter, slice_get, Option, Some, None, is_some, if◌then◌else◌, refl, sym, subst, arith, pos}
 use Rattle.std.specs.List.{Contains, All, list_any}
 use Rattle.std.proofs.lemmas.Bool.{leb-false}
 use Rattle.cc_host.specs.Children.{Live, live, unreads, IsNews, IsPiece, InOrder, Waits}
 use Rattle.cc_host.specs.Script.{script_at, turns_of, turns_out, longest, patience_of, is_met, one_if}
-use Rattle.cc_host.specs.ChildLog.{AreRunning, live_of, ids, full, news_by, news_of, has_news, news_in, left_in, ends_next, piece_next, Heeds}
+use Rattle.cc_host.specs.ChildLog.{AreRunning, AreTold, IsPieceBy, live_of, ids, full, news_by, news_of, has_news, news_in, child_after, left_in, left_by, ends_next, piece_next, Heeds}
 use Rattle.cc_host.specs.declared.event.Event.{Event}
 use Rattle.cc_host.specs.declared.event.News.{News}
 use Rattle.cc_host.specs.declared.event.Status.{Status}
@@ -12,50 +12,66 @@ use Rattle.cc_host.specs.declared.event.Status.TheVariants.{Code}
 use Rattle.cc_host.specs.declared.child.RunningChild.{RunningChild}
 use Rattle.cc_host.specs.declared.script.Scripted.{Scripted}
 use Rattle.cc_host.proofs.ChildLogLemmas.{running_ids}
-use Rattle.cc_host.proofs.TurnLemmas.{news_id, next_live, after}
+use Rattle.cc_host.proofs.TurnLemmas.{news_id, next_live}
 
 skip_first : (ns : List ℕ) (id : ℕ) (more : List ℕ) → InOrder ns more → InOrder ns (id ∷ more)
 skip_first [] id more h = tt
 skip_first (n ∷ ns) id more h = inr h
 
-order_by : (scripts : List Scripted) (k : RunningChild) (children : List RunningChild) (b : Bool) → has_news (news_of scripts k) ≡ b → InOrder (map (λ (n : News). n.id) (news_in scripts children)) (ids children) → InOrder (map (λ (n : News). n.id) (news_in scripts (k ∷ children))) (ids (k ∷ children))
-order_by scripts k children true e h = rw e (inl (news_id scripts k, h))
-order_by scripts k children false e h = rw e (skip_first (map (λ (n : News). n.id) (news_in scripts children)) k.id (ids children) h)
+order_by : (k : RunningChild) (children : List RunningChild) (n : News) (told : List News) (b : Bool) → has_news n ≡ b → n.id ≡ k.id → InOrder (map (λ (n : News). n.id) (filter has_news told)) (ids children) → InOrder (map (λ (n : News). n.id) (filter has_news (n ∷ told))) (ids (k ∷ children))
+order_by k children n told true e is h = rw e (inl (is, h))
+order_by k children n told false e is h = rw e (skip_first (map (λ (n : News). n.id) (filter has_news told)) k.id (ids children) h)
 
-order : (scripts : List Scripted) (children : List RunningChild) → InOrder (map (λ (n : News). n.id) (news_in scripts children)) (ids children)
-order scripts [] = tt
-order scripts (k ∷ children) = order_by scripts k children (has_news (news_of scripts k)) refl (order scripts children)
+order : (children : List RunningChild) (told : List News) → AreTold children told → InOrder (map (λ (n : News). n.id) (filter has_news told)) (ids children)
+order children [] are = tt
+order [] (n ∷ told) are = absurd are
+order (k ∷ children) (n ∷ told) are = order_by k children n told (has_news n) refl are.0 (order children told are.2)
 
-full_piece : (log : List Event) (n : News) (o : Option (List ℕ)) → (Contains (unreads log) n.id → ⊥) → IsPiece log n (full o)
-full_piece log n None h = tt
-full_piece log n (Some []) h = tt
-full_piece log n (Some (b ∷ bs)) h = (λ e. cc e, h)
-
-piece_by : (log : List Event) (n : News) (k : RunningChild) (s : Scripted) (m : Bool) → k.mute ≡ m → n.id ≡ k.id → (k.mute ≡ false → Contains (unreads log) k.id → ⊥) → IsPiece log n (piece_next k s)
-piece_by log n k s true e is h = rw e tt
-piece_by log n k s false e is h = rw e (full_piece log n (slice_get s.script.pieces.items k.polls) (λ c. h e (subst (Contains (unreads log)) is c)))
-
-piece_of : (log : List Event) (k : RunningChild) (o : Option Scripted) → (k.mute ≡ false → Contains (unreads log) k.id → ⊥) → IsPiece log (news_by k o) (news_by k o).piece
-piece_of log k None h = tt
-piece_of log k (Some s) h = piece_by log (news_by k (Some s)) k s k.mute refl refl h
+piece_is : (log : List Event) (n : News) (mute : Bool) (piece : Option (List ℕ)) → IsPieceBy mute piece → (mute ≡ false → Contains (unreads log) n.id → ⊥) → IsPiece log n piece
+piece_is log n mute None f h = tt
+piece_is log n mute (Some p) f h = (f.0, h f.1)
 
 all_first : (log : List Event) (n : News) (ns : List News) → IsPiece log n n.piece → All (λ m. IsPiece log m m.piece) ns → All (λ m. IsPiece log m m.piece) (n ∷ ns)
 all_first log n ns one h zero d lt = one
 all_first log n ns one h (suc k) d lt = h k d (omega arith)
 
-pieces_by : (log : List Event) (scripts : List Scripted) (k : RunningChild) (children : List RunningChild) (b : Bool) → has_news (news_of scripts k) ≡ b → IsPiece log (news_of scripts k) (news_of scripts k).piece → All (λ n. IsPiece log n n.piece) (news_in scripts children) → All (λ n. IsPiece log n n.piece) (news_in scripts (k ∷ children))
-pieces_by log scripts k children true e one h = rw e (all_first log (news_of scripts k) (news_in scripts children) one h)
-pieces_by log scripts k children false e one h = rw e h
+pieces_by : (log : List Event) (n : News) (told : List News) (b : Bool) → has_news n ≡ b → IsPiece log n n.piece → All (λ m. IsPiece log m m.piece) (filter has_news told) → All (λ m. IsPiece log m m.piece) (filter has_news (n ∷ told))
+pieces_by log n told true e one h = rw e (all_first log n (filter has_news told) one h)
+pieces_by log n told false e one h = rw e h
 
-pieces_all : (log : List Event) (scripts : List Scripted) (children : List RunningChild) → Heeds (unreads log) children → All (λ n. IsPiece log n n.piece) (news_in scripts children)
-pieces_all log scripts [] h = λ k d lt. absurd (omega arith)
-pieces_all log scripts (k ∷ children) h = pieces_by log scripts k children (has_news (news_of scripts k)) refl (piece_of log k (script_at scripts k.place) h.0) (pieces_all log scripts children h.1)
+pieces_all : (log : List Event) (children : List RunningChild) (told : List News) → AreTold children told → Heeds (unreads log) children → All (λ n. IsPiece log n n.piece) (filter has_news told)
+pieces_all log children [] are h = λ k d lt. absurd (omega arith)
+pieces_all log [] (n ∷ told) are h = absurd are
+pieces_all log (k ∷ children) (n ∷ told) are h = pieces_by log n told (has_news n) refl (piece_is log n k.mute n.piece are.1 (λ e c. h.0 e (subst (Contains (unreads log)) are.0 c))) (pieces_all log children told are.2 h.1)
 
-pub news_turn : (log : List Event) (next : ℕ) (children : List RunningChild) (scripts : List Scripted) → AreRunning log next children → IsNews log (news_in scripts children)
-news_turn log next children scripts alive = record {
-  own = subst (InOrder (map (λ (n : News). n.id) (news_in scripts children))) (sym (running_ids log next children alive)) (order scripts children);
-  pieces = pieces_all log scripts children alive.heeds;
+pub news_turn : (log : List Event) (next : ℕ) (children : List RunningChild) (told : List News) → AreTold children told → AreRunning log next children → IsNews log (filter has_news told)
+news_turn log next children told are alive = record {
+  own = subst (InOrder (map (λ (n : News). n.id) (filter has_news told))) (sym (running_ids log next children alive)) (order children told are);
+  pieces = pieces_all log children told are alive.heeds;
 }
+
+-- what the children of a host in memory do in a turn
+
+full_is : (o : Option (List ℕ)) → IsPieceBy false (full o)
+full_is None = tt
+full_is (Some []) = tt
+full_is (Some (b ∷ bs)) = (λ e. cc e, refl)
+
+next_is : (k : RunningChild) (s : Scripted) (m : Bool) → k.mute ≡ m → IsPieceBy k.mute (piece_next k s)
+next_is k s true e = rw e tt
+next_is k s false e = rw e (full_is (slice_get s.script.pieces.items k.polls))
+
+scripted_piece : (k : RunningChild) (o : Option Scripted) → IsPieceBy k.mute (news_by k o).piece
+scripted_piece k None = tt
+scripted_piece k (Some s) = next_is k s k.mute refl
+
+pub told_are : (scripts : List Scripted) (children : List RunningChild) → AreTold children (map (news_of scripts) children)
+told_are scripts [] = tt
+told_are scripts (k ∷ children) = (news_id scripts k, scripted_piece k (script_at scripts k.place), told_are scripts children)
+
+pub left_is : (scripts : List Scripted) (children : List RunningChild) → left_by children (map (news_of scripts) children) ≡ left_in scripts children
+left_is scripts [] = refl
+left_is scripts (k ∷ children) = ap (λ l. child_after k (news_of scripts k) ++ l) (left_is scripts children)
 
 -- patience
 
@@ -118,7 +134,7 @@ all_lives : (most : ℕ) (c : Live) (cs : List Live) → c.polls < most → All 
 all_lives most c cs one h zero d lt = one
 all_lives most c cs one h (suc k) d lt = h k d (omega arith)
 
-all_left_by : (scripts : List Scripted) (k : RunningChild) (rest : List RunningChild) (b : Bool) → is_some (news_of scripts k).ended ≡ b → list_any waits_for scripts ≡ false → All (λ c. c.polls < longest scripts) (map live_of rest) → All (λ c. c.polls < longest scripts) (map live_of (after scripts k ++ rest))
+all_left_by : (scripts : List Scripted) (k : RunningChild) (rest : List RunningChild) (b : Bool) → is_some (news_of scripts k).ended ≡ b → list_any waits_for scripts ≡ false → All (λ c. c.polls < longest scripts) (map live_of rest) → All (λ c. c.polls < longest scripts) (map live_of (child_after k (news_of scripts k) ++ rest))
 all_left_by scripts k rest true e h all = rw e all
 all_left_by scripts k rest false e h all = rw e (all_lives (longest scripts) (next_live k) (map live_of rest) (slow_by scripts k (script_at scripts k.place) refl e h) all)
 
@@ -130,8 +146,8 @@ waits_by : (scripts : List Scripted) (children : List RunningChild) (new : List 
 waits_by scripts children new true e is = rw e tt
 waits_by scripts children new false e is = rw e (subst (All (λ c. c.polls < longest scripts)) (sym is) (all_left scripts children e))
 
-pub waits_turn : (new : List Event) (next : ℕ) (children : List RunningChild) (scripts : List Scripted) → AreRunning new next (left_in scripts children) → Waits (patience_of scripts) new
-waits_turn new next children scripts alive = waits_by scripts children new (list_any waits_for scripts) refl alive.run
+pub waits_turn : (new : List Event) (children : List RunningChild) (scripts : List Scripted) → live new ≡ map live_of (left_in scripts children) → Waits (patience_of scripts) new
+waits_turn new children scripts is = waits_by scripts children new (list_any waits_for scripts) refl is
 
 -- without scripts each child ends with 0
 

@@ -1,5 +1,5 @@
--- A turn of the children of a host in memory.
-use Rattle.std.proofs.Common.{◌≡◌, ℕ, ◌<◌, Bool, true, false, ◌||◌, ◌==◌, List, [], ◌∷◌, ◌++◌, length, map, Option, Some, None, is_some, if◌then◌else◌, refl, sym, ◌∙◌, ap, subst, arith, append-nil, append_assoc, eq-eqb, ⊎_elim}
+-- A turn of the children of a host.
+use Rattle.std.proofs.Common.{◌≡◌, ℕ, ◌<◌, Bool, true, false, ◌||◌, ◌==◌, List, [], ◌∷◌, ◌++◌, length, map, filter, Option, Some, None, is_some, if◌then◌else◌, refl, sym, ◌∙◌, ap, subst, arith, append-nil, append_assoc, eq-eqb, ⊎_elim}
 use Rattle.std.specs.List.{flat_map, Contains}
 use Rattle.std.proofs.lemmas.Bool.{ne_eqb}
 use Rattle.std.proofs.lemmas.List.{map-append}
@@ -10,7 +10,7 @@ use Rattle.cc_host.specs.Event.{apart, heard, unread, ended, reported}
 use Rattle.cc_host.specs.Journal.{IsQuiet}
 use Rattle.cc_host.specs.Probe.{open_of, drop_of, opens, drops}
 use Rattle.cc_host.specs.Script.{script_at}
-use Rattle.cc_host.specs.ChildLog.{AreRunning, live_of, ids, news_by, news_of, has_news, news_in, child_after, left_in, Below, Above, Rising, Heeds}
+use Rattle.cc_host.specs.ChildLog.{AreRunning, AreTold, live_of, ids, news_by, news_of, has_news, child_after, left_by, Below, Above, Rising, Heeds}
 use Rattle.cc_host.specs.declared.event.Event.{Event}
 use Rattle.cc_host.specs.declared.event.Event.TheVariants.{Turn}
 use Rattle.cc_host.specs.declared.event.News.{News}
@@ -124,17 +124,14 @@ all_mutes : (news : List News) → flat_map unread_of (flat_map reported news) �
 all_mutes [] = refl
 all_mutes (n ∷ news) = flat_map-append unread_of (reported n) (flat_map reported news) ∙ ap (λ l. l ++ flat_map unread_of (flat_map reported news)) (reported_mutes n.id n.piece n.unread n.ended) ∙ ap (λ l. mutes_of n ++ l) (all_mutes news)
 
-abbrev say : List Scripted → RunningChild → List Event
-say scripts k = reported (news_of scripts k)
-
-said_by : (scripts : List Scripted) (k : RunningChild) (children : List RunningChild) (b : Bool) → has_news (news_of scripts k) ≡ b → flat_map reported (news_in scripts children) ≡ flat_map (say scripts) children → flat_map reported (news_in scripts (k ∷ children)) ≡ flat_map (say scripts) (k ∷ children)
-said_by scripts k children true e h = rw e (ap (λ l. say scripts k ++ l) h)
-said_by scripts k children false e h = let n = news_of scripts k in rw e (h ∙ sym (ap (λ l. l ++ flat_map (say scripts) children) (reported_none n.id n.piece n.unread n.ended e)))
+said_by : (n : News) (told : List News) (b : Bool) → has_news n ≡ b → flat_map reported (filter has_news told) ≡ flat_map reported told → flat_map reported (filter has_news (n ∷ told)) ≡ flat_map reported (n ∷ told)
+said_by n told true e h = rw e (ap (λ l. reported n ++ l) h)
+said_by n told false e h = rw e (h ∙ sym (ap (λ l. l ++ flat_map reported told) (reported_none n.id n.piece n.unread n.ended e)))
 
 -- who did nothing reported nothing
-said : (scripts : List Scripted) (children : List RunningChild) → flat_map reported (news_in scripts children) ≡ flat_map (say scripts) children
-said scripts [] = refl
-said scripts (k ∷ children) = said_by scripts k children (has_news (news_of scripts k)) refl (said scripts children)
+pub said : (told : List News) → flat_map reported (filter has_news told) ≡ flat_map reported told
+said [] = refl
+said (n ∷ told) = said_by n told (has_news n) refl (said told)
 
 -- the news are of the child
 
@@ -182,24 +179,22 @@ without_seam id (d ∷ done) p rest h is = without_by id d done p rest (d.id == 
 abbrev pub next_live : RunningChild → Live
 next_live k = polled 1 (live_of k)
 
-abbrev pub after : List Scripted → RunningChild → List RunningChild
-after scripts k = child_after k (news_of scripts k)
-
-turn_by : (scripts : List Scripted) (done : List Live) (k : RunningChild) (children : List RunningChild) (b : Bool) → is_some (news_of scripts k).ended ≡ b → Rising (lids done ++ k.id ∷ ids children) → ((d : List Live) → Rising (lids d ++ ids children) → live_from (d ++ map next_live children) (flat_map (say scripts) children) ≡ d ++ map live_of (left_in scripts children)) → live_from (gone_if (news_of scripts k).ended k.id (done ++ next_live k ∷ map next_live children)) (flat_map (say scripts) children) ≡ done ++ map live_of (left_in scripts (k ∷ children))
-turn_by scripts done k children true e rising rest =
-    rw e (ap (λ l. live_from l (flat_map (say scripts) children)) (without_seam k.id done (next_live k) (map next_live children) (rising_below (lids done) k.id (ids children) rising) refl) ∙ rest done (rising_drop (lids done) k.id (ids children) rising))
-turn_by scripts done k children false e rising rest =
+turn_by : (told : List News) (done : List Live) (k : RunningChild) (children : List RunningChild) (n : News) (b : Bool) → is_some n.ended ≡ b → Rising (lids done ++ k.id ∷ ids children) → ((d : List Live) → Rising (lids d ++ ids children) → live_from (d ++ map next_live children) (flat_map reported told) ≡ d ++ map live_of (left_by children told)) → live_from (gone_if n.ended k.id (done ++ next_live k ∷ map next_live children)) (flat_map reported told) ≡ done ++ map live_of (left_by (k ∷ children) (n ∷ told))
+turn_by told done k children n true e rising rest =
+    rw e (ap (λ l. live_from l (flat_map reported told)) (without_seam k.id done (next_live k) (map next_live children) (rising_below (lids done) k.id (ids children) rising) refl) ∙ rest done (rising_drop (lids done) k.id (ids children) rising))
+turn_by told done k children n false e rising rest =
     let more : List Live = done ++ next_live k ∷ [] in
     let on : Rising (lids more ++ ids children) = subst (λ l. Rising (l ++ ids children)) (sym (map-append (λ (c : Live). c.id) done (next_live k ∷ []))) (subst Rising (sym (append_assoc (lids done) (k.id ∷ []) (ids children))) rising) in
-    rw e (ap (λ l. live_from l (flat_map (say scripts) children)) (sym (append_assoc done (next_live k ∷ []) (map next_live children))) ∙ rest more on ∙ append_assoc done (next_live k ∷ []) (map live_of (left_in scripts children)))
+    rw e (ap (λ l. live_from l (flat_map reported told)) (sym (append_assoc done (next_live k ∷ []) (map next_live children))) ∙ rest more on ∙ append_assoc done (next_live k ∷ []) (map live_of (left_by children told)))
 
-turn_live : (scripts : List Scripted) (children : List RunningChild) (done : List Live) → Rising (lids done ++ ids children) → live_from (done ++ map next_live children) (flat_map (say scripts) children) ≡ done ++ map live_of (left_in scripts children)
-turn_live scripts [] done rising = refl
-turn_live scripts (k ∷ children) done rising =
-    let n = news_of scripts k in
-    live_then (done ++ next_live k ∷ map next_live children) (say scripts k) (flat_map (say scripts) children)
-    ∙ ap (λ l. live_from l (flat_map (say scripts) children)) (reported_live (done ++ next_live k ∷ map next_live children) n.id n.piece n.unread n.ended ∙ ap (λ id. gone_if n.ended id (done ++ next_live k ∷ map next_live children)) (news_id scripts k))
-    ∙ turn_by scripts done k children (is_some n.ended) refl rising (λ d. turn_live scripts children d)
+turn_live : (children : List RunningChild) (told : List News) (done : List Live) → AreTold children told → Rising (lids done ++ ids children) → live_from (done ++ map next_live children) (flat_map reported told) ≡ done ++ map live_of (left_by children told)
+turn_live [] [] done are rising = refl
+turn_live [] (n ∷ told) done are rising = absurd are
+turn_live (k ∷ children) [] done are rising = absurd are
+turn_live (k ∷ children) (n ∷ told) done are rising =
+    live_then (done ++ next_live k ∷ map next_live children) (reported n) (flat_map reported told)
+    ∙ ap (λ l. live_from l (flat_map reported told)) (reported_live (done ++ next_live k ∷ map next_live children) n.id n.piece n.unread n.ended ∙ ap (λ id. gone_if n.ended id (done ++ next_live k ∷ map next_live children)) are.0)
+    ∙ turn_by told done k children n (is_some n.ended) refl rising (λ d. turn_live children told d are.2)
 
 pub polled_children : (children : List RunningChild) → map (polled 1) (map live_of children) ≡ map next_live children
 polled_children [] = refl
@@ -209,59 +204,66 @@ above_left_by : (m : ℕ) (k : RunningChild) (n : News) (rest : List RunningChil
 above_left_by m k n rest true e lt h = rw e h
 above_left_by m k n rest false e lt h = rw e (lt, h)
 
-above_left : (scripts : List Scripted) (m : ℕ) (children : List RunningChild) → Above m (ids children) → Above m (ids (left_in scripts children))
-above_left scripts m [] h = tt
-above_left scripts m (k ∷ children) h = above_left_by m k (news_of scripts k) (left_in scripts children) (is_some (news_of scripts k).ended) refl h.0 (above_left scripts m children h.1)
+above_left : (m : ℕ) (children : List RunningChild) (told : List News) → Above m (ids children) → Above m (ids (left_by children told))
+above_left m [] told h = tt
+above_left m (k ∷ children) [] h = tt
+above_left m (k ∷ children) (n ∷ told) h = above_left_by m k n (left_by children told) (is_some n.ended) refl h.0 (above_left m children told h.1)
 
 below_left_by : (m : ℕ) (k : RunningChild) (n : News) (rest : List RunningChild) (b : Bool) → is_some n.ended ≡ b → k.id < m → Below (ids rest) m → Below (ids (child_after k n ++ rest)) m
 below_left_by m k n rest true e lt h = rw e h
 below_left_by m k n rest false e lt h = rw e (lt, h)
 
-below_left : (scripts : List Scripted) (m : ℕ) (children : List RunningChild) → Below (ids children) m → Below (ids (left_in scripts children)) m
-below_left scripts m [] h = tt
-below_left scripts m (k ∷ children) h = below_left_by m k (news_of scripts k) (left_in scripts children) (is_some (news_of scripts k).ended) refl h.0 (below_left scripts m children h.1)
+below_left : (m : ℕ) (children : List RunningChild) (told : List News) → Below (ids children) m → Below (ids (left_by children told)) m
+below_left m [] told h = tt
+below_left m (k ∷ children) [] h = tt
+below_left m (k ∷ children) (n ∷ told) h = below_left_by m k n (left_by children told) (is_some n.ended) refl h.0 (below_left m children told h.1)
 
 rising_left_by : (k : RunningChild) (n : News) (rest : List RunningChild) (b : Bool) → is_some n.ended ≡ b → Above k.id (ids rest) → Rising (ids rest) → Rising (ids (child_after k n ++ rest))
 rising_left_by k n rest true e a h = rw e h
 rising_left_by k n rest false e a h = rw e (a, h)
 
-rising_left : (scripts : List Scripted) (children : List RunningChild) → Rising (ids children) → Rising (ids (left_in scripts children))
-rising_left scripts [] h = tt
-rising_left scripts (k ∷ children) h = rising_left_by k (news_of scripts k) (left_in scripts children) (is_some (news_of scripts k).ended) refl (above_left scripts k.id children h.0) (rising_left scripts children h.1)
+rising_left : (children : List RunningChild) (told : List News) → Rising (ids children) → Rising (ids (left_by children told))
+rising_left [] told h = tt
+rising_left (k ∷ children) [] h = tt
+rising_left (k ∷ children) (n ∷ told) h = rising_left_by k n (left_by children told) (is_some n.ended) refl (above_left k.id children told h.0) (rising_left children told h.1)
 
 -- the children whose standard error fails to be read
 
-abbrev mutes : List Scripted → List RunningChild → List ℕ
-mutes scripts = flat_map (λ k. mutes_of (news_of scripts k))
+abbrev mutes : List News → List ℕ
+mutes = flat_map mutes_of
 
-mutes_by : (scripts : List Scripted) (k : RunningChild) (children : List RunningChild) (b : Bool) → has_news (news_of scripts k) ≡ b → flat_map mutes_of (news_in scripts children) ≡ mutes scripts children → flat_map mutes_of (news_in scripts (k ∷ children)) ≡ mutes scripts (k ∷ children)
-mutes_by scripts k children true e h = rw e (ap (λ l. mutes_of (news_of scripts k) ++ l) h)
-mutes_by scripts k children false e h = let n = news_of scripts k in rw e (h ∙ sym (ap (λ l. l ++ mutes scripts children) (none n.id n.piece n.unread n.ended e)))
+mutes_by : (n : News) (told : List News) (b : Bool) → has_news n ≡ b → mutes (filter has_news told) ≡ mutes told → mutes (filter has_news (n ∷ told)) ≡ mutes (n ∷ told)
+mutes_by n told true e h = rw e (ap (λ l. mutes_of n ++ l) h)
+mutes_by n told false e h = rw e (h ∙ sym (ap (λ l. l ++ mutes told) (none n.id n.piece n.unread n.ended e)))
   where
     none : (id : ℕ) (piece : Option (List ℕ)) (un : Bool) (end : Option Status) → (is_some piece || un || is_some end) ≡ false → mutes_if un id ≡ []
     none id piece false end h = refl
     none id None true end h = absurd (cc)
     none id (Some p) true end h = absurd (cc)
 
-mutes_said : (scripts : List Scripted) (children : List RunningChild) → flat_map mutes_of (news_in scripts children) ≡ mutes scripts children
-mutes_said scripts [] = refl
-mutes_said scripts (k ∷ children) = mutes_by scripts k children (has_news (news_of scripts k)) refl (mutes_said scripts children)
+mutes_said : (told : List News) → mutes (filter has_news told) ≡ mutes told
+mutes_said [] = refl
+mutes_said (n ∷ told) = mutes_by n told (has_news n) refl (mutes_said told)
 
 above_if : (m id : ℕ) (un : Bool) (rest : List ℕ) → m < id → Above m rest → Above m (mutes_if un id ++ rest)
 above_if m id true rest lt h = (lt, h)
 above_if m id false rest lt h = h
 
-above_mutes : (scripts : List Scripted) (m : ℕ) (children : List RunningChild) → Above m (ids children) → Above m (mutes scripts children)
-above_mutes scripts m [] h = tt
-above_mutes scripts m (k ∷ children) h = above_if m (news_of scripts k).id (news_of scripts k).unread (mutes scripts children) (subst (λ id. m < id) (sym (news_id scripts k)) h.0) (above_mutes scripts m children h.1)
+above_mutes : (m : ℕ) (children : List RunningChild) (told : List News) → AreTold children told → Above m (ids children) → Above m (mutes told)
+above_mutes m [] [] are h = tt
+above_mutes m [] (n ∷ told) are h = absurd are
+above_mutes m (k ∷ children) [] are h = absurd are
+above_mutes m (k ∷ children) (n ∷ told) are h = above_if m n.id n.unread (mutes told) (subst (λ id. m < id) (sym are.0) h.0) (above_mutes m children told are.2 h.1)
 
 below_if : (m id : ℕ) (un : Bool) (rest : List ℕ) → id < m → Below rest m → Below (mutes_if un id ++ rest) m
 below_if m id true rest lt h = (lt, h)
 below_if m id false rest lt h = h
 
-below_mutes : (scripts : List Scripted) (m : ℕ) (children : List RunningChild) → Below (ids children) m → Below (mutes scripts children) m
-below_mutes scripts m [] h = tt
-below_mutes scripts m (k ∷ children) h = below_if m (news_of scripts k).id (news_of scripts k).unread (mutes scripts children) (subst (λ id. id < m) (sym (news_id scripts k)) h.0) (below_mutes scripts m children h.1)
+below_mutes : (m : ℕ) (children : List RunningChild) (told : List News) → AreTold children told → Below (ids children) m → Below (mutes told) m
+below_mutes m [] [] are h = tt
+below_mutes m [] (n ∷ told) are h = absurd are
+below_mutes m (k ∷ children) [] are h = absurd are
+below_mutes m (k ∷ children) (n ∷ told) are h = below_if m n.id n.unread (mutes told) (subst (λ id. id < m) (sym are.0) h.0) (below_mutes m children told are.2 h.1)
 
 -- the first of these has only lower ids before it
 abbrev BeforeFirst : List ℕ → List RunningChild → Type 0
@@ -282,43 +284,43 @@ before_next earlier n k (j ∷ children) is b a =
     one false = tt
 
 -- a child that stays heard isn't among those that fail to be read
-heed_here : (scripts : List Scripted) (us earlier : List ℕ) (k : RunningChild) (children : List RunningChild) → (k.mute ≡ false → Contains us k.id → ⊥) → Below earlier k.id → Above k.id (ids children) → (k.mute || (news_of scripts k).unread) ≡ false → Contains (us ++ (earlier ++ (mutes_of (news_of scripts k) ++ mutes scripts children))) k.id → ⊥
-heed_here scripts us earlier k children h b a heard_on c = deeper (mutes_of (news_of scripts k) ++ mutes scripts children) (ap (λ x. mutes_if x (news_of scripts k).id ++ mutes scripts children) off.1) off.0 c
+heed_here : (us earlier : List ℕ) (k : RunningChild) (children : List RunningChild) (n : News) (told : List News) → AreTold children told → (k.mute ≡ false → Contains us k.id → ⊥) → Below earlier k.id → Above k.id (ids children) → (k.mute || n.unread) ≡ false → Contains (us ++ (earlier ++ (mutes_of n ++ mutes told))) k.id → ⊥
+heed_here us earlier k children n told are h b a heard_on c = deeper (mutes_of n ++ mutes told) (ap (λ x. mutes_if x n.id ++ mutes told) off.1) off.0 c
   where
-    off : (k.mute ≡ false) × ((news_of scripts k).unread ≡ false)
-    off = or_false k.mute (news_of scripts k).unread heard_on
+    off : (k.mute ≡ false) × (n.unread ≡ false)
+    off = or_false k.mute n.unread heard_on
 
-    deeper : (rest : List ℕ) → rest ≡ mutes scripts children → k.mute ≡ false → Contains (us ++ (earlier ++ rest)) k.id → ⊥
-    deeper rest e m all = ⊎_elim (h m) (λ later. ⊎_elim (below_lacks earlier k.id b) (λ last. above_lacks k.id (mutes scripts children) (above_mutes scripts k.id children a) (subst (λ l. Contains l k.id) e last)) (Contains-append_cases earlier rest k.id later)) (Contains-append_cases us (earlier ++ rest) k.id all)
+    deeper : (rest : List ℕ) → rest ≡ mutes told → k.mute ≡ false → Contains (us ++ (earlier ++ rest)) k.id → ⊥
+    deeper rest e m all = ⊎_elim (h m) (λ later. ⊎_elim (below_lacks earlier k.id b) (λ last. above_lacks k.id (mutes told) (above_mutes k.id children told are a) (subst (λ l. Contains l k.id) e last)) (Contains-append_cases earlier rest k.id later)) (Contains-append_cases us (earlier ++ rest) k.id all)
 
 heeds_step : (all : List ℕ) (k : RunningChild) (n : News) (rest : List RunningChild) (b : Bool) → is_some n.ended ≡ b → ((k.mute || n.unread) ≡ false → Contains all k.id → ⊥) → Heeds all rest → Heeds all (child_after k n ++ rest)
 heeds_step all k n rest true e one h = rw e h
 heeds_step all k n rest false e one h = rw e (one, h)
 
-heeds_turn : (scripts : List Scripted) (us : List ℕ) (children : List RunningChild) (earlier : List ℕ) → BeforeFirst earlier children → Rising (ids children) → Heeds us children → Heeds (us ++ (earlier ++ mutes scripts children)) (left_in scripts children)
-heeds_turn scripts us [] earlier b r h = tt
-heeds_turn scripts us (k ∷ children) earlier b r h =
-    let n = news_of scripts k in
-    let rest = heeds_turn scripts us children (earlier ++ mutes_of n) (before_next earlier n k children (news_id scripts k) b r.0) r.1 h.1 in
-    heeds_step (us ++ (earlier ++ mutes scripts (k ∷ children))) k n (left_in scripts children) (is_some n.ended) refl (heed_here scripts us earlier k children h.0 b r.0)
-    (subst (λ l. Heeds (us ++ l) (left_in scripts children)) (append_assoc earlier (mutes_of n) (mutes scripts children)) rest)
+heeds_turn : (us : List ℕ) (children : List RunningChild) (told : List News) (earlier : List ℕ) → AreTold children told → BeforeFirst earlier children → Rising (ids children) → Heeds us children → Heeds (us ++ (earlier ++ mutes told)) (left_by children told)
+heeds_turn us [] told earlier are b r h = tt
+heeds_turn us (k ∷ children) [] earlier are b r h = absurd are
+heeds_turn us (k ∷ children) (n ∷ told) earlier are b r h =
+    let rest = heeds_turn us children told (earlier ++ mutes_of n) are.2 (before_next earlier n k children are.0 b r.0) r.1 h.1 in
+    heeds_step (us ++ (earlier ++ mutes (n ∷ told))) k n (left_by children told) (is_some n.ended) refl (heed_here us earlier k children n told are.2 h.0 b r.0)
+    (subst (λ l. Heeds (us ++ l) (left_by children told)) (append_assoc earlier (mutes_of n) (mutes told)) rest)
 
 before_none : (children : List RunningChild) → BeforeFirst [] children
 before_none [] = tt
 before_none (k ∷ children) = tt
 
-pub alive_turn : (log new : List Event) (next : ℕ) (children : List RunningChild) (scripts : List Scripted) → new ≡ log ++ Turn 1 ∷ flat_map reported (news_in scripts children) → AreRunning log next children → AreRunning new next (left_in scripts children)
-alive_turn log new next children scripts is alive =
-    let news = news_in scripts children in
+pub alive_turn : (log new : List Event) (next : ℕ) (children : List RunningChild) (told : List News) → AreTold children told → new ≡ log ++ Turn 1 ∷ flat_map reported (filter has_news told) → AreRunning log next children → AreRunning new next (left_by children told)
+alive_turn log new next children told are is alive =
+    let news = filter has_news told in
     let events : List Event = Turn 1 ∷ flat_map reported news in
-    let u : unreads new ≡ unreads log ++ mutes scripts children = ap unreads is ∙ flat_map-append unread_of log events ∙ ap (λ l. unreads log ++ l) (all_mutes news ∙ mutes_said scripts children) in
+    let u : unreads new ≡ unreads log ++ mutes told = ap unreads is ∙ flat_map-append unread_of log events ∙ ap (λ l. unreads log ++ l) (all_mutes news ∙ mutes_said told) in
     let s : started_ids new ≡ started_ids log = ap started_ids is ∙ flat_map-append id_of log events ∙ ap (λ l. started_ids log ++ l) (all_starts news) ∙ append-nil (started_ids log) in
     record {
-      run = ap live is ∙ live_then [] log events ∙ ap (λ l. live_from (map (polled 1) l) (flat_map reported news)) alive.run ∙ ap (λ l. live_from l (flat_map reported news)) (polled_children children) ∙ ap (live_from (map next_live children)) (said scripts children) ∙ turn_live scripts children [] alive.rising;
+      run = ap live is ∙ live_then [] log events ∙ ap (λ l. live_from (map (polled 1) l) (flat_map reported news)) alive.run ∙ ap (λ l. live_from l (flat_map reported news)) (polled_children children) ∙ ap (live_from (map next_live children)) (said told) ∙ turn_live children told [] are alive.rising;
       count = alive.count ∙ ap length (sym s);
       drawn = subst (λ l. Below l next) (sym s) alive.drawn;
-      rising = rising_left scripts children alive.rising;
-      below = below_left scripts next children alive.below;
-      heard = subst (λ l. Below l next) (sym u) (below_both (unreads log) (mutes scripts children) next alive.heard (below_mutes scripts next children alive.below));
-      heeds = subst (λ l. Heeds l (left_in scripts children)) (sym u) (heeds_turn scripts (unreads log) children [] (before_none children) alive.rising alive.heeds);
+      rising = rising_left children told alive.rising;
+      below = below_left next children told alive.below;
+      heard = subst (λ l. Below l next) (sym u) (below_both (unreads log) (mutes told) next alive.heard (below_mutes next children told are alive.below));
+      heeds = subst (λ l. Heeds l (left_by children told)) (sym u) (heeds_turn (unreads log) children told [] are (before_none children) alive.rising alive.heeds);
     }

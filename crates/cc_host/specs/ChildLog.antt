@@ -1,5 +1,5 @@
 -- The log of a host with the children that run: what a child does in a turn, and those that are left after it.
-use Rattle.std.specs.Prelude.{◌≡◌, ◌≢◌, ◌<◌, ℕ, ◌+◌, pos, List, [], ◌∷◌, ◌++◌, length, drop, map, filter, slice_get, Bool, true, false, ◌&&◌, ◌||◌, ◌==◌, nat_le, is_some, Option, Some, None, if◌then◌else◌}
+use Rattle.std.specs.Prelude.{◌≡◌, ◌≢◌, ◌<◌, ℕ, ◌+◌, pos, List, [], ◌∷◌, ◌++◌, length, map, filter, slice_get, Bool, false, ◌&&◌, ◌||◌, ◌==◌, nat_le, is_some, Option, Some, None, if◌then◌else◌}
 use Rattle.std.specs.List.{flat_map, remove, Contains}
 use Rattle.cc_host.specs.Calls.{plus_one}
 use Rattle.cc_host.specs.Children.{Live, live, live_after, id_of, started_ids, unread_of, unreads}
@@ -109,14 +109,6 @@ pub record AreRunning (log : List Event) (next : ℕ) (children : List RunningCh
 abbrev pub begun : ℕ → Option ℕ → RunningChild
 begun id place = record { id = id; polls = 0; mute = false; place = place }
 
--- a child after a turn in which it did nothing
-abbrev pub older : RunningChild → RunningChild
-older child = record { id = child.id; polls = child.polls + 1; mute = child.mute; place = child.place }
-
--- the children after a turn in which the oldest ended and the others did nothing
-abbrev pub without_oldest : List RunningChild → List RunningChild
-without_oldest children = map older (drop 1 children)
-
 -- the piece that a child gives, where its standard error can be read
 abbrev pub piece_by : Bool → List ℕ → Option (List ℕ)
 piece_by mute bytes = if mute then None else full (Some bytes)
@@ -126,11 +118,19 @@ abbrev pub IsPieceBy : Bool → Option (List ℕ) → Type 0
 IsPieceBy mute None = Unit {0}
 IsPieceBy mute (Some piece) = (piece ≢ []) × (mute ≡ false)
 
--- the oldest of these children ended
-abbrev pub IsEndOfOldest : List RunningChild → News → Type 0
-IsEndOfOldest [] news = ⊥
-IsEndOfOldest (child ∷ children) news =
-    (news.id ≡ child.id) × (is_some news.ended ≡ true) × IsPieceBy child.mute news.piece
+-- what each of these children did in a turn, one item for each in their order
+abbrev pub AreTold : List RunningChild → List News → Type 0
+AreTold [] [] = Unit {0}
+AreTold [] (news ∷ told) = ⊥
+AreTold (child ∷ children) [] = ⊥
+AreTold (child ∷ children) (news ∷ told) =
+    (news.id ≡ child.id) × IsPieceBy child.mute news.piece × AreTold children told
+
+-- the children that run on after a turn in which each did what is told
+abbrev pub left_by : List RunningChild → List News → List RunningChild
+left_by [] told = []
+left_by (child ∷ children) [] = []
+left_by (child ∷ children) (news ∷ told) = child_after child news ++ left_by children told
 
 -- the first child of that id is at this place
 abbrev pub IsChildAt : ℕ → List RunningChild → ℕ → Type 0

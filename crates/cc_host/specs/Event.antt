@@ -30,7 +30,7 @@ use Rattle.cc_host.specs.declared.event.HostError.TheVariants.{Fault as Failed, 
 use Rattle.cc_host.specs.declared.event.Ran.{Ran}
 use Rattle.cc_host.specs.declared.event.Ran.TheVariants.{Missing as Absent, Done}
 use Rattle.cc_host.specs.declared.event.Event.{Event}
-use Rattle.cc_host.specs.declared.event.Event.TheVariants.{Started, Ended, Heard, Unread, Turn, Ran as RanTo, Missing, Answered, Reused, Unasked, Drawn, Opened, Taken, Made, Removed, Printed, Listed, Fault}
+use Rattle.cc_host.specs.declared.event.Event.TheVariants.{Started, Ended, Heard, Unread, Turn, Ran as RanTo, Missing, Answered, Reused, Unasked, Drawn, Opened, Taken, Made, Removed, Wrote, Printed, Listed, Fault}
 
 -- a refused call adds its fault, and nothing where memory is refused
 abbrev pub refused : HostError → List Event
@@ -76,6 +76,10 @@ ran role cmd pipes (Err e) = refused e
 abbrev pub made : {T : Type 0} → Scope → List ℕ → Result T HostError → List Event
 made scope path (Ok _) = Made scope path ∷ []
 made scope path (Err e) = refused e
+
+abbrev pub wrote : {T : Type 0} → List ℕ → List ℕ → Result T HostError → List Event
+wrote path bytes (Ok _) = Wrote path bytes ∷ []
+wrote path bytes (Err e) = refused e
 
 abbrev pub removed : List ℕ → Result Removal HostError → List Event
 removed path (Ok how) = Removed path how ∷ []

@@ -18,8 +18,8 @@ use std::alloc::Global;
 use std::marker::Model;
 
 /// A host in memory. Commands end as they are scripted, or with 0 at their first turn, and write nothing. Questions come to what was
-/// given for them, or to answers of a plain GCC. The files on it are those that it was given, and the probe files that were made.
-/// Its variables are those that it was given, none at first. A call faults only where `fail` was called.
+/// given for them, or to answers of a plain GCC. The files on it are those that it was given or that were written, and the probe files that
+/// were made. Its variables are those that it was given, none at first. A call faults only where `fail` was called.
 #[derive(Drop)]
 pub struct BenchHost {
     pub(crate) alloc: Global,

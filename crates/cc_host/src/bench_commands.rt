@@ -1,7 +1,7 @@
 // What a host in memory does with commands and files.
 ghost use Rattle.std.specs.Prelude.{◌≡◌, ◌++◌, ◌∷◌, [], Ok, IfOk, OnOk, OnErr};
-ghost use Rattle.cc_host.specs.declared.event.Event.TheVariants.{Started, Opened};
-ghost use Rattle.cc_host.specs.declared.event.HostCall.TheVariants.{Output, CreateProbe};
+ghost use Rattle.cc_host.specs.declared.event.Event.TheVariants.{Started, Opened, Wrote};
+ghost use Rattle.cc_host.specs.declared.event.HostCall.TheVariants.{Output, CreateProbe, Write};
 ghost use Rattle.cc_host.specs.declared.event.Ran.TheVariants.{Done};
 ghost use Rattle.cc_host.specs.declared.event.Start.TheVariants.{Child};
 ghost use Rattle.cc_host.specs.Children.{IsFresh};
@@ -113,6 +113,22 @@ impl BenchHost {
         self.files.push(file)?;
         self.journal.note_opened(name, kept, bytes);
         self.made.count(HostCall::CreateProbe);
+        Ok(())
+    }
+
+    // Writes a file, whether one stands there or not.
+    pub(crate) fn put_file(&mut self, path: &str, contents: &[u8]) -> Mem<()>
+        ensures ok { OnOk result (self.new
+            ≡ called Write (Wrote path.now contents.now ∷ []) (with_file path.now self.old)) }
+        ensures err { OnErr result (self.new ≡ self.old) }
+    {
+        let name = Text::of(self.alloc, path)?;
+        let file = Text::of(self.alloc, path)?;
+        let bytes = Bytes::of(self.alloc, contents)?;
+        self.journal.reserve(1)?;
+        self.files.push(file)?;
+        self.journal.note(Event::Wrote { path: name, bytes });
+        self.made.count(HostCall::Write);
         Ok(())
     }
 }

@@ -4,15 +4,15 @@ ghost use Rattle.std.specs.List.{Contains};
 ghost use Rattle.std.specs.Result.{result_map_both};
 ghost use Rattle.cc_host.specs.Children.{running, IsFresh, IsNews, Waits};
 ghost use Rattle.cc_host.specs.declared.event.Event.TheVariants.{Abandoned, Dropped};
-ghost use Rattle.cc_host.specs.declared.event.HostCall.TheVariants.{Start as Starts, Turn as Turns, Output, MakeDir, CreateProbe, Remove as Removes, Print, Vars as ListsVars};
+ghost use Rattle.cc_host.specs.declared.event.HostCall.TheVariants.{Start as Starts, Turn as Turns, Output, MakeDir, CreateProbe, Write as Writes, Remove as Removes, Print, Vars as ListsVars};
 ghost use Rattle.cc_host.specs.declared.event.Why.{Why};
 ghost use Rattle.cc_host.specs.declared.question.Ask.TheVariants.{Exists as AsksExists};
 ghost use Rattle.cc_host.specs.declared.question.Outcome.TheVariants.{Unanswered};
-ghost use Rattle.cc_host.specs.Event.{started, turned, refused, ran, probed, found, reused, unasked, drawn, created, made, removed, printed, listed, Rose, IsCaused, IsSilent};
+ghost use Rattle.cc_host.specs.Event.{started, turned, refused, ran, probed, found, reused, unasked, drawn, created, made, wrote, removed, printed, listed, Rose, IsCaused, IsSilent};
 ghost use Rattle.cc_host.specs.Probe.{IsOpen};
 ghost use Rattle.cc_host.specs.Script.{patience_of};
 ghost use Rattle.cc_host.specs.Given.{default_outcome};
-ghost use Rattle.cc_host.specs.Bench.{KeepsBench, has_file, answer_to, creation_of, removal_of, removed_at, with_probe, without_path, left_alone, drawn_from, next_word, probe_outcome, probe_after, Answers, Replies, IsStart, IsTurn, Gives, IsPlain, plain_end, IsPlainStart, IsPlainTurn};
+ghost use Rattle.cc_host.specs.Bench.{KeepsBench, has_file, answer_to, creation_of, removal_of, removed_at, with_probe, with_file, without_path, left_alone, drawn_from, next_word, probe_outcome, probe_after, Answers, Replies, IsStart, IsTurn, Gives, IsPlain, plain_end, IsPlainStart, IsPlainTurn};
 
 use crate::bench::take_word;
 use crate::script::has_word;
@@ -230,6 +230,21 @@ impl Host<Bench> for BenchHost {
         }
         let path = Text::of(self.alloc, path)?;
         self.add_call(HostCall::MakeDir(scope), Event::Made { scope, path })?;
+        Ok(())
+    }
+
+    fn write_file(&mut self, path: &str, contents: &[u8]) -> Result<(), HostError>
+        ensures adds { self.new.log ≡ self.old.log ++ wrote path.now contents.now result }
+        ensures keeps { KeepsBench self.old self.new }
+        ensures cause { IfErr result (IsCaused Writes self.old.faults self.new.faults) }
+        ensures answers { Answers Writes tt (with_file path.now self.old)
+            self.old self.new result }
+        ensures plain { IsPlain self.old → IsPlain self.new × Gives tt result }
+    {
+        if self.fails_next(HostCall::Write) {
+            return Err(self.fault(HostCall::Write));
+        }
+        self.put_file(path, contents)?;
         Ok(())
     }
 

@@ -1,10 +1,10 @@
 // A child of a host in memory, and what it does in a turn.
-ghost use Rattle.std.specs.Prelude.{◌≡◌, ◌≤◌, ◌+◌, length, map, vec_len, is_some, Some, None, IfOk, OnOk, [], ◌∷◌, ◌++◌, filter, if◌then◌else◌};
+ghost use Rattle.std.specs.Prelude.{◌≡◌, ◌≤◌, ◌+◌, length, map, vec_len, is_some, Some, None, IfOk, OnOk, [], ◌∷◌, ◌++◌, if◌then◌else◌};
 ghost use Rattle.std.specs.List.{flat_map};
 ghost use Rattle.std.specs.Option.{option_copied};
 ghost use Rattle.cc_host.specs.Event.{reported};
 ghost use Rattle.cc_host.specs.Script.{is_met, turns_out, script_at};
-ghost use Rattle.cc_host.specs.ChildLog.{full, piece_next, unread_next, ends_next, news_by, news_of, has_news, news_in, child_after, left_in, older, without_oldest};
+ghost use Rattle.cc_host.specs.ChildLog.{full, piece_next, unread_next, ends_next, news_by, news_of, has_news, child_after, left_by};
 
 use crate::script::Scripted;
 use crate::{Event, News, Status};
@@ -122,30 +122,21 @@ fn news_of(child: RunningChild, scripts: &[Scripted]) -> Mem<News>
     news_by(turn, child, script_at(scripts, child.place))
 }
 
-fn has_news(news: &News) -> bool
+/// Whether a child did something in a turn.
+pub fn has_news(news: &News) -> bool
     ensures { result ≡ has_news news.now }
 {
     news.piece.is_some() || news.unread || news.ended.is_some()
 }
 
-// Adds what a child did, where it did something.
-fn add_news(list: &mut Vec<News>, news: News) -> Mem<()>
-    ensures { OnOk result (list.new.items ≡ list.old.items ++ filter has_news (news ∷ [])) }
-{
-    if has_news(&news) {
-        list.push(news)?;
-    }
-    Ok(())
-}
-
-/// What the children do in a turn, in start order.
-#[tactic(auto, using(crate::proofs::ChildLemmas::news_more))]
-pub fn news_in(alloc: Global, children: &[RunningChild], scripts: &[Scripted]) -> Mem<Vec<News>>
-    ensures { IfOk result (λ v. v.items ≡ news_in scripts.now children.now) }
+/// What each child of a host in memory does in a turn, in start order.
+#[tactic(auto, using(crate::proofs::ChildLemmas::told_more))]
+pub fn told_by(alloc: Global, children: &[RunningChild], scripts: &[Scripted]) -> Mem<Vec<News>>
+    ensures { IfOk result (λ v. v.items ≡ map (news_of scripts.now) children.now) }
 {
     let mut list = Vec::new(alloc);
     for child in children {
-        add_news(&mut list, news_of(*child, scripts)?)?;
+        list.push(news_of(*child, scripts)?)?;
     }
     Ok(list)
 }
@@ -169,58 +160,18 @@ fn add_child(list: &mut Vec<RunningChild>, child: RunningChild, news: &News) -> 
     Ok(())
 }
 
-/// The children that run on after a turn.
+/// The children that run on after a turn in which each did what is told.
 #[tactic(auto, using(crate::proofs::ChildLemmas::left_more, crate::proofs::ChildLemmas::left_short))]
-pub fn left_in(
-    alloc: Global,
-    children: &[RunningChild],
-    scripts: &[Scripted],
-) -> Mem<Vec<RunningChild>>
-    ensures children { IfOk result (λ v. v.items ≡ left_in scripts.now children.now) }
+pub fn left_by(alloc: Global, children: &[RunningChild], told: &[News]) -> Mem<Vec<RunningChild>>
+    requires { length told.now ≡ length children.now }
+    ensures children { IfOk result (λ v. v.items ≡ left_by children.now told.now) }
     ensures len { IfOk result (λ v. vec_len v ≤ length children.now) }
 {
     let mut list = Vec::new(alloc);
-    for child in children {
-        add_child(&mut list, *child, &news_of(*child, scripts)?)?;
+    for at in 0..children.len() {
+        add_child(&mut list, children[at], &told[at])?;
     }
     Ok(list)
-}
-
-// A child after a turn in which it did nothing. One that ran through as many turns as can be counted is refused another.
-fn older(child: RunningChild) -> Mem<RunningChild>
-    ensures { IfOk result (λ c. c ≡ older child) }
-{
-    match child.polls.checked_add(1) {
-        Some(polls) => Ok(RunningChild {
-            id: child.id,
-            polls,
-            mute: child.mute,
-            place: child.place,
-        }),
-        None => Err(NoMemory),
-    }
-}
-
-// The children after a turn in which they did nothing.
-#[tactic(auto, using(crate::proofs::ChildLemmas::older_more))]
-fn older_all(alloc: Global, children: &[RunningChild]) -> Mem<Vec<RunningChild>>
-    ensures { IfOk result (λ v. v.items ≡ map older children.now) }
-{
-    let mut list = Vec::new(alloc);
-    for child in children {
-        list.push(older(*child)?)?;
-    }
-    Ok(list)
-}
-
-/// The children that run on after a turn in which the oldest ends and the others do nothing.
-pub fn left_by_oldest(alloc: Global, children: &[RunningChild]) -> Mem<Vec<RunningChild>>
-    ensures { IfOk result (λ v. v.items ≡ without_oldest children.now) }
-{
-    match children.split_first() {
-        Some((_, rest)) => older_all(alloc, rest),
-        None => Ok(Vec::new(alloc)),
-    }
 }
 
 fn add_events(events: &mut Vec<Event>, news: &News) -> Mem<()>

@@ -1,15 +1,15 @@
 // The log of a host, and the children that run on it.
-ghost use Rattle.std.specs.Prelude.{◌≡◌, ◌+◌, ◌-◌, ◌^◌, ◌<◌, ◌≤◌, [], ◌∷◌, ◌++◌, vec_len, vec_capacity, slice_get, IfOk, IfSome, OnOk, OnErr, MatchOption};
+ghost use Rattle.std.specs.Prelude.{◌≡◌, ◌+◌, ◌-◌, ◌^◌, ◌<◌, ◌≤◌, [], ◌∷◌, ◌++◌, filter, map, vec_len, vec_capacity, IfOk, IfSome, OnOk, OnErr, MatchOption};
 ghost use Rattle.std.specs.List.{flat_map, Contains};
 ghost use Rattle.cc_host.specs.declared.event.Event.TheVariants.{Started, Abandoned, Opened, Dropped, Turn as OneTurn};
 ghost use Rattle.cc_host.specs.declared.event.Start.TheVariants.{Child};
 ghost use Rattle.cc_host.specs.declared.event.HostError.TheVariants.{Fault as Failed};
-ghost use Rattle.cc_host.specs.Children.{running, IsFresh, IsNews, Waits};
+ghost use Rattle.cc_host.specs.Children.{live, running, IsFresh, IsNews, Waits};
 ghost use Rattle.cc_host.specs.Journal.{IsQuiet};
 ghost use Rattle.cc_host.specs.Probe.{IsOpen, IsTidy};
 ghost use Rattle.cc_host.specs.Script.{patience_of, was_met};
-ghost use Rattle.cc_host.specs.Event.{apart, reported, turned};
-ghost use Rattle.cc_host.specs.ChildLog.{ChildLogSeen, AreRunning, IsIdle, news_in, left_in, without_child, begun, without_oldest, IsEndOfOldest, IsChildAt, Reserves, ReservesChild, Adds, AddsProbe, AddsFault};
+ghost use Rattle.cc_host.specs.Event.{apart, turned};
+ghost use Rattle.cc_host.specs.ChildLog.{ChildLogSeen, AreRunning, AreTold, IsIdle, live_of, has_news, news_in, left_in, left_by, without_child, begun, IsChildAt, Reserves, ReservesChild, Adds, AddsProbe, AddsFault};
 
 use crate::child::{self, RunningChild};
 use crate::script::{self, Scripted};
@@ -168,6 +168,40 @@ impl ChildLog {
         id
     }
 
+    /// The children that run, in start order, lent.
+    pub fn children(&self) -> &[RunningChild]
+        ensures { result.now ≡ self.now.children }
+    {
+        &self.children
+    }
+
+    /// Adds a turn in which each child that runs did what is told of it, one item for each in start order, and answers the items
+    /// of those that did something. Refused for memory, the events are as before.
+    pub fn turn_told(&mut self, mut told: Vec<News>) -> Mem<Vec<News>>
+        requires { AreTold self.old.children told.items }
+        ensures log { IfOk result (λ news. self.new.log ≡ self.old.log ++ turned news.items) }
+        ensures told { IfOk result (λ news. news.items ≡ filter has_news told.items) }
+        ensures children { OnOk result
+            (self.new.children ≡ left_by self.old.children told.items) }
+        ensures run { OnOk result (live self.new.log ≡ map live_of self.new.children) }
+        ensures news { IfOk result (λ news. IsNews self.old.log news.items) }
+        ensures faults { self.new.faults ≡ self.old.faults }
+        ensures err { OnErr result (self.new ≡ record self.old { places = self.new.places }) }
+    {
+        let left = child::left_by(self.alloc, &self.children, &told)?;
+        let events = child::events_of(self.alloc, &told)?;
+        let Some(more) = events.len().checked_add(1) else {
+            return Err(NoMemory);
+        };
+        self.journal.reserve(more)?;
+        self.journal.note_turn();
+        self.journal.note_all(events);
+        self.journal.keep_children(left.len());
+        self.children = left;
+        keep_news(&mut told);
+        Ok(told)
+    }
+
     /// Lets each child run through one turn. Refused for memory, the events are as before.
     pub fn turn(&mut self, scripts: &[Scripted]) -> Mem<Vec<News>>
         ensures log { IfOk result (λ news. self.new.log ≡ self.old.log ++ turned news.items) }
@@ -180,58 +214,9 @@ impl ChildLog {
         ensures faults { self.new.faults ≡ self.old.faults }
         ensures err { OnErr result (self.new ≡ record self.old { places = self.new.places }) }
     {
-        let news = child::news_in(self.alloc, &self.children, scripts)?;
-        let left = child::left_in(self.alloc, &self.children, scripts)?;
-        let events = child::events_of(self.alloc, &news)?;
-        let Some(more) = events.len().checked_add(1) else {
-            return Err(NoMemory);
-        };
-        self.journal.reserve(more)?;
-        self.journal.note_turn();
-        self.journal.note_all(events);
-        self.journal.keep_children(left.len());
-        self.children = left;
+        let told = child::told_by(self.alloc, &self.children, scripts)?;
+        let news = self.turn_told(told)?;
         Ok(news)
-    }
-
-    /// The child that was started first of those that run.
-    pub fn oldest(&self) -> Option<RunningChild>
-        ensures { result ≡ slice_get self.now.children 0 }
-    {
-        self.children.first().copied()
-    }
-
-    /// Adds a turn in which no child runs.
-    pub fn note_rest(&mut self)
-        requires place { 0 < self.old.places }
-        requires none { self.old.children ≡ [] }
-        ensures same { Adds (OneTurn 1) self.old self.new }
-    {
-        self.journal.note_turn();
-    }
-
-    /// The children that run on after a turn in which the oldest ends and the others do nothing.
-    pub fn left_by_oldest(&self) -> Mem<Vec<RunningChild>>
-        ensures { IfOk result (λ left. left.items ≡ without_oldest self.now.children) }
-    {
-        child::left_by_oldest(self.alloc, &self.children)
-    }
-
-    /// Adds a turn in which the oldest child ended, given what it did, that as events, and the children that run on.
-    pub fn end_oldest(&mut self, news: &News, events: Vec<Event>, left: Vec<RunningChild>)
-        requires places { vec_len events < self.old.places }
-        requires own { IsEndOfOldest self.old.children news.now }
-        requires events { events.items ≡ reported news.now }
-        requires left { left.items ≡ without_oldest self.old.children }
-        ensures log { self.new.log ≡ self.old.log ++ turned (news.now ∷ []) }
-        ensures children { self.new.children ≡ without_oldest self.old.children }
-        ensures news { IsNews self.old.log (news.now ∷ []) }
-        ensures faults { self.new.faults ≡ self.old.faults }
-    {
-        self.journal.note_turn();
-        self.journal.note_all(events);
-        self.journal.keep_children(left.len());
-        self.children = left;
     }
 
     /// Leaves a child alone that runs, which takes no memory. The place is answered at which it stood.
@@ -266,6 +251,13 @@ impl ChildLog {
     {
         self.journal.events()
     }
+}
+
+// Takes out the items of those that did nothing.
+fn keep_news(told: &mut Vec<News>)
+    ensures { told.new.items ≡ filter has_news told.old.items }
+{
+    told.retain(|news| child::has_news(news));
 }
 
 // The place of the first child of an id.

@@ -121,6 +121,8 @@ pub enum HostCall {
     MakeDir(Scope),
     /// A probe file was to be made.
     CreateProbe,
+    /// A file was to be written.
+    Write,
     /// A file was to be removed.
     Remove,
     /// Bytes were to be printed.
@@ -298,6 +300,11 @@ pub enum Event {
     Removed {
         path: Text,
         how: Removal,
+    },
+    /// A file has these bytes now, and no others.
+    Wrote {
+        path: Text,
+        bytes: Bytes,
     },
     /// Bytes were printed.
     Printed {

@@ -5,11 +5,11 @@ ghost use Rattle.cc_host.specs.Call.{Keeps};
 ghost use Rattle.cc_host.specs.Children.{running, IsFresh, IsNews, Waits};
 ghost use Rattle.cc_host.specs.declared.event.Event.{Event};
 ghost use Rattle.cc_host.specs.declared.event.Event.TheVariants.{Abandoned, Dropped};
-ghost use Rattle.cc_host.specs.declared.event.HostCall.TheVariants.{Start as Starts, Turn as Turns, Output, MakeDir, CreateProbe, Remove, Print, Vars as ListsVars};
+ghost use Rattle.cc_host.specs.declared.event.HostCall.TheVariants.{Start as Starts, Turn as Turns, Output, MakeDir, CreateProbe, Write, Remove, Print, Vars as ListsVars};
 ghost use Rattle.cc_host.specs.declared.event.Why.{Why};
 ghost use Rattle.cc_host.specs.declared.question.Ask.TheVariants.{Exists as AsksExists};
 ghost use Rattle.cc_host.specs.declared.question.Outcome.TheVariants.{Unanswered};
-ghost use Rattle.cc_host.specs.Event.{started, turned, refused, ran, probed, found, reused, unasked, drawn, created, made, removed, printed, listed, apart, Rose, IsCaused, IsSilent};
+ghost use Rattle.cc_host.specs.Event.{started, turned, refused, ran, probed, found, reused, unasked, drawn, created, made, wrote, removed, printed, listed, apart, Rose, IsCaused, IsSilent};
 ghost use Rattle.cc_host.specs.Probe.{IsOpen, IsTidy};
 
 use crate::{
@@ -33,8 +33,9 @@ pub trait World: Send + Sync {
 
 /// What runs commands, keeps files and prints.
 ///
-/// A refused call did nothing. It adds its fault to the log, or nothing where memory was refused. One thing is excepted: a command
-/// that ran to its end, and whose end memory was wanting to keep, did run.
+/// A refused call did nothing. It adds its fault to the log, or nothing where memory was refused. Two things are excepted: a command
+/// that ran to its end, and whose end memory was wanting to keep, did run; and a file that couldn't be written whole may have a part
+/// of its bytes, or none.
 pub trait Host<W: World> {
     /// The events so far, oldest first.
     ghost log: { Self → List Event };
@@ -59,8 +60,8 @@ pub trait Host<W: World> {
         ensures cause { IfErr result (IsCaused Starts (faults self.old) (faults self.new)) };
 
     /// Lets every child that runs go on by a turn, and answers what each did in it, in start order; a child that did nothing has no
-    /// item. A host in memory lets each child's script go one turn. A host over the machine waits for the oldest child that runs, and
-    /// answers its end. A host may rest first, at most so many milliseconds.
+    /// item. A host in memory lets each child's script go one turn. A host over the machine answers what each child did since the turn
+    /// before. A host may rest first, at most so many milliseconds.
     fn turn(&mut self, rest_ms: u64) -> Result<Vec<News>, HostError>
         ensures adds { IfOk result (λ news. log self.new ≡ log self.old ++ turned news.items) }
         ensures refuses { IfErr result (λ e. log self.new ≡ log self.old ++ refused e) }
@@ -132,6 +133,13 @@ pub trait Host<W: World> {
         ensures keeps { Keeps faults patience self.old self.new }
         ensures cause { IfErr result
             (IsCaused (MakeDir scope) (faults self.old) (faults self.new)) };
+
+    /// Writes a file: it has exactly these bytes then, in place of those that a file of this path had. Refused is one that can't be
+    /// written, as where its folder isn't there, where it is a folder itself, or where its bytes don't fit.
+    fn write_file(&mut self, path: &str, contents: &[u8]) -> Result<(), HostError>
+        ensures adds { log self.new ≡ log self.old ++ wrote path.now contents.now result }
+        ensures keeps { Keeps faults patience self.old self.new }
+        ensures cause { IfErr result (IsCaused Write (faults self.old) (faults self.new)) };
 
     /// Removes a file. One that isn't there is absent, which is no fault.
     fn remove_file(&mut self, path: &str) -> Result<Removal, HostError>

@@ -8,13 +8,17 @@
 mod asking;
 mod child;
 mod command;
+mod disk;
 mod entry;
 mod fixed_host;
+mod heard;
 mod look_up;
+mod nursery;
 mod process_host;
 mod reason;
 mod running;
 mod standard;
+mod watched;
 
 pub use child::Closed;
 pub use fixed_host::{Fixed, FixedHost};

@@ -4,9 +4,12 @@ ghost use Rattle.cc_hosts.specs.HostSeen.{HostSeen, fresh};
 
 use crate::asking::{KEPT, ask, outcome_of};
 use crate::child::{self, Begun, Closed, Ended, Streams};
+use crate::disk::{create_new, remove};
 use crate::entry::list_vars;
+use crate::nursery::Nursery;
 use crate::reason::why_of;
 use crate::running::{self, Process};
+use crate::watched::Watched;
 use cc_host::{
     ChildLog, Command, Created, Event, Host, HostCall, HostError, LineKind, News, Outcome, Pipes,
     ProbeFiles, Question, Ran, Removal, Role, Scope, Start, Verdict, Why, World, exists_of,
@@ -14,11 +17,14 @@ use cc_host::{
 use cc_text::{Bytes, Mem, NoMemory, Text, Vars, Words};
 use std::alloc::Global;
 use std::env::Env;
-use std::io::{Eprint, ErrorKind, Print, Write};
+use std::io::{Eprint, Print};
 use std::marker::Model;
-use std::process::Processes;
+use std::os::fd::AsRawFd;
+use std::process::{OpenProcess, Processes};
 use std::random::RandomSource;
 use std::rt::Files;
+use std::sync::{Arc, Wait};
+use std::thread::{Parker, Threads};
 use std::{fs, io};
 
 /// The world of `ProcessHost`. It isn't steady: the machine may change.
@@ -36,37 +42,54 @@ impl World for Real {
 /// A host over the processes, the files and the streams of the machine, by its runtime. It keeps the trait `Host`, and no
 /// more is proved of it: no proof can say what a process did.
 ///
-/// A child whose standard error isn't heard writes it nowhere. Refused for memory, a call that started nothing did nothing. A child
-/// whose standard error can't be kept runs on, what it wrote so far is kept, and the next turn goes on from there. A command of `output`
-/// or `probe` whose end can't be kept did run: its end is lost, and no event is noted.
+/// Each child that was started has a thread that reads its standard error as it comes and sees its end; where no thread can be made, each
+/// turn does that itself. Of each child at most 64 KiB are kept until a turn takes them, and a child that writes more waits for that. A
+/// turn takes what is there, of every child, and rests before only as long as there is nothing. A child that was left alone is ended, and
+/// its thread with it. With the host all threads are joined, and children that run are left to run.
+///
+/// A child whose standard error isn't heard writes it nowhere. Refused for memory, a call that started nothing did nothing, and a turn
+/// loses nothing: the next one has it. A command of `output` or `probe` whose end can't be kept did run: its end is lost, and no event is
+/// noted.
 #[derive(Drop)]
-pub struct ProcessHost<R: Processes> {
+pub struct ProcessHost<R: Processes + Threads + Wait + Copy> {
     rt: R,
     alloc: Global,
     log: ChildLog,
-    processes: Vec<Process<R::Started>>,
+    processes: Vec<Process<R>>,
+    nursery: Nursery<R>,
+    news: Arc<Parker>,
     drawn: u64,
     closed: Closed,
     warned: bool,
 }
 
-impl<R: Processes> Model for ProcessHost<R> {
+impl<R: Processes + Threads + Wait + Copy> Model for ProcessHost<R> {
     ghost Value = { HostSeen };
 
     ghost view = { λ h. record { log = h.log.log; faults = h.log.faults } };
 }
 
-impl<R: Processes + AllocGlobal> ProcessHost<R> {
-    /// A host before its first call. It takes no memory.
+impl<R: Processes + Threads + Wait + Copy + Send + 'static + AllocGlobal> ProcessHost<R>
+where
+    R::Started: Send + 'static,
+    <R::Started as OpenProcess>::Stdin: Send + 'static,
+    <R::Started as OpenProcess>::Stdout: Send + 'static,
+    <R::Started as OpenProcess>::Stderr: AsRawFd + Send + 'static,
+{
+    /// A host before its first call.
     pub fn new(rt: R) -> Mem<ProcessHost<R>>
         ensures { IfOk result (λ h. h ≡ fresh) }
     {
         let alloc = rt.alloc();
+        let news = Arc::new(alloc, Parker::new())?;
+        let nursery = Nursery::new(rt, alloc)?;
         Ok(ProcessHost {
             rt,
             alloc,
             log: ChildLog::new(alloc),
             processes: Vec::new(alloc),
+            nursery,
+            news,
             drawn: 0,
             closed: Closed {
                 input: false,
@@ -75,7 +98,9 @@ impl<R: Processes + AllocGlobal> ProcessHost<R> {
             warned: false,
         })
     }
+}
 
+impl<R: Processes + Threads + Wait + Copy> ProcessHost<R> {
     /// Tells the host that this process was started without its standard input or without its standard output. A child gets the null
     /// device in the place of such a stream, else the first file that it opens would take that place.
     pub fn lacks(&mut self, closed: Closed)
@@ -124,8 +149,21 @@ fn write_line<R: Print + Eprint>(
     }
 }
 
-impl<R: Processes + Files + Env + Print + Eprint + RandomSource + AllocGlobal> Host<Real>
-    for ProcessHost<R> {
+impl<
+    R: Processes
+        + Threads
+        + Wait
+        + Copy
+        + Files
+        + Env
+        + Print
+        + Eprint
+        + RandomSource
+        + AllocGlobal,
+> Host<Real> for ProcessHost<R>
+where
+    <R::Started as OpenProcess>::Stderr: AsRawFd,
+{
     ghost log = { λ h. h.log };
 
     ghost faults = { λ h. h.faults };
@@ -142,6 +180,7 @@ impl<R: Processes + Files + Env + Print + Eprint + RandomSource + AllocGlobal> H
         self.log.reserve_child()?;
         self.processes.reserve(1)?;
         let command = cmd.try_clone()?;
+        let place = Watched::new(self.alloc, &self.news)?;
         let streams = self.streams(child::heard_only(pipes));
         match child::begin(&self.rt, cmd, streams)? {
             Begun::Missing => {
@@ -151,14 +190,16 @@ impl<R: Processes + Files + Env + Print + Eprint + RandomSource + AllocGlobal> H
             Begun::Failed(why) => Err(self.log.fault(HostCall::Start, why)),
             Begun::Child(child) => {
                 let id = self.log.note_child(role, command, pipes, held, None);
-                self.processes
-                    .push_reserved(Process::new(self.alloc, id, child));
+                let process = Process::new(self.rt, id, place, child);
+                self.nursery.add(process.watched());
+                self.processes.push_reserved(process);
                 Ok(Start::Child(id))
             }
         }
     }
 
-    fn turn(&mut self, _rest_ms: u64) -> Result<Vec<News>, HostError> {
+    fn turn(&mut self, rest_ms: u64) -> Result<Vec<News>, HostError> {
+        running::rest(&self.rt, &self.news, &self.processes, rest_ms);
         let news = running::turn(self.alloc, &mut self.log, &mut self.processes)?;
         Ok(news)
     }
@@ -295,6 +336,19 @@ impl<R: Processes + Files + Env + Print + Eprint + RandomSource + AllocGlobal> H
         }
     }
 
+    fn write_file(&mut self, path: &str, contents: &[u8]) -> Result<(), HostError> {
+        self.log.reserve(1)?;
+        let name = Text::of(self.alloc, path)?;
+        let bytes = Bytes::of(self.alloc, contents)?;
+        match fs::write(&self.rt, path, contents) {
+            Ok(()) => {
+                self.log.note(Event::Wrote { path: name, bytes });
+                Ok(())
+            }
+            Err(error) => Err(self.log.fault(HostCall::Write, why_of(error.kind()))),
+        }
+    }
+
     fn remove_file(&mut self, path: &str) -> Result<Removal, HostError> {
         self.log.reserve(1)?;
         let removed = Text::of(self.alloc, path)?;
@@ -336,38 +390,6 @@ impl<R: Processes + Files + Env + Print + Eprint + RandomSource + AllocGlobal> H
 
     fn log(&self) -> &[Event] {
         self.log.events()
-    }
-}
-
-// Removes a file. One that isn't there is absent.
-fn remove(files: &impl Files, path: &str) -> Result<Removal, Why> {
-    match fs::remove_file(files, path) {
-        Ok(()) => Ok(Removal::Gone),
-        Err(error) => match error.kind() {
-            ErrorKind::NotFound => Ok(Removal::Absent),
-            ErrorKind::NotADirectory => Ok(Removal::Absent),
-            kind => Err(why_of(kind)),
-        },
-    }
-}
-
-// Makes a file where none of that name stands. One whose bytes couldn't be written is removed again.
-fn create_new<R: Files>(rt: &R, path: &str, contents: &[u8]) -> Result<Created, Why> {
-    let mut file = match fs::File::create_new(rt, path) {
-        Ok(file) => file,
-        Err(error) => {
-            return match error.kind() {
-                ErrorKind::AlreadyExists => Ok(Created::Exists),
-                kind => Err(why_of(kind)),
-            };
-        }
-    };
-    match file.write_all(contents) {
-        Ok(()) => Ok(Created::New),
-        Err(error) => {
-            let _ = fs::remove_file(rt, path);
-            Err(why_of(error.kind()))
-        }
     }
 }
 

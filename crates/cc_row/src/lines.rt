@@ -40,6 +40,12 @@ fn push_opened(line: &mut Line, path: &Text, bytes: &Bytes) -> Mem<()> {
     line.push_bytes(bytes.as_slice())
 }
 
+fn push_wrote(line: &mut Line, path: &Text, bytes: &Bytes) -> Mem<()> {
+    line.push_named("writes ", path.as_str())?;
+    line.push_str(" ")?;
+    line.push_bytes(bytes.as_slice())
+}
+
 fn push_answered(
     line: &mut Line,
     vars: &Vars,
@@ -188,6 +194,7 @@ fn push_event(line: &mut Line, vars: &Vars, event: &Event) -> Mem<()> {
     match event {
         Event::Made { scope, path } => push_made(line, *scope, path),
         Event::Removed { path, how } => push_removed(line, path, *how),
+        Event::Wrote { path, bytes } => push_wrote(line, path, bytes),
         Event::Printed { kind, bytes } => push_printed(line, *kind, bytes),
         Event::Listed { vars } => push_listed(line, vars),
         Event::Fault { call, why } => push_fault(line, *call, *why),

@@ -9,7 +9,7 @@ use Rattle.cc_host.specs.Event.{reported, heard, unread, ended}
 use Rattle.cc_host.specs.Part.{since}
 use Rattle.cc_host.proofs.Parts.{since_append, since_since}
 use Rattle.cc_host.specs.declared.event.Event.{Event}
-use Rattle.cc_host.specs.declared.event.Event.TheVariants.{Started, Ended, Abandoned, Heard, Unread, Turn, Answered, Reused, Unasked, Drawn, Opened, Taken, Dropped, Ran, Missing, Made, Removed, Printed, Listed, Fault}
+use Rattle.cc_host.specs.declared.event.Event.TheVariants.{Started, Ended, Abandoned, Heard, Unread, Turn, Answered, Reused, Unasked, Drawn, Opened, Taken, Dropped, Ran, Missing, Made, Removed, Wrote, Printed, Listed, Fault}
 use Rattle.cc_host.specs.declared.event.News.{News}
 use Rattle.cc_host.specs.declared.event.Status.{Status}
 use Rattle.cc_host.specs.declared.event.HostCall.TheVariants.{Start}
@@ -69,6 +69,7 @@ kept_run_after k (Ran role cmd pipes status out err) = refl
 kept_run_after k (Missing role cmd) = refl
 kept_run_after k (Made scope p) = refl
 kept_run_after k (Removed p how) = refl
+kept_run_after k (Wrote p bytes) = refl
 kept_run_after k (Printed kind b) = refl
 kept_run_after k (Listed vars) = refl
 kept_run_after k (Fault call why) = refl

@@ -10,7 +10,7 @@ use Rattle.cc_host.specs.Children.{started_ids}
 use Rattle.cc_host.specs.Command.{CommandSeen}
 use Rattle.cc_host.specs.Status.{is_success}
 use Rattle.cc_host.specs.declared.event.Event.{Event}
-use Rattle.cc_host.specs.declared.event.Event.TheVariants.{Started, Ended, Abandoned, Heard, Unread, Turn, Answered, Reused, Unasked, Drawn, Opened, Taken, Dropped as DroppedFiles, Ran, Missing, Made, Removed, Printed, Listed, Fault}
+use Rattle.cc_host.specs.declared.event.Event.TheVariants.{Started, Ended, Abandoned, Heard, Unread, Turn, Answered, Reused, Unasked, Drawn, Opened, Taken, Dropped as DroppedFiles, Ran, Missing, Made, Removed, Wrote, Printed, Listed, Fault}
 use Rattle.cc_host.specs.declared.event.Pipes.{Pipes}
 use Rattle.cc_host.specs.declared.event.Role.{Role}
 use Rattle.cc_host.specs.declared.event.Status.{Status}
@@ -183,6 +183,7 @@ module _ (id : ℕ) where
   other_event shows warns cmds k (Missing role cmd) ne = (refl, refl)
   other_event shows warns cmds k (Made scope p) ne = (refl, refl)
   other_event shows warns cmds k (Removed p how) ne = (refl, refl)
+  other_event shows warns cmds k (Wrote p bytes) ne = (refl, refl)
   other_event shows warns cmds k (Printed kind b) ne = (refl, refl)
   other_event shows warns cmds k (Listed vars) ne = (refl, refl)
   other_event shows warns cmds k (Fault call why) ne = (refl, refl)
@@ -225,6 +226,7 @@ module _ (shows : Shows) (warns : Bool) (cmds : List Planned) (id : ℕ) where
   reads_other (Missing role cmd) ne = (refl, refl)
   reads_other (Made scope p) ne = (refl, refl)
   reads_other (Removed p how) ne = (refl, refl)
+  reads_other (Wrote p bytes) ne = (refl, refl)
   reads_other (Printed kind b) ne = (refl, refl)
   reads_other (Listed vars) ne = (refl, refl)
   reads_other (Fault call why) ne = (refl, refl)

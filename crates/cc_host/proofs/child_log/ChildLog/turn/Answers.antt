@@ -1,67 +1,22 @@
-use Rattle.std.proofs.Common.{◌≡◌, ◌++◌, ◌∷◌, [], ◌∙◌, ap, subst, sym, arith, List, append_assoc}
-use Rattle.std.specs.List.{flat_map}
-use Rattle.std.proofs.lemmas.Grind.{common_steps}
-use Rattle.cc_host.specs.Children.{IsNews}
-use Rattle.cc_host.specs.ChildLog.{ChildLogSeen, AreRunning, news_in, left_in}
-use Rattle.cc_host.specs.Event.{apart, reported}
-use Rattle.cc_host.specs.Journal.{IsQuiet, JournalSeen}
-use Rattle.cc_host.specs.declared.event.Event.{Event}
-use Rattle.cc_host.specs.declared.event.Event.TheVariants.{Turn}
-use Rattle.cc_host.proofs.NewsLemmas.{news_turn, waits_turn}
-use Rattle.cc_host.proofs.TurnLemmas.{all_quiet, all_apart, alive_turn}
+use Rattle.std.proofs.Common.{◌≡◌, ◌∙◌, ap, subst, sym, map}
+use Rattle.cc_host.specs.ChildLog.{ChildLogSeen, AreTold, live_of, news_of, left_by}
+use Rattle.cc_host.proofs.NewsLemmas.{told_are, left_is, waits_turn}
 use Rattle.cc_host.proofs.child_log.ChildLog.turn.Goals as goal
 
-pub note_all-requires-clause-quiet : goal.note_all-requires-clause-quiet
-note_all-requires-clause-quiet c = subst IsQuiet (sym (c.in_ok-events.ensures ∙ ap (flat_map reported) c.deref-3.ensures.value)) (all_quiet c.in_ok-news.news.items)
+pub turn_told-requires : goal.turn_told-requires
+turn_told-requires c =
+    let same : c.self.inside.children.items ≡ c.args.self.now.children = ap (λ (s : ChildLogSeen). s.children) c.self.view_is in
+    let told : c.in_ok-told.told.items ≡ map (news_of c.args.scripts.now) c.args.self.now.children = c.in_ok-told.ensures ∙ ap (map (news_of c.args.scripts.now)) (c.deref.ensures.value ∙ same) in
+    subst (AreTold c.args.self.now.children) (sym told) (told_are c.args.scripts.now c.args.self.now.children)
 
-pub returns-clause-log : goal.returns-clause-log
-returns-clause-log c =
-    let events : c.in_ok-events.events.items ≡ flat_map reported c.in_ok-news.news.items = c.in_ok-events.ensures ∙ ap (flat_map reported) c.deref-3.ensures.value in
-    ap (λ (j : JournalSeen). j.log) c.keep_children.ensures
-    ∙ ap (λ (j : JournalSeen). j.log) c.note_all.ensures.same
-    ∙ ap (λ (j : JournalSeen). j.log ++ flat_map apart c.in_ok-events.events.items) c.note_turn.ensures.same
-    ∙ ap (λ (j : JournalSeen). (j.log ++ Turn 1 ∷ []) ++ flat_map apart c.in_ok-events.events.items) c.reserve.ensures.same
-    ∙ ap (λ l. (c.self.inside.journal.log ++ Turn 1 ∷ []) ++ flat_map apart l) events
-    ∙ ap (λ l. (c.self.inside.journal.log ++ Turn 1 ∷ []) ++ l) (all_apart c.in_ok-news.news.items)
-    ∙ append_assoc c.self.inside.journal.log (Turn 1 ∷ []) (flat_map reported c.in_ok-news.news.items)
-    ∙ ap (λ (s : ChildLogSeen). s.log ++ Turn 1 ∷ flat_map reported c.in_ok-news.news.items) c.self.view_is
-
-pub returns-clause-news : goal.returns-clause-news
-returns-clause-news c =
-    let news : c.in_ok-news.news.items ≡ news_in c.args.scripts.now c.self.inside.children.items = c.in_ok-news.ensures ∙ ap (news_in c.args.scripts.now) c.deref.ensures.value in
-    subst (λ (l : List Event). IsNews l c.in_ok-news.news.items) (ap (λ (s : ChildLogSeen). s.log) c.self.view_is) (subst (IsNews c.self.inside.journal.log) (sym news) (news_turn c.self.inside.journal.log c.self.inside.next c.self.inside.children.items c.args.scripts.now c.self.invariant.alive))
-
-pub invariant_of-self-2 : goal.invariant_of-self-2
-invariant_of-self-2 c =
-    let events : c.in_ok-events.events.items ≡ flat_map reported c.in_ok-news.news.items = c.in_ok-events.ensures ∙ ap (flat_map reported) c.deref-3.ensures.value in
-    let news : c.in_ok-news.news.items ≡ news_in c.args.scripts.now c.self.inside.children.items = c.in_ok-news.ensures ∙ ap (news_in c.args.scripts.now) c.deref.ensures.value in
-    let left : c.in_ok-left.left.items ≡ left_in c.args.scripts.now c.self.inside.children.items = c.in_ok-left.ensures.children ∙ ap (left_in c.args.scripts.now) c.deref-2.ensures.value in
-    let log : c.keep_children.new.self.log ≡ c.self.inside.journal.log ++ Turn 1 ∷ flat_map reported (news_in c.args.scripts.now c.self.inside.children.items) =
-    ap (λ (j : JournalSeen). j.log) c.keep_children.ensures
-    ∙ ap (λ (j : JournalSeen). j.log) c.note_all.ensures.same
-    ∙ ap (λ (j : JournalSeen). j.log ++ flat_map apart c.in_ok-events.events.items) c.note_turn.ensures.same
-    ∙ ap (λ (j : JournalSeen). (j.log ++ Turn 1 ∷ []) ++ flat_map apart c.in_ok-events.events.items) c.reserve.ensures.same
-    ∙ ap (λ l. (c.self.inside.journal.log ++ Turn 1 ∷ []) ++ flat_map apart l) events
-    ∙ ap (λ l. (c.self.inside.journal.log ++ Turn 1 ∷ []) ++ l) (all_apart c.in_ok-news.news.items)
-    ∙ append_assoc c.self.inside.journal.log (Turn 1 ∷ []) (flat_map reported c.in_ok-news.news.items)
-    ∙ ap (λ l. c.self.inside.journal.log ++ Turn 1 ∷ flat_map reported l) news in
-    record {
-      alive = subst (AreRunning c.keep_children.new.self.log c.self.inside.next) (sym left) (alive_turn c.self.inside.journal.log c.keep_children.new.self.log c.self.inside.next c.self.inside.children.items c.args.scripts.now log c.self.invariant.alive);
-      kept = grind (arith, common_steps);
-    }
+pub returns-clause-children : goal.returns-clause-children
+returns-clause-children c =
+    let same : c.self.inside.children.items ≡ c.args.self.now.children = ap (λ (s : ChildLogSeen). s.children) c.self.view_is in
+    let told : c.in_ok-told.told.items ≡ map (news_of c.args.scripts.now) c.args.self.now.children = c.in_ok-told.ensures ∙ ap (map (news_of c.args.scripts.now)) (c.deref.ensures.value ∙ same) in
+    c.in_ok-news.ensures.children ∙ ap (left_by c.args.self.now.children) told ∙ left_is c.args.scripts.now c.args.self.now.children
 
 pub returns-clause-waits : goal.returns-clause-waits
 returns-clause-waits c =
-    let events : c.in_ok-events.events.items ≡ flat_map reported c.in_ok-news.news.items = c.in_ok-events.ensures ∙ ap (flat_map reported) c.deref-3.ensures.value in
-    let news : c.in_ok-news.news.items ≡ news_in c.args.scripts.now c.self.inside.children.items = c.in_ok-news.ensures ∙ ap (news_in c.args.scripts.now) c.deref.ensures.value in
-    let left : c.in_ok-left.left.items ≡ left_in c.args.scripts.now c.self.inside.children.items = c.in_ok-left.ensures.children ∙ ap (left_in c.args.scripts.now) c.deref-2.ensures.value in
-    let log : c.keep_children.new.self.log ≡ c.self.inside.journal.log ++ Turn 1 ∷ flat_map reported (news_in c.args.scripts.now c.self.inside.children.items) =
-    ap (λ (j : JournalSeen). j.log) c.keep_children.ensures
-    ∙ ap (λ (j : JournalSeen). j.log) c.note_all.ensures.same
-    ∙ ap (λ (j : JournalSeen). j.log ++ flat_map apart c.in_ok-events.events.items) c.note_turn.ensures.same
-    ∙ ap (λ (j : JournalSeen). (j.log ++ Turn 1 ∷ []) ++ flat_map apart c.in_ok-events.events.items) c.reserve.ensures.same
-    ∙ ap (λ l. (c.self.inside.journal.log ++ Turn 1 ∷ []) ++ flat_map apart l) events
-    ∙ ap (λ l. (c.self.inside.journal.log ++ Turn 1 ∷ []) ++ l) (all_apart c.in_ok-news.news.items)
-    ∙ append_assoc c.self.inside.journal.log (Turn 1 ∷ []) (flat_map reported c.in_ok-news.news.items)
-    ∙ ap (λ l. c.self.inside.journal.log ++ Turn 1 ∷ flat_map reported l) news in
-    waits_turn c.keep_children.new.self.log c.self.inside.next c.self.inside.children.items c.args.scripts.now (alive_turn c.self.inside.journal.log c.keep_children.new.self.log c.self.inside.next c.self.inside.children.items c.args.scripts.now log c.self.invariant.alive)
+    let same : c.self.inside.children.items ≡ c.args.self.now.children = ap (λ (s : ChildLogSeen). s.children) c.self.view_is in
+    let told : c.in_ok-told.told.items ≡ map (news_of c.args.scripts.now) c.args.self.now.children = c.in_ok-told.ensures ∙ ap (map (news_of c.args.scripts.now)) (c.deref.ensures.value ∙ same) in
+    waits_turn c.turn_told.new.self.log c.args.self.now.children c.args.scripts.now (c.in_ok-news.ensures.run ∙ ap (map live_of) (c.in_ok-news.ensures.children ∙ ap (left_by c.args.self.now.children) told ∙ left_is c.args.scripts.now c.args.self.now.children))
