@@ -10,6 +10,8 @@ use Rattle.cc_tool.specs.Known.{Has, IsSteady, AllSteady, MayKeep, AllKept}
 use Rattle.cc_host.specs.declared.question.Outcome.{Outcome}
 use Rattle.cc_host.specs.Verdict.{verdict_of}
 use Rattle.std.specs.List.{All, slice_index_or}
+use Rattle.std.specs.Prelude.{Result, Ok, Err, OnOk, OnErr}
+use Rattle.std.specs.Result.{is_ok}
 use Rattle.std.proofs.lemmas.List.Elements.{All-append}
 
 -- a question that no answer has
@@ -128,3 +130,8 @@ kept_push known true q p v w all may e f g =
     let here : MayKeep p w = subst (λ (x : Question). MayKeep x w) (sym f) (subst (λ (x : Verdict). MayKeep q x) (sym g) may) in
     subst AllKept (sym e) (All-append (λ a. MayKeep a.0 a.1) known (only p w) all (λ k d l. let z : k ≡ 0 = omega (arith, l) in rw z here))
 kept_push known false q p v w all may e f g = subst AllKept (sym e) all
+
+-- what a list is after one more was added, or refused
+pub as_told : {X E : Type 0} (r : Result X E) (new more old : List Answer) → OnOk r (new ≡ more) → OnErr r (new ≡ old) → new ≡ (if is_ok r then more else old)
+as_told (Ok x) new more old done kept = done
+as_told (Err e) new more old done kept = kept

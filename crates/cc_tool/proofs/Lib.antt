@@ -1,5 +1,6 @@
 pub mod Asides
 pub mod AskLemmas
+pub mod DigestLemmas
 pub mod EmittedLemmas
 pub mod FamilyLemmas
 pub mod KnownLemmas
@@ -7,6 +8,7 @@ pub mod LevelLemmas
 pub mod LibcxxLemmas
 pub mod OpenLemmas
 pub mod OwnLemmas
+pub mod PlacesLemmas
 pub mod ProbeLemmas
 pub mod ProbingLemmas
 pub mod SettleLemmas

@@ -1,5 +1,6 @@
 pub mod Asked
 pub mod Asks
+pub mod Digest
 pub mod Emitted
 pub mod Excused
 pub mod Family
@@ -9,6 +10,7 @@ pub mod Heard
 pub mod Known
 pub mod Libcxx
 pub mod Own
+pub mod Places
 pub mod Probing
 pub mod Tempfile
 pub mod Tool

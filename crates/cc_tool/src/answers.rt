@@ -1,10 +1,11 @@
 // The questions of one public call, with their verdicts.
 ghost use Rattle.std.specs.Prelude.{◌≡◌, ◌++◌, ◌∷◌, [], List, OnOk, OnErr, MatchOption};
 ghost use Rattle.cc_host.specs.Question.{Answer, Lacks};
-ghost use Rattle.cc_host.specs.declared.question.Question.{Question};
 ghost use Rattle.cc_host.specs.declared.question.Verdict.TheVariants.{Unanswered};
 ghost use Rattle.cc_tool.specs.Known.{Has};
 
+use crate::digest::Keyed;
+use crate::entries::Entries;
 use cc_host::{Question, Verdict};
 use cc_text::Mem;
 use std::alloc::Global;
@@ -14,7 +15,7 @@ use std::marker::Model;
 /// question that is there isn't asked again in this call, whatever its verdict.
 #[derive(Drop, Debug)]
 pub struct Answers {
-    entries: Vec<(Question, Verdict)>,
+    entries: Entries,
 }
 
 impl Model for Answers {
@@ -26,20 +27,13 @@ impl Model for Answers {
     ghost view = { λ a. a.entries.items };
 }
 
-// Puts another verdict in the place of that of an answer.
-fn set_verdict(answer: &mut (Question, Verdict), verdict: Verdict)
-    ensures { answer.new ≡ (answer.old.0, verdict) }
-{
-    answer.1 = verdict;
-}
-
 impl Answers {
     /// No answers. It takes no memory.
     pub fn new(alloc: Global) -> Answers
         ensures { result ≡ [] }
     {
         Answers {
-            entries: Vec::new(alloc),
+            entries: Entries::new(alloc),
         }
     }
 
@@ -47,25 +41,27 @@ impl Answers {
     pub fn get(&self, q: &Question) -> Option<&Verdict>
         ensures { MatchOption result (Lacks self.now q.now) (λ v. Has self.now q.now v.now) }
     {
-        for entry in &self.entries {
-            if entry.0.same_as(q) {
-                return Some(&entry.1);
-            }
-        }
-        None
+        self.get_keyed(&Keyed::of(q))
+    }
+
+    // The same, by a digest that is known.
+    pub(crate) fn get_keyed(&self, key: &Keyed<'_>) -> Option<&Verdict>
+        ensures { MatchOption result (Lacks self.now key.now.question.now)
+            (λ v. Has self.now key.now.question.now v.now) }
+    {
+        self.entries.find(key)
     }
 
     pub(crate) fn allocator(&self) -> Global {
-        *self.entries.allocator()
+        self.entries.allocator()
     }
 
     // Makes room for the verdict of a question, which has none until it comes.
-    pub(crate) fn begin(&mut self, question: Question) -> Mem<()>
-        ensures ok { OnOk result (self.new ≡ self.old ++ (question, Unanswered) ∷ []) }
+    pub(crate) fn begin(&mut self, key: &Keyed<'_>) -> Mem<()>
+        ensures ok { OnOk result (self.new ≡ self.old ++ (key.now.question.now, Unanswered) ∷ []) }
         ensures err { OnErr result (self.new ≡ self.old) }
     {
-        self.entries.push((question, Verdict::Unanswered))?;
-        Ok(())
+        self.entries.push(key, Verdict::Unanswered)
     }
 
     // Takes back the question that was begun last.
@@ -73,7 +69,7 @@ impl Answers {
         ensures { (known : List Answer) (a : Answer) → self.old ≡ known ++ a ∷ []
             → self.new ≡ known }
     {
-        let _ = self.entries.pop();
+        self.entries.pop();
     }
 
     // Sets the verdict of the question that was begun last.
@@ -81,9 +77,6 @@ impl Answers {
         ensures { (known : List Answer) (a : Answer) → self.old ≡ known ++ a ∷ []
             → self.new ≡ known ++ (a.0, verdict) ∷ [] }
     {
-        let count = self.entries.len();
-        if 0 < count {
-            set_verdict(&mut self.entries[count - 1], verdict);
-        }
+        self.entries.set_last(verdict);
     }
 }

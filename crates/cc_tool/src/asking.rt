@@ -11,6 +11,7 @@ ghost use Rattle.cc_tool.specs.Own.{AnswersOnly, WhyUnanswered, OnlyForFiles, Lo
 ghost use Rattle.cc_tool.specs.Probing.{Probes};
 ghost use Rattle.cc_tool.specs.Heard.{heard_answer};
 
+use crate::digest::Keyed;
 use crate::probes::ask_host;
 use crate::{Answers, Caches};
 use cc_host::{Ask, Host, Question, Verdict, World, exists_of, into_verdict};
@@ -72,16 +73,19 @@ fn hear<W: World, H: Host<W>>(
     alloc: Global,
     host: &mut H,
     caches: &Caches<W>,
-    q: &Question,
+    key: &Keyed<'_>,
     dir: &str,
 ) -> Mem<Heard>
-    requires { q.now.ask ≢ AsksExists }
-    ensures probes { Probes dir.now (H.log host.old) (H.log host.new) [] [] (heard_answer q.now result) 0 }
-    ensures bare { OnlyForFiles q.now (part H.log host.old host.new) }
-    ensures steady { IfOk result (λ heard. IsHeard W.steady W.answer q.now heard.verdict) }
+    requires { key.now.question.now.ask ≢ AsksExists }
+    ensures probes { Probes dir.now (H.log host.old) (H.log host.new) [] []
+        (heard_answer key.now.question.now result) 0 }
+    ensures bare { OnlyForFiles key.now.question.now (part H.log host.old host.new) }
+    ensures steady { IfOk result
+        (λ heard. IsHeard W.steady W.answer key.now.question.now heard.verdict) }
     ensures patient { H.patience host.new ≡ H.patience host.old }
 {
-    if let Some(verdict) = caches.find(rt, q)? {
+    let q = key.question;
+    if let Some(verdict) = caches.find_keyed(rt, key)? {
         host.reused(q, &verdict)?;
         return Ok(Heard {
             verdict,
@@ -92,12 +96,12 @@ fn hear<W: World, H: Host<W>>(
 }
 
 // Keeps what was heard.
-fn keep<W: World>(rt: &impl Wait, caches: &Caches<W>, q: &Question, heard: &Heard) -> Mem<()>
-    requires command { q.now.ask ≢ AsksExists }
-    requires steady { IsHeard W.steady W.answer q.now heard.now.verdict }
+fn keep<W: World>(rt: &impl Wait, caches: &Caches<W>, key: &Keyed<'_>, heard: &Heard) -> Mem<()>
+    requires command { key.now.question.now.ask ≢ AsksExists }
+    requires steady { IsHeard W.steady W.answer key.now.question.now heard.now.verdict }
 {
     if heard.fresh && is_kept(&heard.verdict) {
-        caches.keep(rt, q, &heard.verdict)?;
+        caches.keep_keyed(rt, key, &heard.verdict)?;
     }
     Ok(())
 }
@@ -107,16 +111,16 @@ fn finish<W: World>(
     rt: &impl Wait,
     caches: &Caches<W>,
     answers: &mut Answers,
-    q: &Question,
+    key: &Keyed<'_>,
     heard: Heard,
 ) -> Mem<Verdict>
-    requires command { q.now.ask ≢ AsksExists }
-    requires steady { IsHeard W.steady W.answer q.now heard.verdict }
+    requires command { key.now.question.now.ask ≢ AsksExists }
+    requires steady { IsHeard W.steady W.answer key.now.question.now heard.verdict }
     ensures ends { (known : List Answer) (a : Answer) → answers.old ≡ known ++ a ∷ []
         → answers.new ≡ known ++ (a.0, heard.verdict) ∷ [] }
     ensures same { IfOk result (λ v. v ≡ heard.verdict) }
 {
-    let kept = keep(rt, caches, q, &heard);
+    let kept = keep(rt, caches, key, &heard);
     let verdict = heard.verdict.try_clone();
     answers.end(heard.verdict);
     kept?;
@@ -140,13 +144,14 @@ fn ask_command<W: World, H: Host<W>>(
     ensures bare { OnlyForFiles q.now (part H.log host.old host.new) }
     ensures patient { H.patience host.new ≡ H.patience host.old }
 {
-    match answers.get(q) {
+    let key = Keyed::of(q);
+    match answers.get_keyed(&key) {
         Some(verdict) => return verdict.try_clone(),
         None => {}
     }
-    answers.begin(q.try_clone()?)?;
-    match hear(rt, answers.allocator(), host, caches, q, dir) {
-        Ok(heard) => finish(rt, caches, answers, q, heard),
+    answers.begin(&key)?;
+    match hear(rt, answers.allocator(), host, caches, &key, dir) {
+        Ok(heard) => finish(rt, caches, answers, &key, heard),
         Err(NoMemory) => {
             answers.give_up();
             Err(NoMemory)
@@ -170,11 +175,12 @@ fn ask_exists<W: World, H: Host<W>>(
 {
     let _ = dir;
     let question = exists_of(alloc, path)?;
-    match answers.get(&question) {
+    let key = Keyed::of(&question);
+    match answers.get_keyed(&key) {
         Some(verdict) => return verdict.try_clone(),
         None => {}
     }
-    answers.begin(question)?;
+    answers.begin(&key)?;
     match host.exists(path) {
         Ok(there) => {
             answers.end(yes_if(there));

@@ -2,6 +2,7 @@
 ghost use Rattle.std.specs.Prelude.{IfOk, IfSome};
 ghost use Rattle.cc_tool.specs.Known.{IsSteady, MayKeep};
 
+use crate::digest::Keyed;
 use crate::{Emitted, Known};
 use cc_host::{Question, Verdict, World};
 use cc_text::Mem;
@@ -42,8 +43,17 @@ impl<W: World> Caches<W> {
         ensures steady { IfOk result (λ found. IfSome found (IsSteady W.steady W.answer q.now)) }
         ensures kept { IfOk result (λ found. IfSome found (MayKeep q.now)) }
     {
+        self.find_keyed(rt, &Keyed::of(q))
+    }
+
+    // The same, by a digest that is known.
+    pub(crate) fn find_keyed(&self, rt: &impl Wait, key: &Keyed<'_>) -> Mem<Option<Verdict>>
+        ensures steady { IfOk result
+            (λ found. IfSome found (IsSteady W.steady W.answer key.now.question.now)) }
+        ensures kept { IfOk result (λ found. IfSome found (MayKeep key.now.question.now)) }
+    {
         let known = self.known.lock(rt);
-        match known.find_on(q) {
+        match known.find_keyed(key) {
             Some(verdict) => Ok(Some(verdict.try_clone()?)),
             None => Ok(None),
         }
@@ -55,8 +65,16 @@ impl<W: World> Caches<W> {
         requires steady { IsSteady W.steady W.answer q.now v.now }
         requires kept { MayKeep q.now v.now }
     {
+        self.keep_keyed(rt, &Keyed::of(q), v)
+    }
+
+    // The same, by a digest that is known.
+    pub(crate) fn keep_keyed(&self, rt: &impl Wait, key: &Keyed<'_>, v: &Verdict) -> Mem<()>
+        requires steady { IsSteady W.steady W.answer key.now.question.now v.now }
+        requires kept { MayKeep key.now.question.now v.now }
+    {
         let mut known = self.known.lock(rt);
-        known.keep_on(q, v)
+        known.keep_keyed(key, v)
     }
 
     /// Whether this is the first call for the value of a library, over all that share these caches: the text behind
