@@ -24,7 +24,7 @@ all_others library (object ∷ objects) differ =
     rw (other (is_library library object) object library (same_words-Decides (path_components object) (path_components library)) differ.0)
     (ap (λ n. 1 + n) (all_others library objects differ.1) ∙ one_more (length objects))
 
-not_less : (n : ℕ) (b : Bool) → nat_lt n n ≡ b → b ≡ false
+pub not_less : (n : ℕ) (b : Bool) → nat_lt n n ≡ b → b ≡ false
 not_less n true less = absurd (omega (arith, ltb-true n n less))
 not_less n false less = refl
 

@@ -7,6 +7,7 @@ pub mod CompilationLemmas
 pub mod CompileLemmas
 pub mod CutTextLemmas
 pub mod FindLemmas
+pub mod LibtoolLaws
 pub mod LineLemmas
 pub mod OwnLemmas
 pub mod QuestionLemmas

@@ -5,16 +5,15 @@ use Rattle.std.proofs.lemmas.Grind.{take_at_read}
 use Rattle.std.proofs.lemmas.List.{length-take-le}
 use Rattle.std.specs.Option.{option_map}
 use Rattle.std.specs.Map.{update}
-use Rattle.std.specs.Path.{path_file_name, path_join}
+use Rattle.std.specs.Path.{path_file_name}
 use Rattle.std.proofs.lemmas.Slice.Eq.{bytes_eq-Decides}
 use Rattle.cc_env.specs.Env.{EnvSeen}
-use Rattle.cc_plan.specs.Added.{added_refusal}
-use Rattle.cc_plan.specs.Given.{out_dir_of}
-use Rattle.cc_plan.specs.Names.{library_file}
+use Rattle.cc_plan.specs.Blanks.{nonempty}
+use Rattle.cc_plan.specs.Given.{out_dir_of, temp_folder, probe_folder}
 use Rattle.cc_plan.specs.Object.{object_path}
 use Rattle.cc_plan.specs.declared.error.PlanError.{PlanError}
 use Rattle.cc_plan.specs.declared.settings.BuildConfig.{BuildConfig}
-use Rattle.cc_plan.specs.Refusal.{name_refusal, out_dir_refusal, early_refusal, is_empty, place_from, earlier_place, source_refusal, first_of, sources_after, sources_refusal}
+use Rattle.cc_plan.specs.Refusal.{out_dir_refusal, intermediate_refusal, is_empty, place_from, earlier_place, source_refusal, first_of, sources_after, sources_refusal}
 use Rattle.cc_plan.specs.declared.error.ArgumentCause.{ArgumentCause}
 use Rattle.cc_plan.specs.declared.error.ArgumentCause.TheVariants.{NoFileName, SameObject}
 use Rattle.cc_plan.specs.declared.error.PlanError.TheVariants.{Argument, NoMemory as WantsMemory}
@@ -97,24 +96,23 @@ first_some : {X : Type 0} (a b : Option X) (x : X) → a ≡ Some x → first_of
 first_some None b x h = absurd (cc)
 first_some (Some y) b x h = h
 
--- where the checks before them pass, a refusal of the sources is that of all
-pub early_by_sources : (set : BuildConfig) (env : EnvSeen) (output dir : List ℕ) (e : PlanError) → name_refusal output ≡ None → out_dir_of set env ≡ Some dir → out_dir_refusal (out_dir_of set env) ≡ None → (e ≡ WantsMemory) ⊎ (sources_refusal (object_path env.inherited set.source_root dir) set.files ≡ Some e) → (e ≡ WantsMemory) ⊎ (early_refusal set env output ≡ Some e)
-unfolding early_refusal
-early_by_sources set env output dir e name is passed (inl memory) = inl memory
-early_by_sources set env output dir e name is passed (inr refused) =
+-- where the out dir passes, a refusal of the sources is that of both
+pub intermediate_by_sources : (set : BuildConfig) (env : EnvSeen) (dir : List ℕ) (e : PlanError) → out_dir_of set env ≡ Some dir → out_dir_refusal (out_dir_of set env) ≡ None → (e ≡ WantsMemory) ⊎ (sources_refusal (object_path env.inherited set.source_root dir) set.files ≡ Some e) → (e ≡ WantsMemory) ⊎ (intermediate_refusal set env ≡ Some e)
+unfolding intermediate_refusal
+intermediate_by_sources set env dir e is passed (inl memory) = inl memory
+intermediate_by_sources set env dir e is passed (inr refused) =
     let path : unwrap_or (out_dir_of set env) [] ≡ dir = ap (λ d. unwrap_or d []) is in
-    inr (rw (name, passed) (first_some _ _ e (subst (λ (d : List ℕ). sources_refusal (λ source. object_path env.inherited set.source_root d source) set.files ≡ Some e) (sym path) refused)))
+    inr (rw passed (subst (λ (d : List ℕ). sources_refusal (λ source. object_path env.inherited set.source_root d source) set.files ≡ Some e) (sym path) refused))
 
--- and one of the added objects, where the sources pass
-pub early_by_added : (set : BuildConfig) (env : EnvSeen) (output dir library : List ℕ) (e : PlanError) → name_refusal output ≡ None → out_dir_of set env ≡ Some dir → out_dir_refusal (out_dir_of set env) ≡ None → sources_refusal (object_path env.inherited set.source_root dir) set.files ≡ None → library ≡ path_join dir (library_file output) → (e ≡ WantsMemory) ⊎ (added_refusal library set.objects ≡ Some e) → (e ≡ WantsMemory) ⊎ (early_refusal set env output ≡ Some e)
-unfolding early_refusal
-early_by_added set env output dir library e name is passed sources at (inl memory) = inl memory
-early_by_added set env output dir library e name is passed sources at (inr refused) =
-    let path : unwrap_or (out_dir_of set env) [] ≡ dir = ap (λ d. unwrap_or d []) is in
-    let taken : sources_refusal (λ source. object_path env.inherited set.source_root (unwrap_or (out_dir_of set env) []) source) set.files ≡ None =
-    subst (λ (d : List ℕ). sources_refusal (λ source. object_path env.inherited set.source_root d source) set.files ≡ None) (sym path) sources in
-    let joined : library ≡ path_join (unwrap_or (out_dir_of set env) []) (library_file output) = subst (λ (d : List ℕ). library ≡ path_join d (library_file output)) (sym path) at in
-    inr (rw (name, passed, taken) (subst (λ (l : List ℕ). added_refusal l set.objects ≡ Some e) joined refused))
+-- an out dir that passes is the folder of probe files
+probes_in : (value : Option (List ℕ)) (other dir : List ℕ) → value ≡ Some dir → out_dir_refusal value ≡ None → dir ≡ unwrap_or (nonempty value) other
+probes_in None other dir is passed = absurd (cc)
+probes_in (Some []) other dir is passed = absurd (cc)
+probes_in (Some (b ∷ bs)) other dir is passed = cc
+
+pub probes_in_out_dir : (set : BuildConfig) (env : EnvSeen) (dir : List ℕ) → out_dir_of set env ≡ Some dir → out_dir_refusal (out_dir_of set env) ≡ None → dir ≡ probe_folder set env
+unfolding probe_folder
+probes_in_out_dir set env dir is passed = probes_in (out_dir_of set env) (temp_folder env) dir is passed
 
 -- there is a source, where a test for none says no
 pub some_files : (files : List (List ℕ)) (empty : Bool) → (IsTrue empty ↔ (files ≡ [])) → empty ≡ false → is_empty files ≡ false

@@ -13,10 +13,13 @@ use Rattle.cc_flags.specs.Fields.{is_invalid, invalid_pair, refusal_of}
 use Rattle.cc_flags.specs.Pairs.{pairs_of}
 use Rattle.cc_flags.specs.declared.pairs.Pair.{Pair}
 use Rattle.cc_target.specs.Targets.{Info}
+use Rattle.cc_plan.specs.Archive.{archiver_of}
 use Rattle.cc_plan.specs.ArchiveTool.{qnx_arch, lacks_qnx_arch, variable_tool}
 use Rattle.cc_plan.specs.Compilation.{CompilationSeen}
 use Rattle.cc_plan.specs.Given.{out_dir_of, target_of, host_of, level_of, has_no_defaults}
 use Rattle.cc_plan.specs.Inherited.{inherited_text, inherited_refusal, plan_refusal}
+use Rattle.cc_plan.specs.Libtool.{list_refusal}
+use Rattle.cc_plan.specs.Plan.{archived_of, archive_refusal}
 use Rattle.cc_plan.specs.Planned.{planned, defaults_refusal_of}
 use Rattle.cc_plan.specs.Target.{target_info}
 use Rattle.cc_plan.specs.Tool.{defaults_refusal_by}
@@ -24,9 +27,10 @@ use Rattle.cc_plan.specs.ToolWords.{first_refusal, names_target, musl_sysroot, q
 use Rattle.cc_plan.specs.declared.archive_tool.ArchiveTool.TheVariants.{Archiver}
 use Rattle.cc_plan.specs.declared.error.PlanError.{PlanError}
 use Rattle.cc_plan.specs.declared.error.PlanError.TheVariants.{QnxArch, NotSet}
-use Rattle.cc_plan.specs.Refusal.{place_from, earlier_place, source_refusal, sources_after, out_dir_refusal, unset, target_refusal, platform_refusal, given_refusal, refusal_by, tool_refusal, early_refusal, late_refusal, object_in, library_in, is_empty, archiver_refusal, links_cpp, musl_variable, cpp_refusal, link_refusal, qnx_arch_refusal, found_refusal, known_refusal, choice_refusal, look_up_refusal, first_of}
+use Rattle.cc_plan.specs.Refusal.{place_from, earlier_place, source_refusal, sources_after, out_dir_refusal, unset, target_refusal, platform_refusal, given_refusal, refusal_by, tool_refusal, intermediate_refusal, early_refusal, late_refusal, object_in, library_in, is_empty, archiver_refusal, links_cpp, musl_variable, cpp_refusal, link_refusal, qnx_arch_refusal, found_refusal, known_refusal, choice_refusal, look_up_refusal, first_of}
 use Rattle.cc_plan.specs.Added.{added_refusal}
 use Rattle.cc_plan.proofs.AddedLaws.{added_accepted}
+use Rattle.cc_plan.proofs.LibtoolLaws.{list_accepted}
 use Rattle.cc_plan.specs.Valid.{IsNoneOf, AreApart, IsKnown, IsSetNonempty, HasVariant, HasSysroot, Parse, Valid}
 use Rattle.cc_plan.specs.declared.settings.BuildConfig.{BuildConfig}
 
@@ -131,7 +135,7 @@ late_valid set env look false target host level words rustflags =
 
 -- valid settings pass the checks before the folder is made
 pub early_accepted : (set : BuildConfig) (env : EnvSeen) (look : Look) (output : List ℕ) → Valid set env look output → early_refusal set env output ≡ None
-unfolding early_refusal
+unfolding early_refusal intermediate_refusal
 early_accepted set env look output v =
     let dir : out_dir_refusal (out_dir_of set env) ≡ None = dir_set (out_dir_of set env) v.out_dir in
     let sources : sources_after (object_in set env) [] set.files ≡ None = all_taken (object_in set env) [] set.files v.named v.apart in
@@ -186,6 +190,13 @@ archiver_accepted set env look output v =
     let choice : choice_refusal Archiver set env look ≡ None = where_none set.archiver (known_refusal Archiver set env look) known in
     both_none (choice_refusal Archiver set env look) (first_of (unset (codes "TARGET") (target_of set env)) (unset (codes "HOST") (host_of set env))) choice
     (both_none (unset (codes "TARGET") (target_of set env)) (unset (codes "HOST") (host_of set env)) (set_target (target_of set env) v.target) (is_set (codes "HOST") (host_of set env) v.host))
+
+-- and what the archive wants
+pub archive_accepted : (set : BuildConfig) (env : EnvSeen) (look : Look) (output : List ℕ) → Valid set env look output → archive_refusal set env look ≡ None
+unfolding archive_refusal
+archive_accepted set env look output v =
+    both_none (archiver_refusal set env look) (list_refusal (archiver_of set env look) (archived_of set env)) (archiver_accepted set env look output v)
+    (list_accepted (archiver_of set env look) (archived_of set env) v.listed)
 
 -- a value that stands where it is needed isn't unset
 stands_where : (name : List ℕ) (a b : Bool) (value : Option (List ℕ)) → (a ≡ true → b ≡ true → IsSome value) → (if a && b then unset name value else None) ≡ None

@@ -8,6 +8,7 @@ use Rattle.cc_host.specs.Question.{Look}
 use Rattle.cc_plan.specs.ArchiveTool.{archive_tool}
 use Rattle.cc_plan.specs.Batches.{batches_of}
 use Rattle.cc_plan.specs.Given.{variable_flags}
+use Rattle.cc_plan.specs.Libtool.{is_libtool, libtool_words}
 use Rattle.cc_plan.specs.declared.archive.Archiver.{Archiver}
 use Rattle.cc_plan.specs.declared.archive_tool.ArchiveTool.TheVariants.{Archiver as ForMembers, Ranlib as ForIndex}
 use Rattle.cc_plan.specs.declared.choice.Choice.{Choice}
@@ -82,8 +83,14 @@ refused_of archiver env library plain batches = if plain then map (archive_of ar
 abbrev pub archives_by : Archiver → EnvSeen → List ℕ → Bool → List (List (List ℕ)) → List CommandSeen
 archives_by archiver env library plain batches = refused_of archiver env library plain batches ++ map (archive_of archiver env library plain) batches
 
+-- the command of libtool, which is one for all paths
+abbrev pub libtool_of : Archiver → List ℕ → CommandSeen
+libtool_of archiver library = with_words archiver (libtool_words library)
+
+-- by the archiver's name: libtool has no second form
 abbrev pub archives_of : Archiver → EnvSeen → List ℕ → Bool → List (List ℕ) → List CommandSeen
-archives_of archiver env library plain paths = archives_by archiver env library plain (batches_of paths)
+archives_of archiver env library plain paths =
+    if is_libtool archiver then libtool_of archiver library ∷ [] else archives_by archiver env library plain (batches_of paths)
 
 -- the command that writes the index without the time
 abbrev pub index_of : Archiver → List ℕ → CommandSeen
@@ -94,7 +101,11 @@ abbrev pub plain_index_of : Archiver → EnvSeen → List ℕ → CommandSeen
 plain_index_of archiver env library = timeless archiver env (codes "s" ∷ library ∷ [])
 
 -- The command of the index. Where the first form was refused it is the plain one; that of a library without members was the refused one.
+abbrev pub indexes_by : Archiver → EnvSeen → List ℕ → Bool → List (List ℕ) → List CommandSeen
+indexes_by archiver env library false paths = index_of archiver library ∷ []
+indexes_by archiver env library true [] = index_of archiver library ∷ plain_index_of archiver env library ∷ []
+indexes_by archiver env library true (path ∷ paths) = plain_index_of archiver env library ∷ []
+
+-- libtool writes the index with the library
 abbrev pub indexes_of : Archiver → EnvSeen → List ℕ → Bool → List (List ℕ) → List CommandSeen
-indexes_of archiver env library false paths = index_of archiver library ∷ []
-indexes_of archiver env library true [] = index_of archiver library ∷ plain_index_of archiver env library ∷ []
-indexes_of archiver env library true (path ∷ paths) = plain_index_of archiver env library ∷ []
+indexes_of archiver env library plain paths = if is_libtool archiver then [] else indexes_by archiver env library plain paths

@@ -16,6 +16,7 @@ pub mod Flags
 pub mod Given
 pub mod Inherited
 pub mod Languages
+pub mod Libtool
 pub mod Link
 pub mod Names
 pub mod Object

@@ -1,6 +1,7 @@
 -- The names of a static library, as a linker looks for it: `foo` is in the file `libfoo.a`.
-use Rattle.std.specs.Prelude.{ℕ, List, [], ◌++◌, Bool, not, ◌&&◌, ◌||◌, ◌==◌, Option, option_and_then, unwrap_or, is_some, codes, bytes_eq, if◌then◌else◌}
+use Rattle.std.specs.Prelude.{ℕ, List, [], ◌++◌, Bool, not, ◌&&◌, ◌||◌, ◌==◌, Option, Some, None, option_and_then, unwrap_or, is_some, codes, bytes_eq, if◌then◌else◌}
 use Rattle.std.specs.List.{list_any}
+use Rattle.std.specs.Path.{path_parent, path_file_name}
 use Rattle.cc_text.specs.Cuts.{after_prefix, before_suffix}
 use Rattle.cc_plan.specs.Blanks.{nonempty}
 
@@ -27,3 +28,12 @@ library_name output = unwrap_or (inner_name output) output
 -- the name of its file
 abbrev pub library_file : List ℕ → List ℕ
 library_file output = if is_some (inner_name output) then output else codes "lib" ++ output ++ codes ".a"
+
+abbrev pub pair_of : {X : Type 0} → Option X → Option X → Option (X × X)
+pair_of None second = None
+pair_of (Some x) None = None
+pair_of (Some x) (Some y) = Some (x, y)
+
+-- the name and the folder of a library by its path, where the file is `lib<name>.a` and both are not empty
+unfoldable pub linked_library : List ℕ → Option (List ℕ × List ℕ)
+linked_library path = pair_of (option_and_then inner_name (path_file_name path)) (nonempty (path_parent path))

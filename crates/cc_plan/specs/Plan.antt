@@ -1,5 +1,5 @@
 -- The steps of a compile run, as a function of the settings, the environment and the output.
-use Rattle.std.specs.Prelude.{ℕ, Bool, List, [], ◌∷◌, ◌++◌, map, unwrap_or, codes, if◌then◌else◌}
+use Rattle.std.specs.Prelude.{ℕ, Bool, List, [], ◌∷◌, ◌++◌, map, Option, unwrap_or, codes, if◌then◌else◌}
 use Rattle.std.specs.Path.{path_parent}
 use Rattle.cc_env.specs.Env.{EnvSeen}
 use Rattle.cc_host.specs.Command.{CommandSeen}
@@ -9,6 +9,7 @@ use Rattle.cc_host.specs.Part.Step.{Makes, Removes, Prints}
 use Rattle.cc_host.specs.declared.event.Scope.TheVariants.{Build}
 use Rattle.cc_host.specs.declared.event.LineKind.{LineKind}
 use Rattle.cc_host.specs.declared.event.LineKind.TheVariants.{Link}
+use Rattle.cc_plan.specs.declared.error.PlanError.{PlanError}
 use Rattle.cc_plan.specs.declared.object.Object.{Object}
 use Rattle.cc_plan.specs.declared.settings.BuildConfig.{BuildConfig}
 use Rattle.cc_plan.specs.Archive as archive
@@ -18,8 +19,9 @@ use Rattle.cc_plan.specs.Archive.{archiver_of}
 use Rattle.cc_plan.specs.Link.{printed_line, printed_links, link_lines as lines_of}
 use Rattle.cc_plan.specs.declared.link.LinkLine.{LinkLine}
 use Rattle.cc_plan.specs.Names.{library_name}
+use Rattle.cc_plan.specs.Libtool.{lists_of, list_refusal}
 use Rattle.cc_plan.specs.Object as object
-use Rattle.cc_plan.specs.Refusal.{is_empty, library_in}
+use Rattle.cc_plan.specs.Refusal.{is_empty, library_in, first_of, archiver_refusal}
 use Rattle.cc_plan.specs.Target.{target_info}
 use Rattle.cc_plan.specs.Planned.{tool_of, warnings_of}
 
@@ -39,6 +41,14 @@ compiles_of set env look = compile.compiles_of set (target_info set env) (tool_o
 -- the paths that the library gets, in order: those of the objects, and then the added ones
 abbrev pub archived_of : BuildConfig → EnvSeen → List (List ℕ)
 archived_of set env = archive.paths_of (objects_of set env) ++ set.objects
+
+-- what the archive wants, after the commands that compile were run: the archiver, and then paths that its list can hold
+unfoldable pub archive_refusal : BuildConfig → EnvSeen → Look → Option PlanError
+archive_refusal set env look = first_of (archiver_refusal set env look) (list_refusal (archiver_of set env look) (archived_of set env))
+
+-- the lists of those paths that are written for the archiver, with their bytes
+unfoldable pub lists_of_run : BuildConfig → EnvSeen → Look → List ℕ → List (List ℕ × List ℕ)
+lists_of_run set env look output = lists_of (archiver_of set env look) (library_of set env output) (archived_of set env)
 
 -- the commands that write the library; `plain` says that the first one was refused, so that the plain form took its place
 unfoldable pub archives_of : BuildConfig → EnvSeen → Look → Bool → List ℕ → List CommandSeen

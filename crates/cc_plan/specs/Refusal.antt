@@ -3,7 +3,7 @@ use Rattle.std.specs.Prelude.{◌≡◌, ◌⊎◌, Result, OnOk, IfErr, ℕ, �
 use Rattle.std.specs.Option.{option_map}
 use Rattle.std.specs.Path.{path_file_name, path_join}
 use Rattle.cc_plan.specs.Added.{added_refusal}
-use Rattle.cc_plan.specs.Names.{is_output_name, library_file}
+use Rattle.cc_plan.specs.Names.{is_output_name, library_file, linked_library}
 use Rattle.cc_env.specs.Env.{EnvSeen}
 use Rattle.cc_env.specs.Snapshot.{last_value}
 use Rattle.cc_flags.specs.DefaultWords.{is_wasm_linux}
@@ -20,7 +20,7 @@ use Rattle.cc_plan.specs.declared.archive_tool.ArchiveTool.{ArchiveTool}
 use Rattle.cc_plan.specs.declared.archive_tool.ArchiveTool.TheVariants.{Archiver, Ranlib}
 use Rattle.cc_plan.specs.declared.compiler.Compiler.{Compiler}
 use Rattle.cc_plan.specs.declared.error.ArgumentCause.{ArgumentCause}
-use Rattle.cc_plan.specs.declared.error.ArgumentCause.TheVariants.{Output, OutDir, NoFileName, SameObject}
+use Rattle.cc_plan.specs.declared.error.ArgumentCause.TheVariants.{Output, OutDir, NoFileName, SameObject, Library}
 use Rattle.cc_plan.specs.declared.error.PlanError.{PlanError}
 use Rattle.cc_plan.specs.declared.error.PlanError.TheVariants.{Argument, NotSet, UnknownTarget, QnxArch, NoMemory}
 use Rattle.cc_plan.specs.declared.settings.BuildConfig.{BuildConfig}
@@ -59,6 +59,10 @@ objects_refusal env root dir sources = sources_refusal (object_path env root dir
 
 abbrev pub name_refusal : List ℕ → Option PlanError
 name_refusal output = if is_output_name output then None else Some (Argument Output)
+
+-- what link lines by the path of a library want
+abbrev pub path_refusal : List ℕ → Option PlanError
+path_refusal path = if is_none (linked_library path) then Some (Argument Library) else None
 
 abbrev pub out_dir_refusal : Option (List ℕ) → Option PlanError
 out_dir_refusal None = Some (NotSet (codes "OUT_DIR"))
@@ -99,10 +103,14 @@ object_in set env source = object_path env.inherited set.source_root (unwrap_or 
 abbrev pub library_in : BuildConfig → EnvSeen → List ℕ → List ℕ
 library_in set env output = path_join (unwrap_or (out_dir_of set env) []) (library_file output)
 
--- before the folder of the objects is made
+-- before the folder of the objects is made: the out dir, and then the sources
+unfoldable pub intermediate_refusal : BuildConfig → EnvSeen → Option PlanError
+intermediate_refusal set env = first_of (out_dir_refusal (out_dir_of set env)) (sources_refusal (object_in set env) set.files)
+
+-- for a library its name comes before them, and its added objects behind
 unfoldable pub early_refusal : BuildConfig → EnvSeen → List ℕ → Option PlanError
 early_refusal set env output =
-    first_of (name_refusal output) (first_of (out_dir_refusal (out_dir_of set env)) (first_of (sources_refusal (object_in set env) set.files) (added_refusal (library_in set env output) set.objects)))
+    first_of (name_refusal output) (first_of (intermediate_refusal set env) (added_refusal (library_in set env output) set.objects))
 
 abbrev pub is_empty : List (List ℕ) → Bool
 is_empty [] = true

@@ -1,5 +1,5 @@
--- The settings of a new build.
-use Rattle.std.specs.Prelude.{[], None, true, false}
+-- The settings of a new build, and those of an archive alone.
+use Rattle.std.specs.Prelude.{ℕ, List, [], ◌++◌, None, true, false}
 use Rattle.cc_plan.specs.declared.settings.BuildConfig.{BuildConfig}
 
 -- no source and nothing set, link lines, warnings, output of the commands, rerun lines and what Cargo hands down on, all else off
@@ -50,3 +50,7 @@ unset_settings = record {
   prefer_clang_cl_over_msvc = false;
   repeat_lines = false;
 }
+
+-- settings without sources, with these objects in the place of theirs
+abbrev pub archive_settings : BuildConfig → List (List ℕ) → BuildConfig
+archive_settings set objects = record set { files = []; objects = objects ++ set.objects }

@@ -16,6 +16,9 @@ use Rattle.cc_plan.specs.Refusal.{is_empty, object_in, library_in, links_cpp, mu
 use Rattle.cc_plan.specs.ArchiveTool.{qnx_arch, variable_tool}
 use Rattle.cc_plan.specs.Compilation.{CompilationSeen}
 use Rattle.cc_plan.specs.Inherited.{inherited_text}
+use Rattle.cc_plan.specs.Archive.{archiver_of}
+use Rattle.cc_plan.specs.Libtool.{is_libtool, has_line_feed}
+use Rattle.cc_plan.specs.Plan.{archived_of}
 use Rattle.cc_plan.specs.Planned.{planned}
 use Rattle.cc_plan.specs.ToolWords.{names_target, musl_sysroot}
 use Rattle.cc_plan.specs.Target.{target_info}
@@ -75,6 +78,8 @@ pub record Valid (set : BuildConfig) (env : EnvSeen) (look : Look) (output : Lis
   pub variant : is_empty set.files ≡ false → has_no_defaults set env ≡ false → HasVariant (planned set env look)
   pub sysroot : is_empty set.files ≡ false → has_no_defaults set env ≡ false → HasSysroot (planned set env look)
   pub archiver : HasArchiver set env look
+  -- no object path has a line feed where libtool reads them from a list
+  pub listed : is_libtool (archiver_of set env look) ≡ true → AllByRecursion (λ path. has_line_feed path ≡ false) (archived_of set env)
   -- and so is the sysroot with which a library of C++ is linked
   pub linked : links_cpp set ≡ true → is_wasm_linux (target_info set env) ≡ true → IsSome (last_value env.inherited musl_variable)
   -- the flags of Rust code parse, where they are read

@@ -1,13 +1,16 @@
 // The archiver, and the archive and index commands.
 ghost use Rattle.std.specs.Prelude.{◌≡◌, [], ◌∷◌, ◌++◌, map, take, Bool, true, false, IfOk, IfErr, if◌then◌else◌};
-ghost use Rattle.cc_plan.specs.Archive.{archiver_of, archiver_by, has_words, archive_tool_cmd, ranlib_flags, ranlib_cmd_of, archive_env, with_words as worded, timeless, adding, archive_of, archives_by, archives_of, index_of, plain_index_of, indexes_of, paths_of};
+ghost use Rattle.cc_plan.specs.Archive.{archiver_of, archiver_by, has_words, archive_tool_cmd, ranlib_flags, ranlib_cmd_of, archive_env, with_words as worded, timeless, adding, archive_of, archives_by, archives_of, index_of, plain_index_of, indexes_by, indexes_of, paths_of};
 ghost use Rattle.cc_plan.specs.ArchiveTool.{archive_tool};
+ghost use Rattle.cc_plan.specs.Batches.{batches_of};
 ghost use Rattle.cc_plan.specs.Asking.{AsksForArchiver, AsksForRanlib, AsksForEither, SettledIn, AllowedIn, RefusedIn};
 ghost use Rattle.cc_plan.specs.Refusal.{AllowedBy, RefusedBy, look_up_refusal, archive_tool_refusal, archiver_refusal, ranlib_refusal};
 
 use crate::archive_tool::{ArchiveTool, archive_tool};
+use crate::libtool::libtool_command;
 use crate::{
-    BuildConfig, Choice, Object, PlanError, Sight, batches, host_of, target_of, variable_flags,
+    BuildConfig, Choice, Object, PlanError, Sight, batches, host_of, is_libtool, target_of,
+    variable_flags,
 };
 use cc_env::BuildEnv;
 use cc_host::{Command, Host, World};
@@ -252,8 +255,31 @@ fn push_refused(
     }
 }
 
+// The commands of an archiver in the form of `ar`.
+fn batch_commands(
+    alloc: Global,
+    archiver: &Archiver,
+    env: &BuildEnv,
+    library: &str,
+    paths: &Words,
+    plain: bool,
+) -> Mem<Vec<Command>>
+    ensures { IfOk result (λ cmds. cmds.items
+        ≡ archives_by archiver.now env.now library.now plain (batches_of paths.now)) }
+{
+    let batches = batches(alloc, paths)?;
+    let mut cmds = Vec::new(alloc);
+    if plain {
+        push_refused(&mut cmds, archiver, env, library, batches.as_slice())?;
+    }
+    push_batches(&mut cmds, archiver, env, library, plain, batches.as_slice())?;
+    Ok(cmds)
+}
+
 /// The commands that write objects of these paths into the library, in order: one a batch, and none where there is no path. The words of the
 /// archiver's command come first. Only want of memory refuses.
+///
+/// Where the archiver is libtool it is one command, which reads the paths from the file that `list_file` gives; `plain` changes nothing.
 ///
 /// By the manual of GNU `ar`, `c` makes the library without saying so, `q` adds members last without a look at those that are there, and
 /// `D` writes zero for times and owners, so that the same objects give the same bytes. `ZERO_AR_DATE` has Apple's archiver do so for times.
@@ -272,13 +298,12 @@ pub fn archive_commands(
     ensures { IfOk result (λ cmds.
         cmds.items ≡ archives_of archiver.now env.now library.now plain paths.now) }
 {
-    let batches = batches(alloc, paths)?;
-    let mut cmds = Vec::new(alloc);
-    if plain {
-        push_refused(&mut cmds, archiver, env, library, batches.as_slice())?;
+    if is_libtool(archiver) {
+        let mut cmds = Vec::new(alloc);
+        cmds.push(libtool_command(alloc, archiver, library)?)?;
+        return Ok(cmds);
     }
-    push_batches(&mut cmds, archiver, env, library, plain, batches.as_slice())?;
-    Ok(cmds)
+    batch_commands(alloc, archiver, env, library, paths, plain)
 }
 
 fn index_command(archiver: &Archiver, library: &str) -> Mem<Command>
@@ -301,8 +326,32 @@ fn plain_index_command(
     timeless(alloc, archiver, env, "s", library)
 }
 
+// The commands of the index of an archiver in the form of `ar`.
+fn batch_index_commands(
+    alloc: Global,
+    archiver: &Archiver,
+    env: &BuildEnv,
+    library: &str,
+    paths: &Words,
+    plain: bool,
+) -> Mem<Vec<Command>>
+    ensures { IfOk result (λ cmds.
+        cmds.items ≡ indexes_by archiver.now env.now library.now plain paths.now) }
+{
+    let mut cmds = Vec::new(alloc);
+    if !plain || paths.is_empty() {
+        cmds.push(index_command(archiver, library)?)?;
+    }
+    if plain {
+        cmds.push(plain_index_command(alloc, archiver, env, library)?)?;
+    }
+    Ok(cmds)
+}
+
 /// The commands that write the index of the library of these paths, by which a linker finds symbols: one, whose words are behind those of the
 /// archiver's command. By the manual of GNU `ar`, `s` writes it, and `D` without the time. Only want of memory refuses.
+///
+/// None where the archiver is libtool, which writes it with the library.
 ///
 /// Where the first command with `D` was refused, `plain` has it written by `s`. Without a path the index is the first command, and the
 /// refused one then comes first.
@@ -317,14 +366,10 @@ pub fn index_commands(
     ensures { IfOk result (λ cmds.
         cmds.items ≡ indexes_of archiver.now env.now library.now plain paths.now) }
 {
-    let mut cmds = Vec::new(alloc);
-    if !plain || paths.is_empty() {
-        cmds.push(index_command(archiver, library)?)?;
+    if is_libtool(archiver) {
+        return Ok(Vec::new(alloc));
     }
-    if plain {
-        cmds.push(plain_index_command(alloc, archiver, env, library)?)?;
-    }
-    Ok(cmds)
+    batch_index_commands(alloc, archiver, env, library, paths, plain)
 }
 
 /// The paths that the library gets: those of the objects of the sources, and then the added ones, in order. Only want of memory refuses.

@@ -19,6 +19,10 @@ pub enum ArgumentCause {
     SameObject(u64, u64),
     /// The added object at this place is the library.
     LibraryIsObject(u64),
+    /// The path of the archived object at this place, those of sources first, has a line feed, which libtool takes for the end of a path.
+    LineFeed(u64),
+    /// The path is not that of a library `lib<name>.a` with its folder.
+    Library,
 }
 
 /// Why a plan is refused. A refused plan runs no command; what it asked until then is in the log of the host.

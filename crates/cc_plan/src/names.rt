@@ -1,12 +1,13 @@
 // The names of a library.
-ghost use Rattle.std.specs.Prelude.{◌≡◌, IfOk, None, ◌++◌, Some, codes};
+ghost use Rattle.std.specs.Prelude.{◌≡◌, IfOk, None, ◌++◌, Some, codes, option_and_then};
 ghost use Rattle.std.specs.Option.{option_copied};
-ghost use Rattle.cc_plan.specs.Names.{is_nameless, has_slash, is_output_name, inner_name, library_name, library_file};
-ghost use Rattle.cc_plan.specs.Refusal.{name_refusal, AllowedBy, RefusedBy};
+ghost use Rattle.std.specs.Path.{path_file_name};
+ghost use Rattle.cc_plan.specs.Names.{is_nameless, has_slash, is_output_name, inner_name, library_name, library_file, linked_library};
+ghost use Rattle.cc_plan.specs.Refusal.{name_refusal, path_refusal, AllowedBy, RefusedBy};
 
 use crate::blanks::nonempty;
 use crate::{ArgumentCause, PlanError};
-use cc_text::{Mem, Text, after_prefix, before_suffix};
+use cc_text::{Mem, Text, after_prefix, before_suffix, file_name, parent};
 use std::alloc::Global;
 
 // An output that names no library.
@@ -62,5 +63,30 @@ pub fn lib_and_archive_names(alloc: Global, output: &str) -> Result<(Text, Text)
     match inner_name(output) {
         Some(name) => Ok((Text::of(alloc, name)?, Text::of(alloc, output)?)),
         None => Ok((Text::of(alloc, output)?, file_of(alloc, output)?)),
+    }
+}
+
+// What a linker is given for the library at a path.
+fn name_in(path: &str) -> Option<&str>
+    ensures { option_copied result ≡ option_and_then inner_name (path_file_name path.now) }
+{
+    inner_name(file_name(path)?)
+}
+
+/// The name of the library at a path, as a linker takes it behind `-l`, and its folder.
+///
+/// Refused where the file isn't `lib<name>.a` with a name, as linkers look for it by the manual of GNU `ld`, or the path has no folder, in
+/// which they would look; and for memory.
+#[tactic(auto, unfolding(crate::specs::Names::linked_library))]
+pub fn library_and_dir(alloc: Global, library: &str) -> Result<(Text, Text), PlanError>
+    ensures found { IfOk result (λ found. linked_library library.now ≡ Some found) }
+    ensures refused { RefusedBy (path_refusal library.now) result }
+{
+    match name_in(library) {
+        Some(name) => match nonempty(parent(library)) {
+            Some(dir) => Ok((Text::of(alloc, name)?, Text::of(alloc, dir)?)),
+            None => Err(PlanError::Argument(ArgumentCause::Library)),
+        },
+        None => Err(PlanError::Argument(ArgumentCause::Library)),
     }
 }

@@ -4,9 +4,9 @@ ghost use Rattle.cc_host.specs.Question.{Settles};
 ghost use Rattle.std.specs.Option.{option_copied};
 ghost use Rattle.cc_plan.specs.Asking.{AsksToPlan, AllowedIn, RefusedIn};
 ghost use Rattle.cc_plan.specs.Names.{library_name};
-ghost use Rattle.cc_plan.specs.Given.{out_dir_of};
-ghost use Rattle.cc_plan.specs.Plan.{objects_of, library_of, compiles_of, tool_lines, warning_lines as lines_of_warnings};
-ghost use Rattle.cc_plan.specs.Refusal.{early_refusal, late_refusal, tool_refusal, platform_refusal, out_dir_refusal, AllowedBy, RefusedBy};
+ghost use Rattle.cc_plan.specs.Given.{out_dir_of, probe_folder};
+ghost use Rattle.cc_plan.specs.Plan.{dir_of, objects_of, library_of, compiles_of, tool_lines, warning_lines as lines_of_warnings};
+ghost use Rattle.cc_plan.specs.Refusal.{intermediate_refusal, early_refusal, late_refusal, tool_refusal, platform_refusal, out_dir_refusal, AllowedBy, RefusedBy};
 
 use crate::added::check_added;
 use crate::compile::compile_commands;
@@ -27,7 +27,9 @@ use std::sync::Wait;
 pub struct Sources {
     /// The name of the library, as a linker takes it.
     pub name: Text,
-    /// The path of its file, in the out dir.
+    /// The out dir, which is the folder of the objects, of the library and of probe files.
+    pub dir: Text,
+    /// The path of the library's file, in the out dir.
     pub library: Text,
     /// The sources with their objects, in the order in which the sources were added.
     pub objects: Vec<Object>,
@@ -51,6 +53,7 @@ fn checked_out_dir<'a>(
     env: &'a BuildEnv,
 ) -> Result<&'a str, PlanError>
     ensures dir { IfOk result (λ dir. out_dir_of set.now env.now ≡ Some dir.now) }
+    ensures probes { IfOk result (λ dir. dir.now ≡ probe_folder set.now env.now) }
     ensures allowed { AllowedBy (out_dir_refusal (out_dir_of set.now env.now)) result }
     ensures refused { RefusedBy (out_dir_refusal (out_dir_of set.now env.now)) result }
 {
@@ -70,8 +73,29 @@ fn source_root_of(set: &BuildConfig) -> Option<&str>
     }
 }
 
-/// Checks the output, the out dir, the sources and the added objects, in this order, and names the library and the objects. It asks
-/// nothing.
+/// Checks the out dir and the sources, in this order, and names the out dir, which is the folder of the objects and of probe files, and the
+/// objects, in the order in which the sources were added. It asks nothing.
+///
+/// Refused where the out dir is set nowhere or empty, or a source has no file name or the object of an earlier one; and for memory.
+#[tactic(auto, unfolding(crate::specs::Refusal::intermediate_refusal))]
+pub fn plan_objects(
+    alloc: Global,
+    set: &BuildConfig,
+    env: &BuildEnv,
+) -> Result<(Text, Vec<Object>), PlanError>
+    ensures dir { IfOk result (λ placed. placed.0 ≡ dir_of set.now env.now) }
+    ensures probes { IfOk result (λ placed. placed.0 ≡ probe_folder set.now env.now) }
+    ensures objects { IfOk result (λ placed. placed.1.items ≡ objects_of set.now env.now) }
+    ensures allowed { AllowedBy (intermediate_refusal set.now env.now) result }
+    ensures refused { RefusedBy (intermediate_refusal set.now env.now) result }
+{
+    let dir = checked_out_dir(alloc, set, env)?;
+    let objects = objects_from_files(alloc, &set.files, dir, env.inherited(), source_root_of(set))?;
+    Ok((Text::of(alloc, dir)?, objects))
+}
+
+/// Checks the output, the out dir, the sources and the added objects, in this order, and names the library, the out dir and the objects.
+/// It asks nothing.
 ///
 /// Refused where the output names no library, the out dir is set nowhere or empty, a source has no file name or the object of an earlier
 /// one, or an added object is the library, which is removed before it would be read; and for memory.
@@ -83,6 +107,8 @@ pub fn plan_sources(
     output: &str,
 ) -> Result<Sources, PlanError>
     ensures name { IfOk result (λ sources. sources.name ≡ library_name output.now) }
+    ensures dir { IfOk result (λ sources. sources.dir ≡ dir_of set.now env.now) }
+    ensures probes { IfOk result (λ sources. sources.dir ≡ probe_folder set.now env.now) }
     ensures library { IfOk result (λ sources.
         sources.library ≡ library_of set.now env.now output.now) }
     ensures objects { IfOk result (λ sources. sources.objects.items ≡ objects_of set.now env.now) }
@@ -90,12 +116,12 @@ pub fn plan_sources(
     ensures refused { RefusedBy (early_refusal set.now env.now output.now) result }
 {
     let (name, file) = lib_and_archive_names(alloc, output)?;
-    let dir = checked_out_dir(alloc, set, env)?;
-    let objects = objects_from_files(alloc, &set.files, dir, env.inherited(), source_root_of(set))?;
-    let library = join(alloc, dir, file.as_str())?;
+    let (dir, objects) = plan_objects(alloc, set, env)?;
+    let library = join(alloc, dir.as_str(), file.as_str())?;
     check_added(&set.objects, library.as_str())?;
     Ok(Sources {
         name,
+        dir,
         library,
         objects,
     })

@@ -1,6 +1,6 @@
 // The plain settings of a build.
 ghost use Rattle.std.specs.Prelude.{◌≡◌, IfOk};
-ghost use Rattle.cc_plan.specs.Settings.{unset_settings};
+ghost use Rattle.cc_plan.specs.Settings.{unset_settings, archive_settings as alone};
 
 use crate::{Definitions, Flags};
 use cc_text::{Mem, Text, Vars, Words};
@@ -208,6 +208,18 @@ impl BuildConfig {
             repeat_lines: self.repeat_lines,
         })
     }
+}
+
+/// The settings of an archive alone: without sources, and with these objects before the added ones. Only want of memory refuses; the
+/// settings stay as they are.
+pub fn archive_settings(alloc: Global, set: &BuildConfig, objects: &Words) -> Mem<BuildConfig>
+    ensures { IfOk result (λ archive. archive ≡ alone set.now objects.now) }
+{
+    let mut archive = set.try_clone()?;
+    archive.files = Words::new(alloc);
+    archive.objects = objects.try_clone()?;
+    archive.objects.extend(&set.objects)?;
+    Ok(archive)
 }
 
 // A second text, equal to this one, or none.
