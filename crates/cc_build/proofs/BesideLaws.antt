@@ -14,8 +14,8 @@ use Rattle.cc_host.specs.declared.event.Role.{Role}
 use Rattle.cc_host.specs.declared.event.Role.TheVariants.{Compile, Archive, Index}
 use Rattle.cc_host.proofs.Parts.{since_append}
 use Rattle.cc_plan.specs.Given.{is_disabled}
-use Rattle.cc_plan.specs.Plan.{prints, compiles_of, archives_of, indexes_of, warning_lines, objects_of, folder_steps, removal_steps, link_steps}
-use Rattle.cc_plan.specs.Refusal.{early_refusal, late_refusal, archiver_refusal, link_refusal}
+use Rattle.cc_plan.specs.Plan.{prints, compiles_of, archives_of, indexes_of, lists_of_run, archive_refusal, warning_lines, objects_of, folder_steps, removal_steps, link_steps}
+use Rattle.cc_plan.specs.Refusal.{early_refusal, late_refusal, link_refusal}
 use Rattle.cc_plan.specs.declared.settings.BuildConfig.{BuildConfig}
 use Rattle.cc_host.specs.declared.event.LineKind.TheVariants.{Warning}
 use Rattle.cc_run.specs.Part.{turns, turns_of, Within, Greedy}
@@ -26,11 +26,11 @@ use Rattle.cc_run.specs.declared.planned.Planned.{Planned}
 use Rattle.cc_build.specs.Attempts.{attempt_of, attempts, to_attempt}
 use Rattle.cc_build.specs.Error.{ErrorSeen}
 use Rattle.cc_build.specs.Promises.{is_compiling, RunBeside}
-use Rattle.cc_build.specs.Stage.{Stage, commands_in, calls, planned, beside, tried, folder_stages, compile_stages, removal_stages, library_commands, archive_stages, link_stages, library_stages, ending_stages, later_stages, late_stages, planned_stages}
+use Rattle.cc_build.specs.Stage.{Stage, commands_in, calls, planned, beside, writings, has_libtool, folder_stages, compile_stages, removal_stages, library_commands, list_stages, archive_stages, link_stages, library_stages, ending_stages, later_stages, late_stages, planned_stages}
 use Rattle.cc_build.specs.Way.{Way}
 use Rattle.cc_build.specs.Stage.Stage.{Calls, Asks, Tries, RunsOne, RunsAll}
 use Rattle.cc_build.specs.Went.{Terms, Means, RanAll, Did, Stops, Partly}
-use Rattle.cc_build.proofs.RunLaws.{commands_then, commands_calls, commands_tried}
+use Rattle.cc_build.proofs.RunLaws.{commands_then, commands_calls, commands_written}
 use Rattle.cc_build.proofs.SettledLaws.{partly_first}
 use Rattle.cc_build.proofs.StopLaws.{ArePlain}
 use Rattle.cc_build.proofs.TurnLaws.{step_turns, asked_turns, refused_turns}
@@ -235,6 +235,10 @@ module _ (set : BuildConfig) (env : EnvSeen) (way : Way) (look : Look) (output :
   unfolding removal_stages
   none_removal = none_calls (removal_steps set env output)
 
+  none_list : CompileNone (list_stages set env look output)
+  unfolding list_stages
+  none_list = none_calls (writings (lists_of_run set env look output))
+
   none_links : CompileNone (link_stages set env look way.is_first output)
   unfolding link_stages
   none_links = none_calls (link_steps set env look way.is_first output)
@@ -244,7 +248,7 @@ module _ (set : BuildConfig) (env : EnvSeen) (way : Way) (look : Look) (output :
   none_archives =
       let archives = archives_of set env look way.is_plain output in
       let indexes = indexes_of set env look way.is_plain output in
-      ap (λ l. list_any is_compiling (map to_attempt l)) (commands_tried way.is_plain (library_commands set env look way.is_plain output))
+      ap (λ l. list_any is_compiling (map to_attempt l)) (commands_written (has_libtool set env look) way.is_plain (library_commands set env look way.is_plain output))
       ∙ ap (list_any is_compiling) (map-append to_attempt (planned Archive archives) (planned Index indexes))
       ∙ list_any-append is_compiling (map to_attempt (planned Archive archives)) (map to_attempt (planned Index indexes))
       ∙ or_none (list_any is_compiling (map to_attempt (planned Archive archives))) (list_any is_compiling (map to_attempt (planned Index indexes))) (none_archive archives) (none_index indexes)
@@ -255,11 +259,13 @@ module _ (set : BuildConfig) (env : EnvSeen) (way : Way) (look : Look) (output :
   none_library : CompileNone (library_stages set env way.is_plain look output ++ ending_stages set env way look output)
   none_library =
       none_then (library_stages set env way.is_plain look output) (ending_stages set env way look output)
-      (none_then (removal_stages set env output) (archive_stages set env look way.is_plain output) none_removal none_archives) none_ending
+      (none_then (removal_stages set env output) (list_stages set env look output ++ archive_stages set env look way.is_plain output) none_removal
+      (none_then (list_stages set env look output) (archive_stages set env look way.is_plain output) none_list none_archives))
+      none_ending
 
   none_behind : CompileNone (later_stages set env way look output)
   unfolding later_stages
-  none_behind = none_unless (is_some (archiver_refusal set env look)) (library_stages set env way.is_plain look output ++ ending_stages set env way look output) none_library
+  none_behind = none_unless (is_some (archive_refusal set env look)) (library_stages set env way.is_plain look output ++ ending_stages set env way look output) none_library
 
 quiet_folder : (set : BuildConfig) (env : EnvSeen) → AreQuiet (folder_stages set env)
 unfolding folder_stages

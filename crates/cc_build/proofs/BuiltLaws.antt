@@ -10,15 +10,15 @@ use Rattle.cc_host.specs.Part.Step.{Runs, Removes}
 use Rattle.cc_host.specs.Question.{Look}
 use Rattle.cc_host.specs.Status.{is_success}
 use Rattle.cc_host.specs.declared.event.Event.{Event}
-use Rattle.cc_host.specs.declared.event.Event.TheVariants.{Ran, Made, Removed, Printed, Listed}
+use Rattle.cc_host.specs.declared.event.Event.TheVariants.{Started, Missing, Ran, Made, Removed, Wrote, Printed, Listed}
 use Rattle.cc_host.specs.declared.event.LineKind.TheVariants.{Warning}
 use Rattle.cc_host.specs.declared.event.Removal.{Removal}
 use Rattle.cc_host.specs.declared.event.Role.{Role}
 use Rattle.cc_host.specs.declared.event.Role.TheVariants.{Compile, Archive, Index}
 use Rattle.cc_host.specs.declared.event.Scope.TheVariants.{Build, Probe as ForProbes}
 use Rattle.cc_plan.specs.Given.{is_disabled}
-use Rattle.cc_plan.specs.Plan.{library_of, compiles_of, warning_lines, prints, folder_steps, removal_steps}
-use Rattle.cc_plan.specs.Refusal.{early_refusal, late_refusal, archiver_refusal, link_refusal, first_of}
+use Rattle.cc_plan.specs.Plan.{library_of, compiles_of, archive_refusal, lists_of_run, warning_lines, prints, folder_steps, removal_steps}
+use Rattle.cc_plan.specs.Refusal.{early_refusal, late_refusal, link_refusal, first_of}
 use Rattle.cc_plan.specs.declared.settings.BuildConfig.{BuildConfig}
 use Rattle.cc_run.specs.Part.{started}
 use Rattle.cc_run.specs.Planned.{asked}
@@ -26,15 +26,15 @@ use Rattle.cc_run.specs.Run.{run_from, nothing}
 use Rattle.cc_run.specs.declared.planned.Planned.{Planned}
 use Rattle.cc_build.specs.Built.{Accepted, Built, ended_well}
 use Rattle.cc_build.specs.Error.{ErrorSeen}
-use Rattle.cc_build.specs.Refusal.{early_error, late_error, archiver_error, link_error, refusal_error, plan_error, disabled_error}
-use Rattle.cc_build.specs.Stage.{Stage, commands_in, children_in, calls, planned, beside, tried, behind_first, folder_stages, compile_stages, removal_stages, library_commands, archive_stages, link_stages, library_stages, ending_stages, later_stages, late_stages, planned_stages}
+use Rattle.cc_build.specs.Refusal.{early_error, late_error, archive_error, link_error, refusal_error, plan_error, disabled_error}
+use Rattle.cc_build.specs.Stage.{Stage, commands_in, children_in, calls, planned, beside, tried, written, written_children, writings, has_libtool, folder_stages, compile_stages, removal_stages, library_commands, list_stages, archive_stages, link_stages, library_stages, ending_stages, later_stages, late_stages, planned_stages}
 use Rattle.cc_build.specs.Way.{Way, Repeats}
 use Rattle.cc_build.specs.Stage.Stage.{Asks}
 use Rattle.cc_build.specs.Went.{Terms, Means, Went, Ends}
-use Rattle.cc_build.specs.Attempts.{attempts, to_attempt, tried_of, all_tried, first_tried}
-use Rattle.cc_build.proofs.RunLaws.{commands_tried, children_then, children_calls, children_beside, children_tried, went_started, went_run, went_split}
+use Rattle.cc_build.specs.Attempts.{attempts, to_attempt, tried_of, all_tried, first_tried, form_tried}
+use Rattle.cc_build.proofs.RunLaws.{commands_then, commands_calls, commands_written, children_then, children_calls, children_beside, children_written, went_started, went_run, went_split}
 use Rattle.cc_build.proofs.SettledLaws.{went_attempts, in_turn_tried}
-use Rattle.cc_build.proofs.StopLaws.{plain_archive}
+use Rattle.cc_build.proofs.StopLaws.{plain_then, plain_list, plain_archive}
 use Rattle.cc_build.proofs.Trying.{done_of, done_tried}
 
 first_none : {X : Type 0} (a b : Option X) → first_of a b ≡ None → (a ≡ None) × (b ≡ None)
@@ -52,15 +52,15 @@ chosen_none false x r h = (refl, h)
 -- settings whose error is none are not refused
 pub no_error : (set : BuildConfig) (env : EnvSeen) (look : Look) (output : List ℕ) → refusal_error set env look output ≡ None → Accepted set env look output
 no_error set env look output h =
-    let n = first_none (early_error set env output) (first_of (late_error set env look output) (first_of (archiver_error set env look output) (link_error set env look output))) h in
-    let m = first_none (late_error set env look output) (first_of (archiver_error set env look output) (link_error set env look output)) n.1 in
-    let k = first_none (archiver_error set env look output) (link_error set env look output) m.1 in
+    let n = first_none (early_error set env output) (first_of (late_error set env look output) (first_of (archive_error set env look output) (link_error set env look output))) h in
+    let m = first_none (late_error set env look output) (first_of (archive_error set env look output) (link_error set env look output)) n.1 in
+    let k = first_none (archive_error set env look output) (link_error set env look output) m.1 in
     let late = chosen_none (is_disabled env) disabled_error (option_map (plan_error set env output) (late_refusal set env look)) m.0 in
     record {
       early = unmapped (plan_error set env output) (early_refusal set env output) n.0;
       enabled = late.0;
       late = unmapped (plan_error set env output) (late_refusal set env look) late.1;
-      archiver = unmapped (plan_error set env output) (archiver_refusal set env look) k.0;
+      archive = unmapped (plan_error set env output) (archive_refusal set env look) k.0;
       links = unmapped (plan_error set env output) (link_refusal set env look) k.1;
     }
 
@@ -72,19 +72,23 @@ module _ (set : BuildConfig) (env : EnvSeen) (way : Way) (look : Look) (output :
   abbrev last_part : List Stage
   last_part = Asks ∷ link_stages set env look way.is_first output
 
+  -- the list, and the commands behind it
+  abbrev middle_part : List Stage
+  middle_part = list_stages set env look output ++ archive_stages set env look way.is_plain output
+
   -- what is planned where nothing is refused
-  accepted_stages : Accepted set env look output → planned_stages set env way look output ≡ first_part ++ (removal_stages set env output ++ (archive_stages set env look way.is_plain output ++ last_part))
+  accepted_stages : Accepted set env look output → planned_stages set env way look output ≡ first_part ++ (removal_stages set env output ++ (middle_part ++ last_part))
   unfolding planned_stages late_stages later_stages
   accepted_stages a =
       let early : early_refusal set env output ≡ None = a.early in
       let enabled : is_disabled env ≡ false = a.enabled in
       let late : late_refusal set env look ≡ None = a.late in
-      let archiver : archiver_refusal set env look ≡ None = a.archiver in
+      let refused : archive_refusal set env look ≡ None = a.archive in
       let links : link_refusal set env look ≡ None = a.links in
       let compiles = compile_stages set env way.warns_of_link look in
       let removal = removal_stages set env output in
-      let archive = archive_stages set env look way.is_plain output in
-      let joined : planned_stages set env way look output ≡ folder_stages set env ++ (Asks ∷ (compiles ++ (Asks ∷ ((removal ++ archive) ++ last_part)))) = rw (early, enabled, late, archiver, links) refl in
+      let archive = middle_part in
+      let joined : planned_stages set env way look output ≡ folder_stages set env ++ (Asks ∷ (compiles ++ (Asks ∷ ((removal ++ archive) ++ last_part)))) = rw (early, enabled, late, refused, links) refl in
       joined
       ∙ ap (λ l. folder_stages set env ++ (Asks ∷ (compiles ++ (Asks ∷ l)))) (append_assoc removal archive last_part)
       ∙ ap (λ l. folder_stages set env ++ (Asks ∷ l)) (sym (append_assoc compiles (Asks ∷ []) (removal ++ (archive ++ last_part))))
@@ -92,11 +96,11 @@ module _ (set : BuildConfig) (env : EnvSeen) (way : Way) (look : Look) (output :
 
 -- ---- the children of the stages
 
-folder_children : (set : BuildConfig) (env : EnvSeen) → children_in (folder_stages set env) ≡ []
+pub folder_children : (set : BuildConfig) (env : EnvSeen) → children_in (folder_stages set env) ≡ []
 unfolding folder_stages
 folder_children set env = children_calls (folder_steps set env)
 
-compile_children : (set : BuildConfig) (env : EnvSeen) (warns_of_link : Bool) (look : Look) → children_in (compile_stages set env warns_of_link look) ≡ planned Compile (compiles_of set env look)
+pub compile_children : (set : BuildConfig) (env : EnvSeen) (warns_of_link : Bool) (look : Look) → children_in (compile_stages set env warns_of_link look) ≡ planned Compile (compiles_of set env look)
 unfolding compile_stages
 compile_children set env warns_of_link look =
     let lines = prints Warning (warning_lines set env warns_of_link look) in
@@ -111,15 +115,15 @@ source_children set env way look output =
     ∙ append-nil (children_in (compile_stages set env way.warns_of_link look))
     ∙ compile_children set env way.warns_of_link look
 
-planned_length : (role : Role) (cmds : List CommandSeen) → length (planned role cmds) ≡ length cmds
+pub planned_length : (role : Role) (cmds : List CommandSeen) → length (planned role cmds) ≡ length cmds
 planned_length role cmds = length-map cmds (λ cmd. record { role = role; cmd = cmd; message = None })
 
 -- the children of these stages were started, and nothing else
-started_from : (t : Terms) (stages : List Stage) (part : List Event) (x y : Means) (cmds : List Planned) → Went t stages part x y → children_in stages ≡ cmds → started part ≡ asked t.shows cmds
+pub started_from : (t : Terms) (stages : List Stage) (part : List Event) (x y : Means) (cmds : List Planned) → Went t stages part x y → children_in stages ≡ cmds → started part ≡ asked t.shows cmds
 started_from t stages part x y cmds w is = went_started t stages part x y w ∙ ap (asked t.shows) is
 
 -- and each of them has ended with 0
-ended_from : (t : Terms) (stages : List Stage) (part : List Event) (x y : Means) (cmds : List Planned) (count : ℕ) → Went t stages part x y → children_in stages ≡ cmds → length cmds ≡ count → run_from nothing part ≡ ended_well count
+pub ended_from : (t : Terms) (stages : List Stage) (part : List Event) (x y : Means) (cmds : List Planned) (count : ℕ) → Went t stages part x y → children_in stages ≡ cmds → length cmds ≡ count → run_from nothing part ≡ ended_well count
 ended_from t stages part x y cmds count w is long = went_run t stages part x y 0 w ∙ ap ended_well (zero-add (length (children_in stages)) ∙ ap length is ∙ long)
 
 -- ---- the commands of the archive
@@ -131,25 +135,64 @@ tried_from t refused (p ∷ ps) part x y w =
     ∙ flat_map-append tried_of w.0 w.1
     ∙ ap₂ (λ u v. u ++ v) (done_tried p refused w.0 (done_of t p w.0 refused w.3.1.0)) (in_turn_tried t ps w.1 w.2 y w.3.2)
 
-module _ (t : Terms) (set : BuildConfig) (env : EnvSeen) (look : Look) (is_plain : Bool) (output : List ℕ) (part : List Event) (x y : Means) (w : Went t (archive_stages set env look is_plain output) part x y) where
+-- in the form of libtool none was tried
+written_from : (t : Terms) (libtool refused : Bool) (cmds : List Planned) (part : List Event) (x y : Means) → Went t (written libtool refused cmds) part x y → all_tried part ≡ form_tried libtool refused cmds
+written_from t true refused cmds part x y w = in_turn_tried t cmds part x y w
+written_from t false refused cmds part x y w = tried_from t refused cmds part x y w
+
+-- where no command was attempted none was tried
+untried : (part : List Event) → attempts part ≡ [] → all_tried part ≡ []
+untried [] none = refl
+untried (Started id role cmd pipes held ∷ part) none = absurd (cc)
+untried (Missing role cmd ∷ part) none = absurd (cc)
+untried (Ran role cmd pipes status out err ∷ part) none = absurd (cc)
+untried (event ∷ part) none = untried part none
+
+module _ (set : BuildConfig) (env : EnvSeen) (look : Look) (output : List ℕ) where
+  list_commands : commands_in (list_stages set env look output) ≡ []
+  unfolding list_stages
+  list_commands = commands_calls (writings (lists_of_run set env look output))
+
+  list_children : children_in (list_stages set env look output) ≡ []
+  unfolding list_stages
+  list_children = children_calls (writings (lists_of_run set env look output))
+
+module _ (t : Terms) (set : BuildConfig) (env : EnvSeen) (look : Look) (is_plain : Bool) (output : List ℕ) (part : List Event) (x y : Means) (w : Went t (list_stages set env look output ++ archive_stages set env look is_plain output) part x y) where
   abbrev cmds : List Planned
   cmds = library_commands set env look is_plain output
 
+  abbrev libtool : Bool
+  libtool = has_libtool set env look
+
+  abbrev list : List Stage
+  list = list_stages set env look output
+
+  abbrev archive : List Stage
+  archive = archive_stages set env look is_plain output
+
+  all_commands : commands_in (list ++ archive) ≡ cmds
+  unfolding archive_stages
+  all_commands = commands_then list archive ∙ ap₂ (λ u v. u ++ v) (list_commands set env look output) (commands_written libtool is_plain cmds)
+
+  all_children : children_in (list ++ archive) ≡ written_children libtool cmds
+  unfolding archive_stages
+  all_children = children_then list archive ∙ ap₂ (λ u v. u ++ v) (list_children set env look output) (children_written libtool is_plain cmds)
+
   archive_writes : attempts part ≡ map to_attempt cmds
-  unfolding archive_stages
-  archive_writes = went_attempts t (tried is_plain cmds) part x y (plain_archive set env look is_plain output) w ∙ ap (map to_attempt) (commands_tried is_plain cmds)
+  archive_writes = went_attempts t (list ++ archive) part x y (plain_then list archive (plain_list set env look output) (plain_archive set env look is_plain output)) w ∙ ap (map to_attempt) all_commands
 
-  archive_first : all_tried part ≡ first_tried is_plain cmds
+  archive_first : all_tried part ≡ form_tried libtool is_plain cmds
   unfolding archive_stages
-  archive_first = tried_from t is_plain cmds part x y w
+  archive_first =
+      let k = went_split t list archive part x y w in
+      let none : attempts k.0 ≡ [] = went_attempts t list k.0 x k.2 (plain_list set env look output) k.3.1 ∙ ap (map to_attempt) (list_commands set env look output) in
+      ap all_tried k.3.0 ∙ flat_map-append tried_of k.0 k.1 ∙ ap₂ (λ u v. u ++ v) (untried k.0 none) (written_from t libtool is_plain cmds k.1 k.2 y k.3.2)
 
-  archive_others : started part ≡ asked t.shows (behind_first cmds)
-  unfolding archive_stages
-  archive_others = started_from t (tried is_plain cmds) part x y (behind_first cmds) w (children_tried is_plain cmds)
+  archive_others : started part ≡ asked t.shows (written_children libtool cmds)
+  archive_others = started_from t (list ++ archive) part x y (written_children libtool cmds) w all_children
 
-  archive_ended : run_from nothing part ≡ ended_well (length (behind_first cmds))
-  unfolding archive_stages
-  archive_ended = ended_from t (tried is_plain cmds) part x y (behind_first cmds) (length (behind_first cmds)) w (children_tried is_plain cmds) refl
+  archive_ended : run_from nothing part ≡ ended_well (length (written_children libtool cmds))
+  archive_ended = ended_from t (list ++ archive) part x y (written_children libtool cmds) (length (written_children libtool cmds)) w all_children refl
 
 -- ---- the removal
 
@@ -163,6 +206,7 @@ removed_is path (Ran role cmd pipes status out err) e = absurd (by_test (is_succ
     by_test false k = cc
 removed_is path (Made Build folder) e = absurd (cc)
 removed_is path (Made ForProbes folder) e = absurd (cc)
+removed_is path (Wrote file bytes) e = absurd (cc)
 removed_is path (Printed kind bytes) e = absurd (cc)
 removed_is path (Listed vars) e = absurd (cc)
 removed_is path event e = absurd (cc)
@@ -181,7 +225,7 @@ pub built : (t : Terms) (set : BuildConfig) (env : EnvSeen) (way : Way) (look : 
 built t set env way look output part x y repeats h w =
     let accepted : Accepted set env look output = no_error set env look output h in
     let sources = first_part set env way look output in
-    let archive = archive_stages set env look way.is_plain output in
+    let archive = middle_part set env way look output in
     let link = last_part set env way look output in
     let compiles = planned Compile (compiles_of set env look) in
     let all : Went t (sources ++ (removal_stages set env output ++ (archive ++ link))) part x y = subst (λ (stages : List Stage). Went t stages part x y) (accepted_stages set env way look output accepted) w in

@@ -7,14 +7,15 @@ use Rattle.std.proofs.lemmas.List.{map-append}
 use Rattle.cc_env.specs.Env.{EnvSeen}
 use Rattle.cc_host.specs.Command.{CommandSeen}
 use Rattle.cc_host.specs.Part.{Step, Refuses}
-use Rattle.cc_host.specs.Part.Step.{Runs, Makes, Removes, Prints, Lists}
+use Rattle.cc_host.specs.Part.Step.{Runs, Makes, Removes, Writes, Prints, Lists}
 use Rattle.cc_host.specs.Question.{Look}
 use Rattle.cc_host.specs.declared.event.Event.{Event}
 use Rattle.cc_host.specs.declared.event.Event.TheVariants.{Fault}
 use Rattle.cc_host.specs.declared.event.HostCall.TheVariants.{Start, Turn as Turning}
 use Rattle.cc_plan.specs.Given.{is_disabled}
-use Rattle.cc_plan.specs.Refusal.{first_of, early_refusal, late_refusal, archiver_refusal, link_refusal}
-use Rattle.cc_plan.specs.declared.error.ArgumentCause.TheVariants.{Output, OutDir, NoFileName, SameObject, LibraryIsObject}
+use Rattle.cc_plan.specs.Plan.{archive_refusal}
+use Rattle.cc_plan.specs.Refusal.{first_of, early_refusal, late_refusal, link_refusal}
+use Rattle.cc_plan.specs.declared.error.ArgumentCause.TheVariants.{Output, OutDir, NoFileName, SameObject, LibraryIsObject, LineFeed, Library}
 use Rattle.cc_plan.specs.declared.error.PlanError.{PlanError}
 use Rattle.cc_plan.specs.declared.error.PlanError.TheVariants.{Argument, NotSet, UnknownTarget, QnxArch, Flag, Host, NoMemory as WantsMemory}
 use Rattle.cc_plan.specs.declared.settings.BuildConfig.{BuildConfig}
@@ -26,7 +27,7 @@ use Rattle.cc_run.specs.declared.planned.Planned.{Planned}
 use Rattle.cc_run.specs.declared.planned.Shows.{Shows}
 use Rattle.cc_build.specs.Error.{ErrorSeen, no_memory}
 use Rattle.cc_build.specs.Failed.{HasFault, is_fault}
-use Rattle.cc_build.specs.Refusal.{plan_error, disabled_error, early_error, late_error, archiver_error, link_error, refusal_error}
+use Rattle.cc_build.specs.Refusal.{plan_error, disabled_error, early_error, late_error, archive_error, link_error, refusal_error}
 use Rattle.cc_build.specs.RunErrors.{command_at, error_of, run_error}
 use Rattle.cc_build.specs.Stage.{Stage, children_of, children_in}
 use Rattle.cc_build.specs.Stage.Stage.{Calls, Asks, Tries, RunsOne, RunsAll}
@@ -50,6 +51,7 @@ unfolding missing_error failed_error unstarted_error fault_error
 call_kind (Runs role cmd) event plain r h = absurd plain
 call_kind (Makes scope path) (Fault call why) plain r h = cc
 call_kind (Removes path) (Fault call why) plain r h = cc
+call_kind (Writes path bytes) (Fault call why) plain r h = cc
 call_kind (Prints kind bytes) (Fault call why) plain r h = cc
 call_kind Lists (Fault call why) plain r h = cc
 call_kind _ _ plain r h = absurd r
@@ -102,6 +104,8 @@ plan_kind set env output (Argument OutDir) h = cc
 plan_kind set env output (Argument (NoFileName place)) h = cc
 plan_kind set env output (Argument (SameObject first second)) h = cc
 plan_kind set env output (Argument (LibraryIsObject place)) h = cc
+plan_kind set env output (Argument (LineFeed place)) h = cc
+plan_kind set env output (Argument Library) h = cc
 plan_kind set env output (NotSet name) h = cc
 plan_kind set env output (UnknownTarget target) h = cc
 plan_kind set env output (QnxArch arch) h = cc
@@ -130,7 +134,7 @@ pub never_ran : (set : BuildConfig) (env : EnvSeen) (look : Look) (output : List
 never_ran set env look output =
     first_never (early_error set env output) _ (mapped set env output (early_refusal set env output)) (
     first_never (late_error set env look output) _ (disabled_or (is_disabled env) _ (mapped set env output (late_refusal set env look))) (
-    first_never (archiver_error set env look output) (link_error set env look output) (mapped set env output (archiver_refusal set env look)) (mapped set env output (link_refusal set env look))
+    first_never (archive_error set env look output) (link_error set env look output) (mapped set env output (archive_refusal set env look)) (mapped set env output (link_refusal set env look))
     )
     )
 

@@ -10,14 +10,14 @@ use Rattle.cc_host.specs.declared.event.Role.TheVariants.{Archive, Index}
 use Rattle.cc_host.specs.declared.event.LineKind.TheVariants.{Link}
 use Rattle.cc_plan.specs.Given.{is_disabled}
 use Rattle.cc_plan.specs.Link.{printed_links}
-use Rattle.cc_plan.specs.Plan.{archives_of, indexes_of, link_lines, removal_steps, link_steps}
-use Rattle.cc_plan.specs.Refusal.{early_refusal, late_refusal, archiver_refusal, link_refusal}
+use Rattle.cc_plan.specs.Plan.{archives_of, indexes_of, lists_of_run, archive_refusal, link_lines, removal_steps, link_steps}
+use Rattle.cc_plan.specs.Refusal.{early_refusal, late_refusal, link_refusal}
 use Rattle.cc_plan.specs.declared.settings.BuildConfig.{BuildConfig}
 use Rattle.cc_run.specs.Part.{missing}
 use Rattle.cc_run.specs.declared.planned.Planned.{Planned}
 use Rattle.cc_build.specs.Error.{ErrorSeen}
 use Rattle.cc_build.specs.Failed.{is_form}
-use Rattle.cc_build.specs.Stage.{Stage, planned, tried, folder_stages, compile_stages, removal_stages, archive_stages, link_stages, library_stages, ending_stages, later_stages, asked_stages, late_stages, planned_stages}
+use Rattle.cc_build.specs.Stage.{Stage, calls, planned, tried, written, writings, has_libtool, folder_stages, compile_stages, removal_stages, list_stages, archive_stages, link_stages, library_stages, ending_stages, later_stages, asked_stages, late_stages, planned_stages}
 use Rattle.cc_build.specs.Stage.Stage.{Calls, Asks, Tries, RunsOne, RunsAll}
 use Rattle.cc_build.specs.Way.{Way}
 use Rattle.cc_build.specs.Went.{Terms, Means, Went, Stops, Halts, Halted}
@@ -68,10 +68,10 @@ module _ (t : Terms) (before : List Stage) (front rest : List Event) (e : ErrorS
   formed_halts refusal (s ∷ ss) first (inr stop) some = formed_stop s ss first stop some
 
 -- a run that ended before its stages were done has one of these causes
-pub halted_cause : (t : Terms) (refusal : Option ErrorSeen) (stages : List Stage) (part : List Event) (e : ErrorSeen) (x z : Means) → ArePlain stages → FormFirst stages → Halted t refusal stages part e x z → HasCause refusal part e x z
-halted_cause t refusal stages part e x z plain first h =
-    halts_cause t refusal h.before h.front h.rest part e x h.y z h.cut h.went
-    (formed_halts t h.before h.front h.rest e x h.y z h.went refusal h.after (subst FormFirst h.stages_are first) h.halts)
+pub halted_cause : (t : Terms) (libtool : Bool) (refusal : Option ErrorSeen) (stages : List Stage) (part : List Event) (e : ErrorSeen) (x z : Means) → ArePlain stages → (libtool ≡ false → FormFirst stages) → Halted t refusal stages part e x z → HasCause libtool refusal part e x z
+halted_cause t libtool refusal stages part e x z plain first h =
+    halts_cause t libtool refusal h.before h.front h.rest part e x h.y z h.cut h.went
+    (λ some other. formed_halts t h.before h.front h.rest e x h.y z h.went refusal h.after (subst FormFirst h.stages_are (first other)) h.halts some)
     h.after (plain_behind h.before h.after (subst ArePlain h.stages_are plain)) h.halts
 
 -- ---- the stages of a compile run
@@ -93,6 +93,15 @@ tried_first refused [] [] more first = first
 tried_first refused [] (index ∷ indexes) more first = inl refl
 tried_first refused (archive ∷ archives) indexes more first = inl refl
 
+-- the same of another archiver than libtool
+written_first : (libtool refused : Bool) (archives indexes : List CommandSeen) (more : List Stage) → libtool ≡ false → FormFirst more → FormFirst (written libtool refused (planned Archive archives ++ planned Index indexes) ++ more)
+written_first true refused archives indexes more other first = absurd (cc)
+written_first false refused archives indexes more other first = tried_first refused archives indexes more first
+
+no_writing_archives : (files : List (List ℕ × List ℕ)) → NoArchive (calls (writings files))
+no_writing_archives [] = refl
+no_writing_archives (file ∷ files) = no_writing_archives files
+
 none_first : (stages : List Stage) → NoArchive stages → FormFirst stages
 none_first [] none = tt
 none_first (s ∷ ss) none = let k = parts (may_archive s) (list_any may_archive ss) none in inr (k.0, none_first ss k.1)
@@ -102,6 +111,10 @@ none_first (s ∷ ss) none = let k = parts (may_archive s) (list_any may_archive
     parts false q h = (refl, h)
 
 module _ (set : BuildConfig) (env : EnvSeen) (way : Way) (look : Look) (output : List ℕ) where
+  no_list_archives : NoArchive (list_stages set env look output)
+  unfolding list_stages
+  no_list_archives = no_writing_archives (lists_of_run set env look output)
+
   no_removal_archives : NoArchive (removal_stages set env output)
   unfolding removal_stages removal_steps
   no_removal_archives = refl
@@ -113,32 +126,39 @@ module _ (set : BuildConfig) (env : EnvSeen) (way : Way) (look : Look) (output :
   ending_first : FormFirst (ending_stages set env way look output)
   ending_first = inr (refl, formed_unless (is_some (link_refusal set env look)) (link_stages set env look way.is_first output) (none_first (link_stages set env look way.is_first output) no_link_archives))
 
-  archive_first : FormFirst (archive_stages set env look way.is_plain output ++ ending_stages set env way look output)
+  archive_first : has_libtool set env look ≡ false → FormFirst (archive_stages set env look way.is_plain output ++ ending_stages set env way look output)
   unfolding archive_stages
-  archive_first = tried_first way.is_plain (archives_of set env look way.is_plain output) (indexes_of set env look way.is_plain output) (ending_stages set env way look output) ending_first
+  archive_first other =
+      written_first (has_libtool set env look) way.is_plain (archives_of set env look way.is_plain output) (indexes_of set env look way.is_plain output) (ending_stages set env way look output) other ending_first
 
-  library_first : FormFirst (library_stages set env way.is_plain look output ++ ending_stages set env way look output)
-  library_first =
-      subst FormFirst (sym (append_assoc (removal_stages set env output) (archive_stages set env look way.is_plain output) (ending_stages set env way look output)))
-      (formed_then (removal_stages set env output) (archive_stages set env look way.is_plain output ++ ending_stages set env way look output) no_removal_archives archive_first)
+  -- the list and the commands, with the stages behind them
+  abbrev listed_archive : List Stage
+  listed_archive = list_stages set env look output ++ archive_stages set env look way.is_plain output
 
-  later_first : FormFirst (later_stages set env way look output)
+  library_first : has_libtool set env look ≡ false → FormFirst (library_stages set env way.is_plain look output ++ ending_stages set env way look output)
+  library_first other =
+      subst FormFirst (sym (append_assoc (removal_stages set env output) listed_archive (ending_stages set env way look output)))
+      (formed_then (removal_stages set env output) (listed_archive ++ ending_stages set env way look output) no_removal_archives
+      (subst FormFirst (sym (append_assoc (list_stages set env look output) (archive_stages set env look way.is_plain output) (ending_stages set env way look output)))
+      (formed_then (list_stages set env look output) (archive_stages set env look way.is_plain output ++ ending_stages set env way look output) no_list_archives (archive_first other))))
+
+  later_first : has_libtool set env look ≡ false → FormFirst (later_stages set env way look output)
   unfolding later_stages
-  later_first = inr (refl, formed_unless (is_some (archiver_refusal set env look)) (library_stages set env way.is_plain look output ++ ending_stages set env way look output) library_first)
+  later_first other = inr (refl, formed_unless (is_some (archive_refusal set env look)) (library_stages set env way.is_plain look output ++ ending_stages set env way look output) (library_first other))
 
-  late_first : FormFirst (late_stages set env way look output)
+  late_first : has_libtool set env look ≡ false → FormFirst (late_stages set env way look output)
   unfolding late_stages
-  late_first =
+  late_first other =
       formed_unless (is_disabled env) (asked_stages set env way look output)
       (inr (
         refl,
         formed_unless (is_some (late_refusal set env look)) (compile_stages set env way.warns_of_link look ++ later_stages set env way look output)
-            (formed_then (compile_stages set env way.warns_of_link look) (later_stages set env way look output) (no_compile_archives set env way.warns_of_link look) later_first),
+            (formed_then (compile_stages set env way.warns_of_link look) (later_stages set env way look output) (no_compile_archives set env way.warns_of_link look) (later_first other)),
       ))
 
-  -- the first command of the archive is tried
-  pub planned_first : FormFirst (planned_stages set env way look output)
+  -- the first command of the archive is tried, where the archiver is another than libtool
+  pub planned_first : has_libtool set env look ≡ false → FormFirst (planned_stages set env way look output)
   unfolding planned_stages
-  planned_first =
+  planned_first other =
       formed_unless (is_some (early_refusal set env output)) (folder_stages set env ++ late_stages set env way look output)
-      (formed_then (folder_stages set env) (late_stages set env way look output) (no_folder_archives set env) late_first)
+      (formed_then (folder_stages set env) (late_stages set env way look output) (no_folder_archives set env) (late_first other))

@@ -1,12 +1,16 @@
+pub mod ArchivingLaws
 pub mod Asking
 pub mod BesideLaws
 pub mod BuiltLaws
 pub mod Doing
 pub mod FailedLaws
+pub mod Finding
 pub mod FormLaws
 pub mod Going
 pub mod Growing
+pub mod IntermediateLaws
 pub mod Keeping
+pub mod LinkingLaws
 pub mod Looks
 pub mod OrderLaws
 pub mod Outcomes

@@ -17,7 +17,7 @@ use Rattle.cc_build.specs.Course.{course}
 use Rattle.cc_build.specs.Error.{ErrorSeen, no_memory}
 use Rattle.cc_build.specs.Phases.{CompileEnds, LibraryEnds, LinkEnds, AskedEnds}
 use Rattle.cc_build.specs.Promises.{RunEnds}
-use Rattle.cc_build.specs.Refusal.{plan_error, disabled_error, archiver_error, link_error}
+use Rattle.cc_build.specs.Refusal.{plan_error, disabled_error, archive_error, link_error}
 use Rattle.cc_build.specs.Shows.{shows_of}
 use Rattle.cc_build.specs.Stage.{calls, compile_stages, asked_stages}
 use Rattle.cc_build.specs.Stage.Stage.{Asks}
@@ -96,11 +96,11 @@ module _ (set : BuildConfig) (env : EnvSeen) (look : Look) (output : List ℕ) (
 
     -- the parts behind it ended so
     pub run_enabled : {T : Type 0} (shows : Shows) (t' p' : Option ℕ) (new : List Event) (r : Result T ErrorSeen) (z : Means) → shows ≡ shows_of set env → t' ≡ total → p' ≡ patience → is_disabled env ≡ false → new ≡ made ++ since made new
-        → (way : Way) × (Repeats set way.is_first × Ends (terms shows t' p') (first_of (option_map (plan_error set env output) (late_refusal set env look)) (first_of (archiver_error set env look output) (link_error set env look output))) (asked_stages set env way look output) (since made new) r x z)
+        → (way : Way) × (Repeats set way.is_first × Ends (terms shows t' p') (first_of (option_map (plan_error set env output) (late_refusal set env look)) (first_of (archive_error set env look output) (link_error set env look output))) (asked_stages set env way look output) (since made new) r x z)
         → RunEnds seen output r look (since old new) (course total patience x z)
     run_enabled shows t' p' new r z is a b enabled last h =
         let way = h.0 in
-        let refusal = first_of (option_map (plan_error set env output) (late_refusal set env look)) (first_of (archiver_error set env look output) (link_error set env look output)) in
+        let refusal = first_of (option_map (plan_error set env output) (late_refusal set env look)) (first_of (archive_error set env look output) (link_error set env look output)) in
         let stages = asked_stages set env way look output in
         let ends : Ends in_run refusal stages (since made new) r x z =
         subst (λ (s : Shows). Ends (terms s total patience) refusal stages (since made new) r x z) is

@@ -1,24 +1,21 @@
 -- How a part of a run ends, by what it asked and by the stages that it did.
-use Rattle.std.proofs.Common.{◌≡◌, ◌⊎◌, inl, inr, ℕ, List, [], ◌∷◌, ◌++◌, Bool, true, false, Option, Some, None, Result, Ok, Err, map, slice_get, refl, sym, ◌∙◌, ap, subst, append_assoc, append-nil, option_map}
+use Rattle.std.proofs.Common.{◌≡◌, ◌⊎◌, inl, inr, ℕ, List, [], ◌∷◌, ◌++◌, Bool, true, false, Option, Some, None, Result, Ok, Err, map, slice_get, if◌then◌else◌, refl, sym, ◌∙◌, ap, ap₂, subst, append_assoc, option_map}
 use Rattle.std.specs.List.{list_all}
-use Rattle.cc_host.specs.Part.{since}
-use Rattle.cc_host.specs.Part.Step.{Removes}
+use Rattle.cc_host.specs.Part.{Step, since}
 use Rattle.cc_host.specs.Question.{Look}
 use Rattle.cc_host.specs.declared.event.Event.{Event}
-use Rattle.cc_host.specs.declared.event.LineKind.TheVariants.{Link}
 use Rattle.cc_host.specs.declared.event.Role.TheVariants.{Archive, Index}
 use Rattle.std.specs.List.{flat_map}
 use Rattle.cc_host.proofs.Parts.{since_since, since_extends}
 use Rattle.cc_plan.specs.Archive as archive
 use Rattle.cc_plan.specs.Archive.{archiver_of}
 use Rattle.cc_plan.specs.Batches.{batches_of}
-use Rattle.cc_plan.specs.Link.{printed_links, link_lines as lines_of}
+use Rattle.cc_plan.specs.Libtool.{is_libtool, list_refusal}
+use Rattle.cc_plan.specs.Link.{link_lines as lines_of}
 use Rattle.cc_plan.specs.Names.{library_name}
 use Rattle.cc_plan.specs.declared.settings.BuildConfig.{BuildConfig}
 use Rattle.cc_env.specs.Env.{EnvSeen}
-use Rattle.std.specs.Path.{path_parent}
-use Rattle.std.specs.Prelude.{unwrap_or}
-use Rattle.cc_plan.specs.Plan.{library_of, archived_of, archives_of, indexes_of, link_lines, prints, removal_steps, link_steps}
+use Rattle.cc_plan.specs.Plan.{library_of, archived_of, archive_refusal, archives_of, indexes_of, lists_of_run, link_lines, prints, removal_steps, link_steps}
 use Rattle.cc_plan.specs.Refusal.{first_of, late_refusal, archiver_refusal, link_refusal}
 use Rattle.cc_plan.specs.declared.archive.Archiver.{Archiver}
 use Rattle.cc_plan.specs.declared.error.PlanError.{PlanError}
@@ -29,18 +26,19 @@ use Rattle.cc_run.specs.declared.planned.Planned.{Planned}
 use Rattle.cc_run.specs.declared.planned.Shows.{Shows}
 use Rattle.cc_tool.specs.Probing.{is_asked}
 use Rattle.cc_build.specs.Error.{ErrorSeen, no_memory}
-use Rattle.cc_build.specs.Course.{course}
-use Rattle.cc_build.specs.Phases.{behind, error_in, WriteEnds, LibraryEnds}
-use Rattle.cc_build.specs.Questions.{Plans, Archives, Links}
+use Rattle.cc_build.specs.Course.{Course, course, CallsEnd}
+use Rattle.cc_build.specs.Phases.{error_in, Begins, BeginStops, WriteEnds, LibraryEnds, LinkEnds, LinkedEnds}
+use Rattle.cc_build.specs.Questions.{Plans, Archives, Links, IsRefusedBy}
 use Rattle.cc_build.specs.Refusal.{plan_error}
-use Rattle.cc_build.specs.Seen.{stages_of, commands_for}
-use Rattle.cc_build.specs.Stage.{Stage, calls, planned, in_turn, tried, behind_first, asked_then, compile_stages, removal_stages, archive_stages, link_stages, library_stages, library_commands, ending_stages, later_stages, asked_stages}
+use Rattle.cc_build.specs.Seen.{stages_seen, stages_of, commands_for, ready_steps, form_stages, library_seen}
+use Rattle.cc_build.specs.Stage.{Stage, calls, planned, in_turn, tried, behind_first, asked_then, compile_stages, removal_stages, list_stages, archive_stages, link_stages, folder_in, links_of, printed_stages, library_stages, ending_stages, later_stages, asked_stages}
 use Rattle.cc_build.specs.Way.{Way}
-use Rattle.cc_build.specs.Stage.Stage.{Asks, Tries, RunsOne}
+use Rattle.cc_build.specs.Stage.Stage.{Asks, Tries}
 use Rattle.cc_build.specs.Went.{Terms, Means, terms, Went, Halted, Ends}
 use Rattle.cc_build.specs.declared.library.Library.{Library}
+use Rattle.cc_build.specs.declared.stage.Stage.{Stage as Coded}
 use Rattle.cc_build.specs.declared.task.Task.{Task}
-use Rattle.cc_build.proofs.Going.{went_one, went_then, went_from, ends_then, halted_none, halted_more, halted_among, halted_from, asked_halted, phase_ends, phase_wanting, ends_join, halted_join}
+use Rattle.cc_build.proofs.Going.{went_none, went_one, went_from, ends_from, halted_none, halted_more, halted_among, halted_from, phase_ends, ends_join, halted_join}
 
 -- ---- questions, and then stages
 
@@ -64,24 +62,40 @@ sources_are : (task : Task) (plan : Plan) (look : Look) → Plans task plan look
 unfolding compile_stages
 sources_are task plan look h = rw (h.warnings, h.compiles) refl
 
-lines_are : (task : Task) (lines : List LinkLine) (is_first : Bool) (look : Look) → Links task lines look → calls (prints Link (printed_links is_first lines)) ≡ link_stages task.set.now task.env.now look is_first task.output.now
-unfolding link_stages link_steps
-lines_are task lines is_first look h = ap (λ l. calls (prints Link (printed_links is_first l))) h.are
-
 pub plan_stages : (task : Task) (plan : Plan) (look : Look) (these : List Stage) → these ≡ stages_of plan → Plans task plan look → these ≡ compile_stages task.set.now task.env.now plan.warns_of_link look
 plan_stages task plan look these is h = is ∙ sources_are task plan look h
 
-pub line_stages : (task : Task) (lines : List LinkLine) (is_first : Bool) (look : Look) (these : List Stage) → these ≡ calls (prints Link (printed_links is_first lines)) → Links task lines look → these ≡ link_stages task.set.now task.env.now look is_first task.output.now
-line_stages task lines is_first look these is h = is ∙ lines_are task lines is_first look h
+pub line_stages : (task : Task) (name library : List ℕ) (lines : List LinkLine) (is_first : Bool) (look : Look) (these : List Stage) → these ≡ printed_stages is_first lines → Links task name library lines look → these ≡ printed_stages is_first (links_of task.set.now task.env.now name library look)
+line_stages task name library lines is_first look these is h = is ∙ ap (printed_stages is_first) h.are
 
--- the commands of a library are those of the settings
-pub commands_are : (task : Task) (library : Library) (look : Look) (is_plain : Bool) → Archives task library.archiver.now look → library.env.now ≡ task.env.now → library.path.now ≡ library_of task.set.now task.env.now task.output.now → library.paths.now ≡ archived_of task.set.now task.env.now → commands_for library is_plain ≡ library_commands task.set.now task.env.now look is_plain task.output.now
-unfolding archives_of indexes_of
-commands_are task library look is_plain h env path paths = let is = h.is in rw (is, env, path, paths) refl
+-- the stages of a library are those of the settings
+pub library_is : (task : Task) (library : Library) (look : Look) (is_plain : Bool) → Archives task library.archiver.now look → library.env.now ≡ task.env.now → library.path.now ≡ library_of task.set.now task.env.now task.output.now → library.paths.now ≡ archived_of task.set.now task.env.now → library_seen library is_plain ≡ library_stages task.set.now task.env.now is_plain look task.output.now
+unfolding archives_of indexes_of lists_of_run removal_stages removal_steps list_stages archive_stages
+library_is task library look is_plain h env path paths = let is = h.is in rw (is, env, path, paths) refl
 
-pub library_is : (task : Task) (path : List ℕ) (cmds : List Planned) (look : Look) (is_plain : Bool) → path ≡ library_of task.set.now task.env.now task.output.now → cmds ≡ library_commands task.set.now task.env.now look is_plain task.output.now → calls (Removes path ∷ []) ++ tried is_plain cmds ≡ library_stages task.set.now task.env.now is_plain look task.output.now
-unfolding removal_stages removal_steps archive_stages
-library_is task path cmds look is_plain p c = rw (p, c) refl
+-- ---- what the archive wants
+
+-- nothing is refused: neither the archiver nor a path
+pub archive_allowed : (task : Task) (archiver : Archiver) (look : Look) → Archives task archiver look → list_refusal archiver (archived_of task.set.now task.env.now) ≡ None → archive_refusal task.set.now task.env.now look ≡ None
+unfolding archive_refusal
+archive_allowed task archiver look h none = ap₂ first_of h.allowed (ap (λ a. list_refusal a (archived_of task.set.now task.env.now)) (sym h.is) ∙ none)
+
+-- the archiver is refused
+pub archiver_refused : (task : Task) (e : ErrorSeen) (look : Look) → IsRefusedBy (archiver_refusal task.set.now task.env.now) task e look → IsRefusedBy (archive_refusal task.set.now task.env.now) task e look
+unfolding archive_refusal
+archiver_refused task e look (inl memory) = inl memory
+archiver_refused task e look (inr is) = inr (refused_first (plan_error task.set.now task.env.now task.output.now) (archiver_refusal task.set.now task.env.now look) (list_refusal (archiver_of task.set.now task.env.now look) (archived_of task.set.now task.env.now)) e is)
+  where
+    refused_first : (f : PlanError → ErrorSeen) (a b : Option PlanError) (e : ErrorSeen) → option_map f a ≡ Some e → option_map f (first_of a b) ≡ Some e
+    refused_first f None b e h = absurd (cc)
+    refused_first f (Some x) b e h = h
+
+-- a path is refused
+pub path_refused : (task : Task) (archiver : Archiver) (e : ErrorSeen) (look : Look) → Archives task archiver look → (e ≡ no_memory) ⊎ (option_map (plan_error task.set.now task.env.now task.output.now) (list_refusal archiver (archived_of task.set.now task.env.now)) ≡ Some e) → IsRefusedBy (archive_refusal task.set.now task.env.now) task e look
+unfolding archive_refusal
+path_refused task archiver e look h (inl memory) = inl memory
+path_refused task archiver e look h (inr is) =
+    inr (ap (option_map (plan_error task.set.now task.env.now task.output.now)) (ap₂ first_of h.allowed (ap (λ a. list_refusal a (archived_of task.set.now task.env.now)) (sym h.is))) ∙ is)
 
 -- ---- the commands of the two forms
 
@@ -91,103 +105,150 @@ no_batches paths none = sym (joined paths) ∙ ap (λ b. flat_map (λ x. x) b) n
 first_eq : {a b : Planned} {k l : List Planned} → a ∷ k ≡ b ∷ l → a ≡ b
 first_eq h = cc
 
+some_last : (a : List Stage) → a ++ Asks ∷ [] ≡ [] → ⊥
+some_last [] h = cc
+some_last (s ∷ a) h = cc
+
 -- they begin with the same command
 module _ (library : Library) where
-  plain_first : (batches : List (List (List ℕ))) (paths : List (List ℕ)) (p : Planned) (ps : List Planned) → (batches ≡ [] → paths ≡ [])
-      → planned Archive (archive.archives_by library.archiver.now library.env.now library.path.now false batches) ++ planned Index (archive.indexes_of library.archiver.now library.env.now library.path.now false paths) ≡ p ∷ ps
-      → (more : List Planned) × (planned Archive (archive.archives_by library.archiver.now library.env.now library.path.now true batches) ++ planned Index (archive.indexes_of library.archiver.now library.env.now library.path.now true paths) ≡ p ∷ more)
+  abbrev commands_by : Bool → List (List (List ℕ)) → List (List ℕ) → List Planned
+  commands_by is_plain batches paths =
+      planned Archive (archive.archives_by library.archiver.now library.env.now library.path.now is_plain batches)
+      ++ planned Index (archive.indexes_by library.archiver.now library.env.now library.path.now is_plain paths)
+
+  plain_first : (batches : List (List (List ℕ))) (paths : List (List ℕ)) (p : Planned) (ps : List Planned) → (batches ≡ [] → paths ≡ []) → commands_by false batches paths ≡ p ∷ ps → (more : List Planned) × (commands_by true batches paths ≡ p ∷ more)
   plain_first (batch ∷ batches) paths p ps none e =
-      let more = planned Archive (map (archive.archive_of library.archiver.now library.env.now library.path.now true) (batch ∷ batches)) ++ planned Index (archive.indexes_of library.archiver.now library.env.now library.path.now true paths) in
+      let more = planned Archive (map (archive.archive_of library.archiver.now library.env.now library.path.now true) (batch ∷ batches)) ++ planned Index (archive.indexes_by library.archiver.now library.env.now library.path.now true paths) in
       (more, ap (λ q. q ∷ more) (first_eq e))
   plain_first [] [] p ps none e =
       let more = planned Index (archive.plain_index_of library.archiver.now library.env.now library.path.now ∷ []) in
       (more, ap (λ q. q ∷ more) (first_eq e))
   plain_first [] (path ∷ paths) p ps none e = absurd (let k : path ∷ paths ≡ [] = none refl in cc)
 
+-- memory was wanted before the commands
+pub begin_wanting : (shows : Shows) (library : Library) (e : ErrorSeen) (part : List Event) → part ≡ [] → e ≡ no_memory → BeginStops shows library e part
+begin_wanting shows library e part none memory = (
+  false,
+  λ total patience x. halted_none (terms shows total patience) None (form_stages library false ++ Asks ∷ []) part e x none memory (λ empty. absurd (some_last (form_stages library false) empty)),
+)
+
+-- libtool's commands are all left
+pub begins_libtool : (shows : Shows) (library : Library) (left : List Coded) (forms : List Planned) (part : List Event) → is_libtool library.archiver.now ≡ true → forms ≡ commands_for library false → stages_seen left ≡ in_turn forms → part ≡ [] → Begins shows library left part
+begins_libtool shows library left forms part libtool are is none = (
+  false,
+  [],
+  (ap (λ b. if b then in_turn (commands_for library false) else tried false (commands_for library false)) libtool ∙ sym (is ∙ ap in_turn are), λ total patience x. went_none (terms shows total patience) part x none),
+)
+
+module _ (shows : Shows) (library : Library) (other : is_libtool library.archiver.now ≡ false) where
+  -- another archiver's first command is tried
+  forms_tried : (is_plain : Bool) → form_stages library is_plain ≡ tried is_plain (commands_for library is_plain)
+  forms_tried is_plain = ap (λ b. if b then in_turn (commands_for library is_plain) else tried is_plain (commands_for library is_plain)) other
+
+  in_batches : (is_plain : Bool) → commands_for library is_plain ≡ commands_by library is_plain (batches_of library.paths.now) library.paths.now
+  in_batches is_plain = rw other refl
+
   form_first : (is_plain : Bool) (p : Planned) (ps : List Planned) → commands_for library false ≡ p ∷ ps → (more : List Planned) × (commands_for library is_plain ≡ p ∷ more)
   form_first false p ps e = (ps, e)
-  form_first true p ps e = plain_first (batches_of library.paths.now) library.paths.now p ps (no_batches library.paths.now) e
+  form_first true p ps e =
+      let r = plain_first library (batches_of library.paths.now) library.paths.now p ps (no_batches library.paths.now) (sym (in_batches false) ∙ e) in
+      (r.0, in_batches true ∙ r.1)
+
+  -- there is no command
+  pub begins_none : (left : List Coded) (forms : List Planned) (part : List Event) → forms ≡ commands_for library false → forms ≡ [] → left ≡ [] → part ≡ [] → Begins shows library left part
+  begins_none left forms part are none nothing still = (
+    false,
+    [],
+    (forms_tried false ∙ ap (tried false) (sym are ∙ none) ∙ sym (ap stages_seen nothing), λ total patience x. went_none (terms shows total patience) part x still),
+  )
+
+  module _ (p : Planned) (rest : List Planned) (is : commands_for library false ≡ p ∷ rest) (part : List Event) where
+    -- the run ended at the first command
+    pub begin_untried : (e : ErrorSeen) → ((total patience : Option ℕ) (refused : Bool) (x : Means) → Halted (terms shows total patience) None (Tries refused p ∷ []) part e x x) → BeginStops shows library e part
+    begin_untried e h = (
+      false,
+      λ total patience x.
+          subst (λ (l : List Stage). Halted (terms shows total patience) None (l ++ Asks ∷ []) part e x x) (sym (forms_tried false ∙ ap (tried false) is))
+          (halted_more (terms shows total patience) None (Tries false p ∷ []) (in_turn rest ++ Asks ∷ []) part e x x (h total patience false x)),
+    )
+
+    module _ (is_plain : Bool) (w : (total patience : Option ℕ) (x : Means) → Went (terms shows total patience) (Tries is_plain p ∷ []) part x x) where
+      -- it was tried, and the others are left
+      pub begins_tried : (left : List Coded) → stages_seen left ≡ in_turn (behind_first (commands_for library is_plain)) → Begins shows library left part
+      begins_tried left others =
+          let f = form_first is_plain p rest is in
+          (is_plain, Tries is_plain p ∷ [], (forms_tried is_plain ∙ ap (tried is_plain) f.1 ∙ ap (λ l. Tries is_plain p ∷ l) (sym (others ∙ ap (λ l. in_turn (behind_first l)) f.1)), w))
+
+      -- memory was wanted for the others
+      pub begin_stopped : (e : ErrorSeen) → e ≡ no_memory → BeginStops shows library e part
+      begin_stopped e memory =
+          let f = form_first is_plain p rest is in (
+            is_plain,
+            λ total patience x.
+                subst (λ (l : List Stage). Halted (terms shows total patience) None (l ++ Asks ∷ []) part e x x) (sym (forms_tried is_plain ∙ ap (tried is_plain) f.1))
+                (halted_among (terms shows total patience) None (Tries is_plain p ∷ []) (in_turn f.0 ++ Asks ∷ []) part e x x (w total patience x) memory (λ none. absurd (some_last (in_turn f.0) none))),
+          )
 
 -- ---- the library is written
 
-module _ (t : Terms) (path : List ℕ) (library : Library) where
-  abbrev removal : List Stage
-  removal = calls (Removes path ∷ [])
+-- the old library was removed, and then its list was written, or wasn't
+pub ready_then : {T : Type 0} (step : Step) (steps : List Step) (old mid new : List Event) (r : Result T ErrorSeen) → mid ≡ old ++ since old mid → new ≡ mid ++ since mid new → CallsEnd {T = Unit {0}} (step ∷ []) (since old mid) (Ok tt) → CallsEnd steps (since mid new) r → CallsEnd (step ∷ steps) (since old new) r
+ready_then step steps old mid new r first last a b = λ t x. ends_from t None old mid new (calls (step ∷ [])) (calls steps) r x x x first last (a t x).1 (b t x)
+
+-- the old library couldn't be removed
+pub unready : (step : Step) (steps : List Step) (part : List Event) (e : ErrorSeen) → CallsEnd {T = Unit {0}} (step ∷ []) part (Err e) → CallsEnd {T = Unit {0}} (step ∷ steps) part (Err e)
+unready step steps part e h = λ t x. halted_more t None (calls (step ∷ [])) (calls steps) part e x x (h t x)
+
+module _ (shows : Shows) (library : Library) (total patience : Option ℕ) where
+  abbrev readies : List Stage
+  readies = calls (ready_steps library)
+
+  abbrev of_shows : Option ℕ → Terms
+  of_shows m = terms shows total m
 
   -- memory was wanted before it
-  pub write_unbegun : (part : List Event) (e : ErrorSeen) (x : Means) → part ≡ [] → e ≡ no_memory → Halted t None ((removal ++ tried false (commands_for library false)) ++ Asks ∷ []) part e x x
-  write_unbegun part e x none memory = halted_none t None ((removal ++ tried false (commands_for library false)) ++ Asks ∷ []) part e x none memory (λ empty. absurd (cc))
+  pub write_unbegun : (part : List Event) (e : ErrorSeen) (x : Means) → part ≡ [] → e ≡ no_memory → WriteEnds {T = Unit {0}} shows library (Err e) part (course total patience x x)
+  write_unbegun part e x none memory = (false, halted_none (of_shows patience) None (library_seen library false ++ Asks ∷ []) part e x none memory (λ empty. absurd (cc)))
 
-  -- the old one couldn't be removed
-  pub write_unremoved : (part : List Event) (e : ErrorSeen) (x : Means) → Halted t None removal part e x x → Halted t None ((removal ++ tried false (commands_for library false)) ++ Asks ∷ []) part e x x
-  write_unremoved part e x h = halted_more t None (removal ++ tried false (commands_for library false)) (Asks ∷ []) part e x x (halted_more t None removal (tried false (commands_for library false)) part e x x h)
-
-  -- there is no command
-  pub write_none : (part : List Event) (x : Means) (cmds : List Planned) → cmds ≡ commands_for library false → cmds ≡ [] → Went t removal part x x → Went t (removal ++ tried false (commands_for library false)) part x x
-  write_none part x cmds are none w = subst (λ (l : List Planned). Went t (removal ++ tried false l) part x x) (sym none ∙ are) w
-
-  module _ (old made new : List Event) (x : Means) (first : made ≡ old ++ since old made) (removed : Went t removal (since old made) x x) (p : Planned) (rest : List Planned) (is : commands_for library false ≡ p ∷ rest) where
-    -- the run ended at the first command
-    pub write_untried : (e : ErrorSeen) → new ≡ made ++ since made new → Halted t None (Tries false p ∷ []) (since made new) e x x → Halted t None ((removal ++ tried false (commands_for library false)) ++ Asks ∷ []) (since old new) e x x
-    write_untried e last h =
-        halted_more t None (removal ++ tried false (commands_for library false)) (Asks ∷ []) (since old new) e x x
-        (subst (λ (l : List Planned). Halted t None (removal ++ tried false l) (since old new) e x x) (sym is)
-        (halted_from t None old made new removal (tried false (p ∷ rest)) e x x x first last removed (halted_more t None (Tries false p ∷ []) (in_turn rest) (since made new) e x x h)))
-
-    module _ (is_plain : Bool) (tried_it : Went t (Tries is_plain p ∷ []) (since made new) x x) (last : new ≡ made ++ since made new) where
-      more : List Planned
-      more = (form_first library is_plain p rest is).0
-
-      are : commands_for library is_plain ≡ p ∷ more
-      unfolding more
-      are = (form_first library is_plain p rest is).1
-
-      -- both were done
-      both : Went t (removal ++ Tries is_plain p ∷ []) (since old new) x x
-      both = went_from t old made new removal (Tries is_plain p ∷ []) x x x first last removed tried_it
-
-      -- the stages that are left
-      split : (after : List Stage) → (removal ++ tried is_plain (commands_for library is_plain)) ++ after ≡ (removal ++ Tries is_plain p ∷ []) ++ (in_turn more ++ after)
-      split after = ap (λ l. (removal ++ tried is_plain l) ++ after) are ∙ refl
-
-      -- memory was wanted before those
-      pub write_wanting : (e : ErrorSeen) → e ≡ no_memory → Halted t None ((removal ++ tried is_plain (commands_for library is_plain)) ++ Asks ∷ []) (since old new) e x x
-      write_wanting e memory =
-          subst (λ (l : List Stage). Halted t None l (since old new) e x x) (sym (split (Asks ∷ [])))
-          (halted_among t None (removal ++ Tries is_plain p ∷ []) (in_turn more ++ Asks ∷ []) (since old new) e x x both memory (λ none. absurd (some_last (in_turn more) none)))
-        where
-          some_last : (a : List Stage) → a ++ Asks ∷ [] ≡ [] → ⊥
-          some_last [] h = cc
-          some_last (s ∷ a) h = cc
-
-      module _ (end : List Event) (z : Means) (these : List Stage) (of : these ≡ in_turn (commands_for library is_plain)) (grew : end ≡ new ++ since new end) where
-        left : behind these ≡ in_turn more
-        left = ap behind (of ∙ ap in_turn are)
-
-        -- those were done
-        pub write_done : Went t (behind these) (since new end) x z → Went t (removal ++ tried is_plain (commands_for library is_plain)) (since old end) x z
-        write_done w =
-            subst (λ (l : List Planned). Went t (removal ++ tried is_plain l) (since old end) x z) (sym are)
-            (went_from t old new end (removal ++ Tries is_plain p ∷ []) (in_turn more) x x z (since_extends old made new first last) grew both (subst (λ (l : List Stage). Went t l (since new end) x z) left w))
-
-        -- or the run ended among them
-        pub write_halted : (e : ErrorSeen) → Halted t None (behind these) (since new end) e x z → Halted t None ((removal ++ tried is_plain (commands_for library is_plain)) ++ Asks ∷ []) (since old end) e x z
-        write_halted e h =
-            halted_more t None (removal ++ tried is_plain (commands_for library is_plain)) (Asks ∷ []) (since old end) e x z
-            (subst (λ (l : List Planned). Halted t None (removal ++ tried is_plain l) (since old end) e x z) (sym are)
-            (halted_from t None old new end (removal ++ Tries is_plain p ∷ []) (in_turn more) e x x z (since_extends old made new first last) grew both (subst (λ (l : List Stage). Halted t None l (since new end) e x z) left h)))
-
--- the library is written, by the commands that were left
-module _ (shows : Shows) (total patience before : Option ℕ) (library : Library) (old made new end : List Event) (x z : Means) (first : made ≡ old ++ since old made) (removed : Went (terms shows total patience) (calls (Removes library.path.now ∷ [])) (since old made) x x) (p : Planned) (rest : List Planned) (is : commands_for library false ≡ p ∷ rest) (is_plain : Bool) (tried_it : Went (terms shows total patience) (Tries is_plain p ∷ []) (since made new) x x) (last : new ≡ made ++ since made new) (these : List Stage) (of : these ≡ in_turn (commands_for library is_plain)) (grew : end ≡ new ++ since new end) (patient : before ≡ patience) where
-  pub write_ends : {T : Type 0} (r : Result T ErrorSeen) → Ends (terms shows total before) None (behind these) (since new end) r x z → WriteEnds shows library.path.now (commands_for library) r (since old end) (course total patience x z)
-  write_ends (Ok v) o = (
-    is_plain,
-    write_done (terms shows total patience) library.path.now library old made new x first removed p rest is is_plain tried_it last end z these of grew (subst (λ (m : Option ℕ). Went (terms shows total m) (behind these) (since new end) x z) patient o.1),
+  -- it wasn't made ready
+  pub write_unready : (part : List Event) (e : ErrorSeen) (x : Means) → CallsEnd {T = Unit {0}} (ready_steps library) part (Err e) → WriteEnds {T = Unit {0}} shows library (Err e) part (course total patience x x)
+  write_unready part e x h = (
+    false,
+    halted_more (of_shows patience) None (library_seen library false) (Asks ∷ []) part e x x (halted_more (of_shows patience) None readies (form_stages library false) part e x x (h (of_shows patience) x)),
   )
-  write_ends (Err e) h = (
-    is_plain,
-    write_halted (terms shows total patience) library.path.now library old made new x first removed p rest is is_plain tried_it last end z these of grew e (subst (λ (m : Option ℕ). Halted (terms shows total m) None (behind these) (since new end) e x z) patient h),
-  )
+
+  module _ (old made new : List Event) (x : Means) (first : made ≡ old ++ since old made) (last : new ≡ made ++ since made new) (ready : CallsEnd {T = Unit {0}} (ready_steps library) (since old made) (Ok tt)) where
+    -- it wasn't begun
+    pub write_stopped : (e : ErrorSeen) → BeginStops shows library e (since made new) → WriteEnds {T = Unit {0}} shows library (Err e) (since old new) (course total patience x x)
+    write_stopped e s = (
+      s.0,
+      subst (λ (l : List Stage). Halted (of_shows patience) None l (since old new) e x x) (sym (append_assoc readies (form_stages library s.0) (Asks ∷ [])))
+          (halted_from (of_shows patience) None old made new readies (form_stages library s.0 ++ Asks ∷ []) e x x x first last (ready (of_shows patience) x).1 (s.1 total patience x)),
+    )
+
+    module _ (left : List Coded) (begins : Begins shows library left (since made new)) (end : List Event) (z : Means) (before : Option ℕ) (grew : end ≡ new ++ since new end) (patient : before ≡ patience) where
+      abbrev begun : List Stage
+      begun = readies ++ begins.1
+
+      split : begun ++ stages_seen left ≡ library_seen library begins.0
+      split = append_assoc readies begins.1 (stages_seen left) ∙ ap (λ l. readies ++ l) (sym begins.2.0)
+
+      went : Went (of_shows patience) begun (since old new) x x
+      went = went_from (of_shows patience) old made new readies begins.1 x x x first last (ready (of_shows patience) x).1 (begins.2.1 total patience x)
+
+      -- what was left was done, or the run ended among it
+      pub write_ends : {T : Type 0} (r : Result T ErrorSeen) → Ends (of_shows before) None (stages_seen left) (since new end) r x z → WriteEnds shows library r (since old end) (course total patience x z)
+      write_ends (Ok v) o = (
+        begins.0,
+        subst (λ (l : List Stage). Went (of_shows patience) l (since old end) x z) split
+            (went_from (of_shows patience) old new end begun (stages_seen left) x x z (since_extends old made new first last) grew went (subst (λ (m : Option ℕ). Went (of_shows m) (stages_seen left) (since new end) x z) patient o.1)),
+      )
+      write_ends (Err e) h = (
+        begins.0,
+        halted_more (of_shows patience) None (library_seen library begins.0) (Asks ∷ []) (since old end) e x z
+            (subst (λ (l : List Stage). Halted (of_shows patience) None l (since old end) e x z) split
+            (halted_from (of_shows patience) None old new end begun (stages_seen left) e x x z (since_extends old made new first last) grew went (subst (λ (m : Option ℕ). Halted (of_shows m) None (stages_seen left) (since new end) e x z) patient h))),
+      )
 
 some_eq : {a b : Planned} → Some a ≡ Some b → a ≡ b
 some_eq h = cc
@@ -221,14 +282,14 @@ module _ (t : Terms) (task : Task) (look : Look) where
   abbrev late : Option PlanError
   late = late_refusal task.set.now task.env.now look
 
-  abbrev archiver : Option PlanError
-  archiver = archiver_refusal task.set.now task.env.now look
+  abbrev archive_stop : Option PlanError
+  archive_stop = archive_refusal task.set.now task.env.now look
 
   abbrev links : Option PlanError
   links = link_refusal task.set.now task.env.now look
 
   abbrev behind_sources : Option ErrorSeen
-  behind_sources = first_of (error_in task archiver) (error_in task links)
+  behind_sources = first_of (error_in task archive_stop) (error_in task links)
 
   abbrev compiles : Bool → List Stage
   compiles warns_of_link = compile_stages task.set.now task.env.now warns_of_link look
@@ -239,7 +300,7 @@ module _ (t : Terms) (task : Task) (look : Look) where
   abbrev stages_in : Way → List Stage
   stages_in way = asked_stages task.set.now task.env.now way look task.output.now
 
-  later_is : (way : Way) → asked_then archiver (writes way.is_plain ++ ending_stages task.set.now task.env.now way look task.output.now) ≡ later_stages task.set.now task.env.now way look task.output.now
+  later_is : (way : Way) → asked_then archive_stop (writes way.is_plain ++ ending_stages task.set.now task.env.now way look task.output.now) ≡ later_stages task.set.now task.env.now way look task.output.now
   unfolding later_stages
   later_is way = refl
 
@@ -249,48 +310,57 @@ module _ (t : Terms) (task : Task) (look : Look) where
       halted_join t (plan_error task.set.now task.env.now task.output.now) late behind_sources (compiles warns_of_link) (later_stages task.set.now task.env.now (way_of warns_of_link false true) look task.output.now) part e x z h
 
   -- what stands behind the sources ended so
-  pub sources_then : {T : Type 0} (way : Way) (old mid new : List Event) (r : Result T ErrorSeen) (x y z : Means) → mid ≡ old ++ since old mid → new ≡ mid ++ since mid new → late ≡ None → Went t (Asks ∷ compiles way.warns_of_link) (since old mid) x y → Ends t behind_sources (asked_then archiver (writes way.is_plain ++ ending_stages task.set.now task.env.now way look task.output.now)) (since mid new) r y z → Ends t (first_of (error_in task late) behind_sources) (stages_in way) (since old new) r x z
+  pub sources_then : {T : Type 0} (way : Way) (old mid new : List Event) (r : Result T ErrorSeen) (x y z : Means) → mid ≡ old ++ since old mid → new ≡ mid ++ since mid new → late ≡ None → Went t (Asks ∷ compiles way.warns_of_link) (since old mid) x y → Ends t behind_sources (asked_then archive_stop (writes way.is_plain ++ ending_stages task.set.now task.env.now way look task.output.now)) (since mid new) r y z → Ends t (first_of (error_in task late) behind_sources) (stages_in way) (since old new) r x z
   sources_then way old mid new r x y z first last allowed w o =
       part_then t (plan_error task.set.now task.env.now task.output.now) late behind_sources (compiles way.warns_of_link) (later_stages task.set.now task.env.now way look task.output.now) old mid new r x y z first last allowed w
       (subst (λ (l : List Stage). Ends t behind_sources l (since mid new) r y z) (later_is way) o)
 
   -- the run ended at the library
-  pub library_halted : (warns_of_link is_plain : Bool) (old mid new : List Event) (e : ErrorSeen) (x y z : Means) → mid ≡ old ++ since old mid → new ≡ mid ++ since mid new → late ≡ None → Went t (Asks ∷ compiles warns_of_link) (since old mid) x y → Halted t (error_in task archiver) (asked_then archiver (writes is_plain ++ Asks ∷ [])) (since mid new) e y z → Halted t (first_of (error_in task late) behind_sources) (stages_in (way_of warns_of_link is_plain true)) (since old new) e x z
+  pub library_halted : (warns_of_link is_plain : Bool) (old mid new : List Event) (e : ErrorSeen) (x y z : Means) → mid ≡ old ++ since old mid → new ≡ mid ++ since mid new → late ≡ None → Went t (Asks ∷ compiles warns_of_link) (since old mid) x y → Halted t (error_in task archive_stop) (asked_then archive_stop (writes is_plain ++ Asks ∷ [])) (since mid new) e y z → Halted t (first_of (error_in task late) behind_sources) (stages_in (way_of warns_of_link is_plain true)) (since old new) e x z
   library_halted warns_of_link is_plain old mid new e x y z first last allowed w h =
       sources_then {T = Unit {0}} (way_of warns_of_link is_plain true) old mid new (Err e) x y z first last allowed w
-      (part_before t (plan_error task.set.now task.env.now task.output.now) archiver links (error_in task links) (writes is_plain) (link_stages task.set.now task.env.now look true task.output.now) (since mid new) e y z h)
+      (part_before t (plan_error task.set.now task.env.now task.output.now) archive_stop links (error_in task links) (writes is_plain) (link_stages task.set.now task.env.now look true task.output.now) (since mid new) e y z h)
 
   -- all of it, to the link lines
-  pub links_end : {T : Type 0} (warns_of_link is_plain is_first : Bool) (old mid made new : List Event) (r : Result T ErrorSeen) (x y z u : Means) → mid ≡ old ++ since old mid → made ≡ mid ++ since mid made → new ≡ made ++ since made new → late ≡ None → Went t (Asks ∷ compiles warns_of_link) (since old mid) x y → archiver ≡ None → Went t (Asks ∷ writes is_plain) (since mid made) y z → Ends t (error_in task links) (asked_then links (link_stages task.set.now task.env.now look is_first task.output.now)) (since made new) r z u → Ends t (first_of (error_in task late) behind_sources) (stages_in (way_of warns_of_link is_plain is_first)) (since old new) r x u
+  pub links_end : {T : Type 0} (warns_of_link is_plain is_first : Bool) (old mid made new : List Event) (r : Result T ErrorSeen) (x y z u : Means) → mid ≡ old ++ since old mid → made ≡ mid ++ since mid made → new ≡ made ++ since made new → late ≡ None → Went t (Asks ∷ compiles warns_of_link) (since old mid) x y → archive_stop ≡ None → Went t (Asks ∷ writes is_plain) (since mid made) y z → Ends t (error_in task links) (asked_then links (link_stages task.set.now task.env.now look is_first task.output.now)) (since made new) r z u → Ends t (first_of (error_in task late) behind_sources) (stages_in (way_of warns_of_link is_plain is_first)) (since old new) r x u
   links_end warns_of_link is_plain is_first old mid made new r x y z u first next last allowed w allowed' w' o =
       sources_then (way_of warns_of_link is_plain is_first) old mid new r x y u first (since_extends mid made new next last) allowed w
-      (part_then t (plan_error task.set.now task.env.now task.output.now) archiver (error_in task links) (writes is_plain) (ending_stages task.set.now task.env.now (way_of warns_of_link is_plain is_first) look task.output.now) mid made new r y z u next last allowed' w' o)
+      (part_then t (plan_error task.set.now task.env.now task.output.now) archive_stop (error_in task links) (writes is_plain) (ending_stages task.set.now task.env.now (way_of warns_of_link is_plain is_first) look task.output.now) mid made new r y z u next last allowed' w' o)
 
 -- ---- the library of a part
 
-module _ (task : Task) (library : Library) (look : Look) (total patience before : Option ℕ) (old mid new : List Event) (x z : Means) (patient : before ≡ patience) (first : mid ≡ old ++ since old mid) (last : new ≡ mid ++ since mid new) (asked : list_all is_asked (since old mid) ≡ true) (plan : Archives task library.archiver.now look) (env : library.env.now ≡ task.env.now) (path : library.path.now ≡ library_of task.set.now task.env.now task.output.now) (paths : library.paths.now ≡ archived_of task.set.now task.env.now) where
+module _ (task : Task) (library : Library) (look : Look) (total patience before : Option ℕ) (old mid new : List Event) (x z : Means) (patient : before ≡ patience) (first : mid ≡ old ++ since old mid) (last : new ≡ mid ++ since mid new) (asked : list_all is_asked (since old mid) ≡ true) (plan : Archives task library.archiver.now look) (listed : list_refusal library.archiver.now (archived_of task.set.now task.env.now) ≡ None) (env : library.env.now ≡ task.env.now) (path : library.path.now ≡ library_of task.set.now task.env.now task.output.now) (paths : library.paths.now ≡ archived_of task.set.now task.env.now) where
   abbrev in_terms : Option ℕ → Terms
   in_terms p = terms task.reporting.shows total p
 
-  same_stages : (is_plain : Bool) → calls (Removes library.path.now ∷ []) ++ tried is_plain (commands_for library is_plain) ≡ library_stages task.set.now task.env.now is_plain look task.output.now
-  same_stages is_plain = library_is task library.path.now (commands_for library is_plain) look is_plain path (commands_are task library look is_plain plan env path paths)
+  allowed : archive_refusal task.set.now task.env.now look ≡ None
+  allowed = archive_allowed task library.archiver.now look plan listed
 
-  pub library_ends : {T : Type 0} (r : Result T ErrorSeen) → WriteEnds task.reporting.shows library.path.now (commands_for library) r (since mid new) (course total before x z) → LibraryEnds task r look (since old new) (course total patience x z)
+  same_stages : (is_plain : Bool) → library_seen library is_plain ≡ library_stages task.set.now task.env.now is_plain look task.output.now
+  same_stages is_plain = library_is task library look is_plain plan env path paths
+
+  pub library_ends : {T : Type 0} (r : Result T ErrorSeen) → WriteEnds task.reporting.shows library r (since mid new) (course total before x z) → LibraryEnds task r look (since old new) (course total patience x z)
   library_ends (Ok v) w = (
     w.0,
     (
-      plan.allowed,
-      phase_went_on (in_terms patience) (plan_error task.set.now task.env.now task.output.now) (archiver_refusal task.set.now task.env.now look) (library_stages task.set.now task.env.now w.0 look task.output.now) old mid new x first last asked plan.allowed
-          (calls (Removes library.path.now ∷ []) ++ tried w.0 (commands_for library w.0)) z (same_stages w.0) (subst (λ (p : Option ℕ). Went (in_terms p) (calls (Removes library.path.now ∷ []) ++ tried w.0 (commands_for library w.0)) (since mid new) x z) patient w.1),
+      allowed,
+      phase_went_on (in_terms patience) (plan_error task.set.now task.env.now task.output.now) (archive_refusal task.set.now task.env.now look) (library_stages task.set.now task.env.now w.0 look task.output.now) old mid new x first last asked allowed
+          (library_seen library w.0) z (same_stages w.0) (subst (λ (p : Option ℕ). Went (in_terms p) (library_seen library w.0) (since mid new) x z) patient w.1),
     ),
   )
   library_ends (Err e) h = (
     h.0,
-    phase_halted (in_terms patience) (plan_error task.set.now task.env.now task.output.now) (archiver_refusal task.set.now task.env.now look) (library_stages task.set.now task.env.now h.0 look task.output.now ++ Asks ∷ []) old mid new x first last asked plan.allowed
-        ((calls (Removes library.path.now ∷ []) ++ tried h.0 (commands_for library h.0)) ++ Asks ∷ []) e z (ap (λ l. l ++ Asks ∷ []) (same_stages h.0)) (subst (λ (p : Option ℕ). Halted (in_terms p) None ((calls (Removes library.path.now ∷ []) ++ tried h.0 (commands_for library h.0)) ++ Asks ∷ []) (since mid new) e x z) patient h.1),
+    phase_halted (in_terms patience) (plan_error task.set.now task.env.now task.output.now) (archive_refusal task.set.now task.env.now look) (library_stages task.set.now task.env.now h.0 look task.output.now ++ Asks ∷ []) old mid new x first last asked allowed
+        (library_seen library h.0 ++ Asks ∷ []) e z (ap (λ l. l ++ Asks ∷ []) (same_stages h.0)) (subst (λ (p : Option ℕ). Halted (in_terms p) None (library_seen library h.0 ++ Asks ∷ []) (since mid new) e x z) patient h.1),
   )
 
--- the planned link lines, by the name and the folder of the library
-pub links_planned : (set : BuildConfig) (env : EnvSeen) (look : Look) (output name folder : List ℕ) (lines : List LinkLine) → name ≡ library_name output → folder ≡ unwrap_or (path_parent (library_of set env output)) [] → lines_of set env name folder look ≡ lines → link_lines set env look output ≡ lines
-unfolding link_lines
-links_planned set env look output name folder lines n f is = ap (λ m. lines_of set env m (unwrap_or (path_parent (library_of set env output)) []) look) (sym n) ∙ ap (λ k. lines_of set env name k look) (sym f) ∙ is
+-- the link lines of a task's own library are those of its run
+pub own_links : {T : Type 0} (task : Task) (name library : List ℕ) (r : Result T ErrorSeen) (look : Look) (part : List Event) (c : Course) → name ≡ library_name task.output.now → library ≡ library_of task.set.now task.env.now task.output.now → LinkedEnds task name library r look part c → LinkEnds task r look part c
+unfolding link_stages link_steps link_lines
+own_links task name library r look part c n l h =
+    subst (λ (m : List ℕ). LinkedEnds task m (library_of task.set.now task.env.now task.output.now) r look part c) n
+    (subst (λ (path : List ℕ). LinkedEnds task name path r look part c) l h)
+
+-- the link lines, by the name and the folder that the plan was given
+pub links_by : (set : BuildConfig) (env : EnvSeen) (look : Look) (name library name' folder : List ℕ) (lines : List LinkLine) → name' ≡ name → folder ≡ folder_in library → lines_of set env name' folder look ≡ lines → links_of set env name library look ≡ lines
+links_by set env look name library name' folder lines n f is = ap (λ m. lines_of set env m (folder_in library) look) (sym n) ∙ ap (λ k. lines_of set env name' k look) (sym f) ∙ is

@@ -19,7 +19,7 @@ use Rattle.cc_run.specs.declared.planned.Shows.{Shows}
 use Rattle.cc_run.proofs.Runs.{run_from-append}
 use Rattle.cc_tool.specs.Probing.{is_asked}
 use Rattle.cc_build.specs.Built.{ended_well}
-use Rattle.cc_build.specs.Stage.{Stage, calls, beside, in_turn, tried, behind_first, commands_of, commands_in, children_of, children_in}
+use Rattle.cc_build.specs.Stage.{Stage, calls, beside, in_turn, tried, behind_first, written, written_children, commands_of, commands_in, children_of, children_in}
 use Rattle.cc_build.specs.Stage.Stage.{Calls, Asks, Tries, RunsOne, RunsAll}
 use Rattle.cc_build.specs.Went.{Terms, Means, Tried, RanAll, RanOne, Did, Went}
 use Rattle.cc_build.proofs.Trying.{done_of, done_sole, sole_run, sole_started}
@@ -183,6 +183,11 @@ pub commands_tried : (refused : Bool) (ps : List Planned) → commands_in (tried
 commands_tried refused [] = refl
 commands_tried refused (p ∷ ps) = ap (λ l. p ∷ l) (commands_in_turn ps)
 
+-- the commands of a library, in either form
+pub commands_written : (libtool refused : Bool) (ps : List Planned) → commands_in (written libtool refused ps) ≡ ps
+commands_written true refused ps = commands_in_turn ps
+commands_written false refused ps = commands_tried refused ps
+
 -- ---- the children of stages
 
 pub children_then : (a b : List Stage) → children_in (a ++ b) ≡ children_in a ++ children_in b
@@ -204,6 +209,10 @@ children_in_turn (p ∷ ps) = ap (λ l. p ∷ l) (children_in_turn ps)
 pub children_tried : (refused : Bool) (ps : List Planned) → children_in (tried refused ps) ≡ behind_first ps
 children_tried refused [] = refl
 children_tried refused (p ∷ ps) = children_in_turn ps
+
+pub children_written : (libtool refused : Bool) (ps : List Planned) → children_in (written libtool refused ps) ≡ written_children libtool ps
+children_written true refused ps = children_in_turn ps
+children_written false refused ps = children_tried refused ps
 
 leads_then : (shows : Shows) (a b : List Planned) (p q : List Event) → Leads (asked shows a) p → Leads (asked shows b) q → Leads (asked shows (a ++ b)) (p ++ q)
 leads_then shows a b p q l m = record {

@@ -6,7 +6,7 @@ use Rattle.std.proofs.lemmas.Bool.{and_parts}
 use Rattle.cc_host.specs.Part.{since}
 use Rattle.cc_host.specs.declared.event.Event.{Event}
 use Rattle.cc_host.specs.declared.event.Event.TheVariants.{Answered, Reused, Unasked, Drawn, Opened, Taken, Dropped, Made, Fault}
-use Rattle.cc_host.specs.declared.event.HostCall.TheVariants.{Start as Starts, Turn as Turns, Print as Printing, Output, Probe, MakeDir, CreateProbe, Remove, Vars}
+use Rattle.cc_host.specs.declared.event.HostCall.TheVariants.{Start as Starts, Turn as Turns, Print as Printing, Output, Probe, MakeDir, CreateProbe, Write, Remove, Vars}
 use Rattle.cc_host.specs.declared.event.Scope.TheVariants.{Build, Probe as ForProbes}
 use Rattle.cc_host.proofs.Parts.{since_extends}
 use Rattle.cc_run.specs.Children.{nothing_kept}
@@ -51,6 +51,7 @@ own_event (Fault Output why) is = absurd (cc)
 own_event (Fault Probe why) is = absurd (cc)
 own_event (Fault (MakeDir scope) why) is = absurd (cc)
 own_event (Fault CreateProbe why) is = absurd (cc)
+own_event (Fault Write why) is = absurd (cc)
 own_event (Fault Remove why) is = absurd (cc)
 own_event (Fault Vars why) is = absurd (cc)
 own_event event is = refl

@@ -6,7 +6,7 @@ use Rattle.std.proofs.lemmas.Grind.{common_steps, flat_map-append}
 use Rattle.std.proofs.lemmas.List.{map-append, take-append-drop}
 use Rattle.cc_host.specs.Command.{CommandSeen}
 use Rattle.cc_host.specs.Part.{Step, step_of, Refuses}
-use Rattle.cc_host.specs.Part.Step.{Runs, Makes, Removes, Prints, Lists}
+use Rattle.cc_host.specs.Part.Step.{Runs, Makes, Removes, Writes, Prints, Lists}
 use Rattle.cc_host.specs.Status.{is_success}
 use Rattle.cc_host.specs.declared.event.Event.{Event}
 use Rattle.cc_host.specs.declared.event.Event.TheVariants.{Started, Ended, Abandoned, Ran, Missing, Fault}
@@ -64,6 +64,7 @@ refused_still (Runs role cmd) (Missing role' cmd') r h = refl
 refused_still (Runs role cmd) (Fault call why) r h = refl
 refused_still (Makes scope path) (Fault call why) r h = refl
 refused_still (Removes path) (Fault call why) r h = refl
+refused_still (Writes path bytes) (Fault call why) r h = refl
 refused_still (Prints kind bytes) (Fault call why) r h = refl
 refused_still Lists (Fault call why) r h = refl
 refused_still _ _ r h = absurd h
@@ -225,6 +226,7 @@ uncalled_none : (step : Step) (event : Event) → IsPlain (Calls step) → Refus
 uncalled_none (Runs role cmd) event plain r = absurd plain
 uncalled_none (Makes scope path) (Fault call why) plain r = refl
 uncalled_none (Removes path) (Fault call why) plain r = refl
+uncalled_none (Writes path bytes) (Fault call why) plain r = refl
 uncalled_none (Prints kind bytes) (Fault call why) plain r = refl
 uncalled_none Lists (Fault call why) plain r = refl
 uncalled_none _ _ plain r = absurd r

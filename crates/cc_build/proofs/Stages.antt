@@ -11,7 +11,7 @@ use Rattle.cc_plan.specs.declared.error.PlanError.{PlanError}
 use Rattle.cc_plan.specs.declared.error.PlanError.TheVariants.{NoMemory as WantsMemory}
 use Rattle.cc_plan.specs.declared.settings.BuildConfig.{BuildConfig}
 use Rattle.cc_build.specs.Error.{ErrorSeen, no_memory}
-use Rattle.cc_build.specs.Refusal.{plan_error, disabled_error, refusal_error, early_error, late_error, archiver_error, link_error}
+use Rattle.cc_build.specs.Refusal.{plan_error, disabled_error, refusal_error, early_error, late_error, archive_error, link_error}
 use Rattle.cc_build.specs.Stage.{Stage, calls, folder_stages, asked_stages, late_stages, planned_stages}
 use Rattle.cc_build.specs.Stage.Stage.{Asks}
 use Rattle.cc_build.specs.Way.{Way}
@@ -27,7 +27,7 @@ plan_cause set env output error e r (inr is) (inr refused) = inr (ap (option_map
 
 -- the error of the checks behind the folder
 abbrev pub behind_error : BuildConfig → EnvSeen → Look → List ℕ → Option ErrorSeen
-behind_error set env look output = first_of (late_error set env look output) (first_of (archiver_error set env look output) (link_error set env look output))
+behind_error set env look output = first_of (late_error set env look output) (first_of (archive_error set env look output) (link_error set env look output))
 
 -- where the first checks pass, the later ones decide
 late_decides : (set : BuildConfig) (env : EnvSeen) (look : Look) (output : List ℕ) → early_refusal set env output ≡ None → behind_error set env look output ≡ refusal_error set env look output
@@ -39,7 +39,7 @@ unfolding planned_stages
 early_passed set env way look output passed = rw passed refl
 
 -- the stages of the folder are its steps
-folder_is : (set : BuildConfig) (env : EnvSeen) → folder_stages set env ≡ calls (folder_steps set env)
+pub folder_is : (set : BuildConfig) (env : EnvSeen) → folder_stages set env ≡ calls (folder_steps set env)
 unfolding folder_stages
 folder_is set env = refl
 
@@ -52,9 +52,9 @@ checks_open false error refusal rest run none = absurd (cc)
 late_open : (set : BuildConfig) (env : EnvSeen) (way : Way) (look : Look) (output : List ℕ) → IsOpen (behind_error set env look output) (late_stages set env way look output)
 unfolding late_stages
 late_open set env way look output =
-    checks_open (is_disabled env) disabled_error (option_map (plan_error set env output) (late_refusal set env look)) (first_of (archiver_error set env look output) (link_error set env look output)) _
+    checks_open (is_disabled env) disabled_error (option_map (plan_error set env output) (late_refusal set env look)) (first_of (archive_error set env look output) (link_error set env look output)) _
 
-both_none : (a b : List Stage) → a ++ b ≡ [] → b ≡ []
+pub both_none : (a b : List Stage) → a ++ b ≡ [] → b ≡ []
 both_none [] b none = none
 both_none (s ∷ a) b none = absurd (cc)
 
@@ -85,7 +85,7 @@ module _ (t : Terms) (set : BuildConfig) (env : EnvSeen) (look : Look) (output :
       (ends_from t (behind_error set env look output) old made new (calls (folder_steps set env)) (late_stages set env way look output) r x x z first last folder late)
 
 -- where commands may run
-pub enabled_ends : {T : Type 0} (t : Terms) (set : BuildConfig) (env : EnvSeen) (way : Way) (look : Look) (output : List ℕ) (part : List Event) (r : Result T ErrorSeen) (x z : Means) → is_disabled env ≡ false → Ends t (first_of (option_map (plan_error set env output) (late_refusal set env look)) (first_of (archiver_error set env look output) (link_error set env look output))) (asked_stages set env way look output) part r x z → Ends t (behind_error set env look output) (late_stages set env way look output) part r x z
+pub enabled_ends : {T : Type 0} (t : Terms) (set : BuildConfig) (env : EnvSeen) (way : Way) (look : Look) (output : List ℕ) (part : List Event) (r : Result T ErrorSeen) (x z : Means) → is_disabled env ≡ false → Ends t (first_of (option_map (plan_error set env output) (late_refusal set env look)) (first_of (archive_error set env look output) (link_error set env look output))) (asked_stages set env way look output) part r x z → Ends t (behind_error set env look output) (late_stages set env way look output) part r x z
 unfolding late_stages
 enabled_ends t set env way look output part r x z enabled o =
     renamed t _ (behind_error set env look output) (asked_stages set env way look output) (late_stages set env way look output) part r x z (rw enabled refl) (rw enabled refl) o

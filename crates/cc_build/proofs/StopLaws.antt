@@ -8,7 +8,7 @@ use Rattle.std.specs.List.{list_all, list_any}
 use Rattle.cc_env.specs.Env.{EnvSeen}
 use Rattle.cc_host.specs.Command.{CommandSeen}
 use Rattle.cc_host.specs.Part.{Step, since, step_of, Refuses, is_probing}
-use Rattle.cc_host.specs.Part.Step.{Runs, Makes, Removes, Prints, Lists}
+use Rattle.cc_host.specs.Part.Step.{Runs, Makes, Removes, Writes, Prints, Lists}
 use Rattle.cc_host.specs.Question.{Look}
 use Rattle.cc_host.specs.declared.event.Event.{Event}
 use Rattle.cc_host.specs.declared.event.Event.TheVariants.{Abandoned, Ran, Missing, Fault}
@@ -25,8 +25,8 @@ use Rattle.cc_host.proofs.Parts.{since_append}
 use Rattle.cc_jobs.specs.Seats.{Rose}
 use Rattle.cc_plan.specs.Given.{is_disabled}
 use Rattle.cc_plan.specs.Link.{printed_links}
-use Rattle.cc_plan.specs.Plan.{dir_of, link_lines, warning_lines, compiles_of, prints, folder_steps, removal_steps, link_steps}
-use Rattle.cc_plan.specs.Refusal.{early_refusal, late_refusal, archiver_refusal, link_refusal, is_empty}
+use Rattle.cc_plan.specs.Plan.{dir_of, link_lines, warning_lines, compiles_of, lists_of_run, archive_refusal, prints, folder_steps, removal_steps, link_steps}
+use Rattle.cc_plan.specs.Refusal.{early_refusal, late_refusal, link_refusal, is_empty}
 use Rattle.cc_plan.specs.declared.settings.BuildConfig.{BuildConfig}
 use Rattle.cc_run.specs.Outcome.{missing_by, faults_by, IsDone, IsRunError, EndsAt}
 use Rattle.cc_run.specs.Own.{is_of_run}
@@ -40,10 +40,10 @@ use Rattle.cc_run.proofs.Runs.{run_from-append}
 use Rattle.cc_tool.specs.Probing.{is_asked}
 use Rattle.cc_build.specs.Built.{ended_well}
 use Rattle.cc_build.specs.Error.{ErrorSeen, no_memory}
-use Rattle.cc_build.specs.Failed.{Failed, is_fault, is_form, form_aside, HasFault}
+use Rattle.cc_build.specs.Failed.{Failed, is_fault, is_form, form_aside, unforgiven, HasFault}
 use Rattle.cc_build.specs.Order.{is_archive_role, is_archive_event}
 use Rattle.cc_build.specs.RunErrors.{run_error}
-use Rattle.cc_build.specs.Stage.{Stage, children_in, calls, planned, beside, in_turn, tried, asked_then, folder_stages, compile_stages, removal_stages, library_commands, archive_stages, link_stages, library_stages, ending_stages, later_stages, asked_stages, late_stages, planned_stages}
+use Rattle.cc_build.specs.Stage.{Stage, children_in, calls, planned, beside, in_turn, tried, written, writings, has_libtool, asked_then, folder_stages, compile_stages, removal_stages, library_commands, list_stages, archive_stages, link_stages, library_stages, ending_stages, later_stages, asked_stages, late_stages, planned_stages}
 use Rattle.cc_build.specs.Stage.Stage.{Calls, Asks, Tries, RunsOne, RunsAll}
 use Rattle.cc_build.specs.Way.{Way}
 use Rattle.cc_build.specs.Went.{Terms, Means, RanAll, RanOne, Did, Went, IsOf, Stops, Halts, Halted}
@@ -347,6 +347,7 @@ call_cause (Runs role cmd) event plain r = absurd plain
 call_cause (Makes ForProbes path) event plain r = absurd plain
 call_cause (Makes Build path) (Fault call why) plain r = some_fault (Fault call why ∷ []) call [] refl (ap is_probing r)
 call_cause (Removes path) (Fault call why) plain r = some_fault (Fault call why ∷ []) call [] refl (ap is_probing r)
+call_cause (Writes path bytes) (Fault call why) plain r = some_fault (Fault call why ∷ []) call [] refl (ap is_probing r)
 call_cause (Prints kind bytes) (Fault call why) plain r = some_fault (Fault call why ∷ []) call [] refl (ap is_probing r)
 call_cause Lists (Fault call why) plain r = some_fault (Fault call why ∷ []) call [] refl (ap is_probing r)
 call_cause _ _ plain r = absurd r
@@ -371,7 +372,7 @@ stop_cause t (RunsAll ps) part e x y k plain d =
 
 -- ---- the stages of a plan
 
-plain_then : (a b : List Stage) → ArePlain a → ArePlain b → ArePlain (a ++ b)
+pub plain_then : (a b : List Stage) → ArePlain a → ArePlain b → ArePlain (a ++ b)
 plain_then [] b p q = q
 plain_then (s ∷ a) b p q = (p.0, plain_then a b p.1 q)
 
@@ -398,6 +399,14 @@ plain_tried : (refused : Bool) (ps : List Planned) → ArePlain (tried refused p
 plain_tried refused [] = tt
 plain_tried refused (p ∷ ps) = (tt, plain_in_turn ps)
 
+plain_written : (libtool refused : Bool) (ps : List Planned) → ArePlain (written libtool refused ps)
+plain_written true refused ps = plain_in_turn ps
+plain_written false refused ps = plain_tried refused ps
+
+plain_writings : (files : List (List ℕ × List ℕ)) → ArePlain (calls (writings files))
+plain_writings [] = tt
+plain_writings (file ∷ files) = (tt, plain_writings files)
+
 plain_unless : (b : Bool) (stages : List Stage) → ArePlain stages → ArePlain (if b then [] else stages)
 plain_unless true stages p = tt
 plain_unless false stages p = p
@@ -423,7 +432,11 @@ module _ (set : BuildConfig) (env : EnvSeen) where
 
   pub plain_archive : (look : Look) (is_plain : Bool) (output : List ℕ) → ArePlain (archive_stages set env look is_plain output)
   unfolding archive_stages
-  plain_archive look is_plain output = plain_tried is_plain (library_commands set env look is_plain output)
+  plain_archive look is_plain output = plain_written (has_libtool set env look) is_plain (library_commands set env look is_plain output)
+
+  pub plain_list : (look : Look) (output : List ℕ) → ArePlain (list_stages set env look output)
+  unfolding list_stages
+  plain_list look output = plain_writings (lists_of_run set env look output)
 
   plain_link : (look : Look) (is_first : Bool) (output : List ℕ) → ArePlain (link_stages set env look is_first output)
   unfolding link_stages link_steps
@@ -435,12 +448,13 @@ module _ (set : BuildConfig) (env : EnvSeen) where
   plain_library : (way : Way) (look : Look) (output : List ℕ) → ArePlain (library_stages set env way.is_plain look output ++ ending_stages set env way look output)
   plain_library way look output =
       plain_then (library_stages set env way.is_plain look output) (ending_stages set env way look output)
-      (plain_then (removal_stages set env output) (archive_stages set env look way.is_plain output) (plain_removal output) (plain_archive look way.is_plain output))
+      (plain_then (removal_stages set env output) (list_stages set env look output ++ archive_stages set env look way.is_plain output) (plain_removal output)
+      (plain_then (list_stages set env look output) (archive_stages set env look way.is_plain output) (plain_list look output) (plain_archive look way.is_plain output)))
       (plain_ending way look output)
 
   plain_later : (way : Way) (look : Look) (output : List ℕ) → ArePlain (later_stages set env way look output)
   unfolding later_stages
-  plain_later way look output = (tt, plain_unless (is_some (archiver_refusal set env look)) (library_stages set env way.is_plain look output ++ ending_stages set env way look output) (plain_library way look output))
+  plain_later way look output = (tt, plain_unless (is_some (archive_refusal set env look)) (library_stages set env way.is_plain look output ++ ending_stages set env way look output) (plain_library way look output))
 
   plain_asked : (way : Way) (look : Look) (output : List ℕ) → ArePlain (asked_stages set env way look output)
   plain_asked way look output = (
@@ -462,9 +476,9 @@ module _ (set : BuildConfig) (env : EnvSeen) where
 
 -- ---- the causes of a whole run
 
--- for what cause a run ended before all of its stages were done
-abbrev pub HasCause : Option ErrorSeen → List Event → ErrorSeen → Means → Means → Type 0
-HasCause refusal part e x y = (e ≡ no_memory) ⊎ ((refusal ≡ Some e) ⊎ (HasFault part ⊎ (Failed part ⊎ (Rose x.faults y.faults ⊎ ((e.kind ≡ SpendsTurns) × (y.left ≡ 0))))))
+-- for what cause a run ended before all of its stages were done; `libtool` says whether its archiver is that
+abbrev pub HasCause : Bool → Option ErrorSeen → List Event → ErrorSeen → Means → Means → Type 0
+HasCause libtool refusal part e x y = (e ≡ no_memory) ⊎ ((refusal ≡ Some e) ⊎ (HasFault part ⊎ (Failed libtool part ⊎ (Rose x.faults y.faults ⊎ ((e.kind ≡ SpendsTurns) × (y.left ≡ 0))))))
 
 -- ---- the first form of the archive
 
@@ -527,27 +541,28 @@ went_form t (s ∷ ss) part x y h w =
 abbrev pub IsFormed : List Event → List Event → Type 0
 IsFormed front rest = (list_any is_form front ≡ true) ⊎ ((list_any is_archive_event front ≡ false) × (list_any is_archive_event rest ≡ false))
 
+last_none : (a b : List (Role × CommandSeen)) → a ++ b ≡ [] → b ≡ []
+last_none [] b e = e
+last_none (m ∷ a) b e = absurd (cc)
+
 -- a program that is missing behind the first form is so in the part without it
 missing_aside : (front rest : List Event) → IsFormed front rest → missing rest ≢ [] → missing (form_aside (front ++ rest)) ≢ []
 missing_aside front rest (inl before) some none =
     some (last_none (missing (form_aside front)) (missing rest) (sym (flat_map-append missing_of (form_aside front) rest) ∙ sym (ap missing (form_before front rest before)) ∙ none))
-  where
-    last_none : (a b : List (Role × CommandSeen)) → a ++ b ≡ [] → b ≡ []
-    last_none [] b e = e
-    last_none (m ∷ a) b e = absurd (cc)
 missing_aside front rest (inr silent) some none =
     let whole : form_aside (front ++ rest) ≡ front ++ rest = no_form (front ++ rest) (list_any-append is_archive_event front rest ∙ or_none (list_any is_archive_event front) (list_any is_archive_event rest) silent.0 silent.1) in
     some (last_none (missing front) (missing rest) (sym (flat_map-append missing_of front rest) ∙ sym (ap missing whole) ∙ none))
-  where
-    last_none : (a b : List (Role × CommandSeen)) → a ++ b ≡ [] → b ≡ []
-    last_none [] b e = e
-    last_none (m ∷ a) b e = absurd (cc)
 
-module _ (t : Terms) (refusal : Option ErrorSeen) (before : List Stage) (front rest part : List Event) (e : ErrorSeen) (x y z : Means) (cut : part ≡ front ++ rest) (w : Went t before front x y) (formed : missing rest ≢ [] → IsFormed front rest) where
-  behind_cause : IsCause (length (children_in before)) rest e y z → HasCause refusal part e x z
+-- the same, whether the archiver is libtool, where no form is aside
+missing_unforgiven : (libtool : Bool) (front rest : List Event) → (libtool ≡ false → IsFormed front rest) → missing rest ≢ [] → missing (unforgiven libtool (front ++ rest)) ≢ []
+missing_unforgiven true front rest formed some none = some (last_none (missing front) (missing rest) (sym (flat_map-append missing_of front rest) ∙ none))
+missing_unforgiven false front rest formed some none = missing_aside front rest (formed refl) some none
+
+module _ (t : Terms) (libtool : Bool) (refusal : Option ErrorSeen) (before : List Stage) (front rest part : List Event) (e : ErrorSeen) (x y z : Means) (cut : part ≡ front ++ rest) (w : Went t before front x y) (formed : missing rest ≢ [] → libtool ≡ false → IsFormed front rest) where
+  behind_cause : IsCause (length (children_in before)) rest e y z → HasCause libtool refusal part e x z
   behind_cause (inl memory) = inl memory
   behind_cause (inr (inl fault)) = inr (inr (inl (ap (list_any is_fault) cut ∙ list_any-append is_fault front rest ∙ or_right (list_any is_fault front) (list_any is_fault rest) fault)))
-  behind_cause (inr (inr (inl absent))) = inr (inr (inr (inl (inl (subst (λ (l : List Event). missing (form_aside l) ≢ []) (sym cut) (missing_aside front rest (formed absent) absent))))))
+  behind_cause (inr (inr (inl absent))) = inr (inr (inr (inl (inl (subst (λ (l : List Event). missing (unforgiven libtool l) ≢ []) (sym cut) (missing_unforgiven libtool front rest (formed absent) absent))))))
   behind_cause (inr (inr (inr (inl failed)))) =
       let count = length (children_in before) in
       let begun : run_from nothing front ≡ ended_well count = went_run t before front x y 0 w ∙ ap ended_well (zero-add count) in
@@ -556,11 +571,11 @@ module _ (t : Terms) (refusal : Option ErrorSeen) (before : List Stage) (front r
   behind_cause (inr (inr (inr (inr (inl rose))))) = let first : x.faults ≤ y.faults = went_faults t before front x y w in inr (inr (inr (inr (inl (λ below. let more : y.faults < z.faults = rose below in omega arith)))))
   behind_cause (inr (inr (inr (inr (inr spent))))) = inr (inr (inr (inr (inr spent))))
 
-  unbegun_cause : (e ≡ no_memory) ⊎ (refusal ≡ Some e) → HasCause refusal part e x z
+  unbegun_cause : (e ≡ no_memory) ⊎ (refusal ≡ Some e) → HasCause libtool refusal part e x z
   unbegun_cause (inl memory) = inl memory
   unbegun_cause (inr refused) = inr (inl refused)
 
-  pub halts_cause : (after : List Stage) → ArePlain after → Halts t refusal after rest e y z → HasCause refusal part e x z
+  pub halts_cause : (after : List Stage) → ArePlain after → Halts t refusal after rest e y z → HasCause libtool refusal part e x z
   halts_cause [] plain h = unbegun_cause h.0
   halts_cause (s ∷ ss) plain (inl h) = inl h.0
   halts_cause (s ∷ ss) plain (inr stop) = behind_cause (stop_cause t s rest e y z (length (children_in before)) plain.0 stop)

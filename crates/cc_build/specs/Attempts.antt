@@ -1,5 +1,5 @@
 -- The commands that a part of a log tells of, in order.
-use Rattle.std.specs.Prelude.{List, [], ◌∷◌, Bool, false, not}
+use Rattle.std.specs.Prelude.{List, [], ◌∷◌, Bool, false, not, if◌then◌else◌}
 use Rattle.std.specs.List.{flat_map}
 use Rattle.cc_host.specs.Command.{CommandSeen}
 use Rattle.cc_host.specs.Status.{is_success}
@@ -37,3 +37,7 @@ all_tried = flat_map tried_of
 abbrev pub first_tried : Bool → List Planned → List (CommandSeen × Bool)
 first_tried refused [] = []
 first_tried refused (p ∷ ps) = (p.cmd, not refused) ∷ []
+
+-- the same of the commands of a library: none where the archiver is libtool
+abbrev pub form_tried : Bool → Bool → List Planned → List (CommandSeen × Bool)
+form_tried libtool refused cmds = if libtool then [] else first_tried refused cmds

@@ -7,14 +7,14 @@ use Rattle.cc_host.specs.declared.event.Event.{Event}
 use Rattle.cc_host.specs.declared.event.Event.TheVariants.{Removed}
 use Rattle.cc_host.specs.declared.event.Role.TheVariants.{Compile}
 use Rattle.cc_plan.specs.declared.settings.BuildConfig.{BuildConfig}
-use Rattle.cc_plan.specs.Plan.{library_of, compiles_of}
+use Rattle.cc_plan.specs.Plan.{library_of, compiles_of, archive_refusal}
 use Rattle.cc_plan.specs.Given.{is_disabled}
-use Rattle.cc_plan.specs.Refusal.{early_refusal, late_refusal, archiver_refusal, link_refusal}
+use Rattle.cc_plan.specs.Refusal.{early_refusal, late_refusal, link_refusal}
 use Rattle.cc_run.specs.Part.{started}
 use Rattle.cc_run.specs.Planned.{asked}
 use Rattle.cc_run.specs.Run.{Run, run_from, nothing}
-use Rattle.cc_build.specs.Attempts.{attempts, to_attempt, all_tried, first_tried}
-use Rattle.cc_build.specs.Stage.{planned, behind_first, folder_stages, compile_stages, library_commands, archive_stages, link_stages}
+use Rattle.cc_build.specs.Attempts.{attempts, to_attempt, all_tried, form_tried}
+use Rattle.cc_build.specs.Stage.{planned, written_children, has_libtool, folder_stages, compile_stages, library_commands, list_stages, archive_stages, link_stages}
 use Rattle.cc_build.specs.Stage.Stage.{Asks}
 use Rattle.cc_build.specs.Way.{Way, Repeats}
 use Rattle.cc_build.specs.Went.{Terms, Goes}
@@ -24,7 +24,7 @@ pub record Accepted (set : BuildConfig) (env : EnvSeen) (look : Look) (output : 
   pub early : early_refusal set env output ≡ None
   pub enabled : is_disabled env ≡ false
   pub late : late_refusal set env look ≡ None
-  pub archiver : archiver_refusal set env look ≡ None
+  pub archive : archive_refusal set env look ≡ None
   pub links : link_refusal set env look ≡ None
 
 -- so many commands were started, and each has ended with 0
@@ -48,14 +48,15 @@ pub record Built (t : Terms) (set : BuildConfig) (env : EnvSeen) (look : Look) (
   pub compiles : started runs ≡ asked t.shows (planned Compile (compiles_of set env look))
   -- and each of them has ended with 0
   pub ended : run_from nothing runs ≡ ended_well (length (compiles_of set env look))
-  -- the planned archive commands and then those of the index were run, one after another
-  pub archived : Goes t (archive_stages set env look way.is_plain output) archives
+  -- the list of the objects was written where the archiver is libtool, then the planned archive commands and those of the index were run, one after
+  -- another
+  pub archived : Goes t (list_stages set env look output ++ archive_stages set env look way.is_plain output) archives
   -- these alone were run
   pub writes : attempts archives ≡ map to_attempt (library_commands set env look way.is_plain output)
-  -- the first of them was tried: where it was refused the others are those of the plain form, else it has ended with 0
-  pub first : all_tried archives ≡ first_tried way.is_plain (library_commands set env look way.is_plain output)
+  -- the first of them was tried, unless it is libtool's: where it was refused the others are those of the plain form, else it has ended with 0
+  pub first : all_tried archives ≡ form_tried (has_libtool set env look) way.is_plain (library_commands set env look way.is_plain output)
   -- the others were started, and each of them has ended with 0
-  pub others : started archives ≡ asked t.shows (behind_first (library_commands set env look way.is_plain output))
-  pub written : run_from nothing archives ≡ ended_well (length (behind_first (library_commands set env look way.is_plain output)))
+  pub others : started archives ≡ asked t.shows (written_children (has_libtool set env look) (library_commands set env look way.is_plain output))
+  pub written : run_from nothing archives ≡ ended_well (length (written_children (has_libtool set env look) (library_commands set env look way.is_plain output)))
   -- questions were asked, and then exactly the link lines were printed
   pub linked : Goes t (Asks ∷ link_stages set env look way.is_first output) lines

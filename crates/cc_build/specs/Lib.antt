@@ -1,3 +1,4 @@
+pub mod Archiving
 pub mod Attempts
 pub mod Build
 pub mod Built
@@ -10,7 +11,9 @@ pub mod ErrorText
 pub mod Failed
 pub mod FlagSupport
 pub mod Flags
+pub mod Intermediates
 pub mod Kept
+pub mod Linking
 pub mod Order
 pub mod Outcome
 pub mod Phases
@@ -22,6 +25,7 @@ pub mod Seen
 pub mod Shows
 pub mod Stage
 pub mod Stop
+pub mod Tools
 pub mod Values
 pub mod Way
 pub mod Went

@@ -1,20 +1,23 @@
 -- How the parts of a run end: each asks what it wants to know, and then does its stages.
 use Rattle.std.specs.Prelude.{◌≡◌, ℕ, Bool, List, ◌∷◌, [], ◌++◌, Option, None, Result, Ok, Err}
 use Rattle.std.specs.Option.{option_map}
-use Rattle.cc_host.specs.Part.Step.{Removes}
 use Rattle.cc_host.specs.Question.{Look, Answer, Holds}
 use Rattle.cc_host.specs.declared.event.Event.{Event}
-use Rattle.cc_plan.specs.Refusal.{first_of, late_refusal, archiver_refusal, link_refusal}
+use Rattle.cc_plan.specs.Plan.{archive_refusal}
+use Rattle.cc_plan.specs.Refusal.{first_of, late_refusal, link_refusal}
 use Rattle.cc_plan.specs.declared.error.PlanError.{PlanError}
 use Rattle.cc_run.specs.declared.planned.Planned.{Planned}
 use Rattle.cc_run.specs.declared.planned.Shows.{Shows}
 use Rattle.cc_build.specs.Course.{Course, OnCourse}
 use Rattle.cc_build.specs.Error.{ErrorSeen}
 use Rattle.cc_build.specs.Refusal.{plan_error}
-use Rattle.cc_build.specs.Stage.{Stage, calls, tried, asked_then, compile_stages, library_stages, link_stages, asked_stages}
+use Rattle.cc_build.specs.Seen.{stages_seen, form_stages, library_seen}
+use Rattle.cc_build.specs.Stage.{Stage, asked_then, compile_stages, library_stages, link_stages, links_of, printed_stages, asked_stages}
 use Rattle.cc_build.specs.Stage.Stage.{Asks, Tries}
 use Rattle.cc_build.specs.Way.{Way, Repeats}
 use Rattle.cc_build.specs.Went.{Terms, Means, terms, Went, Halted, Ends}
+use Rattle.cc_build.specs.declared.library.Library.{Library}
+use Rattle.cc_build.specs.declared.stage.Stage.{Stage as Coded}
 use Rattle.cc_build.specs.declared.task.Task.{Task}
 
 abbrev pub task_terms : Task → Course → Terms
@@ -34,18 +37,22 @@ CompileEnds task result look part c = (warns_of_link : Bool) × PhaseEnds task (
 -- the library was written; or the run ended before the questions behind it
 abbrev pub LibraryEnds : {T : Type 0} → Task → Result T ErrorSeen → Look → List Event → Course → Type 0
 LibraryEnds task (Ok _) look part c =
-    (is_plain : Bool) × ((archiver_refusal task.set.now task.env.now look ≡ None) × Went (task_terms task c) (Asks ∷ library_stages task.set.now task.env.now is_plain look task.output.now) part c.before c.after)
+    (is_plain : Bool) × ((archive_refusal task.set.now task.env.now look ≡ None) × Went (task_terms task c) (Asks ∷ library_stages task.set.now task.env.now is_plain look task.output.now) part c.before c.after)
 LibraryEnds task (Err e) look part c =
-    (is_plain : Bool) × Halted (task_terms task c) (error_in task (archiver_refusal task.set.now task.env.now look)) (asked_then (archiver_refusal task.set.now task.env.now look) (library_stages task.set.now task.env.now is_plain look task.output.now ++ Asks ∷ [])) part e c.before c.after
+    (is_plain : Bool) × Halted (task_terms task c) (error_in task (archive_refusal task.set.now task.env.now look)) (asked_then (archive_refusal task.set.now task.env.now look) (library_stages task.set.now task.env.now is_plain look task.output.now ++ Asks ∷ [])) part e c.before c.after
 
 -- the link lines were printed
 abbrev pub LinkEnds : {T : Type 0} → Task → Result T ErrorSeen → Look → List Event → Course → Type 0
 LinkEnds task result look part c = (is_first : Bool) × (Repeats task.set.now is_first × PhaseEnds task (link_refusal task.set.now task.env.now look) (link_stages task.set.now task.env.now look is_first task.output.now) result part c)
 
+-- those of a library of this name and path were printed
+abbrev pub LinkedEnds : {T : Type 0} → Task → List ℕ → List ℕ → Result T ErrorSeen → Look → List Event → Course → Type 0
+LinkedEnds task name library result look part c = (is_first : Bool) × (Repeats task.set.now is_first × PhaseEnds task (link_refusal task.set.now task.env.now look) (printed_stages is_first (links_of task.set.now task.env.now name library look)) result part c)
+
 -- all of this, one after another
 abbrev pub AskedEnds : {T : Type 0} → Task → Result T ErrorSeen → Look → List Event → Course → Type 0
 AskedEnds task result look part c =
-    (way : Way) × (Repeats task.set.now way.is_first × Ends (task_terms task c) (first_of (error_in task (late_refusal task.set.now task.env.now look)) (first_of (error_in task (archiver_refusal task.set.now task.env.now look)) (error_in task (link_refusal task.set.now task.env.now look)))) (asked_stages task.set.now task.env.now way look task.output.now) part result c.before c.after)
+    (way : Way) × (Repeats task.set.now way.is_first × Ends (task_terms task c) (first_of (error_in task (late_refusal task.set.now task.env.now look)) (first_of (error_in task (archive_refusal task.set.now task.env.now look)) (error_in task (link_refusal task.set.now task.env.now look)))) (asked_stages task.set.now task.env.now way look task.output.now) part result c.before c.after)
 
 -- a fact of the part and the course of a call, whichever verdicts agree with the answers so far
 abbrev pub ByKnown : {X S : Type 0} → List Answer → (X → List Event) → (X → Option ℕ) → (S → Option ℕ) → (S → ℕ) → (S → ℕ) → (S → ℕ) → ℕ → ℕ → X → X → S → S → (Look → List Event → Course → Type 0) → Type 0
@@ -57,17 +64,16 @@ abbrev pub TryEnds : Shows → Planned → Result Bool ErrorSeen → List Event 
 TryEnds shows p (Ok refused) part = (total patience : Option ℕ) (x : Means) → Went (terms shows total patience) (Tries refused p ∷ []) part x x
 TryEnds shows p (Err e) part = (total patience : Option ℕ) (refused : Bool) (x : Means) → Halted (terms shows total patience) None (Tries refused p ∷ []) part e x x
 
--- all of these stages but the first
-abbrev pub behind : List Stage → List Stage
-behind [] = []
-behind (s ∷ ss) = ss
+-- The commands of a library were begun: the first of their stages were done, which is the command that is tried or none, and those stages are left.
+abbrev pub Begins : Shows → Library → List Coded → List Event → Type 0
+Begins shows library left part =
+    (is_plain : Bool) × (first : List Stage) × ((form_stages library is_plain ≡ first ++ stages_seen left) × ((total patience : Option ℕ) (x : Means) → Went (terms shows total patience) first part x x))
 
--- the stages behind the first of these were done; or the error has its cause
-abbrev pub BehindEnds : {T : Type 0} → Shows → List Stage → Result T ErrorSeen → List Event → Course → Type 0
-BehindEnds shows stages result part c = Ends (terms shows c.total c.patience) None (behind stages) part result c.before c.after
+-- or the run ended there, before the questions behind them
+abbrev pub BeginStops : Shows → Library → ErrorSeen → List Event → Type 0
+BeginStops shows library e part = (is_plain : Bool) × ((total patience : Option ℕ) (x : Means) → Halted (terms shows total patience) None (form_stages library is_plain ++ Asks ∷ []) part e x x)
 
--- The old library of this path was removed, and the commands were run, the first of which was tried; or the run ended before the questions behind
--- them. Which commands they are is given by whether the first was refused.
-abbrev pub WriteEnds : {T : Type 0} → Shows → List ℕ → (Bool → List Planned) → Result T ErrorSeen → List Event → Course → Type 0
-WriteEnds shows path cmds (Ok _) part c = (is_plain : Bool) × Went (terms shows c.total c.patience) (calls (Removes path ∷ []) ++ tried is_plain (cmds is_plain)) part c.before c.after
-WriteEnds shows path cmds (Err e) part c = (is_plain : Bool) × Halted (terms shows c.total c.patience) None ((calls (Removes path ∷ []) ++ tried is_plain (cmds is_plain)) ++ Asks ∷ []) part e c.before c.after
+-- the library was written, in the first form or in the plain one; or the run ended before the questions behind it
+abbrev pub WriteEnds : {T : Type 0} → Shows → Library → Result T ErrorSeen → List Event → Course → Type 0
+WriteEnds shows library (Ok _) part c = (is_plain : Bool) × Went (terms shows c.total c.patience) (library_seen library is_plain) part c.before c.after
+WriteEnds shows library (Err e) part c = (is_plain : Bool) × Halted (terms shows c.total c.patience) None (library_seen library is_plain ++ Asks ∷ []) part e c.before c.after

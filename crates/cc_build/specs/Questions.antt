@@ -1,11 +1,11 @@
 -- What is planned by the answers to the questions of a run.
-use Rattle.std.specs.Prelude.{◌≡◌, ◌⊎◌, List, Option, Some, None, true}
+use Rattle.std.specs.Prelude.{◌≡◌, ◌⊎◌, ℕ, List, Option, Some, None, true}
 use Rattle.std.specs.List.{list_all}
 use Rattle.std.specs.Option.{option_map}
 use Rattle.cc_host.specs.Question.{Look}
 use Rattle.cc_host.specs.declared.event.Event.{Event}
 use Rattle.cc_plan.specs.Archive.{archiver_of}
-use Rattle.cc_plan.specs.Plan.{warning_lines, compiles_of, link_lines}
+use Rattle.cc_plan.specs.Plan.{warning_lines, compiles_of}
 use Rattle.cc_plan.specs.Refusal.{late_refusal, archiver_refusal, link_refusal}
 use Rattle.cc_plan.specs.declared.archive.Archiver.{Archiver}
 use Rattle.cc_plan.specs.declared.error.PlanError.{PlanError}
@@ -14,6 +14,7 @@ use Rattle.cc_plan.specs.declared.plan.Plan.{Plan}
 use Rattle.cc_tool.specs.Probing.{is_asked}
 use Rattle.cc_build.specs.Error.{ErrorSeen, no_memory}
 use Rattle.cc_build.specs.Refusal.{plan_error}
+use Rattle.cc_build.specs.Stage.{links_of}
 use Rattle.cc_build.specs.declared.task.Task.{Task}
 
 -- nothing is refused behind the folder, and these are the warnings and the compile commands
@@ -22,15 +23,15 @@ pub record Plans (task : Task) (plan : Plan) (look : Look) : Type 0 where
   pub warnings : plan.warnings ≡ warning_lines task.set.now task.env.now plan.warns_of_link look
   pub compiles : plan.compiles.items ≡ compiles_of task.set.now task.env.now look
 
--- nothing is refused behind the sources, and this is the archiver
+-- no archiver is refused behind the sources, and this is the one
 pub record Archives (task : Task) (archiver : Archiver) (look : Look) : Type 0 where
   pub allowed : archiver_refusal task.set.now task.env.now look ≡ None
   pub is : archiver ≡ archiver_of task.set.now task.env.now look
 
--- nothing is refused behind the library, and these are the link lines
-pub record Links (task : Task) (lines : List LinkLine) (look : Look) : Type 0 where
+-- nothing is refused behind the library of this name and path, and these are the link lines
+pub record Links (task : Task) (name library : List ℕ) (lines : List LinkLine) (look : Look) : Type 0 where
   pub allowed : link_refusal task.set.now task.env.now look ≡ None
-  pub are : lines ≡ link_lines task.set.now task.env.now look task.output.now
+  pub are : lines ≡ links_of task.set.now task.env.now name library look
 
 -- the settings are refused with this error, or memory was wanted
 abbrev pub IsRefusedBy : (Look → Option PlanError) → Task → ErrorSeen → Look → Type 0

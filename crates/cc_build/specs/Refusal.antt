@@ -1,15 +1,17 @@
 -- The errors of refused settings, with the texts of their messages.
-use Rattle.std.specs.Prelude.{ℕ, List, [], ◌++◌, Option, Some, unwrap_or, slice_get, codes, if◌then◌else◌}
+use Rattle.std.specs.Prelude.{ℕ, ◌-◌, nat_lt, List, [], ◌++◌, length, Option, Some, unwrap_or, slice_get, codes, if◌then◌else◌}
+use Rattle.cc_text.specs.Quoted.{quoted}
 use Rattle.std.specs.Option.{option_map}
 use Rattle.cc_env.specs.Env.{EnvSeen}
 use Rattle.cc_host.specs.Question.{Look}
 use Rattle.cc_plan.specs.declared.error.ArgumentCause.{ArgumentCause}
-use Rattle.cc_plan.specs.declared.error.ArgumentCause.TheVariants.{Output, OutDir, NoFileName, SameObject, LibraryIsObject}
+use Rattle.cc_plan.specs.declared.error.ArgumentCause.TheVariants.{Output, OutDir, NoFileName, SameObject, LibraryIsObject, LineFeed, Library}
 use Rattle.cc_plan.specs.declared.error.PlanError.{PlanError}
 use Rattle.cc_plan.specs.declared.error.PlanError.TheVariants.{Argument, NotSet, UnknownTarget, QnxArch, Flag, Host, NoMemory as WantsMemory}
 use Rattle.cc_plan.specs.declared.settings.BuildConfig.{BuildConfig}
 use Rattle.cc_plan.specs.Given.{is_disabled}
-use Rattle.cc_plan.specs.Refusal.{first_of, object_in, early_refusal, late_refusal, archiver_refusal, link_refusal}
+use Rattle.cc_plan.specs.Plan.{archive_refusal}
+use Rattle.cc_plan.specs.Refusal.{first_of, object_in, early_refusal, late_refusal, link_refusal}
 use Rattle.cc_build.specs.declared.error.ErrorKind.TheVariants.{InvalidArgument, InvalidTarget, InvalidFlag, EnvVarNotFound, Disabled, UnknownTarget as IsUnknown}
 use Rattle.cc_build.specs.Error.{ErrorSeen, no_memory}
 use Rattle.cc_build.specs.Stop.{fault_error}
@@ -28,6 +30,18 @@ same_object_error object = invalid object (codes "two sources have the object " 
 
 abbrev pub library_error : List ℕ → ErrorSeen
 library_error object = invalid object (codes "the added object " ++ object ++ codes " is the library")
+
+-- the path of an archived object: those of sources come first
+abbrev pub archived_at : BuildConfig → EnvSeen → ℕ → List ℕ
+archived_at set env place =
+    if nat_lt place (length set.files) then object_in set env (source_at set place) else added_at set (place - length set.files)
+
+-- a path that a list can't hold
+abbrev pub unlisted_error : List ℕ → ErrorSeen
+unlisted_error path = invalid path (codes "libtool can't read the object path " ++ quoted path)
+
+abbrev pub no_library_error : List ℕ → ErrorSeen
+no_library_error path = invalid path (codes "expected the path of a library lib<name>.a with its folder, got " ++ path)
 
 abbrev pub unset_error : List ℕ → ErrorSeen
 unset_error name = record { kind = EnvVarNotFound; subject = name; message = codes "environment variable " ++ name ++ codes " not defined" }
@@ -53,6 +67,8 @@ argument_error set env output OutDir = invalid [] (codes "out dir must not be em
 argument_error set env output (NoFileName place) = invalid (source_at set place) (codes "No file_name for object file path!")
 argument_error set env output (SameObject first second) = same_object_error (object_in set env (source_at set second))
 argument_error set env output (LibraryIsObject place) = library_error (added_at set place)
+argument_error set env output (LineFeed place) = unlisted_error (archived_at set env place)
+argument_error set env output Library = no_library_error output
 
 -- the error of a refusal, for a compile run of these settings with this output
 unfoldable pub plan_error : BuildConfig → EnvSeen → List ℕ → PlanError → ErrorSeen
@@ -73,8 +89,8 @@ abbrev pub late_error : BuildConfig → EnvSeen → Look → List ℕ → Option
 late_error set env look output = if is_disabled env then Some disabled_error else option_map (plan_error set env output) (late_refusal set env look)
 
 -- the same, behind the sources and before the library
-abbrev pub archiver_error : BuildConfig → EnvSeen → Look → List ℕ → Option ErrorSeen
-archiver_error set env look output = option_map (plan_error set env output) (archiver_refusal set env look)
+abbrev pub archive_error : BuildConfig → EnvSeen → Look → List ℕ → Option ErrorSeen
+archive_error set env look output = option_map (plan_error set env output) (archive_refusal set env look)
 
 -- the same, behind the library and before the link lines
 abbrev pub link_error : BuildConfig → EnvSeen → Look → List ℕ → Option ErrorSeen
@@ -83,4 +99,4 @@ link_error set env look output = option_map (plan_error set env output) (link_re
 -- the error of settings that are refused: that of the first part which doesn't hold
 abbrev pub refusal_error : BuildConfig → EnvSeen → Look → List ℕ → Option ErrorSeen
 refusal_error set env look output =
-    first_of (early_error set env output) (first_of (late_error set env look output) (first_of (archiver_error set env look output) (link_error set env look output)))
+    first_of (early_error set env output) (first_of (late_error set env look output) (first_of (archive_error set env look output) (link_error set env look output)))

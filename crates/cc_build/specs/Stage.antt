@@ -1,17 +1,23 @@
 -- The stages of a compile run: what it asks of its host, one after another.
-use Rattle.std.specs.Prelude.{ℕ, Bool, List, [], ◌∷◌, ◌++◌, map, Option, None, is_some, if◌then◌else◌}
+use Rattle.std.specs.Prelude.{ℕ, Bool, List, [], ◌∷◌, ◌++◌, map, Option, None, is_some, unwrap_or, if◌then◌else◌}
 use Rattle.std.specs.List.{flat_map}
+use Rattle.std.specs.Path.{path_parent}
 use Rattle.cc_env.specs.Env.{EnvSeen}
 use Rattle.cc_host.specs.Command.{CommandSeen}
 use Rattle.cc_host.specs.Part.{Step}
+use Rattle.cc_host.specs.Part.Step.{Writes}
 use Rattle.cc_host.specs.Question.{Look}
-use Rattle.cc_host.specs.declared.event.LineKind.TheVariants.{Warning}
+use Rattle.cc_host.specs.declared.event.LineKind.TheVariants.{Warning, Link}
 use Rattle.cc_host.specs.declared.event.Role.{Role}
 use Rattle.cc_host.specs.declared.event.Role.TheVariants.{Compile, Archive, Index}
+use Rattle.cc_plan.specs.Archive.{archiver_of}
 use Rattle.cc_plan.specs.Given.{is_disabled}
-use Rattle.cc_plan.specs.Plan.{compiles_of, archives_of, indexes_of, warning_lines, prints, folder_steps, removal_steps, link_steps}
-use Rattle.cc_plan.specs.Refusal.{early_refusal, late_refusal, archiver_refusal, link_refusal}
+use Rattle.cc_plan.specs.Libtool.{is_libtool}
+use Rattle.cc_plan.specs.Link.{printed_links, link_lines as lines_of}
+use Rattle.cc_plan.specs.Plan.{compiles_of, archives_of, indexes_of, lists_of_run, archive_refusal, warning_lines, prints, folder_steps, removal_steps, link_steps}
+use Rattle.cc_plan.specs.Refusal.{early_refusal, late_refusal, link_refusal}
 use Rattle.cc_plan.specs.declared.error.PlanError.{PlanError}
+use Rattle.cc_plan.specs.declared.link.LinkLine.{LinkLine}
 use Rattle.cc_plan.specs.declared.settings.BuildConfig.{BuildConfig}
 use Rattle.cc_run.specs.declared.planned.Planned.{Planned}
 use Rattle.cc_build.specs.Way.{Way}
@@ -75,6 +81,19 @@ abbrev pub tried : Bool → List Planned → List Stage
 tried refused [] = []
 tried refused (p ∷ ps) = Tries refused p ∷ in_turn ps
 
+-- The commands of a library. They run one after another, and the first is tried, since the archiver may not know its form: where it is refused,
+-- those of the plain form follow. Libtool has one form, of which none is tried.
+abbrev pub written : Bool → Bool → List Planned → List Stage
+written libtool is_plain cmds = if libtool then in_turn cmds else tried is_plain cmds
+
+-- those of them that are started as children
+abbrev pub written_children : Bool → List Planned → List Planned
+written_children libtool cmds = if libtool then cmds else behind_first cmds
+
+-- these files are written, each with its bytes
+abbrev pub writings : List (List ℕ × List ℕ) → List Step
+writings files = map (λ file. Writes file.0 file.1) files
+
 -- questions, and then these stages, unless the answers refuse them
 abbrev pub asked_then : Option PlanError → List Stage → List Stage
 asked_then refusal stages = Asks ∷ (if is_some refusal then [] else stages)
@@ -95,9 +114,29 @@ removal_stages set env output = calls (removal_steps set env output)
 abbrev pub library_commands : BuildConfig → EnvSeen → Look → Bool → List ℕ → List Planned
 library_commands set env look is_plain output = planned Archive (archives_of set env look is_plain output) ++ planned Index (indexes_of set env look is_plain output)
 
--- They run one after another. The first is tried, since the archiver may not know its form: where it is refused, those of the plain form follow.
+-- the archiver of a run is libtool
+abbrev pub has_libtool : BuildConfig → EnvSeen → Look → Bool
+has_libtool set env look = is_libtool (archiver_of set env look)
+
+-- the list of the paths of all objects is written, where the archiver is libtool
+unfoldable pub list_stages : BuildConfig → EnvSeen → Look → List ℕ → List Stage
+list_stages set env look output = calls (writings (lists_of_run set env look output))
+
+-- those commands are run
 unfoldable pub archive_stages : BuildConfig → EnvSeen → Look → Bool → List ℕ → List Stage
-archive_stages set env look is_plain output = tried is_plain (library_commands set env look is_plain output)
+archive_stages set env look is_plain output = written (has_libtool set env look) is_plain (library_commands set env look is_plain output)
+
+-- the folder that a library's path has
+abbrev pub folder_in : List ℕ → List ℕ
+folder_in library = unwrap_or (path_parent library) []
+
+-- the link lines of a library of this name and path
+abbrev pub links_of : BuildConfig → EnvSeen → List ℕ → List ℕ → Look → List LinkLine
+links_of set env name library look = lines_of set env name (folder_in library) look
+
+-- these lines are printed
+abbrev pub printed_stages : Bool → List LinkLine → List Stage
+printed_stages is_first lines = calls (prints Link (printed_links is_first lines))
 
 -- the link lines are printed
 unfoldable pub link_stages : BuildConfig → EnvSeen → Look → Bool → List ℕ → List Stage
@@ -109,11 +148,11 @@ ending_stages set env way look output = asked_then (link_refusal set env look) (
 
 -- the old library is removed, and the new one is written
 abbrev pub library_stages : BuildConfig → EnvSeen → Bool → Look → List ℕ → List Stage
-library_stages set env is_plain look output = removal_stages set env output ++ archive_stages set env look is_plain output
+library_stages set env is_plain look output = removal_stages set env output ++ (list_stages set env look output ++ archive_stages set env look is_plain output)
 
 -- the stages behind the sources
 unfoldable pub later_stages : BuildConfig → EnvSeen → Way → Look → List ℕ → List Stage
-later_stages set env way look output = asked_then (archiver_refusal set env look) (library_stages set env way.is_plain look output ++ ending_stages set env way look output)
+later_stages set env way look output = asked_then (archive_refusal set env look) (library_stages set env way.is_plain look output ++ ending_stages set env way look output)
 
 -- The stages where commands may run. The questions of each part come right before it, and behind what the answers refuse comes nothing.
 abbrev pub asked_stages : BuildConfig → EnvSeen → Way → Look → List ℕ → List Stage

@@ -10,6 +10,11 @@ ghost use Rattle.cc_build.specs.Compiler.{IsTool, ToolEnds};
 ghost use Rattle.cc_build.specs.Course.{ByPart, ByRun};
 ghost use Rattle.cc_build.specs.Error.{no_memory};
 ghost use Rattle.cc_build.specs.Flags.{always, flags_error};
+ghost use Rattle.cc_build.specs.Questions.{AsksOnly};
+ghost use Rattle.cc_build.specs.Tools.{AsksForArchiver, AsksForRanlib, IsArchiver, IsRanlib, LacksArchiver, LacksRanlib};
+ghost use Rattle.cc_build.specs.Intermediates.{AreCompiled, IntermediateEnds};
+ghost use Rattle.cc_plan.specs.Archive.{paths_of};
+ghost use Rattle.cc_plan.specs.Plan.{objects_of};
 ghost use Rattle.cc_build.specs.Promises.{IsBuilt, Promises, NothingRuns, FaultsEnd};
 
 use crate::Error;
@@ -18,8 +23,9 @@ use crate::environment::flags_of_variable;
 use crate::goal::Goal;
 use crate::lists::always;
 use crate::run::list_vars;
+use crate::tools::{archiver, ranlib};
 use cc_env::{BuildEnv, EnvSnapshot};
-use cc_host::{Host, World};
+use cc_host::{Command, Host, World};
 use cc_jobs::Jobs;
 use cc_plan::BuildConfig;
 use cc_text::{Vars, Words};
@@ -175,6 +181,80 @@ impl<W: World> Build<W> {
             (ToolEnds self.now.config self.now.env result) }
     {
         compiler(rt, self.alloc, host, &self.caches, &self.config, &self.env)
+    }
+
+    /// The command of the archiver of this build, with the words that it is given before those of a form: the set one, else that of
+    /// `AR`, else the one that the target wants. To find it the host may be asked; nothing else is done, and nothing printed.
+    ///
+    /// Refused where the target or the host is set nowhere (EnvVarNotFound), or no archiver is known for the target; and for memory. The
+    /// build is as before; what was asked until then is kept, and no file stays.
+    pub fn try_get_archiver<H: Host<W>>(
+        &self,
+        rt: &impl Wait,
+        host: &mut H,
+    ) -> Result<Command, Error>
+        ensures extends { H.log host.new ≡ H.log host.old ++ part H.log host.old host.new }
+        ensures asked { AsksForArchiver W.steady W.answer self.now
+            (part H.log host.old host.new) }
+        ensures quiet { AsksOnly (part H.log host.old host.new) }
+        ensures archiver { IfOk result (λ cmd. ByAnswers H.log host.old host.new
+            (IsArchiver self.now.config self.now.env cmd)) }
+        ensures refused { IfErr result (λ e. ByAnswers H.log host.old host.new
+            (LacksArchiver self.now e)) }
+    {
+        archiver(rt, self.alloc, host, &self.caches, &self.config, &self.env)
+    }
+
+    /// The command of the tool that writes the index of an archive alone: the set one, else that of `RANLIB`, else the one that the
+    /// target wants. It is found and refused as the archiver is.
+    pub fn try_get_ranlib<H: Host<W>>(&self, rt: &impl Wait, host: &mut H) -> Result<Command, Error>
+        ensures extends { H.log host.new ≡ H.log host.old ++ part H.log host.old host.new }
+        ensures asked { AsksForRanlib W.steady W.answer self.now (part H.log host.old host.new) }
+        ensures quiet { AsksOnly (part H.log host.old host.new) }
+        ensures ranlib { IfOk result (λ cmd. ByAnswers H.log host.old host.new
+            (IsRanlib self.now.config self.now.env cmd)) }
+        ensures refused { IfErr result (λ e. ByAnswers H.log host.old host.new
+            (LacksRanlib self.now e)) }
+    {
+        ranlib(rt, self.alloc, host, &self.caches, &self.config, &self.env)
+    }
+
+    /// Compiles the sources alone, and answers the paths of their objects, in the order in which the sources were added. Nothing is
+    /// archived, and no link line printed; added objects don't count.
+    ///
+    /// Makes the out dir where there is a source, asks what the compile commands want to know, prints the warnings, and runs one compile
+    /// command per source, as `try_compile` does, which tells more of seat and turns. It is refused as that is, up to there. After a
+    /// refusal every command that was started has ended or is left alone. The build is as before, and may be run again.
+    pub fn try_compile_intermediates<H: Host<W>, J: Jobs>(
+        &self,
+        rt: &impl Wait,
+        host: &mut H,
+        jobs: &J,
+        seat: &mut J::Seat,
+        turns: u64,
+    ) -> Result<Words, Error>
+        requires fits { J.fits jobs.now seat.old }
+        requires empty { J.held seat.old ≡ 0 }
+        ensures fits { J.fits jobs.now seat.new }
+        ensures empty { J.held seat.new ≡ 0 }
+        ensures total { J.total seat.new ≡ J.total seat.old }
+        ensures patient { H.patience host.new ≡ H.patience host.old }
+        ensures extends { H.log host.new ≡ H.log host.old ++ part H.log host.old host.new }
+        ensures asked { AsksByRun W.steady W.answer self.now (part H.log host.old host.new) }
+        ensures objects { IfOk result (λ paths.
+            paths ≡ paths_of (objects_of self.now.config self.now.env)) }
+
+        // Ok: one planned command per source was started, and has ended with 0.
+        ensures compiled { ByRun H.log H.patience J.total J.faults J.taken J.load turns
+            host.old host.new seat.old seat.new (AreCompiled self.now result) }
+
+        // Each answer has its cause.
+        ensures outcome { ByRun H.log H.patience J.total J.faults J.taken J.load turns
+            host.old host.new seat.old seat.new (IntermediateEnds self.now result) }
+        ensures settled { NothingRuns (part H.log host.old host.new) }
+        ensures faults_last { FaultsEnd (part H.log host.old host.new) }
+    {
+        self.compile_alone(rt, host, jobs, seat, turns)
     }
 
     /// Compiles the sources and archives them, and then the added objects, into the library of `output`, a name such as `foo` or

@@ -2,7 +2,8 @@
 ghost use Rattle.std.specs.Prelude.{◌≡◌, ◌+◌, ◌<◌, ◌^◌, ◌++◌, IfOk};
 ghost use Rattle.cc_host.specs.Call.{part};
 ghost use Rattle.cc_plan.specs.Names.{library_name};
-ghost use Rattle.cc_plan.specs.Plan.{objects_of, library_of, folder_steps};
+ghost use Rattle.cc_plan.specs.Given.{probe_folder};
+ghost use Rattle.cc_plan.specs.Plan.{dir_of, objects_of, library_of, folder_steps};
 ghost use Rattle.cc_run.specs.Keeping.{IsIdle};
 ghost use Rattle.cc_build.specs.Build.{AsksByRun};
 ghost use Rattle.cc_build.specs.Course.{CallsEnd, ByRun};
@@ -13,29 +14,31 @@ ghost use Rattle.cc_build.specs.Promises.{RunEnds};
 use crate::goal::Goal;
 use crate::message::or_no_memory;
 use crate::phases::{archive_objects, compile_sources, print_links};
-use crate::refusal::{dir_of, disabled, plan_error};
+use crate::refusal::{disabled, plan_error};
 use crate::reporting::Reporting;
 use crate::run::make_folder;
 use crate::shows::shows_of;
-use crate::task::Task;
+use crate::task::{Shared, Task};
 use crate::{Build, Error};
 use cc_env::BuildEnv;
 use cc_host::{Host, World};
 use cc_jobs::Jobs;
-use cc_plan::{BuildConfig, Sources, is_disabled, plan_sources};
+use cc_plan::{BuildConfig, is_disabled, plan_sources};
 use cc_run::Turns;
-use cc_tool::{Answers, Caches};
+use cc_tool::Answers;
 use std::alloc::Global;
 use std::sync::Wait;
 
 // Makes the folder of the objects, where there is a source.
 #[tactic(auto, using(cc_host::proofs::Parts::since_append), unfolding(cc_plan::specs::Plan::folder_steps))]
-fn prepare_folder<W: World, H: Host<W>>(
+pub(crate) fn prepare_folder<W: World, H: Host<W>>(
     alloc: Global,
     host: &mut H,
     set: &BuildConfig,
     env: &BuildEnv,
+    dir: &str,
 ) -> Result<(), Error>
+    requires dir { dir.now ≡ dir_of set.now env.now }
     ensures aside { Aside H.log H.patience host.old host.new }
     ensures outcome { CallsEnd (folder_steps set.now env.now)
         (part H.log host.old host.new) result }
@@ -43,46 +46,48 @@ fn prepare_folder<W: World, H: Host<W>>(
     if set.files.is_empty() {
         return Ok(());
     }
-    make_folder(alloc, host, dir_of(set, env))
+    // (the contract alone speaks of the environment, in which the folder was looked up)
+    let _ = env;
+    make_folder(alloc, host, dir)
 }
 
 // Does the parts behind the folder, one after another. A question is asked once in all of them.
 #[tactic(auto, using(cc_host::proofs::Parts::since_append))]
 fn run_parts<W: World, H: Host<W>, J: Jobs>(
     rt: &impl Wait,
-    task: &Task<'_>,
+    shared: &Shared<'_, W, J>,
     host: &mut H,
-    jobs: &J,
     seat: &mut J::Seat,
     turns: &mut Turns,
-    caches: &Caches<W>,
     answers: &mut Answers,
-    sources: &Sources,
 ) -> Result<(), Error>
-    requires idle { IsIdle J.fits J.held jobs.now seat.old }
+    requires idle { IsIdle J.fits J.held shared.now.jobs.now seat.old }
     requires few { turns.old.left + turns.old.used < 2 ^ 64 }
-    requires name { sources.now.name ≡ library_name task.now.output.now }
-    requires library { sources.now.library
-        ≡ library_of task.now.set.now task.now.env.now task.now.output.now }
-    requires objects { sources.now.objects.items ≡ objects_of task.now.set.now task.now.env.now }
-    ensures idle { IsIdle J.fits J.held jobs.now seat.new }
+    requires dir { shared.now.sources.now.dir
+        ≡ probe_folder shared.now.task.set.now shared.now.task.env.now }
+    requires name { shared.now.sources.now.name ≡ library_name shared.now.task.output.now }
+    requires library { shared.now.sources.now.library ≡ library_of
+        shared.now.task.set.now shared.now.task.env.now shared.now.task.output.now }
+    requires objects { shared.now.sources.now.objects.items
+        ≡ objects_of shared.now.task.set.now shared.now.task.env.now }
+    ensures idle { IsIdle J.fits J.held shared.now.jobs.now seat.new }
     ensures total { J.total seat.new ≡ J.total seat.old }
     ensures sum { turns.new.left + turns.new.used ≡ turns.old.left + turns.old.used }
-    ensures asks { AsksFor W.steady W.answer task.now H.log H.patience
+    ensures asks { AsksFor W.steady W.answer shared.now.task H.log H.patience
         host.old host.new answers.old answers.new }
     ensures outcome { ByKnown answers.new
         H.log H.patience J.total J.faults J.taken J.load turns.old.left turns.new.left
-        host.old host.new seat.old seat.new (AskedEnds task.now result) }
+        host.old host.new seat.old seat.new (AskedEnds shared.now.task result) }
 {
-    match compile_sources(rt, task, host, jobs, seat, turns, caches, answers, sources) {
+    match compile_sources(rt, shared, host, seat, turns, answers) {
         Ok(()) => {}
         Err(error) => return Err(error),
     }
-    match archive_objects(rt, task, host, jobs, seat, turns, caches, answers, sources) {
+    match archive_objects(rt, shared, host, seat, turns, answers) {
         Ok(()) => {}
         Err(error) => return Err(error),
     }
-    print_links(rt, task, host, jobs, seat, turns, caches, answers, sources)
+    print_links(rt, shared, host, seat, turns, answers)
 }
 
 impl<W: World> Build<W> {
@@ -111,7 +116,7 @@ impl<W: World> Build<W> {
             Ok(sources) => sources,
             Err(error) => return Err(or_no_memory(plan_error(alloc, set, env, output, error))),
         };
-        prepare_folder(alloc, host, set, env)?;
+        prepare_folder(alloc, host, set, env, sources.dir.as_str())?;
         if is_disabled(env) {
             return Err(or_no_memory(disabled(alloc)));
         }
@@ -128,16 +133,12 @@ impl<W: World> Build<W> {
             env,
             output,
         };
-        run_parts(
-            rt,
-            &task,
-            host,
+        let shared = Shared {
+            task,
             jobs,
-            seat,
-            &mut turns,
-            &self.caches,
-            &mut answers,
-            &sources,
-        )
+            caches: &self.caches,
+            sources: &sources,
+        };
+        run_parts(rt, &shared, host, seat, &mut turns, &mut answers)
     }
 }

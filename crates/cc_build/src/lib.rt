@@ -5,13 +5,16 @@
 //! holds, and each error has its cause in the settings or in the log (`specs/Went.antt`).
 #![tactic(auto)]
 
+mod archiving;
 mod build;
 mod compiler;
 mod compiling;
 mod environment;
 mod error;
 mod goal;
+mod intermediates;
 mod library;
+mod linking;
 mod lists;
 mod marks;
 mod message;
@@ -25,6 +28,8 @@ mod stage;
 mod support;
 mod task;
 mod texts;
+mod tools;
 
 pub use build::Build;
 pub use error::{Error, ErrorKind};
+pub use linking::try_emit_link_directives;

@@ -31,6 +31,7 @@ fn call_name(call: HostCall) -> &'static str
         HostCall::Probe => "probe",
         HostCall::MakeDir(_) => "make dir",
         HostCall::CreateProbe => "create probe",
+        HostCall::Write => "write",
         HostCall::Remove => "remove",
         HostCall::Print => "print",
         HostCall::Vars => "vars",

@@ -1,35 +1,35 @@
 // The parts of a run behind the folder of the objects. Each asks what it wants to know, and then does its stages: the sources are compiled, the
 // library is written, and the link lines are printed.
-ghost use Rattle.std.specs.Prelude.{◌≡◌, ◌⊎◌, ◌+◌, ◌<◌, ◌^◌, [], unwrap_or, IfOk, IfErr};
-ghost use Rattle.std.specs.Path.{path_parent};
+ghost use Rattle.std.specs.Prelude.{◌≡◌, ◌⊎◌, ◌+◌, ◌<◌, ◌^◌, None, Some, IfOk, IfErr};
+ghost use Rattle.std.specs.Option.{option_map};
 ghost use Rattle.cc_host.specs.Call.{part};
 ghost use Rattle.cc_host.specs.Question.{Holds};
 ghost use Rattle.cc_plan.specs.Link.{printed_links};
-ghost use Rattle.cc_plan.specs.Names.{library_name};
-ghost use Rattle.cc_plan.specs.Plan.{objects_of, library_of, prints};
+ghost use Rattle.cc_plan.specs.Given.{probe_folder};
+ghost use Rattle.cc_plan.specs.Libtool.{list_refusal};
+ghost use Rattle.cc_plan.specs.Plan.{objects_of, library_of, archived_of};
 ghost use Rattle.cc_plan.specs.Refusal.{late_refusal, archiver_refusal, link_refusal};
 ghost use Rattle.cc_run.specs.Keeping.{IsIdle};
 ghost use Rattle.cc_build.specs.Error.{no_memory};
 ghost use Rattle.cc_build.specs.Kept.{AsksFor};
-ghost use Rattle.cc_build.specs.Phases.{ByKnown, CompileEnds, LibraryEnds, LinkEnds};
+ghost use Rattle.cc_build.specs.Phases.{ByKnown, CompileEnds, LibraryEnds, LinkedEnds};
 ghost use Rattle.cc_build.specs.Questions.{Plans, Archives, Links, IsRefusedBy, AsksOnly};
 ghost use Rattle.cc_build.specs.Refusal.{plan_error as error_of_plan};
 ghost use Rattle.cc_build.specs.Seen.{stages_seen};
-ghost use Rattle.cc_build.specs.Stage.{calls};
+ghost use Rattle.cc_build.specs.Stage.{folder_in, printed_stages};
 ghost use Rattle.cc_build.specs.Way.{Repeats};
-ghost use Rattle.cc_host.specs.declared.event.LineKind.TheVariants.{Link};
 
 use crate::Error;
 use crate::library::{Library, write_library};
 use crate::message::or_no_memory;
 use crate::refusal::plan_error;
 use crate::stage::{Stage, do_stages, push_lines, stages_of};
-use crate::task::Task;
+use crate::task::{Shared, Task};
 use cc_host::{Host, LineKind, World};
 use cc_jobs::Jobs;
 use cc_plan::{
     Archiver, BuildConfig, LinkLine, Plan, PlanError, Sight, Sources, archived_paths, archiver_of,
-    link_lines, plan_commands, probe_folder,
+    check_list, link_lines, plan_commands,
 };
 use cc_run::Turns;
 use cc_text::{Mem, Words, after_prefix, parent};
@@ -55,6 +55,7 @@ fn plan_compiles<W: World, H: Host<W>>(
     answers: &mut Answers,
     sources: &Sources,
 ) -> Result<Plan, Error>
+    requires dir { sources.now.dir ≡ probe_folder task.now.set.now task.now.env.now }
     requires objects { sources.now.objects.items ≡ objects_of task.now.set.now task.now.env.now }
     ensures quiet { AsksOnly (part H.log host.old host.new) }
     ensures asks { AsksFor W.steady W.answer task.now H.log H.patience
@@ -67,7 +68,7 @@ fn plan_compiles<W: World, H: Host<W>>(
         host,
         caches,
         answers,
-        dir: probe_folder(task.set, task.env),
+        dir: sources.dir.as_str(),
     };
     match plan_commands(rt, task.set, task.env, sources, &mut sight) {
         Ok(plan) => Ok(plan),
@@ -83,7 +84,9 @@ fn plan_archiver<W: World, H: Host<W>>(
     host: &mut H,
     caches: &Caches<W>,
     answers: &mut Answers,
+    sources: &Sources,
 ) -> Result<Archiver, Error>
+    requires dir { sources.now.dir ≡ probe_folder task.now.set.now task.now.env.now }
     ensures quiet { AsksOnly (part H.log host.old host.new) }
     ensures asks { AsksFor W.steady W.answer task.now H.log H.patience
         host.old host.new answers.old answers.new }
@@ -95,7 +98,7 @@ fn plan_archiver<W: World, H: Host<W>>(
         host,
         caches,
         answers,
-        dir: probe_folder(task.set, task.env),
+        dir: sources.dir.as_str(),
     };
     match archiver_of(rt, task.reporting.alloc, task.set, task.env, &mut sight) {
         Ok(archiver) => Ok(archiver),
@@ -103,9 +106,26 @@ fn plan_archiver<W: World, H: Host<W>>(
     }
 }
 
+// The paths that the library gets, which the archiver can read.
+fn read_paths(task: &Task<'_>, archiver: &Archiver, sources: &Sources) -> Result<Words, Error>
+    requires objects { sources.now.objects.items ≡ objects_of task.now.set.now task.now.env.now }
+    ensures paths { IfOk result (λ paths. paths ≡ archived_of task.now.set.now task.now.env.now) }
+    ensures allowed { IfOk result (λ _. list_refusal archiver.now
+        (archived_of task.now.set.now task.now.env.now) ≡ None) }
+    ensures refused { IfErr result (λ e. (e ≡ no_memory) ⊎ (option_map
+        (error_of_plan task.now.set.now task.now.env.now task.now.output.now)
+        (list_refusal archiver.now (archived_of task.now.set.now task.now.env.now)) ≡ Some e)) }
+{
+    let paths = archived_paths(task.reporting.alloc, task.set, &sources.objects)?;
+    match check_list(archiver, &paths) {
+        Ok(()) => Ok(paths),
+        Err(error) => Err(refused(task, error)),
+    }
+}
+
 // The folder that has the library.
 fn folder_of(library: &str) -> &str
-    ensures { result.now ≡ unwrap_or (path_parent library.now) [] }
+    ensures { result.now ≡ folder_in library.now }
 {
     match parent(library) {
         Some(folder) => folder,
@@ -123,13 +143,12 @@ fn plan_links<W: World, H: Host<W>>(
     answers: &mut Answers,
     sources: &Sources,
 ) -> Result<Vec<LinkLine>, Error>
-    requires name { sources.now.name ≡ library_name task.now.output.now }
-    requires library { sources.now.library
-        ≡ library_of task.now.set.now task.now.env.now task.now.output.now }
+    requires dir { sources.now.dir ≡ probe_folder task.now.set.now task.now.env.now }
     ensures quiet { AsksOnly (part H.log host.old host.new) }
     ensures asks { AsksFor W.steady W.answer task.now H.log H.patience
         host.old host.new answers.old answers.new }
-    ensures planned { IfOk result (λ lines. Holds answers.new (Links task.now lines.items)) }
+    ensures planned { IfOk result (λ lines. Holds answers.new
+        (Links task.now sources.now.name sources.now.library lines.items)) }
     ensures refused { IfErr result (λ e. Holds answers.new
         (IsRefusedBy (link_refusal task.now.set.now task.now.env.now) task.now e)) }
 {
@@ -137,7 +156,7 @@ fn plan_links<W: World, H: Host<W>>(
         host,
         caches,
         answers,
-        dir: probe_folder(task.set, task.env),
+        dir: sources.dir.as_str(),
     };
     let (name, dir) = (sources.name.as_str(), folder_of(sources.library.as_str()));
     match link_lines(
@@ -158,74 +177,96 @@ fn plan_links<W: World, H: Host<W>>(
 #[tactic(auto, using(cc_host::proofs::Parts::since_append))]
 pub(crate) fn compile_sources<W: World, H: Host<W>, J: Jobs>(
     rt: &impl Wait,
-    task: &Task<'_>,
+    shared: &Shared<'_, W, J>,
     host: &mut H,
-    jobs: &J,
     seat: &mut J::Seat,
     turns: &mut Turns,
-    caches: &Caches<W>,
     answers: &mut Answers,
-    sources: &Sources,
 ) -> Result<(), Error>
-    requires idle { IsIdle J.fits J.held jobs.now seat.old }
+    requires idle { IsIdle J.fits J.held shared.now.jobs.now seat.old }
     requires few { turns.old.left + turns.old.used < 2 ^ 64 }
-    requires objects { sources.now.objects.items ≡ objects_of task.now.set.now task.now.env.now }
-    ensures idle { IsIdle J.fits J.held jobs.now seat.new }
+    requires dir { shared.now.sources.now.dir
+        ≡ probe_folder shared.now.task.set.now shared.now.task.env.now }
+    requires objects { shared.now.sources.now.objects.items
+        ≡ objects_of shared.now.task.set.now shared.now.task.env.now }
+    ensures idle { IsIdle J.fits J.held shared.now.jobs.now seat.new }
     ensures total { J.total seat.new ≡ J.total seat.old }
     ensures sum { turns.new.left + turns.new.used ≡ turns.old.left + turns.old.used }
-    ensures asks { AsksFor W.steady W.answer task.now H.log H.patience
+    ensures asks { AsksFor W.steady W.answer shared.now.task H.log H.patience
         host.old host.new answers.old answers.new }
     ensures outcome { ByKnown answers.new
         H.log H.patience J.total J.faults J.taken J.load turns.old.left turns.new.left
-        host.old host.new seat.old seat.new (CompileEnds task.now result) }
+        host.old host.new seat.old seat.new (CompileEnds shared.now.task result) }
 {
-    let plan = match plan_compiles(rt, task, host, caches, answers, sources) {
+    let plan = match plan_compiles(
+        rt,
+        &shared.task,
+        host,
+        shared.caches,
+        answers,
+        shared.sources,
+    ) {
         Ok(plan) => plan,
         Err(error) => return Err(error),
     };
-    let stages = stages_of(task.reporting.alloc, plan)?;
-    do_stages(task.reporting, host, jobs, seat, turns, &stages)
+    let stages = stages_of(shared.task.reporting.alloc, plan)?;
+    do_stages(
+        shared.task.reporting,
+        host,
+        shared.jobs,
+        seat,
+        turns,
+        &stages,
+    )
 }
 
 /// Asks for the archiver, removes the old library, and writes the new one.
 #[tactic(auto, using(cc_host::proofs::Parts::since_append))]
 pub(crate) fn archive_objects<W: World, H: Host<W>, J: Jobs>(
     rt: &impl Wait,
-    task: &Task<'_>,
+    shared: &Shared<'_, W, J>,
     host: &mut H,
-    jobs: &J,
     seat: &mut J::Seat,
     turns: &mut Turns,
-    caches: &Caches<W>,
     answers: &mut Answers,
-    sources: &Sources,
 ) -> Result<(), Error>
-    requires idle { IsIdle J.fits J.held jobs.now seat.old }
+    requires idle { IsIdle J.fits J.held shared.now.jobs.now seat.old }
     requires few { turns.old.left + turns.old.used < 2 ^ 64 }
-    requires library { sources.now.library
-        ≡ library_of task.now.set.now task.now.env.now task.now.output.now }
-    requires objects { sources.now.objects.items ≡ objects_of task.now.set.now task.now.env.now }
-    ensures idle { IsIdle J.fits J.held jobs.now seat.new }
+    requires dir { shared.now.sources.now.dir
+        ≡ probe_folder shared.now.task.set.now shared.now.task.env.now }
+    requires library { shared.now.sources.now.library ≡ library_of
+        shared.now.task.set.now shared.now.task.env.now shared.now.task.output.now }
+    requires objects { shared.now.sources.now.objects.items
+        ≡ objects_of shared.now.task.set.now shared.now.task.env.now }
+    ensures idle { IsIdle J.fits J.held shared.now.jobs.now seat.new }
     ensures total { J.total seat.new ≡ J.total seat.old }
     ensures sum { turns.new.left + turns.new.used ≡ turns.old.left + turns.old.used }
-    ensures asks { AsksFor W.steady W.answer task.now H.log H.patience
+    ensures asks { AsksFor W.steady W.answer shared.now.task H.log H.patience
         host.old host.new answers.old answers.new }
     ensures outcome { ByKnown answers.new
         H.log H.patience J.total J.faults J.taken J.load turns.old.left turns.new.left
-        host.old host.new seat.old seat.new (LibraryEnds task.now result) }
+        host.old host.new seat.old seat.new (LibraryEnds shared.now.task result) }
 {
-    let archiver = match plan_archiver(rt, task, host, caches, answers) {
+    let archiver = match plan_archiver(
+        rt,
+        &shared.task,
+        host,
+        shared.caches,
+        answers,
+        shared.sources,
+    ) {
         Ok(archiver) => archiver,
         Err(error) => return Err(error),
     };
-    let paths = archived_paths(task.reporting.alloc, task.set, &sources.objects)?;
+    let (task, sources) = (&shared.task, shared.sources);
+    let paths = read_paths(task, &archiver, sources)?;
     let library = Library {
         archiver: &archiver,
         env: task.env,
         path: sources.library.as_str(),
         paths: &paths,
     };
-    write_library(task.reporting, host, jobs, seat, turns, &library)
+    write_library(task.reporting, host, shared.jobs, seat, turns, &library)
 }
 
 // The value of a library, behind the key of its line.
@@ -275,7 +316,7 @@ fn printed_texts(alloc: Global, lines: &[LinkLine], is_first: bool) -> Mem<Words
 // The lines that are printed, as stages.
 fn link_stages(alloc: Global, lines: &[LinkLine], is_first: bool) -> Mem<Vec<Stage>>
     ensures { IfOk result (λ stages. stages_seen stages.items
-        ≡ calls (prints Link (printed_links is_first lines.now))) }
+        ≡ printed_stages is_first lines.now) }
 {
     let texts = printed_texts(alloc, lines, is_first)?;
     let mut stages = Vec::new(alloc);
@@ -287,34 +328,45 @@ fn link_stages(alloc: Global, lines: &[LinkLine], is_first: bool) -> Mem<Vec<Sta
 #[tactic(auto, using(cc_host::proofs::Parts::since_append))]
 pub(crate) fn print_links<W: World, H: Host<W>, J: Jobs>(
     rt: &impl Wait,
-    task: &Task<'_>,
+    shared: &Shared<'_, W, J>,
     host: &mut H,
-    jobs: &J,
     seat: &mut J::Seat,
     turns: &mut Turns,
-    caches: &Caches<W>,
     answers: &mut Answers,
-    sources: &Sources,
 ) -> Result<(), Error>
-    requires idle { IsIdle J.fits J.held jobs.now seat.old }
+    requires idle { IsIdle J.fits J.held shared.now.jobs.now seat.old }
     requires few { turns.old.left + turns.old.used < 2 ^ 64 }
-    requires name { sources.now.name ≡ library_name task.now.output.now }
-    requires library { sources.now.library
-        ≡ library_of task.now.set.now task.now.env.now task.now.output.now }
-    ensures idle { IsIdle J.fits J.held jobs.now seat.new }
+    requires dir { shared.now.sources.now.dir
+        ≡ probe_folder shared.now.task.set.now shared.now.task.env.now }
+    ensures idle { IsIdle J.fits J.held shared.now.jobs.now seat.new }
     ensures total { J.total seat.new ≡ J.total seat.old }
     ensures sum { turns.new.left + turns.new.used ≡ turns.old.left + turns.old.used }
-    ensures asks { AsksFor W.steady W.answer task.now H.log H.patience
+    ensures asks { AsksFor W.steady W.answer shared.now.task H.log H.patience
         host.old host.new answers.old answers.new }
     ensures outcome { ByKnown answers.new
         H.log H.patience J.total J.faults J.taken J.load turns.old.left turns.new.left
-        host.old host.new seat.old seat.new (LinkEnds task.now result) }
+        host.old host.new seat.old seat.new (LinkedEnds shared.now.task
+        shared.now.sources.now.name shared.now.sources.now.library result) }
 {
-    let lines = match plan_links(rt, task, host, caches, answers, sources) {
+    let lines = match plan_links(
+        rt,
+        &shared.task,
+        host,
+        shared.caches,
+        answers,
+        shared.sources,
+    ) {
         Ok(lines) => lines,
         Err(error) => return Err(error),
     };
-    let is_first = is_first_link(rt, caches, task.set, &lines)?;
-    let stages = link_stages(task.reporting.alloc, &lines, is_first)?;
-    do_stages(task.reporting, host, jobs, seat, turns, &stages)
+    let is_first = is_first_link(rt, shared.caches, shared.task.set, &lines)?;
+    let stages = link_stages(shared.task.reporting.alloc, &lines, is_first)?;
+    do_stages(
+        shared.task.reporting,
+        host,
+        shared.jobs,
+        seat,
+        turns,
+        &stages,
+    )
 }

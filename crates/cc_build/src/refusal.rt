@@ -2,14 +2,14 @@
 ghost use Rattle.std.specs.Prelude.{◌≡◌, IfOk};
 ghost use Rattle.cc_plan.specs.Plan.{dir_of};
 ghost use Rattle.cc_plan.specs.Refusal.{object_in};
-ghost use Rattle.cc_build.specs.Refusal.{source_at, added_at, invalid as invalid_error, same_object_error, library_error, unset_error, unknown_error, qnx_error, flag_error, disabled_error, argument_error, plan_error};
+ghost use Rattle.cc_build.specs.Refusal.{source_at, added_at, archived_at, invalid as invalid_error, same_object_error, library_error, unlisted_error, no_library_error, unset_error, unknown_error, qnx_error, flag_error, disabled_error, argument_error, plan_error};
 
 use crate::message::host_error;
 use crate::{Error, ErrorKind};
 use cc_env::BuildEnv;
 use cc_host::HostError;
 use cc_plan::{ArgumentCause, BuildConfig, PlanError, object_path, out_dir_of};
-use cc_text::{Mem, Text};
+use cc_text::{Mem, Text, quoted};
 use std::alloc::Global;
 
 fn source_at(set: &BuildConfig, place: u64) -> &str
@@ -74,6 +74,38 @@ fn library_is_object(alloc: Global, object: &str) -> Mem<Error>
     invalid(alloc, object, message.as_str())
 }
 
+// The path of the archived object at this place: those of sources come first.
+fn archived_at(alloc: Global, set: &BuildConfig, env: &BuildEnv, place: u64) -> Mem<Text>
+    ensures { IfOk result (λ path. path ≡ archived_at set.now env.now place) }
+{
+    let count = set.files.len() as u64;
+    if place < count {
+        object_in(alloc, set, env, source_at(set, place))
+    } else {
+        Text::of(alloc, added_at(set, place - count))
+    }
+}
+
+fn unlisted(alloc: Global, set: &BuildConfig, env: &BuildEnv, place: u64) -> Mem<Error>
+    ensures { IfOk result (λ e. e ≡ unlisted_error (archived_at set.now env.now place)) }
+{
+    let path = archived_at(alloc, set, env, place)?;
+    let mut message = Text::of(alloc, "libtool can't read the object path ")?;
+    message.push_str(quoted(alloc, path.as_str())?.as_str())?;
+    Ok(Error::new(ErrorKind::InvalidArgument, path, message))
+}
+
+fn no_library(alloc: Global, path: &str) -> Mem<Error>
+    ensures { IfOk result (λ e. e ≡ no_library_error path.now) }
+{
+    let mut message = Text::of(
+        alloc,
+        "expected the path of a library lib<name>.a with its folder, got ",
+    )?;
+    message.push_str(path)?;
+    invalid(alloc, path, message.as_str())
+}
+
 fn argument_error(
     alloc: Global,
     set: &BuildConfig,
@@ -99,6 +131,8 @@ fn argument_error(
             same_object(alloc, set, env, source_at(set, second))
         },
         ArgumentCause::LibraryIsObject(place) => library_is_object(alloc, added_at(set, place)),
+        ArgumentCause::LineFeed(place) => unlisted(alloc, set, env, place),
+        ArgumentCause::Library => no_library(alloc, output),
     }
 }
 

@@ -2,7 +2,7 @@
 ghost use Rattle.std.specs.Prelude.{◌≡◌, ◌+◌, ◌<◌, ◌≤◌, ◌^◌, [], ◌∷◌, length, IfOk};
 ghost use Rattle.std.specs.List.{All};
 ghost use Rattle.cc_host.specs.Call.{part};
-ghost use Rattle.cc_host.specs.Part.Step.{Makes, Removes, Prints, Lists};
+ghost use Rattle.cc_host.specs.Part.Step.{Makes, Removes, Writes, Prints, Lists};
 ghost use Rattle.cc_host.specs.declared.event.Event.TheVariants.{Listed};
 ghost use Rattle.cc_host.specs.declared.event.Role.TheVariants.{Compile};
 ghost use Rattle.cc_host.specs.declared.event.Scope.TheVariants.{Build};
@@ -148,6 +148,24 @@ pub(crate) fn remove_library<W: World, H: Host<W>>(
 {
     match host.remove_file(path) {
         Ok(_) => Ok(()),
+        Err(error) => Err(or_no_memory(host_error(alloc, error, path))),
+    }
+}
+
+/// Writes the list of objects that an archiver reads.
+#[tactic(auto, using(cc_host::proofs::Parts::since_append))]
+pub(crate) fn write_list<W: World, H: Host<W>>(
+    alloc: Global,
+    host: &mut H,
+    path: &str,
+    bytes: &[u8],
+) -> Result<(), Error>
+    ensures aside { Aside H.log H.patience host.old host.new }
+    ensures outcome { CallsEnd (Writes path.now bytes.now ∷ [])
+        (part H.log host.old host.new) result }
+{
+    match host.write_file(path, bytes) {
+        Ok(()) => Ok(()),
         Err(error) => Err(or_no_memory(host_error(alloc, error, path))),
     }
 }

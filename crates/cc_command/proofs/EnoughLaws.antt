@@ -4,6 +4,7 @@ use Rattle.std.specs.Prelude.{◌≤◌}
 use Rattle.std.specs.Option.{option_map}
 use Rattle.std.proofs.lemmas.List.{length-append, length-map}
 use Rattle.cc_env.specs.Env.{EnvSeen}
+use Rattle.cc_host.specs.Command.{CommandSeen}
 use Rattle.cc_host.specs.Part.{Step}
 use Rattle.cc_host.specs.Question.{Look}
 use Rattle.cc_host.specs.declared.event.LineKind.TheVariants.{Warning}
@@ -12,22 +13,23 @@ use Rattle.cc_plan.specs.Archive as archive
 use Rattle.cc_plan.specs.Archive.{paths_of, archiver_of}
 use Rattle.cc_plan.specs.Batches.{batches_of}
 use Rattle.cc_plan.specs.Given.{is_disabled}
-use Rattle.cc_plan.specs.Plan.{objects_of, library_of, compiles_of, archived_of, archives_of, indexes_of, warning_lines, prints, folder_steps, removal_steps, link_steps}
-use Rattle.cc_plan.specs.Refusal.{first_of, early_refusal, late_refusal, archiver_refusal, link_refusal}
-use Rattle.cc_plan.specs.declared.error.ArgumentCause.TheVariants.{Output, OutDir, NoFileName, SameObject, LibraryIsObject}
+use Rattle.cc_plan.specs.Libtool.{is_libtool}
+use Rattle.cc_plan.specs.Plan.{objects_of, library_of, compiles_of, archived_of, archive_refusal, archives_of, indexes_of, lists_of_run, warning_lines, prints, folder_steps, removal_steps, link_steps}
+use Rattle.cc_plan.specs.Refusal.{first_of, early_refusal, late_refusal, link_refusal}
+use Rattle.cc_plan.specs.declared.error.ArgumentCause.TheVariants.{Output, OutDir, NoFileName, SameObject, LibraryIsObject, LineFeed, Library}
 use Rattle.cc_plan.specs.declared.error.PlanError.{PlanError}
 use Rattle.cc_plan.specs.declared.error.PlanError.TheVariants.{Argument, NotSet, UnknownTarget, QnxArch, Flag, Host, NoMemory as WantsMemory}
 use Rattle.cc_plan.specs.declared.archive.Archiver.{Archiver}
 use Rattle.cc_plan.specs.declared.settings.BuildConfig.{BuildConfig}
 use Rattle.cc_plan.proofs.BatchLaws.{few}
 use Rattle.cc_build.specs.Error.{ErrorSeen}
-use Rattle.cc_build.specs.Refusal.{plan_error, disabled_error, early_error, late_error, archiver_error, link_error, refusal_error}
-use Rattle.cc_build.specs.Stage.{Stage, commands_in, calls, planned, beside, tried, folder_stages, compile_stages, removal_stages, library_commands, archive_stages, link_stages, library_stages, ending_stages, later_stages, late_stages, planned_stages}
+use Rattle.cc_build.specs.Refusal.{plan_error, disabled_error, early_error, late_error, archive_error, link_error, refusal_error}
+use Rattle.cc_build.specs.Stage.{Stage, commands_in, calls, planned, beside, written, writings, has_libtool, folder_stages, compile_stages, removal_stages, library_commands, list_stages, archive_stages, link_stages, library_stages, ending_stages, later_stages, late_stages, planned_stages}
 use Rattle.cc_build.specs.Way.{Way}
 use Rattle.cc_build.specs.Stage.Stage.{Asks}
 use Rattle.cc_build.specs.Stop.{fault_error}
 use Rattle.cc_build.specs.declared.error.ErrorKind.TheVariants.{TurnsSpent}
-use Rattle.cc_build.proofs.RunLaws.{commands_then, commands_calls, commands_beside, commands_tried}
+use Rattle.cc_build.proofs.RunLaws.{commands_then, commands_calls, commands_beside, commands_written}
 
 -- how many commands stages have
 abbrev pub count : List Stage → ℕ
@@ -59,21 +61,28 @@ object_count set env =
     omega arith
 
 -- no more commands of the archive than batches, and two
-commands_few : (archiver : Archiver) (env : EnvSeen) (library : List ℕ) (is_plain : Bool) (batches : List (List (List ℕ))) (paths : List (List ℕ)) → length batches ≤ length paths → length (archive.archives_by archiver env library is_plain batches) + length (archive.indexes_of archiver env library is_plain paths) ≤ length batches + 2
+commands_few : (archiver : Archiver) (env : EnvSeen) (library : List ℕ) (is_plain : Bool) (batches : List (List (List ℕ))) (paths : List (List ℕ)) → length batches ≤ length paths → length (archive.archives_by archiver env library is_plain batches) + length (archive.indexes_by archiver env library is_plain paths) ≤ length batches + 2
 commands_few archiver env library false batches paths h = let a : length (map (archive.archive_of archiver env library false) batches) ≡ length batches = length-map batches _ in omega arith
 commands_few archiver env library true [] [] h = omega arith
 commands_few archiver env library true [] (path ∷ paths) h = omega arith
 commands_few archiver env library true (batch ∷ batches) [] h = absurd (omega (arith, h))
 commands_few archiver env library true (batch ∷ batches) (path ∷ paths) h = let a : length (map (archive.archive_of archiver env library true) batches) ≡ length batches = length-map batches _ in omega arith
 
+-- the one of libtool is no more than those
+by_archiver : (libtool : Bool) (one many indexes : List CommandSeen) (most : ℕ) → length one ≤ most → length many + length indexes ≤ most → length (if libtool then one else many) + length (if libtool then [] else indexes) ≤ most
+by_archiver true one many indexes most a b = omega (arith, a)
+by_archiver false one many indexes most a b = b
+
 object_commands : (set : BuildConfig) (env : EnvSeen) (look : Look) (is_plain : Bool) (output : List ℕ) → length (archives_of set env look is_plain output) + length (indexes_of set env look is_plain output) ≤ length set.files + length set.objects + 2
 unfolding archives_of indexes_of
 object_commands set env look is_plain output =
-    let a : length (archive.archives_by (archiver_of set env look) env (library_of set env output) is_plain (batches_of (archived_of set env))) + length (archive.indexes_of (archiver_of set env look) env (library_of set env output) is_plain (archived_of set env)) ≤ length (batches_of (archived_of set env)) + 2 =
+    let a : length (archive.archives_by (archiver_of set env look) env (library_of set env output) is_plain (batches_of (archived_of set env))) + length (archive.indexes_by (archiver_of set env look) env (library_of set env output) is_plain (archived_of set env)) ≤ length (batches_of (archived_of set env)) + 2 =
     commands_few (archiver_of set env look) env (library_of set env output) is_plain (batches_of (archived_of set env)) (archived_of set env) (few (archived_of set env)) in
     let b : length (batches_of (archived_of set env)) ≤ length (archived_of set env) = few (archived_of set env) in
     let d : length (archived_of set env) ≡ length set.files + length set.objects = object_count set env in
-    omega arith
+    by_archiver (is_libtool (archiver_of set env look)) (archive.libtool_of (archiver_of set env look) (library_of set env output) ∷ []) (archive.archives_by (archiver_of set env look) env (library_of set env output) is_plain (batches_of (archived_of set env)))
+    (archive.indexes_by (archiver_of set env look) env (library_of set env output) is_plain (archived_of set env)) (length set.files + length set.objects + 2)
+    (omega arith) (omega arith)
 
 -- the archive commands, and those of the index
 archive_count : (set : BuildConfig) (env : EnvSeen) (look : Look) (is_plain : Bool) (output : List ℕ) → count (archive_stages set env look is_plain output) ≤ length set.files + length set.objects + 2
@@ -81,7 +90,7 @@ unfolding archive_stages
 archive_count set env look is_plain output =
     let archives = archives_of set env look is_plain output in
     let indexes = indexes_of set env look is_plain output in
-    let a : count (tried is_plain (library_commands set env look is_plain output)) ≡ length (planned Archive archives ++ planned Index indexes) = ap length (commands_tried is_plain (library_commands set env look is_plain output)) in
+    let a : count (written (has_libtool set env look) is_plain (library_commands set env look is_plain output)) ≡ length (planned Archive archives ++ planned Index indexes) = ap length (commands_written (has_libtool set env look) is_plain (library_commands set env look is_plain output)) in
     let b : length (planned Archive archives ++ planned Index indexes) ≡ length (planned Archive archives) + length (planned Index indexes) = length-append (planned Archive archives) (planned Index indexes) in
     let d : length (planned Archive archives) ≡ length archives = length-map archives _ in
     let e : length (planned Index indexes) ≡ length indexes = length-map indexes _ in
@@ -96,6 +105,10 @@ removal_count : (set : BuildConfig) (env : EnvSeen) (output : List ℕ) → coun
 unfolding removal_stages
 removal_count set env output = calls_none (removal_steps set env output)
 
+list_count : (set : BuildConfig) (env : EnvSeen) (look : Look) (output : List ℕ) → count (list_stages set env look output) ≡ 0
+unfolding list_stages
+list_count set env look output = calls_none (writings (lists_of_run set env look output))
+
 link_count : (set : BuildConfig) (env : EnvSeen) (look : Look) (is_first : Bool) (output : List ℕ) → count (link_stages set env look is_first output) ≡ 0
 unfolding link_stages
 link_count set env look is_first output = calls_none (link_steps set env look is_first output)
@@ -108,18 +121,19 @@ unless_none : (b : Bool) (stages : List Stage) → count stages ≡ 0 → count 
 unless_none true stages h = refl
 unless_none false stages h = h
 
-three : (b d e : List Stage) (n m : ℕ) → count b ≡ 0 → count d ≤ n + m + 2 → count e ≡ 0 → count ((b ++ d) ++ e) ≤ n + m + 2
-three b d e n m q r s =
-    let x : count ((b ++ d) ++ e) ≡ count (b ++ d) + count e = both (b ++ d) e in
-    let y : count (b ++ d) ≡ count b + count d = both b d in
+four : (b l d e : List Stage) (n m : ℕ) → count b ≡ 0 → count l ≡ 0 → count d ≤ n + m + 2 → count e ≡ 0 → count ((b ++ (l ++ d)) ++ e) ≤ n + m + 2
+four b l d e n m q k r s =
+    let x : count ((b ++ (l ++ d)) ++ e) ≡ count (b ++ (l ++ d)) + count e = both (b ++ (l ++ d)) e in
+    let y : count (b ++ (l ++ d)) ≡ count b + count (l ++ d) = both b (l ++ d) in
+    let z : count (l ++ d) ≡ count l + count d = both l d in
     omega arith
 
 later_count : (set : BuildConfig) (env : EnvSeen) (way : Way) (look : Look) (output : List ℕ) → count (later_stages set env way look output) ≤ length set.files + length set.objects + 2
 unfolding later_stages
 later_count set env way look output =
-    unless_few (is_some (archiver_refusal set env look)) (library_stages set env way.is_plain look output ++ ending_stages set env way look output) (length set.files + length set.objects + 2)
-    (three (removal_stages set env output) (archive_stages set env look way.is_plain output) (ending_stages set env way look output) (length set.files) (length set.objects)
-    (removal_count set env output) (archive_count set env look way.is_plain output)
+    unless_few (is_some (archive_refusal set env look)) (library_stages set env way.is_plain look output ++ ending_stages set env way look output) (length set.files + length set.objects + 2)
+    (four (removal_stages set env output) (list_stages set env look output) (archive_stages set env look way.is_plain output) (ending_stages set env way look output) (length set.files) (length set.objects)
+    (removal_count set env output) (list_count set env look output) (archive_count set env look way.is_plain output)
     (unless_none (is_some (link_refusal set env look)) (link_stages set env look way.is_first output) (link_count set env look way.is_first output)))
 
 two : (a b : List Stage) (n m : ℕ) → count a ≡ n → count b ≤ n + m + 2 → count (a ++ b) ≤ 2 * n + m + 2
@@ -154,6 +168,8 @@ plan_kind set env output (Argument OutDir) spent = cc
 plan_kind set env output (Argument (NoFileName place)) spent = cc
 plan_kind set env output (Argument (SameObject first second)) spent = cc
 plan_kind set env output (Argument (LibraryIsObject place)) spent = cc
+plan_kind set env output (Argument (LineFeed place)) spent = cc
+plan_kind set env output (Argument Library) spent = cc
 plan_kind set env output (NotSet name) spent = cc
 plan_kind set env output (UnknownTarget target) spent = cc
 plan_kind set env output (QnxArch arch) spent = cc
@@ -182,6 +198,6 @@ pub never_spent : (set : BuildConfig) (env : EnvSeen) (look : Look) (output : Li
 never_spent set env look output =
     first_never (early_error set env output) _ (mapped set env output (early_refusal set env output)) (
     first_never (late_error set env look output) _ (disabled_or (is_disabled env) _ (mapped set env output (late_refusal set env look))) (
-    first_never (archiver_error set env look output) (link_error set env look output) (mapped set env output (archiver_refusal set env look)) (mapped set env output (link_refusal set env look))
+    first_never (archive_error set env look output) (link_error set env look output) (mapped set env output (archive_refusal set env look)) (mapped set env output (link_refusal set env look))
     )
     )

@@ -17,17 +17,17 @@ use Rattle.cc_host.specs.declared.event.LineKind.TheVariants.{Fault as FaultLine
 use Rattle.cc_jobs.specs.Seats.{Rose}
 use Rattle.cc_plan.specs.declared.settings.BuildConfig.{BuildConfig}
 use Rattle.cc_plan.specs.Valid.{Valid}
-use Rattle.cc_plan.proofs.ValidLaws.{early_accepted, late_accepted, archiver_accepted, links_accepted}
+use Rattle.cc_plan.proofs.ValidLaws.{early_accepted, late_accepted, archive_accepted, links_accepted}
 use Rattle.cc_run.specs.Part.{missing, missing_of, turns, turns_of}
 use Rattle.cc_run.specs.Run.{Run, run_from, nothing}
 use Rattle.cc_run.proofs.Runs.{run_from-append}
 use Rattle.cc_build.specs.Captured.{with_vars}
 use Rattle.cc_build.specs.Error.{ErrorSeen, no_memory}
 use Rattle.cc_build.specs.Course.{Course}
-use Rattle.cc_build.specs.Failed.{Failed, HasFault, is_fault, is_form, form_aside, ran_badly}
+use Rattle.cc_build.specs.Failed.{Failed, HasFault, is_fault, is_form, form_aside, unforgiven, ran_badly}
 use Rattle.cc_build.specs.Order.{is_archive_event}
 use Rattle.cc_build.specs.Refusal.{refusal_error}
-use Rattle.cc_build.specs.Stage.{Stage, commands_in, folder_stages, compile_stages, planned_stages}
+use Rattle.cc_build.specs.Stage.{Stage, commands_in, folder_stages, compile_stages, planned_stages, has_libtool}
 use Rattle.cc_build.specs.Stage.Stage.{Asks, Calls}
 use Rattle.cc_build.specs.Went.{Terms, Partly, Goes}
 use Rattle.cc_build.specs.declared.error.ErrorKind.TheVariants.{TurnsSpent}
@@ -238,7 +238,7 @@ faults_last look (Err bad) part ended c (inr (is, none), same) = λ before after
 
 no_refusal : (look : Look) (set : BuildConfig) (env : EnvSeen) (name : List ℕ) (e : ErrorSeen) → Valid set env look name → refusal_error set env look name ≡ Some e → ⊥
 no_refusal look set env name e valid refused =
-    let none : refusal_error set env look name ≡ None = rw (early_accepted set env look name valid, valid.enabled, late_accepted set env look name valid, archiver_accepted set env look name valid, links_accepted set env look name valid) refl in cc
+    let none : refusal_error set env look name ≡ None = rw (early_accepted set env look name valid, valid.enabled, late_accepted set env look name valid, archive_accepted set env look name valid, links_accepted set env look name valid) refl in cc
 
 front_empty : {X : Type 0} (a b : List X) → a ++ b ≡ [] → a ≡ []
 front_empty [] b h = refl
@@ -257,6 +257,10 @@ valid_in : (look : Look) (q : Request) (part : List Event) (ended : Ended) (c : 
 valid_in look q part ended c r valid =
     subst (λ (vars : List (List ℕ × List ℕ)). Valid q.1.config (with_vars q.1.env vars) look q.0) (heard_same part r.run r.line r.cut (line_of (error_line r.error) r.line r.printed)) valid
 
+failed_then : (look : Look) (q : Request) (part : List Event) (ended : Ended) (c : Course) (r : Refused look q part ended c) → (Failed (has_libtool q.1.config (env_in q part) look) part → ⊥) → Failed (has_libtool q.1.config (env_in q r.run) look) part → ⊥
+failed_then look q part ended c r none =
+    subst (λ (vars : List (List ℕ × List ℕ)). Failed (has_libtool q.1.config (with_vars q.1.env vars) look) part → ⊥) (heard_same part r.run r.line r.cut (line_of (error_line r.error) r.line r.printed)) none
+
 known_memory : (e : ErrorSeen) → is_wanting e.kind ≡ false → e ≡ no_memory → ⊥
 known_memory e known memory = let t : true ≡ false = sym (ap (λ (x : ErrorSeen). is_wanting x.kind) memory) ∙ known in cc
 
@@ -274,7 +278,12 @@ aside_line (event ∷ run) line printed = by_form (is_form event) (aside_line ru
     by_form true e = refl
     by_form false e = ap (λ l. event ∷ l) e
 
-module _ (look : Look) (q : Request) (part : List Event) (ended : Ended) (c : Course) (r : Refused look q part ended c) (valid : Valid q.1.config (env_in q r.run) look q.0) (nothing_failed : Failed part → ⊥) (no_fault : HasFault part → ⊥) (none_rose : Rose c.before.faults c.after.faults → ⊥) where
+-- nor is what can't be forgiven
+unforgiven_line : (libtool : Bool) (run line : List Event) → IsLine line → unforgiven libtool (run ++ line) ≡ unforgiven libtool run ++ line
+unforgiven_line true run line printed = refl
+unforgiven_line false run line printed = aside_line run line printed
+
+module _ (look : Look) (q : Request) (part : List Event) (ended : Ended) (c : Course) (r : Refused look q part ended c) (valid : Valid q.1.config (env_in q r.run) look q.0) (nothing_failed : Failed (has_libtool q.1.config (env_in q r.run) look) part → ⊥) (no_fault : HasFault part → ⊥) (none_rose : Rose c.before.faults c.after.faults → ⊥) where
   printed : IsLine r.line
   printed = line_of (error_line r.error) r.line r.printed
 
@@ -282,13 +291,16 @@ module _ (look : Look) (q : Request) (part : List Event) (ended : Ended) (c : Co
   fault_in : HasFault r.run → HasFault part
   fault_in h = ap (list_any is_fault) r.cut ∙ any_before is_fault r.run r.line h
 
-  aside : form_aside part ≡ form_aside r.run ++ r.line
-  aside = ap form_aside r.cut ∙ aside_line r.run r.line printed
+  abbrev libtool : Bool
+  libtool = has_libtool q.1.config (env_in q r.run) look
 
-  failed_in : Failed r.run → Failed part
-  failed_in (inl some) = inl (λ none. some (front_empty (missing (form_aside r.run)) (missing r.line) (sym (flat_map-append missing_of (form_aside r.run) r.line) ∙ sym (ap missing aside) ∙ none)))
+  aside : unforgiven libtool part ≡ unforgiven libtool r.run ++ r.line
+  aside = ap (unforgiven libtool) r.cut ∙ unforgiven_line libtool r.run r.line printed
+
+  failed_in : Failed libtool r.run → Failed libtool part
+  failed_in (inl some) = inl (λ none. some (front_empty (missing (unforgiven libtool r.run)) (missing r.line) (sym (flat_map-append missing_of (unforgiven libtool r.run) r.line) ∙ sym (ap missing aside) ∙ none)))
   failed_in (inr (inl some)) = inr (inl (λ none. some (sym (ap (λ (s : Run). s.failed) (run_same part r.run r.line r.cut printed)) ∙ none)))
-  failed_in (inr (inr some)) = inr (inr (ap (list_any ran_badly) aside ∙ any_before ran_badly (form_aside r.run) r.line some))
+  failed_in (inr (inr some)) = inr (inr (ap (list_any ran_badly) aside ∙ any_before ran_badly (unforgiven libtool r.run) r.line some))
 
   spent_of : (r.error.kind ≡ TurnsSpent) × (c.after.left ≡ 0) → EndsSpent c.before.left part ended
   spent_of spent =
@@ -297,7 +309,7 @@ module _ (look : Look) (q : Request) (part : List Event) (ended : Ended) (c : Co
       let none : c.after.left ≡ 0 = spent.1 in
       (r.error, (r.is, spent.0, omega arith))
 
-  by_cause : HasCause (error_of look q r.run) r.run r.error c.before c.after → EndsSpent c.before.left part ended
+  by_cause : HasCause libtool (error_of look q r.run) r.run r.error c.before c.after → EndsSpent c.before.left part ended
   by_cause (inl memory) = absurd (known_memory r.error r.known memory)
   by_cause (inr (inl refused)) = absurd (no_refusal look q.1.config (env_in q r.run) q.0 r.error valid refused)
   by_cause (inr (inr (inl fault))) = absurd (no_fault (fault_in fault))
@@ -308,11 +320,11 @@ module _ (look : Look) (q : Request) (part : List Event) (ended : Ended) (c : Co
   -- then the turns are spent
   spends : EndsSpent c.before.left part ended
   spends =
-      by_cause (halted_cause (terms_in q r.run c) (error_of look q r.run) (stages_of look q r.is_plain r.run) r.run r.error c.before c.after (tt, planned_plain q.1.config (env_in q r.run) (repeating r.is_plain) look q.0) (inr (refl, planned_first q.1.config (env_in q r.run) (repeating r.is_plain) look q.0)) r.refused)
+      by_cause (halted_cause (terms_in q r.run c) libtool (error_of look q r.run) (stages_of look q r.is_plain r.run) r.run r.error c.before c.after (tt, planned_plain q.1.config (env_in q r.run) (repeating r.is_plain) look q.0) (λ other. inr (refl, planned_first q.1.config (env_in q r.run) (repeating r.is_plain) look q.0 other)) r.refused)
 
-complete_of : (look : Look) (q : Request) (part : List Event) (ended : Ended) (c : Course) → Answers look q part ended c → Valid q.1.config (env_in q part) look q.0 → (Failed part → ⊥) → (HasFault part → ⊥) → (Rose c.before.faults c.after.faults → ⊥) → (ended ≡ ended_well) ⊎ (EndsSpent c.before.left part ended ⊎ (ended ≡ ended_wanting))
+complete_of : (look : Look) (q : Request) (part : List Event) (ended : Ended) (c : Course) → Answers look q part ended c → Valid q.1.config (env_in q part) look q.0 → (Failed (has_libtool q.1.config (env_in q part) look) part → ⊥) → (HasFault part → ⊥) → (Rose c.before.faults c.after.faults → ⊥) → (ended ≡ ended_well) ⊎ (EndsSpent c.before.left part ended ⊎ (ended ≡ ended_wanting))
 complete_of look q part ended c (inl well) valid failed fault rose = inl well.0
-complete_of look q part ended c (inr (inl r)) valid failed fault rose = inr (inl (spends look q part ended c r (valid_in look q part ended c r valid) failed fault rose))
+complete_of look q part ended c (inr (inl r)) valid failed fault rose = inr (inl (spends look q part ended c r (valid_in look q part ended c r valid) (failed_then look q part ended c r failed) fault rose))
 complete_of look q part ended c (inr (inr wanting)) valid failed fault rose = inr (inr wanting.0)
 
 pub complete : (look : Look) (words : Result Request BadWord) (part : List Event) (ended : Ended) (c : Course) → AnswersWords look words part ended c → IsComplete look words part ended c

@@ -5,6 +5,7 @@ use Rattle.cc_host.specs.Part.{since}
 use Rattle.cc_build.specs.Kept.{left_at}
 use Rattle.cc_build.proofs.Growing.{agrees_earlier, asking_then}
 use Rattle.cc_build.proofs.PartLaws.{sources_stopped, library_stopped, links_ended}
+use Rattle.cc_build.proofs.PhaseLaws.{own_links}
 use Rattle.cc_build.proofs.compiling.run_parts.Goals as goal
 
 pub returns-in-Err-clause-outcome : goal.returns-in-Err-clause-outcome
@@ -13,12 +14,12 @@ returns-in-Err-clause-outcome g c =
     let z = left_at g.J.Jobs.faults g.J.Jobs.taken g.J.Jobs.load c.compile_sources.new.turns c.compile_sources.new.seat in
     record {
       under = λ look agree.
-          sources_stopped c.args.task.now look (g.J.Jobs.total c.args.seat.now) (g.H.Host.patience c.args.host.now) (since (g.H.Host.log c.args.host.now) (g.H.Host.log c.compile_sources.new.host)) c.in-Err.error x z (c.in-Err.ensures.outcome.under look agree);
+          sources_stopped c.args.shared.now.task look (g.J.Jobs.total c.args.seat.now) (g.H.Host.patience c.args.host.now) (since (g.H.Host.log c.args.host.now) (g.H.Host.log c.compile_sources.new.host)) c.in-Err.error x z (c.in-Err.ensures.outcome.under look agree);
     }
 
 pub returns-in-Err-archive_objects-clause-asks : goal.returns-in-Err-archive_objects-clause-asks
 returns-in-Err-archive_objects-clause-asks g c =
-    asking_then g.W.World.steady g.W.World.answer (probe_folder c.args.task.now.set.now c.args.task.now.env.now) (RunAsks c.args.task.now.set.now c.args.task.now.env.now) g.H.Host.log g.H.Host.patience c.args.host.now c.compile_sources.new.host c.archive_objects.new.host _ _ _ c.compile_sources.ensures.asks c.archive_objects.ensures.asks
+    asking_then g.W.World.steady g.W.World.answer (probe_folder c.args.shared.now.task.set.now c.args.shared.now.task.env.now) (RunAsks c.args.shared.now.task.set.now c.args.shared.now.task.env.now) g.H.Host.log g.H.Host.patience c.args.host.now c.compile_sources.new.host c.archive_objects.new.host _ _ _ c.compile_sources.ensures.asks c.archive_objects.ensures.asks
 
 pub returns-in-Err-archive_objects-clause-outcome : goal.returns-in-Err-archive_objects-clause-outcome
 returns-in-Err-archive_objects-clause-outcome g c =
@@ -30,7 +31,7 @@ returns-in-Err-archive_objects-clause-outcome g c =
     let z = left_at g.J.Jobs.faults g.J.Jobs.taken g.J.Jobs.load c.archive_objects.new.turns c.archive_objects.new.seat in
     record {
       under = λ look agree.
-          library_stopped c.args.task.now look (g.J.Jobs.total c.args.seat.now) (g.H.Host.patience c.args.host.now) old mid x y _ c.compile_sources.ensures.asks.extends
+          library_stopped c.args.shared.now.task look (g.J.Jobs.total c.args.seat.now) (g.H.Host.patience c.args.host.now) old mid x y _ c.compile_sources.ensures.asks.extends
           (c.in-Ok.ensures.outcome.under look (agrees_earlier look c.compile_sources.new.answers c.archive_objects.new.answers (answers (since mid new)) c.archive_objects.ensures.asks.asks.answered agree))
           (g.J.Jobs.total c.compile_sources.new.seat) (g.H.Host.patience c.compile_sources.new.host) new c.in-Err-archive_objects.error z c.compile_sources.ensures.total c.compile_sources.ensures.asks.patient c.archive_objects.ensures.asks.extends
           (c.in-Err-archive_objects.ensures.outcome.under look agree);
@@ -38,8 +39,8 @@ returns-in-Err-archive_objects-clause-outcome g c =
 
 pub returns-clause-asks : goal.returns-clause-asks
 returns-clause-asks g c =
-    let dir = probe_folder c.args.task.now.set.now c.args.task.now.env.now in
-    let questions = RunAsks c.args.task.now.set.now c.args.task.now.env.now in
+    let dir = probe_folder c.args.shared.now.task.set.now c.args.shared.now.task.env.now in
+    let questions = RunAsks c.args.shared.now.task.set.now c.args.shared.now.task.env.now in
     asking_then g.W.World.steady g.W.World.answer dir questions g.H.Host.log g.H.Host.patience c.args.host.now c.archive_objects.new.host c.print_links.new.host _ _ _
     (asking_then g.W.World.steady g.W.World.answer dir questions g.H.Host.log g.H.Host.patience c.args.host.now c.compile_sources.new.host c.archive_objects.new.host _ _ _ c.compile_sources.ensures.asks c.archive_objects.ensures.asks)
     c.print_links.ensures.asks
@@ -58,10 +59,10 @@ returns-clause-outcome g c =
       under = λ look agree.
           let among = agrees_earlier look c.archive_objects.new.answers c.print_links.new.answers (answers (since made new)) c.print_links.ensures.asks.asks.answered agree in
           let before = agrees_earlier look c.compile_sources.new.answers c.archive_objects.new.answers (answers (since mid made)) c.archive_objects.ensures.asks.asks.answered among in
-          links_ended c.args.task.now look (g.J.Jobs.total c.args.seat.now) (g.H.Host.patience c.args.host.now) old mid x y _ c.compile_sources.ensures.asks.extends
+          links_ended c.args.shared.now.task look (g.J.Jobs.total c.args.seat.now) (g.H.Host.patience c.args.host.now) old mid x y _ c.compile_sources.ensures.asks.extends
           (c.in-Ok.ensures.outcome.under look before)
           (g.J.Jobs.total c.compile_sources.new.seat) (g.H.Host.patience c.compile_sources.new.host) (g.J.Jobs.total c.archive_objects.new.seat) (g.H.Host.patience c.archive_objects.new.host) made new _ c.print_links.result z end
           c.compile_sources.ensures.total c.compile_sources.ensures.asks.patient c.archive_objects.ensures.total c.archive_objects.ensures.asks.patient c.archive_objects.ensures.asks.extends c.print_links.ensures.asks.extends
           (c.in-Ok-archive_objects.ensures.outcome.under look among)
-          (c.print_links.ensures.outcome.under look agree);
+          (own_links c.args.shared.now.task c.args.shared.now.sources.now.name c.args.shared.now.sources.now.library _ look _ _ c.requires.name c.requires.library (c.print_links.ensures.outcome.under look agree));
     }

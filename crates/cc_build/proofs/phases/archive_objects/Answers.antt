@@ -1,17 +1,15 @@
-use Rattle.std.proofs.Common.{◌∙◌, ◌∷◌, ◌++◌, [], false, refl, ap}
+use Rattle.std.proofs.Common.{◌∙◌, ◌∷◌, ◌++◌, [], false, refl}
 use Rattle.std.proofs.lemmas.Result.{err_from_is_err_and}
 use Rattle.cc_host.specs.Part.{since}
-use Rattle.cc_plan.specs.Archive.{paths_of}
-use Rattle.cc_plan.specs.Refusal.{archiver_refusal}
-use Rattle.cc_build.specs.Error.{no_memory}
+use Rattle.cc_plan.specs.Plan.{archive_refusal}
 use Rattle.cc_build.specs.Kept.{left_at}
 use Rattle.cc_build.specs.Refusal.{plan_error}
 use Rattle.cc_build.specs.Stage.Stage.{Asks}
 use Rattle.cc_build.specs.Went.{terms}
-use Rattle.cc_build.proofs.Going.{asked_halted, phase_wanting}
+use Rattle.cc_build.proofs.Going.{asked_halted}
 use Rattle.cc_build.proofs.Growing.{asking_before}
 use Rattle.cc_build.specs.Stage.{library_stages}
-use Rattle.cc_build.proofs.PhaseLaws.{library_ends}
+use Rattle.cc_build.proofs.PhaseLaws.{archiver_refused, path_refused, library_ends}
 use Rattle.cc_build.proofs.phases.archive_objects.Goals as goal
 
 pub returns-in-Err-clause-outcome : goal.returns-in-Err-clause-outcome
@@ -19,11 +17,11 @@ returns-in-Err-clause-outcome g c =
     let old = g.H.Host.log c.args.host.now in
     let total = g.J.Jobs.total c.args.seat.now in
     let patience = g.H.Host.patience c.args.host.now in
-    let t = terms c.args.task.now.reporting.shows total patience in
+    let t = terms c.args.shared.now.task.reporting.shows total patience in
     let x = left_at g.J.Jobs.faults g.J.Jobs.taken g.J.Jobs.load c.args.turns.now c.args.seat.now in
     let part = since old (g.H.Host.log c.plan_archiver.new.host) in
     record {
-      under = λ look agree. (false, asked_halted t (plan_error c.args.task.now.set.now c.args.task.now.env.now c.args.task.now.output.now) (archiver_refusal c.args.task.now.set.now c.args.task.now.env.now look) (library_stages c.args.task.now.set.now c.args.task.now.env.now false look c.args.task.now.output.now ++ Asks ∷ []) part c.in-Err.error x c.plan_archiver.ensures.quiet (c.in-Err.ensures.refused.under look agree));
+      under = λ look agree. (false, asked_halted t (plan_error c.args.shared.now.task.set.now c.args.shared.now.task.env.now c.args.shared.now.task.output.now) (archive_refusal c.args.shared.now.task.set.now c.args.shared.now.task.env.now look) (library_stages c.args.shared.now.task.set.now c.args.shared.now.task.env.now false look c.args.shared.now.task.output.now ++ Asks ∷ []) part c.in-Err.error x c.plan_archiver.ensures.quiet (archiver_refused c.args.shared.now.task c.in-Err.error look (c.in-Err.ensures.refused.under look agree)));
     }
 
 pub returns-in_err-paths-clause-outcome : goal.returns-in_err-paths-clause-outcome
@@ -32,12 +30,12 @@ returns-in_err-paths-clause-outcome g c =
     let old = g.H.Host.log c.args.host.now in
     let total = g.J.Jobs.total c.args.seat.now in
     let patience = g.H.Host.patience c.args.host.now in
-    let t = terms c.args.task.now.reporting.shows total patience in
+    let t = terms c.args.shared.now.task.reporting.shows total patience in
     let x = left_at g.J.Jobs.faults g.J.Jobs.taken g.J.Jobs.load c.args.turns.now c.args.seat.now in
     let part = since old (g.H.Host.log c.plan_archiver.new.host) in
     rw (p.1, p.2)
     (record {
-      under = λ look agree. (false, phase_wanting t (plan_error c.args.task.now.set.now c.args.task.now.env.now c.args.task.now.output.now) (archiver_refusal c.args.task.now.set.now c.args.task.now.env.now look) (library_stages c.args.task.now.set.now c.args.task.now.env.now false look c.args.task.now.output.now ++ Asks ∷ []) part no_memory x c.plan_archiver.ensures.quiet refl);
+      under = λ look agree. (false, asked_halted t (plan_error c.args.shared.now.task.set.now c.args.shared.now.task.env.now c.args.shared.now.task.output.now) (archive_refusal c.args.shared.now.task.set.now c.args.shared.now.task.env.now look) (library_stages c.args.shared.now.task.set.now c.args.shared.now.task.env.now false look c.args.shared.now.task.output.now ++ Asks ∷ []) part c.in_err-paths.field-0.0 x c.plan_archiver.ensures.quiet (path_refused c.args.shared.now.task c.in-Ok.archiver c.in_err-paths.field-0.0 look (c.in-Ok.ensures.planned.under look agree) c.in_err-paths.ensures.refused));
     })
 
 pub returns-clause-asks : goal.returns-clause-asks
@@ -48,13 +46,13 @@ returns-clause-outcome g c =
     let old = g.H.Host.log c.args.host.now in
     let total = g.J.Jobs.total c.args.seat.now in
     let patience = g.H.Host.patience c.args.host.now in
-    let t = terms c.args.task.now.reporting.shows total patience in
+    let t = terms c.args.shared.now.task.reporting.shows total patience in
     let x = left_at g.J.Jobs.faults g.J.Jobs.taken g.J.Jobs.load c.args.turns.now c.args.seat.now in
     let mid = g.H.Host.log c.plan_archiver.new.host in
     let new = g.H.Host.log c.write_library.new.host in
     let z = left_at g.J.Jobs.faults g.J.Jobs.taken g.J.Jobs.load c.write_library.new.turns c.write_library.new.seat in
     record {
       under = λ look agree.
-          library_ends c.args.task.now (record { archiver = record { ref_ptr = c.args.task.ref_ptr; now = c.in-Ok.archiver }; env = c.args.task.now.env; path = c.as_str.result; paths = record { ref_ptr = c.args.task.ref_ptr; now = c.in_ok-paths.paths } }) look total patience (g.H.Host.patience c.plan_archiver.new.host) old mid new x z c.plan_archiver.ensures.asks.patient c.plan_archiver.ensures.asks.extends c.write_library.ensures.aside.extends c.plan_archiver.ensures.quiet
-          (c.in-Ok.ensures.planned.under look agree) refl (c.as_str.ensures ∙ c.requires.library) (c.in_ok-paths.ensures ∙ ap (λ o. paths_of o ++ c.args.task.now.set.now.objects) (c.deref.ensures.value ∙ c.requires.objects)) c.write_library.result c.write_library.ensures.outcome;
+          library_ends c.args.shared.now.task (record { archiver = record { ref_ptr = c.args.shared.now.task.set.ref_ptr; now = c.in-Ok.archiver }; env = c.args.shared.now.task.env; path = c.as_str.result; paths = record { ref_ptr = c.args.shared.now.task.set.ref_ptr; now = c.in_ok-paths.paths } }) look total patience (g.H.Host.patience c.plan_archiver.new.host) old mid new x z c.plan_archiver.ensures.asks.patient c.plan_archiver.ensures.asks.extends c.write_library.ensures.aside.extends c.plan_archiver.ensures.quiet
+          (c.in-Ok.ensures.planned.under look agree) c.in_ok-paths.ensures.allowed refl (c.as_str.ensures ∙ c.requires.library) c.in_ok-paths.ensures.paths c.write_library.result c.write_library.ensures.outcome;
     }

@@ -16,11 +16,11 @@ returns-in-Err-clause-outcome g c =
     let old = g.H.Host.log c.args.host.now in
     let total = g.J.Jobs.total c.args.seat.now in
     let patience = g.H.Host.patience c.args.host.now in
-    let t = terms c.args.task.now.reporting.shows total patience in
+    let t = terms c.args.shared.now.task.reporting.shows total patience in
     let x = left_at g.J.Jobs.faults g.J.Jobs.taken g.J.Jobs.load c.args.turns.now c.args.seat.now in
     let part = since old (g.H.Host.log c.plan_compiles.new.host) in
     record {
-      under = λ look agree. (false, asked_halted t (plan_error c.args.task.now.set.now c.args.task.now.env.now c.args.task.now.output.now) (late_refusal c.args.task.now.set.now c.args.task.now.env.now look) (compile_stages c.args.task.now.set.now c.args.task.now.env.now false look) part c.in-Err.error x c.plan_compiles.ensures.quiet (c.in-Err.ensures.refused.under look agree));
+      under = λ look agree. (false, asked_halted t (plan_error c.args.shared.now.task.set.now c.args.shared.now.task.env.now c.args.shared.now.task.output.now) (late_refusal c.args.shared.now.task.set.now c.args.shared.now.task.env.now look) (compile_stages c.args.shared.now.task.set.now c.args.shared.now.task.env.now false look) part c.in-Err.error x c.plan_compiles.ensures.quiet (c.in-Err.ensures.refused.under look agree));
     }
 
 pub returns-clause-asks : goal.returns-clause-asks
@@ -31,7 +31,7 @@ returns-clause-outcome g c =
     let old = g.H.Host.log c.args.host.now in
     let total = g.J.Jobs.total c.args.seat.now in
     let patience = g.H.Host.patience c.args.host.now in
-    let t = terms c.args.task.now.reporting.shows total patience in
+    let t = terms c.args.shared.now.task.reporting.shows total patience in
     let x = left_at g.J.Jobs.faults g.J.Jobs.taken g.J.Jobs.load c.args.turns.now c.args.seat.now in
     let mid = g.H.Host.log c.plan_compiles.new.host in
     let new = g.H.Host.log c.do_stages.new.host in
@@ -40,8 +40,8 @@ returns-clause-outcome g c =
       under = λ look agree.
           let plan = c.in-Ok.ensures.planned.under look agree in (
             c.in-Ok.plan.warns_of_link,
-            phase_done t (plan_error c.args.task.now.set.now c.args.task.now.env.now c.args.task.now.output.now) (late_refusal c.args.task.now.set.now c.args.task.now.env.now look) (compile_stages c.args.task.now.set.now c.args.task.now.env.now c.in-Ok.plan.warns_of_link look) old mid new x c.plan_compiles.ensures.asks.extends c.do_stages.ensures.aside.extends c.plan_compiles.ensures.quiet plan.allowed (stages_seen c.deref.result.now) c.do_stages.result z
-                (plan_stages c.args.task.now c.in-Ok.plan look (stages_seen c.deref.result.now) (ap stages_seen c.deref.ensures.value ∙ c.in_ok-stages.ensures) plan)
-                (same_patience c.args.task.now.reporting.shows total (g.H.Host.patience c.plan_compiles.new.host) patience None (stages_seen c.deref.result.now) (since mid new) c.do_stages.result x z c.plan_compiles.ensures.asks.patient c.do_stages.ensures.outcome),
+            phase_done t (plan_error c.args.shared.now.task.set.now c.args.shared.now.task.env.now c.args.shared.now.task.output.now) (late_refusal c.args.shared.now.task.set.now c.args.shared.now.task.env.now look) (compile_stages c.args.shared.now.task.set.now c.args.shared.now.task.env.now c.in-Ok.plan.warns_of_link look) old mid new x c.plan_compiles.ensures.asks.extends c.do_stages.ensures.aside.extends c.plan_compiles.ensures.quiet plan.allowed (stages_seen c.deref.result.now) c.do_stages.result z
+                (plan_stages c.args.shared.now.task c.in-Ok.plan look (stages_seen c.deref.result.now) (ap stages_seen c.deref.ensures.value ∙ c.in_ok-stages.ensures) plan)
+                (same_patience c.args.shared.now.task.reporting.shows total (g.H.Host.patience c.plan_compiles.new.host) patience None (stages_seen c.deref.result.now) (since mid new) c.do_stages.result x z c.plan_compiles.ensures.asks.patient c.do_stages.ensures.outcome),
           );
     }

@@ -9,7 +9,7 @@ use Rattle.cc_build.specs.Seen.{stages_seen}
 use Rattle.cc_build.specs.Went.{terms}
 use Rattle.cc_build.proofs.Going.{same_patience, asked_halted, phase_wanting}
 use Rattle.cc_build.proofs.Growing.{asking_before}
-use Rattle.cc_build.specs.Stage.{calls, link_stages}
+use Rattle.cc_build.specs.Stage.{calls, links_of, printed_stages}
 use Rattle.cc_plan.specs.Link.{printed_links}
 use Rattle.cc_plan.specs.Plan.{prints}
 use Rattle.cc_host.specs.declared.event.LineKind.TheVariants.{Link}
@@ -21,11 +21,11 @@ returns-in-Err-clause-outcome g c =
     let old = g.H.Host.log c.args.host.now in
     let total = g.J.Jobs.total c.args.seat.now in
     let patience = g.H.Host.patience c.args.host.now in
-    let t = terms c.args.task.now.reporting.shows total patience in
+    let t = terms c.args.shared.now.task.reporting.shows total patience in
     let x = left_at g.J.Jobs.faults g.J.Jobs.taken g.J.Jobs.load c.args.turns.now c.args.seat.now in
     let part = since old (g.H.Host.log c.plan_links.new.host) in
     record {
-      under = λ look agree. (true, ((λ h. refl), asked_halted t (plan_error c.args.task.now.set.now c.args.task.now.env.now c.args.task.now.output.now) (link_refusal c.args.task.now.set.now c.args.task.now.env.now look) (link_stages c.args.task.now.set.now c.args.task.now.env.now look true c.args.task.now.output.now) part c.in-Err.error x c.plan_links.ensures.quiet (c.in-Err.ensures.refused.under look agree)));
+      under = λ look agree. (true, ((λ h. refl), asked_halted t (plan_error c.args.shared.now.task.set.now c.args.shared.now.task.env.now c.args.shared.now.task.output.now) (link_refusal c.args.shared.now.task.set.now c.args.shared.now.task.env.now look) (printed_stages true (links_of c.args.shared.now.task.set.now c.args.shared.now.task.env.now c.args.shared.now.sources.now.name c.args.shared.now.sources.now.library look)) part c.in-Err.error x c.plan_links.ensures.quiet (c.in-Err.ensures.refused.under look agree)));
     }
 
 pub returns-in_err-is_first-clause-outcome : goal.returns-in_err-is_first-clause-outcome
@@ -34,12 +34,12 @@ returns-in_err-is_first-clause-outcome g c =
     let old = g.H.Host.log c.args.host.now in
     let total = g.J.Jobs.total c.args.seat.now in
     let patience = g.H.Host.patience c.args.host.now in
-    let t = terms c.args.task.now.reporting.shows total patience in
+    let t = terms c.args.shared.now.task.reporting.shows total patience in
     let x = left_at g.J.Jobs.faults g.J.Jobs.taken g.J.Jobs.load c.args.turns.now c.args.seat.now in
     let part = since old (g.H.Host.log c.plan_links.new.host) in
     rw (p.1, p.2)
     (record {
-      under = λ look agree. (true, ((λ h. refl), phase_wanting t (plan_error c.args.task.now.set.now c.args.task.now.env.now c.args.task.now.output.now) (link_refusal c.args.task.now.set.now c.args.task.now.env.now look) (link_stages c.args.task.now.set.now c.args.task.now.env.now look true c.args.task.now.output.now) part no_memory x c.plan_links.ensures.quiet refl));
+      under = λ look agree. (true, ((λ h. refl), phase_wanting t (plan_error c.args.shared.now.task.set.now c.args.shared.now.task.env.now c.args.shared.now.task.output.now) (link_refusal c.args.shared.now.task.set.now c.args.shared.now.task.env.now look) (printed_stages true (links_of c.args.shared.now.task.set.now c.args.shared.now.task.env.now c.args.shared.now.sources.now.name c.args.shared.now.sources.now.library look)) part no_memory x c.plan_links.ensures.quiet refl));
     })
 
 pub returns-in_err-stages-clause-outcome : goal.returns-in_err-stages-clause-outcome
@@ -48,12 +48,12 @@ returns-in_err-stages-clause-outcome g c =
     let old = g.H.Host.log c.args.host.now in
     let total = g.J.Jobs.total c.args.seat.now in
     let patience = g.H.Host.patience c.args.host.now in
-    let t = terms c.args.task.now.reporting.shows total patience in
+    let t = terms c.args.shared.now.task.reporting.shows total patience in
     let x = left_at g.J.Jobs.faults g.J.Jobs.taken g.J.Jobs.load c.args.turns.now c.args.seat.now in
     let part = since old (g.H.Host.log c.plan_links.new.host) in
     rw (p.1, p.2)
     (record {
-      under = λ look agree. (true, ((λ h. refl), phase_wanting t (plan_error c.args.task.now.set.now c.args.task.now.env.now c.args.task.now.output.now) (link_refusal c.args.task.now.set.now c.args.task.now.env.now look) (link_stages c.args.task.now.set.now c.args.task.now.env.now look true c.args.task.now.output.now) part no_memory x c.plan_links.ensures.quiet refl));
+      under = λ look agree. (true, ((λ h. refl), phase_wanting t (plan_error c.args.shared.now.task.set.now c.args.shared.now.task.env.now c.args.shared.now.task.output.now) (link_refusal c.args.shared.now.task.set.now c.args.shared.now.task.env.now look) (printed_stages true (links_of c.args.shared.now.task.set.now c.args.shared.now.task.env.now c.args.shared.now.sources.now.name c.args.shared.now.sources.now.library look)) part no_memory x c.plan_links.ensures.quiet refl));
     })
 
 pub returns-clause-asks : goal.returns-clause-asks
@@ -64,7 +64,7 @@ returns-clause-outcome g c =
     let old = g.H.Host.log c.args.host.now in
     let total = g.J.Jobs.total c.args.seat.now in
     let patience = g.H.Host.patience c.args.host.now in
-    let t = terms c.args.task.now.reporting.shows total patience in
+    let t = terms c.args.shared.now.task.reporting.shows total patience in
     let x = left_at g.J.Jobs.faults g.J.Jobs.taken g.J.Jobs.load c.args.turns.now c.args.seat.now in
     let mid = g.H.Host.log c.plan_links.new.host in
     let new = g.H.Host.log c.do_stages.new.host in
@@ -75,9 +75,9 @@ returns-clause-outcome g c =
             c.in_ok-is_first.is_first,
             (
               c.in_ok-is_first.ensures,
-              phase_done t (plan_error c.args.task.now.set.now c.args.task.now.env.now c.args.task.now.output.now) (link_refusal c.args.task.now.set.now c.args.task.now.env.now look) (link_stages c.args.task.now.set.now c.args.task.now.env.now look c.in_ok-is_first.is_first c.args.task.now.output.now) old mid new x c.plan_links.ensures.asks.extends c.do_stages.ensures.aside.extends c.plan_links.ensures.quiet plan.allowed (stages_seen c.deref-3.result.now) c.do_stages.result z
-                  (line_stages c.args.task.now c.in-Ok.lines.items c.in_ok-is_first.is_first look (stages_seen c.deref-3.result.now) (ap stages_seen c.deref-3.ensures.value ∙ (c.in_ok-stages.ensures ∙ ap (λ l. calls (prints Link (printed_links c.in_ok-is_first.is_first l))) c.deref-2.ensures.value)) plan)
-                  (same_patience c.args.task.now.reporting.shows total (g.H.Host.patience c.plan_links.new.host) patience None (stages_seen c.deref-3.result.now) (since mid new) c.do_stages.result x z c.plan_links.ensures.asks.patient c.do_stages.ensures.outcome),
+              phase_done t (plan_error c.args.shared.now.task.set.now c.args.shared.now.task.env.now c.args.shared.now.task.output.now) (link_refusal c.args.shared.now.task.set.now c.args.shared.now.task.env.now look) (printed_stages c.in_ok-is_first.is_first (links_of c.args.shared.now.task.set.now c.args.shared.now.task.env.now c.args.shared.now.sources.now.name c.args.shared.now.sources.now.library look)) old mid new x c.plan_links.ensures.asks.extends c.do_stages.ensures.aside.extends c.plan_links.ensures.quiet plan.allowed (stages_seen c.deref-3.result.now) c.do_stages.result z
+                  (line_stages c.args.shared.now.task c.args.shared.now.sources.now.name c.args.shared.now.sources.now.library c.in-Ok.lines.items c.in_ok-is_first.is_first look (stages_seen c.deref-3.result.now) (ap stages_seen c.deref-3.ensures.value ∙ (c.in_ok-stages.ensures ∙ ap (λ l. calls (prints Link (printed_links c.in_ok-is_first.is_first l))) c.deref-2.ensures.value)) plan)
+                  (same_patience c.args.shared.now.task.reporting.shows total (g.H.Host.patience c.plan_links.new.host) patience None (stages_seen c.deref-3.result.now) (since mid new) c.do_stages.result x z c.plan_links.ensures.asks.patient c.do_stages.ensures.outcome),
             ),
           );
     }

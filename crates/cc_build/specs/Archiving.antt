@@ -1,0 +1,44 @@
+-- An archive alone: objects that are there already are archived into a library.
+use Rattle.std.specs.Prelude.{◌≡◌, ℕ, Bool, List, [], ◌∷◌, ◌++◌, Option, Some, None, Result, Ok, Err, is_some, if◌then◌else◌}
+use Rattle.std.specs.Option.{option_map}
+use Rattle.cc_env.specs.Env.{EnvSeen}
+use Rattle.cc_host.specs.Question.{Look}
+use Rattle.cc_host.specs.declared.event.Event.{Event}
+use Rattle.cc_plan.specs.Given.{is_disabled}
+use Rattle.cc_plan.specs.Plan.{archive_refusal}
+use Rattle.cc_plan.specs.Refusal.{first_of, name_refusal, early_refusal}
+use Rattle.cc_plan.specs.Settings.{archive_settings}
+use Rattle.cc_plan.specs.declared.settings.BuildConfig.{BuildConfig}
+use Rattle.cc_build.specs.Build.{BuildSeen}
+use Rattle.cc_build.specs.Course.{Course}
+use Rattle.cc_build.specs.Error.{ErrorSeen}
+use Rattle.cc_build.specs.Promises.{terms_for}
+use Rattle.cc_build.specs.Refusal.{plan_error, disabled_error, archive_error}
+use Rattle.cc_build.specs.Stage.{Stage, asked_then, library_stages}
+use Rattle.cc_build.specs.Stage.Stage.{Asks}
+use Rattle.cc_build.specs.Went.{Went, Halted}
+
+-- the build without sources, with these objects before its added ones
+abbrev pub with_objects : BuildSeen → List (List ℕ) → BuildSeen
+with_objects b objects = record b { config = archive_settings b.config objects }
+
+-- the error of the checks before an archive: the name, whether commands may run, the out dir, and the objects that it gets
+abbrev pub unarchived_error : BuildConfig → EnvSeen → List ℕ → Option ErrorSeen
+unarchived_error set env output =
+    first_of (option_map (plan_error set env output) (name_refusal output))
+    (if is_disabled env then Some disabled_error else option_map (plan_error set env output) (early_refusal set env output))
+
+-- the archiver is asked for, the old library is removed, and the new one is written
+abbrev pub creation_stages : BuildConfig → EnvSeen → Bool → Look → List ℕ → List Stage
+creation_stages set env is_plain look output = asked_then (archive_refusal set env look) (library_stages set env is_plain look output)
+
+-- Ok: nothing is refused, and the library was written. Else the first stages were done, and the error has its cause.
+abbrev pub CreationEnds : {T : Type 0} → BuildSeen → List ℕ → Result T ErrorSeen → Look → List Event → Course → Type 0
+CreationEnds b output (Ok _) look part c =
+    (is_plain : Bool) × ((unarchived_error b.config b.env output ≡ None) × (archive_refusal b.config b.env look ≡ None) × Went (terms_for b c) (creation_stages b.config b.env is_plain look output) part c.before c.after)
+CreationEnds b output (Err e) look part c =
+    (is_plain : Bool) × Halted (terms_for b c) (first_of (unarchived_error b.config b.env output) (archive_error b.config b.env look output)) (if is_some (unarchived_error b.config b.env output) then [] else asked_then (archive_refusal b.config b.env look) (library_stages b.config b.env is_plain look output ++ Asks ∷ [])) part e c.before c.after
+
+-- so it ended with at most so many turns, whichever pool and counts its children had
+abbrev pub Creates : {T : Type 0} → BuildSeen → ℕ → List ℕ → Result T ErrorSeen → Look → List Event → Type 0
+Creates b turns output result look part = (c : Course) × ((c.before.left ≡ turns) × CreationEnds b output result look part c)

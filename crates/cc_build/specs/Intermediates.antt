@@ -1,0 +1,46 @@
+-- A run that compiles the sources alone: their objects are made, and nothing is archived or linked.
+use Rattle.std.specs.Prelude.{◌≡◌, Bool, List, [], ◌++◌, length, Option, Result, OnOk, is_some, if◌then◌else◌}
+use Rattle.std.specs.Option.{option_map}
+use Rattle.cc_env.specs.Env.{EnvSeen}
+use Rattle.cc_host.specs.Question.{Look}
+use Rattle.cc_host.specs.declared.event.Event.{Event}
+use Rattle.cc_host.specs.declared.event.Role.TheVariants.{Compile}
+use Rattle.cc_plan.specs.Given.{is_disabled}
+use Rattle.cc_plan.specs.Plan.{compiles_of}
+use Rattle.cc_plan.specs.Refusal.{first_of, intermediate_refusal, late_refusal}
+use Rattle.cc_plan.specs.declared.settings.BuildConfig.{BuildConfig}
+use Rattle.cc_run.specs.Part.{started}
+use Rattle.cc_run.specs.Planned.{asked}
+use Rattle.cc_run.specs.Run.{run_from, nothing}
+use Rattle.cc_build.specs.Build.{BuildSeen}
+use Rattle.cc_build.specs.Built.{ended_well}
+use Rattle.cc_build.specs.Course.{Course}
+use Rattle.cc_build.specs.Error.{ErrorSeen}
+use Rattle.cc_build.specs.Promises.{terms_for}
+use Rattle.cc_build.specs.Refusal.{plan_error, late_error}
+use Rattle.cc_build.specs.Stage.{Stage, planned, asked_then, folder_stages, compile_stages}
+use Rattle.cc_build.specs.Went.{Terms, Ends}
+
+-- the folder is made where there is a source, and where commands may run the sources are compiled
+abbrev pub intermediate_stages : BuildConfig → EnvSeen → Bool → Look → List Stage
+intermediate_stages set env warns_of_link look =
+    if is_some (intermediate_refusal set env) then []
+    else folder_stages set env ++ (if is_disabled env then [] else asked_then (late_refusal set env look) (compile_stages set env warns_of_link look))
+
+-- the error of settings that are refused: that of the first part which doesn't hold
+abbrev pub intermediate_error : BuildConfig → EnvSeen → Look → Option ErrorSeen
+intermediate_error set env look = first_of (option_map (plan_error set env []) (intermediate_refusal set env)) (late_error set env look [])
+
+-- Ok: nothing is refused, and all stages were done. Else the first ones were, and the error has its cause.
+abbrev pub IntermediateEnds : {T : Type 0} → BuildSeen → Result T ErrorSeen → Look → List Event → Course → Type 0
+IntermediateEnds b result look part c =
+    (warns_of_link : Bool) × Ends (terms_for b c) (intermediate_error b.config b.env look) (intermediate_stages b.config b.env warns_of_link look) part result c.before c.after
+
+-- one planned compile command per source was started, in the order added, and nothing else; and each of them has ended with 0
+pub record Compiled (t : Terms) (b : BuildSeen) (look : Look) (part : List Event) : Type 0 where
+  pub compiles : started part ≡ asked t.shows (planned Compile (compiles_of b.config b.env look))
+  pub ended : run_from nothing part ≡ ended_well (length (compiles_of b.config b.env look))
+
+-- Ok: the sources are compiled
+abbrev pub AreCompiled : {T : Type 0} → BuildSeen → Result T ErrorSeen → Look → List Event → Course → Type 0
+AreCompiled b result look part c = OnOk result (Compiled (terms_for b c) b look part)

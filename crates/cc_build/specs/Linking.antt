@@ -1,0 +1,41 @@
+-- Link lines by the path of a library, which is there already.
+use Rattle.std.specs.Prelude.{◌≡◌, ◌⊎◌, ℕ, Bool, List, [], Option, Some, None, Result, is_some, if◌then◌else◌}
+use Rattle.std.specs.Option.{option_map}
+use Rattle.cc_env.specs.Env.{EnvSeen}
+use Rattle.cc_host.specs.Question.{Look}
+use Rattle.cc_host.specs.declared.event.Event.{Event}
+use Rattle.cc_plan.specs.Names.{linked_library}
+use Rattle.cc_plan.specs.Refusal.{first_of, path_refusal, link_refusal}
+use Rattle.cc_plan.specs.declared.settings.BuildConfig.{BuildConfig}
+use Rattle.cc_build.specs.Build.{BuildSeen}
+use Rattle.cc_build.specs.Course.{Course}
+use Rattle.cc_build.specs.Error.{ErrorSeen}
+use Rattle.cc_build.specs.Promises.{terms_for}
+use Rattle.cc_build.specs.Refusal.{plan_error}
+use Rattle.cc_build.specs.Stage.{Stage, asked_then, links_of, printed_stages}
+use Rattle.cc_build.specs.Way.{Repeats}
+use Rattle.cc_build.specs.Went.{Ends}
+
+abbrev pub name_or_none : Option (List ℕ × List ℕ) → List ℕ
+name_or_none None = []
+name_or_none (Some found) = found.0
+
+-- the name of the library at a path
+abbrev pub linked_name : List ℕ → List ℕ
+linked_name library = name_or_none (linked_library library)
+
+-- the lines are planned by questions, and printed; none where the path is no library's
+abbrev pub directive_stages : BuildConfig → EnvSeen → Look → Bool → List ℕ → List Stage
+directive_stages set env look is_first library =
+    if is_some (path_refusal library) then []
+    else asked_then (link_refusal set env look) (printed_stages is_first (links_of set env (linked_name library) library look))
+
+-- the error of a path that is no library's, or of settings that are refused
+abbrev pub directive_error : BuildConfig → EnvSeen → Look → List ℕ → Option ErrorSeen
+directive_error set env look library =
+    first_of (option_map (plan_error set env library) (path_refusal library)) (option_map (plan_error set env library) (link_refusal set env look))
+
+-- Ok: nothing is refused, and the lines were printed. Else the first were, and the error has its cause. No child is started, so any course will do.
+abbrev pub DirectivesEnd : {T : Type 0} → BuildSeen → List ℕ → Result T ErrorSeen → Look → List Event → Type 0
+DirectivesEnd b library result look part =
+    (is_first : Bool) × (c : Course) × (Repeats b.config is_first × Ends (terms_for b c) (directive_error b.config b.env look library) (directive_stages b.config b.env look is_first library) part result c.before c.after)

@@ -1,0 +1,113 @@
+// An archive alone.
+ghost use Rattle.std.specs.Prelude.{◌≡◌, ◌++◌, ◌⊎◌, Some, None, IfOk, IfErr, OnOk};
+ghost use Rattle.cc_host.specs.Call.{part};
+ghost use Rattle.cc_plan.specs.Given.{probe_folder};
+ghost use Rattle.cc_plan.specs.Plan.{objects_of, library_of};
+ghost use Rattle.cc_build.specs.Archiving.{with_objects, unarchived_error, Creates};
+ghost use Rattle.cc_build.specs.Build.{AsksByRun};
+ghost use Rattle.cc_build.specs.Course.{ByPart};
+ghost use Rattle.cc_build.specs.Error.{no_memory};
+ghost use Rattle.cc_build.specs.Promises.{NothingRuns, FaultsEnd};
+
+use crate::message::or_no_memory;
+use crate::phases::archive_objects;
+use crate::refusal::{disabled, plan_error};
+use crate::reporting::Reporting;
+use crate::shows::shows_of;
+use crate::task::{Shared, Task};
+use crate::{Build, Error};
+use cc_env::BuildEnv;
+use cc_host::{Host, World};
+use cc_jobs::OneCaller;
+use cc_plan::{
+    BuildConfig, Sources, archive_settings, is_disabled, lib_and_archive_names, plan_sources,
+};
+use cc_run::Turns;
+use cc_text::{Text, Words};
+use cc_tool::Answers;
+use std::alloc::Global;
+use std::sync::Wait;
+
+// The checks before an archive.
+fn check_archive(
+    alloc: Global,
+    set: &BuildConfig,
+    env: &BuildEnv,
+    output: &str,
+) -> Result<Sources, Error>
+    ensures probes { IfOk result (λ sources. sources.dir ≡ probe_folder set.now env.now) }
+    ensures library { IfOk result (λ sources.
+        sources.library ≡ library_of set.now env.now output.now) }
+    ensures objects { IfOk result (λ sources. sources.objects.items ≡ objects_of set.now env.now) }
+    ensures allowed { OnOk result (unarchived_error set.now env.now output.now ≡ None) }
+    ensures refused { IfErr result (λ e. (e ≡ no_memory)
+        ⊎ (unarchived_error set.now env.now output.now ≡ Some e)) }
+{
+    match lib_and_archive_names(alloc, output) {
+        Ok(_) => {}
+        Err(error) => return Err(or_no_memory(plan_error(alloc, set, env, output, error))),
+    }
+    if is_disabled(env) {
+        return Err(or_no_memory(disabled(alloc)));
+    }
+    match plan_sources(alloc, set, env, output) {
+        Ok(sources) => Ok(sources),
+        Err(error) => Err(or_no_memory(plan_error(alloc, set, env, output, error))),
+    }
+}
+
+impl<W: World> Build<W> {
+    /// Archives these objects, and then the added ones, into the library of `output`, as `try_compile` does with those of its sources, and
+    /// answers the library's path. Sources don't count, and no link line is printed. At most `turns` turns are made.
+    ///
+    /// Refused, in this order, where the output names no library, no command may run (Disabled), the out dir is set nowhere or empty, or an
+    /// object is the library; then as `try_compile` is behind the sources. After a refusal every command that was started has ended or is
+    /// left alone. The build is as before.
+    #[tactic(auto, using(cc_host::proofs::Parts::since_append))]
+    pub fn try_create_archive<H: Host<W>>(
+        &self,
+        rt: &impl Wait,
+        host: &mut H,
+        turns: u64,
+        output: &str,
+        objects: &Words,
+    ) -> Result<Text, Error>
+        ensures patient { H.patience host.new ≡ H.patience host.old }
+        ensures extends { H.log host.new ≡ H.log host.old ++ part H.log host.old host.new }
+        ensures asked { AsksByRun W.steady W.answer (with_objects self.now objects.now)
+            (part H.log host.old host.new) }
+        ensures library { IfOk result (λ path. path ≡ library_of
+            (with_objects self.now objects.now).config self.now.env output.now) }
+        ensures outcome { ByPart H.log host.old host.new
+            (Creates (with_objects self.now objects.now) turns output.now result) }
+        ensures settled { NothingRuns (part H.log host.old host.new) }
+        ensures faults_last { FaultsEnd (part H.log host.old host.new) }
+    {
+        let (alloc, env) = (self.alloc, &self.env);
+        let set = archive_settings(alloc, &self.config, objects)?;
+        let sources = check_archive(alloc, &set, env, output)?;
+        let path = sources.library.try_clone()?;
+        let (jobs, mut seat) = OneCaller::new(1);
+        let shows = shows_of(&set, env);
+        let shared = Shared {
+            task: Task {
+                reporting: Reporting { alloc, shows },
+                set: &set,
+                env,
+                output,
+            },
+            jobs: &jobs,
+            caches: &self.caches,
+            sources: &sources,
+        };
+        let mut answers = Answers::new(alloc);
+        let mut left = Turns {
+            left: turns,
+            used: 0,
+        };
+        match archive_objects(rt, &shared, host, &mut seat, &mut left, &mut answers) {
+            Ok(()) => Ok(path),
+            Err(error) => Err(error),
+        }
+    }
+}

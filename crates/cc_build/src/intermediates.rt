@@ -1,0 +1,98 @@
+// A run that compiles the sources alone.
+ghost use Rattle.std.specs.Prelude.{◌≡◌, ◌++◌, IfOk, take};
+ghost use Rattle.cc_host.specs.Call.{part};
+ghost use Rattle.cc_plan.specs.Archive.{paths_of};
+ghost use Rattle.cc_plan.specs.Plan.{objects_of};
+ghost use Rattle.cc_build.specs.Build.{AsksByRun};
+ghost use Rattle.cc_build.specs.Course.{ByRun};
+ghost use Rattle.cc_build.specs.Intermediates.{IntermediateEnds};
+ghost use Rattle.cc_run.specs.Keeping.{IsIdle};
+
+use crate::compiling::prepare_folder;
+use crate::message::or_no_memory;
+use crate::phases::compile_sources;
+use crate::refusal::{disabled, plan_error};
+use crate::reporting::Reporting;
+use crate::shows::shows_of;
+use crate::task::{Shared, Task};
+use crate::{Build, Error};
+use cc_host::{Host, World};
+use cc_jobs::Jobs;
+use cc_plan::{Object, Sources, is_disabled, plan_objects};
+use cc_run::Turns;
+use cc_text::{Mem, Text, Words};
+use cc_tool::Answers;
+use std::alloc::Global;
+use std::sync::Wait;
+
+fn object_paths(alloc: Global, objects: &[Object]) -> Mem<Words>
+    ensures { IfOk result (λ paths. paths ≡ paths_of objects.now) }
+{
+    let mut paths = Words::new(alloc);
+    for object in objects {
+        paths.push(object.dst.as_str())?;
+    }
+    Ok(paths)
+}
+
+impl<W: World> Build<W> {
+    // Checks the settings, makes the folder, and compiles the sources. The paths are those of their objects.
+    #[tactic(auto, using(cc_host::proofs::Parts::since_append))]
+    pub(crate) fn compile_alone<H: Host<W>, J: Jobs>(
+        &self,
+        rt: &impl Wait,
+        host: &mut H,
+        jobs: &J,
+        seat: &mut J::Seat,
+        turns: u64,
+    ) -> Result<Words, Error>
+        requires idle { IsIdle J.fits J.held jobs.now seat.old }
+        ensures idle { IsIdle J.fits J.held jobs.now seat.new }
+        ensures total { J.total seat.new ≡ J.total seat.old }
+        ensures patient { H.patience host.new ≡ H.patience host.old }
+        ensures extends { H.log host.new ≡ H.log host.old ++ part H.log host.old host.new }
+        ensures asked { AsksByRun W.steady W.answer self.now (part H.log host.old host.new) }
+        ensures objects { IfOk result (λ paths.
+            paths ≡ paths_of (objects_of self.now.config self.now.env)) }
+        ensures outcome { ByRun H.log H.patience J.total J.faults J.taken J.load turns
+            host.old host.new seat.old seat.new (IntermediateEnds self.now result) }
+    {
+        let (alloc, set, env) = (self.alloc, &self.config, &self.env);
+        let (dir, objects) = match plan_objects(alloc, set, env) {
+            Ok(placed) => placed,
+            Err(error) => return Err(or_no_memory(plan_error(alloc, set, env, "", error))),
+        };
+        prepare_folder(alloc, host, set, env, dir.as_str())?;
+        if is_disabled(env) {
+            return Err(or_no_memory(disabled(alloc)));
+        }
+        let paths = object_paths(alloc, &objects)?;
+        let sources = Sources {
+            name: Text::new(alloc),
+            dir,
+            library: Text::new(alloc),
+            objects,
+        };
+        let shows = shows_of(set, env);
+        let shared = Shared {
+            task: Task {
+                reporting: Reporting { alloc, shows },
+                set,
+                env,
+                output: "",
+            },
+            jobs,
+            caches: &self.caches,
+            sources: &sources,
+        };
+        let mut answers = Answers::new(alloc);
+        let mut left = Turns {
+            left: turns,
+            used: 0,
+        };
+        match compile_sources(rt, &shared, host, seat, &mut left, &mut answers) {
+            Ok(()) => Ok(paths),
+            Err(error) => Err(error),
+        }
+    }
+}
