@@ -25,6 +25,8 @@ fn refused_argument(alloc: Global, cause: ArgumentCause) -> Answer {
             refused_at(alloc, "SameObject", &[first, second])
         }
         ArgumentCause::LibraryIsObject(place) => refused_at(alloc, "LibraryIsObject", &[place]),
+        ArgumentCause::LineFeed(place) => refused_at(alloc, "LineFeed", &[place]),
+        ArgumentCause::Library => refused_at(alloc, "Library", &[]),
     }
 }
 

@@ -16,7 +16,7 @@ use cc_command::drive;
 use cc_env::EnvSnapshot;
 use cc_host::{Host, HostError, World};
 use cc_hosts::{ProcessHost, StandIns};
-use cc_jobs::{OneCaller, pool_size};
+use cc_jobs::{SharedPool, pool_size};
 use cc_text::{Mem, NoMemory, Vars};
 use std::alloc::Global;
 use std::process::ExitCode;
@@ -109,7 +109,7 @@ fn run<W: World, H: Host<W>>(
     words: &[String],
 ) -> Mem<u8> {
     let total = tokens(alloc, host)?;
-    let (jobs, mut seat) = OneCaller::new(total);
+    let (jobs, mut seat) = SharedPool::new(alloc, total)?;
     let ended = drive(rt, alloc, words, u64::MAX, host, &jobs, &mut seat);
     Ok(ended.status)
 }

@@ -94,6 +94,14 @@ pub(crate) fn remove<W: World, H: Host<W>>(host: &mut H, path: &str) -> Result<R
     host.remove_file(path)
 }
 
+pub(crate) fn write<W: World, H: Host<W>>(
+    host: &mut H,
+    path: &str,
+    contents: &[u8],
+) -> Result<(), HostError> {
+    host.write_file(path, contents)
+}
+
 pub(crate) fn create<W: World, H: Host<W>>(
     host: &mut H,
     path: &str,

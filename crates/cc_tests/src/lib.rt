@@ -18,6 +18,8 @@ mod machine;
 #[cfg(test)]
 mod memory;
 #[cfg(test)]
+mod parts;
+#[cfg(test)]
 mod processes;
 #[cfg(test)]
 mod runs;
@@ -25,6 +27,8 @@ mod runs;
 mod settings;
 #[cfg(test)]
 mod setup;
+#[cfg(test)]
+mod tokens;
 #[cfg(test)]
 mod verdicts;
 #[cfg(test)]

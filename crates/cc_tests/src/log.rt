@@ -39,6 +39,7 @@ fn kind_of(event: &Event) -> &'static str {
             how: Removal::Absent,
             ..
         } => "removes nothing at ",
+        Event::Wrote { .. } => "writes ",
         Event::Printed { .. } => "prints ",
         Event::Listed { .. } => "lists",
         Event::Fault { .. } => "faults",
@@ -72,6 +73,7 @@ fn subject_of(event: &Event) -> &str {
         Event::Taken { path } => path.as_str(),
         Event::Made { path, .. } => path.as_str(),
         Event::Removed { path, .. } => path.as_str(),
+        Event::Wrote { path, .. } => path.as_str(),
         Event::Printed { bytes, .. } => str::from_utf8(bytes.as_slice()).unwrap_or("?").trim_end(),
         _ => "",
     }

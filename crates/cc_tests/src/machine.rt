@@ -2,6 +2,7 @@
 use crate::log::log_text;
 use crate::setup::set_all;
 use cc_build::{Build, Error};
+use cc_host::Host;
 use cc_hosts::{ProcessHost, Real};
 use std::alloc::AllocGlobal;
 use std::process::Abort;
@@ -24,11 +25,7 @@ fn set_gcc(build: &mut Build<Real>, dir: &str) -> Result<(), Error> {
 }
 
 // Whether the compiler is known for GCC or the like, and not for Clang.
-fn is_gnu(
-    rt: &impl Wait,
-    build: &Build<Real>,
-    host: &mut ProcessHost<HostRuntime>,
-) -> Result<bool, Error> {
+fn is_gnu(rt: &impl Wait, build: &Build<Real>, host: &mut impl Host<Real>) -> Result<bool, Error> {
     let tool = build.try_get_compiler(rt, host)?;
     Ok(tool.is_like_gnu())
 }
@@ -37,7 +34,7 @@ fn is_gnu(
 fn check_known(
     rt: &(impl Wait + Files + AllocGlobal + Abort),
     build: &mut Build<Real>,
-    host: &mut ProcessHost<HostRuntime>,
+    host: &mut impl Host<Real>,
     dir: &str,
 ) -> Result<(), Fail> {
     set_gcc(build, dir)?;

@@ -1,23 +1,26 @@
 // The host over the machine, on programs that each machine has and in folders of its own.
+ghost use Rattle.std.specs.Prelude.{◌≡◌, IfOk};
+ghost use Rattle.cc_host.specs.declared.event.Role.TheVariants.{Compile};
+
 use crate::calls::{
     KEPT, check_output, check_verdict, create, leave_alone, make_dir, make_twice, output, remove,
-    stands, start, turn,
+    stands, start, write,
 };
 use crate::log::check_log;
 use cc_host::{
-    Ask, Command, Created, Host, HostCall, HostError, News, OutputKind, Pipes, Removal, Scope,
-    Start, Why,
+    Ask, Command, Created, Host, HostCall, HostError, OutputKind, Pipes, Removal, Role, Scope,
+    Start, Status, Why,
 };
-use cc_hosts::ProcessHost;
-use cc_text::{Mem, Vars};
+use cc_hosts::{ProcessHost, Real};
+use cc_jobs::OneCaller;
+use cc_run::{Planned, Shows, Turns, run_all};
+use cc_text::{Mem, NoMemory, Vars};
 use std::alloc::{AllocGlobal, Global};
 use std::env::Env;
 use std::process::Abort;
 use std::rt::Files;
 use std::test::Fail;
 use std::{env, fs, process};
-
-type Machine = ProcessHost<HostRuntime>;
 
 fn add_line(cmd: &mut Command, line: &str) -> Mem<()> {
     cmd.arg("-c")?;
@@ -32,7 +35,7 @@ fn shell(alloc: Global, line: &str) -> Mem<Command> {
 
 fn check_line(
     rt: &(impl AllocGlobal + Abort),
-    host: &mut Machine,
+    host: &mut impl Host<Real>,
     line: &str,
     want: &str,
 ) -> Result<(), Fail> {
@@ -40,7 +43,7 @@ fn check_line(
     check_output(rt, host, &cmd, KEPT, want)
 }
 
-fn check_lines(rt: &(impl AllocGlobal + Abort), host: &mut Machine) -> Result<(), Fail> {
+fn check_lines(rt: &(impl AllocGlobal + Abort), host: &mut impl Host<Real>) -> Result<(), Fail> {
     check_line(rt, host, "exit 3", "Code(3) |")?;
     check_line(rt, host, "echo A; echo B >&2", "Code(0) A\n|B\n")?;
     check_line(rt, host, "kill -9 $$", "NoCode |")
@@ -54,7 +57,7 @@ fn commands_end_as_their_programs_do(rt: HostRuntime) -> Result<(), Fail> {
 
 fn check_variables(
     rt: &(impl AllocGlobal + Abort),
-    host: &mut Machine,
+    host: &mut impl Host<Real>,
     cmd: &mut Command,
 ) -> Result<(), Fail> {
     cmd.env("A", "1")?;
@@ -73,7 +76,7 @@ fn a_child_has_exactly_its_variables(rt: HostRuntime) -> Result<(), Fail> {
 
 fn check_folder(
     rt: &(impl AllocGlobal + Abort),
-    host: &mut Machine,
+    host: &mut impl Host<Real>,
     cmd: &mut Command,
 ) -> Result<(), Fail> {
     cmd.current_dir("/")?;
@@ -90,7 +93,7 @@ fn a_command_runs_in_its_folder(rt: HostRuntime) -> Result<(), Fail> {
 // A program that isn't there, in a folder that is and in one that isn't.
 fn check_missing(
     rt: &(impl AllocGlobal + Abort),
-    host: &mut Machine,
+    host: &mut impl Host<Real>,
     cmd: &mut Command,
 ) -> Result<(), Fail> {
     check_output(rt, host, cmd, KEPT, "missing")?;
@@ -114,14 +117,14 @@ fn own_path(rt: &HostRuntime, name: &str) -> Result<String, Fail> {
     Ok(format!(in rt.alloc(); "{above}/cc_tests é {name} {id}")?)
 }
 
-fn make_twice_over(host: &mut Machine, folder: &str) -> Result<(), HostError> {
+fn make_twice_over(host: &mut impl Host<Real>, folder: &str) -> Result<(), HostError> {
     make_dir(host, Scope::Build, folder)?;
     make_dir(host, Scope::Build, folder)
 }
 
 fn is_made(
     rt: &(impl Files + AllocGlobal),
-    host: &mut Machine,
+    host: &mut impl Host<Real>,
     folder: &str,
 ) -> Result<bool, Fail> {
     make_twice_over(host, folder)?;
@@ -130,7 +133,7 @@ fn is_made(
 
 fn check_made(
     rt: &(impl Files + AllocGlobal + Abort),
-    host: &mut Machine,
+    host: &mut impl Host<Real>,
     above: &str,
 ) -> Result<(), Fail> {
     let folder = format!(in rt.alloc(); "{above}/a b/ü")?;
@@ -140,7 +143,7 @@ fn check_made(
 
 fn check_folders(
     rt: &(impl Files + AllocGlobal + Abort),
-    host: &mut Machine,
+    host: &mut impl Host<Real>,
     above: &str,
 ) -> Result<(), Fail> {
     check_made(rt, host, above)?;
@@ -159,7 +162,7 @@ fn folders_are_made_with_those_above(rt: HostRuntime) -> Result<(), Fail> {
 
 fn check_removed(
     rt: &(impl Files + AllocGlobal + Abort),
-    host: &mut Machine,
+    host: &mut impl Host<Real>,
     file: &str,
 ) -> Result<(), Fail> {
     fs::write(rt, file, "x")?;
@@ -176,6 +179,39 @@ fn a_removed_file_is_gone_and_then_absent(rt: HostRuntime) -> Result<(), Fail> {
     check_removed(&rt, &mut host, file.as_str())
 }
 
+// What is written in place of a longer file.
+fn is_written(
+    rt: &(impl Files + AllocGlobal),
+    host: &mut impl Host<Real>,
+    path: &str,
+) -> Result<bool, Fail> {
+    write(host, path, b"a line that is longer\n")?;
+    write(host, path, b"A\0\xFF\n")?;
+    let bytes = fs::read(rt, path)?;
+    Ok(bytes.as_slice() == b"A\0\xFF\n".as_slice())
+}
+
+fn check_written(
+    rt: &(impl Files + AllocGlobal + Abort),
+    host: &mut impl Host<Real>,
+    path: &str,
+) -> Result<(), Fail> {
+    assert!(rt; is_written(rt, host, path)?);
+    fs::remove_file(rt, path)?;
+    let refused = HostError::Fault(HostCall::Write, Why::NotFound);
+    assert!(rt; write(host, "/no such folder/a", b"A").err() == Some(refused));
+    let unwritten = HostError::Fault(HostCall::Write, Why::Other);
+    assert!(rt; write(host, "/dev/full", b"A").err() == Some(unwritten));
+    Ok(())
+}
+
+#[test]
+fn a_written_file_has_these_bytes_alone(rt: HostRuntime) -> Result<(), Fail> {
+    let path = own_path(&rt, "written")?;
+    let mut host = ProcessHost::new(rt).expect(&rt, "a host");
+    check_written(&rt, &mut host, path.as_str())
+}
+
 fn is_set(rt: &(impl Env + AllocGlobal), name: &str, value: &str) -> Result<bool, Fail> {
     let found = env::var(rt, name)?;
     Ok(found.as_str() == value)
@@ -188,7 +224,10 @@ fn check_set(rt: &(impl Env + AllocGlobal + Abort), vars: &Vars) -> Result<(), F
     Ok(())
 }
 
-fn check_listed(rt: &(impl Env + AllocGlobal + Abort), host: &mut Machine) -> Result<(), Fail> {
+fn check_listed(
+    rt: &(impl Env + AllocGlobal + Abort),
+    host: &mut impl Host<Real>,
+) -> Result<(), Fail> {
     let vars = host.vars()?;
     check_set(rt, &vars)?;
     check_log(rt, host, "lists\n")
@@ -200,7 +239,7 @@ fn variables_of_the_process_are_listed(rt: HostRuntime) -> Result<(), Fail> {
     check_listed(&rt, &mut host)
 }
 
-fn check_versions(rt: &(impl AllocGlobal + Abort), host: &mut Machine) -> Result<(), Fail> {
+fn check_versions(rt: &(impl AllocGlobal + Abort), host: &mut impl Host<Real>) -> Result<(), Fail> {
     check_verdict(rt, host, Ask::ToolVersion, "gcc", "Yes")?;
     check_verdict(rt, host, Ask::ToolVersion, "no such compiler é", "Missing")?;
     check_log(rt, host, "asks tool version\nasks tool version\n")
@@ -213,13 +252,17 @@ fn a_probe_is_answered_and_noted(rt: HostRuntime) -> Result<(), Fail> {
 }
 
 // A probe file that was made and dropped is gone.
-fn check_dropped(rt: &impl Abort, host: &mut Machine, path: &str) {
+fn check_dropped(rt: &impl Abort, host: &mut impl Host<Real>, path: &str) {
     assert!(rt; matches!(stands(host, path), Ok(false)));
     assert!(rt; matches!(make_twice(host, path), Ok(Some(Created::Exists))));
     assert!(rt; matches!(stands(host, path), Ok(false)));
 }
 
-fn is_kept(rt: &(impl Files + AllocGlobal), host: &mut Machine, path: &str) -> Result<bool, Fail> {
+fn is_kept(
+    rt: &(impl Files + AllocGlobal),
+    host: &mut impl Host<Real>,
+    path: &str,
+) -> Result<bool, Fail> {
     create(host, path, b"int x;\n")?;
     create(host, path, b"int y;\n")?;
     let text = fs::read_to_string(rt, path)?;
@@ -229,7 +272,7 @@ fn is_kept(rt: &(impl Files + AllocGlobal), host: &mut Machine, path: &str) -> R
 // One that stands is left as it is.
 fn check_kept(
     rt: &(impl Files + AllocGlobal + Abort),
-    host: &mut Machine,
+    host: &mut impl Host<Real>,
     path: &str,
 ) -> Result<(), Fail> {
     assert!(rt; is_kept(rt, host, path)?);
@@ -247,49 +290,74 @@ fn a_probe_file_is_made_where_none_stands(rt: HostRuntime) -> Result<(), Fail> {
     check_kept(&rt, &mut host, path.as_str())
 }
 
-fn started(host: &mut Machine, alloc: Global, line: &str) -> Result<Start, HostError> {
+fn started(host: &mut impl Host<Real>, alloc: Global, line: &str) -> Result<Start, HostError> {
     let cmd = shell(alloc, line)?;
     start(host, &cmd)
 }
 
-fn left_alone(host: &mut Machine, alloc: Global, line: &str) -> Result<Option<u64>, HostError> {
+fn left_alone(
+    host: &mut impl Host<Real>,
+    alloc: Global,
+    line: &str,
+) -> Result<Option<u64>, HostError> {
     let cmd = shell(alloc, line)?;
     leave_alone(host, &cmd)
 }
 
-fn text_of(alloc: Global, news: &[News]) -> Mem<String> {
-    Ok(format!(in alloc; "{news:?}")?)
-}
-
-fn news_text(alloc: Global, host: &mut Machine) -> Mem<String> {
-    match turn(host) {
-        Ok(news) => text_of(alloc, news.as_slice()),
-        Err(_) => Ok(String::from_str(alloc, "fault")?),
+// What the children did in a turn is added to what they wrote so far. How one ended, where one did.
+fn hear(host: &mut impl Host<Real>, heard: &mut Vec<u8>) -> Result<Option<Status>, HostError> {
+    let mut ended = None;
+    for news in &host.turn(10)? {
+        if let Some(piece) = &news.piece {
+            heard
+                .extend_from_slice(piece.as_slice())
+                .map_err(NoMemory::from)?;
+        }
+        ended = ended.or(news.ended);
     }
+    Ok(ended)
 }
 
-fn check_turn(rt: &(impl AllocGlobal + Abort), host: &mut Machine, want: &str) -> Result<(), Fail> {
-    let text = news_text(rt.alloc(), host)?;
+const TURNS: u32 = 2000;
+
+// How a child ended, once one did. A turn is made again where memory was refused for it.
+fn end_of(host: &mut impl Host<Real>, heard: &mut Vec<u8>) -> Result<Option<Status>, HostError> {
+    for _ in 0..TURNS {
+        match hear(host, heard) {
+            Ok(None) | Err(HostError::NoMemory) => {}
+            ended => return ended,
+        }
+    }
+    Ok(None)
+}
+
+// How a child ends, and what it wrote.
+fn check_end(
+    rt: &(impl AllocGlobal + Abort),
+    host: &mut impl Host<Real>,
+    want: &str,
+) -> Result<(), Fail> {
+    let mut heard = Vec::new(rt.alloc());
+    let ended = end_of(host, &mut heard)?;
+    let heard = str::from_utf8(&heard).unwrap_or("?");
+    let text = format!(in rt.alloc(); "{ended:?} {heard}")?;
     assert_eq!(rt; text.as_str(), want);
     Ok(())
 }
 
-const FIRST: &str =
-    "[News { id: 0, piece: Some(Bytes { bytes: [65, 10] }), unread: false, ended: Some(Code(3)) }]";
+// A command that leaves a process behind which holds its standard error, and ends before that.
+const LEAVES: &str = "(sleep 5; echo late >&2) & exec 2>&-; exit 4";
 
-const SECOND: &str = "[News { id: 1, piece: None, unread: false, ended: Some(Code(0)) }]";
-
-fn check_turns(rt: &(impl AllocGlobal + Abort), host: &mut Machine) -> Result<(), Fail> {
+fn check_turns(rt: &(impl AllocGlobal + Abort), host: &mut impl Host<Real>) -> Result<(), Fail> {
     started(host, rt.alloc(), "echo A >&2; exit 3")?;
-    started(host, rt.alloc(), "exit 0")?;
-    assert!(rt; matches!(left_alone(host, rt.alloc(), "sleep 60"), Ok(Some(2))));
-    check_turn(rt, host, FIRST)?;
-    check_turn(rt, host, SECOND)?;
-    check_turn(rt, host, "[]")
+    assert!(rt; matches!(left_alone(host, rt.alloc(), "sleep 60"), Ok(Some(1))));
+    check_end(rt, host, "Some(Code(3)) A\n")?;
+    started(host, rt.alloc(), LEAVES)?;
+    check_end(rt, host, "Some(Code(4)) ")
 }
 
 #[test]
-fn the_oldest_child_is_waited_for(rt: HostRuntime) -> Result<(), Fail> {
+fn a_turn_tells_what_a_child_wrote_and_how_it_ended(rt: HostRuntime) -> Result<(), Fail> {
     let mut host = ProcessHost::new(rt)?;
     check_turns(&rt, &mut host)
 }
@@ -299,7 +367,7 @@ const UNHEARD: Pipes = Pipes {
     hear: false,
 };
 
-fn check_unheard(rt: &(impl AllocGlobal + Abort), host: &mut Machine) -> Result<(), Fail> {
+fn check_unheard(rt: &(impl AllocGlobal + Abort), host: &mut impl Host<Real>) -> Result<(), Fail> {
     let cmd = shell(rt.alloc(), "readlink /proc/self/fd/2")?;
     check_output(rt, host, &cmd, UNHEARD, "Code(0) /dev/null\n|")
 }
@@ -310,30 +378,56 @@ fn standard_error_that_is_not_heard_goes_nowhere(rt: HostRuntime) -> Result<(), 
     check_unheard(&rt, &mut host)
 }
 
-// A turn, made again where memory was refused for it.
-fn turn_again(host: &mut Machine) -> Result<Vec<News>, HostError> {
-    match turn(host) {
-        Err(HostError::NoMemory) => turn(host),
-        Ok(news) => Ok(news),
-        Err(error) => Err(error),
-    }
+// A command that waits for a file, and one that writes more than a pipe holds and then makes it.
+const WAITS: &str =
+    "n=0; until test -e \"$0\"; do n=$((n+1)); test $n -lt 500 || exit 9; sleep 0.02; done";
+
+const WRITES: &str = "head -c 200000 /dev/zero | tr '\\0' x >&2; echo >&2; : >\"$0\"";
+
+fn planned(alloc: Global, line: &str, file: &str) -> Mem<Planned>
+    ensures { IfOk result (λ p. p.role ≡ Compile) }
+{
+    let mut cmd = shell(alloc, line)?;
+    cmd.arg(file)?;
+    Ok(Planned {
+        role: Role::Compile,
+        cmd,
+        message: None,
+    })
 }
 
-fn end_of_one(host: &mut Machine, alloc: Global) -> Result<Vec<News>, HostError> {
-    started(host, alloc, "echo A >&2; exit 3")?;
-    turn_again(host)
+const HEARD: Shows = Shows {
+    warnings: true,
+    debug: false,
+    out: OutputKind::Discard,
+};
+
+// Whether both commands end well over a pool of two.
+fn is_run(alloc: Global, host: &mut impl Host<Real>, file: &str) -> Mem<bool> {
+    let cmds = [planned(alloc, WAITS, file)?, planned(alloc, WRITES, file)?];
+    let (jobs, mut seat) = OneCaller::new(2);
+    let mut turns = Turns {
+        left: 100_000,
+        used: 0,
+    };
+    Ok(run_all(alloc, host, &jobs, &mut seat, &mut turns, &cmds, &HEARD).is_ok())
 }
 
-// Where memory is refused in a turn, the child runs on, and the next turn has its whole end.
-fn check_again(rt: &(impl AllocGlobal + Abort), host: &mut Machine) -> Result<(), Fail> {
-    let news = end_of_one(host, rt.alloc())?;
-    let text = text_of(rt.alloc(), news.as_slice())?;
-    assert_eq!(rt; text.as_str(), FIRST);
+fn check_beside(
+    rt: &(impl Files + AllocGlobal + Abort),
+    host: &mut impl Host<Real>,
+    file: &str,
+) -> Result<(), Fail> {
+    assert!(rt; is_run(rt.alloc(), host, file)?);
+    fs::remove_file(rt, file)?;
     Ok(())
 }
 
 #[test]
-fn a_turn_that_wants_memory_loses_no_end(rt: HostRuntime) -> Result<(), Fail> {
-    let mut host = ProcessHost::new(rt)?;
-    check_again(&rt, &mut host)
+fn a_child_that_writes_much_is_heard_while_an_older_one_waits_for_it(
+    rt: HostRuntime,
+) -> Result<(), Fail> {
+    let file = own_path(&rt, "beside")?;
+    let mut host = ProcessHost::new(rt).expect(&rt, "a host");
+    check_beside(&rt, &mut host, file.as_str())
 }

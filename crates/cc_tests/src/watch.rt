@@ -203,6 +203,10 @@ impl Host<Bench> for WatchedHost<'_> {
         self.bench.make_dir(scope, path)
     }
 
+    fn write_file(&mut self, path: &str, contents: &[u8]) -> Result<(), HostError> {
+        self.bench.write_file(path, contents)
+    }
+
     fn remove_file(&mut self, path: &str) -> Result<Removal, HostError> {
         self.bench.remove_file(path)
     }

@@ -1,0 +1,96 @@
+// Tokens that a client hands out, through the lock of their pool, and tokens that two seats share.
+use crate::setup::set_all;
+use cc_build::{Build, Error, ErrorKind};
+use cc_host::{Bench, BenchHost, Role, Script, Status};
+use cc_jobs::{Inherited, InheritedPool, JobFault, Jobs, MemoryClient, SharedPool, Take};
+use cc_text::{Mem, Text};
+use std::alloc::{AllocGlobal, Global};
+use std::sync::Wait;
+use std::test::Fail;
+
+#[test]
+fn the_implicit_token_comes_first_and_is_home_first(rt: HostRuntime) -> Result<(), Fail> {
+    let client = MemoryClient::new(rt.alloc(), 1);
+    let pool = InheritedPool::new(rt, Inherited::new(client));
+    let mut seat = pool.seat();
+    assert_eq!(rt; pool.take(&mut seat), Ok(Take::Token));
+    assert_eq!(rt; pool.take(&mut seat), Ok(Take::Token));
+    assert_eq!(rt; pool.take(&mut seat), Ok(Take::Pending));
+    pool.give(&mut seat);
+    // The client has none yet, so this is the implicit one.
+    assert_eq!(rt; pool.take(&mut seat), Ok(Take::Token));
+    assert_eq!(rt; pool.take(&mut seat), Ok(Take::Pending));
+    pool.give(&mut seat);
+    pool.give(&mut seat);
+    assert_eq!(rt; pool.held(&seat), 0);
+    assert_eq!(rt; pool.take(&mut seat), Ok(Take::Token));
+    assert_eq!(rt; pool.take(&mut seat), Ok(Take::Token));
+    Ok(())
+}
+
+#[test]
+fn a_client_that_fails_is_told_and_what_it_refuses_counts_as_given(
+    rt: HostRuntime,
+) -> Result<(), Fail> {
+    let mut client = MemoryClient::new(rt.alloc(), 1);
+    client.fail_acquire(1)?;
+    client.fail_release(1)?;
+    let pool = InheritedPool::new(rt, Inherited::new(client));
+    let mut seat = pool.seat();
+    assert_eq!(rt; pool.take(&mut seat), Ok(Take::Token));
+    assert_eq!(rt; pool.take(&mut seat), Err(JobFault));
+    assert_eq!(rt; pool.held(&seat), 1);
+    assert_eq!(rt; pool.take(&mut seat), Ok(Take::Token));
+    assert_eq!(rt; pool.take(&mut seat), Ok(Take::Pending));
+    pool.give(&mut seat);
+    pool.give(&mut seat);
+    assert_eq!(rt; pool.held(&seat), 0);
+    assert_eq!(rt; pool.take(&mut seat), Ok(Take::Token));
+    assert_eq!(rt; pool.take(&mut seat), Ok(Take::Pending));
+    Ok(())
+}
+
+// The first source ends only after the second was begun.
+fn set_script(host: &mut BenchHost, alloc: Global) -> Mem<()> {
+    let script = Script {
+        status: Status::Code(0),
+        pieces: Vec::new(alloc),
+        unread: false,
+        turns: 1,
+        after: Some(Text::of(alloc, "src/b.c")?),
+    };
+    host.script(Role::Compile, "src/a.c", script)
+}
+
+fn add_sources(build: &mut Build<Bench>) -> Result<(), Error> {
+    set_all(build, "/o", "cc")?;
+    build.file("src/a.c")?;
+    build.file("src/b.c")
+}
+
+// How a run ends over a pool of two, of which another seat holds one.
+fn ended(
+    rt: &impl Wait,
+    alloc: Global,
+    build: &Build<Bench>,
+    host: &mut BenchHost,
+) -> Mem<Option<ErrorKind>> {
+    let (pool, mut seat) = SharedPool::new(alloc, 2)?;
+    let mut other = pool.split(&mut seat);
+    let _ = pool.take(&mut other);
+    match build.try_compile(rt, host, &pool, &mut seat, 50, "foo") {
+        Ok(()) => Ok(None),
+        Err(error) => Ok(Some(error.kind())),
+    }
+}
+
+#[test]
+fn a_run_starts_no_more_than_it_has_tokens_for(rt: HostRuntime) -> Result<(), Fail> {
+    let mut build: Build<Bench> = Build::new(rt.alloc())?;
+    let mut host = BenchHost::new(rt.alloc())?;
+    add_sources(&mut build)?;
+    set_script(&mut host, rt.alloc())?;
+    let end = ended(&rt, rt.alloc(), &build, &mut host)?;
+    assert!(rt; end == Some(ErrorKind::TurnsSpent));
+    Ok(())
+}
