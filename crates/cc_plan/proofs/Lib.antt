@@ -15,6 +15,7 @@ pub mod ResultLemmas
 pub mod SourceLaws
 pub mod StdlibLemmas
 pub mod SupportLemmas
+pub mod SupportedLemmas
 pub mod ValidLaws
 pub mod VerdictLemmas
 pub mod WarnLemmas

@@ -6,10 +6,9 @@ ghost use Rattle.cc_plan.specs.Refusal.{AllowedBy, RefusedBy};
 
 use crate::PlanError;
 use crate::compilation::Compilation;
+use crate::supported::Supported;
 use cc_env::EnvSnapshot;
-use cc_flags::{
-    FlagError, Maps, RustcCodegenFlags, cargo_maps, is_among, trim_pairs, value_or_empty,
-};
+use cc_flags::{FlagError, Maps, RustcCodegenFlags, cargo_maps, trim_pairs, value_or_empty};
 use cc_text::{Mem, NoMemory, Text, Words, quoted};
 use std::alloc::Global;
 
@@ -109,11 +108,11 @@ pub(crate) fn check_rustflags(given: &Compilation<'_>) -> Result<(), PlanError>
 
 /// Adds those of some words that the compiler takes: a compiler older than rustc may not know a flag that says the same. Refused for
 /// memory.
-pub(crate) fn push_taken(words: &mut Words, supported: &[Text], wanted: &[Text]) -> Mem<()>
+pub(crate) fn push_taken(words: &mut Words, supported: &Supported, wanted: &[Text]) -> Mem<()>
     ensures { OnOk result (words.new ≡ words.old ++ spec.taken_words supported.now wanted.now) }
 {
     for word in wanted {
-        if is_among(supported, word.as_str()) {
+        if supported.has(word.as_str()) {
             words.push(word.as_str())?;
         }
     }
@@ -134,14 +133,14 @@ fn lost_word(alloc: Global, word: &str) -> Mem<Text>
 pub(crate) fn push_lost(
     warnings: &mut Words,
     alloc: Global,
-    supported: &[Text],
+    supported: &Supported,
     wanted: &[Text],
 ) -> Mem<()>
     ensures { OnOk result (warnings.new ≡ warnings.old
         ++ spec.lost_words supported.now wanted.now) }
 {
     for word in wanted {
-        if !is_among(supported, word.as_str()) {
+        if !supported.has(word.as_str()) {
             warnings.push_text(lost_word(alloc, word.as_str())?)?;
         }
     }

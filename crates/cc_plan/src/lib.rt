@@ -38,6 +38,7 @@ mod settings;
 mod sight;
 mod stdlib;
 mod support;
+mod supported;
 mod tool;
 mod words;
 

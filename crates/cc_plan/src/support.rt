@@ -9,6 +9,7 @@ ghost use Rattle.cc_text.specs.Words.{when};
 
 use crate::compilation::Compilation;
 use crate::compiler::Compiler;
+use crate::supported::Supported;
 use crate::tool::{check_compiler, language_variable};
 use crate::words::{asked_words, is_link, tool_words};
 use crate::{BuildConfig, BuildFlag, Choice, Flags, PlanError, Sight};
@@ -113,7 +114,8 @@ fn asking_words(alloc: Global, family: ToolFamily, words: Words) -> Mem<Words>
 fn question_words(plain: &Compilation<'_>) -> Mem<Words>
     ensures { IfOk result (λ words. words ≡ spec.question_words (seen plain.now)) }
 {
-    let words = tool_words(plain, &[])?;
+    let none = Supported::none(plain.alloc);
+    let words = tool_words(plain, &none)?;
     asking_words(plain.alloc, plain.compiler.family, words)
 }
 
@@ -295,10 +297,9 @@ fn supported_among<W: World, H: Host<W>>(
     Ok(taken)
 }
 
-/// Those that the compiler takes of the words it is asked about. Its family is asked for by its path alone. Only want of memory refuses; what
-/// was asked until then is kept.
+// Those that the compiler takes of the words it is asked about, as a list.
 #[tactic(auto, using(crate::proofs::AskingLemmas::only_none))]
-pub(crate) fn supported_words<W: World, H: Host<W>>(
+fn supported_list<W: World, H: Host<W>>(
     rt: &impl Wait,
     given: &Compilation<'_>,
     sight: &mut Sight<'_, W, H>,
@@ -314,4 +315,23 @@ pub(crate) fn supported_words<W: World, H: Host<W>>(
         return Ok(words);
     }
     supported_among(rt, given, &words, sight)
+}
+
+/// Those that the compiler takes of the words it is asked about. Its family is asked for by its path alone. Only want of memory refuses; what
+/// was asked until then is kept.
+#[tactic(auto, using(crate::proofs::AskingLemmas::only_none))]
+pub(crate) fn supported_words<W: World, H: Host<W>>(
+    rt: &impl Wait,
+    given: &Compilation<'_>,
+    sight: &mut Sight<'_, W, H>,
+) -> Mem<Supported>
+    requires { IsChosenAt sight.old given.now.set.now given.now.env.now
+        given.now.compiler.now.choice.path }
+    ensures asks { OnlyAsks W.steady W.answer H.log H.patience
+        (WordAsks (seen given.now) (words_asked (seen given.now))) sight.old sight.new }
+    ensures settles { SettledIn sight.new (spec.supported (seen given.now)) result }
+{
+    let words = supported_list(rt, given, sight)?;
+    let supported = Supported::of(given.alloc, words)?;
+    Ok(supported)
 }

@@ -22,6 +22,7 @@ use crate::inherited::{check_rustflags, push_lost, read_handed};
 use crate::link_warning::{is_first_warning, leaves_off};
 use crate::printing::{print_warnings, wanted_lines};
 use crate::support::supported_words;
+use crate::supported::Supported;
 use crate::words::{check_defaults, remapped, rust_words, tool_warnings, tool_words, trimmed};
 use crate::{BuildConfig, PlanError, Sight};
 use cc_env::BuildEnv;
@@ -203,7 +204,7 @@ fn push_entries(tool: &mut Tool, env: &BuildEnv) -> Mem<()>
 }
 
 // The tool of a compiler, where these words are supported.
-fn tool_by(given: &Compilation<'_>, supported: &[Text]) -> Mem<Tool>
+fn tool_by(given: &Compilation<'_>, supported: &Supported) -> Mem<Tool>
     ensures { IfOk result (λ tool. tool ≡ tool_by (seen given.now) supported.now) }
 {
     let compiler = given.compiler;
@@ -259,7 +260,7 @@ pub(crate) fn found_warnings(given: &Compilation<'_>) -> Mem<Words>
 fn push_lacks_of(
     warnings: &mut Words,
     given: &Compilation<'_>,
-    supported: &[Text],
+    supported: &Supported,
     maps: Maps,
 ) -> Mem<()>
     ensures { OnOk result (warnings.new ≡ warnings.old
@@ -271,14 +272,14 @@ fn push_lacks_of(
         given.alloc,
         path,
         given.compiler.family,
-        supported,
+        supported.as_slice(),
         maps,
     )
 }
 
 // What the compiler lacks of what it is asked about.
 #[tactic(auto, unfolding(crate::specs::Tool::lacks_by))]
-fn push_lacks(warnings: &mut Words, given: &Compilation<'_>, supported: &[Text]) -> Mem<()>
+fn push_lacks(warnings: &mut Words, given: &Compilation<'_>, supported: &Supported) -> Mem<()>
     ensures { OnOk result (warnings.new ≡ warnings.old ++ lacks_by (seen given.now) supported.now) }
 {
     let wanted = rust_words(given)?;
@@ -306,7 +307,7 @@ fn push_link_warning(
 }
 
 // What a user is warned of, but for flags that are left off.
-fn other_warnings(given: &Compilation<'_>, supported: &[Text]) -> Mem<Words>
+fn other_warnings(given: &Compilation<'_>, supported: &Supported) -> Mem<Words>
     ensures { IfOk result (λ warnings. warnings ≡ other_warnings (seen given.now) supported.now) }
 {
     let mut warnings = found_warnings(given)?;
@@ -318,7 +319,7 @@ fn other_warnings(given: &Compilation<'_>, supported: &[Text]) -> Mem<Words>
 
 // What a user may be warned of.
 #[tactic(auto, unfolding(crate::specs::Tool::link_warnings))]
-fn unmarked_by(given: &Compilation<'_>, supported: &[Text]) -> Mem<Unmarked>
+fn unmarked_by(given: &Compilation<'_>, supported: &Supported) -> Mem<Unmarked>
     ensures { IfOk result (λ unmarked. (is_first : Bool) →
         marked_by given.now.set.now unmarked is_first
         ≡ warnings_by (seen given.now) supported.now is_first) }
@@ -388,9 +389,8 @@ pub(crate) fn plan_quietly<W: World, H: Host<W>>(
     };
     check_compiler(&given)?;
     let supported = supported_words(rt, &given, sight)?;
-    let supported = supported.as_slice();
-    let tool = tool_by(&given, supported)?;
-    let unmarked = unmarked_by(&given, supported)?;
+    let tool = tool_by(&given, &supported)?;
+    let unmarked = unmarked_by(&given, &supported)?;
     Ok(QuietPlan {
         target,
         tool,

@@ -12,9 +12,10 @@ use crate::PlanError;
 use crate::compilation::Compilation;
 use crate::given::{has_no_defaults, is_cargos_target, level_of, or_variable, target_of};
 use crate::inherited::taken_flags;
+use crate::supported::Supported;
 use cc_flags::{
-    has, is_among, is_gnu, is_gnu_like, is_wasm_linux, keeps_frame_pointers, lacks_qnx_variant,
-    lent, needs_target_word, push_bare_and_arm_words, push_clang_target_words, push_debug_words,
+    has, is_gnu, is_gnu_like, is_wasm_linux, keeps_frame_pointers, lacks_qnx_variant, lent,
+    needs_target_word, push_bare_and_arm_words, push_clang_target_words, push_debug_words,
     push_frame_pointer_words, push_gnu_words, push_linkage_words, push_optimisation_words,
     push_position_independence_words, push_processor_words, push_qnx_words, push_riscv_words,
     push_sanitizer_words, push_standard_library_words, push_visual_studio_target_words,
@@ -155,14 +156,18 @@ pub(super) fn keeps_frames(given: &Compilation<'_>) -> bool
 // Debug information and frame pointers: GCC's "Options for Debugging Your Program", and `-fno-omit-frame-pointer` of its "Options That Control
 // Optimization". Not each compiler knows the word for leaves, so that one is asked about.
 #[tactic(auto, unfolding(crate::specs::ToolWords::debugging_words))]
-fn push_debugging_words(words: &mut Words, given: &Compilation<'_>, supported: &[Text]) -> Mem<()>
+fn push_debugging_words(
+    words: &mut Words,
+    given: &Compilation<'_>,
+    supported: &Supported,
+) -> Mem<()>
     ensures { OnOk result (words.new ≡ words.old
         ++ spec.debugging_words (seen given.now) supported.now) }
 {
     let family = given.compiler.family;
     let force = given.set.force_frame_pointer;
     let debug = debug_of(given);
-    let takes_leaf = is_among(supported, "-mno-omit-leaf-frame-pointer");
+    let takes_leaf = supported.has("-mno-omit-leaf-frame-pointer");
     push_debug_words(words, family, given.target, debug)?;
     push_frame_pointer_words(words, family, force, debug, takes_leaf)?;
     Ok(())
@@ -170,7 +175,7 @@ fn push_debugging_words(words: &mut Words, given: &Compilation<'_>, supported: &
 
 // The groups of the target and the level, in order.
 #[tactic(auto, unfolding(crate::specs::ToolWords::default_words))]
-fn push_default_words(words: &mut Words, given: &Compilation<'_>, supported: &[Text]) -> Mem<()>
+fn push_default_words(words: &mut Words, given: &Compilation<'_>, supported: &Supported) -> Mem<()>
     ensures { OnOk result (words.new ≡ words.old
         ++ spec.default_words (seen given.now) supported.now) }
 {
@@ -206,7 +211,7 @@ fn push_default_words(words: &mut Words, given: &Compilation<'_>, supported: &[T
 pub(super) fn push_wanted_defaults(
     words: &mut Words,
     given: &Compilation<'_>,
-    supported: &[Text],
+    supported: &Supported,
 ) -> Mem<()>
     ensures { OnOk result (words.new ≡ words.old
         ++ spec.wanted_defaults (seen given.now) supported.now) }

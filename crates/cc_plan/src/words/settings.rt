@@ -6,8 +6,9 @@ ghost use Rattle.std.specs.List.{position};
 ghost use Rattle.std.specs.Option.{option_copied};
 ghost use Rattle.cc_plan.specs.SettingWords as spec;
 
+use crate::supported::Supported;
 use crate::{BuildFlag, Definition};
-use cc_flags::{is_among, is_gnu_like, is_visual_studio};
+use cc_flags::{is_gnu_like, is_visual_studio};
 use cc_text::{Mem, Text, ToolFamily, Words};
 use std::alloc::Global;
 
@@ -66,8 +67,7 @@ pub(super) fn push_error_words(words: &mut Words, family: ToolFamily, into_error
 }
 
 // The usual warnings, where they are on, `-Wall`; none at all, where they are off, `-w`: GCC's "Options to Request or Suppress Warnings".
-// For Visual Studio the levels 4 and 0 of Microsoft's "/w, /W0, /W1, /W2, /W3, /W4, /Wall, .. (Warning level)": its `/Wall` warns of its own
-// headers.
+// For Visual Studio the levels 4 and 0 of Microsoft's compiler option that sets the warning level: its `/Wall` warns of its own headers.
 #[tactic(auto, unfolding(crate::specs::SettingWords::warnings_word))]
 fn push_warnings_word(words: &mut Words, family: ToolFamily, on: bool) -> Mem<()>
     ensures { OnOk result (words.new ≡ words.old ++ spec.warnings_word family on) }
@@ -143,13 +143,13 @@ pub(crate) fn is_link_flag(flag: &BuildFlag) -> bool
 }
 
 // A flag that is always given, or one that stands among the supported ones.
-fn push_flag(words: &mut Words, supported: &[Text], flag: &BuildFlag) -> Mem<()>
+fn push_flag(words: &mut Words, supported: &Supported, flag: &BuildFlag) -> Mem<()>
     ensures { OnOk result (words.new ≡ words.old ++ spec.flag_word supported.now flag.now) }
 {
     match flag {
         BuildFlag::Always(word) => words.push(word.as_str())?,
         BuildFlag::IfSupported(word) => {
-            if is_among(supported, word.as_str()) {
+            if supported.has(word.as_str()) {
                 words.push(word.as_str())?;
             }
         }
@@ -192,7 +192,7 @@ fn compiler_flags(family: ToolFamily, flags: &[BuildFlag]) -> &[BuildFlag]
 pub(super) fn push_flag_words(
     words: &mut Words,
     family: ToolFamily,
-    supported: &[Text],
+    supported: &Supported,
     flags: &[BuildFlag],
 ) -> Mem<()>
     ensures { OnOk result (words.new ≡ words.old

@@ -8,6 +8,7 @@ ghost use Rattle.cc_plan.specs.ToolWords as spec;
 use crate::compilation::Compilation;
 use crate::given::{environment_flags, has_no_defaults};
 use crate::inherited::{push_taken, taken_flags};
+use crate::supported::Supported;
 use crate::words::defaults::{keeps_frames, push_wanted_defaults};
 use crate::words::settings::{
     push_definition_words, push_environment_words, push_error_words, push_extra_warning_words,
@@ -17,7 +18,7 @@ use cc_flags::{
     Maps, is_visual_studio, lent, push_leaf_word, push_map_asks, push_pairs_words, remap_pairs,
     set_maps, taken_maps, taken_over,
 };
-use cc_text::{Mem, Text, Words};
+use cc_text::{Mem, Words};
 
 /// Which paths Cargo wants shown as others, where the build takes that over: Cargo's unstable `trim-paths` ("Unstable Features", "Profile
 /// trim-paths option"). It takes no memory.
@@ -38,26 +39,26 @@ pub(crate) fn remapped(given: &Compilation<'_>) -> Maps
 // The folders that Cargo wants shown as others, so that no object names the machine that it was made on, as far as the compiler takes it:
 // `-fmacro-prefix-map` of GCC's "Options Controlling the Preprocessor", `-fdebug-prefix-map` of its "Options for Debugging Your Program".
 #[tactic(auto, unfolding(crate::specs::ToolWords::trim_words))]
-fn push_trim_words(words: &mut Words, given: &Compilation<'_>, supported: &[Text]) -> Mem<()>
+fn push_trim_words(words: &mut Words, given: &Compilation<'_>, supported: &Supported) -> Mem<()>
     ensures { OnOk result (words.new ≡ words.old
         ++ spec.trim_words (seen given.now) supported.now) }
 {
     let alloc = given.alloc;
     let family = given.compiler.family;
-    let maps = taken_maps(alloc, family, supported, trimmed(given))?;
+    let maps = taken_maps(alloc, family, supported.as_slice(), trimmed(given))?;
     push_pairs_words(words, alloc, family, maps, &given.handed.pairs)?;
     Ok(())
 }
 
 // The folders that the settings want shown as others, by the same flags.
 #[tactic(auto, unfolding(crate::specs::ToolWords::remap_words))]
-fn push_remap_words(words: &mut Words, given: &Compilation<'_>, supported: &[Text]) -> Mem<()>
+fn push_remap_words(words: &mut Words, given: &Compilation<'_>, supported: &Supported) -> Mem<()>
     ensures { OnOk result (words.new ≡ words.old
         ++ spec.remap_words (seen given.now) supported.now) }
 {
     let alloc = given.alloc;
     let family = given.compiler.family;
-    let maps = taken_maps(alloc, family, supported, remapped(given))?;
+    let maps = taken_maps(alloc, family, supported.as_slice(), remapped(given))?;
     let pairs = remap_pairs(alloc, &given.set.remap_source_paths)?;
     push_pairs_words(words, alloc, family, maps, &pairs)?;
     Ok(())
@@ -77,7 +78,7 @@ pub(crate) fn rust_words(given: &Compilation<'_>) -> Mem<Words>
 
 // What is handed down: what the flags of Rust code want, and maps of paths, as far as the compiler takes them.
 #[tactic(auto, unfolding(crate::specs::ToolWords::handed_words))]
-fn push_handed_words(words: &mut Words, given: &Compilation<'_>, supported: &[Text]) -> Mem<()>
+fn push_handed_words(words: &mut Words, given: &Compilation<'_>, supported: &Supported) -> Mem<()>
     ensures { OnOk result (words.new ≡ words.old
         ++ spec.handed_words (seen given.now) supported.now) }
 {
@@ -92,7 +93,7 @@ fn push_handed_words(words: &mut Words, given: &Compilation<'_>, supported: &[Te
 fn push_set_words(
     words: &mut Words,
     given: &Compilation<'_>,
-    supported: &[Text],
+    supported: &Supported,
     environment: Option<&Words>,
 ) -> Mem<()>
     ensures { OnOk result (words.new ≡ words.old
@@ -114,7 +115,7 @@ fn push_set_words(
 
 // The groups of the settings, in order.
 #[tactic(auto, unfolding(crate::specs::ToolWords::setting_words))]
-fn push_setting_words(words: &mut Words, given: &Compilation<'_>, supported: &[Text]) -> Mem<()>
+fn push_setting_words(words: &mut Words, given: &Compilation<'_>, supported: &Supported) -> Mem<()>
     ensures { OnOk result (words.new ≡ words.old
         ++ spec.setting_words (seen given.now) supported.now) }
 {
@@ -152,7 +153,7 @@ pub(crate) fn asked_words(given: &Compilation<'_>) -> Mem<Words>
 
 /// The words of a tool, where `supported` are those that its compiler takes of the words it is asked about. Only want of memory refuses.
 #[tactic(auto, unfolding(crate::specs::ToolWords::tool_words))]
-pub(crate) fn tool_words(given: &Compilation<'_>, supported: &[Text]) -> Mem<Words>
+pub(crate) fn tool_words(given: &Compilation<'_>, supported: &Supported) -> Mem<Words>
     ensures { IfOk result (λ words. words ≡ spec.tool_words (seen given.now) supported.now) }
 {
     let mut words = Words::new(given.alloc);

@@ -23,6 +23,11 @@ returns-in_err-check_compiler-clause-own g c =
     let p = err_from_is_err_and c.from_residual-in_err-check_compiler.result c.from_residual-in_err-check_compiler.ensures.1 in
     rw (p.1, p.2) (built_is_own c.args.set.now c.args.env.now c.in_ok-compiler.compiler c.in_err-check_compiler.field-0.0 c.in_err-check_compiler.ensures.refused)
 
+pub returns-in_err-tool-clause-own : goal.returns-in_err-tool-clause-own
+returns-in_err-tool-clause-own g c =
+    let p = err_from_is_err_and c.from_residual-in_err-tool.result c.from_residual-in_err-tool.ensures.1 in
+    rw (p.1, p.2) tt
+
 pub returns-in_err-supported-clause-asks : goal.returns-in_err-supported-clause-asks
 returns-in_err-supported-clause-asks g c =
     only_then (only_more c.compiler_of.ensures.asks (holds_all (tool_for_plan c.args.set.now c.args.env.now)))
@@ -50,7 +55,7 @@ returns-clause-tool g c =
     (λ look a b.
     ap (λ k. tool_by (compilation_of c.args.set.now c.args.env.now k) (supported (compilation_of c.args.set.now c.args.env.now k) look)) a
     ∙ ap (λ k. tool_by k (supported k look)) (sym known)
-    ∙ ap (tool_by (with_target c.args.set.now c.args.env.now c.in_ok-compiler.compiler (info_seen c.in_ok-target.target))) (b ∙ sym c.as_slice-supported.ensures)
+    ∙ ap (tool_by (with_target c.args.set.now c.args.env.now c.in_ok-compiler.compiler (info_seen c.in_ok-target.target))) b
     ∙ sym c.in_ok-tool.ensures)
 
 pub returns-clause-warnings : goal.returns-clause-warnings
@@ -60,7 +65,7 @@ returns-clause-warnings g c =
     (λ look a b.
     ap (λ k. warnings_by (compilation_of c.args.set.now c.args.env.now k) (supported (compilation_of c.args.set.now c.args.env.now k) look) is_first) a
     ∙ ap (λ k. warnings_by k (supported k look) is_first) (sym known)
-    ∙ ap (λ s. warnings_by (with_target c.args.set.now c.args.env.now c.in_ok-compiler.compiler (info_seen c.in_ok-target.target)) s is_first) (b ∙ sym c.as_slice-supported.ensures)
+    ∙ ap (λ s. warnings_by (with_target c.args.set.now c.args.env.now c.in_ok-compiler.compiler (info_seen c.in_ok-target.target)) s is_first) b
     ∙ sym (c.in_ok-unmarked.ensures is_first))
 
 pub returns-clause-allowed : goal.returns-clause-allowed
