@@ -1,3 +1,4 @@
+pub mod PlainLaws
 pub mod RunningLemmas
 pub mod CommandLemmas
 pub mod EntryLemmas

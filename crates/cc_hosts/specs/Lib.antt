@@ -2,5 +2,6 @@ pub mod Child
 pub mod Entry
 pub mod HostSeen
 pub mod LookUp
+pub mod Plain
 pub mod Reason
 pub mod Running

@@ -15,7 +15,6 @@ pub struct Heard {
     bytes: Vec<u8>,
     pub unread: bool,
     pub ended: Option<Status>,
-    pub has_thread: bool,
     pub is_left: bool,
     pub is_done: bool,
 }
@@ -57,7 +56,6 @@ impl Heard {
             bytes: Vec::with_capacity(alloc, KEPT)?,
             unread: false,
             ended: None,
-            has_thread: false,
             is_left: false,
             is_done: false,
         })

@@ -1,4 +1,4 @@
-//! A host over the machine, its processes, files and streams, and a host in memory with fixed outcomes.
+//! A host over the machine, its processes, files and streams, and two hosts in memory: one with fixed outcomes, and one on which nothing is set.
 //!
 //! Stands on `cc_text` and `cc_host`. The world of `FixedHost` is steady. `ProcessHost` keeps the trait `Host`, and nothing is proved of it beyond that: a
 //! proof can't say what a process did. What it starts a child with, and what it keeps of the child's end, are values
@@ -14,6 +14,7 @@ mod fixed_host;
 mod heard;
 mod look_up;
 mod nursery;
+mod plain;
 mod process_host;
 mod reason;
 mod running;
@@ -22,5 +23,6 @@ mod watched;
 
 pub use child::Closed;
 pub use fixed_host::{Fixed, FixedHost};
+pub use plain::PlainHost;
 pub use process_host::{ProcessHost, Real};
 pub use standard::StandIns;

@@ -47,11 +47,11 @@ struct Ear<E: Drop> {
     left: u32,
 }
 
-/// A child with what was heard of it, each part behind a lock.
+/// A child with what was heard of it, each part behind a lock. Its thread takes the ear for itself, so that a turn never waits for one who listens.
 #[derive(Drop)]
 pub struct Watched<P: OpenProcess + Drop> {
     process: Mutex<Option<Child<P>>>,
-    ear: Mutex<Ear<P::Stderr>>,
+    ear: Mutex<Option<Ear<P::Stderr>>>,
     heard: Mutex<Heard>,
     rest: Parker,
     news: Arc<Parker>,
@@ -100,6 +100,14 @@ fn ended_by(asked: io::Result<Option<ExitStatus>>) -> Option<Status>
 }
 
 impl<E: Drop> Ear<E> {
+    fn of(pipe: Option<E>) -> Ear<E> {
+        Ear {
+            pipe,
+            is_gone: false,
+            left: LAST_READS,
+        }
+    }
+
     // Notes what a read gave.
     fn note(&mut self, hearing: Hearing) -> Step {
         match hearing {
@@ -144,11 +152,7 @@ impl<P: OpenProcess + Drop> Watched<P> {
         let heard = Heard::new(alloc)?;
         let watched = Watched {
             process: Mutex::new(None),
-            ear: Mutex::new(Ear {
-                pipe: None,
-                is_gone: false,
-                left: LAST_READS,
-            }),
+            ear: Mutex::new(None),
             heard: Mutex::new(heard),
             rest: Parker::new(),
             news: Arc::try_clone(news)?,
@@ -158,7 +162,7 @@ impl<P: OpenProcess + Drop> Watched<P> {
 
     /// Takes the child that was started. It takes no memory.
     pub fn begin(&self, rt: &impl Wait, mut child: Child<P>) {
-        self.ear.lock(rt).pipe = child.stderr.take();
+        *self.ear.lock(rt) = Some(Ear::of(child.stderr.take()));
         *self.process.lock(rt) = Some(child);
     }
 
@@ -260,9 +264,7 @@ where
     }
 
     // Hears what comes within so many milliseconds, or asks whether the child ended.
-    fn step(&self, rt: &impl Wait, most_ms: i32) -> Step {
-        let mut guard = self.ear.lock(rt);
-        let ear = &mut *guard;
+    fn step(&self, rt: &impl Wait, ear: &mut Ear<P::Stderr>, most_ms: i32) -> Step {
         let most_ms = if ear.is_gone { 0 } else { most_ms };
         let hearing = match &mut ear.pipe {
             Some(pipe) => self.hear(rt, pipe, most_ms),
@@ -277,11 +279,14 @@ where
 
     /// Does what is to be done for the child without waiting, where it has no thread.
     pub fn attend(&self, rt: &impl Wait) {
-        if self.heard.lock(rt).has_thread {
-            return;
+        if let Some(ear) = &mut *self.ear.lock(rt) {
+            self.attend_to(rt, ear);
         }
+    }
+
+    fn attend_to(&self, rt: &impl Wait, ear: &mut Ear<P::Stderr>) {
         for _ in 0..STEPS {
-            match self.step(rt, 0) {
+            match self.step(rt, ear, 0) {
                 Step::News | Step::Again => {}
                 Step::Silent | Step::Full | Step::Closed | Step::Over => return,
             }
@@ -290,18 +295,20 @@ where
 
     /// Watches the child to its end, or until it is left.
     pub fn watch<R: Wait>(&self, rt: &R) {
-        self.heard.lock(rt).has_thread = true;
-        self.watch_on(rt);
+        let ear = self.ear.lock(rt).take();
+        if let Some(mut ear) = ear {
+            self.watch_on(rt, &mut ear);
+        }
         self.heard.lock(rt).is_done = true;
     }
 
-    fn watch_on<R: Wait>(&self, rt: &R) {
+    fn watch_on<R: Wait>(&self, rt: &R, ear: &mut Ear<P::Stderr>) {
         let mut rest = FIRST_REST;
         for _ in rt.forever() {
             if self.is_left(rt) {
                 return;
             }
-            match self.step(rt, PATIENCE) {
+            match self.step(rt, ear, PATIENCE) {
                 Step::News => self.news.unpark(),
                 Step::Again | Step::Silent => {}
                 Step::Full => self
