@@ -1,5 +1,5 @@
 -- A part that did all the stages of a compile run is built.
-use Rattle.std.proofs.Common.{◌≡◌, List, [], ◌∷◌, ◌++◌, ◌+◌, ℕ, length, Option, Some, None, Bool, true, false, if◌then◌else◌, Result, Ok, Err, OnOk, refl, sym, ◌∙◌, ap, ap₂, subst, append_assoc, append-nil, map, zero-add}
+use Rattle.std.proofs.Common.{◌≡◌, List, [], ◌∷◌, ◌++◌, ℕ, length, Option, Some, None, Bool, true, false, if◌then◌else◌, Result, Ok, Err, OnOk, refl, sym, ◌∙◌, ap, ap₂, subst, append_assoc, append-nil, map, zero-add}
 use Rattle.std.specs.Option.{option_map}
 use Rattle.std.proofs.lemmas.List.{length-map}
 use Rattle.std.proofs.lemmas.Grind.{flat_map-append}
@@ -14,7 +14,7 @@ use Rattle.cc_host.specs.declared.event.Event.TheVariants.{Started, Missing, Ran
 use Rattle.cc_host.specs.declared.event.LineKind.TheVariants.{Warning}
 use Rattle.cc_host.specs.declared.event.Removal.{Removal}
 use Rattle.cc_host.specs.declared.event.Role.{Role}
-use Rattle.cc_host.specs.declared.event.Role.TheVariants.{Compile, Archive, Index}
+use Rattle.cc_host.specs.declared.event.Role.TheVariants.{Compile}
 use Rattle.cc_host.specs.declared.event.Scope.TheVariants.{Build, Probe as ForProbes}
 use Rattle.cc_plan.specs.Given.{is_disabled}
 use Rattle.cc_plan.specs.Plan.{library_of, compiles_of, archive_refusal, lists_of_run, warning_lines, prints, folder_steps, removal_steps}
@@ -27,7 +27,7 @@ use Rattle.cc_run.specs.declared.planned.Planned.{Planned}
 use Rattle.cc_build.specs.Built.{Accepted, Built, ended_well}
 use Rattle.cc_build.specs.Error.{ErrorSeen}
 use Rattle.cc_build.specs.Refusal.{early_error, late_error, archive_error, link_error, refusal_error, plan_error, disabled_error}
-use Rattle.cc_build.specs.Stage.{Stage, commands_in, children_in, calls, planned, beside, tried, written, written_children, writings, has_libtool, folder_stages, compile_stages, removal_stages, library_commands, list_stages, archive_stages, link_stages, library_stages, ending_stages, later_stages, late_stages, planned_stages}
+use Rattle.cc_build.specs.Stage.{Stage, commands_in, children_in, calls, planned, beside, tried, written, written_children, writings, has_libtool, folder_stages, compile_stages, removal_stages, library_commands, list_stages, archive_stages, link_stages, later_stages, late_stages, planned_stages}
 use Rattle.cc_build.specs.Way.{Way, Repeats}
 use Rattle.cc_build.specs.Stage.Stage.{Asks}
 use Rattle.cc_build.specs.Went.{Terms, Means, Went, Ends}

@@ -76,7 +76,7 @@ halted_cause t libtool refusal stages part e x z plain first h =
 
 -- ---- the stages of a compile run
 
-formed_then : (a b : List Stage) → NoArchive a → FormFirst b → FormFirst (a ++ b)
+pub formed_then : (a b : List Stage) → NoArchive a → FormFirst b → FormFirst (a ++ b)
 formed_then [] b none first = first
 formed_then (s ∷ a) b none first = let k = parts (may_archive s) (list_any may_archive a) none in inr (k.0, formed_then a b k.1 first)
   where
@@ -84,7 +84,7 @@ formed_then (s ∷ a) b none first = let k = parts (may_archive s) (list_any may
     parts true q h = absurd (cc)
     parts false q h = (refl, h)
 
-formed_unless : (b : Bool) (stages : List Stage) → FormFirst stages → FormFirst (if b then [] else stages)
+pub formed_unless : (b : Bool) (stages : List Stage) → FormFirst stages → FormFirst (if b then [] else stages)
 formed_unless true stages first = tt
 formed_unless false stages first = first
 
@@ -102,7 +102,7 @@ no_writing_archives : (files : List (List ℕ × List ℕ)) → NoArchive (calls
 no_writing_archives [] = refl
 no_writing_archives (file ∷ files) = no_writing_archives files
 
-none_first : (stages : List Stage) → NoArchive stages → FormFirst stages
+pub none_first : (stages : List Stage) → NoArchive stages → FormFirst stages
 none_first [] none = tt
 none_first (s ∷ ss) none = let k = parts (may_archive s) (list_any may_archive ss) none in inr (k.0, none_first ss k.1)
   where
@@ -126,25 +126,26 @@ module _ (set : BuildConfig) (env : EnvSeen) (way : Way) (look : Look) (output :
   ending_first : FormFirst (ending_stages set env way look output)
   ending_first = inr (refl, formed_unless (is_some (link_refusal set env look)) (link_stages set env look way.is_first output) (none_first (link_stages set env look way.is_first output) no_link_archives))
 
-  archive_first : has_libtool set env look ≡ false → FormFirst (archive_stages set env look way.is_plain output ++ ending_stages set env way look output)
-  unfolding archive_stages
-  archive_first other =
-      written_first (has_libtool set env look) way.is_plain (archives_of set env look way.is_plain output) (indexes_of set env look way.is_plain output) (ending_stages set env way look output) other ending_first
+  -- the commands of a library, and stages behind them
+  module _ (more : List Stage) (first : FormFirst more) where
+    archive_first : has_libtool set env look ≡ false → FormFirst (archive_stages set env look way.is_plain output ++ more)
+    unfolding archive_stages
+    archive_first other = written_first (has_libtool set env look) way.is_plain (archives_of set env look way.is_plain output) (indexes_of set env look way.is_plain output) more other first
 
-  -- the list and the commands, with the stages behind them
-  abbrev listed_archive : List Stage
-  listed_archive = list_stages set env look output ++ archive_stages set env look way.is_plain output
+    -- the list and the commands
+    abbrev listed_archive : List Stage
+    listed_archive = list_stages set env look output ++ archive_stages set env look way.is_plain output
 
-  library_first : has_libtool set env look ≡ false → FormFirst (library_stages set env way.is_plain look output ++ ending_stages set env way look output)
-  library_first other =
-      subst FormFirst (sym (append_assoc (removal_stages set env output) listed_archive (ending_stages set env way look output)))
-      (formed_then (removal_stages set env output) (listed_archive ++ ending_stages set env way look output) no_removal_archives
-      (subst FormFirst (sym (append_assoc (list_stages set env look output) (archive_stages set env look way.is_plain output) (ending_stages set env way look output)))
-      (formed_then (list_stages set env look output) (archive_stages set env look way.is_plain output ++ ending_stages set env way look output) no_list_archives (archive_first other))))
+    pub library_first : has_libtool set env look ≡ false → FormFirst (library_stages set env way.is_plain look output ++ more)
+    library_first other =
+        subst FormFirst (sym (append_assoc (removal_stages set env output) listed_archive more))
+        (formed_then (removal_stages set env output) (listed_archive ++ more) no_removal_archives
+        (subst FormFirst (sym (append_assoc (list_stages set env look output) (archive_stages set env look way.is_plain output) more))
+        (formed_then (list_stages set env look output) (archive_stages set env look way.is_plain output ++ more) no_list_archives (archive_first other))))
 
   later_first : has_libtool set env look ≡ false → FormFirst (later_stages set env way look output)
   unfolding later_stages
-  later_first other = inr (refl, formed_unless (is_some (archive_refusal set env look)) (library_stages set env way.is_plain look output ++ ending_stages set env way look output) (library_first other))
+  later_first other = inr (refl, formed_unless (is_some (archive_refusal set env look)) (library_stages set env way.is_plain look output ++ ending_stages set env way look output) (library_first (ending_stages set env way look output) ending_first other))
 
   late_first : has_libtool set env look ≡ false → FormFirst (late_stages set env way look output)
   unfolding late_stages

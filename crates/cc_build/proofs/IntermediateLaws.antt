@@ -1,5 +1,5 @@
 -- How a run that compiles the sources alone ends, by what it checked and did.
-use Rattle.std.proofs.Common.{◌≡◌, ◌⊎◌, inl, inr, ℕ, List, [], ◌∷◌, ◌++◌, length, Bool, true, false, if◌then◌else◌, is_some, Option, Some, None, option_map, Result, Ok, Err, OnOk, refl, sym, ◌∙◌, ap, ap₂, subst, append-nil}
+use Rattle.std.proofs.Common.{◌≡◌, ◌⊎◌, inl, inr, ℕ, List, [], ◌∷◌, ◌++◌, length, Bool, true, false, if◌then◌else◌, is_some, Option, Some, None, option_map, Result, Ok, Err, refl, sym, ◌∙◌, ap, ap₂, subst, append-nil}
 use Rattle.cc_env.specs.Env.{EnvSeen}
 use Rattle.cc_host.specs.Part.{since}
 use Rattle.cc_host.specs.Question.{Look}
@@ -12,21 +12,17 @@ use Rattle.cc_plan.specs.Refusal.{first_of, intermediate_refusal, late_refusal}
 use Rattle.cc_plan.specs.declared.error.PlanError.{PlanError}
 use Rattle.cc_plan.specs.declared.error.PlanError.TheVariants.{NoMemory as WantsMemory}
 use Rattle.cc_plan.specs.declared.settings.BuildConfig.{BuildConfig}
-use Rattle.cc_run.specs.Part.{started}
-use Rattle.cc_run.specs.Planned.{asked}
 use Rattle.cc_run.specs.declared.planned.Shows.{Shows}
 use Rattle.cc_build.specs.Build.{BuildSeen}
 use Rattle.cc_build.specs.Course.{Course, course}
 use Rattle.cc_build.specs.Error.{ErrorSeen, no_memory}
 use Rattle.cc_build.specs.Intermediates.{intermediate_stages, intermediate_error, IntermediateEnds, Compiled, AreCompiled}
-use Rattle.cc_build.specs.Phases.{CompileEnds}
 use Rattle.cc_build.specs.Promises.{terms_for, NothingRuns, FaultsEnd}
-use Rattle.cc_build.specs.Refusal.{plan_error, disabled_error, late_error}
+use Rattle.cc_build.specs.Refusal.{plan_error, disabled_error}
 use Rattle.cc_build.specs.Shows.{shows_of}
 use Rattle.cc_build.specs.Stage.{Stage, calls, planned, asked_then, folder_stages, compile_stages, children_in}
 use Rattle.cc_build.specs.Stage.Stage.{Asks}
 use Rattle.cc_build.specs.Went.{Terms, Means, terms, Went, Halted, Ends}
-use Rattle.cc_build.specs.declared.task.Task.{Task}
 use Rattle.cc_build.proofs.BuiltLaws.{folder_children, compile_children, started_from, ended_from, planned_length}
 use Rattle.cc_build.proofs.Going.{IsOpen, went_none, halted_none, halted_more, halted_end, halted_from, ends_from}
 use Rattle.cc_build.proofs.OrderLaws.{ended_partly}

@@ -1,3 +1,4 @@
+pub mod AloneLaws
 pub mod ArchivingLaws
 pub mod Asking
 pub mod BesideLaws

@@ -3,28 +3,25 @@ use Rattle.std.proofs.Common.{◌≡◌, ◌⊎◌, ℕ, List, [], ◌∷◌, Bo
 use Rattle.cc_env.specs.Env.{EnvSeen}
 use Rattle.cc_host.specs.Question.{Look}
 use Rattle.cc_host.specs.declared.event.Event.{Event}
+use Rattle.cc_host.specs.declared.event.LineKind.TheVariants.{Link}
+use Rattle.cc_plan.specs.Link.{printed_links}
 use Rattle.cc_plan.specs.Names.{linked_library}
+use Rattle.cc_plan.specs.Plan.{prints}
 use Rattle.cc_plan.specs.Refusal.{first_of, path_refusal, link_refusal}
 use Rattle.cc_plan.specs.declared.error.PlanError.{PlanError}
 use Rattle.cc_plan.specs.declared.error.PlanError.TheVariants.{NoMemory as WantsMemory}
 use Rattle.cc_plan.specs.declared.settings.BuildConfig.{BuildConfig}
-use Rattle.cc_run.specs.declared.planned.Shows.{Shows}
 use Rattle.cc_build.specs.Build.{BuildSeen}
-use Rattle.cc_build.specs.Course.{Course, course}
 use Rattle.cc_build.specs.Error.{ErrorSeen, no_memory}
 use Rattle.cc_build.specs.Linking.{linked_name, name_or_none, DirectivesEnd}
 use Rattle.cc_build.specs.Refusal.{plan_error}
-use Rattle.cc_build.specs.Shows.{shows_of}
 use Rattle.cc_build.specs.Stage.{Stage, asked_then, links_of, printed_stages}
 use Rattle.cc_build.specs.Stage.Stage.{Asks}
 use Rattle.cc_build.specs.Way.{Repeats}
-use Rattle.cc_build.specs.Went.{Terms, Means, terms, means, Ends}
+use Rattle.cc_build.specs.Went.{Terms, Means, Ends}
+use Rattle.cc_build.proofs.AloneLaws.{AreStill, still_calls, still_unless, ends_still}
 use Rattle.cc_build.proofs.IntermediateLaws.{never_begun}
 use Rattle.cc_build.proofs.Stages.{plan_cause}
-
--- the course of a call that starts no child
-abbrev pub idle_course : Course
-idle_course = course None None (means 0 0 0 0) (means 0 0 0 0)
 
 -- the questions and the lines behind a path that is a library's
 by_path : {T : Type 0} (t : Terms) (f : PlanError → ErrorSeen) (early : Option PlanError) (late : Option ErrorSeen) (run : List Stage) (part : List Event) (r : Result T ErrorSeen) (x z : Means) → early ≡ None → Ends t late (Asks ∷ run) part r x z → Ends t (first_of (option_map f early) late) (if is_some early then [] else Asks ∷ run) part r x z
@@ -35,12 +32,9 @@ by_path t f (Some error) late run part r x z is o = absurd (cc)
 pub found_so : (library : List ℕ) (found : List ℕ × List ℕ) → linked_library library ≡ Some found → path_refusal library ≡ None
 found_so library found is = rw is refl
 
-module _ (set : BuildConfig) (env : EnvSeen) (look : Look) (library : List ℕ) (part : List Event) (c : Course) where
+module _ (set : BuildConfig) (env : EnvSeen) (look : Look) (library : List ℕ) (part : List Event) where
   abbrev seen : BuildSeen
   seen = record { config = set; env = env }
-
-  abbrev in_run : Terms
-  in_run = terms (shows_of set env) c.total c.patience
 
   abbrev late_in : Option ErrorSeen
   late_in = option_map (plan_error set env library) (link_refusal set env look)
@@ -49,26 +43,29 @@ module _ (set : BuildConfig) (env : EnvSeen) (look : Look) (library : List ℕ) 
   run_with is_first = if is_some (link_refusal set env look) then [] else printed_stages is_first (links_of set env (linked_name library) library look)
 
   -- nothing was asked: the path is no library's, or memory was wanted
-  pub path_refused : (e : ErrorSeen) (error : PlanError) → part ≡ [] → c.after ≡ c.before → (e ≡ no_memory) ⊎ (e ≡ plan_error set env library error) → (error ≡ WantsMemory) ⊎ (path_refusal library ≡ Some error) → DirectivesEnd {T = Unit {0}} seen library (Err e) look part
-  path_refused e error none same made cause = (
+  pub path_refused : (e : ErrorSeen) (error : PlanError) → part ≡ [] → (e ≡ no_memory) ⊎ (e ≡ plan_error set env library error) → (error ≡ WantsMemory) ⊎ (path_refusal library ≡ Some error) → DirectivesEnd {T = Unit {0}} seen library (Err e) look part
+  path_refused e error none made cause = (
     true,
-    c,
     (
       (λ _. refl),
-      subst (λ (z : Means). Ends {T = Unit {0}} in_run (first_of (option_map (plan_error set env library) (path_refusal library)) late_in) (if is_some (path_refusal library) then [] else Asks ∷ run_with true) part (Err e) c.before z) (sym same)
-          (never_begun in_run (plan_error set env library) late_in [] (run_with true) (path_refusal library) false part e c.before none (plan_cause set env library error e (path_refusal library) made cause)),
+      λ t x. never_begun t (plan_error set env library) late_in [] (run_with true) (path_refusal library) false part e x none (plan_cause set env library error e (path_refusal library) made cause),
     ),
   )
 
   -- the lines were planned and printed so
-  pub lines_ended : {T : Type 0} (found : List ℕ × List ℕ) (shows : Shows) (name path : List ℕ) (r : Result T ErrorSeen) → linked_library library ≡ Some found → name ≡ found.0 → path ≡ library → shows ≡ shows_of set env
-      → (is_first : Bool) × (Repeats set is_first × Ends (terms shows c.total c.patience) late_in (asked_then (link_refusal set env look) (printed_stages is_first (links_of set env name path look))) part r c.before c.after)
+  pub lines_ended : {T : Type 0} (t : Terms) (y z : Means) (found : List ℕ × List ℕ) (name path : List ℕ) (r : Result T ErrorSeen) → linked_library library ≡ Some found → name ≡ found.0 → path ≡ library
+      → (is_first : Bool) × (Repeats set is_first × Ends t late_in (asked_then (link_refusal set env look) (printed_stages is_first (links_of set env name path look))) part r y z)
       → DirectivesEnd seen library r look part
-  lines_ended found shows name path r is n p same h =
+  lines_ended t y z found name path r is n p h =
       let named : name ≡ linked_name library = n ∙ ap name_or_none (sym is) in
-      let stages : List ℕ → List Stage = λ m. asked_then (link_refusal set env look) (printed_stages h.0 (links_of set env m library look)) in
-      let ends : Ends in_run late_in (stages (linked_name library)) part r c.before c.after =
-      subst (λ (s : Shows). Ends (terms s c.total c.patience) late_in (stages (linked_name library)) part r c.before c.after) same
-      (subst (λ (m : List ℕ). Ends (terms shows c.total c.patience) late_in (stages m) part r c.before c.after) named
-      (subst (λ (l : List ℕ). Ends (terms shows c.total c.patience) late_in (asked_then (link_refusal set env look) (printed_stages h.0 (links_of set env name l look))) part r c.before c.after) p h.1.1)) in
-      (h.0, c, (h.1.0, by_path in_run (plan_error set env library) (path_refusal library) late_in (run_with h.0) part r c.before c.after (found_so library found is) ends))
+      let stages : List ℕ → List ℕ → List Stage = λ m l. asked_then (link_refusal set env look) (printed_stages h.0 (links_of set env m l look)) in
+      let ends : Ends t late_in (Asks ∷ run_with h.0) part r y z =
+      subst (λ (m : List ℕ). Ends t late_in (stages m library) part r y z) named
+      (subst (λ (l : List ℕ). Ends t late_in (stages name l) part r y z) p h.1.1) in
+      let still : AreStill (Asks ∷ run_with h.0) = (tt, still_unless (is_some (link_refusal set env look)) (printed_stages h.0 (links_of set env (linked_name library) library look)) (still_calls (prints Link (printed_links h.0 (links_of set env (linked_name library) library look))))) in (
+        h.0,
+        (
+          h.1.0,
+          λ u v. by_path u (plan_error set env library) (path_refusal library) late_in (run_with h.0) part r v v (found_so library found is) (ends_still t u v late_in (Asks ∷ run_with h.0) part r y z still ends),
+        ),
+      )

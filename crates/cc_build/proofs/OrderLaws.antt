@@ -15,7 +15,7 @@ use Rattle.cc_host.specs.declared.event.Event.TheVariants.{Started, Ran, Missing
 use Rattle.cc_host.specs.declared.event.LineKind.{LineKind}
 use Rattle.cc_host.specs.declared.event.LineKind.TheVariants.{Warning}
 use Rattle.cc_host.specs.declared.event.Role.{Role}
-use Rattle.cc_host.specs.declared.event.Role.TheVariants.{Compile, Archive, Index, Expand}
+use Rattle.cc_host.specs.declared.event.Role.TheVariants.{Compile}
 use Rattle.cc_host.specs.declared.event.Scope.TheVariants.{Build}
 use Rattle.cc_host.proofs.Parts.{since_append}
 use Rattle.cc_plan.specs.Given.{is_disabled}

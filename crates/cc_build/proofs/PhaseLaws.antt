@@ -15,7 +15,7 @@ use Rattle.cc_plan.specs.Link.{link_lines as lines_of}
 use Rattle.cc_plan.specs.Names.{library_name}
 use Rattle.cc_plan.specs.declared.settings.BuildConfig.{BuildConfig}
 use Rattle.cc_env.specs.Env.{EnvSeen}
-use Rattle.cc_plan.specs.Plan.{library_of, archived_of, archive_refusal, archives_of, indexes_of, lists_of_run, link_lines, prints, removal_steps, link_steps}
+use Rattle.cc_plan.specs.Plan.{library_of, archived_of, archive_refusal, archives_of, indexes_of, lists_of_run, link_lines, removal_steps, link_steps}
 use Rattle.cc_plan.specs.Refusal.{first_of, late_refusal, archiver_refusal, link_refusal}
 use Rattle.cc_plan.specs.declared.archive.Archiver.{Archiver}
 use Rattle.cc_plan.specs.declared.error.PlanError.{PlanError}

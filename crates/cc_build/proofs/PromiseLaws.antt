@@ -1,6 +1,5 @@
 -- What follows from how a compile run ended.
-use Rattle.std.proofs.Common.{◌≡◌, ◌≤◌, inl, inr, ℕ, List, [], ◌∷◌, ◌++◌, length, map, Bool, true, false, not, Result, Ok, Err, sym, ◌∙◌, ap}
-use Rattle.std.specs.List.{list_any}
+use Rattle.std.proofs.Common.{◌≡◌, ◌≤◌, inl, inr, ℕ, List, [], ◌∷◌, ◌++◌, length, map, false, not, Result, Ok, Err, sym, ◌∙◌, ap}
 use Rattle.cc_host.specs.Part.{is_probing}
 use Rattle.cc_host.specs.Question.{Look}
 use Rattle.cc_host.specs.declared.event.Event.{Event}
@@ -10,7 +9,7 @@ use Rattle.cc_host.specs.declared.event.Why.{Why}
 use Rattle.cc_build.specs.Build.{BuildSeen}
 use Rattle.cc_build.specs.Course.{Course}
 use Rattle.cc_build.specs.Error.{ErrorSeen}
-use Rattle.cc_build.specs.Failed.{HasFault, is_fault}
+use Rattle.cc_build.specs.Failed.{HasFault}
 use Rattle.cc_build.specs.Promises.{terms_for, stages_for, AllStarted, RunEnds, IsBuilt, Promises, NothingRuns, FaultsEnd}
 use Rattle.cc_build.specs.Refusal.{refusal_error}
 use Rattle.cc_build.specs.Stage.{Stage}

@@ -7,11 +7,11 @@ use Rattle.std.proofs.lemmas.List.{length-map, map-append}
 use Rattle.cc_host.specs.Part.{Step, since, step_of}
 use Rattle.cc_host.specs.Status.{is_success}
 use Rattle.cc_host.specs.declared.event.Event.{Event}
-use Rattle.cc_host.specs.declared.event.Event.TheVariants.{Started, Ended, Abandoned, Missing}
+use Rattle.cc_host.specs.declared.event.Event.TheVariants.{Started, Ended, Abandoned}
 use Rattle.cc_host.specs.declared.event.Status.{Status}
 use Rattle.cc_host.proofs.Parts.{since_append}
 use Rattle.cc_run.specs.Outcome.{IsDone}
-use Rattle.cc_run.specs.Part.{started, started_of, missing, missing_of}
+use Rattle.cc_run.specs.Part.{started, started_of, missing}
 use Rattle.cc_run.specs.Planned.{Asked, asked, asked_by}
 use Rattle.cc_run.specs.Run.{Run, nothing, run_after, run_from, place_of, without, failed_at, gone}
 use Rattle.cc_run.specs.declared.planned.Planned.{Planned}

@@ -17,7 +17,7 @@ use Rattle.cc_host.specs.declared.event.HostCall.TheVariants.{Start, Turn as Tur
 use Rattle.cc_host.specs.declared.event.LineKind.{LineKind}
 use Rattle.cc_host.specs.declared.event.LineKind.TheVariants.{Warning, Link}
 use Rattle.cc_host.specs.declared.event.Role.{Role}
-use Rattle.cc_host.specs.declared.event.Role.TheVariants.{Compile, Archive, Index}
+use Rattle.cc_host.specs.declared.event.Role.TheVariants.{Compile}
 use Rattle.cc_host.specs.declared.event.Scope.TheVariants.{Build, Probe as ForProbes}
 use Rattle.cc_host.specs.declared.event.Status.{Status}
 use Rattle.cc_host.specs.declared.event.Why.{Why}
@@ -43,10 +43,10 @@ use Rattle.cc_build.specs.Error.{ErrorSeen, no_memory}
 use Rattle.cc_build.specs.Failed.{Failed, is_fault, is_form, form_aside, unforgiven, HasFault}
 use Rattle.cc_build.specs.Order.{is_archive_role, is_archive_event}
 use Rattle.cc_build.specs.RunErrors.{run_error}
-use Rattle.cc_build.specs.Stage.{Stage, children_in, calls, planned, beside, in_turn, tried, written, writings, has_libtool, asked_then, folder_stages, compile_stages, removal_stages, library_commands, list_stages, archive_stages, link_stages, library_stages, ending_stages, later_stages, asked_stages, late_stages, planned_stages}
+use Rattle.cc_build.specs.Stage.{Stage, children_in, calls, planned, beside, in_turn, tried, written, writings, has_libtool, folder_stages, compile_stages, removal_stages, library_commands, list_stages, archive_stages, link_stages, library_stages, ending_stages, later_stages, asked_stages, late_stages, planned_stages}
 use Rattle.cc_build.specs.Stage.Stage.{Calls, Asks, Tries, RunsOne, RunsAll}
 use Rattle.cc_build.specs.Way.{Way}
-use Rattle.cc_build.specs.Went.{Terms, Means, RanAll, RanOne, Did, Went, IsOf, Stops, Halts, Halted}
+use Rattle.cc_build.specs.Went.{Terms, Means, RanAll, RanOne, Did, Went, IsOf, Stops, Halts}
 use Rattle.cc_build.specs.declared.error.ErrorKind.TheVariants.{TurnsSpent as SpendsTurns}
 use Rattle.cc_build.proofs.RunLaws.{shift, shifted, went_run}
 use Rattle.cc_build.proofs.Trying.{done_of, done_sole, done_faultless, done_forms, broken_of, broken_fault, broken_last, sole_kept, no_such_fault}
@@ -381,7 +381,7 @@ pub plain_behind : (a b : List Stage) → ArePlain (a ++ b) → ArePlain b
 plain_behind [] b p = p
 plain_behind (s ∷ a) b p = plain_behind a b p.1
 
-plain_lines : (kind : LineKind) (lines : List (List ℕ)) → ArePlain (calls (prints kind lines))
+pub plain_lines : (kind : LineKind) (lines : List (List ℕ)) → ArePlain (calls (prints kind lines))
 unfolding prints
 plain_lines kind [] = tt
 plain_lines kind (line ∷ lines) = (tt, plain_lines kind lines)
@@ -407,7 +407,7 @@ plain_writings : (files : List (List ℕ × List ℕ)) → ArePlain (calls (writ
 plain_writings [] = tt
 plain_writings (file ∷ files) = (tt, plain_writings files)
 
-plain_unless : (b : Bool) (stages : List Stage) → ArePlain stages → ArePlain (if b then [] else stages)
+pub plain_unless : (b : Bool) (stages : List Stage) → ArePlain stages → ArePlain (if b then [] else stages)
 plain_unless true stages p = tt
 plain_unless false stages p = p
 
@@ -445,16 +445,16 @@ module _ (set : BuildConfig) (env : EnvSeen) where
   plain_ending : (way : Way) (look : Look) (output : List ℕ) → ArePlain (ending_stages set env way look output)
   plain_ending way look output = (tt, plain_unless (is_some (link_refusal set env look)) (link_stages set env look way.is_first output) (plain_link look way.is_first output))
 
-  plain_library : (way : Way) (look : Look) (output : List ℕ) → ArePlain (library_stages set env way.is_plain look output ++ ending_stages set env way look output)
-  plain_library way look output =
-      plain_then (library_stages set env way.is_plain look output) (ending_stages set env way look output)
-      (plain_then (removal_stages set env output) (list_stages set env look output ++ archive_stages set env look way.is_plain output) (plain_removal output)
-      (plain_then (list_stages set env look output) (archive_stages set env look way.is_plain output) (plain_list look output) (plain_archive look way.is_plain output)))
-      (plain_ending way look output)
+  pub plain_library : (is_plain : Bool) (look : Look) (output : List ℕ) (more : List Stage) → ArePlain more → ArePlain (library_stages set env is_plain look output ++ more)
+  plain_library is_plain look output more plain =
+      plain_then (library_stages set env is_plain look output) more
+      (plain_then (removal_stages set env output) (list_stages set env look output ++ archive_stages set env look is_plain output) (plain_removal output)
+      (plain_then (list_stages set env look output) (archive_stages set env look is_plain output) (plain_list look output) (plain_archive look is_plain output)))
+      plain
 
   plain_later : (way : Way) (look : Look) (output : List ℕ) → ArePlain (later_stages set env way look output)
   unfolding later_stages
-  plain_later way look output = (tt, plain_unless (is_some (archive_refusal set env look)) (library_stages set env way.is_plain look output ++ ending_stages set env way look output) (plain_library way look output))
+  plain_later way look output = (tt, plain_unless (is_some (archive_refusal set env look)) (library_stages set env way.is_plain look output ++ ending_stages set env way look output) (plain_library way.is_plain look output (ending_stages set env way look output) (plain_ending way look output)))
 
   plain_asked : (way : Way) (look : Look) (output : List ℕ) → ArePlain (asked_stages set env way look output)
   plain_asked way look output = (

@@ -1,5 +1,5 @@
 -- What a part says of a command that was tried: it was run in one call of the host.
-use Rattle.std.proofs.Common.{◌≡◌, ◌⊎◌, inl, inr, ℕ, List, [], ◌∷◌, ◌++◌, length, take, Bool, true, false, not, ◌||◌, ◌&&◌, if◌then◌else◌, None, Ok, Err, refl, sym, ◌∙◌, ap, ap₂, append_assoc, append-nil}
+use Rattle.std.proofs.Common.{◌≡◌, ◌⊎◌, inl, inr, ℕ, List, [], ◌∷◌, ◌++◌, take, Bool, true, false, not, ◌||◌, ◌&&◌, if◌then◌else◌, None, Err, refl, sym, ◌∙◌, ap, ap₂, append_assoc, append-nil}
 use Rattle.std.specs.List.{list_all, list_any, flat_map}
 use Rattle.std.proofs.lemmas.Bool.{and_parts, and_from}
 use Rattle.std.proofs.lemmas.Grind.{flat_map-append}
@@ -17,9 +17,9 @@ use Rattle.cc_host.specs.declared.event.Role.{Role}
 use Rattle.cc_host.specs.declared.event.Status.{Status}
 use Rattle.cc_host.specs.declared.event.Why.{Why}
 use Rattle.cc_run.specs.Output.{behind, IsSilentRun}
-use Rattle.cc_run.specs.Part.{started, started_of, missing, missing_of, turns, turns_of, abandoned, abandoned_of}
+use Rattle.cc_run.specs.Part.{started, missing, missing_of, turns, abandoned}
 use Rattle.cc_run.specs.Prints.{prints}
-use Rattle.cc_run.specs.Run.{Run, run_after, run_from}
+use Rattle.cc_run.specs.Run.{Run, run_from}
 use Rattle.cc_run.specs.Texts.{announced}
 use Rattle.cc_run.specs.declared.error.RunError.{RunError}
 use Rattle.cc_run.specs.declared.error.RunError.TheVariants.{ToolNotFound, Failed as Fails, StartFault, WaitFault, HostFault, JobFault, TurnsSpent, NoMemory}

@@ -10,7 +10,7 @@ use Rattle.cc_plan.specs.Refusal.{first_of, name_refusal, early_refusal}
 use Rattle.cc_plan.specs.Settings.{archive_settings}
 use Rattle.cc_plan.specs.declared.settings.BuildConfig.{BuildConfig}
 use Rattle.cc_build.specs.Build.{BuildSeen}
-use Rattle.cc_build.specs.Course.{Course}
+use Rattle.cc_build.specs.Course.{Course, course_alone}
 use Rattle.cc_build.specs.Error.{ErrorSeen}
 use Rattle.cc_build.specs.Promises.{terms_for}
 use Rattle.cc_build.specs.Refusal.{plan_error, disabled_error, archive_error}
@@ -39,6 +39,6 @@ CreationEnds b output (Ok _) look part c =
 CreationEnds b output (Err e) look part c =
     (is_plain : Bool) × Halted (terms_for b c) (first_of (unarchived_error b.config b.env output) (archive_error b.config b.env look output)) (if is_some (unarchived_error b.config b.env output) then [] else asked_then (archive_refusal b.config b.env look) (library_stages b.config b.env is_plain look output ++ Asks ∷ [])) part e c.before c.after
 
--- so it ended with at most so many turns, whichever pool and counts its children had
-abbrev pub Creates : {T : Type 0} → BuildSeen → ℕ → List ℕ → Result T ErrorSeen → Look → List Event → Type 0
-Creates b turns output result look part = (c : Course) × ((c.before.left ≡ turns) × CreationEnds b output result look part c)
+-- so it ended, with this patience of its host, and with some left of these turns
+abbrev pub Creates : {T : Type 0} → BuildSeen → Option ℕ → ℕ → List ℕ → Result T ErrorSeen → Look → List Event → Type 0
+Creates b patience turns output result look part = (left : ℕ) × CreationEnds b output result look part (course_alone patience turns left)

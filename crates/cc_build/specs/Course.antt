@@ -1,5 +1,5 @@
 -- How a run goes, by what is seen of its host and of the seat of its pool before and behind it.
-use Rattle.std.specs.Prelude.{ℕ, List, Option, None, Result}
+use Rattle.std.specs.Prelude.{ℕ, List, Option, None, Some, Result}
 use Rattle.cc_host.specs.Call.{part, ByAnswers}
 use Rattle.cc_host.specs.Part.{Step}
 use Rattle.cc_host.specs.Question.{Look}
@@ -18,6 +18,10 @@ pub record Course : Type 0 where
 
 abbrev pub course : Option ℕ → Option ℕ → Means → Means → Course
 course total patience before after = record { total = total; patience = patience; before = before; after = after }
+
+-- The course of a call that runs its commands one after another. It takes no token: it has a pool of its own, of one.
+abbrev pub course_alone : Option ℕ → ℕ → ℕ → Course
+course_alone patience given left = course (Some 1) patience (means given 0 0 0) (means left 0 0 0)
 
 -- a fact of the part and the course of a call, whose host and seat are viewed so, with this many turns left before and behind it
 abbrev pub OnCourse : {X S : Type 0} → (X → List Event) → (X → Option ℕ) → (S → Option ℕ) → (S → ℕ) → (S → ℕ) → (S → ℕ) → ℕ → ℕ → X → X → S → S → (List Event → Course → Type 0) → Type 0

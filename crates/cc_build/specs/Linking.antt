@@ -1,5 +1,5 @@
 -- Link lines by the path of a library, which is there already.
-use Rattle.std.specs.Prelude.{◌≡◌, ◌⊎◌, ℕ, Bool, List, [], Option, Some, None, Result, is_some, if◌then◌else◌}
+use Rattle.std.specs.Prelude.{ℕ, Bool, List, [], Option, Some, None, Result, is_some, if◌then◌else◌}
 use Rattle.std.specs.Option.{option_map}
 use Rattle.cc_env.specs.Env.{EnvSeen}
 use Rattle.cc_host.specs.Question.{Look}
@@ -8,13 +8,11 @@ use Rattle.cc_plan.specs.Names.{linked_library}
 use Rattle.cc_plan.specs.Refusal.{first_of, path_refusal, link_refusal}
 use Rattle.cc_plan.specs.declared.settings.BuildConfig.{BuildConfig}
 use Rattle.cc_build.specs.Build.{BuildSeen}
-use Rattle.cc_build.specs.Course.{Course}
 use Rattle.cc_build.specs.Error.{ErrorSeen}
-use Rattle.cc_build.specs.Promises.{terms_for}
 use Rattle.cc_build.specs.Refusal.{plan_error}
 use Rattle.cc_build.specs.Stage.{Stage, asked_then, links_of, printed_stages}
 use Rattle.cc_build.specs.Way.{Repeats}
-use Rattle.cc_build.specs.Went.{Ends}
+use Rattle.cc_build.specs.Went.{Terms, Means, Ends}
 
 abbrev pub name_or_none : Option (List ℕ × List ℕ) → List ℕ
 name_or_none None = []
@@ -35,7 +33,8 @@ abbrev pub directive_error : BuildConfig → EnvSeen → Look → List ℕ → O
 directive_error set env look library =
     first_of (option_map (plan_error set env library) (path_refusal library)) (option_map (plan_error set env library) (link_refusal set env look))
 
--- Ok: nothing is refused, and the lines were printed. Else the first were, and the error has its cause. No child is started, so any course will do.
+-- Ok: nothing is refused, and the lines were printed. Else the first were, and the error has its cause. No child is started, so this holds on any terms
+-- and uses nothing up.
 abbrev pub DirectivesEnd : {T : Type 0} → BuildSeen → List ℕ → Result T ErrorSeen → Look → List Event → Type 0
 DirectivesEnd b library result look part =
-    (is_first : Bool) × (c : Course) × (Repeats b.config is_first × Ends (terms_for b c) (directive_error b.config b.env look library) (directive_stages b.config b.env look is_first library) part result c.before c.after)
+    (is_first : Bool) × (Repeats b.config is_first × ((t : Terms) (x : Means) → Ends t (directive_error b.config b.env look library) (directive_stages b.config b.env look is_first library) part result x x))

@@ -1,6 +1,5 @@
 -- What a stage of the code is seen as.
-use Rattle.std.specs.Prelude.{◌≡◌, ℕ, Bool, List, ◌∷◌, ◌++◌, map}
-use Rattle.cc_env.specs.Env.{EnvSeen}
+use Rattle.std.specs.Prelude.{◌≡◌, Bool, List, ◌∷◌, ◌++◌, map}
 use Rattle.cc_host.specs.Part.{Step}
 use Rattle.cc_host.specs.Part.Step.{Removes, Prints}
 use Rattle.cc_host.specs.declared.event.LineKind.TheVariants.{Warning}

@@ -79,7 +79,8 @@ impl<W: World> Build<W> {
         ensures library { IfOk result (λ path. path ≡ library_of
             (with_objects self.now objects.now).config self.now.env output.now) }
         ensures outcome { ByPart H.log host.old host.new
-            (Creates (with_objects self.now objects.now) turns output.now result) }
+            (Creates (with_objects self.now objects.now) (H.patience host.old) turns output.now
+            result) }
         ensures settled { NothingRuns (part H.log host.old host.new) }
         ensures faults_last { FaultsEnd (part H.log host.old host.new) }
     {

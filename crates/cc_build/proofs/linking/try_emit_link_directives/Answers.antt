@@ -11,7 +11,7 @@ use Rattle.cc_build.specs.Error.{no_memory}
 use Rattle.cc_build.specs.Kept.{AsksOn}
 use Rattle.cc_build.specs.Linking.{DirectivesEnd}
 use Rattle.cc_build.proofs.Growing.{on_asked}
-use Rattle.cc_build.proofs.LinkingLaws.{idle_course, path_refused, lines_ended}
+use Rattle.cc_build.proofs.LinkingLaws.{path_refused, lines_ended}
 use Rattle.cc_build.proofs.Outcomes.{made_or_memory}
 use Rattle.cc_build.proofs.linking.try_emit_link_directives.Goals as goal
 
@@ -21,7 +21,7 @@ returns-in-Err-clause-outcome g c =
     subst (λ (b : BuildSeen). Holds (answers (since old old)) (λ look. DirectivesEnd {T = Unit {0}} b c.args.library.now (Err c.or_no_memory.result) look (since old old))) c.build.view_is
     (record {
       under = λ look agree.
-          path_refused c.build.inside.config c.build.inside.env look c.args.library.now (since old old) idle_course c.or_no_memory.result c.in-Err.error (since_none old) refl
+          path_refused c.build.inside.config c.build.inside.env look c.args.library.now (since old old) c.or_no_memory.result c.in-Err.error (since_none old)
           (made_or_memory c.plan_error.result c.or_no_memory.result _ c.or_no_memory.ensures c.plan_error.ensures) c.in-Err.ensures.refused;
     })
 
@@ -31,7 +31,7 @@ returns-in_err-of-clause-outcome g c =
     let p = err_from_is_err_and c.from_residual.result c.from_residual.ensures.1 in
     rw (p.1, p.2)
     (subst (λ (b : BuildSeen). Holds (answers (since old old)) (λ look. DirectivesEnd {T = Unit {0}} b c.args.library.now (Err _) look (since old old))) c.build.view_is
-    (record { under = λ look agree. path_refused c.build.inside.config c.build.inside.env look c.args.library.now (since old old) idle_course no_memory WantsMemory (since_none old) refl (inl refl) (inl refl) }))
+    (record { under = λ look agree. path_refused c.build.inside.config c.build.inside.env look c.args.library.now (since old old) no_memory WantsMemory (since_none old) (inl refl) (inl refl) }))
 
 pub returns-in_err-of-2-clause-outcome : goal.returns-in_err-of-2-clause-outcome
 returns-in_err-of-2-clause-outcome g c =
@@ -39,7 +39,7 @@ returns-in_err-of-2-clause-outcome g c =
     let p = err_from_is_err_and c.from_residual-in_err-of-2.result c.from_residual-in_err-of-2.ensures.1 in
     rw (p.1, p.2)
     (subst (λ (b : BuildSeen). Holds (answers (since old old)) (λ look. DirectivesEnd {T = Unit {0}} b c.args.library.now (Err _) look (since old old))) c.build.view_is
-    (record { under = λ look agree. path_refused c.build.inside.config c.build.inside.env look c.args.library.now (since old old) idle_course no_memory WantsMemory (since_none old) refl (inl refl) (inl refl) }))
+    (record { under = λ look agree. path_refused c.build.inside.config c.build.inside.env look c.args.library.now (since old old) no_memory WantsMemory (since_none old) (inl refl) (inl refl) }))
 
 pub returns-clause-outcome : goal.returns-clause-outcome
 returns-clause-outcome g c =
@@ -53,6 +53,6 @@ returns-clause-outcome g c =
     subst (λ (b : BuildSeen). Holds (answers (since old new)) (λ look. DirectivesEnd b c.args.library.now c.print_links.result look (since old new))) c.build.view_is
     (record {
       under = λ look agree.
-          lines_ended set env look c.args.library.now (since old new) _ c.in-Ok.found c.shows_of.result c.in-Ok.found.0 _ c.print_links.result c.in-Ok.ensures.found refl c.in_ok-of-2.ensures c.shows_of.ensures
+          lines_ended set env look c.args.library.now (since old new) _ _ _ c.in-Ok.found c.in-Ok.found.0 _ c.print_links.result c.in-Ok.ensures.found refl c.in_ok-of-2.ensures
           (c.print_links.ensures.outcome.under look (subst (Agrees look) (sym same) agree));
     })

@@ -1,22 +1,14 @@
-use Rattle.std.proofs.Common.{◌≡◌, ◌⊎◌, ◌∙◌, inl, ℕ, Some, List, [], Ok, Err, refl, sym, ap, subst}
+use Rattle.std.proofs.Common.{◌≡◌, ◌⊎◌, ◌∙◌, inl, ℕ, Some, List, Ok, Err, refl, ap, subst}
 use Rattle.std.proofs.lemmas.Result.{err_from_is_err_and}
 use Rattle.cc_host.specs.Part.{since}
-use Rattle.cc_host.specs.Question.{Answer, Agrees, answers, Holds}
-use Rattle.cc_plan.specs.Given.{probe_folder}
-use Rattle.cc_plan.specs.Questions.{RunAsks}
+use Rattle.cc_host.specs.Question.{answers, Holds}
 use Rattle.cc_plan.specs.declared.settings.BuildConfig.{BuildConfig}
 use Rattle.cc_plan.specs.Settings.{archive_settings}
 use Rattle.cc_plan.proofs.LineLemmas.{since_none}
-use Rattle.cc_tool.proofs.SomeLemmas.{some_agree}
-use Rattle.cc_tool.specs.Asked.{Asked}
 use Rattle.cc_build.specs.Archiving.{with_objects, unarchived_error, Creates}
 use Rattle.cc_build.specs.Build.{BuildSeen}
-use Rattle.cc_build.specs.Course.{course}
 use Rattle.cc_build.specs.Error.{no_memory}
-use Rattle.cc_build.specs.Kept.{AsksOn}
-use Rattle.cc_build.specs.Went.{means}
-use Rattle.cc_build.proofs.ArchivingLaws.{uncreated, created, creation_halted, no_faults, creates_settled, creates_faults}
-use Rattle.cc_build.proofs.Growing.{on_asked}
+use Rattle.cc_build.proofs.ArchivingLaws.{uncreated, agreed, created_by, halted_by, no_faults, creates_settled, creates_faults}
 use Rattle.cc_build.proofs.build.Build.try_create_archive.Goals as goal
 
 pub returns-in_err-set-clause-outcome : goal.returns-in_err-set-clause-outcome
@@ -24,9 +16,9 @@ returns-in_err-set-clause-outcome g c =
     let old = g.H.Host.log c.args.host.now in
     let p = err_from_is_err_and c.from_residual.result c.from_residual.ensures.1 in
     rw (p.1, p.2)
-    (subst (λ (b : BuildSeen). Holds (answers (since old old)) (λ look. Creates {T = List ℕ} (with_objects b c.args.objects.now) c.args.turns c.args.output.now (Err _) look (since old old))) c.self.view_is
+    (subst (λ (b : BuildSeen). Holds (answers (since old old)) (λ look. Creates {T = List ℕ} (with_objects b c.args.objects.now) (g.H.Host.patience c.args.host.now) c.args.turns c.args.output.now (Err _) look (since old old))) c.self.view_is
     (record {
-      under = λ look agree. uncreated (archive_settings c.self.inside.config c.args.objects.now) c.self.inside.env look c.args.turns c.args.output.now (since old old) (List ℕ) _ (since_none old) (inl refl);
+      under = λ look agree. uncreated (archive_settings c.self.inside.config c.args.objects.now) c.self.inside.env (g.H.Host.patience c.args.host.now) c.args.turns c.args.output.now (since old old) (List ℕ) look _ (since_none old) (inl refl);
     }))
 
 pub returns-in_err-set-clause-faults_last : goal.returns-in_err-set-clause-faults_last
@@ -37,10 +29,10 @@ returns-in_err-sources-clause-outcome g c =
     let old = g.H.Host.log c.args.host.now in
     let p = err_from_is_err_and c.from_residual-in_err-sources.result c.from_residual-in_err-sources.ensures.1 in
     rw (p.1, p.2)
-    (subst (λ (b : BuildSeen). Holds (answers (since old old)) (λ look. Creates {T = List ℕ} (with_objects b c.args.objects.now) c.args.turns c.args.output.now (Err c.in_err-sources.field-0.0) look (since old old))) c.self.view_is
+    (subst (λ (b : BuildSeen). Holds (answers (since old old)) (λ look. Creates {T = List ℕ} (with_objects b c.args.objects.now) (g.H.Host.patience c.args.host.now) c.args.turns c.args.output.now (Err c.in_err-sources.field-0.0) look (since old old))) c.self.view_is
     (record {
       under = λ look agree.
-          uncreated (archive_settings c.self.inside.config c.args.objects.now) c.self.inside.env look c.args.turns c.args.output.now (since old old) (List ℕ) c.in_err-sources.field-0.0 (since_none old)
+          uncreated (archive_settings c.self.inside.config c.args.objects.now) c.self.inside.env (g.H.Host.patience c.args.host.now) c.args.turns c.args.output.now (since old old) (List ℕ) look c.in_err-sources.field-0.0 (since_none old)
           (subst (λ (s : BuildConfig). (c.in_err-sources.field-0.0 ≡ no_memory) ⊎ (unarchived_error s c.self.inside.env c.args.output.now ≡ Some c.in_err-sources.field-0.0)) c.in_ok-set.ensures c.in_err-sources.ensures.refused);
     }))
 
@@ -52,9 +44,9 @@ returns-in_err-path-clause-outcome g c =
     let old = g.H.Host.log c.args.host.now in
     let p = err_from_is_err_and c.from_residual-in_err-path.result c.from_residual-in_err-path.ensures.1 in
     rw (p.1, p.2)
-    (subst (λ (b : BuildSeen). Holds (answers (since old old)) (λ look. Creates {T = List ℕ} (with_objects b c.args.objects.now) c.args.turns c.args.output.now (Err _) look (since old old))) c.self.view_is
+    (subst (λ (b : BuildSeen). Holds (answers (since old old)) (λ look. Creates {T = List ℕ} (with_objects b c.args.objects.now) (g.H.Host.patience c.args.host.now) c.args.turns c.args.output.now (Err _) look (since old old))) c.self.view_is
     (record {
-      under = λ look agree. uncreated (archive_settings c.self.inside.config c.args.objects.now) c.self.inside.env look c.args.turns c.args.output.now (since old old) (List ℕ) _ (since_none old) (inl refl);
+      under = λ look agree. uncreated (archive_settings c.self.inside.config c.args.objects.now) c.self.inside.env (g.H.Host.patience c.args.host.now) c.args.turns c.args.output.now (since old old) (List ℕ) look _ (since_none old) (inl refl);
     }))
 
 pub returns-in_err-path-clause-faults_last : goal.returns-in_err-path-clause-faults_last
@@ -62,102 +54,72 @@ returns-in_err-path-clause-faults_last g c = no_faults (since (g.H.Host.log c.ar
 
 pub returns-in-Ok-clause-outcome : goal.returns-in-Ok-clause-outcome
 returns-in-Ok-clause-outcome g c =
-    let old = g.H.Host.log c.args.host.now in
-    let new = g.H.Host.log c.archive_objects.new.host in
+    let part = since (g.H.Host.log c.args.host.now) (g.H.Host.log c.archive_objects.new.host) in
+    let patience = g.H.Host.patience c.args.host.now in
     let set = c.in_ok-set.set in
     let env = c.self.inside.env in
-    let on : AsksOn g.W.World.steady g.W.World.answer (probe_folder set env) (RunAsks set env) (since old new) [] c.archive_objects.new.answers =
-    subst (λ (l : List Answer). AsksOn g.W.World.steady g.W.World.answer (probe_folder set env) (RunAsks set env) (since old new) l c.archive_objects.new.answers) c.new-answers.ensures c.archive_objects.ensures.asks.asks in
-    let asked = on_asked g.W.World.steady g.W.World.answer (probe_folder set env) (RunAsks set env) (since old new) c.archive_objects.new.answers on in
     let inside : BuildSeen = record { config = set; env = env } in
-    let ran : Holds (answers (since old new)) (λ look. Creates {T = List ℕ} inside c.args.turns c.args.output.now (Ok c.in_ok-path.path) look (since old new)) =
-    record {
-      under = λ look agree. created set env look c.args.turns c.args.output.now (since old new) c.shows_of-shows.result _ c.shows_of-shows.ensures refl c.in_ok-sources.ensures.allowed c.in_ok-path.path (c.in-Ok.ensures.outcome.under look (subst (Agrees look) (sym asked.1) agree));
-    } in
+    let ran : Holds (answers part) (λ look. Creates {T = List ℕ} inside patience c.args.turns c.args.output.now (Ok c.in_ok-path.path) look part) =
+    created_by set env patience c.args.turns c.args.output.now part c.shows_of-shows.result _ c.shows_of-shows.ensures refl refl c.in_ok-sources.ensures.allowed g.W.World.steady g.W.World.answer _ _ c.new-answers.ensures c.archive_objects.ensures.asks.asks c.in_ok-path.path c.in-Ok.ensures.outcome in
     let same : inside ≡ with_objects c.args.self.now c.args.objects.now = ap (λ (s : BuildConfig). record { config = s; env = env }) c.in_ok-set.ensures ∙ ap (λ (b : BuildSeen). with_objects b c.args.objects.now) c.self.view_is in
-    subst (λ (b : BuildSeen). Holds (answers (since old new)) (λ look. Creates {T = List ℕ} b c.args.turns c.args.output.now (Ok c.in_ok-path.path) look (since old new))) same ran
+    subst (λ (b : BuildSeen). Holds (answers part) (λ look. Creates {T = List ℕ} b patience c.args.turns c.args.output.now (Ok c.in_ok-path.path) look part)) same ran
 
 pub returns-in-Ok-clause-settled : goal.returns-in-Ok-clause-settled
 returns-in-Ok-clause-settled g c =
-    let old = g.H.Host.log c.args.host.now in
-    let new = g.H.Host.log c.archive_objects.new.host in
+    let part = since (g.H.Host.log c.args.host.now) (g.H.Host.log c.archive_objects.new.host) in
+    let patience = g.H.Host.patience c.args.host.now in
     let set = c.in_ok-set.set in
     let env = c.self.inside.env in
-    let on : AsksOn g.W.World.steady g.W.World.answer (probe_folder set env) (RunAsks set env) (since old new) [] c.archive_objects.new.answers =
-    subst (λ (l : List Answer). AsksOn g.W.World.steady g.W.World.answer (probe_folder set env) (RunAsks set env) (since old new) l c.archive_objects.new.answers) c.new-answers.ensures c.archive_objects.ensures.asks.asks in
-    let asked = on_asked g.W.World.steady g.W.World.answer (probe_folder set env) (RunAsks set env) (since old new) c.archive_objects.new.answers on in
     let inside : BuildSeen = record { config = set; env = env } in
-    let ran : Holds (answers (since old new)) (λ look. Creates {T = List ℕ} inside c.args.turns c.args.output.now (Ok c.in_ok-path.path) look (since old new)) =
-    record {
-      under = λ look agree. created set env look c.args.turns c.args.output.now (since old new) c.shows_of-shows.result _ c.shows_of-shows.ensures refl c.in_ok-sources.ensures.allowed c.in_ok-path.path (c.in-Ok.ensures.outcome.under look (subst (Agrees look) (sym asked.1) agree));
-    } in
-    let some = some_agree (answers (since old new)) asked.0.once in
-    creates_settled {T = List ℕ} inside c.args.turns c.args.output.now some.0 (since old new) (Ok c.in_ok-path.path) (ran.under some.0 some.1)
+    let ran : Holds (answers part) (λ look. Creates {T = List ℕ} inside patience c.args.turns c.args.output.now (Ok c.in_ok-path.path) look part) =
+    created_by set env patience c.args.turns c.args.output.now part c.shows_of-shows.result _ c.shows_of-shows.ensures refl refl c.in_ok-sources.ensures.allowed g.W.World.steady g.W.World.answer _ _ c.new-answers.ensures c.archive_objects.ensures.asks.asks c.in_ok-path.path c.in-Ok.ensures.outcome in
+    let some = agreed set env part g.W.World.steady g.W.World.answer _ _ c.new-answers.ensures c.archive_objects.ensures.asks.asks in
+    creates_settled inside patience c.args.turns c.args.output.now some.0 part (List ℕ) (Ok c.in_ok-path.path) (ran.under some.0 some.1)
 
 pub returns-in-Ok-clause-faults_last : goal.returns-in-Ok-clause-faults_last
 returns-in-Ok-clause-faults_last g c =
-    let old = g.H.Host.log c.args.host.now in
-    let new = g.H.Host.log c.archive_objects.new.host in
+    let part = since (g.H.Host.log c.args.host.now) (g.H.Host.log c.archive_objects.new.host) in
+    let patience = g.H.Host.patience c.args.host.now in
     let set = c.in_ok-set.set in
     let env = c.self.inside.env in
-    let on : AsksOn g.W.World.steady g.W.World.answer (probe_folder set env) (RunAsks set env) (since old new) [] c.archive_objects.new.answers =
-    subst (λ (l : List Answer). AsksOn g.W.World.steady g.W.World.answer (probe_folder set env) (RunAsks set env) (since old new) l c.archive_objects.new.answers) c.new-answers.ensures c.archive_objects.ensures.asks.asks in
-    let asked = on_asked g.W.World.steady g.W.World.answer (probe_folder set env) (RunAsks set env) (since old new) c.archive_objects.new.answers on in
     let inside : BuildSeen = record { config = set; env = env } in
-    let ran : Holds (answers (since old new)) (λ look. Creates {T = List ℕ} inside c.args.turns c.args.output.now (Ok c.in_ok-path.path) look (since old new)) =
-    record {
-      under = λ look agree. created set env look c.args.turns c.args.output.now (since old new) c.shows_of-shows.result _ c.shows_of-shows.ensures refl c.in_ok-sources.ensures.allowed c.in_ok-path.path (c.in-Ok.ensures.outcome.under look (subst (Agrees look) (sym asked.1) agree));
-    } in
-    let some = some_agree (answers (since old new)) asked.0.once in
-    creates_faults {T = List ℕ} inside c.args.turns c.args.output.now some.0 (since old new) (Ok c.in_ok-path.path) (ran.under some.0 some.1)
+    let ran : Holds (answers part) (λ look. Creates {T = List ℕ} inside patience c.args.turns c.args.output.now (Ok c.in_ok-path.path) look part) =
+    created_by set env patience c.args.turns c.args.output.now part c.shows_of-shows.result _ c.shows_of-shows.ensures refl refl c.in_ok-sources.ensures.allowed g.W.World.steady g.W.World.answer _ _ c.new-answers.ensures c.archive_objects.ensures.asks.asks c.in_ok-path.path c.in-Ok.ensures.outcome in
+    let some = agreed set env part g.W.World.steady g.W.World.answer _ _ c.new-answers.ensures c.archive_objects.ensures.asks.asks in
+    creates_faults inside patience c.args.turns c.args.output.now some.0 part (List ℕ) (Ok c.in_ok-path.path) (ran.under some.0 some.1)
 
 pub returns-clause-outcome : goal.returns-clause-outcome
 returns-clause-outcome g c =
-    let old = g.H.Host.log c.args.host.now in
-    let new = g.H.Host.log c.archive_objects.new.host in
+    let part = since (g.H.Host.log c.args.host.now) (g.H.Host.log c.archive_objects.new.host) in
+    let patience = g.H.Host.patience c.args.host.now in
     let set = c.in_ok-set.set in
     let env = c.self.inside.env in
-    let on : AsksOn g.W.World.steady g.W.World.answer (probe_folder set env) (RunAsks set env) (since old new) [] c.archive_objects.new.answers =
-    subst (λ (l : List Answer). AsksOn g.W.World.steady g.W.World.answer (probe_folder set env) (RunAsks set env) (since old new) l c.archive_objects.new.answers) c.new-answers.ensures c.archive_objects.ensures.asks.asks in
-    let asked = on_asked g.W.World.steady g.W.World.answer (probe_folder set env) (RunAsks set env) (since old new) c.archive_objects.new.answers on in
     let inside : BuildSeen = record { config = set; env = env } in
-    let ran : Holds (answers (since old new)) (λ look. Creates {T = List ℕ} inside c.args.turns c.args.output.now (Err c.in-Err.error) look (since old new)) =
-    record {
-      under = λ look agree. creation_halted set env look c.args.turns c.args.output.now (since old new) c.shows_of-shows.result _ c.shows_of-shows.ensures refl c.in_ok-sources.ensures.allowed (List ℕ) c.in-Err.error (c.in-Err.ensures.outcome.under look (subst (Agrees look) (sym asked.1) agree));
-    } in
+    let ran : Holds (answers part) (λ look. Creates {T = List ℕ} inside patience c.args.turns c.args.output.now (Err c.in-Err.error) look part) =
+    halted_by set env patience c.args.turns c.args.output.now part c.shows_of-shows.result _ c.shows_of-shows.ensures refl refl c.in_ok-sources.ensures.allowed g.W.World.steady g.W.World.answer _ _ c.new-answers.ensures c.archive_objects.ensures.asks.asks (List ℕ) c.in-Err.error c.in-Err.ensures.outcome in
     let same : inside ≡ with_objects c.args.self.now c.args.objects.now = ap (λ (s : BuildConfig). record { config = s; env = env }) c.in_ok-set.ensures ∙ ap (λ (b : BuildSeen). with_objects b c.args.objects.now) c.self.view_is in
-    subst (λ (b : BuildSeen). Holds (answers (since old new)) (λ look. Creates {T = List ℕ} b c.args.turns c.args.output.now (Err c.in-Err.error) look (since old new))) same ran
+    subst (λ (b : BuildSeen). Holds (answers part) (λ look. Creates {T = List ℕ} b patience c.args.turns c.args.output.now (Err c.in-Err.error) look part)) same ran
 
 pub returns-clause-settled : goal.returns-clause-settled
 returns-clause-settled g c =
-    let old = g.H.Host.log c.args.host.now in
-    let new = g.H.Host.log c.archive_objects.new.host in
+    let part = since (g.H.Host.log c.args.host.now) (g.H.Host.log c.archive_objects.new.host) in
+    let patience = g.H.Host.patience c.args.host.now in
     let set = c.in_ok-set.set in
     let env = c.self.inside.env in
-    let on : AsksOn g.W.World.steady g.W.World.answer (probe_folder set env) (RunAsks set env) (since old new) [] c.archive_objects.new.answers =
-    subst (λ (l : List Answer). AsksOn g.W.World.steady g.W.World.answer (probe_folder set env) (RunAsks set env) (since old new) l c.archive_objects.new.answers) c.new-answers.ensures c.archive_objects.ensures.asks.asks in
-    let asked = on_asked g.W.World.steady g.W.World.answer (probe_folder set env) (RunAsks set env) (since old new) c.archive_objects.new.answers on in
     let inside : BuildSeen = record { config = set; env = env } in
-    let ran : Holds (answers (since old new)) (λ look. Creates {T = List ℕ} inside c.args.turns c.args.output.now (Err c.in-Err.error) look (since old new)) =
-    record {
-      under = λ look agree. creation_halted set env look c.args.turns c.args.output.now (since old new) c.shows_of-shows.result _ c.shows_of-shows.ensures refl c.in_ok-sources.ensures.allowed (List ℕ) c.in-Err.error (c.in-Err.ensures.outcome.under look (subst (Agrees look) (sym asked.1) agree));
-    } in
-    let some = some_agree (answers (since old new)) asked.0.once in
-    creates_settled {T = List ℕ} inside c.args.turns c.args.output.now some.0 (since old new) (Err c.in-Err.error) (ran.under some.0 some.1)
+    let ran : Holds (answers part) (λ look. Creates {T = List ℕ} inside patience c.args.turns c.args.output.now (Err c.in-Err.error) look part) =
+    halted_by set env patience c.args.turns c.args.output.now part c.shows_of-shows.result _ c.shows_of-shows.ensures refl refl c.in_ok-sources.ensures.allowed g.W.World.steady g.W.World.answer _ _ c.new-answers.ensures c.archive_objects.ensures.asks.asks (List ℕ) c.in-Err.error c.in-Err.ensures.outcome in
+    let some = agreed set env part g.W.World.steady g.W.World.answer _ _ c.new-answers.ensures c.archive_objects.ensures.asks.asks in
+    creates_settled inside patience c.args.turns c.args.output.now some.0 part (List ℕ) (Err c.in-Err.error) (ran.under some.0 some.1)
 
 pub returns-clause-faults_last : goal.returns-clause-faults_last
 returns-clause-faults_last g c =
-    let old = g.H.Host.log c.args.host.now in
-    let new = g.H.Host.log c.archive_objects.new.host in
+    let part = since (g.H.Host.log c.args.host.now) (g.H.Host.log c.archive_objects.new.host) in
+    let patience = g.H.Host.patience c.args.host.now in
     let set = c.in_ok-set.set in
     let env = c.self.inside.env in
-    let on : AsksOn g.W.World.steady g.W.World.answer (probe_folder set env) (RunAsks set env) (since old new) [] c.archive_objects.new.answers =
-    subst (λ (l : List Answer). AsksOn g.W.World.steady g.W.World.answer (probe_folder set env) (RunAsks set env) (since old new) l c.archive_objects.new.answers) c.new-answers.ensures c.archive_objects.ensures.asks.asks in
-    let asked = on_asked g.W.World.steady g.W.World.answer (probe_folder set env) (RunAsks set env) (since old new) c.archive_objects.new.answers on in
     let inside : BuildSeen = record { config = set; env = env } in
-    let ran : Holds (answers (since old new)) (λ look. Creates {T = List ℕ} inside c.args.turns c.args.output.now (Err c.in-Err.error) look (since old new)) =
-    record {
-      under = λ look agree. creation_halted set env look c.args.turns c.args.output.now (since old new) c.shows_of-shows.result _ c.shows_of-shows.ensures refl c.in_ok-sources.ensures.allowed (List ℕ) c.in-Err.error (c.in-Err.ensures.outcome.under look (subst (Agrees look) (sym asked.1) agree));
-    } in
-    let some = some_agree (answers (since old new)) asked.0.once in
-    creates_faults {T = List ℕ} inside c.args.turns c.args.output.now some.0 (since old new) (Err c.in-Err.error) (ran.under some.0 some.1)
+    let ran : Holds (answers part) (λ look. Creates {T = List ℕ} inside patience c.args.turns c.args.output.now (Err c.in-Err.error) look part) =
+    halted_by set env patience c.args.turns c.args.output.now part c.shows_of-shows.result _ c.shows_of-shows.ensures refl refl c.in_ok-sources.ensures.allowed g.W.World.steady g.W.World.answer _ _ c.new-answers.ensures c.archive_objects.ensures.asks.asks (List ℕ) c.in-Err.error c.in-Err.ensures.outcome in
+    let some = agreed set env part g.W.World.steady g.W.World.answer _ _ c.new-answers.ensures c.archive_objects.ensures.asks.asks in
+    creates_faults inside patience c.args.turns c.args.output.now some.0 part (List ℕ) (Err c.in-Err.error) (ran.under some.0 some.1)
