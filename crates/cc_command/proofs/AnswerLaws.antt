@@ -27,7 +27,8 @@ use Rattle.cc_plan.specs.Questions.{RunAsks}
 use Rattle.cc_command.specs.Asks.{AsksFor}
 use Rattle.cc_command.specs.Answer.{IsHalted, Answers, AnswersError, AnswersWords, env_in, terms_in, error_of, repeating, stages_of, ended_well, ended_wanting}
 use Rattle.cc_command.proofs.RepeatLaws.{went_same, halted_same}
-use Rattle.cc_command.specs.Read.{Request, refusal_of}
+use Rattle.cc_command.specs.Read.{Request, Wish, refusal_of}
+use Rattle.cc_command.specs.Read.Wish.{Compiles, Archives}
 use Rattle.cc_command.specs.declared.top.Ended.{Ended}
 use Rattle.cc_command.specs.declared.words.BadWord.{BadWord}
 use Rattle.cc_command.specs.declared.words.ReadError.{ReadError}
@@ -105,18 +106,19 @@ pub answers_named : (look : Look) (a b : List ℕ) (build : BuildSeen) (part : L
 answers_named look a b build part ended c same h = subst (λ (name : List ℕ). Answers look (name, build) part ended c) same h
 
 -- the same words, as they were read
-pub answers_read : (look : Look) (words known : Result Request BadWord) (part : List Event) (ended : Ended) (c : Course) → words ≡ known → AnswersWords look known part ended c → AnswersWords look words part ended c
-answers_read look words known part ended c same a = subst (λ (w : Result Request BadWord). AnswersWords look w part ended c) (sym same) a
+pub answers_read : (look : Look) (words known : Result Wish BadWord) (part : List Event) (ended : Ended) (c : Course) → words ≡ known → AnswersWords look known part ended c → AnswersWords look words part ended c
+answers_read look words known part ended c same a = subst (λ (w : Result Wish BadWord). AnswersWords look w part ended c) (sym same) a
 
 -- a bad word that was read is the first of the words
-pub bad_read : (words : Result Request BadWord) (e : ReadError) (bad : BadWord) → e ≡ Bad bad → (e ≡ WantsMemory) ⊎ (refusal_of words ≡ Some e) → words ≡ Err bad
+pub bad_read : (words : Result Wish BadWord) (e : ReadError) (bad : BadWord) → e ≡ Bad bad → (e ≡ WantsMemory) ⊎ (refusal_of words ≡ Some e) → words ≡ Err bad
 bad_read words e bad is (inl wants) = let clash : Bad bad ≡ WantsMemory = sym is ∙ wants in absurd (cc)
-bad_read (Ok request) e bad is (inr refused) = absurd (cc)
+bad_read (Ok wish) e bad is (inr refused) = absurd (cc)
 bad_read (Err found) e bad is (inr refused) = let same : Some (Bad found) ≡ Some (Bad bad) = refused ∙ ap Some is in let one : found ≡ bad = cc in ap Err one
 
 -- memory was wanted before anything was done
-pub answers_wanting : (look : Look) (words : Result Request BadWord) (log : List Event) (ended : Ended) (c : Course) → ended ≡ ended_wanting → c.after ≡ c.before → AnswersWords look words (since log log) ended c
-answers_wanting look (Ok q) log ended c is same =
+pub answers_wanting : (look : Look) (words : Result Wish BadWord) (log : List Event) (ended : Ended) (c : Course) → ended ≡ ended_wanting → c.after ≡ c.before → AnswersWords look words (since log log) ended c
+answers_wanting look (Ok (Archives q)) log ended c is same = tt
+answers_wanting look (Ok (Compiles q)) log ended c is same =
     let none : since log log ≡ [] = part_is log log [] (sym (append-nil log)) in
     inr (inr (
       is,

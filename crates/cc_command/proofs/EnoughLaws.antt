@@ -1,5 +1,5 @@
 -- How many commands a request has at most, and that refused settings spend no turns.
-use Rattle.std.proofs.Common.{◌≡◌, ℕ, ◌+◌, ◌*◌, List, [], ◌∷◌, ◌++◌, length, Bool, true, false, Option, Some, None, if◌then◌else◌, is_some, map, refl, sym, ◌∙◌, ap, zero-add, arith}
+use Rattle.std.proofs.Common.{◌≡◌, ℕ, ◌+◌, ◌*◌, List, [], ◌∷◌, ◌++◌, length, Bool, true, false, Option, Some, None, if◌then◌else◌, is_some, map, refl, ◌∙◌, ap, zero-add, arith}
 use Rattle.std.specs.Prelude.{◌≤◌}
 use Rattle.std.specs.Option.{option_map}
 use Rattle.std.proofs.lemmas.List.{length-append, length-map}
@@ -37,10 +37,10 @@ count stages = length (commands_in stages)
 
 -- ---- the commands of stages
 
-both : (a b : List Stage) → count (a ++ b) ≡ count a + count b
+pub both : (a b : List Stage) → count (a ++ b) ≡ count a + count b
 both a b = ap length (commands_then a b) ∙ length-append (commands_in a) (commands_in b)
 
-calls_none : (steps : List Step) → count (calls steps) ≡ 0
+pub calls_none : (steps : List Step) → count (calls steps) ≡ 0
 calls_none steps = ap length (commands_calls steps)
 
 -- one compile command a source
@@ -113,27 +113,38 @@ link_count : (set : BuildConfig) (env : EnvSeen) (look : Look) (is_first : Bool)
 unfolding link_stages
 link_count set env look is_first output = calls_none (link_steps set env look is_first output)
 
-unless_few : (b : Bool) (stages : List Stage) (n : ℕ) → count stages ≤ n → count (if b then [] else stages) ≤ n
+pub unless_few : (b : Bool) (stages : List Stage) (n : ℕ) → count stages ≤ n → count (if b then [] else stages) ≤ n
 unless_few true stages n h = omega arith
 unless_few false stages n h = h
 
-unless_none : (b : Bool) (stages : List Stage) → count stages ≡ 0 → count (if b then [] else stages) ≡ 0
+pub unless_none : (b : Bool) (stages : List Stage) → count stages ≡ 0 → count (if b then [] else stages) ≡ 0
 unless_none true stages h = refl
 unless_none false stages h = h
 
-four : (b l d e : List Stage) (n m : ℕ) → count b ≡ 0 → count l ≡ 0 → count d ≤ n + m + 2 → count e ≡ 0 → count ((b ++ (l ++ d)) ++ e) ≤ n + m + 2
-four b l d e n m q k r s =
-    let x : count ((b ++ (l ++ d)) ++ e) ≡ count (b ++ (l ++ d)) + count e = both (b ++ (l ++ d)) e in
+three : (b l d : List Stage) (n m : ℕ) → count b ≡ 0 → count l ≡ 0 → count d ≤ n + m + 2 → count (b ++ (l ++ d)) ≤ n + m + 2
+three b l d n m q k r =
     let y : count (b ++ (l ++ d)) ≡ count b + count (l ++ d) = both b (l ++ d) in
     let z : count (l ++ d) ≡ count l + count d = both l d in
+    omega arith
+
+-- those of a library, from its removal on
+library_count : (set : BuildConfig) (env : EnvSeen) (look : Look) (is_plain : Bool) (output : List ℕ) → count (library_stages set env is_plain look output) ≤ length set.files + length set.objects + 2
+library_count set env look is_plain output =
+    three (removal_stages set env output) (list_stages set env look output) (archive_stages set env look is_plain output) (length set.files) (length set.objects)
+    (removal_count set env output) (list_count set env look output) (archive_count set env look is_plain output)
+
+-- and no more with stages behind them that have none
+pub ended_count : (set : BuildConfig) (env : EnvSeen) (look : Look) (is_plain : Bool) (output : List ℕ) (more : List Stage) → count more ≡ 0 → count (library_stages set env is_plain look output ++ more) ≤ length set.files + length set.objects + 2
+ended_count set env look is_plain output more none =
+    let x : count (library_stages set env is_plain look output ++ more) ≡ count (library_stages set env is_plain look output) + count more = both (library_stages set env is_plain look output) more in
+    let few : count (library_stages set env is_plain look output) ≤ length set.files + length set.objects + 2 = library_count set env look is_plain output in
     omega arith
 
 later_count : (set : BuildConfig) (env : EnvSeen) (way : Way) (look : Look) (output : List ℕ) → count (later_stages set env way look output) ≤ length set.files + length set.objects + 2
 unfolding later_stages
 later_count set env way look output =
     unless_few (is_some (archive_refusal set env look)) (library_stages set env way.is_plain look output ++ ending_stages set env way look output) (length set.files + length set.objects + 2)
-    (four (removal_stages set env output) (list_stages set env look output) (archive_stages set env look way.is_plain output) (ending_stages set env way look output) (length set.files) (length set.objects)
-    (removal_count set env output) (list_count set env look output) (archive_count set env look way.is_plain output)
+    (ended_count set env look way.is_plain output (ending_stages set env way look output)
     (unless_none (is_some (link_refusal set env look)) (link_stages set env look way.is_first output) (link_count set env look way.is_first output)))
 
 two : (a b : List Stage) (n m : ℕ) → count a ≡ n → count b ≤ n + m + 2 → count (a ++ b) ≤ 2 * n + m + 2
@@ -177,20 +188,20 @@ plan_kind set env output (Flag flag) spent = cc
 plan_kind set env output (Host call why) spent = cc
 plan_kind set env output WantsMemory spent = cc
 
-mapped : (set : BuildConfig) (env : EnvSeen) (output : List ℕ) (refusal : Option PlanError) → NeverSpent (option_map (plan_error set env output) refusal)
+pub mapped : (set : BuildConfig) (env : EnvSeen) (output : List ℕ) (refusal : Option PlanError) → NeverSpent (option_map (plan_error set env output) refusal)
 mapped set env output None e is spent = cc
 mapped set env output (Some error) e is spent =
     let same : plan_error set env output error ≡ e = cc in
     plan_kind set env output error (ap (λ (x : ErrorSeen). x.kind) same ∙ spent)
 
-disabled_or : (b : Bool) (refusal : Option ErrorSeen) → NeverSpent refusal → NeverSpent (if b then Some disabled_error else refusal)
+pub disabled_or : (b : Bool) (refusal : Option ErrorSeen) → NeverSpent refusal → NeverSpent (if b then Some disabled_error else refusal)
 disabled_or true refusal h e is spent =
     let same : disabled_error ≡ e = cc in
     let kind : disabled_error.kind ≡ TurnsSpent = ap (λ (x : ErrorSeen). x.kind) same ∙ spent in
     cc
 disabled_or false refusal h e is spent = h e is spent
 
-first_never : (a b : Option ErrorSeen) → NeverSpent a → NeverSpent b → NeverSpent (first_of a b)
+pub first_never : (a b : Option ErrorSeen) → NeverSpent a → NeverSpent b → NeverSpent (first_of a b)
 first_never None b f g e is spent = g e is spent
 first_never (Some x) b f g e is spent = f e is spent
 

@@ -1,9 +1,16 @@
 pub mod AnswerLaws
+pub mod ArchivedLaws
+pub mod ArchivingLaws
 pub mod AskLaws
+pub mod DottedPaths
 pub mod EnoughLaws
 pub mod FlagLaws
+pub mod GeneratedLaws
+pub mod GeneratedObjects
+pub mod GeneratedRunLaws
 pub mod KeyLaws
 pub mod NumberLaws
+pub mod PlainRunLaws
 pub mod PromiseLaws
 pub mod RepeatLaws
 pub mod SettingLaws

@@ -1,6 +1,6 @@
 -- What follows from an answer.
-use Rattle.std.proofs.Common.{◌≡◌, ◌⊎◌, inl, inr, ℕ, ◌+◌, ◌<◌, List, [], ◌∷◌, ◌++◌, length, map, Bool, true, false, ◌||◌, if◌then◌else◌, None, Some, Result, Ok, Err, refl, sym, ◌∙◌, ap, subst, append-nil, arith}
-use Rattle.std.specs.Prelude.{◌≤◌, ◌*◌, IfOk}
+use Rattle.std.proofs.Common.{◌≡◌, ◌⊎◌, inl, inr, ℕ, ◌+◌, ◌<◌, List, [], ◌∷◌, ◌++◌, length, map, Bool, true, false, ◌||◌, if◌then◌else◌, Option, None, Some, Result, Ok, Err, refl, sym, ◌∙◌, ap, subst, append-nil, arith}
+use Rattle.std.specs.Prelude.{◌≤◌, ◌*◌}
 use Rattle.std.specs.List.{list_any}
 use Rattle.std.proofs.Math.Nat.{mul-le-mul_left}
 use Rattle.std.proofs.lemmas.Grind.{flat_map-append}
@@ -29,16 +29,17 @@ use Rattle.cc_build.specs.Order.{is_archive_event}
 use Rattle.cc_build.specs.Refusal.{refusal_error}
 use Rattle.cc_build.specs.Stage.{Stage, commands_in, folder_stages, compile_stages, planned_stages, has_libtool}
 use Rattle.cc_build.specs.Stage.Stage.{Asks, Calls}
-use Rattle.cc_build.specs.Went.{Terms, Partly, Goes}
+use Rattle.cc_build.specs.Went.{Terms, Means, Halted, Partly, Goes}
 use Rattle.cc_build.specs.declared.error.ErrorKind.TheVariants.{TurnsSpent}
 use Rattle.cc_build.proofs.OrderLaws.{NoArchive, planned, archives_behind, no_source_archives, went_partly, halted_partly}
 use Rattle.cc_build.proofs.PromiseLaws.{none_inside, fault_ends}
-use Rattle.cc_build.proofs.FormLaws.{planned_first, halted_cause}
-use Rattle.cc_build.proofs.StopLaws.{HasCause, planned_plain}
+use Rattle.cc_build.proofs.FormLaws.{FormFirst, planned_first, halted_cause}
+use Rattle.cc_build.proofs.StopLaws.{ArePlain, HasCause, planned_plain}
 use Rattle.cc_build.proofs.TurnLaws.{halted_turns, halted_bound}
-use Rattle.cc_command.specs.Answer.{Answers, AnswersWords, BuiltBy, Refused, PrintsLine, first_listing, heard, env_in, terms_of, terms_in, repeating, stages_of, error_of, error_line, word_line, is_wanting, ended_well, ended_refused, ended_wanting}
+use Rattle.cc_command.specs.Answer.{Answers, AnswersBad, AnswersWords, IfCompiles, BuiltBy, Refused, PrintsLine, first_listing, heard, env_in, terms_of, terms_in, repeating, stages_of, error_of, error_line, word_line, is_wanting, ended_well, ended_refused, ended_wanting}
 use Rattle.cc_command.specs.Promises.{PrintsLast, IsLine, Begun, IsBegun, ArchivesBehind, CompilesFirst, EndsAlone, FaultsLast, EndsSpent, IsComplete, IsEnough}
-use Rattle.cc_command.specs.Read.{Request}
+use Rattle.cc_command.specs.Read.{Request, Wish}
+use Rattle.cc_command.specs.Read.Wish.{Compiles, Archives}
 use Rattle.cc_command.specs.declared.top.Ended.{Ended}
 use Rattle.cc_command.specs.declared.words.BadWord.{BadWord}
 use Rattle.cc_command.proofs.EnoughLaws.{planned_count, never_spent}
@@ -50,18 +51,21 @@ built_of look q part ended c (inl well) zero_is = well.1.0
 built_of look q part ended c (inr (inl r)) zero_is = let s : ended.status ≡ 1 = ap (λ (x : Ended). x.status) r.is in absurd (cc)
 built_of look q part ended c (inr (inr wanting)) zero_is = let s : ended.status ≡ 3 = ap (λ (x : Ended). x.status) wanting.0 in absurd (cc)
 
-pub headline : (look : Look) (words : Result Request BadWord) (part : List Event) (ended : Ended) (c : Course) → AnswersWords look words part ended c → IfOk words (λ request. ended.status ≡ 0 → BuiltBy look request part c)
-headline look (Ok q) part ended c a = built_of look q part ended c a
+pub headline : (look : Look) (words : Result Wish BadWord) (part : List Event) (ended : Ended) (c : Course) → AnswersWords look words part ended c → IfCompiles words (λ request. ended.status ≡ 0 → BuiltBy look request part c)
+headline look (Ok (Compiles q)) part ended c a = built_of look q part ended c a
+headline look (Ok (Archives q)) part ended c a = tt
 headline look (Err bad) part ended c a = tt
 
 -- ---- the line of it is last
 
-pub prints_last : (look : Look) (words : Result Request BadWord) (part : List Event) (ended : Ended) (c : Course) → AnswersWords look words part ended c → PrintsLast part ended
-prints_last look (Ok q) part ended c (inl well) = inl well.0
-prints_last look (Ok q) part ended c (inr (inl r)) = inr (inl (r.error, (r.is, record { before = r.run; end = r.line; cut = r.cut; printed = r.printed })))
-prints_last look (Ok q) part ended c (inr (inr wanting)) = inr (inr (inr wanting.0))
-prints_last look (Err bad) part ended c (inl printed, same) = inr (inr (inl (bad, (printed.0, record { before = []; end = part; cut = refl; printed = printed.1 }))))
-prints_last look (Err bad) part ended c (inr wanting, same) = inr (inr (inr wanting.0))
+pub request_last : (look : Look) (q : Request) (part : List Event) (ended : Ended) (c : Course) → Answers look q part ended c → PrintsLast part ended
+request_last look q part ended c (inl well) = inl well.0
+request_last look q part ended c (inr (inl r)) = inr (inl (r.error, (r.is, record { before = r.run; end = r.line; cut = r.cut; printed = r.printed })))
+request_last look q part ended c (inr (inr wanting)) = inr (inr (inr wanting.0))
+
+pub word_last : (bad : BadWord) (part : List Event) (ended : Ended) → AnswersBad bad part ended → PrintsLast part ended
+word_last bad part ended (inl printed) = inr (inr (inl (bad, (printed.0, record { before = []; end = part; cut = refl; printed = printed.1 }))))
+word_last bad part ended (inr wanting) = inr (inr (inr wanting.0))
 
 pub line_of : (line : List ℕ) (part : List Event) → PrintsLine line part → IsLine part
 line_of line part (inl printed) = inr (inl (line, printed))
@@ -69,7 +73,7 @@ line_of line part (inr faulted) = inr (inr faulted)
 
 -- ---- the first stages were done
 
-begun_of : (look : Look) (q : Request) (part : List Event) (ended : Ended) (c : Course) → Answers look q part ended c → Begun look q part c
+pub begun_of : (look : Look) (q : Request) (part : List Event) (ended : Ended) (c : Course) → Answers look q part ended c → Begun look q part c
 begun_of look q part ended c (inl well) = record { run = part; line = []; cut = sym (append-nil part); is_plain = well.1.1.0; partly = went_partly (terms_in q part c) (stages_of look q well.1.1.0 part) part c.before c.after well.1.1.1; printed = inl refl }
 begun_of look q part ended c (inr (inl r)) = record {
   run = r.run;
@@ -88,8 +92,9 @@ begun_of look q part ended c (inr (inr wanting)) = record {
   printed = inl refl;
 }
 
-pub is_begun : (look : Look) (words : Result Request BadWord) (part : List Event) (ended : Ended) (c : Course) → AnswersWords look words part ended c → IsBegun look words part c
-is_begun look (Ok q) part ended c a = begun_of look q part ended c a
+pub is_begun : (look : Look) (words : Result Wish BadWord) (part : List Event) (ended : Ended) (c : Course) → AnswersWords look words part ended c → IsBegun look words part c
+is_begun look (Ok (Compiles q)) part ended c a = begun_of look q part ended c a
+is_begun look (Ok (Archives q)) part ended c a = tt
 is_begun look (Err bad) part ended c a = tt
 
 -- ---- the line behind a run
@@ -135,7 +140,7 @@ no_turn line (inr (inl printed)) = ap turns printed.1
 no_turn line (inr (inr faulted)) = ap turns faulted.1
 
 -- nor is a turn made
-turns_same : (part run line : List Event) → part ≡ run ++ line → IsLine line → turns part ≡ turns run
+pub turns_same : (part run line : List Event) → part ≡ run ++ line → IsLine line → turns part ≡ turns run
 turns_same part run line cut printed =
     let all : turns part ≡ turns run + turns line = ap turns cut ∙ sum_by-append turns_of run line in
     let none : turns line ≡ 0 = no_turn line printed in
@@ -191,8 +196,9 @@ order_of look q part c b before after event is archive =
     let found = order before after event is archive in
     record { runs = found.0; rest = found.1; cut = found.2.0; compiled = found.2.1 }
 
-pub compiles_first : (look : Look) (words : Result Request BadWord) (part : List Event) (ended : Ended) (c : Course) → AnswersWords look words part ended c → CompilesFirst look words part c
-compiles_first look (Ok q) part ended c a = order_of look q part c (begun_of look q part ended c a)
+pub compiles_first : (look : Look) (words : Result Wish BadWord) (part : List Event) (ended : Ended) (c : Course) → AnswersWords look words part ended c → CompilesFirst look words part c
+compiles_first look (Ok (Compiles q)) part ended c a = order_of look q part c (begun_of look q part ended c a)
+compiles_first look (Ok (Archives q)) part ended c a = tt
 compiles_first look (Err bad) part ended c a = tt
 
 -- ---- a fault is last
@@ -201,24 +207,25 @@ compiles_first look (Err bad) part ended c a = tt
 line_behind : (ids : List ℕ) (rest after : List Event) (x : Event) → rest ≡ map Abandoned ids → after ≡ rest ++ x ∷ [] → IsLine (x ∷ []) → EndsAlone after
 line_behind ids rest after x ends is line = (ids, x ∷ [], (is ∙ ap (λ l. l ++ x ∷ []) ends, line))
 
-faults_behind : (look : Look) (q : Request) (part : List Event) (c : Course) → Begun look q part c → FaultsLast part
-faults_behind look q part c b before after call why real is = by_line b.printed
+-- stages that were begun, with a line behind them, have their fault last
+pub stages_last : (t : Terms) (stages : List Stage) (part run line : List Event) (x y : Means) → part ≡ run ++ line → Partly t stages run x y → IsLine line → FaultsLast part
+stages_last t stages part run line x y cut begun printed before after call why real is = by_line printed
   where
-    in_it : (rest : List Event) → b.run ≡ before ++ Fault call why ∷ rest → (ids : List ℕ) × (rest ≡ map Abandoned ids)
-    in_it rest e = fault_ends (terms_in q b.run c) (stages_of look q b.is_plain b.run) b.run c.before c.after before rest call why real e b.partly
+    in_it : (rest : List Event) → run ≡ before ++ Fault call why ∷ rest → (ids : List ℕ) × (rest ≡ map Abandoned ids)
+    in_it rest e = fault_ends t stages run x y before rest call why real e begun
 
-    by_line : IsLine b.line → EndsAlone after
+    by_line : IsLine line → EndsAlone after
     by_line (inl none) =
-        let ends = in_it after (sym (b.cut ∙ ap (λ l. b.run ++ l) none ∙ append-nil b.run) ∙ is) in
+        let ends = in_it after (sym (cut ∙ ap (λ l. run ++ l) none ∙ append-nil run) ∙ is) in
         (ends.0, [], (ends.1 ∙ sym (append-nil (map Abandoned ends.0)), inl refl))
-    by_line (inr (inl printed)) =
-        let found = in_run before after b.run (Fault call why) (Printed FaultLine printed.0) (sym (b.cut ∙ ap (λ l. b.run ++ l) printed.1) ∙ is) (λ same. cc) in
+    by_line (inr (inl shown)) =
+        let found = in_run before after run (Fault call why) (Printed FaultLine shown.0) (sym (cut ∙ ap (λ l. run ++ l) shown.1) ∙ is) (λ same. cc) in
         let ends = in_it found.0 found.1.0 in
-        line_behind ends.0 found.0 after (Printed FaultLine printed.0) ends.1 found.1.1 (inr (inl (printed.0, refl)))
+        line_behind ends.0 found.0 after (Printed FaultLine shown.0) ends.1 found.1.1 (inr (inl (shown.0, refl)))
     by_line (inr (inr faulted)) =
-        either_way (last_or_before (Fault call why) (Fault Print faulted.0) after before b.run (sym (b.cut ∙ ap (λ l. b.run ++ l) faulted.1) ∙ is))
+        either_way (last_or_before (Fault call why) (Fault Print faulted.0) after before run (sym (cut ∙ ap (λ l. run ++ l) faulted.1) ∙ is))
       where
-        either_way : ((after ≡ []) × (Fault call why ≡ Fault Print faulted.0)) ⊎ ((rest : List Event) × ((b.run ≡ before ++ Fault call why ∷ rest) × (after ≡ rest ++ Fault Print faulted.0 ∷ []))) → EndsAlone after
+        either_way : ((after ≡ []) × (Fault call why ≡ Fault Print faulted.0)) ⊎ ((rest : List Event) × ((run ≡ before ++ Fault call why ∷ rest) × (after ≡ rest ++ Fault Print faulted.0 ∷ []))) → EndsAlone after
         either_way (inl last) = ([], [], (last.0, inl refl))
         either_way (inr found) =
             let ends = in_it found.0 found.1.0 in
@@ -228,19 +235,21 @@ alone_last : (x : Event) (before after : List Event) (event : Event) → x ∷ [
 alone_last x [] after event e = cc
 alone_last x (b ∷ before) after event e = let none : [] ≡ before ++ event ∷ after = cc in absurd (none_inside before after event none)
 
-pub faults_last : (look : Look) (words : Result Request BadWord) (part : List Event) (ended : Ended) (c : Course) → AnswersWords look words part ended c → FaultsLast part
-faults_last look (Ok q) part ended c a = faults_behind look q part c (begun_of look q part ended c a)
-faults_last look (Err bad) part ended c (inl (is, inl printed), same) = λ before after call why _real e. ([], [], (alone_last (Printed FaultLine (word_line bad)) before after (Fault call why) (sym printed ∙ e), inl refl))
-faults_last look (Err bad) part ended c (inl (is, inr faulted), same) = λ before after call why _real e. ([], [], (alone_last (Fault Print faulted.0) before after (Fault call why) (sym faulted.1 ∙ e), inl refl))
-faults_last look (Err bad) part ended c (inr (is, none), same) = λ before after call why _real e. absurd (none_inside before after (Fault call why) (sym none ∙ e))
+pub request_faults : (look : Look) (q : Request) (part : List Event) (c : Course) → Begun look q part c → FaultsLast part
+request_faults look q part c b = stages_last (terms_in q b.run c) (stages_of look q b.is_plain b.run) part b.run b.line c.before c.after b.cut b.partly b.printed
+
+pub word_faults : (bad : BadWord) (part : List Event) (ended : Ended) → AnswersBad bad part ended → FaultsLast part
+word_faults bad part ended (inl (is, inl printed)) = λ before after call why _real e. ([], [], (alone_last (Printed FaultLine (word_line bad)) before after (Fault call why) (sym printed ∙ e), inl refl))
+word_faults bad part ended (inl (is, inr faulted)) = λ before after call why _real e. ([], [], (alone_last (Fault Print faulted.0) before after (Fault call why) (sym faulted.1 ∙ e), inl refl))
+word_faults bad part ended (inr (is, none)) = λ before after call why _real e. absurd (none_inside before after (Fault call why) (sym none ∙ e))
 
 -- ---- a refused request of valid settings has its cause in the part
 
-no_refusal : (look : Look) (set : BuildConfig) (env : EnvSeen) (name : List ℕ) (e : ErrorSeen) → Valid set env look name → refusal_error set env look name ≡ Some e → ⊥
+pub no_refusal : (look : Look) (set : BuildConfig) (env : EnvSeen) (name : List ℕ) (e : ErrorSeen) → Valid set env look name → refusal_error set env look name ≡ Some e → ⊥
 no_refusal look set env name e valid refused =
     let none : refusal_error set env look name ≡ None = rw (early_accepted set env look name valid, valid.enabled, late_accepted set env look name valid, archive_accepted set env look name valid, links_accepted set env look name valid) refl in cc
 
-front_empty : {X : Type 0} (a b : List X) → a ++ b ≡ [] → a ≡ []
+pub front_empty : {X : Type 0} (a b : List X) → a ++ b ≡ [] → a ≡ []
 front_empty [] b h = refl
 front_empty (x ∷ a) b h = absurd (cc)
 
@@ -261,7 +270,7 @@ failed_then : (look : Look) (q : Request) (part : List Event) (ended : Ended) (c
 failed_then look q part ended c r none =
     subst (λ (vars : List (List ℕ × List ℕ)). Failed (has_libtool q.1.config (with_vars q.1.env vars) look) part → ⊥) (heard_same part r.run r.line r.cut (line_of (error_line r.error) r.line r.printed)) none
 
-known_memory : (e : ErrorSeen) → is_wanting e.kind ≡ false → e ≡ no_memory → ⊥
+pub known_memory : (e : ErrorSeen) → is_wanting e.kind ≡ false → e ≡ no_memory → ⊥
 known_memory e known memory = let t : true ≡ false = sym (ap (λ (x : ErrorSeen). is_wanting x.kind) memory) ∙ known in cc
 
 -- the first form of a run is not in the line behind it
@@ -279,56 +288,57 @@ aside_line (event ∷ run) line printed = by_form (is_form event) (aside_line ru
     by_form false e = ap (λ l. event ∷ l) e
 
 -- nor is what can't be forgiven
-unforgiven_line : (libtool : Bool) (run line : List Event) → IsLine line → unforgiven libtool (run ++ line) ≡ unforgiven libtool run ++ line
+pub unforgiven_line : (libtool : Bool) (run line : List Event) → IsLine line → unforgiven libtool (run ++ line) ≡ unforgiven libtool run ++ line
 unforgiven_line true run line printed = refl
 unforgiven_line false run line printed = aside_line run line printed
 
-module _ (look : Look) (q : Request) (part : List Event) (ended : Ended) (c : Course) (r : Refused look q part ended c) (valid : Valid q.1.config (env_in q r.run) look q.0) (nothing_failed : Failed (has_libtool q.1.config (env_in q r.run) look) part → ⊥) (no_fault : HasFault part → ⊥) (none_rose : Rose c.before.faults c.after.faults → ⊥) where
-  printed : IsLine r.line
-  printed = line_of (error_line r.error) r.line r.printed
-
+-- stages that ended so, with a line behind them, ended for want of turns where nothing else is a cause
+module _ (t : Terms) (libtool : Bool) (refusal : Option ErrorSeen) (stages : List Stage) (part run line : List Event) (e : ErrorSeen) (ended : Ended) (x y : Means) (cut : part ≡ run ++ line) (printed : IsLine line) (halted : Halted t refusal stages run e x y) (known : is_wanting e.kind ≡ false) (is : ended ≡ ended_refused e) (plain : ArePlain stages) (first : libtool ≡ false → FormFirst stages) (allowed : refusal ≡ Some e → ⊥) (nothing_failed : Failed libtool part → ⊥) (no_fault : HasFault part → ⊥) (none_rose : Rose x.faults y.faults → ⊥) where
   -- what the run has, the part with its line has
-  fault_in : HasFault r.run → HasFault part
-  fault_in h = ap (list_any is_fault) r.cut ∙ any_before is_fault r.run r.line h
+  fault_in : HasFault run → HasFault part
+  fault_in h = ap (list_any is_fault) cut ∙ any_before is_fault run line h
 
-  abbrev libtool : Bool
-  libtool = has_libtool q.1.config (env_in q r.run) look
+  aside : unforgiven libtool part ≡ unforgiven libtool run ++ line
+  aside = ap (unforgiven libtool) cut ∙ unforgiven_line libtool run line printed
 
-  aside : unforgiven libtool part ≡ unforgiven libtool r.run ++ r.line
-  aside = ap (unforgiven libtool) r.cut ∙ unforgiven_line libtool r.run r.line printed
+  failed_in : Failed libtool run → Failed libtool part
+  failed_in (inl some) = inl (λ none. some (front_empty (missing (unforgiven libtool run)) (missing line) (sym (flat_map-append missing_of (unforgiven libtool run) line) ∙ sym (ap missing aside) ∙ none)))
+  failed_in (inr (inl some)) = inr (inl (λ none. some (sym (ap (λ (s : Run). s.failed) (run_same part run line cut printed)) ∙ none)))
+  failed_in (inr (inr some)) = inr (inr (ap (list_any ran_badly) aside ∙ any_before ran_badly (unforgiven libtool run) line some))
 
-  failed_in : Failed libtool r.run → Failed libtool part
-  failed_in (inl some) = inl (λ none. some (front_empty (missing (unforgiven libtool r.run)) (missing r.line) (sym (flat_map-append missing_of (unforgiven libtool r.run) r.line) ∙ sym (ap missing aside) ∙ none)))
-  failed_in (inr (inl some)) = inr (inl (λ none. some (sym (ap (λ (s : Run). s.failed) (run_same part r.run r.line r.cut printed)) ∙ none)))
-  failed_in (inr (inr some)) = inr (inr (ap (list_any ran_badly) aside ∙ any_before ran_badly (unforgiven libtool r.run) r.line some))
-
-  spent_of : (r.error.kind ≡ TurnsSpent) × (c.after.left ≡ 0) → EndsSpent c.before.left part ended
+  spent_of : (e.kind ≡ TurnsSpent) × (y.left ≡ 0) → EndsSpent x.left part ended
   spent_of spent =
-      let sum : c.after.left + turns r.run ≡ c.before.left = halted_turns (terms_in q r.run c) (error_of look q r.run) (stages_of look q r.is_plain r.run) r.run r.error c.before c.after r.refused in
-      let all : turns part ≡ turns r.run = turns_same part r.run r.line r.cut printed in
-      let none : c.after.left ≡ 0 = spent.1 in
-      (r.error, (r.is, spent.0, omega arith))
+      let sum : y.left + turns run ≡ x.left = halted_turns t refusal stages run e x y halted in
+      let all : turns part ≡ turns run = turns_same part run line cut printed in
+      let none : y.left ≡ 0 = spent.1 in
+      (e, (is, spent.0, omega arith))
 
-  by_cause : HasCause libtool (error_of look q r.run) r.run r.error c.before c.after → EndsSpent c.before.left part ended
-  by_cause (inl memory) = absurd (known_memory r.error r.known memory)
-  by_cause (inr (inl refused)) = absurd (no_refusal look q.1.config (env_in q r.run) q.0 r.error valid refused)
+  by_cause : HasCause libtool refusal run e x y → EndsSpent x.left part ended
+  by_cause (inl memory) = absurd (known_memory e known memory)
+  by_cause (inr (inl refused)) = absurd (allowed refused)
   by_cause (inr (inr (inl fault))) = absurd (no_fault (fault_in fault))
   by_cause (inr (inr (inr (inl failed)))) = absurd (nothing_failed (failed_in failed))
   by_cause (inr (inr (inr (inr (inl rose))))) = absurd (none_rose rose)
   by_cause (inr (inr (inr (inr (inr spent))))) = spent_of spent
 
-  -- then the turns are spent
-  spends : EndsSpent c.before.left part ended
-  spends =
-      by_cause (halted_cause (terms_in q r.run c) libtool (error_of look q r.run) (stages_of look q r.is_plain r.run) r.run r.error c.before c.after (tt, planned_plain q.1.config (env_in q r.run) (repeating r.is_plain) look q.0) (λ other. inr (refl, planned_first q.1.config (env_in q r.run) (repeating r.is_plain) look q.0 other)) r.refused)
+  pub spends : EndsSpent x.left part ended
+  spends = by_cause (halted_cause t libtool refusal stages run e x y plain first halted)
+
+-- so does a refused request with valid settings
+request_spends : (look : Look) (q : Request) (part : List Event) (ended : Ended) (c : Course) (r : Refused look q part ended c) → Valid q.1.config (env_in q r.run) look q.0 → (Failed (has_libtool q.1.config (env_in q r.run) look) part → ⊥) → (HasFault part → ⊥) → (Rose c.before.faults c.after.faults → ⊥) → EndsSpent c.before.left part ended
+request_spends look q part ended c r valid nothing_failed no_fault none_rose =
+    spends (terms_in q r.run c) (has_libtool q.1.config (env_in q r.run) look) (error_of look q r.run) (stages_of look q r.is_plain r.run) part r.run r.line r.error ended c.before c.after r.cut (line_of (error_line r.error) r.line r.printed) r.refused r.known r.is
+    (tt, planned_plain q.1.config (env_in q r.run) (repeating r.is_plain) look q.0) (λ other. inr (refl, planned_first q.1.config (env_in q r.run) (repeating r.is_plain) look q.0 other))
+    (no_refusal look q.1.config (env_in q r.run) q.0 r.error valid) nothing_failed no_fault none_rose
 
 complete_of : (look : Look) (q : Request) (part : List Event) (ended : Ended) (c : Course) → Answers look q part ended c → Valid q.1.config (env_in q part) look q.0 → (Failed (has_libtool q.1.config (env_in q part) look) part → ⊥) → (HasFault part → ⊥) → (Rose c.before.faults c.after.faults → ⊥) → (ended ≡ ended_well) ⊎ (EndsSpent c.before.left part ended ⊎ (ended ≡ ended_wanting))
 complete_of look q part ended c (inl well) valid failed fault rose = inl well.0
-complete_of look q part ended c (inr (inl r)) valid failed fault rose = inr (inl (spends look q part ended c r (valid_in look q part ended c r valid) (failed_then look q part ended c r failed) fault rose))
+complete_of look q part ended c (inr (inl r)) valid failed fault rose = inr (inl (request_spends look q part ended c r (valid_in look q part ended c r valid) (failed_then look q part ended c r failed) fault rose))
 complete_of look q part ended c (inr (inr wanting)) valid failed fault rose = inr (inr wanting.0)
 
-pub complete : (look : Look) (words : Result Request BadWord) (part : List Event) (ended : Ended) (c : Course) → AnswersWords look words part ended c → IsComplete look words part ended c
-complete look (Ok q) part ended c a = λ valid failed fault rose. complete_of look q part ended c a valid failed fault rose
+pub complete : (look : Look) (words : Result Wish BadWord) (part : List Event) (ended : Ended) (c : Course) → AnswersWords look words part ended c → IsComplete look words part ended c
+complete look (Ok (Compiles q)) part ended c a = λ valid failed fault rose. complete_of look q part ended c a valid failed fault rose
+complete look (Ok (Archives q)) part ended c a = tt
 complete look (Err bad) part ended c a = tt
 
 -- ---- the turns are enough
@@ -359,6 +369,7 @@ enough_of look q part ended c (inr (inl r)) total p one patient enough spent =
     too_few p (length (commands_in (stages_of look q r.is_plain r.run))) (length q.1.config.files) (length q.1.config.objects) c.before.left (turns r.run) few (planned_count q.1.config (env_in q r.run) (repeating r.is_plain) look q.0) enough
     (sym (turns_same part r.run r.line r.cut (line_of (error_line r.error) r.line r.printed)) ∙ spent.1.2)
 
-pub enough : (look : Look) (words : Result Request BadWord) (part : List Event) (ended : Ended) (c : Course) → AnswersWords look words part ended c → IsEnough look words part ended c
-enough look (Ok q) part ended c a = enough_of look q part ended c a
+pub enough : (look : Look) (words : Result Wish BadWord) (part : List Event) (ended : Ended) (c : Course) → AnswersWords look words part ended c → IsEnough look words part ended c
+enough look (Ok (Compiles q)) part ended c a = enough_of look q part ended c a
+enough look (Ok (Archives q)) part ended c a = tt
 enough look (Err bad) part ended c a = tt

@@ -1,5 +1,5 @@
 -- The settings of words repeat their lines: a run of them warns of flags for the linker whenever it leaves some off.
-use Rattle.std.proofs.Common.{◌≡◌, ℕ, List, [], ◌∷◌, ◌++◌, Bool, true, false, Option, Some, None, Ok, Err, if◌then◌else◌, refl, sym, ap, subst}
+use Rattle.std.proofs.Common.{◌≡◌, ℕ, List, [], ◌∷◌, ◌++◌, Bool, true, false, Option, Some, None, Ok, Err, if◌then◌else◌, refl, sym, ◌∙◌, ap, subst}
 use Rattle.cc_env.specs.Env.{EnvSeen}
 use Rattle.cc_host.specs.Question.{Look}
 use Rattle.cc_host.specs.declared.event.Event.{Event}
@@ -8,32 +8,51 @@ use Rattle.cc_plan.specs.Compiler.{compiler_of}
 use Rattle.cc_plan.specs.Planned.{planned, warnings_of, supported_of}
 use Rattle.cc_plan.specs.Tool.{link_warnings, other_warnings}
 use Rattle.cc_plan.specs.declared.settings.BuildConfig.{BuildConfig}
+use Rattle.cc_build.specs.Build.{BuildSeen}
 use Rattle.cc_build.specs.Error.{ErrorSeen}
 use Rattle.cc_build.specs.Stage.{Stage, compile_stages, later_stages, late_stages, planned_stages}
 use Rattle.cc_build.specs.Way.{Way, Repeats}
 use Rattle.cc_command.specs.Answer.{repeating}
 use Rattle.cc_build.specs.Went.{Terms, Means, Went, Halted}
-use Rattle.cc_command.specs.Read.{Request, is, read, read_settings, settings_of, first_bad}
+use Rattle.cc_command.specs.Read.{Request, Wish, is, is_command, wish_by, wish_of, read, read_settings, settings_of, first_bad}
+use Rattle.cc_command.specs.Read.Wish.{Compiles, Archives}
+use Rattle.cc_command.specs.declared.words.Job.{Job}
+use Rattle.cc_command.specs.declared.words.Job.TheVariants.{Compile, Archive}
 use Rattle.cc_command.specs.declared.words.BadWord.{BadWord}
 
 -- ---- the settings of words
 
-settings_repeat : (name : List ℕ) (words : List (List ℕ)) (bad : Option BadWord) (request : Request) → read_settings name words bad ≡ Ok request → request.1.config.repeat_lines ≡ true
-settings_repeat name words None request e = let same : (name, settings_of words) ≡ request = cc in rw (sym same) refl
-settings_repeat name words (Some bad) request e = absurd (cc)
+-- the settings of a wish
+abbrev pub settings_in : Wish → BuildSeen
+settings_in (Compiles request) = request.1
+settings_in (Archives request) = request.1
 
-one_word : (b : Bool) (x y : BadWord) (request : Request) → (if b then Err x else Err y) ≡ Ok request → request.1.config.repeat_lines ≡ true
-one_word true x y request e = absurd (cc)
-one_word false x y request e = absurd (cc)
+by_command : (b : Bool) (request : Request) → settings_in (if b then Compiles request else Archives request) ≡ request.1
+by_command true request = refl
+by_command false request = refl
 
-more_words : (b : Bool) (name : List ℕ) (words : List (List ℕ)) (bad : Option BadWord) (x : BadWord) (request : Request) → (if b then read_settings name words bad else Err x) ≡ Ok request → request.1.config.repeat_lines ≡ true
-more_words true name words bad x request e = settings_repeat name words bad request e
-more_words false name words bad x request e = absurd (cc)
+of_job : (job : Job) (build : BuildSeen) → settings_in (wish_of job build) ≡ build
+of_job (Compile name) build = refl
+of_job (Archive name) build = refl
 
-pub reads_repeating : (words : List (List ℕ)) (request : Request) → read words ≡ Ok request → request.1.config.repeat_lines ≡ true
-reads_repeating [] request e = absurd (cc)
-reads_repeating (command ∷ []) request e = one_word (is command "compile") _ _ request e
-reads_repeating (command ∷ name ∷ words) request e = more_words (is command "compile") name words (first_bad 2 words) _ request e
+settings_repeat : (command name : List ℕ) (words : List (List ℕ)) (bad : Option BadWord) (wish : Wish) → read_settings (wish_by command) name words bad ≡ Ok wish → (settings_in wish).config.repeat_lines ≡ true
+settings_repeat command name words None wish e =
+    let same : wish_by command (name, settings_of words) ≡ wish = cc in
+    let set : settings_in wish ≡ settings_of words = ap settings_in (sym same) ∙ by_command (is command "compile") (name, settings_of words) in
+    ap (λ (b : BuildSeen). b.config.repeat_lines) set
+settings_repeat command name words (Some bad) wish e = absurd (cc)
+
+more_words : (b : Bool) (command name : List ℕ) (words : List (List ℕ)) (bad : Option BadWord) (x : BadWord) (wish : Wish) → (if b then read_settings (wish_by command) name words bad else Err x) ≡ Ok wish → (settings_in wish).config.repeat_lines ≡ true
+more_words true command name words bad x wish e = settings_repeat command name words bad wish e
+more_words false command name words bad x wish e = absurd (cc)
+
+wish_repeats : (words : List (List ℕ)) (wish : Wish) → read words ≡ Ok wish → (settings_in wish).config.repeat_lines ≡ true
+wish_repeats [] wish e = absurd (cc)
+wish_repeats (command ∷ []) wish e = absurd (cc)
+wish_repeats (command ∷ name ∷ words) wish e = more_words (is_command command) command name words (first_bad 2 words) _ wish e
+
+pub reads_repeating : (words : List (List ℕ)) (job : Job) (build : BuildSeen) → read words ≡ Ok (wish_of job build) → build.config.repeat_lines ≡ true
+reads_repeating words job build e = ap (λ (b : BuildSeen). b.config.repeat_lines) (sym (of_job job build)) ∙ wish_repeats words (wish_of job build) e
 
 -- ---- the stages of such settings
 

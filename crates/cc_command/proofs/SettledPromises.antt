@@ -1,5 +1,5 @@
 -- No child runs behind a request, and its commands are the first of the planned ones.
-use Rattle.std.proofs.Common.{◌≡◌, inl, inr, ℕ, List, ◌∷◌, ◌++◌, map, true, Result, Ok, Err, sym, ◌∙◌, ap, append-nil}
+use Rattle.std.proofs.Common.{◌≡◌, inl, inr, ℕ, List, ◌∷◌, ◌++◌, map, Result, Ok, Err, sym, ◌∙◌, ap, append-nil}
 use Rattle.std.specs.Prelude.{String}
 use Rattle.std.proofs.lemmas.Grind.{flat_map-append}
 use Rattle.cc_host.specs.Part.Step.{Lists}
@@ -8,15 +8,17 @@ use Rattle.cc_host.specs.declared.event.Event.{Event}
 use Rattle.cc_run.specs.Run.{Run, nothing}
 use Rattle.cc_build.specs.Attempts.{attempt_of, attempts, to_attempt}
 use Rattle.cc_build.specs.Captured.{with_vars}
-use Rattle.cc_build.specs.Stage.{commands_in, planned_stages}
+use Rattle.cc_build.specs.Stage.{Stage, commands_in, planned_stages}
+use Rattle.cc_build.specs.Went.{Terms, Means, Partly}
 use Rattle.cc_build.specs.Stage.Stage.{Calls}
 use Rattle.cc_build.proofs.SettledLaws.{partly_settled, partly_first}
 use Rattle.cc_build.proofs.StopLaws.{planned_plain}
 use Rattle.cc_build.specs.Course.{Course}
 use Rattle.cc_build.specs.Promises.{NothingRuns}
-use Rattle.cc_command.specs.Answer.{AnswersWords, asked_for, env_in, terms_in, repeating, stages_of, word_line}
+use Rattle.cc_command.specs.Answer.{AnswersBad, AnswersWords, asked_for, env_in, terms_in, repeating, stages_of, word_line}
 use Rattle.cc_command.specs.Promises.{Begun, IsLine, IsPrefix, Promises}
-use Rattle.cc_command.specs.Read.{Request}
+use Rattle.cc_command.specs.Read.{Request, Wish}
+use Rattle.cc_command.specs.Read.Wish.{Compiles, Archives}
 use Rattle.cc_command.specs.declared.top.Ended.{Ended}
 use Rattle.cc_command.specs.declared.words.BadWord.{BadWord}
 use Rattle.cc_command.proofs.PromiseLaws.{is_begun, compiles_first, complete, enough, line_of, heard_same, run_same, no_child}
@@ -24,29 +26,31 @@ use Rattle.cc_command.proofs.StartedPromises.{no_attempt, beside, failed}
 
 -- ---- no child runs
 
-settled_of : (look : Look) (q : Request) (part : List Event) (c : Course) → Begun look q part c → NothingRuns part
-settled_of look q part c b =
-    ap (λ (r : Run). r.live) (run_same part b.run b.line b.cut b.printed)
-    ∙ partly_settled (terms_in q b.run c) (stages_of look q b.is_plain b.run) b.run c.before c.after 0 b.partly
+-- stages that were begun, with a line behind them, leave no child
+pub stages_settled : (t : Terms) (stages : List Stage) (part run line : List Event) (x y : Means) → part ≡ run ++ line → Partly t stages run x y → IsLine line → NothingRuns part
+stages_settled t stages part run line x y cut begun printed = ap (λ (r : Run). r.live) (run_same part run line cut printed) ∙ partly_settled t stages run x y 0 begun
+
+pub request_settled : (look : Look) (q : Request) (part : List Event) (c : Course) → Begun look q part c → NothingRuns part
+request_settled look q part c b = stages_settled (terms_in q b.run c) (stages_of look q b.is_plain b.run) part b.run b.line c.before c.after b.cut b.partly b.printed
 
 line_settled : (part : List Event) → IsLine part → NothingRuns part
 line_settled part line = ap (λ (r : Run). r.live) (no_child nothing part line)
 
-pub settled : (look : Look) (words : Result Request BadWord) (part : List Event) (ended : Ended) (c : Course) → AnswersWords look words part ended c → NothingRuns part
-settled look (Ok q) part ended c a = settled_of look q part c (is_begun look (Ok q) part ended c a)
-settled look (Err bad) part ended c (inl printed, same) = line_settled part (line_of (word_line bad) part printed.1)
-settled look (Err bad) part ended c (inr wanting, same) = line_settled part (inl wanting.1)
+pub word_settled : (bad : BadWord) (part : List Event) (ended : Ended) → AnswersBad bad part ended → NothingRuns part
+word_settled bad part ended (inl printed) = line_settled part (line_of (word_line bad) part printed.1)
+word_settled bad part ended (inr wanting) = line_settled part (inl wanting.1)
 
 -- ---- one attempt for each command
 
 -- a line behind a run tries no command
-attempts_same : (part run line : List Event) → part ≡ run ++ line → IsLine line → attempts part ≡ attempts run
+pub attempts_same : (part run line : List Event) → part ≡ run ++ line → IsLine line → attempts part ≡ attempts run
 attempts_same part run line cut printed =
     ap attempts cut ∙ flat_map-append attempt_of run line ∙ ap (λ l. attempts run ++ l) (no_attempt line printed) ∙ append-nil (attempts run)
 
-pub first : (look : Look) (words : Result Request BadWord) (part : List Event) (ended : Ended) (c : Course) → AnswersWords look words part ended c → IsPrefix look words part
-first look (Ok q) part ended c a =
-    let b : Begun look q part c = is_begun look (Ok q) part ended c a in
+pub first : (look : Look) (words : Result Wish BadWord) (part : List Event) (ended : Ended) (c : Course) → AnswersWords look words part ended c → IsPrefix look words part
+first look (Ok (Archives q)) part ended c a = tt
+first look (Ok (Compiles q)) part ended c a =
+    let b : Begun look q part c = is_begun look (Ok (Compiles q)) part ended c a in
     let p = partly_first (terms_in q b.run c) (stages_of look q b.is_plain b.run) b.run c.before c.after (tt, planned_plain q.1.config (env_in q b.run) (repeating b.is_plain) look q.0) b.partly in
     let same = attempts_same part b.run b.line b.cut b.printed in (
       b.is_plain,

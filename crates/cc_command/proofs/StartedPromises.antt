@@ -1,5 +1,5 @@
 -- Sources of a request that are compiled beside each other: where in the part they are, and that a failed one stops no later start.
-use Rattle.std.proofs.Common.{◌≡◌, inl, inr, ℕ, List, [], ◌++◌, length, true, Option, Result, Ok, Err, sym, ◌∙◌, ap, ap₂, subst, append_assoc, append-nil}
+use Rattle.std.proofs.Common.{◌≡◌, inl, inr, ℕ, List, [], ◌++◌, length, Option, Result, Ok, Err, sym, ◌∙◌, ap, ap₂, subst, append_assoc, append-nil}
 use Rattle.std.specs.Prelude.{◌≤◌}
 use Rattle.std.specs.List.{list_any}
 use Rattle.std.proofs.lemmas.Grind.{flat_map-append}
@@ -23,7 +23,8 @@ use Rattle.cc_build.proofs.FailedLaws.{never_ran, all_started}
 use Rattle.cc_build.proofs.StopLaws.{planned_plain}
 use Rattle.cc_command.specs.Answer.{AnswersWords, Refused, env_in, terms_in, repeating, stages_of, error_of, error_line}
 use Rattle.cc_command.specs.Promises.{Begun, IsLine, IsBeside, StartsAll}
-use Rattle.cc_command.specs.Read.{Request}
+use Rattle.cc_command.specs.Read.{Request, Wish}
+use Rattle.cc_command.specs.Read.Wish.{Compiles, Archives}
 use Rattle.cc_command.specs.declared.top.Ended.{Ended}
 use Rattle.cc_command.specs.declared.words.BadWord.{BadWord}
 use Rattle.cc_command.proofs.PromiseLaws.{is_begun, line_of, heard_same, any_before, same_error}
@@ -58,8 +59,9 @@ beside_of look q part c b many =
     (shaped_beside (terms_in q b.run c) (sources set env (repeating b.is_plain) look q.0) (stages_of look q b.is_plain b.run) b.run c.before c.after (tt, planned_plain set env (repeating b.is_plain) look q.0)
     (shape_behind (sources set env (repeating b.is_plain) look q.0) Lists (planned_stages set env (repeating b.is_plain) look q.0) (shape_of set env (repeating b.is_plain) look q.0 many)) b.partly))
 
-pub beside : (look : Look) (words : Result Request BadWord) (part : List Event) (ended : Ended) (c : Course) → AnswersWords look words part ended c → IsBeside words part c
-beside look (Ok q) part ended c a = beside_of look q part c (is_begun look (Ok q) part ended c a)
+pub beside : (look : Look) (words : Result Wish BadWord) (part : List Event) (ended : Ended) (c : Course) → AnswersWords look words part ended c → IsBeside words part c
+beside look (Ok (Compiles q)) part ended c a = beside_of look q part c (is_begun look (Ok (Compiles q)) part ended c a)
+beside look (Ok (Archives q)) part ended c a = tt
 beside look (Err bad) part ended c a = tt
 
 -- ---- a failed child stops no later start
@@ -91,14 +93,15 @@ failed_of look q part ended c r many badly sound =
       ap abandoned r.cut ∙ flat_map-append abandoned_of r.run r.line ∙ ap₂ (λ u v. u ++ v) s.1 (none_left r.line printed),
     )
 
-pub failed : (look : Look) (words : Result Request BadWord) (part : List Event) (ended : Ended) (c : Course) → AnswersWords look words part ended c → StartsAll look words part ended
-failed look (Ok q) part ended c (inl well) = λ e many is badly sound.
+pub failed : (look : Look) (words : Result Wish BadWord) (part : List Event) (ended : Ended) (c : Course) → AnswersWords look words part ended c → StartsAll look words part ended
+failed look (Ok (Compiles q)) part ended c (inl well) = λ e many is badly sound.
     let s : ended.status ≡ 0 = ap (λ (x : Ended). x.status) well.0 in
     let r : ended.status ≡ 1 = ap (λ (x : Ended). x.status) is in
     absurd (cc)
-failed look (Ok q) part ended c (inr (inl r)) = λ e many is badly sound. failed_of look q part ended c r many (ap (λ (x : ErrorSeen). x.kind) (same_error r.error e ended r.is is) ∙ badly) sound
-failed look (Ok q) part ended c (inr (inr wanting)) = λ e many is badly sound.
+failed look (Ok (Compiles q)) part ended c (inr (inl r)) = λ e many is badly sound. failed_of look q part ended c r many (ap (λ (x : ErrorSeen). x.kind) (same_error r.error e ended r.is is) ∙ badly) sound
+failed look (Ok (Compiles q)) part ended c (inr (inr wanting)) = λ e many is badly sound.
     let s : ended.status ≡ 3 = ap (λ (x : Ended). x.status) wanting.0 in
     let r : ended.status ≡ 1 = ap (λ (x : Ended). x.status) is in
     absurd (cc)
+failed look (Ok (Archives q)) part ended c a = tt
 failed look (Err bad) part ended c a = tt

@@ -1,13 +1,15 @@
 -- One word more, in the order of the words.
-use Rattle.std.proofs.Common.{◌≡◌, ℕ, suc, ◌+◌, ◌<◌, List, [], ◌∷◌, ◌++◌, length, take, drop, get_or, map, Option, Some, None, true, refl, sym, ◌∙◌, ap, add-one, arith}
+use Rattle.std.proofs.Common.{◌≡◌, ℕ, suc, ◌+◌, ◌<◌, List, [], ◌∷◌, ◌++◌, length, take, drop, get_or, map, Option, Some, None, Ok, true, refl, sym, ◌∙◌, ap, add-one, arith}
 use Rattle.std.proofs.Math.Seq.{drop-cons}
 use Rattle.std.proofs.lemmas.Grind.{take_at_read}
 use Rattle.std.proofs.lemmas.List.{map-append}
 use Rattle.cc_plan.specs.Settings.{unset_settings}
 use Rattle.cc_build.specs.Build.{BuildSeen}
-use Rattle.cc_command.specs.Read.{bad_at, bad_or, bad_word, first_bad, word_cause, values, settings_of}
+use Rattle.cc_command.specs.Read.{bad_at, bad_or, bad_word, first_bad, word_cause, values, settings_of, IsJobOf, wish_by, wish_of, read}
+use Rattle.cc_command.specs.SetsKey.{ReadsSettings}
 use Rattle.cc_command.specs.Step.{with_word}
 use Rattle.cc_command.specs.declared.words.BadWord.{BadWord}
+use Rattle.cc_command.specs.declared.words.Job.{Job}
 use Rattle.cc_command.specs.declared.words.ReadError.{ReadError}
 use Rattle.cc_command.specs.declared.words.ReadError.TheVariants.{Bad}
 use Rattle.cc_command.specs.declared.words.WordCause.{WordCause}
@@ -39,3 +41,7 @@ module _ {A : Type 0} (text : A → List ℕ) (words : List A) (i : ℕ) (word :
   set_here old new within is before set =
       let more : take (i + 1) words ≡ take i words ++ word ∷ [] = (take_at_read words i word within).1 ∙ ap (λ w. take i words ++ w ∷ []) (sym is) in
       set ∙ ap (λ s. with_word s (text word)) before ∙ sym (next_settings (map text (take i words)) (text word)) ∙ ap settings_of (sym (ap (map text) more ∙ map-append text (take i words) (word ∷ [])))
+
+-- words with such a job, which are good
+pub reads_so : (command name : List ℕ) (words : List (List ℕ)) (job : Job) (build : BuildSeen) → IsJobOf command name job → ReadsSettings words build → read (command ∷ name ∷ words) ≡ Ok (wish_of job build)
+reads_so command name words job build k r = rw (k.0, r.0) (ap Ok (ap (λ (b : BuildSeen). wish_by command (name, b)) (sym r.1) ∙ sym (k.1 build)))

@@ -23,7 +23,8 @@ use Rattle.cc_build.specs.Went.{Terms, Means, terms, Went, Halted}
 use Rattle.cc_build.specs.declared.error.ErrorKind.{ErrorKind}
 use Rattle.cc_build.specs.declared.error.ErrorKind.TheVariants.{NoMemory}
 use Rattle.cc_build.specs.Refusal.{refusal_error}
-use Rattle.cc_command.specs.Read.{Request, read}
+use Rattle.cc_command.specs.Read.{Request, Wish, read}
+use Rattle.cc_command.specs.Read.Wish.{Compiles, Archives}
 use Rattle.cc_command.specs.declared.words.BadWord.{BadWord}
 use Rattle.cc_command.specs.declared.words.WordCause.{WordCause}
 use Rattle.cc_command.specs.declared.words.WordCause.TheVariants.{NoCommand, UnknownCommand, NoName, NoValue, UnknownKey, BadValue}
@@ -142,18 +143,35 @@ Answers look request part ended c =
 abbrev pub AnswersBad : BadWord → List Event → Ended → Type 0
 AnswersBad bad part ended = ((ended ≡ ended_bad bad) × PrintsLine (word_line bad) part) ⊎ ((ended ≡ ended_wanting) × (part ≡ []))
 
--- What the words ask for was answered. Words that can't be read for want of memory ask for nothing.
-abbrev pub AnswersWords : Look → Result Request BadWord → List Event → Ended → Course → Type 0
-AnswersWords look (Ok request) part ended c = Answers look request part ended c
+-- a fact of a compile run, where the words wish one
+abbrev pub IfCompiles : Result Wish BadWord → (Request → Type 0) → Type 0
+IfCompiles (Ok (Compiles request)) fact = fact request
+IfCompiles (Ok (Archives request)) fact = Unit {0}
+IfCompiles (Err bad) fact = Unit {0}
+
+-- a fact of an archive alone, where they wish that
+abbrev pub IfArchives : Result Wish BadWord → (Request → Type 0) → Type 0
+IfArchives (Ok (Compiles request)) fact = Unit {0}
+IfArchives (Ok (Archives request)) fact = fact request
+IfArchives (Err bad) fact = Unit {0}
+
+-- Words that wish a compile run, or are bad, were answered. Those that can't be read for want of memory ask for nothing.
+abbrev pub AnswersWords : Look → Result Wish BadWord → List Event → Ended → Course → Type 0
+AnswersWords look (Ok (Compiles request)) part ended c = Answers look request part ended c
+AnswersWords look (Ok (Archives request)) part ended c = Unit {0}
 AnswersWords look (Err bad) part ended c = AnswersBad bad part ended × (c.after ≡ c.before)
 
 -- what the words ask for, or the first bad one
-abbrev pub asked_for : {Z : Type 0} → List (String Z) → Result Request BadWord
+abbrev pub asked_for : {Z : Type 0} → List (String Z) → Result Wish BadWord
 asked_for words = read (map string_bytes words)
 
--- this answers a request
+-- this answers a compile run
 abbrev pub IsAnswer : Request → Ended → Look → List Event → Course → Type 0
 IsAnswer request ended look part c = Answers look request part ended c
+
+-- this answers a wish
+abbrev pub IsAnswerOf : Wish → Ended → Look → List Event → Course → Type 0
+IsAnswerOf wish ended look part c = AnswersWords look (Ok wish) part ended c
 
 -- this answers the words
 abbrev pub IsAnswerTo : {Z : Type 0} → List (String Z) → Ended → Look → List Event → Course → Type 0

@@ -1,5 +1,5 @@
 -- What the questions of a run leave in the log.
-use Rattle.std.specs.Prelude.{◌≡◌, List, [], Bool, Result, Ok, Err}
+use Rattle.std.specs.Prelude.{◌≡◌, List, [], ◌++◌, Bool, Result, Ok, Err}
 use Rattle.cc_host.specs.declared.event.Event.{Event}
 use Rattle.cc_host.specs.declared.question.Question.{Question}
 use Rattle.cc_host.specs.declared.question.Outcome.{Outcome}
@@ -7,7 +7,10 @@ use Rattle.cc_plan.specs.Given.{probe_folder}
 use Rattle.cc_plan.specs.Questions.{RunAsks}
 use Rattle.cc_tool.specs.Asked.{question_events, Asked}
 use Rattle.cc_command.specs.Answer.{env_in}
-use Rattle.cc_command.specs.Read.{Request}
+use Rattle.cc_build.specs.Build.{AsksByRun}
+use Rattle.cc_command.specs.Archived.{alone, build_in}
+use Rattle.cc_command.specs.Read.{Request, Wish}
+use Rattle.cc_command.specs.Read.Wish.{Compiles, Archives}
 use Rattle.cc_command.specs.declared.words.BadWord.{BadWord}
 
 -- Each question of a request is one that its run asks. Probe files lie in its out dir, else in the temp folder.
@@ -15,7 +18,16 @@ abbrev pub AsksFor : Bool → (Question → Outcome) → Request → List Event 
 AsksFor steady world request part =
     Asked steady world (probe_folder request.1.config (env_in request part)) (RunAsks request.1.config (env_in request part)) part
 
+-- Each question of an archive alone is one that its run asks, in the part of the archive or in that of the link lines.
+abbrev pub AsksAlone : Bool → (Question → Outcome) → Request → List Event → Type 0
+AsksAlone steady world request part =
+    (made linked : List Event) × ((part ≡ made ++ linked) × AsksByRun steady world (alone (build_in request part)) made × AsksByRun steady world (build_in request part) linked)
+
+abbrev pub AsksWish : Bool → (Question → Outcome) → Wish → List Event → Type 0
+AsksWish steady world (Compiles request) part = AsksFor steady world request part
+AsksWish steady world (Archives request) part = AsksAlone steady world request part
+
 -- words that can't be read ask nothing
-abbrev pub AsksWords : Bool → (Question → Outcome) → Result Request BadWord → List Event → Type 0
-AsksWords steady world (Ok request) part = AsksFor steady world request part
+abbrev pub AsksWords : Bool → (Question → Outcome) → Result Wish BadWord → List Event → Type 0
+AsksWords steady world (Ok wish) part = AsksWish steady world wish part
 AsksWords steady world (Err bad) part = question_events part ≡ []

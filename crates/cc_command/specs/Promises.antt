@@ -1,5 +1,5 @@
 -- What follows from an answer, each in one sentence.
-use Rattle.std.specs.Prelude.{◌≡◌, ◌⊎◌, ◌≤◌, ◌*◌, ◌+◌, ℕ, List, [], ◌∷◌, ◌++◌, length, map, Some, Bool, true, false, Result, IfOk, String}
+use Rattle.std.specs.Prelude.{◌≡◌, ◌⊎◌, ◌≤◌, ◌*◌, ◌+◌, ℕ, List, [], ◌∷◌, ◌++◌, length, map, Some, Bool, true, false, Result, String}
 use Rattle.cc_host.specs.Question.{Look}
 use Rattle.cc_host.specs.Part.{is_probing}
 use Rattle.cc_host.specs.Part.Step.{Lists}
@@ -23,14 +23,14 @@ use Rattle.cc_build.specs.Stage.{folder_stages, compile_stages, has_libtool}
 use Rattle.cc_build.specs.Stage.Stage.{Asks, Calls}
 use Rattle.cc_build.specs.Went.{Goes, Partly}
 use Rattle.cc_build.specs.declared.error.ErrorKind.TheVariants.{TurnsSpent, ToolExecError}
-use Rattle.cc_command.specs.Answer.{PrintsLine, AnswersWords, BuiltBy, asked_for, env_in, terms_in, stages_of, error_line, word_line, ended_well, ended_refused, ended_bad, ended_wanting}
-use Rattle.cc_command.specs.Read.{Request}
+use Rattle.cc_command.specs.Answer.{PrintsLine, IfCompiles, AnswersWords, BuiltBy, asked_for, env_in, terms_in, stages_of, error_line, word_line, ended_well, ended_refused, ended_bad, ended_wanting}
+use Rattle.cc_command.specs.Read.{Request, Wish}
 use Rattle.cc_command.specs.declared.top.Ended.{Ended}
 use Rattle.cc_command.specs.declared.words.BadWord.{BadWord}
 
 -- Status 0 means that the host listed its variables, and that the library of the words is built with their snapshot.
 abbrev pub Headline : {Z : Type 0} → List (String Z) → Ended → Look → List Event → Course → Type 0
-Headline words ended look part c = IfOk (asked_for words) (λ request. ended.status ≡ 0 → BuiltBy look request part c)
+Headline words ended look part c = IfCompiles (asked_for words) (λ request. ended.status ≡ 0 → BuiltBy look request part c)
 
 -- the part ends with this line of kind Fault, or with the fault of its print
 pub record EndsWith (line : List ℕ) (part : List Event) : Type 0 where
@@ -63,8 +63,8 @@ pub record Begun (look : Look) (request : Request) (part : List Event) (c : Cour
   pub partly : Partly (terms_in request run c) (stages_of look request is_plain run) run c.before c.after
   pub printed : IsLine line
 
-abbrev pub IsBegun : Look → Result Request BadWord → List Event → Course → Type 0
-IsBegun look words part c = IfOk words (λ request. Begun look request part c)
+abbrev pub IsBegun : Look → Result Wish BadWord → List Event → Course → Type 0
+IsBegun look words part c = IfCompiles words (λ request. Begun look request part c)
 
 -- before an archive command the variables were listed, the folder was made, and every source's compile command ended with 0
 pub record CompiledBefore (look : Look) (request : Request) (part before : List Event) (c : Course) : Type 0 where
@@ -77,8 +77,8 @@ pub record CompiledBefore (look : Look) (request : Request) (part before : List 
 abbrev pub ArchivesBehind : Look → Request → List Event → Course → Type 0
 ArchivesBehind look request part c = (before after : List Event) (event : Event) → part ≡ before ++ event ∷ after → is_archive_event event ≡ true → CompiledBefore look request part before c
 
-abbrev pub CompilesFirst : Look → Result Request BadWord → List Event → Course → Type 0
-CompilesFirst look words part c = IfOk words (λ request. ArchivesBehind look request part c)
+abbrev pub CompilesFirst : Look → Result Wish BadWord → List Event → Course → Type 0
+CompilesFirst look words part c = IfCompiles words (λ request. ArchivesBehind look request part c)
 
 -- children that were abandoned, and then a line of kind Fault, or the fault of its print
 abbrev pub EndsAlone : List Event → Type 0
@@ -90,16 +90,16 @@ FaultsLast part = (before after : List Event) (call : HostCall) (why : Why) → 
 
 -- The commands of the part, those that are missing among them, are the first of the planned ones, where the first form of the archive was taken or where
 -- it was refused: one attempt for each, and no other command.
-abbrev pub IsPrefix : Look → Result Request BadWord → List Event → Type 0
-IsPrefix look words part = IfOk words (λ request. (is_plain : Bool) × AreFirst (stages_of look request is_plain part) part)
+abbrev pub IsPrefix : Look → Result Wish BadWord → List Event → Type 0
+IsPrefix look words part = IfCompiles words (λ request. (is_plain : Bool) × AreFirst (stages_of look request is_plain part) part)
 
 -- Two sources or more are compiled beside each other, each under a token, and as many at once as there are tokens.
-abbrev pub IsBeside : Result Request BadWord → List Event → Course → Type 0
-IsBeside words part c = IfOk words (λ request. 2 ≤ length request.1.config.files → RunBeside c.total (length request.1.config.files) part)
+abbrev pub IsBeside : Result Wish BadWord → List Event → Course → Type 0
+IsBeside words part c = IfCompiles words (λ request. 2 ≤ length request.1.config.files → RunBeside c.total (length request.1.config.files) part)
 
 -- A failed child stops no later start: where a command ended badly and the host is sound, every source's command was started, and none was left alone.
-abbrev pub StartsAll : Look → Result Request BadWord → List Event → Ended → Type 0
-StartsAll look words part ended = IfOk words (λ request. (e : ErrorSeen) → 2 ≤ length request.1.config.files → ended ≡ ended_refused e → e.kind ≡ ToolExecError → (HasFault part → ⊥) → AllStarted (shows_of request.1.config (env_in request part)) (compiles_of request.1.config (env_in request part) look) part)
+abbrev pub StartsAll : Look → Result Wish BadWord → List Event → Ended → Type 0
+StartsAll look words part ended = IfCompiles words (λ request. (e : ErrorSeen) → 2 ≤ length request.1.config.files → ended ≡ ended_refused e → e.kind ≡ ToolExecError → (HasFault part → ⊥) → AllStarted (shows_of request.1.config (env_in request part)) (compiles_of request.1.config (env_in request part) look) part)
 
 -- the turns are spent: as many were made as there are
 abbrev pub EndsSpent : ℕ → List Event → Ended → Type 0
@@ -107,12 +107,12 @@ EndsSpent most part ended = (e : ErrorSeen) × ((ended ≡ ended_refused e) × (
 
 -- Valid settings, no failed or missing command but the first form of the archive, which libtool hasn't, no fault of the host and none of the pool: it is done, or the turns
 -- are spent, or memory was wanted.
-abbrev pub IsComplete : Look → Result Request BadWord → List Event → Ended → Course → Type 0
-IsComplete look words part ended c = IfOk words (λ request. Valid request.1.config (env_in request part) look request.0 → (Failed (has_libtool request.1.config (env_in request part) look) part → ⊥) → (HasFault part → ⊥) → (Rose c.before.faults c.after.faults → ⊥) → (ended ≡ ended_well) ⊎ (EndsSpent c.before.left part ended ⊎ (ended ≡ ended_wanting)))
+abbrev pub IsComplete : Look → Result Wish BadWord → List Event → Ended → Course → Type 0
+IsComplete look words part ended c = IfCompiles words (λ request. Valid request.1.config (env_in request part) look request.0 → (Failed (has_libtool request.1.config (env_in request part) look) part → ⊥) → (HasFault part → ⊥) → (Rose c.before.faults c.after.faults → ⊥) → (ended ≡ ended_well) ⊎ (EndsSpent c.before.left part ended ⊎ (ended ≡ ended_wanting)))
 
 -- The turns are enough where one caller owns the pool, the host tells its patience, and there are as many times that as twice the sources, the added objects and two.
-abbrev pub IsEnough : Look → Result Request BadWord → List Event → Ended → Course → Type 0
-IsEnough look words part ended c = IfOk words (λ request. (total p : ℕ) → c.total ≡ Some total → c.patience ≡ Some p → p * (2 * length request.1.config.files + length request.1.config.objects + 2) ≤ c.before.left → EndsSpent c.before.left part ended → ⊥)
+abbrev pub IsEnough : Look → Result Wish BadWord → List Event → Ended → Course → Type 0
+IsEnough look words part ended c = IfCompiles words (λ request. (total p : ℕ) → c.total ≡ Some total → c.patience ≡ Some p → p * (2 * length request.1.config.files + length request.1.config.objects + 2) ≤ c.before.left → EndsSpent c.before.left part ended → ⊥)
 
 -- What a run of the words promises of its answer, its part and its course.
 pub record Promises {Z : Type 0} (words : List (String Z)) (ended : Ended) (look : Look) (part : List Event) (c : Course) : Type 0 where

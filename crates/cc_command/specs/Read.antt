@@ -1,4 +1,4 @@
--- What the words of the program ask for: `compile NAME key=value ...`.
+-- What the words of the program ask for: `compile NAME key=value ...` or `archive NAME key=value ...`.
 use Rattle.std.specs.Prelude.{◌≡◌, ℕ, ◌+◌, ◌^◌, List, [], ◌∷◌, ◌++◌, Bool, true, false, ◌&&◌, ◌||◌, fold, map, Option, Some, None, Result, Ok, Err, is_some, nat_lt, codes, bytes_eq, unwrap_or, if◌then◌else◌}
 use Prim.Native.String.{String}
 use Rattle.std.specs.Fmt.{decimal}
@@ -13,7 +13,7 @@ use Rattle.cc_command.specs.declared.words.BadWord.{BadWord}
 use Rattle.cc_command.specs.declared.words.WordCause.{WordCause}
 use Rattle.cc_command.specs.declared.words.WordCause.TheVariants.{NoCommand, UnknownCommand, NoName, NoValue, UnknownKey, BadValue}
 use Rattle.cc_command.specs.declared.words.Job.{Job}
-use Rattle.cc_command.specs.declared.words.Job.TheVariants.{Compile}
+use Rattle.cc_command.specs.declared.words.Job.TheVariants.{Compile, Archive}
 use Rattle.cc_command.specs.declared.words.ReadError.{ReadError}
 use Rattle.cc_command.specs.declared.words.ReadError.TheVariants.{Bad}
 
@@ -218,26 +218,50 @@ settings_of words = record {
   env = record { inherited = []; explicit = map variable_of (values (by "env") words) };
 }
 
+-- the name of a library, and its settings
 abbrev pub Request : Type 0
 Request = List ℕ × BuildSeen
 
-abbrev pub read_settings : List ℕ → List (List ℕ) → Option BadWord → Result Request BadWord
-read_settings name words (Some bad) = Err bad
-read_settings name words None = Ok (name, settings_of words)
+-- what is wished: a compile run, or an archive alone
+pub data Wish : Type 0 where
+  Compiles : Request → Wish
+  Archives : Request → Wish
 
--- the name and the settings of a compile run, or the first bad word
-abbrev pub read : List (List ℕ) → Result Request BadWord
+abbrev pub read_settings : (Request → Wish) → List ℕ → List (List ℕ) → Option BadWord → Result Wish BadWord
+read_settings wish name words (Some bad) = Err bad
+read_settings wish name words None = Ok (wish (name, settings_of words))
+
+abbrev pub is_command : List ℕ → Bool
+is_command command = is command "compile" || is command "archive"
+
+-- what a command wishes
+abbrev pub wish_by : List ℕ → Request → Wish
+wish_by command request = if is command "compile" then Wish.Compiles request else Wish.Archives request
+
+-- the wish with its name and settings, or the first bad word
+abbrev pub read : List (List ℕ) → Result Wish BadWord
 read [] = Err (bad_at 0 NoCommand)
-read (command ∷ []) = if is command "compile" then Err (bad_at 1 NoName) else Err (bad_at 0 UnknownCommand)
-read (command ∷ name ∷ words) = if is command "compile" then read_settings name words (first_bad 2 words) else Err (bad_at 0 UnknownCommand)
+read (command ∷ []) = Err (if is_command command then bad_at 1 NoName else bad_at 0 UnknownCommand)
+read (command ∷ name ∷ words) = if is_command command then read_settings (wish_by command) name words (first_bad 2 words) else Err (bad_at 0 UnknownCommand)
 
 abbrev pub bad_word : Option BadWord → Option ReadError
 bad_word None = None
 bad_word (Some bad) = Some (Bad bad)
 
+-- the name of the library of a job
 abbrev pub name_of : Job → List ℕ
 name_of (Compile name) = name
+name_of (Archive name) = name
 
-abbrev pub refusal_of : Result Request BadWord → Option ReadError
-refusal_of (Ok request) = None
+-- what a job with these settings wishes
+abbrev pub wish_of : Job → BuildSeen → Wish
+wish_of (Compile name) build = Wish.Compiles (name, build)
+wish_of (Archive name) build = Wish.Archives (name, build)
+
+-- the command is there, and a job for the library of this name does what it wishes
+abbrev pub IsJobOf : List ℕ → List ℕ → Job → Type 0
+IsJobOf command name job = (is_command command ≡ true) × ((build : BuildSeen) → wish_of job build ≡ wish_by command (name, build))
+
+abbrev pub refusal_of : Result Wish BadWord → Option ReadError
+refusal_of (Ok wish) = None
 refusal_of (Err bad) = Some (Bad bad)

@@ -1,17 +1,16 @@
-// Reads the words of the program.
+// Reads the settings that words ask for.
 ghost use Rattle.std.specs.Prelude.{◌≡◌, ◌⊎◌, ◌++◌, [], ◌∷◌, Ok, Err, Some, None, map, true, false, IfOk, IfErr, OnOk, MatchResult, IsErr, string_bytes, codes};
 ghost use Rattle.std.specs.Option.{option_copied};
 ghost use Rattle.cc_build.specs.Build.{Sets};
-ghost use Rattle.cc_command.specs.Answer.{asked_for};
-ghost use Rattle.cc_command.specs.Read.{bad_at, IsNumberOf, IsTruthOf, is_truth, is_text_key, is_item_key, is_choice_key, is_switch_key, cause_unless, definition_of, unless_empty, first_bad, bad_word, name_of, refusal_of};
+ghost use Rattle.cc_command.specs.Read.{bad_at, IsNumberOf, IsTruthOf, is_truth, is_text_key, is_item_key, is_choice_key, is_switch_key, cause_unless, definition_of, unless_empty, first_bad, bad_word};
 ghost use Rattle.cc_command.specs.SetsKey.{SetsKey, SetsTruth, SetsLevel, SetsWord, ReadsSettings};
 ghost use Rattle.cc_command.specs.Step.{with_key};
 ghost use Rattle.cc_command.specs.declared.words.ReadError.TheVariants.{Bad, NoMemory as WantsMemory};
 
-use crate::words::{BadWord, Job, ReadError, Request, WordCause};
+use crate::words::{BadWord, ReadError, WordCause};
 use cc_build::{Build, Error};
 use cc_host::World;
-use cc_text::{Mem, NoMemory, Text, key_and_value};
+use cc_text::{Mem, NoMemory, key_and_value};
 use std::alloc::Global;
 
 // The number of a text, where the text is its decimal form.
@@ -363,14 +362,17 @@ fn set_word<W: World>(alloc: Global, build: &mut Build<W>, word: &str) -> Mem<Op
     }
 }
 
-fn bad(place: u64, cause: WordCause) -> ReadError
+pub(crate) fn bad(place: u64, cause: WordCause) -> ReadError
     ensures { result ≡ Bad (bad_at place cause) }
 {
     ReadError::Bad(BadWord { place, cause })
 }
 
-// Calls the setters of the words behind the name, in their order, up to the first bad word.
-fn read_settings<W: World>(alloc: Global, words: &[String]) -> Result<Build<W>, ReadError>
+/// Calls the setters of the words behind the name, in their order, up to the first bad word.
+pub(crate) fn read_settings<W: World>(
+    alloc: Global,
+    words: &[String],
+) -> Result<Build<W>, ReadError>
     ensures ok { IfOk result (ReadsSettings (map string_bytes words.now)) }
     ensures refused { IfErr result (λ e. (e ≡ WantsMemory)
         ⊎ (bad_word (first_bad 2 (map string_bytes words.now)) ≡ Some e)) }
@@ -386,27 +388,4 @@ fn read_settings<W: World>(alloc: Global, words: &[String]) -> Result<Build<W>, 
         }
     }
     Ok(build)
-}
-
-/// Reads the words behind the program's own name: `compile NAME key=value ...`, where a word ends its key at its first `=`. A list
-/// setting takes the values of its key in order, a single one the last.
-///
-/// Refused at the first bad word, with its place from 0 and the first cause that holds; and for memory. Nothing is left then, and no host
-/// was asked anything.
-pub fn read_words<W: World>(alloc: Global, words: &[String]) -> Result<Request<W>, ReadError>
-    ensures ok { IfOk result
-        (λ request. asked_for words.now ≡ Ok (name_of request.job, request.build)) }
-    ensures refused { IfErr result
-        (λ e. (e ≡ WantsMemory) ⊎ (refusal_of (asked_for words.now) ≡ Some e)) }
-{
-    match words {
-        [] => Err(bad(0, WordCause::NoCommand)),
-        [command, ..] if command.as_str() != "compile" => Err(bad(0, WordCause::UnknownCommand)),
-        [_] => Err(bad(1, WordCause::NoName)),
-        [_, name, rest @ ..] => {
-            let job = Job::Compile(Text::of(alloc, name.as_str())?);
-            let build = read_settings(alloc, rest)?;
-            Ok(Request { job, build, alloc })
-        }
-    }
 }

@@ -5,12 +5,14 @@ ghost use Rattle.cc_tool.specs.Asked.{question_events};
 ghost use Rattle.cc_host.specs.Call.{part};
 ghost use Rattle.cc_build.specs.Course.{ByRun};
 ghost use Rattle.cc_build.specs.Promises.{NothingRuns};
-ghost use Rattle.cc_command.specs.Answer.{PrintsLine, AnswersError, AnswersBad, is_wanting, ended_well, ended_wanting as wanting, cause_text as text_of, word_line as line_of_word, error_line as line_of_error, asked_for, IsAnswer, IsAnswerTo};
-ghost use Rattle.cc_command.specs.Asks.{AsksFor, AsksWords};
+ghost use Rattle.cc_command.specs.Answer.{PrintsLine, AnswersError, AnswersBad, is_wanting, ended_well, ended_wanting as wanting, cause_text as text_of, word_line as line_of_word, error_line as line_of_error, asked_for, IfArchives, IsAnswer, IsAnswerOf, IsAnswerTo};
+ghost use Rattle.cc_command.specs.Archived.{Archived, ArchivePromises};
+ghost use Rattle.cc_command.specs.Asks.{AsksFor, AsksWish, AsksWords};
 ghost use Rattle.cc_command.specs.Promises.{Headline, Promises, PrintsLast, FaultsLast};
-ghost use Rattle.cc_command.specs.Read.{name_of};
+ghost use Rattle.cc_command.specs.Read.{name_of, wish_of};
 
-use crate::reading::read_words;
+use crate::archive::archive;
+use crate::commands::read_words;
 use crate::words::{BadWord, Invocation, Job, ReadError, Request, WordCause};
 use cc_build::{Build, Error, ErrorKind};
 use cc_host::{Host, HostError, LineKind, World};
@@ -171,7 +173,7 @@ fn refuse<W: World, H: Host<W>>(alloc: Global, host: &mut H, error: Error) -> En
 
 // Takes the host's variables, and compiles.
 #[tactic(auto, using(cc_host::proofs::Parts::since_append))]
-fn serve<W: World, H: Host<W>, J: Jobs>(
+fn compile<W: World, H: Host<W>, J: Jobs>(
     rt: &impl Wait,
     request: &mut Request<W>,
     turns: u64,
@@ -192,17 +194,68 @@ fn serve<W: World, H: Host<W>, J: Jobs>(
         (IsAnswer (name_of request.old.job, request.old.build) result) }
 {
     let alloc = request.alloc;
-    match &request.job {
-        Job::Compile(name) => {
-            let build = &mut request.build;
-            match build.capture(host) {
-                Ok(()) => match build.try_compile(rt, host, jobs, seat, turns, name.as_str()) {
-                    Ok(()) => ended_done(),
-                    Err(error) => refuse(alloc, host, error),
-                },
-                Err(error) => refuse(alloc, host, error),
-            }
-        }
+    let name = request.job.name();
+    let build = &mut request.build;
+    match build.capture(host) {
+        Ok(()) => match build.try_compile(rt, host, jobs, seat, turns, name) {
+            Ok(()) => ended_done(),
+            Err(error) => refuse(alloc, host, error),
+        },
+        Err(error) => refuse(alloc, host, error),
+    }
+}
+
+// Takes the host's variables, and archives the added objects alone.
+#[tactic(auto, using(cc_host::proofs::Parts::since_append))]
+fn archive_alone<W: World, H: Host<W>>(
+    rt: &impl Wait,
+    request: &mut Request<W>,
+    turns: u64,
+    host: &mut H,
+) -> Ended
+    requires repeats { request.old.build.config.repeat_lines ≡ true }
+    ensures extends { H.log host.new ≡ H.log host.old ++ part H.log host.old host.new }
+    ensures archived { Archived W.steady W.answer (name_of request.old.job, request.old.build)
+        (H.patience host.old) turns (part H.log host.old host.new) result }
+{
+    let alloc = request.alloc;
+    match request.build.capture(host) {
+        Ok(()) => match archive(rt, request, host, turns) {
+            Ok(()) => ended_done(),
+            Err(error) => refuse(alloc, host, error),
+        },
+        Err(error) => refuse(alloc, host, error),
+    }
+}
+
+// Does what a request asks for.
+#[tactic(auto, using(cc_host::proofs::Parts::since_append))]
+fn serve<W: World, H: Host<W>, J: Jobs>(
+    rt: &impl Wait,
+    request: &mut Request<W>,
+    turns: u64,
+    host: &mut H,
+    jobs: &J,
+    seat: &mut J::Seat,
+) -> Ended
+    requires fits { J.fits jobs.now seat.old }
+    requires empty { J.held seat.old ≡ 0 }
+    requires repeats { request.old.build.config.repeat_lines ≡ true }
+    ensures fits { J.fits jobs.now seat.new }
+    ensures empty { J.held seat.new ≡ 0 }
+    ensures extends { H.log host.new ≡ H.log host.old ++ part H.log host.old host.new }
+    ensures asked { AsksWish W.steady W.answer (wish_of request.old.job request.old.build)
+        (part H.log host.old host.new) }
+    ensures answer { ByRun H.log H.patience J.total J.faults J.taken J.load turns
+        host.old host.new seat.old seat.new
+        (IsAnswerOf (wish_of request.old.job request.old.build) result) }
+    ensures archived { IfArchives (Ok (wish_of request.old.job request.old.build))
+        (λ q. Archived W.steady W.answer q (H.patience host.old) turns
+        (part H.log host.old host.new) result) }
+{
+    match request.job {
+        Job::Compile(_) => compile(rt, request, turns, host, jobs, seat),
+        Job::Archive(_) => archive_alone(rt, request, turns, host),
     }
 }
 
@@ -224,6 +277,9 @@ fn run<W: World, H: Host<W>, J: Jobs>(
         (part H.log host.old host.new) }
     ensures answer { ByRun H.log H.patience J.total J.faults J.taken J.load invocation.entry.turns
         host.old host.new seat.old seat.new (IsAnswerTo invocation.entry.words.now result) }
+    ensures archived { IfArchives (asked_for invocation.entry.words.now)
+        (λ q. Archived W.steady W.answer q (H.patience host.old) invocation.entry.turns
+        (part H.log host.old host.new) result) }
 {
     let Invocation {
         alloc,
@@ -244,7 +300,8 @@ fn run<W: World, H: Host<W>, J: Jobs>(
 /// Status 0 of `compile NAME ..` means: in the part of the log that this call added the host listed its variables; then it starts one
 /// planned compile command per source, in the order added, each ended with 0; then the old library is removed; then the planned archive
 /// and index commands ended with 0, but for the first, which those of the plain form follow where the archiver refuses its form; then
-/// exactly the link lines were printed.
+/// exactly the link lines were printed. That of `archive NAME ..` means: the old library is removed, those commands archived the added
+/// objects alone, and then the link lines were printed; it takes no token.
 ///
 /// Another status leaves what the first stages did. Its line, `error occurred in cc-rs: <message>` or `word <place>: <cause>`, is the
 /// last event, of kind Fault, or else the fault of its print; want of memory prints none. Each command that was started has ended or was
@@ -272,6 +329,11 @@ pub fn drive<W: World, H: Host<W>, J: Jobs>(
     // The whole answer, each status with its cause, and what follows from it, sentence by sentence.
     ensures promises { ByRun H.log H.patience J.total J.faults J.taken J.load turns
         host.old host.new seat.old seat.new (Promises words.now result) }
+
+    // The same of an archive alone.
+    ensures archived { IfArchives (asked_for words.now) (λ q. ArchivePromises W.steady W.answer q
+        (H.patience host.old) turns (part H.log host.old host.new) result) }
+
     ensures printed { PrintsLast (part H.log host.old host.new) result }
     ensures faults_last { FaultsLast (part H.log host.old host.new) }
     ensures settled { NothingRuns (part H.log host.old host.new) }

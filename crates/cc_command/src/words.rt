@@ -1,5 +1,6 @@
 // What the words of the program ask for, and what is wrong with them.
 ghost use Rattle.std.specs.Prelude.{◌≡◌};
+ghost use Rattle.cc_command.specs.Read.{name_of};
 ghost use Rattle.cc_command.specs.declared.words.ReadError.TheVariants.{NoMemory as WantsMemory};
 
 use cc_build::Build;
@@ -12,7 +13,7 @@ use std::alloc::Global;
 pub enum WordCause {
     /// There is no word at all. Its place is 0.
     NoCommand,
-    /// The first word is no command; `compile` is the only one. Its place is 0.
+    /// The first word is no command: neither `compile` nor `archive`. Its place is 0.
     UnknownCommand,
     /// The name of the library behind the command is missing. Its place is 1.
     NoName,
@@ -39,6 +40,20 @@ pub struct BadWord {
 pub enum Job {
     /// Compile the sources, and archive them into the library of this name, which is as the words have it: the run checks it.
     Compile(Text),
+    /// Archive the added objects alone into the library of this name, as the words have it, and print how it is linked.
+    Archive(Text),
+}
+
+impl Job {
+    // The name of the library.
+    pub(crate) fn name(&self) -> &str
+        ensures { result.now ≡ name_of self.now }
+    {
+        match self {
+            Job::Compile(name) => name.as_str(),
+            Job::Archive(name) => name.as_str(),
+        }
+    }
 }
 
 /// What words ask for: the run, and the settings for it.

@@ -1,4 +1,4 @@
-//! The command: its words ask for a compile run, which it drives on the machine. Standard output bears the lines
+//! The command: its words ask for a compile run, or an archive alone, which it drives on the machine. Standard output bears the lines
 //! that Cargo reads from a build script (The Cargo Book, "Build Scripts"); `HELP` lists the words and the statuses.
 //!
 //! Stands on `cc_command`, whose `drive` reads the words and runs what they ask for: that call carries the theorem
@@ -27,9 +27,11 @@ static HELP: &str = "\
 Compiles C, C++ and assembly into a static library, and prints how Cargo links it.
 
 usage: cc_main compile NAME key=value ...
+       cc_main archive NAME key=value ...
 
 commands:
   compile NAME   compile the sources, and archive them into lib<NAME>.a
+  archive NAME   archive the added objects alone into lib<NAME>.a
 
 keys that may stand again, each adding one:
   file=PATH              a source

@@ -1,10 +1,12 @@
+use Rattle.std.proofs.Common.{ℕ}
 use Rattle.cc_host.specs.Part.{since}
-use Rattle.cc_build.specs.Course.{course}
+use Rattle.cc_build.specs.Course.{Course, course}
 use Rattle.cc_build.specs.Went.{means}
 use Rattle.cc_command.specs.Answer.{asked_for}
-use Rattle.cc_command.proofs.AskLaws.{some_look}
-use Rattle.cc_command.proofs.PromiseLaws.{headline, prints_last, faults_last}
-use Rattle.cc_command.proofs.SettledPromises.{settled, promised}
+use Rattle.cc_command.proofs.AskLaws.{said, prints_last, faults_last, settled}
+use Rattle.cc_command.proofs.ArchivedLaws.{archive_promises}
+use Rattle.cc_command.proofs.PromiseLaws.{headline}
+use Rattle.cc_command.proofs.SettledPromises.{promised}
 use Rattle.cc_command.proofs.top.drive.Goals as goal
 
 pub returns-clause-built : goal.returns-clause-built
@@ -29,29 +31,34 @@ returns-clause-promises g c =
           (run.0, promised c.args.words.now c.run.result look part (course (g.J.Jobs.total c.args.seat.now) (g.H.Host.patience c.args.host.now) before after) run.1);
     }
 
+pub returns-clause-archived : goal.returns-clause-archived
+returns-clause-archived g c =
+    let part = since (g.H.Host.log c.args.host.now) (g.H.Host.log c.run.new.host) in
+    archive_promises g.W.World.steady g.W.World.answer (g.H.Host.patience c.args.host.now) c.args.turns part c.run.result (asked_for c.args.words.now) c.run.ensures.archived
+
 pub returns-clause-printed : goal.returns-clause-printed
 returns-clause-printed g c =
     let part = since (g.H.Host.log c.args.host.now) (g.H.Host.log c.run.new.host) in
+    let patience = g.H.Host.patience c.args.host.now in
     let before = means c.args.turns (g.J.Jobs.faults c.args.seat.now) (g.J.Jobs.taken c.args.seat.now) (g.J.Jobs.load c.args.seat.now) in
-    let some = some_look _ _ (asked_for c.args.words.now) part c.run.ensures.asked in
-    let run = c.run.ensures.answer.under some.0 some.1 in
-    let after = means run.0 (g.J.Jobs.faults c.run.new.seat) (g.J.Jobs.taken c.run.new.seat) (g.J.Jobs.load c.run.new.seat) in
-    prints_last some.0 (asked_for c.args.words.now) part c.run.result (course (g.J.Jobs.total c.args.seat.now) (g.H.Host.patience c.args.host.now) before after) run.1
+    let on : ℕ → Course = λ left. course (g.J.Jobs.total c.args.seat.now) patience before (means left (g.J.Jobs.faults c.run.new.seat) (g.J.Jobs.taken c.run.new.seat) (g.J.Jobs.load c.run.new.seat)) in
+    let words = asked_for c.args.words.now in
+    prints_last g.W.World.steady g.W.World.answer patience c.args.turns part c.run.result words (said g.W.World.steady g.W.World.answer patience c.args.turns part c.run.result words on c.run.ensures.asked c.run.ensures.answer c.run.ensures.archived)
 
 pub returns-clause-faults_last : goal.returns-clause-faults_last
 returns-clause-faults_last g c =
     let part = since (g.H.Host.log c.args.host.now) (g.H.Host.log c.run.new.host) in
+    let patience = g.H.Host.patience c.args.host.now in
     let before = means c.args.turns (g.J.Jobs.faults c.args.seat.now) (g.J.Jobs.taken c.args.seat.now) (g.J.Jobs.load c.args.seat.now) in
-    let some = some_look _ _ (asked_for c.args.words.now) part c.run.ensures.asked in
-    let run = c.run.ensures.answer.under some.0 some.1 in
-    let after = means run.0 (g.J.Jobs.faults c.run.new.seat) (g.J.Jobs.taken c.run.new.seat) (g.J.Jobs.load c.run.new.seat) in
-    faults_last some.0 (asked_for c.args.words.now) part c.run.result (course (g.J.Jobs.total c.args.seat.now) (g.H.Host.patience c.args.host.now) before after) run.1
+    let on : ℕ → Course = λ left. course (g.J.Jobs.total c.args.seat.now) patience before (means left (g.J.Jobs.faults c.run.new.seat) (g.J.Jobs.taken c.run.new.seat) (g.J.Jobs.load c.run.new.seat)) in
+    let words = asked_for c.args.words.now in
+    faults_last g.W.World.steady g.W.World.answer patience c.args.turns part c.run.result words (said g.W.World.steady g.W.World.answer patience c.args.turns part c.run.result words on c.run.ensures.asked c.run.ensures.answer c.run.ensures.archived)
 
 pub returns-clause-settled : goal.returns-clause-settled
 returns-clause-settled g c =
     let part = since (g.H.Host.log c.args.host.now) (g.H.Host.log c.run.new.host) in
+    let patience = g.H.Host.patience c.args.host.now in
     let before = means c.args.turns (g.J.Jobs.faults c.args.seat.now) (g.J.Jobs.taken c.args.seat.now) (g.J.Jobs.load c.args.seat.now) in
-    let some = some_look _ _ (asked_for c.args.words.now) part c.run.ensures.asked in
-    let run = c.run.ensures.answer.under some.0 some.1 in
-    let after = means run.0 (g.J.Jobs.faults c.run.new.seat) (g.J.Jobs.taken c.run.new.seat) (g.J.Jobs.load c.run.new.seat) in
-    settled some.0 (asked_for c.args.words.now) part c.run.result (course (g.J.Jobs.total c.args.seat.now) (g.H.Host.patience c.args.host.now) before after) run.1
+    let on : ℕ → Course = λ left. course (g.J.Jobs.total c.args.seat.now) patience before (means left (g.J.Jobs.faults c.run.new.seat) (g.J.Jobs.taken c.run.new.seat) (g.J.Jobs.load c.run.new.seat)) in
+    let words = asked_for c.args.words.now in
+    settled g.W.World.steady g.W.World.answer patience c.args.turns part c.run.result words (said g.W.World.steady g.W.World.answer patience c.args.turns part c.run.result words on c.run.ensures.asked c.run.ensures.answer c.run.ensures.archived)

@@ -2,10 +2,12 @@ use Rattle.std.proofs.Common.{Ok, Err, sym, subst, refl}
 use Rattle.cc_host.specs.Part.{since}
 use Rattle.cc_build.specs.Course.{course}
 use Rattle.cc_build.specs.Went.{means}
-use Rattle.cc_command.specs.Answer.{asked_for}
+use Rattle.cc_command.specs.Answer.{asked_for, IfArchives}
+use Rattle.cc_command.specs.Archived.{Archived}
 use Rattle.cc_command.specs.Asks.{AsksWords}
-use Rattle.cc_command.specs.Read.{name_of}
+use Rattle.cc_command.specs.Read.{wish_of}
 use Rattle.cc_command.proofs.AnswerLaws.{answers_read, bad_read, answers_wanting}
+use Rattle.cc_command.proofs.ArchivedLaws.{archived_wanting, asked_wanting}
 use Rattle.cc_command.proofs.top.run.Goals as goal
 
 pub returns-in-Ok-clause-answer : goal.returns-in-Ok-clause-answer
@@ -16,7 +18,7 @@ returns-in-Ok-clause-answer g c =
           let served = c.serve.ensures.answer.under look agree in
           let after = means served.0 (g.J.Jobs.faults c.serve.new.seat) (g.J.Jobs.taken c.serve.new.seat) (g.J.Jobs.load c.serve.new.seat) in (
             served.0,
-            answers_read look (asked_for c.args.invocation.words.now) (Ok (name_of c.in-Ok.request.job, c.in-Ok.request.build)) (since (g.H.Host.log c.args.host.now) (g.H.Host.log c.serve.new.host)) c.serve.result
+            answers_read look (asked_for c.args.invocation.words.now) (Ok (wish_of c.in-Ok.request.job c.in-Ok.request.build)) (since (g.H.Host.log c.args.host.now) (g.H.Host.log c.serve.new.host)) c.serve.result
                 (course (g.J.Jobs.total c.args.seat.now) (g.H.Host.patience c.args.host.now) before after) c.in-Ok.ensures.ok served.1,
           );
     }
@@ -24,7 +26,7 @@ returns-in-Ok-clause-answer g c =
 pub returns-in-Ok-clause-asked : goal.returns-in-Ok-clause-asked
 returns-in-Ok-clause-asked g c =
     let part = since (g.H.Host.log c.args.host.now) (g.H.Host.log c.serve.new.host) in
-    subst (λ request. AsksWords g.W.World.steady g.W.World.answer request part) (sym c.in-Ok.ensures.ok) c.serve.ensures.asked
+    subst (λ words. AsksWords g.W.World.steady g.W.World.answer words part) (sym c.in-Ok.ensures.ok) c.serve.ensures.asked
 
 pub returns-in-Err-Bad-clause-answer : goal.returns-in-Err-Bad-clause-answer
 returns-in-Err-Bad-clause-answer g c =
@@ -48,3 +50,22 @@ returns-in-Err-NoMemory-clause-answer g c =
             c.ended_wanting.ensures refl,
       );
     }
+
+pub returns-in-Ok-clause-archived : goal.returns-in-Ok-clause-archived
+returns-in-Ok-clause-archived g c =
+    let part = since (g.H.Host.log c.args.host.now) (g.H.Host.log c.serve.new.host) in
+    subst (λ words. IfArchives words (λ q. Archived g.W.World.steady g.W.World.answer q (g.H.Host.patience c.args.host.now) c.args.invocation.turns part c.serve.result)) (sym c.in-Ok.ensures.ok) c.serve.ensures.archived
+
+pub returns-in-Err-Bad-clause-archived : goal.returns-in-Err-Bad-clause-archived
+returns-in-Err-Bad-clause-archived g c =
+    let words = asked_for c.args.invocation.words.now in
+    let part = since (g.H.Host.log c.args.host.now) (g.H.Host.log c.refuse_word.new.host) in
+    subst (λ w. IfArchives w (λ q. Archived g.W.World.steady g.W.World.answer q (g.H.Host.patience c.args.host.now) c.args.invocation.turns part c.refuse_word.result))
+    (sym (bad_read words c.in-Err-Bad.field-0 c.in-Err-Bad.bad c.in-Err-Bad.field-0-is c.in-Err-Bad.ensures.refused)) tt
+
+pub returns-in-Err-NoMemory-clause-archived : goal.returns-in-Err-NoMemory-clause-archived
+returns-in-Err-NoMemory-clause-archived g c =
+    archived_wanting g.W.World.steady g.W.World.answer (g.H.Host.patience c.args.host.now) c.args.invocation.turns (g.H.Host.log c.args.host.now) (asked_for c.args.invocation.words.now) c.ended_wanting.result c.ended_wanting.ensures
+
+pub returns-in-Err-NoMemory-clause-asked : goal.returns-in-Err-NoMemory-clause-asked
+returns-in-Err-NoMemory-clause-asked g c = asked_wanting g.W.World.steady g.W.World.answer (g.H.Host.log c.args.host.now) (asked_for c.args.invocation.words.now)

@@ -1,0 +1,495 @@
+-- What an archive alone answers, and what follows from it.
+use Rattle.std.proofs.Common.{◌≡◌, ◌⊎◌, inl, inr, ℕ, ◌+◌, ◌<◌, List, [], ◌∷◌, ◌++◌, length, map, Bool, true, false, if◌then◌else◌, is_some, Option, Some, None, option_map, Result, Ok, Err, refl, sym, ◌∙◌, ap, subst, append_assoc, append-nil, zero-add, arith}
+use Rattle.std.specs.Prelude.{◌≤◌, ◌*◌}
+use Rattle.std.proofs.Math.Nat.{mul-le-mul_left}
+use Rattle.cc_env.specs.Env.{EnvSeen}
+use Rattle.cc_host.specs.Question.{Look, answers}
+use Rattle.cc_host.specs.Part.{Step, since}
+use Rattle.cc_host.specs.Part.Step.{Lists}
+use Rattle.cc_host.specs.declared.event.Event.{Event}
+use Rattle.cc_host.specs.declared.event.Event.TheVariants.{Listed}
+use Rattle.cc_host.specs.declared.event.LineKind.TheVariants.{Link}
+use Rattle.cc_host.specs.declared.question.Outcome.{Outcome}
+use Rattle.cc_host.specs.declared.question.Question.{Question}
+use Rattle.cc_jobs.specs.Seats.{Rose}
+use Rattle.cc_plan.specs.Given.{is_disabled, probe_folder}
+use Rattle.cc_plan.specs.Link.{printed_links}
+use Rattle.cc_plan.specs.Plan.{archive_refusal, lists_of_run, prints, removal_steps}
+use Rattle.cc_plan.specs.Questions.{RunAsks}
+use Rattle.cc_plan.specs.Refusal.{first_of, name_refusal, early_refusal, path_refusal, link_refusal}
+use Rattle.cc_plan.specs.declared.error.PlanError.{PlanError}
+use Rattle.cc_plan.specs.declared.settings.BuildConfig.{BuildConfig}
+use Rattle.cc_run.specs.Part.{turns}
+use Rattle.cc_run.specs.Planned.{asked}
+use Rattle.cc_run.specs.declared.planned.Planned.{Planned}
+use Rattle.cc_tool.proofs.Asides.{asked_none, asked_around}
+use Rattle.cc_tool.proofs.SomeLemmas.{some_agree}
+use Rattle.cc_tool.specs.Asked.{question_events}
+use Rattle.cc_build.specs.Archiving.{unarchived_error}
+use Rattle.cc_build.specs.Attempts.{to_attempt}
+use Rattle.cc_build.specs.Build.{BuildSeen, AsksByRun, probes}
+use Rattle.cc_build.specs.Built.{ended_well as all_ended}
+use Rattle.cc_build.specs.Captured.{with_vars, Captures, CaptureEnds}
+use Rattle.cc_build.specs.Course.{Course, course_alone}
+use Rattle.cc_build.specs.Error.{ErrorSeen, no_memory}
+use Rattle.cc_build.specs.Failed.{Failed, HasFault}
+use Rattle.cc_build.specs.Linking.{linked_name}
+use Rattle.cc_build.specs.Promises.{terms_for, AreFirst, NothingRuns}
+use Rattle.cc_build.specs.Refusal.{plan_error}
+use Rattle.cc_build.specs.Shows.{shows_of}
+use Rattle.cc_build.specs.Stage.{Stage, asked_then, archive_stages as library_archive, calls, commands_in, children_in, has_libtool, removal_stages, list_stages, library_commands, library_stages, links_of, printed_stages, written, written_children, writings}
+use Rattle.cc_build.specs.Stage.Stage.{Asks, Calls}
+use Rattle.cc_build.specs.Went.{Terms, Means, Ends, Partly}
+use Rattle.cc_build.proofs.FormLaws.{FormFirst, formed_unless, library_first, none_first}
+use Rattle.cc_build.proofs.Going.{called, part_is, halted_among, halted_more, halted_none, ends_then}
+use Rattle.cc_build.proofs.OrderLaws.{ended_partly, no_line_archives}
+use Rattle.cc_build.proofs.RunLaws.{commands_then, commands_calls, commands_written, children_then, children_calls, children_written, went_started, went_run}
+use Rattle.cc_build.proofs.SettledLaws.{went_attempts, partly_first}
+use Rattle.cc_build.proofs.StopLaws.{ArePlain, plain_lines, plain_unless, plain_library}
+use Rattle.cc_build.proofs.TurnLaws.{halted_bound}
+use Rattle.cc_command.specs.Answer.{AnswersError, IfArchives, IsAnswer, IsAnswerOf, env_in, error_line, heard, repeating, ended_well, ended_wanting}
+use Rattle.cc_command.specs.Archived.{alone, library_at, directed_stages, archive_stages, archive_refused, Agree, Archiving, build_in, wished_stages, wished_refusal, WishEnds, Says, Archived, Written, ArchivePromises}
+use Rattle.cc_command.specs.Promises.{PrintsLast, IsLine, FaultsLast, EndsSpent}
+use Rattle.cc_command.specs.Asks.{AsksAlone, AsksWish, AsksWords}
+use Rattle.cc_command.specs.Read.{Request, Wish, name_of, wish_of}
+use Rattle.cc_command.specs.declared.words.Job.{Job}
+use Rattle.cc_command.specs.declared.words.Job.TheVariants.{Compile, Archive}
+use Rattle.cc_command.specs.Read.Wish.{Compiles, Archives}
+use Rattle.cc_command.specs.declared.words.BadWord.{BadWord}
+use Rattle.cc_command.specs.declared.top.Ended.{Ended}
+use Rattle.cc_command.proofs.EnoughLaws.{count, calls_none, unless_few, unless_none, ended_count, mapped, disabled_or, first_never, NeverSpent}
+use Rattle.cc_command.proofs.PromiseLaws.{line_of, heard_same, turns_same, same_error, stages_last, spends}
+use Rattle.cc_command.proofs.SettledPromises.{stages_settled, attempts_same}
+
+-- ---- what was done for it
+
+-- stages that are none go with a refusal
+archive_open : (b : BuildSeen) (look links : Look) (output : List ℕ) (is_plain : Bool) → archive_stages b is_plain look links output ≡ [] → is_some (archive_refused b look links output) ≡ true
+archive_open b look links output is_plain = by_early (unarchived_error (alone b).config (alone b).env output) _ _
+  where
+    by_early : (early late : Option ErrorSeen) (run : List Stage) → (if is_some early then [] else Asks ∷ run) ≡ [] → is_some (first_of early late) ≡ true
+    by_early None late run h = absurd (cc)
+    by_early (Some e) late run h = refl
+
+module _ (steady : Bool) (world : Question → Outcome) (patience : Option ℕ) (turns : ℕ) where
+  none_asked : (b : BuildSeen) → AsksByRun steady world b []
+  none_asked b = asked_none steady world (probes b) (RunAsks b.config b.env) [] refl
+
+  -- the variables were not listed, or memory for their snapshot was wanted
+  module _ (request : Request) (run : List Event) (e : ErrorSeen) where
+    abbrev idle : Means
+    idle = (course_alone patience turns turns).before
+
+    unlisted_ends : (look links : Look) → CaptureEnds run (Err e) → WishEnds request patience turns (Err e) look links run
+    unlisted_ends look links h = (turns, false, stopped h)
+      where
+        b : BuildSeen
+        b = build_in request run
+
+        t : Terms
+        t = terms_for (alone b) (course_alone patience turns turns)
+
+        stopped : CaptureEnds run (Err e) → Ends {T = Unit {0}} t (archive_refused b look links request.0) (Calls Lists ∷ archive_stages b false look links request.0) run (Err e) idle idle
+        stopped (inl k) = halted_more t (archive_refused b look links request.0) (Calls Lists ∷ []) (archive_stages b false look links request.0) run e idle idle (k t idle)
+        stopped (inr k) = halted_among t (archive_refused b look links request.0) (Calls Lists ∷ []) (archive_stages b false look links request.0) run e idle idle (k.1 t idle).1 k.0 (archive_open b look links request.0 false)
+
+    pub unlisted : (line part : List Event) (ended : Ended) → part ≡ run ++ line → question_events run ≡ [] → CaptureEnds run (Err e) → AnswersError e line ended → Archived steady world request patience turns part ended
+    unlisted line part ended cut none h says = record {
+      run = run;
+      line = line;
+      cut = cut;
+      made = run;
+      linked = [];
+      parts = sym (append-nil run);
+      made_asks = asked_none steady world (probes (alone (build_in request run))) (RunAsks (alone (build_in request run)).config (alone (build_in request run)).env) run none;
+      linked_asks = none_asked (build_in request run);
+      result = Err e;
+      ends = λ look links agree. unlisted_ends look links h;
+      says = says;
+    }
+
+  -- memory for the words was wanted, and nothing was done
+  pub unread : (request : Request) (part : List Event) (ended : Ended) → part ≡ [] → ended ≡ ended_wanting → Archived steady world request patience turns part ended
+  unread request part ended none is = record {
+    run = [];
+    line = [];
+    cut = none;
+    made = [];
+    linked = [];
+    parts = refl;
+    made_asks = none_asked (alone (build_in request []));
+    linked_asks = none_asked (build_in request []);
+    result = Err no_memory;
+    ends = λ look links agree. (turns, false, halted_none (terms_for (alone (build_in request [])) (course_alone patience turns turns)) (wished_refusal request look links []) (wished_stages request false look links []) [] no_memory (course_alone patience turns turns).before refl refl (λ empty. absurd (cc)));
+    says = inr (is, refl);
+  }
+
+  -- they were listed, and then the archive and its link lines ended so
+  module _ (name : List ℕ) (before after : BuildSeen) (listing part : List Event) (k : Captures before after listing) (result : Result (Unit {0}) ErrorSeen) where
+    abbrev listed_run : List Event
+    listed_run = Listed k.vars ∷ part
+
+    abbrev taken : BuildSeen
+    taken = record before { env = with_vars before.env k.vars }
+
+    listed_ends : (look links : Look) (left : ℕ) (is_plain : Bool) → Ends (terms_for (alone taken) (course_alone patience turns left)) (archive_refused taken look links name) (archive_stages taken is_plain look links name) part result (course_alone patience turns left).before (course_alone patience turns left).after → Ends (terms_for (alone taken) (course_alone patience turns left)) (archive_refused taken look links name) (Calls Lists ∷ archive_stages taken is_plain look links name) listed_run result (course_alone patience turns left).before (course_alone patience turns left).after
+    listed_ends look links left is_plain o =
+        let c = course_alone patience turns left in
+        ends_then (terms_for (alone taken) c) (archive_refused taken look links name) (Calls Lists ∷ []) (archive_stages taken is_plain look links name) (Listed k.vars ∷ []) part result c.before c.before c.after (called (terms_for (alone taken) c) Lists (Listed k.vars) (Listed k.vars ∷ []) c.before refl refl) o
+
+    of_taken : Archiving steady world after patience turns name part result → Archiving steady world taken patience turns name part result
+    of_taken h = subst (λ (b : BuildSeen). Archiving steady world b patience turns name part result) k.is h
+
+    pub archived_so : (line whole : List Event) (ended : Ended) → whole ≡ (listing ++ part) ++ line → Archiving steady world after patience turns name part result → Says result line ended → Archived steady world (name, before) patience turns whole ended
+    archived_so line whole ended cut after_so says =
+        let h : Archiving steady world taken patience turns name part result = of_taken after_so in
+        record {
+          run = listed_run;
+          line = line;
+          cut = cut ∙ ap (λ l. (l ++ part) ++ line) k.listed;
+          made = Listed k.vars ∷ h.made;
+          linked = h.linked;
+          parts = ap (λ l. Listed k.vars ∷ l) h.cut;
+          made_asks = subst (λ (l : List Event). AsksByRun steady world (alone taken) (Listed k.vars ∷ l)) (append-nil h.made) (asked_around steady world (probes (alone taken)) (RunAsks (alone taken).config (alone taken).env) (Listed k.vars ∷ []) h.made [] refl refl h.made_asks);
+          linked_asks = h.linked_asks;
+          result = result;
+          ends = λ look links agree. let o = h.ends look links agree in (o.0, o.1, listed_ends look links o.0 o.1 o.2);
+          says = says;
+        }
+
+-- words that were not read for want of memory
+pub archived_wanting : (steady : Bool) (world : Question → Outcome) (patience : Option ℕ) (turns : ℕ) (log : List Event) (words : Result Wish BadWord) (ended : Ended) → ended ≡ ended_wanting → IfArchives words (λ q. Archived steady world q patience turns (since log log) ended)
+archived_wanting steady world patience turns log (Ok (Compiles q)) ended is = tt
+archived_wanting steady world patience turns log (Ok (Archives q)) ended is = unread steady world patience turns q (since log log) ended (part_is log log [] (sym (append-nil log))) is
+archived_wanting steady world patience turns log (Err bad) ended is = tt
+
+-- ---- the commands of a library
+
+module _ (set : BuildConfig) (env : EnvSeen) (is_plain : Bool) (look : Look) (output : List ℕ) where
+  abbrev old : List Stage
+  old = calls (removal_steps set env output)
+
+  abbrev listed : List Stage
+  listed = calls (writings (lists_of_run set env look output))
+
+  commands_library : commands_in (library_stages set env is_plain look output) ≡ library_commands set env look is_plain output
+  unfolding removal_stages list_stages library_archive
+  commands_library =
+      let run = written (has_libtool set env look) is_plain (library_commands set env look is_plain output) in
+      commands_then old (listed ++ run) ∙ ap (λ l. l ++ commands_in (listed ++ run)) (commands_calls (removal_steps set env output))
+      ∙ commands_then listed run ∙ ap (λ l. l ++ commands_in run) (commands_calls (writings (lists_of_run set env look output)))
+      ∙ commands_written (has_libtool set env look) is_plain (library_commands set env look is_plain output)
+
+  children_library : children_in (library_stages set env is_plain look output) ≡ written_children (has_libtool set env look) (library_commands set env look is_plain output)
+  unfolding removal_stages list_stages library_archive
+  children_library =
+      let run = written (has_libtool set env look) is_plain (library_commands set env look is_plain output) in
+      children_then old (listed ++ run) ∙ ap (λ l. l ++ children_in (listed ++ run)) (children_calls (removal_steps set env output))
+      ∙ children_then listed run ∙ ap (λ l. l ++ children_in run) (children_calls (writings (lists_of_run set env look output)))
+      ∙ children_written (has_libtool set env look) is_plain (library_commands set env look is_plain output)
+
+-- ---- its stages
+
+module _ (b : BuildSeen) (is_plain : Bool) (look links : Look) (output : List ℕ) where
+  abbrev lines : List Stage
+  lines = printed_stages true (links_of b.config b.env (linked_name (library_at b output)) (library_at b output) links)
+
+  abbrev unlinked : Bool
+  unlinked = is_some (first_of (path_refusal (library_at b output)) (link_refusal b.config b.env links))
+
+  alone_plain : ArePlain (Calls Lists ∷ archive_stages b is_plain look links output)
+  alone_plain = (
+    tt,
+    plain_unless (is_some (unarchived_error (alone b).config (alone b).env output)) _ (
+      tt,
+      plain_unless (is_some (archive_refusal (alone b).config (alone b).env look)) _
+          (plain_library (alone b).config (alone b).env is_plain look output (directed_stages b links (library_at b output)) (tt, plain_unless unlinked lines (plain_lines Link (printed_links true (links_of b.config b.env (linked_name (library_at b output)) (library_at b output) links))))),
+    ),
+  )
+
+  alone_first : has_libtool (alone b).config (alone b).env look ≡ false → FormFirst (Calls Lists ∷ archive_stages b is_plain look links output)
+  alone_first other = inr (
+    refl,
+    formed_unless (is_some (unarchived_error (alone b).config (alone b).env output)) _
+        (inr (
+          refl,
+          formed_unless (is_some (archive_refusal (alone b).config (alone b).env look)) _
+              (library_first (alone b).config (alone b).env (repeating is_plain) look output (directed_stages b links (library_at b output))
+              (inr (refl, formed_unless unlinked lines (none_first lines (no_line_archives Link (printed_links true (links_of b.config b.env (linked_name (library_at b output)) (library_at b output) links))))))
+              other),
+        )),
+  )
+
+  alone_count : count (Calls Lists ∷ archive_stages b is_plain look links output) ≤ length b.config.objects + 2
+  alone_count =
+      let few : count (archive_stages b is_plain look links output) ≤ 0 + length b.config.objects + 2 =
+      unless_few (is_some (unarchived_error (alone b).config (alone b).env output)) _ (0 + length b.config.objects + 2)
+      (unless_few (is_some (archive_refusal (alone b).config (alone b).env look)) _ (0 + length b.config.objects + 2)
+      (ended_count (alone b).config (alone b).env look is_plain output (directed_stages b links (library_at b output))
+      (unless_none unlinked lines (calls_none (prints Link (printed_links true (links_of b.config b.env (linked_name (library_at b output)) (library_at b output) links))))))) in
+      omega arith
+
+  -- no settings that are refused spend the turns
+  alone_never : NeverSpent (archive_refused b look links output)
+  alone_never =
+      let set = (alone b).config in
+      let env = (alone b).env in
+      first_never (unarchived_error set env output) _ (first_never _ _ (mapped set env output (name_refusal output)) (disabled_or (is_disabled env) _ (mapped set env output (early_refusal set env output))))
+      (first_never _ _ (mapped set env output (archive_refusal set env look)) (first_never _ _ (mapped b.config b.env (library_at b output) (path_refusal (library_at b output))) (mapped b.config b.env (library_at b output) (link_refusal b.config b.env links))))
+
+  -- ---- those of settings that nothing refuses
+
+  all_stages : (early : Option ErrorSeen) (ar : Option PlanError) (f : PlanError → ErrorSeen) (late : Option ErrorSeen) (run : List Stage) → first_of early (first_of (option_map f ar) late) ≡ None → (if is_some early then [] else asked_then ar run) ≡ Asks ∷ run
+  all_stages (Some e) ar f late run none = absurd (cc)
+  all_stages None (Some e) f late run none = absurd (cc)
+  all_stages None None f late run none = refl
+
+  module _ (accepted : archive_refused b look links output ≡ None) where
+    abbrev behind : List Stage
+    behind = directed_stages b links (library_at b output)
+
+    stages_are : archive_stages b is_plain look links output ≡ Asks ∷ (library_stages (alone b).config (alone b).env is_plain look output ++ behind)
+    stages_are = all_stages (unarchived_error (alone b).config (alone b).env output) (archive_refusal (alone b).config (alone b).env look) (plan_error (alone b).config (alone b).env output) _ (library_stages (alone b).config (alone b).env is_plain look output ++ behind) accepted
+
+    unless_commands : (d : Bool) (stages : List Stage) → commands_in stages ≡ [] → commands_in (if d then [] else stages) ≡ []
+    unless_commands true stages h = refl
+    unless_commands false stages h = h
+
+    unless_children : (d : Bool) (stages : List Stage) → children_in stages ≡ [] → children_in (if d then [] else stages) ≡ []
+    unless_children true stages h = refl
+    unless_children false stages h = h
+
+    abbrev commands : List Planned
+    commands = library_commands (alone b).config (alone b).env look is_plain output
+
+    abbrev shown : List Step
+    shown = prints Link (printed_links true (links_of b.config b.env (linked_name (library_at b output)) (library_at b output) links))
+
+    commands_are : commands_in (Calls Lists ∷ archive_stages b is_plain look links output) ≡ commands
+    commands_are =
+        ap commands_in stages_are ∙ commands_then (library_stages (alone b).config (alone b).env is_plain look output) behind ∙ ap (λ l. commands_in (library_stages (alone b).config (alone b).env is_plain look output) ++ l) (unless_commands unlinked lines (commands_calls shown))
+        ∙ append-nil (commands_in (library_stages (alone b).config (alone b).env is_plain look output)) ∙ commands_library (alone b).config (alone b).env is_plain look output
+
+    children_are : children_in (Calls Lists ∷ archive_stages b is_plain look links output) ≡ written_children (has_libtool (alone b).config (alone b).env look) commands
+    children_are =
+        ap children_in stages_are ∙ children_then (library_stages (alone b).config (alone b).env is_plain look output) behind ∙ ap (λ l. children_in (library_stages (alone b).config (alone b).env is_plain look output) ++ l) (unless_children unlinked lines (children_calls shown))
+        ∙ append-nil (children_in (library_stages (alone b).config (alone b).env is_plain look output)) ∙ children_library (alone b).config (alone b).env is_plain look output
+
+-- ---- its line
+
+says_line : (result : Result (Unit {0}) ErrorSeen) (line : List Event) (ended : Ended) → Says result line ended → IsLine line
+says_line (Ok done) line ended says = inl says.1
+says_line (Err e) line ended (inl printed) = line_of (error_line e) line printed.2
+says_line (Err e) line ended (inr wanting) = inl wanting.1
+
+says_last : (result : Result (Unit {0}) ErrorSeen) (part run line : List Event) (ended : Ended) → part ≡ run ++ line → Says result line ended → PrintsLast part ended
+says_last (Ok done) part run line ended cut says = inl says.0
+says_last (Err e) part run line ended cut (inl printed) = inr (inl (e, (printed.0, record { before = run; end = line; cut = cut; printed = printed.2 })))
+says_last (Err e) part run line ended cut (inr wanting) = inr (inr (inr wanting.0))
+
+never_rose : Rose 0 0 → ⊥
+never_rose rose = absurd (let less : 0 < 0 = rose (omega arith) in omega arith)
+
+-- fewer turns than the patience with each command, of which there are no more than the added objects and two
+too_few : (p n objects most turned : ℕ) → turned < p * n → n ≤ objects + 2 → p * (objects + 2) ≤ most → turned ≡ most → ⊥
+too_few p n objects most turned few counted enough same =
+    let more : p * n ≤ p * (objects + 2) = mul-le-mul_left p (omega (arith, counted)) in
+    omega arith
+
+module _ (q : Request) (patience : Option ℕ) (turned : ℕ) (part run line : List Event) (ended : Ended) (look links : Look) (left : ℕ) (is_plain : Bool) (cut : part ≡ run ++ line) where
+  abbrev b : BuildSeen
+  b = build_in q run
+
+  abbrev t : Terms
+  t = terms_for (alone b) (course_alone patience turned left)
+
+  abbrev x : Means
+  x = (course_alone patience turned left).before
+
+  abbrev y : Means
+  y = (course_alone patience turned left).after
+
+  abbrev refusal : Option ErrorSeen
+  refusal = wished_refusal q look links run
+
+  abbrev stages : List Stage
+  stages = wished_stages q is_plain look links run
+
+  -- status 0: nothing was refused, and the library was written
+  written_of : (result : Result (Unit {0}) ErrorSeen) → Says result line ended → ended.status ≡ 0 → Ends t refusal stages run result x y → (line ≡ []) × Written b patience turned look links q.0 run
+  written_of (Ok done) says zero_is o = (
+    says.1,
+    record {
+      accepted = o.0;
+      is_plain = is_plain;
+      left = left;
+      went = o.1;
+      writes = went_attempts t stages run x y (alone_plain b is_plain look links q.0) o.1 ∙ ap (map to_attempt) (commands_are b is_plain look links q.0 o.0);
+      others = went_started t stages run x y o.1 ∙ ap (asked (shows_of (alone b).config (alone b).env)) (children_are b is_plain look links q.0 o.0);
+      ended = went_run t stages run x y 0 o.1 ∙ ap all_ended (zero-add (length (children_in stages))) ∙ ap (λ l. all_ended (length l)) (children_are b is_plain look links q.0 o.0);
+    },
+  )
+  written_of (Err e) (inl printed) zero_is o = let s : ended.status ≡ 1 = ap (λ (v : Ended). v.status) printed.0 in absurd (cc)
+  written_of (Err e) (inr wanting) zero_is o = let s : ended.status ≡ 3 = ap (λ (v : Ended). v.status) wanting.0 in absurd (cc)
+
+  -- what is done where nothing is refused and nothing failed
+  complete_of : (result : Result (Unit {0}) ErrorSeen) → Says result line ended → Ends t refusal stages run result x y → refusal ≡ None → (Failed (has_libtool (alone b).config (alone b).env look) part → ⊥) → (HasFault part → ⊥) → (ended ≡ ended_well) ⊎ (EndsSpent turned part ended ⊎ (ended ≡ ended_wanting))
+  complete_of (Ok done) says o allowed failed fault = inl says.0
+  complete_of (Err e) (inr wanting) o allowed failed fault = inr (inr wanting.0)
+  complete_of (Err e) (inl printed) o allowed failed fault =
+      inr (inl (spends t (has_libtool (alone b).config (alone b).env look) refusal stages part run line e ended x y cut (line_of (error_line e) line printed.2) o printed.1 printed.0 (alone_plain b is_plain look links q.0) (alone_first b is_plain look links q.0)
+      (λ is. let clash : None ≡ Some e = sym allowed ∙ is in cc) failed fault never_rose))
+
+  -- the turns are enough
+  enough_of : (result : Result (Unit {0}) ErrorSeen) → Says result line ended → Ends t refusal stages run result x y → (p : ℕ) → patience ≡ Some p → p * (length q.1.config.objects + 2) ≤ turned → EndsSpent turned part ended → ⊥
+  enough_of (Ok done) says o p patient enough spent =
+      let s : ended.status ≡ 0 = ap (λ (v : Ended). v.status) says.0 in
+      let r : ended.status ≡ 1 = ap (λ (v : Ended). v.status) spent.1.0 in
+      cc
+  enough_of (Err e) (inr wanting) o p patient enough spent =
+      let s : ended.status ≡ 3 = ap (λ (v : Ended). v.status) wanting.0 in
+      let r : ended.status ≡ 1 = ap (λ (v : Ended). v.status) spent.1.0 in
+      cc
+  enough_of (Err e) (inl printed) o p patient enough spent =
+      let same : e ≡ spent.0 = same_error e spent.0 ended printed.0 spent.1.0 in
+      let few : turns run < p * length (commands_in stages) = halted_bound t refusal stages run e x y 1 p refl patient (alone_never b is_plain look links q.0) o (ap (λ (v : ErrorSeen). v.kind) same ∙ spent.1.1) in
+      too_few p (length (commands_in stages)) (length q.1.config.objects) turned (turns run) few (alone_count b is_plain look links q.0) enough
+      (sym (turns_same part run line cut (line_of (error_line e) line printed.2)) ∙ spent.1.2)
+
+-- ---- what it promises
+
+module _ (steady : Bool) (world : Question → Outcome) (q : Request) (patience : Option ℕ) (turned : ℕ) (part : List Event) (ended : Ended) (h : Archived steady world q patience turned part ended) where
+  its_line : IsLine h.line
+  its_line = says_line h.result h.line ended h.says
+
+  -- some verdicts agree with its answers
+  some_looks : (look links : Look) × Agree h.made h.linked look links
+  some_looks =
+      let first = some_agree (answers h.made) h.made_asks.once in
+      let second = some_agree (answers h.linked) h.linked_asks.once in
+      (first.0, second.0, (first.1, second.1))
+
+  begun : (look links : Look) (agree : Agree h.made h.linked look links) → Partly (t q patience turned part h.run h.line ended look links (h.ends look links agree).0 (h.ends look links agree).1 h.cut) (wished_stages q (h.ends look links agree).1 look links h.run) h.run (course_alone patience turned (h.ends look links agree).0).before (course_alone patience turned (h.ends look links agree).0).after
+  begun look links agree =
+      let o = h.ends look links agree in
+      let c = course_alone patience turned o.0 in
+      ended_partly (terms_for (alone (build_in q h.run)) c) (wished_refusal q look links h.run) (wished_stages q o.1 look links h.run) h.run h.result c.before c.after o.2
+
+  pub archived_last : PrintsLast part ended
+  archived_last = says_last h.result part h.run h.line ended h.cut h.says
+
+  pub archived_faults : FaultsLast part
+  archived_faults =
+      let some = some_looks in
+      let o = h.ends some.0 some.1 some.2 in
+      let c = course_alone patience turned o.0 in
+      stages_last (terms_for (alone (build_in q h.run)) c) (wished_stages q o.1 some.0 some.1 h.run) part h.run h.line c.before c.after h.cut (begun some.0 some.1 some.2) its_line
+
+  pub archived_settled : NothingRuns part
+  archived_settled =
+      let some = some_looks in
+      let o = h.ends some.0 some.1 some.2 in
+      let c = course_alone patience turned o.0 in
+      stages_settled (terms_for (alone (build_in q h.run)) c) (wished_stages q o.1 some.0 some.1 h.run) part h.run h.line c.before c.after h.cut (begun some.0 some.1 some.2) its_line
+
+  -- the line lists no variables
+  heard_too : heard part ≡ heard h.run
+  heard_too = heard_same part h.run h.line h.cut its_line
+
+  -- so what the run's variables give, those of the part give
+  abbrev with_heard : List (List ℕ × List ℕ) → BuildSeen
+  with_heard vars = record q.1 { env = with_vars q.1.env vars }
+
+  its_written : ended.status ≡ 0 → (look links : Look) → Agree h.made h.linked look links → Written (build_in q part) patience turned look links q.0 part
+  its_written zero_is look links agree =
+      let o = h.ends look links agree in
+      let w = written_of q patience turned part h.run h.line ended look links o.0 o.1 h.cut h.result h.says zero_is o.2 in
+      let same : part ≡ h.run = h.cut ∙ ap (λ l. h.run ++ l) w.0 ∙ append-nil h.run in
+      subst (λ (p : List Event). Written (build_in q p) patience turned look links q.0 p) (sym same) w.1
+
+  its_prefix : (look links : Look) → Agree h.made h.linked look links → (is_plain : Bool) × AreFirst (wished_stages q is_plain look links part) part
+  its_prefix look links agree =
+      let o = h.ends look links agree in
+      let c = course_alone patience turned o.0 in
+      let b = build_in q h.run in
+      let p = partly_first (terms_for (alone b) c) (wished_stages q o.1 look links h.run) h.run c.before c.after (alone_plain b o.1 look links q.0) (begun look links agree) in
+      let same = attempts_same part h.run h.line h.cut its_line in (
+        o.1,
+        (
+          p.0,
+          ap (λ (vars : List (List ℕ × List ℕ)). map to_attempt (commands_in (Calls Lists ∷ archive_stages (with_heard vars) o.1 look links q.0))) heard_too ∙ p.1 ∙ ap (λ l. l ++ p.0) (sym same),
+        ),
+      )
+
+  its_complete : (look links : Look) → Agree h.made h.linked look links → wished_refusal q look links part ≡ None → (Failed (has_libtool (alone (build_in q part)).config (alone (build_in q part)).env look) part → ⊥) → (HasFault part → ⊥) → (ended ≡ ended_well) ⊎ (EndsSpent turned part ended ⊎ (ended ≡ ended_wanting))
+  its_complete look links agree allowed failed fault =
+      let o = h.ends look links agree in
+      complete_of q patience turned part h.run h.line ended look links o.0 o.1 h.cut h.result h.says o.2
+      (subst (λ (vars : List (List ℕ × List ℕ)). archive_refused (with_heard vars) look links q.0 ≡ None) heard_too allowed)
+      (subst (λ (vars : List (List ℕ × List ℕ)). Failed (has_libtool (alone (with_heard vars)).config (alone (with_heard vars)).env look) part → ⊥) heard_too failed) fault
+
+  its_enough : (p : ℕ) → patience ≡ Some p → p * (length q.1.config.objects + 2) ≤ turned → EndsSpent turned part ended → ⊥
+  its_enough p patient enough spent =
+      let some = some_looks in
+      let o = h.ends some.0 some.1 some.2 in
+      enough_of q patience turned part h.run h.line ended some.0 some.1 o.0 o.1 h.cut h.result h.says o.2 p patient enough spent
+
+  no_question : (line : List Event) → IsLine line → question_events line ≡ []
+  no_question line (inl none) = ap question_events none
+  no_question line (inr (inl printed)) = ap question_events printed.1
+  no_question line (inr (inr faulted)) = ap question_events faulted.1
+
+  -- its questions, with the line behind them
+  pub archived_asks : AsksAlone steady world q part
+  archived_asks =
+      let b = build_in q h.run in
+      let behind : AsksByRun steady world b (h.linked ++ h.line) = asked_around steady world (probes b) (RunAsks b.config b.env) [] h.linked h.line refl (no_question h.line its_line) h.linked_asks in (
+        h.made,
+        h.linked ++ h.line,
+        (
+          h.cut ∙ ap (λ l. l ++ h.line) h.parts ∙ append_assoc h.made h.linked h.line,
+          subst (λ (vars : List (List ℕ × List ℕ)). AsksByRun steady world (alone (with_heard vars)) h.made) (sym heard_too) h.made_asks,
+          subst (λ (vars : List (List ℕ × List ℕ)). AsksByRun steady world (with_heard vars) (h.linked ++ h.line)) (sym heard_too) behind,
+        ),
+      )
+
+  pub archive_promised : ArchivePromises steady world q patience turned part ended
+  archive_promised = record {
+    answer = h;
+    written = its_written;
+    prefix = its_prefix;
+    complete = its_complete;
+    enough = its_enough;
+  }
+
+-- the same of words
+pub archive_promises : (steady : Bool) (world : Question → Outcome) (patience : Option ℕ) (turned : ℕ) (part : List Event) (ended : Ended) (words : Result Wish BadWord) → IfArchives words (λ q. Archived steady world q patience turned part ended) → IfArchives words (λ q. ArchivePromises steady world q patience turned part ended)
+archive_promises steady world patience turned part ended (Ok (Compiles q)) h = tt
+archive_promises steady world patience turned part ended (Ok (Archives q)) h = archive_promised steady world q patience turned part ended h
+archive_promises steady world patience turned part ended (Err bad) h = tt
+
+-- ---- by the job
+
+-- a job that compiles answers its wish so
+pub of_compile : (job : Job) (name : List ℕ) (build : BuildSeen) (ended : Ended) (look : Look) (part : List Event) (c : Course) → job ≡ Compile name → IsAnswer (name_of job, build) ended look part c → IsAnswerOf (wish_of job build) ended look part c
+of_compile (Compile n) name build ended look part c is h = h
+of_compile (Archive n) name build ended look part c is h = absurd (cc)
+
+-- a job that archives asks what its wish does
+pub of_archive : (job : Job) (name : List ℕ) (build : BuildSeen) (steady : Bool) (world : Question → Outcome) (patience : Option ℕ) (turned : ℕ) (part : List Event) (ended : Ended) → job ≡ Archive name → Archived steady world (name_of job, build) patience turned part ended → AsksWish steady world (wish_of job build) part
+of_archive (Compile n) name build steady world patience turned part ended is h = absurd (cc)
+of_archive (Archive n) name build steady world patience turned part ended is h = archived_asks steady world (n, build) patience turned part ended h
+
+-- ---- nothing was asked
+
+pub asked_wanting : (steady : Bool) (world : Question → Outcome) (log : List Event) (words : Result Wish BadWord) → AsksWords steady world words (since log log)
+asked_wanting steady world log (Ok (Compiles q)) =
+    let none : since log log ≡ [] = part_is log log [] (sym (append-nil log)) in
+    asked_none steady world (probe_folder q.1.config (env_in q (since log log))) (RunAsks q.1.config (env_in q (since log log))) (since log log) (ap question_events none)
+asked_wanting steady world log (Ok (Archives q)) =
+    let none : since log log ≡ [] = part_is log log [] (sym (append-nil log)) in
+    let b = build_in q (since log log) in
+    ([], [], (none, asked_none steady world (probes (alone b)) (RunAsks (alone b).config (alone b).env) [] refl, asked_none steady world (probes b) (RunAsks b.config b.env) [] refl))
+asked_wanting steady world log (Err bad) =
+    let none : since log log ≡ [] = part_is log log [] (sym (append-nil log)) in
+    ap question_events none
