@@ -2,6 +2,7 @@
 ghost use Rattle.std.specs.Prelude.{◌≡◌, ◌≢◌, IfOk};
 ghost use Rattle.cc_host.specs.declared.question.Ask.TheVariants.{Exists as AsksExists};
 
+use crate::same::same;
 use cc_host::{
     Ask, Command, Created, Host, HostError, News, OutputKind, Pipes, ProbeFiles, Question, Ran,
     Removal, Role, Scope, Start, Verdict, World, into_verdict,
@@ -9,7 +10,6 @@ use cc_host::{
 use cc_text::{Mem, Text, Vars, Words};
 use std::alloc::{AllocGlobal, Global};
 use std::process::Abort;
-use std::test::Fail;
 
 pub(crate) const KEPT: Pipes = Pipes {
     out: OutputKind::Capture,
@@ -76,10 +76,9 @@ pub(crate) fn check_output<W: World, H: Host<W>>(
     cmd: &Command,
     pipes: Pipes,
     want: &str,
-) -> Result<(), Fail> {
-    let text = line_of(rt.alloc(), host, cmd, pipes)?;
-    assert_eq!(rt; text.as_str(), want);
-    Ok(())
+) {
+    let text = line_of(rt.alloc(), host, cmd, pipes).expect(rt, "memory");
+    same(rt, text.as_str(), want);
 }
 
 pub(crate) fn make_dir<W: World, H: Host<W>>(
@@ -193,10 +192,9 @@ pub(crate) fn check_verdict<W: World, H: Host<W>>(
     ask: Ask,
     program: &str,
     want: &str,
-) -> Result<(), Fail>
+)
     requires { ask ≢ AsksExists }
 {
-    let text = verdict_text(rt.alloc(), host, ask, program)?;
-    assert_eq!(rt; text.as_str(), want);
-    Ok(())
+    let text = verdict_text(rt.alloc(), host, ask, program).expect(rt, "memory");
+    same(rt, text.as_str(), want);
 }

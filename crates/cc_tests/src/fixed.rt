@@ -7,12 +7,11 @@ use cc_jobs::OneCaller;
 use std::alloc::AllocGlobal;
 use std::process::Abort;
 use std::sync::Wait;
-use std::test::Fail;
 
-fn add_sources(build: &mut Build<Fixed>) -> Result<(), Error> {
-    build.archiver("ar")?;
-    build.file("src/a.c")?;
-    build.file("src/b.c")
+fn add_sources(rt: &impl Abort, build: &mut Build<Fixed>) {
+    build.archiver("ar").expect(rt, "memory");
+    build.file("src/a.c").expect(rt, "memory");
+    build.file("src/b.c").expect(rt, "memory");
 }
 
 fn compile(rt: &impl Wait, build: &Build<Fixed>, host: &mut FixedHost) -> Result<(), Error> {
@@ -45,16 +44,16 @@ fn check_library(
     rt: &(impl Wait + AllocGlobal + Abort),
     build: &mut Build<Fixed>,
     host: &mut FixedHost,
-) -> Result<(), Fail> {
-    set_all(build, "/o", "cc")?;
-    add_sources(build)?;
-    compile(rt, build, host)?;
-    check_log(rt, host, DONE)
+) {
+    set_all(rt, build, "/o", "cc");
+    add_sources(rt, build);
+    compile(rt, build, host).expect(rt, "a library");
+    check_log(rt, host, DONE);
 }
 
 #[test]
-fn two_sources_become_a_library_on_the_host_of_fixed_outcomes(rt: HostRuntime) -> Result<(), Fail> {
+fn two_sources_become_a_library_on_the_host_of_fixed_outcomes(rt: HostRuntime) {
     let mut build = Build::new(rt.alloc()).expect(&rt, "a build");
     let mut host = FixedHost::new(rt.alloc()).expect(&rt, "a host");
-    check_library(&rt, &mut build, &mut host)
+    check_library(&rt, &mut build, &mut host);
 }

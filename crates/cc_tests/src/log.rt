@@ -1,9 +1,9 @@
 // A log as text: of each event its kind and what it is about, a line an event. In which order probe files are dropped, no one promises.
+use crate::same::same;
 use cc_host::{Ask, Event, Host, Outcome, Question, Removal, World};
 use cc_text::{Mem, Text};
 use std::alloc::{AllocGlobal, Global};
 use std::process::Abort;
-use std::test::Fail;
 
 fn kind_of(event: &Event) -> &'static str {
     match event {
@@ -97,8 +97,7 @@ pub(crate) fn check_log<W: World, H: Host<W>>(
     rt: &(impl AllocGlobal + Abort),
     host: &H,
     want: &str,
-) -> Result<(), Fail> {
-    let text = log_text(rt.alloc(), host)?;
-    assert_eq!(rt; text.as_str(), want);
-    Ok(())
+) {
+    let text = log_text(rt.alloc(), host).expect(rt, "memory");
+    same(rt, text.as_str(), want);
 }

@@ -1,54 +1,58 @@
 // A compiler of the machine, asked what it is.
 use crate::log::log_text;
+use crate::on_machine::{Check, on_machine};
+use crate::same::holds;
 use crate::setup::set_all;
-use cc_build::{Build, Error};
+use cc_build::Build;
 use cc_host::Host;
-use cc_hosts::{ProcessHost, Real};
+use cc_hosts::Real;
 use std::alloc::AllocGlobal;
+use std::fs;
 use std::process::Abort;
 use std::rt::Files;
 use std::sync::Wait;
-use std::test::Fail;
-use std::{env, fs, process};
-
-// A folder of this test's own, where nothing is yet.
-fn own_folder(rt: &HostRuntime) -> Result<String, Fail> {
-    let above = env::temp_dir(rt)?;
-    let (above, id) = (above.as_str(), process::id(rt.process()));
-    Ok(format!(in rt.alloc(); "{above}/cc_tests é {id}")?)
-}
 
 // Sets a compiler whose commands are sought in the folders of the system.
-fn set_gcc(build: &mut Build<Real>, dir: &str) -> Result<(), Error> {
-    set_all(build, dir, "gcc")?;
-    build.env("PATH", "/usr/bin:/bin")
+fn set_gcc(rt: &impl Abort, build: &mut Build<Real>, dir: &str) {
+    set_all(rt, build, dir, "gcc");
+    build.env("PATH", "/usr/bin:/bin").expect(rt, "memory");
 }
 
 // Whether the compiler is known for GCC or the like, and not for Clang.
-fn is_gnu(rt: &impl Wait, build: &Build<Real>, host: &mut impl Host<Real>) -> Result<bool, Error> {
-    let tool = build.try_get_compiler(rt, host)?;
-    Ok(tool.is_like_gnu())
+fn is_gnu(rt: &(impl Wait + Abort), build: &Build<Real>, host: &mut impl Host<Real>) -> bool {
+    let tool = build.try_get_compiler(rt, host).expect(rt, "a compiler");
+    tool.is_like_gnu()
 }
 
-// It is asked, and no warning says that its name alone tells what it is.
-fn check_known(
+// The compiler is asked, and no warning says that its name alone tells what it is.
+fn check_asked(rt: &(impl AllocGlobal + Abort), host: &mut impl Host<Real>) {
+    let text = log_text(rt.alloc(), host).expect(rt, "memory");
+    let asked = text.as_str().ends_with("asks macros\ndrops\nasks help\n");
+    holds(rt, "it is asked", asked);
+}
+
+fn check_build(
     rt: &(impl Wait + Files + AllocGlobal + Abort),
     build: &mut Build<Real>,
     host: &mut impl Host<Real>,
     dir: &str,
-) -> Result<(), Fail> {
-    set_gcc(build, dir)?;
-    assert!(rt; is_gnu(rt, build, host)?);
-    let text = log_text(rt.alloc(), host)?;
-    assert!(rt; text.as_str().ends_with("asks macros\ndrops\nasks help\n"));
-    fs::remove_dir(rt, dir)?;
-    Ok(())
+) {
+    set_gcc(rt, build, dir);
+    holds(rt, "it is like GCC", is_gnu(rt, build, host));
+    check_asked(rt, host);
+    fs::remove_dir(rt, dir).expect(rt, "the folder is empty");
+}
+
+pub(crate) fn check_known(
+    rt: &(impl Wait + Files + AllocGlobal + Abort),
+    host: &mut impl Host<Real>,
+    dir: &str,
+) {
+    let mut build = Build::new(rt.alloc()).expect(rt, "a build");
+    check_build(rt, &mut build, host, dir);
 }
 
 #[test]
-fn the_machines_gcc_is_known_and_no_file_is_left(rt: HostRuntime) -> Result<(), Fail> {
-    let dir = own_folder(&rt)?;
-    let mut build = Build::new(rt.alloc()).expect(&rt, "a build");
-    let mut host = ProcessHost::new(rt).expect(&rt, "a host");
-    check_known(&rt, &mut build, &mut host, dir.as_str())
+fn the_machines_gcc_is_known_and_no_file_is_left(rt: HostRuntime) {
+    on_machine(rt, rt.process(), "folder", Check::Known);
 }

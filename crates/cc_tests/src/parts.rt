@@ -1,6 +1,7 @@
 // The parts of a library's build, each by a call of its own.
 use crate::log::check_log;
-use crate::setup::set_all;
+use crate::same::{holds, same};
+use crate::setup::{set_all, with_both};
 use cc_build::{Build, Error, try_emit_link_directives};
 use cc_host::{Bench, BenchHost, command_line};
 use cc_jobs::OneCaller;
@@ -8,16 +9,19 @@ use cc_text::{Text, Vars, Words};
 use std::alloc::{AllocGlobal, Global};
 use std::process::Abort;
 use std::sync::Wait;
-use std::test::Fail;
 
-fn set_build(build: &mut Build<Bench>, alloc: Global) -> Result<(), Error> {
-    set_all(build, "/o", "cc")?;
-    build.archiver("ar")?;
-    build.file("src/a.c")?;
-    build.file("src/b.c")?;
-    let mut vars = Vars::new(alloc);
-    vars.push("RANLIB", "rl -x")?;
-    build.set_envs_snapshot(&vars)
+fn set_ranlib(rt: &(impl AllocGlobal + Abort), build: &mut Build<Bench>) {
+    let mut vars = Vars::new(rt.alloc());
+    vars.push("RANLIB", "rl -x").expect(rt, "memory");
+    build.set_envs_snapshot(&vars).expect(rt, "memory");
+}
+
+fn set_build(rt: &(impl AllocGlobal + Abort), build: &mut Build<Bench>) {
+    set_all(rt, build, "/o", "cc");
+    build.archiver("ar").expect(rt, "memory");
+    build.file("src/a.c").expect(rt, "memory");
+    build.file("src/b.c").expect(rt, "memory");
+    set_ranlib(rt, build);
 }
 
 fn compile(rt: &impl Wait, build: &Build<Bench>, host: &mut BenchHost) -> Result<Words, Error> {
@@ -71,26 +75,40 @@ ends
 doesn't see rl -x
 ";
 
-fn check_parts(
+fn check_objects(rt: &(impl Wait + Abort), build: &Build<Bench>, host: &mut BenchHost) {
+    let objects = compile(rt, build, host).expect(rt, "objects");
+    holds(rt, "there are two objects", objects.len() == 2);
+}
+
+fn check_library(
     rt: &(impl Wait + AllocGlobal + Abort),
     build: &Build<Bench>,
     host: &mut BenchHost,
-) -> Result<(), Fail> {
-    let objects = compile(rt, build, host)?;
-    assert_eq!(rt; objects.len(), 2);
-    let library = archive(rt, rt.alloc(), build, host)?;
-    assert_eq!(rt; library.as_str(), "/o/libfoo.a");
-    let tools = tools(rt, rt.alloc(), build, host)?;
-    assert_eq!(rt; tools.as_str(), "\"ar\", \"rl\" \"-x\"");
-    check_log(rt, host, DONE)
+) {
+    let library = archive(rt, rt.alloc(), build, host).expect(rt, "a library");
+    same(rt, library.as_str(), "/o/libfoo.a");
+}
+
+fn check_tools(rt: &(impl Wait + AllocGlobal + Abort), build: &Build<Bench>, host: &mut BenchHost) {
+    let tools = tools(rt, rt.alloc(), build, host).expect(rt, "the tools");
+    same(rt, tools.as_str(), "\"ar\", \"rl\" \"-x\"");
+}
+
+fn check_parts(
+    rt: &(impl Wait + AllocGlobal + Abort),
+    build: &mut Build<Bench>,
+    host: &mut BenchHost,
+) {
+    set_build(rt, build);
+    check_objects(rt, build, host);
+    check_library(rt, build, host);
+    check_tools(rt, build, host);
+    check_log(rt, host, DONE);
 }
 
 #[test]
-fn objects_library_and_tools_come_by_calls_of_their_own(rt: HostRuntime) -> Result<(), Fail> {
-    let mut build: Build<Bench> = Build::new(rt.alloc())?;
-    let mut host = BenchHost::new(rt.alloc())?;
-    set_build(&mut build, rt.alloc())?;
-    check_parts(&rt, &build, &mut host)
+fn objects_library_and_tools_come_by_calls_of_their_own(rt: HostRuntime) {
+    with_both(&rt, |build, host| check_parts(&rt, build, host));
 }
 
 // Whether link lines were printed for the library of this path.
@@ -110,12 +128,18 @@ const LINKED: &str = "prints cargo:rustc-link-lib=static=foo
 prints cargo:rustc-link-search=native=/x
 ";
 
+fn check_linked(
+    rt: &(impl Wait + AllocGlobal + Abort),
+    build: &Build<Bench>,
+    host: &mut BenchHost,
+) {
+    same(rt, is_linked(rt, build, host, "/x/libfoo.a"), "linked");
+    same(rt, is_linked(rt, build, host, "libfoo.a"), "refused");
+    same(rt, is_linked(rt, build, host, "/x/lib.a"), "refused");
+    check_log(rt, host, LINKED);
+}
+
 #[test]
-fn a_library_is_linked_by_its_path(rt: HostRuntime) -> Result<(), Fail> {
-    let build: Build<Bench> = Build::new(rt.alloc())?;
-    let mut host = BenchHost::new(rt.alloc())?;
-    assert_eq!(rt; is_linked(&rt, &build, &mut host, "/x/libfoo.a"), "linked");
-    assert_eq!(rt; is_linked(&rt, &build, &mut host, "libfoo.a"), "refused");
-    assert_eq!(rt; is_linked(&rt, &build, &mut host, "/x/lib.a"), "refused");
-    check_log(&rt, &host, LINKED)
+fn a_library_is_linked_by_its_path(rt: HostRuntime) {
+    with_both(&rt, |build, host| check_linked(&rt, build, host));
 }

@@ -4,6 +4,7 @@ ghost use Rattle.std.specs.Prelude.{◌≡◌, ◌≤◌, length, IfOk};
 ghost use Rattle.std.specs.List.{All};
 ghost use Rattle.cc_host.specs.declared.event.Role.TheVariants.{Compile};
 
+use crate::same::holds;
 use crate::watch::{Watch, WatchedHost, WatchedPool};
 use cc_host::{BenchHost, Command, OutputKind, Role, Script, Status};
 use cc_jobs::OneCaller;
@@ -11,7 +12,6 @@ use cc_run::{Planned, Shows, Turns, run_all};
 use cc_text::Mem;
 use std::alloc::{AllocGlobal, Global};
 use std::process::Abort;
-use std::test::Fail;
 
 fn planned(alloc: Global, program: &str) -> Mem<Planned>
     ensures { IfOk result (λ p. p.role ≡ Compile) }
@@ -55,15 +55,16 @@ fn run(alloc: Global, host: &mut WatchedHost<'_>, watch: &Watch, cmds: &[Planned
     run_all(alloc, host, &pool, &mut seat, &mut turns, cmds, &QUIET).is_ok()
 }
 
-fn run_five(alloc: Global, host: &mut WatchedHost<'_>, watch: &Watch) -> Mem<bool> {
+fn run_five(rt: &(impl AllocGlobal + Abort), host: &mut WatchedHost<'_>, watch: &Watch) -> bool {
+    let alloc = rt.alloc();
     let cmds = [
-        planned(alloc, "a")?,
-        planned(alloc, "b")?,
-        planned(alloc, "c")?,
-        planned(alloc, "d")?,
-        planned(alloc, "e")?,
+        planned(alloc, "a").expect(rt, "memory"),
+        planned(alloc, "b").expect(rt, "memory"),
+        planned(alloc, "c").expect(rt, "memory"),
+        planned(alloc, "d").expect(rt, "memory"),
+        planned(alloc, "e").expect(rt, "memory"),
     ];
-    Ok(run(alloc, host, watch, &cmds))
+    run(alloc, host, watch, &cmds)
 }
 
 fn script_five(bench: &mut BenchHost, alloc: Global) -> Mem<()> {
@@ -74,27 +75,20 @@ fn script_five(bench: &mut BenchHost, alloc: Global) -> Mem<()> {
     script(bench, alloc, "e", 14)
 }
 
-fn check_tokens(
-    rt: &(impl AllocGlobal + Abort),
-    host: &mut WatchedHost<'_>,
-    watch: &Watch,
-) -> Result<(), Fail> {
-    script_five(&mut host.bench, rt.alloc())?;
-    assert!(rt; run_five(rt.alloc(), host, watch)?);
+fn check_tokens(rt: &(impl AllocGlobal + Abort), host: &mut WatchedHost<'_>, watch: &Watch) {
+    script_five(&mut host.bench, rt.alloc()).expect(rt, "memory");
+    holds(rt, "all end well", run_five(rt, host, watch));
     assert_eq!(rt; watch.odd(), (0, 0, 0));
     assert_eq!(rt; watch.longest(), 10);
-    Ok(())
 }
 
 #[test]
-fn tokens_come_back_before_the_next_start_and_rests_grow_to_ten(
-    rt: HostRuntime,
-) -> Result<(), Fail> {
+fn tokens_come_back_before_the_next_start_and_rests_grow_to_ten(rt: HostRuntime) {
     let watch = Watch::new();
     let bench = BenchHost::new(rt.alloc()).expect(&rt, "a host");
     let mut host = WatchedHost {
         bench,
         watch: &watch,
     };
-    check_tokens(&rt, &mut host, &watch)
+    check_tokens(&rt, &mut host, &watch);
 }

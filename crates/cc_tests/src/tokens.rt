@@ -1,10 +1,12 @@
 // Tokens that a client hands out, through the lock of their pool, and tokens that two seats share.
-use crate::setup::set_all;
-use cc_build::{Build, Error, ErrorKind};
+use crate::same::holds;
+use crate::setup::{set_all, with_both};
+use cc_build::{Build, ErrorKind};
 use cc_host::{Bench, BenchHost, Role, Script, Status};
 use cc_jobs::{Inherited, InheritedPool, JobFault, Jobs, MemoryClient, SharedPool, Take};
 use cc_text::{Mem, Text};
 use std::alloc::{AllocGlobal, Global};
+use std::process::Abort;
 use std::sync::Wait;
 use std::test::Fail;
 
@@ -25,6 +27,21 @@ fn the_implicit_token_comes_first_and_is_home_first(rt: HostRuntime) -> Result<(
     assert_eq!(rt; pool.held(&seat), 0);
     assert_eq!(rt; pool.take(&mut seat), Ok(Take::Token));
     assert_eq!(rt; pool.take(&mut seat), Ok(Take::Token));
+    Ok(())
+}
+
+#[test]
+fn a_token_that_the_client_refuses_counts_as_given(rt: HostRuntime) -> Result<(), Fail> {
+    let mut client = MemoryClient::new(rt.alloc(), 1);
+    client.fail_release(1)?;
+    let pool = InheritedPool::new(rt, Inherited::new(client));
+    let mut seat = pool.seat();
+    assert_eq!(rt; pool.take(&mut seat), Ok(Take::Token));
+    assert_eq!(rt; pool.take(&mut seat), Ok(Take::Token));
+    assert_eq!(rt; pool.take(&mut seat), Ok(Take::Pending));
+    pool.give(&mut seat);
+    pool.give(&mut seat);
+    assert_eq!(rt; pool.held(&seat), 0);
     Ok(())
 }
 
@@ -62,10 +79,10 @@ fn set_script(host: &mut BenchHost, alloc: Global) -> Mem<()> {
     host.script(Role::Compile, "src/a.c", script)
 }
 
-fn add_sources(build: &mut Build<Bench>) -> Result<(), Error> {
-    set_all(build, "/o", "cc")?;
-    build.file("src/a.c")?;
-    build.file("src/b.c")
+pub(crate) fn add_sources(rt: &impl Abort, build: &mut Build<Bench>) {
+    set_all(rt, build, "/o", "cc");
+    build.file("src/a.c").expect(rt, "memory");
+    build.file("src/b.c").expect(rt, "memory");
 }
 
 // How a run ends over a pool of two, of which another seat holds one.
@@ -84,13 +101,22 @@ fn ended(
     }
 }
 
+fn check_ended(
+    rt: &(impl Wait + AllocGlobal + Abort),
+    build: &mut Build<Bench>,
+    host: &mut BenchHost,
+) {
+    add_sources(rt, build);
+    set_script(host, rt.alloc()).expect(rt, "memory");
+    let end = ended(rt, rt.alloc(), build, host).expect(rt, "memory");
+    holds(
+        rt,
+        "its turns are spent",
+        end == Some(ErrorKind::TurnsSpent),
+    );
+}
+
 #[test]
-fn a_run_starts_no_more_than_it_has_tokens_for(rt: HostRuntime) -> Result<(), Fail> {
-    let mut build: Build<Bench> = Build::new(rt.alloc())?;
-    let mut host = BenchHost::new(rt.alloc())?;
-    add_sources(&mut build)?;
-    set_script(&mut host, rt.alloc())?;
-    let end = ended(&rt, rt.alloc(), &build, &mut host)?;
-    assert!(rt; end == Some(ErrorKind::TurnsSpent));
-    Ok(())
+fn a_run_starts_no_more_than_it_has_tokens_for(rt: HostRuntime) {
+    with_both(&rt, |build, host| check_ended(&rt, build, host));
 }

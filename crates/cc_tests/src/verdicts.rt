@@ -3,14 +3,14 @@ ghost use Rattle.std.specs.Prelude.{◌≢◌, IfOk};
 ghost use Rattle.cc_host.specs.declared.question.Outcome.TheVariants.{Unanswered};
 
 use crate::log::check_log;
-use crate::setup::set_all;
-use cc_build::{Build, Error, ErrorKind};
+use crate::same::same;
+use crate::setup::{set_all, with_both};
+use cc_build::{Build, ErrorKind};
 use cc_host::{Ask, Bench, BenchHost, Outcome, Status};
 use cc_text::{Bytes, Mem, ToolFamily};
 use std::alloc::{AllocGlobal, Global};
 use std::process::Abort;
 use std::sync::Wait;
-use std::test::Fail;
 
 // A command that ended well, and wrote this.
 fn done(alloc: Global, out: &str, err: &str) -> Mem<Outcome>
@@ -36,12 +36,12 @@ fn answer(rt: &impl Wait, build: &Build<Bench>, host: &mut BenchHost) -> &'stati
 }
 
 fn clones_answer(
-    rt: &impl Wait,
+    rt: &(impl Wait + Abort),
     build: &Build<Bench>,
     host: &mut BenchHost,
-) -> Result<&'static str, Error> {
-    let clone = build.try_clone()?;
-    Ok(answer(rt, &clone, host))
+) -> &'static str {
+    let clone = build.try_clone().expect(rt, "a clone");
+    answer(rt, &clone, host)
 }
 
 const TRIED_ONCE: &str = "makes /o
@@ -67,18 +67,16 @@ fn check_tried(
     rt: &(impl Wait + AllocGlobal + Abort),
     build: &mut Build<Bench>,
     host: &mut BenchHost,
-) -> Result<(), Fail> {
-    set_all(build, "/o", "cc")?;
-    assert_eq!(rt; answer(rt, build, host), "yes");
-    assert_eq!(rt; clones_answer(rt, build, host)?, "yes");
-    check_log(rt, host, TRIED_ONCE)
+) {
+    set_all(rt, build, "/o", "cc");
+    same(rt, answer(rt, build, host), "yes");
+    same(rt, clones_answer(rt, build, host), "yes");
+    check_log(rt, host, TRIED_ONCE);
 }
 
 #[test]
-fn a_flag_is_tried_once_for_a_build_and_its_clones(rt: HostRuntime) -> Result<(), Fail> {
-    let mut build = Build::new(rt.alloc()).expect(&rt, "a build");
-    let mut host = BenchHost::new(rt.alloc()).expect(&rt, "a host");
-    check_tried(&rt, &mut build, &mut host)
+fn a_flag_is_tried_once_for_a_build_and_its_clones(rt: HostRuntime) {
+    with_both(&rt, |build, host| check_tried(&rt, build, host));
 }
 
 const FLAG: Ask = Ask::Flag {
@@ -86,28 +84,28 @@ const FLAG: Ask = Ask::Flag {
     family: ToolFamily::Gnu,
 };
 
+fn answer_noisily(host: &mut BenchHost, alloc: Global) -> Mem<()> {
+    host.answer(FLAG, "cc", done(alloc, "", "!")?)
+}
+
 // A compiler that warns of a flag doesn't take it. Where it is missing then, the flag isn't tried: what is known of another build's questions isn't known of
 // these.
 fn check_untried(
     rt: &(impl Wait + AllocGlobal + Abort),
     build: &mut Build<Bench>,
     host: &mut BenchHost,
-) -> Result<(), Fail> {
-    set_all(build, "/o", "cc")?;
-    host.answer(FLAG, "cc", Outcome::Missing)?;
-    assert_eq!(rt; answer(rt, build, host), "not tried");
-    host.answer(FLAG, "cc", done(rt.alloc(), "", "!")?)?;
-    assert_eq!(rt; answer(rt, build, host), "no");
-    Ok(())
+) {
+    set_all(rt, build, "/o", "cc");
+    host.answer(FLAG, "cc", Outcome::Missing)
+        .expect(rt, "memory");
+    same(rt, answer(rt, build, host), "not tried");
+    answer_noisily(host, rt.alloc()).expect(rt, "memory");
+    same(rt, answer(rt, build, host), "no");
 }
 
 #[test]
-fn a_noisy_compiler_takes_no_flag_and_a_missing_one_is_not_tried(
-    rt: HostRuntime,
-) -> Result<(), Fail> {
-    let mut build = Build::new(rt.alloc()).expect(&rt, "a build");
-    let mut host = BenchHost::new(rt.alloc()).expect(&rt, "a host");
-    check_untried(&rt, &mut build, &mut host)
+fn a_noisy_compiler_takes_no_flag_and_a_missing_one_is_not_tried(rt: HostRuntime) {
+    with_both(&rt, |build, host| check_untried(&rt, build, host));
 }
 
 // The compiler says of itself that it is Clang, and where it is asked so, that it takes `-?`.
@@ -120,24 +118,28 @@ fn answer_as_clang_cl(host: &mut BenchHost, alloc: Global) -> Mem<()> {
     host.answer(Ask::HelpFlag, "clang-cl", done(alloc, "", "")?)
 }
 
-// The family and the path of the compiler.
-fn compiler_of(
-    rt: &(impl Wait + AllocGlobal),
-    build: &Build<Bench>,
-    host: &mut BenchHost,
-) -> Result<String, Fail> {
-    let tool = build.try_get_compiler(rt, host)?;
-    let (family, path) = (tool.family(), tool.path());
-    Ok(format!(in rt.alloc(); "{family:?} {path}")?)
+fn text_of(alloc: Global, family: ToolFamily, path: &str) -> Mem<String> {
+    Ok(format!(in alloc; "{family:?} {path}")?)
 }
 
-fn compiler_of_clone(
-    rt: &(impl Wait + AllocGlobal),
+// The family and the path of the compiler.
+fn compiler_of(
+    rt: &(impl Wait + AllocGlobal + Abort),
     build: &Build<Bench>,
     host: &mut BenchHost,
-) -> Result<String, Fail> {
-    let clone = build.try_clone()?;
-    compiler_of(rt, &clone, host)
+) -> String {
+    let tool = build.try_get_compiler(rt, host).expect(rt, "a compiler");
+    text_of(rt.alloc(), tool.family(), tool.path()).expect(rt, "memory")
+}
+
+fn check_compiler(
+    rt: &(impl Wait + AllocGlobal + Abort),
+    build: &Build<Bench>,
+    host: &mut BenchHost,
+    want: &str,
+) {
+    let text = compiler_of(rt, build, host);
+    same(rt, text.as_str(), want);
 }
 
 // A build and its clone have this compiler.
@@ -146,10 +148,10 @@ fn check_compilers(
     build: &Build<Bench>,
     host: &mut BenchHost,
     want: &str,
-) -> Result<(), Fail> {
-    assert_eq!(rt; compiler_of(rt, build, host)?.as_str(), want);
-    assert_eq!(rt; compiler_of_clone(rt, build, host)?.as_str(), want);
-    Ok(())
+) {
+    check_compiler(rt, build, host, want);
+    let clone = build.try_clone().expect(rt, "a clone");
+    check_compiler(rt, &clone, host, want);
 }
 
 const ASKED_ONCE: &str = "makes /o
@@ -168,18 +170,16 @@ fn check_asked_once(
     rt: &(impl Wait + AllocGlobal + Abort),
     build: &mut Build<Bench>,
     host: &mut BenchHost,
-) -> Result<(), Fail> {
-    set_all(build, "/o", "cc")?;
-    answer_as_clang(host, rt.alloc(), "cc")?;
-    check_compilers(rt, build, host, "Clang { zig_cc: false } cc")?;
-    check_log(rt, host, ASKED_ONCE)
+) {
+    set_all(rt, build, "/o", "cc");
+    answer_as_clang(host, rt.alloc(), "cc").expect(rt, "memory");
+    check_compilers(rt, build, host, "Clang { zig_cc: false } cc");
+    check_log(rt, host, ASKED_ONCE);
 }
 
 #[test]
-fn a_compiler_is_asked_once_what_it_is(rt: HostRuntime) -> Result<(), Fail> {
-    let mut build = Build::new(rt.alloc()).expect(&rt, "a build");
-    let mut host = BenchHost::new(rt.alloc()).expect(&rt, "a host");
-    check_asked_once(&rt, &mut build, &mut host)
+fn a_compiler_is_asked_once_what_it_is(rt: HostRuntime) {
+    with_both(&rt, |build, host| check_asked_once(&rt, build, host));
 }
 
 const TOLD_ONCE: &str = "makes /o
@@ -211,25 +211,26 @@ fn check_link_words(
     build: &mut Build<Bench>,
     host: &mut BenchHost,
     want: &str,
-) -> Result<(), Fail> {
-    set_all(build, "/o", "clang-cl")?;
-    build.flag("/link")?;
-    answer_as_clang_cl(host, rt.alloc())?;
-    check_compilers(rt, build, host, "Msvc { clang_cl: true } clang-cl")?;
-    check_log(rt, host, want)
+) {
+    set_all(rt, build, "/o", "clang-cl");
+    build.flag("/link").expect(rt, "memory");
+    answer_as_clang_cl(host, rt.alloc()).expect(rt, "memory");
+    check_compilers(rt, build, host, "Msvc { clang_cl: true } clang-cl");
+    check_log(rt, host, want);
 }
 
 #[test]
-fn words_for_the_linker_are_told_of_once(rt: HostRuntime) -> Result<(), Fail> {
-    let mut build = Build::new(rt.alloc()).expect(&rt, "a build");
-    let mut host = BenchHost::new(rt.alloc()).expect(&rt, "a host");
-    check_link_words(&rt, &mut build, &mut host, TOLD_ONCE)
+fn words_for_the_linker_are_told_of_once(rt: HostRuntime) {
+    with_both(
+        &rt,
+        |build, host| check_link_words(&rt, build, host, TOLD_ONCE),
+    );
 }
 
 #[test]
-fn words_for_the_linker_are_told_of_at_each_call(rt: HostRuntime) -> Result<(), Fail> {
-    let mut build = Build::new(rt.alloc()).expect(&rt, "a build");
-    let mut host = BenchHost::new(rt.alloc()).expect(&rt, "a host");
-    build.repeat_lines(true);
-    check_link_words(&rt, &mut build, &mut host, TOLD_TWICE)
+fn words_for_the_linker_are_told_of_at_each_call(rt: HostRuntime) {
+    with_both(&rt, |build, host| {
+        build.repeat_lines(true);
+        check_link_words(&rt, build, host, TOLD_TWICE);
+    });
 }
