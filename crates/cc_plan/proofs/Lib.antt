@@ -17,5 +17,6 @@ pub mod StdlibLemmas
 pub mod SupportLemmas
 pub mod SupportedLemmas
 pub mod ValidLaws
+pub mod VariableLemmas
 pub mod VerdictLemmas
 pub mod WarnLemmas

@@ -1,6 +1,6 @@
 -- The tools of archives, the archiver and the one that writes their index, and how they are found: one table, in which each has its own name.
 use Rattle.std.specs.Prelude.{ℕ, Bool, ◌&&◌, ◌||◌, List, [], ◌++◌, Option, Some, None, is_none, unwrap_or, codes, if◌then◌else◌}
-use Rattle.std.specs.Option.{option_map, option_and_then, option_or}
+use Rattle.std.specs.Option.{option_map, option_or}
 use Rattle.cc_env.specs.Env.{EnvSeen}
 use Rattle.cc_env.specs.Snapshot.{child_of}
 use Rattle.cc_flags.specs.DefaultWords.{is_qnx}

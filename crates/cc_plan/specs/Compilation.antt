@@ -1,5 +1,4 @@
 -- A compilation: the settings in their environment, the target, and a compiler.
-use Rattle.std.specs.Prelude.{ℕ, List}
 use Rattle.cc_env.specs.Env.{EnvSeen}
 use Rattle.cc_target.specs.Targets.{Info, info_seen}
 use Rattle.cc_plan.specs.Target.{target_info}

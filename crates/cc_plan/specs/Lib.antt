@@ -25,6 +25,7 @@ pub mod Planned
 pub mod Prefix
 pub mod Questions
 pub mod Refusal
+pub mod Reruns
 pub mod Search
 pub mod SettingWords
 pub mod Settings

@@ -8,7 +8,6 @@ use Rattle.cc_host.specs.Question.{Look}
 use Rattle.cc_host.specs.Part.Step.{Makes, Removes, Prints}
 use Rattle.cc_host.specs.declared.event.Scope.TheVariants.{Build}
 use Rattle.cc_host.specs.declared.event.LineKind.{LineKind}
-use Rattle.cc_host.specs.declared.event.LineKind.TheVariants.{Link}
 use Rattle.cc_plan.specs.declared.error.PlanError.{PlanError}
 use Rattle.cc_plan.specs.declared.object.Object.{Object}
 use Rattle.cc_plan.specs.declared.settings.BuildConfig.{BuildConfig}
@@ -16,7 +15,7 @@ use Rattle.cc_plan.specs.Archive as archive
 use Rattle.cc_plan.specs.Compile as compile
 use Rattle.cc_plan.specs.Given.{out_dir_of}
 use Rattle.cc_plan.specs.Archive.{archiver_of}
-use Rattle.cc_plan.specs.Link.{printed_line, printed_links, link_lines as lines_of}
+use Rattle.cc_plan.specs.Link.{printed_line, link_lines as lines_of}
 use Rattle.cc_plan.specs.declared.link.LinkLine.{LinkLine}
 use Rattle.cc_plan.specs.Names.{library_name}
 use Rattle.cc_plan.specs.Libtool.{lists_of, list_refusal}
@@ -88,6 +87,3 @@ prints kind lines = map (λ line. Prints kind (printed_line line)) lines
 -- the old library is removed
 unfoldable pub removal_steps : BuildConfig → EnvSeen → List ℕ → List Step
 removal_steps set env output = Removes (library_of set env output) ∷ []
-
-unfoldable pub link_steps : BuildConfig → EnvSeen → Look → Bool → List ℕ → List Step
-link_steps set env look is_first output = prints Link (printed_links is_first (link_lines set env look output))

@@ -35,7 +35,7 @@ pub(crate) enum ArchiveTool {
 
 // LLVM's tool for WebAssembly: the folders of Clang come first, as a kit for it has tools that fit.
 #[tactic(auto, using(crate::proofs::AskingLemmas::only_none))]
-fn wasm_tool<W: World, H: Host<W>>(
+pub(crate) fn wasm_tool<W: World, H: Host<W>>(
     rt: &impl Wait,
     tool: ArchiveTool,
     inputs: &Inputs<'_>,

@@ -232,7 +232,7 @@ fn cross_compiler<W: World, H: Host<W>>(
 // The compiler of targets that have one name for it: Clang for WebAssembly, and what the systems' own kits have for VxWorks and QNX, as
 // rustc's pages on platform support say.
 #[tactic(auto, unfolding(crate::specs::Choice::fixed_compiler))]
-fn fixed_compiler(cpp: bool, target: &TargetInfo) -> Option<&'static str>
+pub(crate) fn fixed_compiler(cpp: bool, target: &TargetInfo) -> Option<&'static str>
     ensures { option_copied result ≡ spec.fixed_compiler cpp (info_seen target.now) }
 {
     if is_wasm(target) {

@@ -111,7 +111,7 @@ fn has_shell_flags(set: &BuildConfig, env: &BuildEnv) -> bool
     }
 }
 
-fn flags_variable(set: &BuildConfig) -> &'static str
+pub(crate) fn flags_variable(set: &BuildConfig) -> &'static str
     ensures { result.now ≡ flags_variable set.now }
 {
     if set.cpp { "CXXFLAGS" } else { "CFLAGS" }

@@ -33,6 +33,7 @@ mod object;
 mod plan;
 mod prefix;
 mod printing;
+mod reruns;
 mod search;
 mod settings;
 mod sight;
@@ -40,6 +41,7 @@ mod stdlib;
 mod support;
 mod supported;
 mod tool;
+mod variables;
 mod words;
 
 pub use archive::{
@@ -59,6 +61,8 @@ pub use names::{lib_and_archive_names, library_and_dir};
 pub use object::{Object, object_path, objects_from_files};
 pub use plan::{Plan, Sources, plan_commands, plan_objects, plan_sources};
 pub use printing::printed_line;
+pub use reruns::rerun_names;
 pub use settings::{BuildConfig, archive_settings};
 pub use sight::Sight;
 pub use tool::tool_of;
+pub use variables::Reads;

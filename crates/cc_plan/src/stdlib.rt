@@ -25,7 +25,7 @@ use std::alloc::Global;
 use std::sync::Wait;
 
 // What is known of the target: empty texts where nothing is.
-fn target_info(set: &BuildConfig, env: &BuildEnv) -> TargetInfo
+pub(crate) fn target_info(set: &BuildConfig, env: &BuildEnv) -> TargetInfo
     ensures { info_seen result ≡ target_info set.now env.now }
 {
     match TargetInfo::from_rustc_target(target_name(set, env)) {
@@ -95,7 +95,11 @@ fn target_library(alloc: Global, target: &TargetInfo) -> Mem<Option<Option<Text>
 
 // The library that is known without a compiler, or that there is none.
 #[tactic(auto, unfolding(crate::specs::Stdlib::given_library))]
-fn given_library(alloc: Global, set: &BuildConfig, env: &BuildEnv) -> Mem<Option<Option<Text>>>
+pub(crate) fn given_library(
+    alloc: Global,
+    set: &BuildConfig,
+    env: &BuildEnv,
+) -> Mem<Option<Option<Text>>>
     ensures { IfOk result (λ library. library ≡ stdlib.given_library set.now env.now) }
 {
     if let Some(choice) = &set.cpp_link_stdlib {
@@ -317,7 +321,7 @@ fn push_stdlib_line(
     Ok(())
 }
 
-fn is_wasm_wasi(target: &TargetInfo) -> bool
+pub(crate) fn is_wasm_wasi(target: &TargetInfo) -> bool
     ensures { result ≡ stdlib.is_wasm_wasi (info_seen target.now) }
 {
     target.arch == "wasm32" && target.os == "wasi"

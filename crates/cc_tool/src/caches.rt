@@ -9,13 +9,14 @@ use cc_text::Mem;
 use std::alloc::Global;
 use std::sync::{Arc, Mutex, Wait};
 
-/// The verdicts that are kept of a world, the lines of libraries that were printed once, and whether a warning was given. Shared ones
-/// are the same, on all threads: what one call keeps another finds, so that a question is asked once in a program, unless its verdict
-/// may change.
+/// The verdicts that are kept of a world, the lines of libraries and the names of variables that were printed once, and whether a
+/// warning was given. Shared ones are the same, on all threads: what one call keeps another finds, so that a question is asked once in
+/// a program, unless its verdict may change.
 #[derive(Drop)]
 pub struct Caches<W: World> {
     known: Arc<Mutex<Known<W>>, Global>,
     libraries: Arc<Mutex<Emitted>, Global>,
+    reruns: Arc<Mutex<Emitted>, Global>,
     warned: Arc<Mutex<bool>, Global>,
 }
 
@@ -25,6 +26,7 @@ impl<W: World> Caches<W> {
         Ok(Caches {
             known: Arc::new(alloc, Mutex::new(Known::new(alloc)))?,
             libraries: Arc::new(alloc, Mutex::new(Emitted::new(alloc)))?,
+            reruns: Arc::new(alloc, Mutex::new(Emitted::new(alloc)))?,
             warned: Arc::new(alloc, Mutex::new(false))?,
         })
     }
@@ -34,6 +36,7 @@ impl<W: World> Caches<W> {
         Ok(Caches {
             known: Arc::try_clone(&self.known)?,
             libraries: Arc::try_clone(&self.libraries)?,
+            reruns: Arc::try_clone(&self.reruns)?,
             warned: Arc::try_clone(&self.warned)?,
         })
     }
@@ -83,6 +86,14 @@ impl<W: World> Caches<W> {
     pub fn new_library(&self, rt: &impl Wait, line: &str) -> Mem<bool> {
         let mut libraries = self.libraries.lock(rt);
         libraries.push_if_new(line)
+    }
+
+    /// Whether this is the first call for the name of a variable, over all that share these caches: one behind
+    /// `cargo:rerun-if-env-changed=`, which a caller prints where the answer is true, and leaves out where it is false. It waits for the
+    /// lock. Refused for memory, what is kept stays as it was, so that a later call may still be the first.
+    pub fn new_rerun(&self, rt: &impl Wait, name: &str) -> Mem<bool> {
+        let mut reruns = self.reruns.lock(rt);
+        reruns.push_if_new(name)
     }
 
     /// Whether this is the first call, over all that share these caches. It waits for the lock and takes no memory.

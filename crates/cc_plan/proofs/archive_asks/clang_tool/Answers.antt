@@ -1,8 +1,7 @@
-use Rattle.std.proofs.Common.{arith, ap, sym, ◌∙◌, rules}
-use Rattle.std.proofs.lemmas.Grind.{common_steps}
+use Rattle.std.proofs.Common.{ap, ◌∙◌}
 use Rattle.cc_tool.proofs.AskLemmas.{asks_grows}
 use Rattle.cc_plan.proofs.AskingLemmas.{only_then, only_more}
-use Rattle.cc_tool.proofs.SettleLemmas.{settles_on, settles_so, settles_two, holds_all}
+use Rattle.cc_tool.proofs.SettleLemmas.{settles_on, settles_two, holds_all}
 use Rattle.cc_plan.proofs.ArchiveToolLemmas.{tool_for_archive, search_for_archive}
 use Rattle.cc_plan.specs.ArchiveTool.{tool_in_dirs}
 use Rattle.cc_plan.proofs.archive_asks.clang_tool.Goals as goal
