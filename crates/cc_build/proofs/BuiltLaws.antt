@@ -70,7 +70,7 @@ module _ (set : BuildConfig) (env : EnvSeen) (way : Way) (look : Look) (output :
   first_part = folder_stages set env ++ (Asks ∷ (compile_stages set env way.warns_of_link look ++ (Asks ∷ [])))
 
   abbrev last_part : List Stage
-  last_part = Asks ∷ link_stages set env look way.is_first output
+  last_part = Asks ∷ link_stages set env look way.firsts output
 
   -- the list, and the commands behind it
   abbrev middle_part : List Stage
@@ -221,7 +221,7 @@ removal_is t set env output part x y w =
 glued : (part runs back removal rest archives lines : List Event) (x : Event) → part ≡ runs ++ back → back ≡ removal ++ rest → removal ≡ x ∷ [] → rest ≡ archives ++ lines → part ≡ runs ++ x ∷ archives ++ lines
 glued part runs back removal rest archives lines x e1 e2 e3 e4 = e1 ∙ ap (λ l. runs ++ l) (e2 ∙ ap₂ (λ u v. u ++ v) e3 e4) ∙ sym (append_assoc runs (x ∷ archives) lines)
 
-pub built : (t : Terms) (set : BuildConfig) (env : EnvSeen) (way : Way) (look : Look) (output : List ℕ) (part : List Event) (x y : Means) → Repeats set way.is_first → refusal_error set env look output ≡ None → Went t (planned_stages set env way look output) part x y → Built t set env look output part
+pub built : (t : Terms) (set : BuildConfig) (env : EnvSeen) (way : Way) (look : Look) (output : List ℕ) (part : List Event) (x y : Means) → Repeats set way.firsts → refusal_error set env look output ≡ None → Went t (planned_stages set env way look output) part x y → Built t set env look output part
 built t set env way look output part x y repeats h w =
     let accepted : Accepted set env look output = no_error set env look output h in
     let sources = first_part set env way look output in
@@ -254,6 +254,6 @@ built t set env way look output part x y repeats h w =
     }
 
 -- a run that answers Ok is built
-pub built_on_ok : {T : Type 0} (t : Terms) (set : BuildConfig) (env : EnvSeen) (way : Way) (look : Look) (output : List ℕ) (part : List Event) (r : Result T ErrorSeen) (x y : Means) → Repeats set way.is_first → Ends t (refusal_error set env look output) (planned_stages set env way look output) part r x y → OnOk r (Built t set env look output part)
+pub built_on_ok : {T : Type 0} (t : Terms) (set : BuildConfig) (env : EnvSeen) (way : Way) (look : Look) (output : List ℕ) (part : List Event) (r : Result T ErrorSeen) (x y : Means) → Repeats set way.firsts → Ends t (refusal_error set env look output) (planned_stages set env way look output) part r x y → OnOk r (Built t set env look output part)
 built_on_ok t set env way look output part (Ok v) x y repeats o = built t set env way look output part x y repeats o.0 o.1
 built_on_ok t set env way look output part (Err e) x y repeats o = tt

@@ -6,6 +6,7 @@ pub mod BuiltLaws
 pub mod Doing
 pub mod FailedLaws
 pub mod Finding
+pub mod FirstLaws
 pub mod FormLaws
 pub mod Going
 pub mod Growing

@@ -1,23 +1,23 @@
 -- How the printing of link lines by a library's path ends.
+use Rattle.cc_plan.specs.declared.variables.Reads.{Reads}
 use Rattle.std.proofs.Common.{◌≡◌, ◌⊎◌, ℕ, List, [], ◌∷◌, Bool, true, false, if◌then◌else◌, is_some, Option, Some, None, option_map, Result, Err, refl, sym, ◌∙◌, ap, subst}
 use Rattle.cc_env.specs.Env.{EnvSeen}
 use Rattle.cc_host.specs.Question.{Look}
 use Rattle.cc_host.specs.declared.event.Event.{Event}
-use Rattle.cc_host.specs.declared.event.LineKind.TheVariants.{Link}
-use Rattle.cc_plan.specs.Link.{printed_links}
 use Rattle.cc_plan.specs.Names.{linked_library}
-use Rattle.cc_plan.specs.Plan.{prints}
+use Rattle.cc_plan.specs.Reruns.{rerun_names}
+use Rattle.cc_plan.specs.declared.link.LinkLine.{LinkLine}
 use Rattle.cc_plan.specs.Refusal.{first_of, path_refusal, link_refusal}
 use Rattle.cc_plan.specs.declared.error.PlanError.{PlanError}
 use Rattle.cc_plan.specs.declared.error.PlanError.TheVariants.{NoMemory as WantsMemory}
 use Rattle.cc_plan.specs.declared.settings.BuildConfig.{BuildConfig}
 use Rattle.cc_build.specs.Build.{BuildSeen}
 use Rattle.cc_build.specs.Error.{ErrorSeen, no_memory}
-use Rattle.cc_build.specs.Linking.{linked_name, name_or_none, DirectivesEnd}
+use Rattle.cc_build.specs.Linking.{link_reads, linked_name, name_or_none, DirectivesEnd}
 use Rattle.cc_build.specs.Refusal.{plan_error}
-use Rattle.cc_build.specs.Stage.{Stage, asked_then, links_of, printed_stages}
+use Rattle.cc_build.specs.Stage.{Stage, asked_then, links_of, printed_stages, cargo_steps}
 use Rattle.cc_build.specs.Stage.Stage.{Asks}
-use Rattle.cc_build.specs.Way.{Repeats}
+use Rattle.cc_build.specs.Way.{Firsts, Repeats, all_firsts}
 use Rattle.cc_build.specs.Went.{Terms, Means, Ends}
 use Rattle.cc_build.proofs.AloneLaws.{AreStill, still_calls, still_unless, ends_still}
 use Rattle.cc_build.proofs.IntermediateLaws.{never_begun}
@@ -39,30 +39,40 @@ module _ (set : BuildConfig) (env : EnvSeen) (look : Look) (library : List ℕ) 
   abbrev late_in : Option ErrorSeen
   late_in = option_map (plan_error set env library) (link_refusal set env look)
 
-  abbrev run_with : Bool → List Stage
-  run_with is_first = if is_some (link_refusal set env look) then [] else printed_stages is_first (links_of set env (linked_name library) library look)
+  abbrev names : List (List ℕ)
+  names = rerun_names link_reads set env look
+
+  abbrev lines : List LinkLine
+  lines = links_of set env (linked_name library) library look
+
+  abbrev run_with : Firsts → List Stage
+  run_with firsts = if is_some (link_refusal set env look) then [] else printed_stages firsts lines names
+
+  still_lines : (firsts : Firsts) → AreStill (printed_stages firsts lines names)
+  still_lines firsts = still_calls (cargo_steps firsts lines names)
 
   -- nothing was asked: the path is no library's, or memory was wanted
   pub path_refused : (e : ErrorSeen) (error : PlanError) → part ≡ [] → (e ≡ no_memory) ⊎ (e ≡ plan_error set env library error) → (error ≡ WantsMemory) ⊎ (path_refusal library ≡ Some error) → DirectivesEnd {T = Unit {0}} seen library (Err e) look part
   path_refused e error none made cause = (
-    true,
+    all_firsts,
     (
       (λ _. refl),
-      λ t x. never_begun t (plan_error set env library) late_in [] (run_with true) (path_refusal library) false part e x none (plan_cause set env library error e (path_refusal library) made cause),
+      λ t x. never_begun t (plan_error set env library) late_in [] (run_with all_firsts) (path_refusal library) false part e x none (plan_cause set env library error e (path_refusal library) made cause),
     ),
   )
 
   -- the lines were planned and printed so
-  pub lines_ended : {T : Type 0} (t : Terms) (y z : Means) (found : List ℕ × List ℕ) (name path : List ℕ) (r : Result T ErrorSeen) → linked_library library ≡ Some found → name ≡ found.0 → path ≡ library
-      → (is_first : Bool) × (Repeats set is_first × Ends t late_in (asked_then (link_refusal set env look) (printed_stages is_first (links_of set env name path look))) part r y z)
+  pub lines_ended : {T : Type 0} (t : Terms) (y z : Means) (found : List ℕ × List ℕ) (reads : Reads) (name path : List ℕ) (r : Result T ErrorSeen) → reads ≡ link_reads → linked_library library ≡ Some found → name ≡ found.0 → path ≡ library
+      → (firsts : Firsts) × (Repeats set firsts × Ends t late_in (asked_then (link_refusal set env look) (printed_stages firsts (links_of set env name path look) (rerun_names reads set env look))) part r y z)
       → DirectivesEnd seen library r look part
-  lines_ended t y z found name path r is n p h =
+  lines_ended t y z found reads name path r those is n p h =
       let named : name ≡ linked_name library = n ∙ ap name_or_none (sym is) in
-      let stages : List ℕ → List ℕ → List Stage = λ m l. asked_then (link_refusal set env look) (printed_stages h.0 (links_of set env m l look)) in
+      let stages : List ℕ → List ℕ → List Stage = λ m l. asked_then (link_refusal set env look) (printed_stages h.0 (links_of set env m l look) names) in
       let ends : Ends t late_in (Asks ∷ run_with h.0) part r y z =
       subst (λ (m : List ℕ). Ends t late_in (stages m library) part r y z) named
-      (subst (λ (l : List ℕ). Ends t late_in (stages name l) part r y z) p h.1.1) in
-      let still : AreStill (Asks ∷ run_with h.0) = (tt, still_unless (is_some (link_refusal set env look)) (printed_stages h.0 (links_of set env (linked_name library) library look)) (still_calls (prints Link (printed_links h.0 (links_of set env (linked_name library) library look))))) in (
+      (subst (λ (l : List ℕ). Ends t late_in (stages name l) part r y z) p
+      (subst (λ (rd : Reads). Ends t late_in (asked_then (link_refusal set env look) (printed_stages h.0 (links_of set env name path look) (rerun_names rd set env look))) part r y z) those h.1.1)) in
+      let still : AreStill (Asks ∷ run_with h.0) = (tt, still_unless (is_some (link_refusal set env look)) (printed_stages h.0 lines names) (still_lines h.0)) in (
         h.0,
         (
           h.1.0,

@@ -307,6 +307,11 @@ unfolding prints
 no_line_archives kind [] = refl
 no_line_archives kind (line ∷ lines) = no_line_archives kind lines
 
+pub no_lines_archives : (kind other : LineKind) (lines more : List (List ℕ)) → NoArchive (calls (prints kind lines ++ prints other more))
+unfolding prints
+no_lines_archives kind other [] more = no_line_archives other more
+no_lines_archives kind other (line ∷ lines) more = no_lines_archives kind other lines more
+
 compiles_alone : (cmds : List CommandSeen) → list_any is_archive_command (planned_in Compile cmds) ≡ false
 compiles_alone [] = refl
 compiles_alone (cmd ∷ cmds) = compiles_alone cmds

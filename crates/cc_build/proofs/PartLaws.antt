@@ -21,7 +21,7 @@ use Rattle.cc_build.specs.Refusal.{plan_error, disabled_error, archive_error, li
 use Rattle.cc_build.specs.Shows.{shows_of}
 use Rattle.cc_build.specs.Stage.{calls, compile_stages, asked_stages}
 use Rattle.cc_build.specs.Stage.Stage.{Asks}
-use Rattle.cc_build.specs.Way.{Way, Repeats}
+use Rattle.cc_build.specs.Way.{Way, Repeats, all_firsts}
 use Rattle.cc_build.specs.Went.{Terms, Means, terms, Went, Halted, Ends}
 use Rattle.cc_build.specs.declared.task.Task.{Task}
 use Rattle.cc_build.proofs.Going.{phase_went}
@@ -35,7 +35,7 @@ module _ (task : Task) (look : Look) where
   -- the run ended among the sources
   pub sources_stopped : (total patience : Option ℕ) (part : List Event) (e : ErrorSeen) (x z : Means) → CompileEnds {T = Unit {0}} task (Err e) look part (course total patience x z) → AskedEnds {T = Unit {0}} task (Err e) look part (course total patience x z)
   sources_stopped total patience part e x z h =
-      (way_of h.0 false true, ((λ _. refl), sources_halted (shown total patience) task look h.0 part e x z h.1))
+      (way_of h.0 false all_firsts, ((λ _. refl), sources_halted (shown total patience) task look h.0 part e x z h.1))
 
   module _ (total patience : Option ℕ) (old mid : List Event) (x y : Means) (v : Unit {0}) (first : mid ≡ old ++ since old mid) (sources : CompileEnds task (Ok v) look (since old mid) (course total patience x y)) where
     done : (late_refusal task.set.now task.env.now look ≡ None) × Went (shown total patience) (Asks ∷ compile_stages task.set.now task.env.now sources.0 look) (since old mid) x y
@@ -47,7 +47,7 @@ module _ (task : Task) (look : Look) where
         let at : LibraryEnds {T = Unit {0}} task (Err e) look (since mid new) (course total patience y z) =
         subst (λ (n : Option ℕ). LibraryEnds {T = Unit {0}} task (Err e) look (since mid new) (course n patience y z)) same_total
         (subst (λ (n : Option ℕ). LibraryEnds {T = Unit {0}} task (Err e) look (since mid new) (course total' n y z)) patient l) in
-        (way_of sources.0 at.0 true, ((λ _. refl), library_halted (shown total patience) task look sources.0 at.0 old mid new e x y z first last done.0 done.1 at.1))
+        (way_of sources.0 at.0 all_firsts, ((λ _. refl), library_halted (shown total patience) task look sources.0 at.0 old mid new e x y z first last done.0 done.1 at.1))
 
     -- all was done up to the link lines, which ended so
     pub links_ended : {T : Type 0} (t' p' t'' p'' : Option ℕ) (made new : List Event) (u : Unit {0}) (r : Result T ErrorSeen) (z end : Means) → t' ≡ total → p' ≡ patience → t'' ≡ t' → p'' ≡ p' → made ≡ mid ++ since mid made → new ≡ made ++ since made new → LibraryEnds task (Ok u) look (since mid made) (course t' p' y z) → LinkEnds task r look (since made new) (course t'' p'' z end) → AskedEnds task r look (since old new) (course total patience x end)
@@ -73,7 +73,7 @@ module _ (set : BuildConfig) (env : EnvSeen) (look : Look) (output : List ℕ) (
   in_run = terms (shows_of set env) total patience
 
   abbrev first_way : Way
-  first_way = way_of false false true
+  first_way = way_of false false all_firsts
 
   pub run_unchecked : (part : List Event) (e : ErrorSeen) (x : Means) (error : PlanError) → part ≡ [] → (e ≡ no_memory) ⊎ (e ≡ plan_error set env output error) → (error ≡ WantsMemory) ⊎ (early_refusal set env output ≡ Some error) → RunEnds {T = Unit {0}} seen output (Err e) look part (course total patience x x)
   run_unchecked part e x error none made cause = (first_way, ((λ _. refl), unchecked in_run set env first_way look output part e x error none made cause))
@@ -96,7 +96,7 @@ module _ (set : BuildConfig) (env : EnvSeen) (look : Look) (output : List ℕ) (
 
     -- the parts behind it ended so
     pub run_enabled : {T : Type 0} (shows : Shows) (t' p' : Option ℕ) (new : List Event) (r : Result T ErrorSeen) (z : Means) → shows ≡ shows_of set env → t' ≡ total → p' ≡ patience → is_disabled env ≡ false → new ≡ made ++ since made new
-        → (way : Way) × (Repeats set way.is_first × Ends (terms shows t' p') (first_of (option_map (plan_error set env output) (late_refusal set env look)) (first_of (archive_error set env look output) (link_error set env look output))) (asked_stages set env way look output) (since made new) r x z)
+        → (way : Way) × (Repeats set way.firsts × Ends (terms shows t' p') (first_of (option_map (plan_error set env output) (late_refusal set env look)) (first_of (archive_error set env look output) (link_error set env look output))) (asked_stages set env way look output) (since made new) r x z)
         → RunEnds seen output r look (since old new) (course total patience x z)
     run_enabled shows t' p' new r z is a b enabled last h =
         let way = h.0 in

@@ -1,4 +1,6 @@
 -- How a part of a run ends, by what it asked and by the stages that it did.
+use Rattle.cc_build.specs.declared.directives.Lines.{Lines}
+use Rattle.cc_plan.specs.declared.variables.Reads.{Reads}
 use Rattle.std.proofs.Common.{◌≡◌, ◌⊎◌, inl, inr, ℕ, List, [], ◌∷◌, ◌++◌, Bool, true, false, Option, Some, None, Result, Ok, Err, map, slice_get, if◌then◌else◌, refl, sym, ◌∙◌, ap, ap₂, subst, append_assoc, option_map}
 use Rattle.std.specs.List.{list_all}
 use Rattle.cc_host.specs.Part.{Step, since}
@@ -15,7 +17,7 @@ use Rattle.cc_plan.specs.Link.{link_lines as lines_of}
 use Rattle.cc_plan.specs.Names.{library_name}
 use Rattle.cc_plan.specs.declared.settings.BuildConfig.{BuildConfig}
 use Rattle.cc_env.specs.Env.{EnvSeen}
-use Rattle.cc_plan.specs.Plan.{library_of, archived_of, archive_refusal, archives_of, indexes_of, lists_of_run, link_lines, removal_steps, link_steps}
+use Rattle.cc_plan.specs.Plan.{library_of, archived_of, archive_refusal, archives_of, indexes_of, lists_of_run, link_lines, removal_steps}
 use Rattle.cc_plan.specs.Refusal.{first_of, late_refusal, archiver_refusal, link_refusal}
 use Rattle.cc_plan.specs.declared.archive.Archiver.{Archiver}
 use Rattle.cc_plan.specs.declared.error.PlanError.{PlanError}
@@ -27,12 +29,12 @@ use Rattle.cc_run.specs.declared.planned.Shows.{Shows}
 use Rattle.cc_tool.specs.Probing.{is_asked}
 use Rattle.cc_build.specs.Error.{ErrorSeen, no_memory}
 use Rattle.cc_build.specs.Course.{Course, course, CallsEnd}
-use Rattle.cc_build.specs.Phases.{error_in, Begins, BeginStops, WriteEnds, LibraryEnds, LinkEnds, LinkedEnds}
-use Rattle.cc_build.specs.Questions.{Plans, Archives, Links, IsRefusedBy}
+use Rattle.cc_build.specs.Phases.{error_in, Begins, BeginStops, WriteEnds, LibraryEnds, LinkEnds, LinkedEnds, cargo_stages}
+use Rattle.cc_build.specs.Questions.{Plans, Archives, IsRefusedBy, AreLines}
 use Rattle.cc_build.specs.Refusal.{plan_error}
 use Rattle.cc_build.specs.Seen.{stages_seen, stages_of, commands_for, ready_steps, form_stages, library_seen}
-use Rattle.cc_build.specs.Stage.{Stage, calls, planned, in_turn, tried, behind_first, asked_then, compile_stages, removal_stages, list_stages, archive_stages, link_stages, folder_in, links_of, printed_stages, library_stages, ending_stages, later_stages, asked_stages}
-use Rattle.cc_build.specs.Way.{Way}
+use Rattle.cc_build.specs.Stage.{Stage, calls, planned, in_turn, tried, behind_first, asked_then, compile_stages, removal_stages, list_stages, archive_stages, link_stages, folder_in, links_of, library_stages, ending_stages, later_stages, asked_stages, run_reads, printed_stages}
+use Rattle.cc_build.specs.Way.{Way, Firsts, all_firsts}
 use Rattle.cc_build.specs.Stage.Stage.{Asks, Tries}
 use Rattle.cc_build.specs.Went.{Terms, Means, terms, Went, Halted, Ends}
 use Rattle.cc_build.specs.declared.library.Library.{Library}
@@ -65,8 +67,9 @@ sources_are task plan look h = rw (h.warnings, h.compiles) refl
 pub plan_stages : (task : Task) (plan : Plan) (look : Look) (these : List Stage) → these ≡ stages_of plan → Plans task plan look → these ≡ compile_stages task.set.now task.env.now plan.warns_of_link look
 plan_stages task plan look these is h = is ∙ sources_are task plan look h
 
-pub line_stages : (task : Task) (name library : List ℕ) (lines : List LinkLine) (is_first : Bool) (look : Look) (these : List Stage) → these ≡ printed_stages is_first lines → Links task name library lines look → these ≡ printed_stages is_first (links_of task.set.now task.env.now name library look)
-line_stages task name library lines is_first look these is h = is ∙ ap (printed_stages is_first) h.are
+pub line_stages : (task : Task) (reads : Reads) (name library : List ℕ) (lines : Lines) (firsts : Firsts) (look : Look) (these : List Stage) → these ≡ printed_stages firsts lines.links.items lines.names → AreLines task reads name library lines look → these ≡ cargo_stages task reads name library firsts look
+line_stages task reads name library lines firsts look these is h =
+    is ∙ ap (λ l. printed_stages firsts l lines.names) h.links.are ∙ ap (printed_stages firsts (links_of task.set.now task.env.now name library look)) h.names
 
 -- the stages of a library are those of the settings
 pub library_is : (task : Task) (library : Library) (look : Look) (is_plain : Bool) → Archives task library.archiver.now look → library.env.now ≡ task.env.now → library.path.now ≡ library_of task.set.now task.env.now task.output.now → library.paths.now ≡ archived_of task.set.now task.env.now → library_seen library is_plain ≡ library_stages task.set.now task.env.now is_plain look task.output.now
@@ -275,8 +278,8 @@ module _ (t : Terms) (f : PlanError → ErrorSeen) where
 
 -- ---- the whole of the parts
 
-abbrev pub way_of : Bool → Bool → Bool → Way
-way_of warns_of_link is_plain is_first = record { warns_of_link = warns_of_link; is_plain = is_plain; is_first = is_first }
+abbrev pub way_of : Bool → Bool → Firsts → Way
+way_of warns_of_link is_plain firsts = record { warns_of_link = warns_of_link; is_plain = is_plain; firsts = firsts }
 
 module _ (t : Terms) (task : Task) (look : Look) where
   abbrev late : Option PlanError
@@ -305,9 +308,9 @@ module _ (t : Terms) (task : Task) (look : Look) where
   later_is way = refl
 
   -- the run ended among the sources
-  pub sources_halted : (warns_of_link : Bool) (part : List Event) (e : ErrorSeen) (x z : Means) → Halted t (error_in task late) (asked_then late (compiles warns_of_link)) part e x z → Halted t (first_of (error_in task late) behind_sources) (stages_in (way_of warns_of_link false true)) part e x z
+  pub sources_halted : (warns_of_link : Bool) (part : List Event) (e : ErrorSeen) (x z : Means) → Halted t (error_in task late) (asked_then late (compiles warns_of_link)) part e x z → Halted t (first_of (error_in task late) behind_sources) (stages_in (way_of warns_of_link false all_firsts)) part e x z
   sources_halted warns_of_link part e x z h =
-      halted_join t (plan_error task.set.now task.env.now task.output.now) late behind_sources (compiles warns_of_link) (later_stages task.set.now task.env.now (way_of warns_of_link false true) look task.output.now) part e x z h
+      halted_join t (plan_error task.set.now task.env.now task.output.now) late behind_sources (compiles warns_of_link) (later_stages task.set.now task.env.now (way_of warns_of_link false all_firsts) look task.output.now) part e x z h
 
   -- what stands behind the sources ended so
   pub sources_then : {T : Type 0} (way : Way) (old mid new : List Event) (r : Result T ErrorSeen) (x y z : Means) → mid ≡ old ++ since old mid → new ≡ mid ++ since mid new → late ≡ None → Went t (Asks ∷ compiles way.warns_of_link) (since old mid) x y → Ends t behind_sources (asked_then archive_stop (writes way.is_plain ++ ending_stages task.set.now task.env.now way look task.output.now)) (since mid new) r y z → Ends t (first_of (error_in task late) behind_sources) (stages_in way) (since old new) r x z
@@ -316,16 +319,16 @@ module _ (t : Terms) (task : Task) (look : Look) where
       (subst (λ (l : List Stage). Ends t behind_sources l (since mid new) r y z) (later_is way) o)
 
   -- the run ended at the library
-  pub library_halted : (warns_of_link is_plain : Bool) (old mid new : List Event) (e : ErrorSeen) (x y z : Means) → mid ≡ old ++ since old mid → new ≡ mid ++ since mid new → late ≡ None → Went t (Asks ∷ compiles warns_of_link) (since old mid) x y → Halted t (error_in task archive_stop) (asked_then archive_stop (writes is_plain ++ Asks ∷ [])) (since mid new) e y z → Halted t (first_of (error_in task late) behind_sources) (stages_in (way_of warns_of_link is_plain true)) (since old new) e x z
+  pub library_halted : (warns_of_link is_plain : Bool) (old mid new : List Event) (e : ErrorSeen) (x y z : Means) → mid ≡ old ++ since old mid → new ≡ mid ++ since mid new → late ≡ None → Went t (Asks ∷ compiles warns_of_link) (since old mid) x y → Halted t (error_in task archive_stop) (asked_then archive_stop (writes is_plain ++ Asks ∷ [])) (since mid new) e y z → Halted t (first_of (error_in task late) behind_sources) (stages_in (way_of warns_of_link is_plain all_firsts)) (since old new) e x z
   library_halted warns_of_link is_plain old mid new e x y z first last allowed w h =
-      sources_then {T = Unit {0}} (way_of warns_of_link is_plain true) old mid new (Err e) x y z first last allowed w
-      (part_before t (plan_error task.set.now task.env.now task.output.now) archive_stop links (error_in task links) (writes is_plain) (link_stages task.set.now task.env.now look true task.output.now) (since mid new) e y z h)
+      sources_then {T = Unit {0}} (way_of warns_of_link is_plain all_firsts) old mid new (Err e) x y z first last allowed w
+      (part_before t (plan_error task.set.now task.env.now task.output.now) archive_stop links (error_in task links) (writes is_plain) (link_stages task.set.now task.env.now look all_firsts task.output.now) (since mid new) e y z h)
 
   -- all of it, to the link lines
-  pub links_end : {T : Type 0} (warns_of_link is_plain is_first : Bool) (old mid made new : List Event) (r : Result T ErrorSeen) (x y z u : Means) → mid ≡ old ++ since old mid → made ≡ mid ++ since mid made → new ≡ made ++ since made new → late ≡ None → Went t (Asks ∷ compiles warns_of_link) (since old mid) x y → archive_stop ≡ None → Went t (Asks ∷ writes is_plain) (since mid made) y z → Ends t (error_in task links) (asked_then links (link_stages task.set.now task.env.now look is_first task.output.now)) (since made new) r z u → Ends t (first_of (error_in task late) behind_sources) (stages_in (way_of warns_of_link is_plain is_first)) (since old new) r x u
-  links_end warns_of_link is_plain is_first old mid made new r x y z u first next last allowed w allowed' w' o =
-      sources_then (way_of warns_of_link is_plain is_first) old mid new r x y u first (since_extends mid made new next last) allowed w
-      (part_then t (plan_error task.set.now task.env.now task.output.now) archive_stop (error_in task links) (writes is_plain) (ending_stages task.set.now task.env.now (way_of warns_of_link is_plain is_first) look task.output.now) mid made new r y z u next last allowed' w' o)
+  pub links_end : {T : Type 0} (warns_of_link is_plain : Bool) (firsts : Firsts) (old mid made new : List Event) (r : Result T ErrorSeen) (x y z u : Means) → mid ≡ old ++ since old mid → made ≡ mid ++ since mid made → new ≡ made ++ since made new → late ≡ None → Went t (Asks ∷ compiles warns_of_link) (since old mid) x y → archive_stop ≡ None → Went t (Asks ∷ writes is_plain) (since mid made) y z → Ends t (error_in task links) (asked_then links (link_stages task.set.now task.env.now look firsts task.output.now)) (since made new) r z u → Ends t (first_of (error_in task late) behind_sources) (stages_in (way_of warns_of_link is_plain firsts)) (since old new) r x u
+  links_end warns_of_link is_plain firsts old mid made new r x y z u first next last allowed w allowed' w' o =
+      sources_then (way_of warns_of_link is_plain firsts) old mid new r x y u first (since_extends mid made new next last) allowed w
+      (part_then t (plan_error task.set.now task.env.now task.output.now) archive_stop (error_in task links) (writes is_plain) (ending_stages task.set.now task.env.now (way_of warns_of_link is_plain firsts) look task.output.now) mid made new r y z u next last allowed' w' o)
 
 -- ---- the library of a part
 
@@ -355,11 +358,12 @@ module _ (task : Task) (library : Library) (look : Look) (total patience before 
   )
 
 -- the link lines of a task's own library are those of its run
-pub own_links : {T : Type 0} (task : Task) (name library : List ℕ) (r : Result T ErrorSeen) (look : Look) (part : List Event) (c : Course) → name ≡ library_name task.output.now → library ≡ library_of task.set.now task.env.now task.output.now → LinkedEnds task name library r look part c → LinkEnds task r look part c
-unfolding link_stages link_steps link_lines
-own_links task name library r look part c n l h =
-    subst (λ (m : List ℕ). LinkedEnds task m (library_of task.set.now task.env.now task.output.now) r look part c) n
-    (subst (λ (path : List ℕ). LinkedEnds task name path r look part c) l h)
+pub own_links : {T : Type 0} (task : Task) (reads : Reads) (name library : List ℕ) (r : Result T ErrorSeen) (look : Look) (part : List Event) (c : Course) → reads ≡ run_reads task.set.now → name ≡ library_name task.output.now → library ≡ library_of task.set.now task.env.now task.output.now → LinkedEnds task reads name library r look part c → LinkEnds task r look part c
+unfolding link_stages link_lines
+own_links task reads name library r look part c d n l h =
+    subst (λ (m : List ℕ). LinkedEnds task (run_reads task.set.now) m (library_of task.set.now task.env.now task.output.now) r look part c) n
+    (subst (λ (path : List ℕ). LinkedEnds task (run_reads task.set.now) name path r look part c) l
+    (subst (λ (rd : Reads). LinkedEnds task rd name library r look part c) d h))
 
 -- the link lines, by the name and the folder that the plan was given
 pub links_by : (set : BuildConfig) (env : EnvSeen) (look : Look) (name library name' folder : List ℕ) (lines : List LinkLine) → name' ≡ name → folder ≡ folder_in library → lines_of set env name' folder look ≡ lines → links_of set env name library look ≡ lines

@@ -1,5 +1,5 @@
 -- An archive alone: objects that are there already are archived into a library.
-use Rattle.std.specs.Prelude.{◌≡◌, ℕ, Bool, List, [], ◌∷◌, ◌++◌, Option, Some, None, Result, Ok, Err, is_some, if◌then◌else◌}
+use Rattle.std.specs.Prelude.{◌≡◌, ℕ, Bool, true, false, List, [], ◌∷◌, ◌++◌, Option, Some, None, Result, Ok, Err, is_some, if◌then◌else◌}
 use Rattle.std.specs.Option.{option_map}
 use Rattle.cc_env.specs.Env.{EnvSeen}
 use Rattle.cc_host.specs.Question.{Look}
@@ -8,6 +8,7 @@ use Rattle.cc_plan.specs.Given.{is_disabled}
 use Rattle.cc_plan.specs.Plan.{archive_refusal}
 use Rattle.cc_plan.specs.Refusal.{first_of, name_refusal, early_refusal}
 use Rattle.cc_plan.specs.Settings.{archive_settings}
+use Rattle.cc_plan.specs.declared.variables.Reads.{Reads}
 use Rattle.cc_plan.specs.declared.settings.BuildConfig.{BuildConfig}
 use Rattle.cc_build.specs.Build.{BuildSeen}
 use Rattle.cc_build.specs.Course.{Course, course_alone}
@@ -17,6 +18,10 @@ use Rattle.cc_build.specs.Refusal.{plan_error, disabled_error, archive_error}
 use Rattle.cc_build.specs.Stage.{Stage, asked_then, library_stages}
 use Rattle.cc_build.specs.Stage.Stage.{Asks}
 use Rattle.cc_build.specs.Went.{Went, Halted}
+
+-- what an archive alone reads variables for
+abbrev pub archive_reads : Reads
+archive_reads = record { disabled = true; debug = true; compiler = false; archiver = true; links = false }
 
 -- the build without sources, with these objects before its added ones
 abbrev pub with_objects : BuildSeen → List (List ℕ) → BuildSeen

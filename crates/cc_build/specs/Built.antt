@@ -35,8 +35,8 @@ ended_well count = record { live = []; begun = count; failed = None }
 pub record Built (t : Terms) (set : BuildConfig) (env : EnvSeen) (look : Look) (output : List ℕ) (part : List Event) : Type 0 where
   pub accepted : Accepted set env look output
   pub way : Way
-  -- where lines are repeated, all link lines were printed
-  pub repeats : Repeats set way.is_first
+  -- where lines are repeated, all of them were printed
+  pub repeats : Repeats set way.firsts
   pub runs : List Event
   pub how : Removal
   pub archives : List Event
@@ -58,5 +58,5 @@ pub record Built (t : Terms) (set : BuildConfig) (env : EnvSeen) (look : Look) (
   -- the others were started, and each of them has ended with 0
   pub others : started archives ≡ asked t.shows (written_children (has_libtool set env look) (library_commands set env look way.is_plain output))
   pub written : run_from nothing archives ≡ ended_well (length (written_children (has_libtool set env look) (library_commands set env look way.is_plain output)))
-  -- questions were asked, and then exactly the link lines were printed
-  pub linked : Goes t (Asks ∷ link_stages set env look way.is_first output) lines
+  -- questions were asked, and then exactly the link lines were printed, and those of the variables that the run read
+  pub linked : Goes t (Asks ∷ link_stages set env look way.firsts output) lines

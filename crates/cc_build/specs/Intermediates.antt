@@ -1,5 +1,5 @@
 -- A run that compiles the sources alone: their objects are made, and nothing is archived or linked.
-use Rattle.std.specs.Prelude.{◌≡◌, Bool, List, [], ◌++◌, length, Option, Result, OnOk, is_some, if◌then◌else◌}
+use Rattle.std.specs.Prelude.{◌≡◌, Bool, true, false, not, List, [], ◌++◌, length, Option, Result, OnOk, is_some, if◌then◌else◌}
 use Rattle.std.specs.Option.{option_map}
 use Rattle.cc_env.specs.Env.{EnvSeen}
 use Rattle.cc_host.specs.Question.{Look}
@@ -7,7 +7,8 @@ use Rattle.cc_host.specs.declared.event.Event.{Event}
 use Rattle.cc_host.specs.declared.event.Role.TheVariants.{Compile}
 use Rattle.cc_plan.specs.Given.{is_disabled}
 use Rattle.cc_plan.specs.Plan.{compiles_of}
-use Rattle.cc_plan.specs.Refusal.{first_of, intermediate_refusal, late_refusal}
+use Rattle.cc_plan.specs.declared.variables.Reads.{Reads}
+use Rattle.cc_plan.specs.Refusal.{is_empty, first_of, intermediate_refusal, late_refusal}
 use Rattle.cc_plan.specs.declared.settings.BuildConfig.{BuildConfig}
 use Rattle.cc_run.specs.Part.{started}
 use Rattle.cc_run.specs.Planned.{asked}
@@ -20,6 +21,10 @@ use Rattle.cc_build.specs.Promises.{terms_for}
 use Rattle.cc_build.specs.Refusal.{plan_error, late_error}
 use Rattle.cc_build.specs.Stage.{Stage, planned, asked_then, folder_stages, compile_stages}
 use Rattle.cc_build.specs.Went.{Terms, Ends}
+
+-- what it reads variables for: where there is a source a compiler is planned and commands are run
+abbrev pub source_reads : BuildConfig → Reads
+source_reads set = record { disabled = true; debug = not (is_empty set.files); compiler = not (is_empty set.files); archiver = false; links = false }
 
 -- the folder is made where there is a source, and where commands may run the sources are compiled
 abbrev pub intermediate_stages : BuildConfig → EnvSeen → Bool → Look → List Stage

@@ -1,17 +1,19 @@
 -- Link lines by the path of a library, which is there already.
-use Rattle.std.specs.Prelude.{ℕ, Bool, List, [], Option, Some, None, Result, is_some, if◌then◌else◌}
+use Rattle.std.specs.Prelude.{ℕ, true, false, List, [], Option, Some, None, Result, is_some, if◌then◌else◌}
 use Rattle.std.specs.Option.{option_map}
 use Rattle.cc_env.specs.Env.{EnvSeen}
 use Rattle.cc_host.specs.Question.{Look}
 use Rattle.cc_host.specs.declared.event.Event.{Event}
 use Rattle.cc_plan.specs.Names.{linked_library}
 use Rattle.cc_plan.specs.Refusal.{first_of, path_refusal, link_refusal}
+use Rattle.cc_plan.specs.Reruns.{rerun_names}
+use Rattle.cc_plan.specs.declared.variables.Reads.{Reads}
 use Rattle.cc_plan.specs.declared.settings.BuildConfig.{BuildConfig}
 use Rattle.cc_build.specs.Build.{BuildSeen}
 use Rattle.cc_build.specs.Error.{ErrorSeen}
 use Rattle.cc_build.specs.Refusal.{plan_error}
 use Rattle.cc_build.specs.Stage.{Stage, asked_then, links_of, printed_stages}
-use Rattle.cc_build.specs.Way.{Repeats}
+use Rattle.cc_build.specs.Way.{Firsts, Repeats}
 use Rattle.cc_build.specs.Went.{Terms, Means, Ends}
 
 abbrev pub name_or_none : Option (List ℕ × List ℕ) → List ℕ
@@ -22,11 +24,15 @@ name_or_none (Some found) = found.0
 abbrev pub linked_name : List ℕ → List ℕ
 linked_name library = name_or_none (linked_library library)
 
--- the lines are planned by questions, and printed; none where the path is no library's
-abbrev pub directive_stages : BuildConfig → EnvSeen → Look → Bool → List ℕ → List Stage
-directive_stages set env look is_first library =
+-- what the lines read variables for
+abbrev pub link_reads : Reads
+link_reads = record { disabled = false; debug = false; compiler = false; archiver = false; links = true }
+
+-- the lines are planned by questions, and printed with those of the variables that were read; none where the path is no library's
+abbrev pub directive_stages : BuildConfig → EnvSeen → Look → Firsts → List ℕ → List Stage
+directive_stages set env look firsts library =
     if is_some (path_refusal library) then []
-    else asked_then (link_refusal set env look) (printed_stages is_first (links_of set env (linked_name library) library look))
+    else asked_then (link_refusal set env look) (printed_stages firsts (links_of set env (linked_name library) library look) (rerun_names link_reads set env look))
 
 -- the error of a path that is no library's, or of settings that are refused
 abbrev pub directive_error : BuildConfig → EnvSeen → Look → List ℕ → Option ErrorSeen
@@ -37,4 +43,4 @@ directive_error set env look library =
 -- and uses nothing up.
 abbrev pub DirectivesEnd : {T : Type 0} → BuildSeen → List ℕ → Result T ErrorSeen → Look → List Event → Type 0
 DirectivesEnd b library result look part =
-    (is_first : Bool) × (Repeats b.config is_first × ((t : Terms) (x : Means) → Ends t (directive_error b.config b.env look library) (directive_stages b.config b.env look is_first library) part result x x))
+    (firsts : Firsts) × (Repeats b.config firsts × ((t : Terms) (x : Means) → Ends t (directive_error b.config b.env look library) (directive_stages b.config b.env look firsts library) part result x x))

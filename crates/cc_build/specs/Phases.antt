@@ -5,7 +5,9 @@ use Rattle.cc_host.specs.Question.{Look, Answer, Holds}
 use Rattle.cc_host.specs.declared.event.Event.{Event}
 use Rattle.cc_plan.specs.Plan.{archive_refusal}
 use Rattle.cc_plan.specs.Refusal.{first_of, late_refusal, link_refusal}
+use Rattle.cc_plan.specs.Reruns.{rerun_names}
 use Rattle.cc_plan.specs.declared.error.PlanError.{PlanError}
+use Rattle.cc_plan.specs.declared.variables.Reads.{Reads}
 use Rattle.cc_run.specs.declared.planned.Planned.{Planned}
 use Rattle.cc_run.specs.declared.planned.Shows.{Shows}
 use Rattle.cc_build.specs.Course.{Course, OnCourse}
@@ -14,7 +16,7 @@ use Rattle.cc_build.specs.Refusal.{plan_error}
 use Rattle.cc_build.specs.Seen.{stages_seen, form_stages, library_seen}
 use Rattle.cc_build.specs.Stage.{Stage, asked_then, compile_stages, library_stages, link_stages, links_of, printed_stages, asked_stages}
 use Rattle.cc_build.specs.Stage.Stage.{Asks, Tries}
-use Rattle.cc_build.specs.Way.{Way, Repeats}
+use Rattle.cc_build.specs.Way.{Way, Firsts, Repeats}
 use Rattle.cc_build.specs.Went.{Terms, Means, terms, Went, Halted, Ends}
 use Rattle.cc_build.specs.declared.library.Library.{Library}
 use Rattle.cc_build.specs.declared.stage.Stage.{Stage as Coded}
@@ -41,18 +43,24 @@ LibraryEnds task (Ok _) look part c =
 LibraryEnds task (Err e) look part c =
     (is_plain : Bool) × Halted (task_terms task c) (error_in task (archive_refusal task.set.now task.env.now look)) (asked_then (archive_refusal task.set.now task.env.now look) (library_stages task.set.now task.env.now is_plain look task.output.now ++ Asks ∷ [])) part e c.before c.after
 
--- the link lines were printed
+-- the lines for Cargo were printed
 abbrev pub LinkEnds : {T : Type 0} → Task → Result T ErrorSeen → Look → List Event → Course → Type 0
-LinkEnds task result look part c = (is_first : Bool) × (Repeats task.set.now is_first × PhaseEnds task (link_refusal task.set.now task.env.now look) (link_stages task.set.now task.env.now look is_first task.output.now) result part c)
+LinkEnds task result look part c = (firsts : Firsts) × (Repeats task.set.now firsts × PhaseEnds task (link_refusal task.set.now task.env.now look) (link_stages task.set.now task.env.now look firsts task.output.now) result part c)
 
--- those of a library of this name and path were printed
-abbrev pub LinkedEnds : {T : Type 0} → Task → List ℕ → List ℕ → Result T ErrorSeen → Look → List Event → Course → Type 0
-LinkedEnds task name library result look part c = (is_first : Bool) × (Repeats task.set.now is_first × PhaseEnds task (link_refusal task.set.now task.env.now look) (printed_stages is_first (links_of task.set.now task.env.now name library look)) result part c)
+-- those of a library of this name and path, and of the variables that such a call reads
+abbrev pub cargo_stages : Task → Reads → List ℕ → List ℕ → Firsts → Look → List Stage
+cargo_stages task reads name library firsts look =
+    printed_stages firsts (links_of task.set.now task.env.now name library look) (rerun_names reads task.set.now task.env.now look)
+
+-- they were printed
+abbrev pub LinkedEnds : {T : Type 0} → Task → Reads → List ℕ → List ℕ → Result T ErrorSeen → Look → List Event → Course → Type 0
+LinkedEnds task reads name library result look part c =
+    (firsts : Firsts) × (Repeats task.set.now firsts × PhaseEnds task (link_refusal task.set.now task.env.now look) (cargo_stages task reads name library firsts look) result part c)
 
 -- all of this, one after another
 abbrev pub AskedEnds : {T : Type 0} → Task → Result T ErrorSeen → Look → List Event → Course → Type 0
 AskedEnds task result look part c =
-    (way : Way) × (Repeats task.set.now way.is_first × Ends (task_terms task c) (first_of (error_in task (late_refusal task.set.now task.env.now look)) (first_of (error_in task (archive_refusal task.set.now task.env.now look)) (error_in task (link_refusal task.set.now task.env.now look)))) (asked_stages task.set.now task.env.now way look task.output.now) part result c.before c.after)
+    (way : Way) × (Repeats task.set.now way.firsts × Ends (task_terms task c) (first_of (error_in task (late_refusal task.set.now task.env.now look)) (first_of (error_in task (archive_refusal task.set.now task.env.now look)) (error_in task (link_refusal task.set.now task.env.now look)))) (asked_stages task.set.now task.env.now way look task.output.now) part result c.before c.after)
 
 -- a fact of the part and the course of a call, whichever verdicts agree with the answers so far
 abbrev pub ByKnown : {X S : Type 0} → List Answer → (X → List Event) → (X → Option ℕ) → (S → Option ℕ) → (S → ℕ) → (S → ℕ) → (S → ℕ) → ℕ → ℕ → X → X → S → S → (Look → List Event → Course → Type 0) → Type 0

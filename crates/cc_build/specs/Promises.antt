@@ -39,7 +39,7 @@ stages_for b way look output = planned_stages b.config b.env way look output
 
 -- Ok: nothing is refused, and all stages were done. Else the first ones were, and the error has its cause.
 abbrev pub RunEnds : {T : Type 0} → BuildSeen → List ℕ → Result T ErrorSeen → Look → List Event → Course → Type 0
-RunEnds b output result look part c = (way : Way) × (Repeats b.config way.is_first × Ends (terms_for b c) (refusal_error b.config b.env look output) (stages_for b way look output) part result c.before c.after)
+RunEnds b output result look part c = (way : Way) × (Repeats b.config way.firsts × Ends (terms_for b c) (refusal_error b.config b.env look output) (stages_for b way look output) part result c.before c.after)
 
 -- Ok: the library is built.
 abbrev pub IsBuilt : {T : Type 0} → BuildSeen → List ℕ → Result T ErrorSeen → Look → List Event → Course → Type 0
@@ -86,9 +86,9 @@ FaultsEnd part = (before after : List Event) (call : HostCall) (why : Why) → i
 
 -- What a compile run promises of its answer, its part and its course.
 pub record Promises {T : Type 0} (b : BuildSeen) (output : List ℕ) (result : Result T ErrorSeen) (look : Look) (part : List Event) (c : Course) : Type 0 where
-  -- what the run finds out as it goes; where lines are repeated, all link lines are printed
+  -- what the run finds out as it goes; where lines are repeated, all of them are printed
   pub way : Way
-  pub repeats : Repeats b.config way.is_first
+  pub repeats : Repeats b.config way.firsts
   -- Ok: nothing is refused, and all stages were done. Else the first ones were, and the error has its cause.
   pub outcome : Ends (terms_for b c) (refusal_error b.config b.env look output) (stages_for b way look output) part result c.before c.after
   -- no command of the archive stands in the part unless every source was compiled before it

@@ -8,13 +8,18 @@ use Rattle.cc_plan.specs.Archive.{archiver_of}
 use Rattle.cc_plan.specs.Plan.{warning_lines, compiles_of}
 use Rattle.cc_plan.specs.Refusal.{late_refusal, archiver_refusal, link_refusal}
 use Rattle.cc_plan.specs.declared.archive.Archiver.{Archiver}
+use Rattle.cc_plan.specs.Reruns.{rerun_names}
+use Rattle.cc_plan.specs.declared.variables.Reads.{Reads}
+use Rattle.cc_plan.specs.declared.settings.BuildConfig.{BuildConfig}
 use Rattle.cc_plan.specs.declared.error.PlanError.{PlanError}
 use Rattle.cc_plan.specs.declared.link.LinkLine.{LinkLine}
 use Rattle.cc_plan.specs.declared.plan.Plan.{Plan}
 use Rattle.cc_tool.specs.Probing.{is_asked}
 use Rattle.cc_build.specs.Error.{ErrorSeen, no_memory}
 use Rattle.cc_build.specs.Refusal.{plan_error}
-use Rattle.cc_build.specs.Stage.{links_of}
+use Rattle.cc_build.specs.Stage.{Stage, links_of, printed_stages}
+use Rattle.cc_build.specs.Way.{Firsts, Repeats}
+use Rattle.cc_build.specs.declared.directives.Lines.{Lines}
 use Rattle.cc_build.specs.declared.task.Task.{Task}
 
 -- nothing is refused behind the folder, and these are the warnings and the compile commands
@@ -32,6 +37,15 @@ pub record Archives (task : Task) (archiver : Archiver) (look : Look) : Type 0 w
 pub record Links (task : Task) (name library : List ℕ) (lines : List LinkLine) (look : Look) : Type 0 where
   pub allowed : link_refusal task.set.now task.env.now look ≡ None
   pub are : lines ≡ links_of task.set.now task.env.now name library look
+
+-- nothing is refused behind the library, and these are the lines for Cargo
+pub record AreLines (task : Task) (reads : Reads) (name library : List ℕ) (lines : Lines) (look : Look) : Type 0 where
+  pub links : Links task name library lines.links.items look
+  pub names : lines.names ≡ rerun_names reads task.set.now task.env.now look
+
+-- these stages print them: all where lines are repeated, and else those that no other run printed
+abbrev pub AreFirst : BuildConfig → Lines → List Stage → Type 0
+AreFirst set lines stages = (firsts : Firsts) × (Repeats set firsts × (stages ≡ printed_stages firsts lines.links.items lines.names))
 
 -- the settings are refused with this error, or memory was wanted
 abbrev pub IsRefusedBy : (Look → Option PlanError) → Task → ErrorSeen → Look → Type 0

@@ -1,5 +1,5 @@
 -- The stages of a compile run: what it asks of its host, one after another.
-use Rattle.std.specs.Prelude.{ℕ, Bool, List, [], ◌∷◌, ◌++◌, map, Option, None, is_some, unwrap_or, if◌then◌else◌}
+use Rattle.std.specs.Prelude.{ℕ, Bool, true, not, List, [], ◌∷◌, ◌++◌, map, Option, None, is_some, unwrap_or, if◌then◌else◌}
 use Rattle.std.specs.List.{flat_map}
 use Rattle.std.specs.Path.{path_parent}
 use Rattle.cc_env.specs.Env.{EnvSeen}
@@ -7,20 +7,22 @@ use Rattle.cc_host.specs.Command.{CommandSeen}
 use Rattle.cc_host.specs.Part.{Step}
 use Rattle.cc_host.specs.Part.Step.{Writes}
 use Rattle.cc_host.specs.Question.{Look}
-use Rattle.cc_host.specs.declared.event.LineKind.TheVariants.{Warning, Link}
+use Rattle.cc_host.specs.declared.event.LineKind.TheVariants.{Warning, Link, Rerun}
 use Rattle.cc_host.specs.declared.event.Role.{Role}
 use Rattle.cc_host.specs.declared.event.Role.TheVariants.{Compile, Archive, Index}
 use Rattle.cc_plan.specs.Archive.{archiver_of}
 use Rattle.cc_plan.specs.Given.{is_disabled}
 use Rattle.cc_plan.specs.Libtool.{is_libtool}
 use Rattle.cc_plan.specs.Link.{printed_links, link_lines as lines_of}
-use Rattle.cc_plan.specs.Plan.{compiles_of, archives_of, indexes_of, lists_of_run, archive_refusal, warning_lines, prints, folder_steps, removal_steps, link_steps}
-use Rattle.cc_plan.specs.Refusal.{early_refusal, late_refusal, link_refusal}
+use Rattle.cc_plan.specs.Plan.{compiles_of, archives_of, indexes_of, lists_of_run, archive_refusal, link_lines, warning_lines, prints, folder_steps, removal_steps}
+use Rattle.cc_plan.specs.Refusal.{is_empty, early_refusal, late_refusal, link_refusal}
+use Rattle.cc_plan.specs.Reruns.{rerun_line, rerun_names}
 use Rattle.cc_plan.specs.declared.error.PlanError.{PlanError}
 use Rattle.cc_plan.specs.declared.link.LinkLine.{LinkLine}
+use Rattle.cc_plan.specs.declared.variables.Reads.{Reads}
 use Rattle.cc_plan.specs.declared.settings.BuildConfig.{BuildConfig}
 use Rattle.cc_run.specs.declared.planned.Planned.{Planned}
-use Rattle.cc_build.specs.Way.{Way}
+use Rattle.cc_build.specs.Way.{Way, Firsts, chosen}
 
 -- A call of the host, questions, a command that is tried, a command that runs alone, or commands that run beside each other. One that is tried
 -- runs to its end, and says whether it was refused: the run goes on either way.
@@ -134,17 +136,28 @@ folder_in library = unwrap_or (path_parent library) []
 abbrev pub links_of : BuildConfig → EnvSeen → List ℕ → List ℕ → Look → List LinkLine
 links_of set env name library look = lines_of set env name (folder_in library) look
 
--- these lines are printed
-abbrev pub printed_stages : Bool → List LinkLine → List Stage
-printed_stages is_first lines = calls (prints Link (printed_links is_first lines))
+-- what a run reads variables for; it plans a compiler where there is a source
+abbrev pub run_reads : BuildConfig → Reads
+run_reads set = record { disabled = true; debug = true; compiler = not (is_empty set.files); archiver = true; links = true }
 
--- the link lines are printed
-unfoldable pub link_stages : BuildConfig → EnvSeen → Look → Bool → List ℕ → List Stage
-link_stages set env look is_first output = calls (link_steps set env look is_first output)
+-- the lines that tell Cargo of variables
+abbrev pub rerun_lines : List (List ℕ) → List (List ℕ)
+rerun_lines names = map rerun_line names
+
+-- these link lines are printed, and then those of these variables
+abbrev pub cargo_steps : Firsts → List LinkLine → List (List ℕ) → List Step
+cargo_steps firsts lines names = prints Link (printed_links firsts.links lines) ++ prints Rerun (rerun_lines (chosen firsts.names names))
+
+abbrev pub printed_stages : Firsts → List LinkLine → List (List ℕ) → List Stage
+printed_stages firsts lines names = calls (cargo_steps firsts lines names)
+
+-- the link lines are printed, and then those of the variables that the run read
+unfoldable pub link_stages : BuildConfig → EnvSeen → Look → Firsts → List ℕ → List Stage
+link_stages set env look firsts output = printed_stages firsts (link_lines set env look output) (rerun_names (run_reads set) set env look)
 
 -- questions on the link lines, which are then printed
 abbrev pub ending_stages : BuildConfig → EnvSeen → Way → Look → List ℕ → List Stage
-ending_stages set env way look output = asked_then (link_refusal set env look) (link_stages set env look way.is_first output)
+ending_stages set env way look output = asked_then (link_refusal set env look) (link_stages set env look way.firsts output)
 
 -- the old library is removed, and the new one is written
 abbrev pub library_stages : BuildConfig → EnvSeen → Bool → Look → List ℕ → List Stage

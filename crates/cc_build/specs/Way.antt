@@ -1,15 +1,41 @@
 -- What a run finds out as it goes, beside the answers to its questions.
-use Rattle.std.specs.Prelude.{◌≡◌, Bool, true}
+use Rattle.std.specs.Prelude.{◌≡◌, ℕ, Bool, true, List, [], ◌∷◌, ◌++◌}
+use Rattle.cc_text.specs.Words.{when}
 use Rattle.cc_plan.specs.declared.settings.BuildConfig.{BuildConfig}
+
+-- which of the lines that builds which share what they know print once between them a run prints
+pub record Firsts : Type 0 where
+  -- the link lines of such a kind
+  pub links : Bool
+  -- for each variable that Cargo is told of, in order, whether it has its line; those past the last have
+  pub names : List Bool
+
+-- all of them
+abbrev pub all_firsts : Firsts
+all_firsts = record { links = true; names = [] }
 
 pub record Way : Type 0 where
   -- whether it is the run that warns of flags for the linker
   pub warns_of_link : Bool
   -- whether the first form of its archive was refused, so that the plain form took its place
   pub is_plain : Bool
-  -- whether it is the run that prints the link lines that are printed once
-  pub is_first : Bool
+  -- which of the lines that are printed once it prints
+  pub firsts : Firsts
 
 -- where lines are repeated, each run prints them all
-abbrev pub Repeats : BuildConfig → Bool → Type 0
-Repeats set is_first = set.repeat_lines ≡ true → is_first ≡ true
+abbrev pub Repeats : BuildConfig → Firsts → Type 0
+Repeats set firsts = set.repeat_lines ≡ true → firsts ≡ all_firsts
+
+-- those of some names that are chosen, and those past the last choice
+abbrev pub chosen : List Bool → List (List ℕ) → List (List ℕ)
+chosen [] names = names
+chosen (is_new ∷ choices) [] = []
+chosen (is_new ∷ choices) (name ∷ names) = when is_new (name ∷ []) ++ chosen choices names
+
+-- these are some of the names, in order
+abbrev pub AreChosen : List (List ℕ) → List (List ℕ) → Type 0
+AreChosen names printed = (choices : List Bool) × (printed ≡ chosen choices names)
+
+-- these are all names where lines are repeated, and else some of them
+abbrev pub AreFirsts : BuildConfig → List (List ℕ) → List (List ℕ) → Type 0
+AreFirsts set names printed = (choices : List Bool) × ((set.repeat_lines ≡ true → choices ≡ []) × (printed ≡ chosen choices names))

@@ -3,7 +3,7 @@ ghost use Rattle.std.specs.Prelude.{◌≡◌, ◌++◌, ◌⊎◌, Some, None, 
 ghost use Rattle.cc_host.specs.Call.{part};
 ghost use Rattle.cc_plan.specs.Given.{probe_folder};
 ghost use Rattle.cc_plan.specs.Plan.{objects_of, library_of};
-ghost use Rattle.cc_build.specs.Archiving.{with_objects, unarchived_error, Creates};
+ghost use Rattle.cc_build.specs.Archiving.{archive_reads as reads_of, with_objects, unarchived_error, Creates};
 ghost use Rattle.cc_build.specs.Build.{AsksByRun};
 ghost use Rattle.cc_build.specs.Course.{ByPart};
 ghost use Rattle.cc_build.specs.Error.{no_memory};
@@ -20,13 +20,26 @@ use cc_env::BuildEnv;
 use cc_host::{Host, World};
 use cc_jobs::OneCaller;
 use cc_plan::{
-    BuildConfig, Sources, archive_settings, is_disabled, lib_and_archive_names, plan_sources,
+    BuildConfig, Reads, Sources, archive_settings, is_disabled, lib_and_archive_names, plan_sources,
 };
 use cc_run::Turns;
 use cc_text::{Text, Words};
 use cc_tool::Answers;
 use std::alloc::Global;
 use std::sync::Wait;
+
+// What an archive alone reads variables for.
+fn archive_reads() -> Reads
+    ensures { result ≡ reads_of }
+{
+    Reads {
+        disabled: true,
+        debug: true,
+        compiler: false,
+        archiver: true,
+        links: false,
+    }
+}
 
 // The checks before an archive.
 fn check_archive(
@@ -100,6 +113,7 @@ impl<W: World> Build<W> {
             jobs: &jobs,
             caches: &self.caches,
             sources: &sources,
+            reads: archive_reads(),
         };
         let mut answers = Answers::new(alloc);
         let mut left = Turns {

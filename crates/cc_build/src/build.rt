@@ -262,10 +262,11 @@ impl<W: World> Build<W> {
     ///
     /// Makes the out dir where there is a source, asks what the compile commands want to know, prints the warnings, runs one compile command
     /// per source, asks for the archiver, removes the old library, archives all objects, writes the index, and asks for and prints the link
-    /// lines, where they are wanted. The first archive command is tried in a form that not each archiver knows: where it is refused, the same
-    /// objects are archived by the plain form. Two or more compile commands run beside each other, each under a token of the pool. The seat is one of the pool and holds none, before and
-    /// after. At most `turns` turns are made, each of which asks the host once for the news of the running children; `u64::MAX` is as good
-    /// as no bound.
+    /// lines, and then the lines of the variables that were read, in the order of their bytes and each once, where they are wanted. The first
+    /// archive command is tried in a form that not each archiver knows: where it is refused, the same objects are archived by the plain form.
+    /// Two or more compile commands run beside each other, each under a token of the pool. The seat is one of the pool and holds none, before
+    /// and after. At most `turns` turns are made, each of which asks the host once for the news of the running children; `u64::MAX` is as
+    /// good as no bound.
     ///
     /// Ok means that all of this was done, and nothing else. Else the first stages of it were, every command that was started has ended
     /// or is left alone, and the error is that of the refused settings, or of the event that ended the run; `ErrorKind` lists them. No

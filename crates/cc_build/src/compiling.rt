@@ -10,6 +10,7 @@ ghost use Rattle.cc_build.specs.Course.{CallsEnd, ByRun};
 ghost use Rattle.cc_build.specs.Kept.{Aside, AsksFor};
 ghost use Rattle.cc_build.specs.Phases.{ByKnown, AskedEnds};
 ghost use Rattle.cc_build.specs.Promises.{RunEnds};
+ghost use Rattle.cc_build.specs.Stage.{run_reads, run_reads as reads_of};
 
 use crate::goal::Goal;
 use crate::message::or_no_memory;
@@ -23,11 +24,24 @@ use crate::{Build, Error};
 use cc_env::BuildEnv;
 use cc_host::{Host, World};
 use cc_jobs::Jobs;
-use cc_plan::{BuildConfig, is_disabled, plan_sources};
+use cc_plan::{BuildConfig, Reads, is_disabled, plan_sources};
 use cc_run::Turns;
 use cc_tool::Answers;
 use std::alloc::Global;
 use std::sync::Wait;
+
+// What a run reads variables for.
+fn run_reads(set: &BuildConfig) -> Reads
+    ensures { result ≡ reads_of set.now }
+{
+    Reads {
+        disabled: true,
+        debug: true,
+        compiler: !set.files.is_empty(),
+        archiver: true,
+        links: true,
+    }
+}
 
 // Makes the folder of the objects, where there is a source.
 #[tactic(auto, using(cc_host::proofs::Parts::since_append), unfolding(cc_plan::specs::Plan::folder_steps))]
@@ -70,6 +84,7 @@ fn run_parts<W: World, H: Host<W>, J: Jobs>(
         shared.now.task.set.now shared.now.task.env.now shared.now.task.output.now }
     requires objects { shared.now.sources.now.objects.items
         ≡ objects_of shared.now.task.set.now shared.now.task.env.now }
+    requires reads { shared.now.reads ≡ run_reads shared.now.task.set.now }
     ensures idle { IsIdle J.fits J.held shared.now.jobs.now seat.new }
     ensures total { J.total seat.new ≡ J.total seat.old }
     ensures sum { turns.new.left + turns.new.used ≡ turns.old.left + turns.old.used }
@@ -138,6 +153,7 @@ impl<W: World> Build<W> {
             jobs,
             caches: &self.caches,
             sources: &sources,
+            reads: run_reads(set),
         };
         run_parts(rt, &shared, host, seat, &mut turns, &mut answers)
     }

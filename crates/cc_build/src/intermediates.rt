@@ -5,7 +5,7 @@ ghost use Rattle.cc_plan.specs.Archive.{paths_of};
 ghost use Rattle.cc_plan.specs.Plan.{objects_of};
 ghost use Rattle.cc_build.specs.Build.{AsksByRun};
 ghost use Rattle.cc_build.specs.Course.{ByRun};
-ghost use Rattle.cc_build.specs.Intermediates.{IntermediateEnds};
+ghost use Rattle.cc_build.specs.Intermediates.{IntermediateEnds, source_reads as reads_of};
 ghost use Rattle.cc_run.specs.Keeping.{IsIdle};
 
 use crate::compiling::prepare_folder;
@@ -18,7 +18,7 @@ use crate::task::{Shared, Task};
 use crate::{Build, Error};
 use cc_host::{Host, World};
 use cc_jobs::Jobs;
-use cc_plan::{Object, Sources, is_disabled, plan_objects};
+use cc_plan::{BuildConfig, Object, Reads, Sources, is_disabled, plan_objects};
 use cc_run::Turns;
 use cc_text::{Mem, Text, Words};
 use cc_tool::Answers;
@@ -33,6 +33,20 @@ fn object_paths(alloc: Global, objects: &[Object]) -> Mem<Words>
         paths.push(object.dst.as_str())?;
     }
     Ok(paths)
+}
+
+// What a run that compiles the sources alone reads variables for.
+fn source_reads(set: &BuildConfig) -> Reads
+    ensures { result ≡ reads_of set.now }
+{
+    let is_any = !set.files.is_empty();
+    Reads {
+        disabled: true,
+        debug: is_any,
+        compiler: is_any,
+        archiver: false,
+        links: false,
+    }
 }
 
 impl<W: World> Build<W> {
@@ -84,6 +98,7 @@ impl<W: World> Build<W> {
             jobs,
             caches: &self.caches,
             sources: &sources,
+            reads: source_reads(set),
         };
         let mut answers = Answers::new(alloc);
         let mut left = Turns {

@@ -9,6 +9,7 @@ mod archiving;
 mod build;
 mod compiler;
 mod compiling;
+mod directives;
 mod environment;
 mod error;
 mod goal;

@@ -3,7 +3,7 @@ ghost use Rattle.std.specs.Prelude.{◌≡◌, ◌++◌};
 ghost use Rattle.cc_host.specs.Call.{part};
 ghost use Rattle.cc_build.specs.Build.{AsksByRun};
 ghost use Rattle.cc_build.specs.Course.{ByPart};
-ghost use Rattle.cc_build.specs.Linking.{DirectivesEnd};
+ghost use Rattle.cc_build.specs.Linking.{DirectivesEnd, link_reads as reads_of};
 
 use crate::message::or_no_memory;
 use crate::phases::print_links;
@@ -14,15 +14,29 @@ use crate::task::{Shared, Task};
 use crate::{Build, Error};
 use cc_host::{Host, World};
 use cc_jobs::OneCaller;
-use cc_plan::{Sources, library_and_dir, probe_folder};
+use cc_plan::{Reads, Sources, library_and_dir, probe_folder};
 use cc_run::Turns;
 use cc_text::Text;
 use cc_tool::Answers;
 use std::sync::Wait;
 
+// What link lines read variables for.
+fn link_reads() -> Reads
+    ensures { result ≡ reads_of }
+{
+    Reads {
+        disabled: false,
+        debug: false,
+        compiler: false,
+        archiver: false,
+        links: true,
+    }
+}
+
 /// Prints the link lines of the library at a path, `lib<name>.a` with its folder, as `try_compile` does behind the library that it
 /// builds: by which name Cargo links it, where it is sought, and the C++ library that it wants. They are wanted where `cargo_metadata` is
-/// on; to find the C++ library the compiler may be asked. The library itself isn't looked at.
+/// on; to find the C++ library the compiler may be asked. Behind them are the lines of the variables that were read for them. The library
+/// itself isn't looked at.
 ///
 /// Refused with InvalidArgument where the path is no such one, with EnvVarNotFound where a sysroot is set nowhere that the lines of
 /// WebAssembly want, where a line couldn't be printed, and for memory. The build is as before.
@@ -64,6 +78,7 @@ pub fn try_emit_link_directives<W: World, H: Host<W>>(
         jobs: &jobs,
         caches: &build.caches,
         sources: &sources,
+        reads: link_reads(),
     };
     let mut answers = Answers::new(alloc);
     let mut turns = Turns { left: 0, used: 0 };

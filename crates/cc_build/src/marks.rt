@@ -155,8 +155,9 @@ impl<W: World> Build<W> {
         self.config.cargo_debug = Some(cargo_debug);
     }
 
-    /// Sets whether Cargo is to run the script again where a variable changes that was read (Cargo's book, "Build Scripts",
-    /// `rerun-if-env-changed`). No such line is printed yet, so today it changes nothing. At first it is on. It takes no memory.
+    /// Sets whether Cargo is told of the variables that a run read, and of those that its compiler reads by itself, so that it runs the
+    /// script again where one changes (Cargo's book, "Build Scripts", `rerun-if-env-changed`). `try_compile` and
+    /// `try_emit_link_directives` tell of them behind the link lines. At first it is on. It takes no memory.
     pub fn emit_rerun_if_env_changed(&mut self, emit_rerun_if_env_changed: bool)
         ensures { Sets self.old self.new
             (λ c. record c { emit_rerun_if_env_changed = emit_rerun_if_env_changed }) }

@@ -1,38 +1,37 @@
 // The parts of a run behind the folder of the objects. Each asks what it wants to know, and then does its stages: the sources are compiled, the
-// library is written, and the link lines are printed.
+// library is written, and the lines for Cargo are printed.
 ghost use Rattle.std.specs.Prelude.{◌≡◌, ◌⊎◌, ◌+◌, ◌<◌, ◌^◌, None, Some, IfOk, IfErr};
 ghost use Rattle.std.specs.Option.{option_map};
 ghost use Rattle.cc_host.specs.Call.{part};
-ghost use Rattle.cc_host.specs.Question.{Holds};
-ghost use Rattle.cc_plan.specs.Link.{printed_links};
+ghost use Rattle.cc_host.specs.Question.{Holds, Settles};
 ghost use Rattle.cc_plan.specs.Given.{probe_folder};
 ghost use Rattle.cc_plan.specs.Libtool.{list_refusal};
 ghost use Rattle.cc_plan.specs.Plan.{objects_of, library_of, archived_of};
 ghost use Rattle.cc_plan.specs.Refusal.{late_refusal, archiver_refusal, link_refusal};
+ghost use Rattle.cc_plan.specs.Reruns.{rerun_names};
 ghost use Rattle.cc_run.specs.Keeping.{IsIdle};
 ghost use Rattle.cc_build.specs.Error.{no_memory};
 ghost use Rattle.cc_build.specs.Kept.{AsksFor};
 ghost use Rattle.cc_build.specs.Phases.{ByKnown, CompileEnds, LibraryEnds, LinkedEnds};
-ghost use Rattle.cc_build.specs.Questions.{Plans, Archives, Links, IsRefusedBy, AsksOnly};
+ghost use Rattle.cc_build.specs.Questions.{Plans, Archives, Links, AreLines, IsRefusedBy, AsksOnly};
 ghost use Rattle.cc_build.specs.Refusal.{plan_error as error_of_plan};
-ghost use Rattle.cc_build.specs.Seen.{stages_seen};
-ghost use Rattle.cc_build.specs.Stage.{folder_in, printed_stages};
-ghost use Rattle.cc_build.specs.Way.{Repeats};
+ghost use Rattle.cc_build.specs.Stage.{folder_in};
 
 use crate::Error;
+use crate::directives::{Lines, first_stages};
 use crate::library::{Library, write_library};
 use crate::message::or_no_memory;
 use crate::refusal::plan_error;
-use crate::stage::{Stage, do_stages, push_lines, stages_of};
+use crate::stage::{do_stages, stages_of};
 use crate::task::{Shared, Task};
-use cc_host::{Host, LineKind, World};
+use cc_host::{Host, World};
 use cc_jobs::Jobs;
 use cc_plan::{
-    Archiver, BuildConfig, LinkLine, Plan, PlanError, Sight, Sources, archived_paths, archiver_of,
-    check_list, link_lines, plan_commands,
+    Archiver, LinkLine, Plan, PlanError, Sight, Sources, archived_paths, archiver_of, check_list,
+    link_lines, plan_commands, rerun_names,
 };
 use cc_run::Turns;
-use cc_text::{Mem, Words, after_prefix, parent};
+use cc_text::{Mem, Words, parent};
 use cc_tool::{Answers, Caches};
 use std::alloc::Global;
 use std::sync::Wait;
@@ -269,62 +268,74 @@ pub(crate) fn archive_objects<W: World, H: Host<W>, J: Jobs>(
     write_library(task.reporting, host, shared.jobs, seat, turns, &library)
 }
 
-// The value of a library, behind the key of its line.
-fn value_of(line: &str) -> &str {
-    match after_prefix(line, "cargo:rustc-link-lib=") {
-        Some(value) => value,
-        None => line,
-    }
-}
-
-// Whether the line that is printed once, if there is one, is new to the caches.
-fn is_new<W: World>(rt: &impl Wait, caches: &Caches<W>, lines: &[LinkLine]) -> Mem<bool> {
-    for line in lines {
-        if line.once {
-            return caches.new_library(rt, value_of(line.text.as_str()));
-        }
-    }
-    Ok(true)
-}
-
-// Whether this run, of those that share its caches, is the one that prints the line that is printed once. No clause says which run it is, since
-// the mark stands behind a lock.
-fn is_first_link<W: World>(
+// Plans of which variables Cargo is told.
+#[tactic(auto, using(cc_host::proofs::Parts::since_append))]
+fn plan_names<W: World, H: Host<W>, J>(
     rt: &impl Wait,
-    caches: &Caches<W>,
-    set: &BuildConfig,
-    lines: &[LinkLine],
-) -> Mem<bool>
-    ensures { IfOk result (λ is_first. Repeats set.now is_first) }
+    shared: &Shared<'_, W, J>,
+    host: &mut H,
+    answers: &mut Answers,
+) -> Mem<Words>
+    requires dir { shared.now.sources.now.dir
+        ≡ probe_folder shared.now.task.set.now shared.now.task.env.now }
+    ensures quiet { AsksOnly (part H.log host.old host.new) }
+    ensures asks { AsksFor W.steady W.answer shared.now.task H.log H.patience
+        host.old host.new answers.old answers.new }
+    ensures planned { IfOk result (λ names. Settles answers.new
+        (rerun_names shared.now.reads shared.now.task.set.now shared.now.task.env.now) names) }
 {
-    Ok(set.repeat_lines || is_new(rt, caches, lines)?)
+    let task = &shared.task;
+    let mut sight = Sight {
+        host,
+        caches: shared.caches,
+        answers,
+        dir: shared.sources.dir.as_str(),
+    };
+    rerun_names(
+        rt,
+        task.reporting.alloc,
+        shared.reads,
+        task.set,
+        task.env,
+        &mut sight,
+    )
 }
 
-// The texts of the lines that are printed.
-fn printed_texts(alloc: Global, lines: &[LinkLine], is_first: bool) -> Mem<Words>
-    ensures { IfOk result (λ texts. texts ≡ printed_links is_first lines.now) }
+// Plans the lines for Cargo.
+#[tactic(auto, using(cc_host::proofs::Parts::since_append))]
+fn plan_lines<W: World, H: Host<W>, J>(
+    rt: &impl Wait,
+    shared: &Shared<'_, W, J>,
+    host: &mut H,
+    answers: &mut Answers,
+) -> Result<Lines, Error>
+    requires dir { shared.now.sources.now.dir
+        ≡ probe_folder shared.now.task.set.now shared.now.task.env.now }
+    ensures quiet { AsksOnly (part H.log host.old host.new) }
+    ensures asks { AsksFor W.steady W.answer shared.now.task H.log H.patience
+        host.old host.new answers.old answers.new }
+    ensures planned { IfOk result (λ lines. Holds answers.new
+        (AreLines shared.now.task shared.now.reads
+        shared.now.sources.now.name shared.now.sources.now.library lines)) }
+    ensures refused { IfErr result (λ e. Holds answers.new
+        (IsRefusedBy (link_refusal shared.now.task.set.now shared.now.task.env.now)
+        shared.now.task e)) }
 {
-    let mut texts = Words::new(alloc);
-    for line in lines {
-        if !line.once || is_first {
-            texts.push(line.text.as_str())?;
-        }
+    let names = plan_names(rt, shared, host, answers)?;
+    match plan_links(
+        rt,
+        &shared.task,
+        host,
+        shared.caches,
+        answers,
+        shared.sources,
+    ) {
+        Ok(links) => Ok(Lines { links, names }),
+        Err(error) => Err(error),
     }
-    Ok(texts)
 }
 
-// The lines that are printed, as stages.
-fn link_stages(alloc: Global, lines: &[LinkLine], is_first: bool) -> Mem<Vec<Stage>>
-    ensures { IfOk result (λ stages. stages_seen stages.items
-        ≡ printed_stages is_first lines.now) }
-{
-    let texts = printed_texts(alloc, lines, is_first)?;
-    let mut stages = Vec::new(alloc);
-    push_lines(&mut stages, LineKind::Link, &texts)?;
-    Ok(stages)
-}
-
-/// Asks what the link lines are planned by, and prints them.
+/// Asks what the link lines are planned by, and prints them, and then those of the variables that the call read.
 #[tactic(auto, using(cc_host::proofs::Parts::since_append))]
 pub(crate) fn print_links<W: World, H: Host<W>, J: Jobs>(
     rt: &impl Wait,
@@ -345,22 +356,20 @@ pub(crate) fn print_links<W: World, H: Host<W>, J: Jobs>(
         host.old host.new answers.old answers.new }
     ensures outcome { ByKnown answers.new
         H.log H.patience J.total J.faults J.taken J.load turns.old.left turns.new.left
-        host.old host.new seat.old seat.new (LinkedEnds shared.now.task
+        host.old host.new seat.old seat.new (LinkedEnds shared.now.task shared.now.reads
         shared.now.sources.now.name shared.now.sources.now.library result) }
 {
-    let lines = match plan_links(
-        rt,
-        &shared.task,
-        host,
-        shared.caches,
-        answers,
-        shared.sources,
-    ) {
+    let lines = match plan_lines(rt, shared, host, answers) {
         Ok(lines) => lines,
         Err(error) => return Err(error),
     };
-    let is_first = is_first_link(rt, shared.caches, shared.task.set, &lines)?;
-    let stages = link_stages(shared.task.reporting.alloc, &lines, is_first)?;
+    let stages = first_stages(
+        rt,
+        shared.task.reporting.alloc,
+        shared.caches,
+        shared.task.set,
+        &lines,
+    )?;
     do_stages(
         shared.task.reporting,
         host,

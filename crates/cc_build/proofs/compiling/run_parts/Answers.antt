@@ -64,5 +64,5 @@ returns-clause-outcome g c =
           (g.J.Jobs.total c.compile_sources.new.seat) (g.H.Host.patience c.compile_sources.new.host) (g.J.Jobs.total c.archive_objects.new.seat) (g.H.Host.patience c.archive_objects.new.host) made new _ c.print_links.result z end
           c.compile_sources.ensures.total c.compile_sources.ensures.asks.patient c.archive_objects.ensures.total c.archive_objects.ensures.asks.patient c.archive_objects.ensures.asks.extends c.print_links.ensures.asks.extends
           (c.in-Ok-archive_objects.ensures.outcome.under look among)
-          (own_links c.args.shared.now.task c.args.shared.now.sources.now.name c.args.shared.now.sources.now.library _ look _ _ c.requires.name c.requires.library (c.print_links.ensures.outcome.under look agree));
+          (own_links c.args.shared.now.task c.args.shared.now.reads c.args.shared.now.sources.now.name c.args.shared.now.sources.now.library _ look _ _ c.requires.reads c.requires.name c.requires.library (c.print_links.ensures.outcome.under look agree));
     }

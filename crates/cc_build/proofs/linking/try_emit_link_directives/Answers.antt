@@ -53,6 +53,6 @@ returns-clause-outcome g c =
     subst (λ (b : BuildSeen). Holds (answers (since old new)) (λ look. DirectivesEnd b c.args.library.now c.print_links.result look (since old new))) c.build.view_is
     (record {
       under = λ look agree.
-          lines_ended set env look c.args.library.now (since old new) _ _ _ c.in-Ok.found c.in-Ok.found.0 _ c.print_links.result c.in-Ok.ensures.found refl c.in_ok-of-2.ensures
+          lines_ended set env look c.args.library.now (since old new) _ _ _ c.in-Ok.found _ c.in-Ok.found.0 _ c.print_links.result c.link_reads.ensures c.in-Ok.ensures.found refl c.in_ok-of-2.ensures
           (c.print_links.ensures.outcome.under look (subst (Agrees look) (sym same) agree));
     })

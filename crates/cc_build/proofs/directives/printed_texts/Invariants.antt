@@ -1,6 +1,6 @@
 use Rattle.std.proofs.Common.{◌≡◌, take}
 use Rattle.cc_plan.specs.Link.{printed_links}
-use Rattle.cc_build.proofs.phases.printed_texts.Given as goal
+use Rattle.cc_build.proofs.directives.printed_texts.Given as goal
 
 -- the texts so far are those of the lines that are printed
 abbrev pub invariant-loop-line : goal.invariant-loop-line
