@@ -1,4 +1,6 @@
 -- What an archive alone answers, and what follows from it.
+use Rattle.cc_build.specs.Way.{all_firsts}
+use Rattle.cc_plan.specs.Reruns.{rerun_names}
 use Rattle.std.proofs.Common.{◌≡◌, ◌⊎◌, inl, inr, ℕ, ◌+◌, ◌<◌, List, [], ◌∷◌, ◌++◌, length, map, Bool, true, false, if◌then◌else◌, is_some, Option, Some, None, option_map, Result, Ok, Err, refl, sym, ◌∙◌, ap, subst, append_assoc, append-nil, zero-add, arith}
 use Rattle.std.specs.Prelude.{◌≤◌, ◌*◌}
 use Rattle.std.proofs.Math.Nat.{mul-le-mul_left}
@@ -8,13 +10,13 @@ use Rattle.cc_host.specs.Part.{Step, since}
 use Rattle.cc_host.specs.Part.Step.{Lists}
 use Rattle.cc_host.specs.declared.event.Event.{Event}
 use Rattle.cc_host.specs.declared.event.Event.TheVariants.{Listed}
-use Rattle.cc_host.specs.declared.event.LineKind.TheVariants.{Link}
+use Rattle.cc_host.specs.declared.event.LineKind.TheVariants.{Link, Rerun}
 use Rattle.cc_host.specs.declared.question.Outcome.{Outcome}
 use Rattle.cc_host.specs.declared.question.Question.{Question}
 use Rattle.cc_jobs.specs.Seats.{Rose}
 use Rattle.cc_plan.specs.Given.{is_disabled, probe_folder}
 use Rattle.cc_plan.specs.Link.{printed_links}
-use Rattle.cc_plan.specs.Plan.{archive_refusal, lists_of_run, prints, removal_steps}
+use Rattle.cc_plan.specs.Plan.{archive_refusal, lists_of_run, removal_steps}
 use Rattle.cc_plan.specs.Questions.{RunAsks}
 use Rattle.cc_plan.specs.Refusal.{first_of, name_refusal, early_refusal, path_refusal, link_refusal}
 use Rattle.cc_plan.specs.declared.error.PlanError.{PlanError}
@@ -33,30 +35,30 @@ use Rattle.cc_build.specs.Captured.{with_vars, Captures, CaptureEnds}
 use Rattle.cc_build.specs.Course.{Course, course_alone}
 use Rattle.cc_build.specs.Error.{ErrorSeen, no_memory}
 use Rattle.cc_build.specs.Failed.{Failed, HasFault}
-use Rattle.cc_build.specs.Linking.{linked_name}
+use Rattle.cc_build.specs.Linking.{linked_name, link_reads}
 use Rattle.cc_build.specs.Promises.{terms_for, AreFirst, NothingRuns}
 use Rattle.cc_build.specs.Refusal.{plan_error}
 use Rattle.cc_build.specs.Shows.{shows_of}
-use Rattle.cc_build.specs.Stage.{Stage, asked_then, archive_stages as library_archive, calls, commands_in, children_in, has_libtool, removal_stages, list_stages, library_commands, library_stages, links_of, printed_stages, written, written_children, writings}
+use Rattle.cc_build.specs.Stage.{Stage, asked_then, archive_stages as library_archive, calls, commands_in, children_in, has_libtool, removal_stages, list_stages, library_commands, library_stages, links_of, printed_stages, written, written_children, writings, cargo_steps, rerun_lines}
 use Rattle.cc_build.specs.Stage.Stage.{Asks, Calls}
 use Rattle.cc_build.specs.Went.{Terms, Means, Ends, Partly}
 use Rattle.cc_build.proofs.FormLaws.{FormFirst, formed_unless, library_first, none_first}
 use Rattle.cc_build.proofs.Going.{called, part_is, halted_among, halted_more, halted_none, ends_then}
-use Rattle.cc_build.proofs.OrderLaws.{ended_partly, no_line_archives}
+use Rattle.cc_build.proofs.OrderLaws.{ended_partly, no_lines_archives}
 use Rattle.cc_build.proofs.RunLaws.{commands_then, commands_calls, commands_written, children_then, children_calls, children_written, went_started, went_run}
 use Rattle.cc_build.proofs.SettledLaws.{went_attempts, partly_first}
-use Rattle.cc_build.proofs.StopLaws.{ArePlain, plain_lines, plain_unless, plain_library}
+use Rattle.cc_build.proofs.StopLaws.{ArePlain, plain_both, plain_unless, plain_library}
 use Rattle.cc_build.proofs.TurnLaws.{halted_bound}
-use Rattle.cc_command.specs.Answer.{AnswersError, IfArchives, IsAnswer, IsAnswerOf, env_in, error_line, heard, repeating, ended_well, ended_wanting}
+use Rattle.cc_command.specs.Answer.{AnswersError, IfArchives, IsAnswer, IsAnswerOf, env_in, error_line, heard, repeating, told, ended_well, ended_wanting}
 use Rattle.cc_command.specs.Archived.{alone, library_at, directed_stages, archive_stages, archive_refused, Agree, Archiving, build_in, wished_stages, wished_refusal, WishEnds, Says, Archived, Written, ArchivePromises}
 use Rattle.cc_command.specs.Promises.{PrintsLast, IsLine, FaultsLast, EndsSpent}
 use Rattle.cc_command.specs.Asks.{AsksAlone, AsksWish, AsksWords}
 use Rattle.cc_command.specs.Read.{Request, Wish, name_of, wish_of}
 use Rattle.cc_command.specs.declared.words.Job.{Job}
-use Rattle.cc_command.specs.declared.words.Job.TheVariants.{Compile, Archive}
-use Rattle.cc_command.specs.Read.Wish.{Compiles, Archives}
+use Rattle.cc_command.specs.declared.words.Job.TheVariants.{Compile, Archive, Generate}
+use Rattle.cc_command.specs.Read.Wish.{Compiles, Archives, Generates}
 use Rattle.cc_command.specs.declared.words.BadWord.{BadWord}
-use Rattle.cc_command.specs.declared.top.Ended.{Ended}
+use Rattle.cc_command.specs.declared.ended.Ended.{Ended}
 use Rattle.cc_command.proofs.EnoughLaws.{count, calls_none, unless_few, unless_none, ended_count, mapped, disabled_or, first_never, NeverSpent}
 use Rattle.cc_command.proofs.PromiseLaws.{line_of, heard_same, turns_same, same_error, stages_last, spends}
 use Rattle.cc_command.proofs.SettledPromises.{stages_settled, attempts_same}
@@ -161,6 +163,7 @@ module _ (steady : Bool) (world : Question → Outcome) (patience : Option ℕ) 
 pub archived_wanting : (steady : Bool) (world : Question → Outcome) (patience : Option ℕ) (turns : ℕ) (log : List Event) (words : Result Wish BadWord) (ended : Ended) → ended ≡ ended_wanting → IfArchives words (λ q. Archived steady world q patience turns (since log log) ended)
 archived_wanting steady world patience turns log (Ok (Compiles q)) ended is = tt
 archived_wanting steady world patience turns log (Ok (Archives q)) ended is = unread steady world patience turns q (since log log) ended (part_is log log [] (sym (append-nil log))) is
+archived_wanting steady world patience turns log (Ok (Generates n)) ended is = tt
 archived_wanting steady world patience turns log (Err bad) ended is = tt
 
 -- ---- the commands of a library
@@ -192,7 +195,7 @@ module _ (set : BuildConfig) (env : EnvSeen) (is_plain : Bool) (look : Look) (ou
 
 module _ (b : BuildSeen) (is_plain : Bool) (look links : Look) (output : List ℕ) where
   abbrev lines : List Stage
-  lines = printed_stages true (links_of b.config b.env (linked_name (library_at b output)) (library_at b output) links)
+  lines = printed_stages all_firsts (links_of b.config b.env (linked_name (library_at b output)) (library_at b output) links) (rerun_names link_reads b.config b.env links)
 
   abbrev unlinked : Bool
   unlinked = is_some (first_of (path_refusal (library_at b output)) (link_refusal b.config b.env links))
@@ -203,7 +206,7 @@ module _ (b : BuildSeen) (is_plain : Bool) (look links : Look) (output : List �
     plain_unless (is_some (unarchived_error (alone b).config (alone b).env output)) _ (
       tt,
       plain_unless (is_some (archive_refusal (alone b).config (alone b).env look)) _
-          (plain_library (alone b).config (alone b).env is_plain look output (directed_stages b links (library_at b output)) (tt, plain_unless unlinked lines (plain_lines Link (printed_links true (links_of b.config b.env (linked_name (library_at b output)) (library_at b output) links))))),
+          (plain_library (alone b).config (alone b).env is_plain look output (directed_stages b links (library_at b output)) (tt, plain_unless unlinked lines (plain_both Link Rerun (printed_links true (links_of b.config b.env (linked_name (library_at b output)) (library_at b output) links)) (rerun_lines (rerun_names link_reads b.config b.env links))))),
     ),
   )
 
@@ -215,7 +218,7 @@ module _ (b : BuildSeen) (is_plain : Bool) (look links : Look) (output : List �
           refl,
           formed_unless (is_some (archive_refusal (alone b).config (alone b).env look)) _
               (library_first (alone b).config (alone b).env (repeating is_plain) look output (directed_stages b links (library_at b output))
-              (inr (refl, formed_unless unlinked lines (none_first lines (no_line_archives Link (printed_links true (links_of b.config b.env (linked_name (library_at b output)) (library_at b output) links))))))
+              (inr (refl, formed_unless unlinked lines (none_first lines (no_lines_archives Link Rerun (printed_links true (links_of b.config b.env (linked_name (library_at b output)) (library_at b output) links)) (rerun_lines (rerun_names link_reads b.config b.env links))))))
               other),
         )),
   )
@@ -226,7 +229,7 @@ module _ (b : BuildSeen) (is_plain : Bool) (look links : Look) (output : List �
       unless_few (is_some (unarchived_error (alone b).config (alone b).env output)) _ (0 + length b.config.objects + 2)
       (unless_few (is_some (archive_refusal (alone b).config (alone b).env look)) _ (0 + length b.config.objects + 2)
       (ended_count (alone b).config (alone b).env look is_plain output (directed_stages b links (library_at b output))
-      (unless_none unlinked lines (calls_none (prints Link (printed_links true (links_of b.config b.env (linked_name (library_at b output)) (library_at b output) links))))))) in
+      (unless_none unlinked lines (calls_none (cargo_steps all_firsts (links_of b.config b.env (linked_name (library_at b output)) (library_at b output) links) (rerun_names link_reads b.config b.env links)))))) in
       omega arith
 
   -- no settings that are refused spend the turns
@@ -263,7 +266,7 @@ module _ (b : BuildSeen) (is_plain : Bool) (look links : Look) (output : List �
     commands = library_commands (alone b).config (alone b).env look is_plain output
 
     abbrev shown : List Step
-    shown = prints Link (printed_links true (links_of b.config b.env (linked_name (library_at b output)) (library_at b output) links))
+    shown = cargo_steps all_firsts (links_of b.config b.env (linked_name (library_at b output)) (library_at b output) links) (rerun_names link_reads b.config b.env links)
 
     commands_are : commands_in (Calls Lists ∷ archive_stages b is_plain look links output) ≡ commands
     commands_are =
@@ -277,15 +280,15 @@ module _ (b : BuildSeen) (is_plain : Bool) (look links : Look) (output : List �
 
 -- ---- its line
 
-says_line : (result : Result (Unit {0}) ErrorSeen) (line : List Event) (ended : Ended) → Says result line ended → IsLine line
+pub says_line : (result : Result (Unit {0}) ErrorSeen) (line : List Event) (ended : Ended) → Says result line ended → IsLine line
 says_line (Ok done) line ended says = inl says.1
 says_line (Err e) line ended (inl printed) = line_of (error_line e) line printed.2
 says_line (Err e) line ended (inr wanting) = inl wanting.1
 
-says_last : (result : Result (Unit {0}) ErrorSeen) (part run line : List Event) (ended : Ended) → part ≡ run ++ line → Says result line ended → PrintsLast part ended
-says_last (Ok done) part run line ended cut says = inl says.0
-says_last (Err e) part run line ended cut (inl printed) = inr (inl (e, (printed.0, record { before = run; end = line; cut = cut; printed = printed.2 })))
-says_last (Err e) part run line ended cut (inr wanting) = inr (inr (inr wanting.0))
+pub says_last : (result : Result (Unit {0}) ErrorSeen) (part run line : List Event) (ended : Ended) → part ≡ run ++ line → Says result line ended → PrintsLast part ended
+says_last (Ok done) part run line ended cut says = inl (ap told says.0)
+says_last (Err e) part run line ended cut (inl printed) = inr (inl (e, (ap told printed.0, record { before = run; end = line; cut = cut; printed = printed.2 })))
+says_last (Err e) part run line ended cut (inr wanting) = inr (inr (inr (ap told wanting.0)))
 
 never_rose : Rose 0 0 → ⊥
 never_rose rose = absurd (let less : 0 < 0 = rose (omega arith) in omega arith)
@@ -466,6 +469,7 @@ module _ (steady : Bool) (world : Question → Outcome) (q : Request) (patience 
 pub archive_promises : (steady : Bool) (world : Question → Outcome) (patience : Option ℕ) (turned : ℕ) (part : List Event) (ended : Ended) (words : Result Wish BadWord) → IfArchives words (λ q. Archived steady world q patience turned part ended) → IfArchives words (λ q. ArchivePromises steady world q patience turned part ended)
 archive_promises steady world patience turned part ended (Ok (Compiles q)) h = tt
 archive_promises steady world patience turned part ended (Ok (Archives q)) h = archive_promised steady world q patience turned part ended h
+archive_promises steady world patience turned part ended (Ok (Generates n)) h = tt
 archive_promises steady world patience turned part ended (Err bad) h = tt
 
 -- ---- by the job
@@ -474,10 +478,12 @@ archive_promises steady world patience turned part ended (Err bad) h = tt
 pub of_compile : (job : Job) (name : List ℕ) (build : BuildSeen) (ended : Ended) (look : Look) (part : List Event) (c : Course) → job ≡ Compile name → IsAnswer (name_of job, build) ended look part c → IsAnswerOf (wish_of job build) ended look part c
 of_compile (Compile n) name build ended look part c is h = h
 of_compile (Archive n) name build ended look part c is h = absurd (cc)
+of_compile (Generate n) name build ended look part c is h = absurd (cc)
 
 -- a job that archives asks what its wish does
 pub of_archive : (job : Job) (name : List ℕ) (build : BuildSeen) (steady : Bool) (world : Question → Outcome) (patience : Option ℕ) (turned : ℕ) (part : List Event) (ended : Ended) → job ≡ Archive name → Archived steady world (name_of job, build) patience turned part ended → AsksWish steady world (wish_of job build) part
 of_archive (Compile n) name build steady world patience turned part ended is h = absurd (cc)
+of_archive (Generate n) name build steady world patience turned part ended is h = absurd (cc)
 of_archive (Archive n) name build steady world patience turned part ended is h = archived_asks steady world (n, build) patience turned part ended h
 
 -- ---- nothing was asked
@@ -490,6 +496,9 @@ asked_wanting steady world log (Ok (Archives q)) =
     let none : since log log ≡ [] = part_is log log [] (sym (append-nil log)) in
     let b = build_in q (since log log) in
     ([], [], (none, asked_none steady world (probes (alone b)) (RunAsks (alone b).config (alone b).env) [] refl, asked_none steady world (probes b) (RunAsks b.config b.env) [] refl))
+asked_wanting steady world log (Ok (Generates n)) =
+    let none : since log log ≡ [] = part_is log log [] (sym (append-nil log)) in
+    ap question_events none
 asked_wanting steady world log (Err bad) =
     let none : since log log ≡ [] = part_is log log [] (sym (append-nil log)) in
     ap question_events none

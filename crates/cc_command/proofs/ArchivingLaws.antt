@@ -1,4 +1,6 @@
 -- How an archive and its link lines make up one list of stages.
+use Rattle.cc_build.specs.Way.{Firsts, all_firsts}
+use Rattle.cc_plan.specs.Reruns.{rerun_names}
 use Rattle.std.proofs.Common.{◌≡◌, ◌⊎◌, inl, inr, ℕ, List, [], ◌∷◌, ◌++◌, Bool, true, if◌then◌else◌, is_some, Option, Some, None, option_map, Result, Ok, Err, refl, sym, ◌∙◌, ap, subst, append_assoc, append-nil}
 use Rattle.cc_host.specs.Question.{Look, Holds, answers}
 use Rattle.cc_host.specs.declared.event.Event.{Event}
@@ -11,7 +13,7 @@ use Rattle.cc_build.specs.Archiving.{unarchived_error, Creates}
 use Rattle.cc_build.specs.Build.{BuildSeen, AsksByRun}
 use Rattle.cc_build.specs.Course.{course_alone}
 use Rattle.cc_build.specs.Error.{ErrorSeen, no_memory}
-use Rattle.cc_build.specs.Linking.{DirectivesEnd, directive_stages, linked_name}
+use Rattle.cc_build.specs.Linking.{DirectivesEnd, directive_stages, linked_name, link_reads}
 use Rattle.cc_build.specs.Promises.{terms_for}
 use Rattle.cc_build.specs.Refusal.{plan_error}
 use Rattle.cc_build.specs.Stage.{Stage, asked_then, library_stages, links_of, printed_stages}
@@ -95,7 +97,7 @@ module _ (steady : Bool) (world : Question → Outcome) (b : BuildSeen) (patienc
   link_error = plan_error b.config b.env (library_at b output)
 
   abbrev lines_by : Look → List Stage
-  lines_by links = printed_stages true (links_of b.config b.env (linked_name (library_at b output)) (library_at b output) links)
+  lines_by links = printed_stages all_firsts (links_of b.config b.env (linked_name (library_at b output)) (library_at b output) links) (rerun_names link_reads b.config b.env links)
 
   -- the archive ended
   pub archive_ended : (part : List Event) (e : ErrorSeen) → AsksByRun steady world (alone b) part → AsksByRun steady world b [] → Holds (answers part) (λ look. Creates {T = List ℕ} (alone b) patience turns output (Err e) look part) → Archiving steady world b patience turns output part (Err e)
@@ -127,11 +129,11 @@ module _ (steady : Bool) (world : Question → Outcome) (b : BuildSeen) (patienc
         let d = k.under links agree.1 in
         let t = terms_for (alone b) (course_alone patience turns c.0) in
         let y = (course_alone patience turns c.0).after in
-        let all : d.0 ≡ true = d.1.0 repeats in (
+        let all : d.0 ≡ all_firsts = d.1.0 repeats in (
           c.0,
           c.1.0,
           linked_then t (unarchived_error (alone b).config (alone b).env output) first_error link_error (library_stages (alone b).config (alone b).env c.1.0 look output) (lines_by links)
               (archive_refusal (alone b).config (alone b).env look) (path_refusal (library_at b output)) (link_refusal b.config b.env links) made linked r (course_alone patience turns c.0).before y y c.1.1.0 c.1.1.1 c.1.1.2
-              (subst (λ (first : Bool). Ends t (first_of (option_map link_error (path_refusal (library_at b output))) (option_map link_error (link_refusal b.config b.env links))) (directive_stages b.config b.env links first (library_at b output)) linked r y y) all (d.1.1 t y)),
+              (subst (λ (firsts : Firsts). Ends t (first_of (option_map link_error (path_refusal (library_at b output))) (option_map link_error (link_refusal b.config b.env links))) (directive_stages b.config b.env links firsts (library_at b output)) linked r y y) all (d.1.1 t y)),
         );
   }

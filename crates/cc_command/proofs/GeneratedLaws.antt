@@ -74,7 +74,7 @@ not_wasm : (count : ℕ) → is_wasm_linux (target_info (gen_settings count) no_
 unfolding line_of lines is_wasm_linux
 not_wasm count = refl
 
-not_libtool : (count : ℕ) (look : Look) → is_libtool (archiver_of (gen_settings count) no_variables look) ≡ false
+pub not_libtool : (count : ℕ) (look : Look) → is_libtool (archiver_of (gen_settings count) no_variables look) ≡ false
 unfolding is_libtool archiver_of path_file_name split_last_component trim_trailing rsplit_once is_within
 not_libtool count look = refl
 

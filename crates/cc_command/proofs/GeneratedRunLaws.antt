@@ -17,7 +17,8 @@ use Rattle.cc_build.specs.Promises.{IsBuilt, Promises, terms_for, stages_for}
 use Rattle.cc_build.specs.Refusal.{refusal_error}
 use Rattle.cc_build.specs.Stage.{Stage, commands_in, has_libtool}
 use Rattle.cc_build.specs.Way.{Way}
-use Rattle.cc_build.specs.Went.{Terms, means, Halted}
+use Rattle.cc_build.specs.Went.{Terms, Means, means, Halted}
+use Rattle.cc_build.specs.declared.error.ErrorKind.TheVariants.{TurnsSpent}
 use Rattle.cc_build.proofs.FormLaws.{planned_first, halted_cause}
 use Rattle.cc_build.proofs.StopLaws.{HasCause, planned_plain}
 use Rattle.cc_build.proofs.TurnLaws.{halted_turns, halted_bound}
@@ -101,11 +102,56 @@ is_enough count turned log (Err e) small run enough =
     let p = promised.3 in
     inr (ap Err (wanted_memory count turned promised.0 promised.1 promised.2 log e some.0 p.way small run.plain enough p.outcome))
 
+-- ---- turns spent
+
+-- a run for which the turns were too few made as many
+spent_of : (count turned left taken load : ℕ) (log : List Event) (e : ErrorSeen) (look : Look) (way : Way) → count < 2 ^ 64 → IsPlainLog log → e.kind ≡ TurnsSpent → Halted (terms_for (gen_build count) (gen_course turned left taken load)) (refusal_error (gen_settings count) no_variables look gen_name) (stages_for (gen_build count) way look gen_name) log e (gen_course turned left taken load).before (gen_course turned left taken load).after → turns log ≡ turned
+spent_of count turned left taken load log e look way small plain kind halted =
+    by_cause (halted_cause run_terms libtool refused_by run_stages log e x y (planned_plain (gen_settings count) no_variables way look gen_name) (λ other. planned_first (gen_settings count) no_variables way look gen_name other) halted)
+  where
+    run_terms : Terms
+    run_terms = terms_for (gen_build count) (gen_course turned left taken load)
+
+    libtool : Bool
+    libtool = has_libtool (gen_settings count) no_variables look
+
+    refused_by : Option ErrorSeen
+    refused_by = refusal_error (gen_settings count) no_variables look gen_name
+
+    run_stages : List Stage
+    run_stages = stages_for (gen_build count) way look gen_name
+
+    x : Means
+    x = (gen_course turned left taken load).before
+
+    y : Means
+    y = (gen_course turned left taken load).after
+
+    by_cause : HasCause libtool refused_by log e x y → turns log ≡ turned
+    by_cause (inl memory) = absurd (let none : (no_memory).kind ≡ TurnsSpent = ap (λ (v : ErrorSeen). v.kind) (sym memory) ∙ kind in cc)
+    by_cause (inr (inl refused)) = absurd (no_refusal look (gen_settings count) no_variables gen_name e (gen_valid count look small) refused)
+    by_cause (inr (inr (inl fault))) = absurd (plain_faultless log plain fault)
+    by_cause (inr (inr (inr (inl failed)))) = absurd (plain_sound libtool log plain failed)
+    by_cause (inr (inr (inr (inr (inl rose))))) = absurd (let less : 0 < 0 = rose (omega arith) in omega arith)
+    by_cause (inr (inr (inr (inr (inr spent))))) =
+        let sum : left + turns log ≡ turned = halted_turns run_terms refused_by run_stages log e x y halted in
+        let none : left ≡ 0 = spent.1 in
+        omega arith
+
+is_spent : (count turned : ℕ) (log : List Event) (result : Result (Unit {0}) ErrorSeen) → count < 2 ^ 64 → PlainRun (gen_build count) turned log result → (e : ErrorSeen) → result ≡ Err e → e.kind ≡ TurnsSpent → turns log ≡ turned
+is_spent count turned log (Ok done) small run e is kind = absurd (cc)
+is_spent count turned log (Err f) small run e is kind =
+    let same : e ≡ f = cc in
+    let some = some_agree (answers log) run.once in
+    let promised = run.promises.under some.0 some.1 in
+    let p = promised.3 in
+    spent_of count turned promised.0 promised.1 promised.2 log f some.0 p.way small run.plain (ap (λ (v : ErrorSeen). v.kind) (sym same) ∙ kind) p.outcome
+
 -- a run of the build of so many sources
 pub generated_run : (count turned : ℕ) (b : BuildSeen) (log : List Event) (result : Result (Unit {0}) ErrorSeen) → count < 2 ^ 64 → b ≡ gen_build count → PlainRun b turned log result → GeneratedRun count turned log result
 generated_run count turned b log result small is run =
     let of_count = subst (λ b. PlainRun b turned log result) is run in
-    record { run = of_count; enough = is_enough count turned log result small of_count }
+    record { run = of_count; enough = is_enough count turned log result small of_count; spent = is_spent count turned log result small of_count }
 
 -- ---- its sources
 

@@ -2,6 +2,7 @@ pub mod AnswerLaws
 pub mod ArchivedLaws
 pub mod ArchivingLaws
 pub mod AskLaws
+pub mod CountLaws
 pub mod DottedPaths
 pub mod EnoughLaws
 pub mod FlagLaws
@@ -15,5 +16,8 @@ pub mod PromiseLaws
 pub mod RepeatLaws
 pub mod SettingLaws
 pub mod SettledPromises
+pub mod ShowLaws
 pub mod StartedPromises
+pub mod SummaryLaws
+pub mod SummedLaws
 pub mod WordLaws

@@ -15,7 +15,7 @@ use Rattle.cc_build.specs.Attempts.{all_tried, first_tried}
 use Rattle.cc_build.specs.Failed.{ran_badly, is_form, form_aside, unforgiven, Failed, is_fault, HasFault}
 
 -- the first event, and the others
-plain_cut : (event : Event) (part : List Event) → IsPlainLog (event ∷ part) → (is_plain event ≡ true) × IsPlainLog part
+pub plain_cut : (event : Event) (part : List Event) → IsPlainLog (event ∷ part) → (is_plain event ≡ true) × IsPlainLog part
 plain_cut event part p = and_parts (is_plain event) (list_all is_plain part) p
 
 no_missing : (part : List Event) → IsPlainLog part → missing part ≡ []

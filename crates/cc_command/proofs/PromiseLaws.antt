@@ -36,11 +36,11 @@ use Rattle.cc_build.proofs.PromiseLaws.{none_inside, fault_ends}
 use Rattle.cc_build.proofs.FormLaws.{FormFirst, planned_first, halted_cause}
 use Rattle.cc_build.proofs.StopLaws.{ArePlain, HasCause, planned_plain}
 use Rattle.cc_build.proofs.TurnLaws.{halted_turns, halted_bound}
-use Rattle.cc_command.specs.Answer.{Answers, AnswersBad, AnswersWords, IfCompiles, BuiltBy, Refused, PrintsLine, first_listing, heard, env_in, terms_of, terms_in, repeating, stages_of, error_of, error_line, word_line, is_wanting, ended_well, ended_refused, ended_wanting}
+use Rattle.cc_command.specs.Answer.{Answers, AnswersBad, AnswersWords, IfCompiles, BuiltBy, Refused, PrintsLine, first_listing, heard, env_in, terms_of, terms_in, repeating, stages_of, error_of, error_line, word_line, is_wanting, told, ended_well, ended_refused, ended_wanting}
 use Rattle.cc_command.specs.Promises.{PrintsLast, IsLine, Begun, IsBegun, ArchivesBehind, CompilesFirst, EndsAlone, FaultsLast, EndsSpent, IsComplete, IsEnough}
 use Rattle.cc_command.specs.Read.{Request, Wish}
-use Rattle.cc_command.specs.Read.Wish.{Compiles, Archives}
-use Rattle.cc_command.specs.declared.top.Ended.{Ended}
+use Rattle.cc_command.specs.Read.Wish.{Compiles, Archives, Generates}
+use Rattle.cc_command.specs.declared.ended.Ended.{Ended}
 use Rattle.cc_command.specs.declared.words.BadWord.{BadWord}
 use Rattle.cc_command.proofs.EnoughLaws.{planned_count, never_spent}
 
@@ -54,18 +54,19 @@ built_of look q part ended c (inr (inr wanting)) zero_is = let s : ended.status 
 pub headline : (look : Look) (words : Result Wish BadWord) (part : List Event) (ended : Ended) (c : Course) → AnswersWords look words part ended c → IfCompiles words (λ request. ended.status ≡ 0 → BuiltBy look request part c)
 headline look (Ok (Compiles q)) part ended c a = built_of look q part ended c a
 headline look (Ok (Archives q)) part ended c a = tt
+headline look (Ok (Generates n)) part ended c a = tt
 headline look (Err bad) part ended c a = tt
 
 -- ---- the line of it is last
 
 pub request_last : (look : Look) (q : Request) (part : List Event) (ended : Ended) (c : Course) → Answers look q part ended c → PrintsLast part ended
-request_last look q part ended c (inl well) = inl well.0
-request_last look q part ended c (inr (inl r)) = inr (inl (r.error, (r.is, record { before = r.run; end = r.line; cut = r.cut; printed = r.printed })))
-request_last look q part ended c (inr (inr wanting)) = inr (inr (inr wanting.0))
+request_last look q part ended c (inl well) = inl (ap told well.0)
+request_last look q part ended c (inr (inl r)) = inr (inl (r.error, (ap told r.is, record { before = r.run; end = r.line; cut = r.cut; printed = r.printed })))
+request_last look q part ended c (inr (inr wanting)) = inr (inr (inr (ap told wanting.0)))
 
 pub word_last : (bad : BadWord) (part : List Event) (ended : Ended) → AnswersBad bad part ended → PrintsLast part ended
-word_last bad part ended (inl printed) = inr (inr (inl (bad, (printed.0, record { before = []; end = part; cut = refl; printed = printed.1 }))))
-word_last bad part ended (inr wanting) = inr (inr (inr wanting.0))
+word_last bad part ended (inl printed) = inr (inr (inl (bad, (ap told printed.0, record { before = []; end = part; cut = refl; printed = printed.1 }))))
+word_last bad part ended (inr wanting) = inr (inr (inr (ap told wanting.0)))
 
 pub line_of : (line : List ℕ) (part : List Event) → PrintsLine line part → IsLine part
 line_of line part (inl printed) = inr (inl (line, printed))
@@ -95,6 +96,7 @@ begun_of look q part ended c (inr (inr wanting)) = record {
 pub is_begun : (look : Look) (words : Result Wish BadWord) (part : List Event) (ended : Ended) (c : Course) → AnswersWords look words part ended c → IsBegun look words part c
 is_begun look (Ok (Compiles q)) part ended c a = begun_of look q part ended c a
 is_begun look (Ok (Archives q)) part ended c a = tt
+is_begun look (Ok (Generates n)) part ended c a = tt
 is_begun look (Err bad) part ended c a = tt
 
 -- ---- the line behind a run
@@ -199,6 +201,7 @@ order_of look q part c b before after event is archive =
 pub compiles_first : (look : Look) (words : Result Wish BadWord) (part : List Event) (ended : Ended) (c : Course) → AnswersWords look words part ended c → CompilesFirst look words part c
 compiles_first look (Ok (Compiles q)) part ended c a = order_of look q part c (begun_of look q part ended c a)
 compiles_first look (Ok (Archives q)) part ended c a = tt
+compiles_first look (Ok (Generates n)) part ended c a = tt
 compiles_first look (Err bad) part ended c a = tt
 
 -- ---- a fault is last
@@ -339,6 +342,7 @@ complete_of look q part ended c (inr (inr wanting)) valid failed fault rose = in
 pub complete : (look : Look) (words : Result Wish BadWord) (part : List Event) (ended : Ended) (c : Course) → AnswersWords look words part ended c → IsComplete look words part ended c
 complete look (Ok (Compiles q)) part ended c a = λ valid failed fault rose. complete_of look q part ended c a valid failed fault rose
 complete look (Ok (Archives q)) part ended c a = tt
+complete look (Ok (Generates n)) part ended c a = tt
 complete look (Err bad) part ended c a = tt
 
 -- ---- the turns are enough
@@ -372,4 +376,5 @@ enough_of look q part ended c (inr (inl r)) total p one patient enough spent =
 pub enough : (look : Look) (words : Result Wish BadWord) (part : List Event) (ended : Ended) (c : Course) → AnswersWords look words part ended c → IsEnough look words part ended c
 enough look (Ok (Compiles q)) part ended c a = enough_of look q part ended c a
 enough look (Ok (Archives q)) part ended c a = tt
+enough look (Ok (Generates n)) part ended c a = tt
 enough look (Err bad) part ended c a = tt

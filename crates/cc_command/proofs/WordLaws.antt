@@ -1,11 +1,13 @@
 -- One word more, in the order of the words.
-use Rattle.std.proofs.Common.{◌≡◌, ℕ, suc, ◌+◌, ◌<◌, List, [], ◌∷◌, ◌++◌, length, take, drop, get_or, map, Option, Some, None, Ok, true, refl, sym, ◌∙◌, ap, add-one, arith}
+use Rattle.std.proofs.Common.{◌≡◌, ℕ, suc, ◌+◌, ◌<◌, List, [], ◌∷◌, ◌++◌, length, take, drop, get_or, map, Bool, true, false, ◌&&◌, if◌then◌else◌, nat_lt, ◌^◌, Option, Some, None, Ok, refl, sym, ◌∙◌, ap, ap₂, subst, add-one, arith}
 use Rattle.std.proofs.Math.Seq.{drop-cons}
+use Rattle.std.specs.Str.Parse.{digits_value}
+use Rattle.std.proofs.lemmas.Fmt.{decimal_is_IsNumeral}
 use Rattle.std.proofs.lemmas.Grind.{take_at_read}
 use Rattle.std.proofs.lemmas.List.{map-append}
 use Rattle.cc_plan.specs.Settings.{unset_settings}
 use Rattle.cc_build.specs.Build.{BuildSeen}
-use Rattle.cc_command.specs.Read.{bad_at, bad_or, bad_word, first_bad, word_cause, values, settings_of, IsJobOf, wish_by, wish_of, read}
+use Rattle.cc_command.specs.Read.{bad_at, bad_or, bad_word, first_bad, word_cause, values, settings_of, IsJobOf, wish_by, wish_of, is_count, IsCountOf, IsNumberOf, taken, further, read_named, read_count, refusal_of}
 use Rattle.cc_command.specs.SetsKey.{ReadsSettings}
 use Rattle.cc_command.specs.Step.{with_word}
 use Rattle.cc_command.specs.declared.words.BadWord.{BadWord}
@@ -13,6 +15,8 @@ use Rattle.cc_command.specs.declared.words.Job.{Job}
 use Rattle.cc_command.specs.declared.words.ReadError.{ReadError}
 use Rattle.cc_command.specs.declared.words.ReadError.TheVariants.{Bad}
 use Rattle.cc_command.specs.declared.words.WordCause.{WordCause}
+use Rattle.cc_command.specs.declared.words.WordCause.TheVariants.{BadValue}
+use Rattle.cc_command.specs.Read.Wish.{Generates}
 use Rattle.cc_command.proofs.SettingLaws.{next_settings}
 
 -- before the first word nothing is set but that lines are repeated
@@ -43,5 +47,39 @@ module _ {A : Type 0} (text : A → List ℕ) (words : List A) (i : ℕ) (word :
       set ∙ ap (λ s. with_word s (text word)) before ∙ sym (next_settings (map text (take i words)) (text word)) ∙ ap settings_of (sym (ap (map text) more ∙ map-append text (take i words) (word ∷ [])))
 
 -- words with such a job, which are good
-pub reads_so : (command name : List ℕ) (words : List (List ℕ)) (job : Job) (build : BuildSeen) → IsJobOf command name job → ReadsSettings words build → read (command ∷ name ∷ words) ≡ Ok (wish_of job build)
+pub reads_so : (command name : List ℕ) (words : List (List ℕ)) (job : Job) (build : BuildSeen) → IsJobOf command name job → ReadsSettings words build → read_named command name words ≡ Ok (wish_of job build)
 reads_so command name words job build k r = rw (k.0, r.0) (ap Ok (ap (λ (b : BuildSeen). wish_by command (name, b)) (sym r.1) ∙ sym (k.1 build)))
+
+-- the settings of words repeat their lines
+pub repeats_so : (words : List (List ℕ)) (build : BuildSeen) → ReadsSettings words build → build.config.repeat_lines ≡ true
+repeats_so words build r = ap (λ (b : BuildSeen). b.config.repeat_lines) r.1
+
+-- ---- a large run
+
+-- a number that is taken is the one of its decimal form
+pub taken_is : (text : List ℕ) (n : ℕ) (r : Option ℕ) → n < 2 ^ 64 → IsNumberOf text (Some n) → r ≡ taken n → IsCountOf text r
+taken_is text n r small number is = subst (IsCountOf text) (sym is) (by_test (nat_lt 0 n && nat_lt n 10001) refl)
+  where
+    value : digits_value 10 text ≡ n
+    value = ap (digits_value 10) (sym number.1) ∙ (decimal_is_IsNumeral n small).1
+
+    test_is : is_count text ≡ (nat_lt 0 n && nat_lt n 10001)
+    test_is = ap₂ (λ a d. a && (nat_lt 0 d && nat_lt d 10001)) number.0 value
+
+    by_test : (b : Bool) → (nat_lt 0 n && nat_lt n 10001) ≡ b → IsCountOf text (if b then Some n else None)
+    by_test true t = (test_is ∙ t, value)
+    by_test false f = test_is ∙ f
+
+pub none_taken : (text : List ℕ) → IsNumberOf text None → IsCountOf text None
+none_taken text number = ap (λ b. b && (nat_lt 0 (digits_value 10 text) && nat_lt (digits_value 10 text) 10001)) number
+
+-- such a number with no word behind it
+pub counts_so : (number : List ℕ) (words : List (List ℕ)) (n : ℕ) → IsCountOf number (Some n) → words ≡ [] → read_count number words ≡ Ok (Generates n)
+counts_so number words n k none = rw (k.0, none) (ap (λ m. Ok (Generates m)) k.1)
+
+pub counts_further : (number : List ℕ) (words : List (List ℕ)) (n : ℕ) (e : ReadError) → IsCountOf number (Some n) → bad_word (further words) ≡ Some e → refusal_of (read_count number words) ≡ Some e
+counts_further number [] n e k bad = absurd (cc)
+counts_further number (word ∷ words) n e k bad = rw k.0 bad
+
+pub counts_none : (number : List ℕ) (words : List (List ℕ)) (e : ReadError) → IsCountOf number None → e ≡ Bad (bad_at 1 BadValue) → refusal_of (read_count number words) ≡ Some e
+counts_none number words e k is = rw k (ap Some (sym is))

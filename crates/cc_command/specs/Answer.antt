@@ -18,17 +18,17 @@ use Rattle.cc_build.specs.Error.{ErrorSeen}
 use Rattle.cc_build.specs.Shows.{shows_of}
 use Rattle.cc_build.specs.Stage.{Stage, planned_stages}
 use Rattle.cc_build.specs.Stage.Stage.{Calls}
-use Rattle.cc_build.specs.Way.{Way}
+use Rattle.cc_build.specs.Way.{Way, all_firsts}
 use Rattle.cc_build.specs.Went.{Terms, Means, terms, Went, Halted}
 use Rattle.cc_build.specs.declared.error.ErrorKind.{ErrorKind}
 use Rattle.cc_build.specs.declared.error.ErrorKind.TheVariants.{NoMemory}
 use Rattle.cc_build.specs.Refusal.{refusal_error}
 use Rattle.cc_command.specs.Read.{Request, Wish, read}
-use Rattle.cc_command.specs.Read.Wish.{Compiles, Archives}
+use Rattle.cc_command.specs.Read.Wish.{Compiles, Archives, Generates}
 use Rattle.cc_command.specs.declared.words.BadWord.{BadWord}
 use Rattle.cc_command.specs.declared.words.WordCause.{WordCause}
 use Rattle.cc_command.specs.declared.words.WordCause.TheVariants.{NoCommand, UnknownCommand, NoName, NoValue, UnknownKey, BadValue}
-use Rattle.cc_command.specs.declared.top.Ended.{Ended}
+use Rattle.cc_command.specs.declared.ended.Ended.{Ended}
 
 abbrev pub cause_text : WordCause → List ℕ
 cause_text NoCommand = codes "no command"
@@ -52,19 +52,23 @@ PrintsLine line part = (part ≡ Printed FaultLine line ∷ []) ⊎ ((why : Why)
 
 -- status 0: neither an error nor a word
 abbrev pub ended_well : Ended
-ended_well = record { status = 0; error = None; word = None }
+ended_well = record { status = 0; error = None; word = None; bench = None }
 
 -- status 1: the error
 abbrev pub ended_refused : ErrorSeen → Ended
-ended_refused e = record { status = 1; error = Some e; word = None }
+ended_refused e = record { status = 1; error = Some e; word = None; bench = None }
 
 -- status 2: the bad word
 abbrev pub ended_bad : BadWord → Ended
-ended_bad bad = record { status = 2; error = None; word = Some bad }
+ended_bad bad = record { status = 2; error = None; word = Some bad; bench = None }
 
 -- status 3: neither
 abbrev pub ended_wanting : Ended
-ended_wanting = record { status = 3; error = None; word = None }
+ended_wanting = record { status = 3; error = None; word = None; bench = None }
+
+-- an end without the host of a large run, if it has one
+abbrev pub told : Ended → Ended
+told ended = record ended { bench = None }
 
 -- want of memory tells no more
 abbrev pub is_wanting : ErrorKind → Bool
@@ -96,9 +100,9 @@ heard part = first_listing (listings part)
 abbrev pub env_in : Request → List Event → EnvSeen
 env_in request part = with_vars request.1.env (heard part)
 
--- The settings of words repeat their lines: a run warns of flags for the linker whenever it leaves some off, and prints all link lines.
+-- The settings of words repeat their lines: a run warns of flags for the linker whenever it leaves some off, and prints all lines for Cargo.
 abbrev pub repeating : Bool → Way
-repeating is_plain = record { warns_of_link = true; is_plain = is_plain; is_first = true }
+repeating is_plain = record { warns_of_link = true; is_plain = is_plain; firsts = all_firsts }
 
 -- The stages of a request: the host lists its variables, then come those of the compile run. `is_plain` says whether the first form of its archive was
 -- refused.
@@ -147,18 +151,29 @@ AnswersBad bad part ended = ((ended ≡ ended_bad bad) × PrintsLine (word_line 
 abbrev pub IfCompiles : Result Wish BadWord → (Request → Type 0) → Type 0
 IfCompiles (Ok (Compiles request)) fact = fact request
 IfCompiles (Ok (Archives request)) fact = Unit {0}
+IfCompiles (Ok (Generates count)) fact = Unit {0}
 IfCompiles (Err bad) fact = Unit {0}
 
 -- a fact of an archive alone, where they wish that
 abbrev pub IfArchives : Result Wish BadWord → (Request → Type 0) → Type 0
 IfArchives (Ok (Compiles request)) fact = Unit {0}
 IfArchives (Ok (Archives request)) fact = fact request
+IfArchives (Ok (Generates count)) fact = Unit {0}
 IfArchives (Err bad) fact = Unit {0}
 
--- Words that wish a compile run, or are bad, were answered. Those that can't be read for want of memory ask for nothing.
+-- a fact of a large run, where they wish one of so many sources
+abbrev pub IfGenerates : Result Wish BadWord → (ℕ → Type 0) → Type 0
+IfGenerates (Ok (Compiles request)) fact = Unit {0}
+IfGenerates (Ok (Archives request)) fact = Unit {0}
+IfGenerates (Ok (Generates count)) fact = fact count
+IfGenerates (Err bad) fact = Unit {0}
+
+-- Words that wish a compile run, or are bad, were answered. Those that can't be read for want of memory ask for nothing. A large run takes no token and
+-- makes no turn but its own.
 abbrev pub AnswersWords : Look → Result Wish BadWord → List Event → Ended → Course → Type 0
 AnswersWords look (Ok (Compiles request)) part ended c = Answers look request part ended c
 AnswersWords look (Ok (Archives request)) part ended c = Unit {0}
+AnswersWords look (Ok (Generates count)) part ended c = c.after ≡ c.before
 AnswersWords look (Err bad) part ended c = AnswersBad bad part ended × (c.after ≡ c.before)
 
 -- what the words ask for, or the first bad one

@@ -1,5 +1,7 @@
 -- An archive alone: what the program does for it, and what it answers.
-use Rattle.std.specs.Prelude.{◌≡◌, ◌⊎◌, ◌≤◌, ◌*◌, ◌+◌, ℕ, List, [], ◌∷◌, ◌++◌, length, map, Bool, true, Option, Some, None, is_some, Result, Ok, Err, if◌then◌else◌}
+use Rattle.cc_build.specs.Way.{all_firsts}
+use Rattle.cc_plan.specs.Reruns.{rerun_names}
+use Rattle.std.specs.Prelude.{◌≡◌, ◌⊎◌, ◌≤◌, ◌*◌, ◌+◌, ℕ, List, [], ◌∷◌, ◌++◌, length, map, Bool, Option, Some, None, is_some, Result, Ok, Err, if◌then◌else◌}
 use Rattle.cc_host.specs.Question.{Look, Agrees, answers}
 use Rattle.cc_host.specs.Part.Step.{Lists}
 use Rattle.cc_host.specs.declared.event.Event.{Event}
@@ -17,7 +19,7 @@ use Rattle.cc_build.specs.Built.{ended_well as all_ended}
 use Rattle.cc_build.specs.Course.{course_alone}
 use Rattle.cc_build.specs.Error.{ErrorSeen}
 use Rattle.cc_build.specs.Failed.{Failed, HasFault}
-use Rattle.cc_build.specs.Linking.{linked_name, directive_error}
+use Rattle.cc_build.specs.Linking.{linked_name, directive_error, link_reads}
 use Rattle.cc_build.specs.Promises.{terms_for, AreFirst}
 use Rattle.cc_build.specs.Refusal.{archive_error}
 use Rattle.cc_build.specs.Shows.{shows_of}
@@ -27,7 +29,7 @@ use Rattle.cc_build.specs.Went.{Went, Ends}
 use Rattle.cc_command.specs.Answer.{AnswersError, env_in, ended_well, ended_wanting}
 use Rattle.cc_command.specs.Promises.{EndsSpent}
 use Rattle.cc_command.specs.Read.{Request}
-use Rattle.cc_command.specs.declared.top.Ended.{Ended}
+use Rattle.cc_command.specs.declared.ended.Ended.{Ended}
 
 -- the build without its sources, so that its added objects alone are archived
 abbrev pub alone : BuildSeen → BuildSeen
@@ -37,10 +39,10 @@ alone b = with_objects b []
 abbrev pub library_at : BuildSeen → List ℕ → List ℕ
 library_at b output = library_of (alone b).config (alone b).env output
 
--- the link lines of the library at a path are planned by questions, and printed
+-- the link lines of the library at a path are planned by questions, and printed with those of the variables that were read
 abbrev pub directed_stages : BuildSeen → Look → List ℕ → List Stage
 directed_stages b links library =
-    asked_then (first_of (path_refusal library) (link_refusal b.config b.env links)) (printed_stages true (links_of b.config b.env (linked_name library) library links))
+    asked_then (first_of (path_refusal library) (link_refusal b.config b.env links)) (printed_stages all_firsts (links_of b.config b.env (linked_name library) library links) (rerun_names link_reads b.config b.env links))
 
 -- The stages of an archive and of its link lines. The archive goes by some verdicts, the link lines by those of their own questions.
 abbrev pub archive_stages : BuildSeen → Bool → Look → Look → List ℕ → List Stage

@@ -10,7 +10,7 @@ use Rattle.cc_command.specs.Answer.{env_in}
 use Rattle.cc_build.specs.Build.{AsksByRun}
 use Rattle.cc_command.specs.Archived.{alone, build_in}
 use Rattle.cc_command.specs.Read.{Request, Wish}
-use Rattle.cc_command.specs.Read.Wish.{Compiles, Archives}
+use Rattle.cc_command.specs.Read.Wish.{Compiles, Archives, Generates}
 use Rattle.cc_command.specs.declared.words.BadWord.{BadWord}
 
 -- Each question of a request is one that its run asks. Probe files lie in its out dir, else in the temp folder.
@@ -23,9 +23,11 @@ abbrev pub AsksAlone : Bool → (Question → Outcome) → Request → List Even
 AsksAlone steady world request part =
     (made linked : List Event) × ((part ≡ made ++ linked) × AsksByRun steady world (alone (build_in request part)) made × AsksByRun steady world (build_in request part) linked)
 
+-- a large run asks on a host of its own
 abbrev pub AsksWish : Bool → (Question → Outcome) → Wish → List Event → Type 0
 AsksWish steady world (Compiles request) part = AsksFor steady world request part
 AsksWish steady world (Archives request) part = AsksAlone steady world request part
+AsksWish steady world (Generates count) part = question_events part ≡ []
 
 -- words that can't be read ask nothing
 abbrev pub AsksWords : Bool → (Question → Outcome) → Result Wish BadWord → List Event → Type 0

@@ -1,6 +1,5 @@
 -- A large run from a number: its settings, what it comes to, and the lines that sum it up.
 use Rattle.std.specs.Prelude.{◌≡◌, ◌⊎◌, ◌≤◌, ◌+◌, ◌*◌, ℕ, zero, suc, List, [], ◌∷◌, ◌++◌, Some, true, length, codes, Result, Ok, Err}
-use Prim.Native.String.{String}
 use Rattle.std.specs.Fmt.{decimal}
 use Rattle.cc_env.specs.Env.{EnvSeen}
 use Rattle.cc_host.specs.Question.{Look, answers, Holds, NoTwice}
@@ -10,11 +9,13 @@ use Rattle.cc_plan.specs.Batches.{batches_of}
 use Rattle.cc_plan.specs.Plan.{archived_of}
 use Rattle.cc_plan.specs.Settings.{unset_settings}
 use Rattle.cc_plan.specs.declared.settings.BuildConfig.{BuildConfig}
+use Rattle.cc_run.specs.Part.{turns as turns_of}
 use Rattle.cc_build.specs.Build.{BuildSeen}
 use Rattle.cc_build.specs.Course.{Course, course}
 use Rattle.cc_build.specs.Error.{ErrorSeen, no_memory}
 use Rattle.cc_build.specs.Promises.{IsBuilt, Promises}
 use Rattle.cc_build.specs.Went.{means}
+use Rattle.cc_build.specs.declared.error.ErrorKind.TheVariants.{TurnsSpent}
 
 -- the source of a number
 abbrev pub gen_source : ℕ → List ℕ
@@ -79,17 +80,23 @@ pub record GeneratedRun (count turns : ℕ) (log : List Event) (result : Result 
   pub run : PlainRun (gen_build count) turns log result
   -- with two turns for each source and two more it is done, or memory was wanted
   pub enough : 2 * count + 2 ≤ turns → (result ≡ Ok tt) ⊎ (result ≡ Err no_memory)
+  -- where the turns are spent, as many were made
+  pub spent : (e : ErrorSeen) → result ≡ Err e → e.kind ≡ TurnsSpent → turns_of log ≡ turns
 
 -- the paths of the objects, in order
 abbrev pub gen_objects : ℕ → List (List ℕ)
 gen_objects count = archived_of (gen_settings count) no_variables
 
 -- a name with its number, as it is printed
-abbrev pub counted_line : String → ℕ → List ℕ
-counted_line name count = codes name ++ codes " " ++ decimal count ++ 10 ∷ []
+abbrev pub counted_line : List ℕ → ℕ → List ℕ
+counted_line name count = name ++ codes " " ++ decimal count ++ 10 ∷ []
+
+-- five numbers, each with its name
+abbrev pub counted_lines : ℕ → ℕ → ℕ → ℕ → ℕ → List (List ℕ)
+counted_lines sources compiles archives indexes links =
+    counted_line (codes "sources") sources ∷ counted_line (codes "compiles") compiles ∷ counted_line (codes "archives") archives
+    ∷ counted_line (codes "indexes") indexes ∷ counted_line (codes "links") links ∷ []
 
 -- the lines that sum up a run that is done: its sources, and the commands and the link lines that they come to
 unfoldable pub summary : ℕ → List (List ℕ)
-summary count =
-    counted_line "sources" count ∷ counted_line "compiles" count ∷ counted_line "archives" (length (batches_of (gen_objects count)))
-    ∷ counted_line "indexes" 1 ∷ counted_line "links" 2 ∷ []
+summary count = counted_lines count count (length (batches_of (gen_objects count))) 1 2

@@ -6,3 +6,4 @@ pub mod Promises
 pub mod Read
 pub mod SetsKey
 pub mod Step
+pub mod Summary

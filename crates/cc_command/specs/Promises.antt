@@ -23,9 +23,9 @@ use Rattle.cc_build.specs.Stage.{folder_stages, compile_stages, has_libtool}
 use Rattle.cc_build.specs.Stage.Stage.{Asks, Calls}
 use Rattle.cc_build.specs.Went.{Goes, Partly}
 use Rattle.cc_build.specs.declared.error.ErrorKind.TheVariants.{TurnsSpent, ToolExecError}
-use Rattle.cc_command.specs.Answer.{PrintsLine, IfCompiles, AnswersWords, BuiltBy, asked_for, env_in, terms_in, stages_of, error_line, word_line, ended_well, ended_refused, ended_bad, ended_wanting}
+use Rattle.cc_command.specs.Answer.{PrintsLine, IfCompiles, AnswersWords, BuiltBy, asked_for, env_in, terms_in, stages_of, error_line, word_line, told, ended_well, ended_refused, ended_bad, ended_wanting}
 use Rattle.cc_command.specs.Read.{Request, Wish}
-use Rattle.cc_command.specs.declared.top.Ended.{Ended}
+use Rattle.cc_command.specs.declared.ended.Ended.{Ended}
 use Rattle.cc_command.specs.declared.words.BadWord.{BadWord}
 
 -- Status 0 means that the host listed its variables, and that the library of the words is built with their snapshot.
@@ -42,10 +42,10 @@ pub record EndsWith (line : List ℕ) (part : List Event) : Type 0 where
 -- With status 1 there is the error and no word, with 2 the word and no error, and the part ends with the line of it. Else there is neither.
 abbrev pub PrintsLast : List Event → Ended → Type 0
 PrintsLast part ended =
-    (ended ≡ ended_well)
-    ⊎ (((e : ErrorSeen) × ((ended ≡ ended_refused e) × EndsWith (error_line e) part))
-    ⊎ (((bad : BadWord) × ((ended ≡ ended_bad bad) × EndsWith (word_line bad) part))
-    ⊎ (ended ≡ ended_wanting)))
+    (told ended ≡ ended_well)
+    ⊎ (((e : ErrorSeen) × ((told ended ≡ ended_refused e) × EndsWith (error_line e) part))
+    ⊎ (((bad : BadWord) × ((told ended ≡ ended_bad bad) × EndsWith (word_line bad) part))
+    ⊎ (told ended ≡ ended_wanting)))
 
 -- nothing, or a line of kind Fault, or the fault of its print
 abbrev pub IsLine : List Event → Type 0

@@ -1,4 +1,4 @@
--- What the words of the program ask for: `compile NAME key=value ...` or `archive NAME key=value ...`.
+-- What the words of the program ask for: `compile NAME key=value ...`, `archive NAME key=value ...` or `generate N`.
 use Rattle.std.specs.Prelude.{◌≡◌, ℕ, ◌+◌, ◌^◌, List, [], ◌∷◌, ◌++◌, Bool, true, false, ◌&&◌, ◌||◌, fold, map, Option, Some, None, Result, Ok, Err, is_some, nat_lt, codes, bytes_eq, unwrap_or, if◌then◌else◌}
 use Prim.Native.String.{String}
 use Rattle.std.specs.Fmt.{decimal}
@@ -13,7 +13,8 @@ use Rattle.cc_command.specs.declared.words.BadWord.{BadWord}
 use Rattle.cc_command.specs.declared.words.WordCause.{WordCause}
 use Rattle.cc_command.specs.declared.words.WordCause.TheVariants.{NoCommand, UnknownCommand, NoName, NoValue, UnknownKey, BadValue}
 use Rattle.cc_command.specs.declared.words.Job.{Job}
-use Rattle.cc_command.specs.declared.words.Job.TheVariants.{Compile, Archive}
+use Rattle.cc_command.specs.Generated.{gen_name}
+use Rattle.cc_command.specs.declared.words.Job.TheVariants.{Compile, Archive, Generate}
 use Rattle.cc_command.specs.declared.words.ReadError.{ReadError}
 use Rattle.cc_command.specs.declared.words.ReadError.TheVariants.{Bad}
 
@@ -222,45 +223,94 @@ settings_of words = record {
 abbrev pub Request : Type 0
 Request = List ℕ × BuildSeen
 
--- what is wished: a compile run, or an archive alone
+-- what is wished: a compile run, an archive alone, or a large run of so many sources
 pub data Wish : Type 0 where
   Compiles : Request → Wish
   Archives : Request → Wish
+  Generates : ℕ → Wish
 
 abbrev pub read_settings : (Request → Wish) → List ℕ → List (List ℕ) → Option BadWord → Result Wish BadWord
 read_settings wish name words (Some bad) = Err bad
 read_settings wish name words None = Ok (wish (name, settings_of words))
 
+-- a command that takes the name of a library
+abbrev pub takes_name : List ℕ → Bool
+takes_name command = is command "compile" || is command "archive"
+
 abbrev pub is_command : List ℕ → Bool
-is_command command = is command "compile" || is command "archive"
+is_command command = takes_name command || is command "generate"
 
 -- what a command wishes
 abbrev pub wish_by : List ℕ → Request → Wish
 wish_by command request = if is command "compile" then Wish.Compiles request else Wish.Archives request
 
--- the wish with its name and settings, or the first bad word
+-- the wish of a command with its name and settings, or the first bad word
+abbrev pub read_named : List ℕ → List ℕ → List (List ℕ) → Result Wish BadWord
+read_named command name words = if takes_name command then read_settings (wish_by command) name words (first_bad 2 words) else Err (bad_at 0 UnknownCommand)
+
+-- the decimal form of a number from 1 to 10000
+abbrev pub is_count : List ℕ → Bool
+is_count text = is_number text && (nat_lt 0 (digits_value 10 text) && nat_lt (digits_value 10 text) 10001)
+
+-- a number that a large run takes, or none
+abbrev pub taken : ℕ → Option ℕ
+taken n = if nat_lt 0 n && nat_lt n 10001 then Some n else None
+
+-- the text is the decimal form of this number, which a large run takes, or of none that it takes
+abbrev pub IsCountOf : List ℕ → Option ℕ → Type 0
+IsCountOf text None = is_count text ≡ false
+IsCountOf text (Some n) = (is_count text ≡ true) × (digits_value 10 text ≡ n)
+
+abbrev pub further_pair : Option (List ℕ × List ℕ) → WordCause
+further_pair None = NoValue
+further_pair (Some pair) = UnknownKey
+
+-- what is wrong with a word behind the number, whatever it is
+abbrev pub further_cause : List ℕ → WordCause
+further_cause word = further_pair (key_and_value word)
+
+-- the first word behind the number is bad
+abbrev pub further : List (List ℕ) → Option BadWord
+further [] = None
+further (word ∷ words) = Some (bad_at 2 (further_cause word))
+
+abbrev pub unless_further : ℕ → Option BadWord → Result Wish BadWord
+unless_further count (Some bad) = Err bad
+unless_further count None = Ok (Wish.Generates count)
+
+-- a large run of this number of sources, or the first bad word
+abbrev pub read_count : List ℕ → List (List ℕ) → Result Wish BadWord
+read_count number words = if is_count number then unless_further (digits_value 10 number) (further words) else Err (bad_at 1 BadValue)
+
+-- by the command, whether it takes a number or a name
+abbrev pub read_argued : List ℕ → List ℕ → List (List ℕ) → Result Wish BadWord
+read_argued command name words = if is command "generate" then read_count name words else read_named command name words
+
+-- what is wished, or the first bad word
 abbrev pub read : List (List ℕ) → Result Wish BadWord
 read [] = Err (bad_at 0 NoCommand)
 read (command ∷ []) = Err (if is_command command then bad_at 1 NoName else bad_at 0 UnknownCommand)
-read (command ∷ name ∷ words) = if is_command command then read_settings (wish_by command) name words (first_bad 2 words) else Err (bad_at 0 UnknownCommand)
+read (command ∷ name ∷ words) = read_argued command name words
 
 abbrev pub bad_word : Option BadWord → Option ReadError
 bad_word None = None
 bad_word (Some bad) = Some (Bad bad)
 
--- the name of the library of a job
+-- the name of the library of a job, which is known of a large run
 abbrev pub name_of : Job → List ℕ
 name_of (Compile name) = name
 name_of (Archive name) = name
+name_of (Generate count) = gen_name
 
 -- what a job with these settings wishes
 abbrev pub wish_of : Job → BuildSeen → Wish
 wish_of (Compile name) build = Wish.Compiles (name, build)
 wish_of (Archive name) build = Wish.Archives (name, build)
+wish_of (Generate count) build = Wish.Generates count
 
--- the command is there, and a job for the library of this name does what it wishes
+-- the command takes a name, and a job for the library of this name does what it wishes
 abbrev pub IsJobOf : List ℕ → List ℕ → Job → Type 0
-IsJobOf command name job = (is_command command ≡ true) × ((build : BuildSeen) → wish_of job build ≡ wish_by command (name, build))
+IsJobOf command name job = (takes_name command ≡ true) × ((build : BuildSeen) → wish_of job build ≡ wish_by command (name, build))
 
 abbrev pub refusal_of : Result Wish BadWord → Option ReadError
 refusal_of (Ok wish) = None

@@ -1,18 +1,22 @@
-//! The top call: words ask for a compile run, or an archive alone, which `drive` does on a host and over a pool.
+//! The top call: words ask for a compile run, an archive alone, or a large run from a number, which `drive` does.
 //!
 //! Stands on `cc_build` and the crates below it. `read_words` makes a request of the words, or tells the first bad one; `drive` reads them, captures
-//! the host's variables, compiles or archives, and prints why a run was refused. Its contract is the theorem of the repository, so whoever makes this call, with
-//! any host and any pool, has it: the program `cc_main` on the machine, the program `cc_rows` on a host in memory. `generate` runs a large build from a number.
+//! the host's variables, compiles or archives, and prints why a run was refused. `generate`, as a word and as a call, compiles generated sources on a host in
+//! memory of its own. The contract of `drive` is the theorem of the repository, so whoever makes this call, with any host and any pool, has it: the program
+//! `cc_main` on the machine, the program `cc_rows` on a host in memory.
 #![tactic(auto)]
 
 mod archive;
 mod commands;
+mod ended;
 mod large_run;
 mod reading;
+mod summary;
 mod top;
 mod words;
 
 pub use commands::read_words;
+pub use ended::{Ended, cause_text};
 pub use large_run::{Generated, generate};
-pub use top::{Ended, cause_text, drive};
+pub use top::drive;
 pub use words::{BadWord, Job, ReadError, Request, WordCause};

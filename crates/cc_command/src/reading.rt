@@ -13,8 +13,8 @@ use cc_host::World;
 use cc_text::{Mem, NoMemory, key_and_value};
 use std::alloc::Global;
 
-// The number of a text, where the text is its decimal form.
-fn number_of(alloc: Global, text: &str) -> Mem<Option<u32>>
+/// The number of a text, where the text is its decimal form.
+pub(crate) fn number_of(alloc: Global, text: &str) -> Mem<Option<u32>>
     ensures { IfOk result (λ n. IsNumberOf text.now n) }
 {
     match text.parse::<u32>() {

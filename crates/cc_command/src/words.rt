@@ -13,16 +13,16 @@ use std::alloc::Global;
 pub enum WordCause {
     /// There is no word at all. Its place is 0.
     NoCommand,
-    /// The first word is no command: neither `compile` nor `archive`. Its place is 0.
+    /// The first word is no command: neither `compile`, `archive` nor `generate`. Its place is 0.
     UnknownCommand,
-    /// The name of the library behind the command is missing. Its place is 1.
+    /// The name of the library behind the command is missing, or the number behind `generate`. Its place is 1.
     NoName,
     /// The word has no `=`, so it is no `key=value`.
     NoValue,
-    /// What stands before the first `=` is no key.
+    /// What stands before the first `=` is no key; behind the number of `generate` there is none.
     UnknownKey,
     /// The key doesn't take this value: a truth value that isn't `true` or `false`, a number that isn't its decimal form, or a value
-    /// without a second `=` where one is wanted.
+    /// without a second `=` where one is wanted. Or `generate` doesn't take this number: its place is 1.
     BadValue,
 }
 
@@ -42,16 +42,20 @@ pub enum Job {
     Compile(Text),
     /// Archive the added objects alone into the library of this name, as the words have it, and print how it is linked.
     Archive(Text),
+    /// Compile so many generated sources, from 1 to 10000, into the library `gen`, on a host in memory that the job makes: the host of the
+    /// run gives and gets nothing but the lines of the summary.
+    Generate(u32),
 }
 
 impl Job {
-    // The name of the library.
+    // The name of the library, which is known of a large run.
     pub(crate) fn name(&self) -> &str
         ensures { result.now ≡ name_of self.now }
     {
         match self {
             Job::Compile(name) => name.as_str(),
             Job::Archive(name) => name.as_str(),
+            Job::Generate(_) => "gen",
         }
     }
 }

@@ -1,5 +1,6 @@
-//! The command: its words ask for a compile run, or an archive alone, which it drives on the machine. Standard output bears the lines
-//! that Cargo reads from a build script (The Cargo Book, "Build Scripts"); `HELP` lists the words and the statuses.
+//! The command: its words ask for a compile run, an archive alone, or a large run from a number, which it drives on the machine. Standard
+//! output bears the lines that Cargo reads from a build script (The Cargo Book, "Build Scripts"), or those that sum a large run up; `HELP`
+//! lists the words and the statuses.
 //!
 //! Stands on `cc_command`, whose `drive` reads the words and runs what they ask for: that call carries the theorem
 //! of the repository. Here is what knows the process: its words, the host that runs processes, and a pool of the
@@ -28,10 +29,12 @@ Compiles C, C++ and assembly into a static library, and prints how Cargo links i
 
 usage: cc_main compile NAME key=value ...
        cc_main archive NAME key=value ...
+       cc_main generate N
 
 commands:
   compile NAME   compile the sources, and archive them into lib<NAME>.a
   archive NAME   archive the added objects alone into lib<NAME>.a
+  generate N     compile N generated sources, from 1 to 10000, on a host in memory, and sum up what that took
 
 keys that may stand again, each adding one:
   file=PATH              a source
@@ -64,7 +67,8 @@ keys of true or false:
   cpp  cpp_link_stdlib_static  pic  use_plt  static_crt  static_flag  shared_flag
   warnings  extra_warnings  warnings_into_errors
   no_default_flags  reproducible_codeview  shell_escaped_flags  cargo_metadata  cargo_warnings  cargo_output
-  cargo_debug  emit_rerun_if_env_changed  prefer_clang_cl_over_msvc  force_frame_pointer  inherit_rustflags  inherit_trim_paths
+  cargo_debug  prefer_clang_cl_over_msvc  force_frame_pointer  inherit_rustflags  inherit_trim_paths
+  emit_rerun_if_env_changed   whether Cargo is told of the variables that were read: where one changes, it runs the script again
 
 options:
   --help      print this text

@@ -1,7 +1,9 @@
+use Rattle.std.proofs.Common.{refl}
 use Rattle.cc_host.specs.Part.{since}
 use Rattle.cc_build.specs.Course.{course}
 use Rattle.cc_build.specs.Went.{means}
 use Rattle.cc_command.proofs.ArchivedLaws.{of_compile, of_archive}
+use Rattle.cc_command.proofs.SummedLaws.{of_generate, asks_generate, sums_generate}
 use Rattle.cc_command.proofs.top.serve.Goals as goal
 
 pub returns-in-Compile-clause-answer : goal.returns-in-Compile-clause-answer
@@ -19,3 +21,17 @@ pub returns-in-Archive-clause-asked : goal.returns-in-Archive-clause-asked
 returns-in-Archive-clause-asked g c =
     let part = since (g.H.Host.log c.args.host.now) (g.H.Host.log c.archive_alone.new.host) in
     of_archive c.args.request.now.job _ c.args.request.now.build g.W.World.steady g.W.World.answer (g.H.Host.patience c.args.host.now) c.args.turns part c.archive_alone.result c.in-Archive.is c.archive_alone.ensures.archived
+
+pub returns-in-Generate-clause-answer : goal.returns-in-Generate-clause-answer
+returns-in-Generate-clause-answer g c =
+    let part = since (g.H.Host.log c.args.host.now) (g.H.Host.log c.generate_alone.new.host) in
+    let left = means c.args.turns (g.J.Jobs.faults c.args.seat.now) (g.J.Jobs.taken c.args.seat.now) (g.J.Jobs.load c.args.seat.now) in
+    record { under = λ look agree. (c.args.turns, of_generate c.args.request.now.job _ c.args.request.now.build c.generate_alone.result look part (course (g.J.Jobs.total c.args.seat.now) (g.H.Host.patience c.args.host.now) left left) c.in-Generate.is refl) }
+
+pub returns-in-Generate-clause-asked : goal.returns-in-Generate-clause-asked
+returns-in-Generate-clause-asked g c =
+    asks_generate c.args.request.now.job _ c.args.request.now.build g.W.World.steady g.W.World.answer (since (g.H.Host.log c.args.host.now) (g.H.Host.log c.generate_alone.new.host)) c.in-Generate.is c.generate_alone.ensures.asks_none
+
+pub returns-in-Generate-clause-generated : goal.returns-in-Generate-clause-generated
+returns-in-Generate-clause-generated g c =
+    sums_generate c.args.request.now.job _ c.args.turns c.args.request.now.build (since (g.H.Host.log c.args.host.now) (g.H.Host.log c.generate_alone.new.host)) c.generate_alone.result c.in-Generate.is c.generate_alone.ensures.sums

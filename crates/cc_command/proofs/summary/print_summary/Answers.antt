@@ -1,0 +1,17 @@
+use Rattle.std.proofs.Common.{◌∙◌, List, ℕ, sym, subst, append-nil}
+use Rattle.cc_host.specs.Part.{since}
+use Rattle.cc_build.specs.Course.{CallsEnd}
+use Rattle.cc_build.proofs.Going.{part_is}
+use Rattle.cc_command.specs.Summary.{shows}
+use Rattle.cc_command.proofs.ShowLaws.{unsummed}
+use Rattle.cc_command.proofs.summary.print_summary.Goals as goal
+
+pub returns-in-Ok-clause-outcome : goal.returns-in-Ok-clause-outcome
+returns-in-Ok-clause-outcome g c =
+    let part = since (g.H.Host.log c.args.host.now) (g.H.Host.log c.print_lines.new.host) in
+    subst (λ (lines : List (List ℕ)). CallsEnd (shows lines) part c.print_lines.result) (c.as_slice.ensures ∙ c.in-Ok.ensures) c.print_lines.ensures.outcome
+
+pub returns-in-Err-clause-outcome : goal.returns-in-Err-clause-outcome
+returns-in-Err-clause-outcome g c =
+    let log = g.H.Host.log c.args.host.now in
+    unsummed c.args.count c.args.log.now (since log log) c.from.result (part_is log log _ (sym (append-nil log))) c.from.ensures

@@ -1,0 +1,261 @@
+// The job of a large run from a number: it is run, and what it came to is printed.
+ghost use Rattle.std.specs.Prelude.{◌≡◌, ◌⊎◌, ◌++◌, [], ◌∷◌, Some, IfOk, OnOk};
+ghost use Rattle.cc_host.specs.Call.{part};
+ghost use Rattle.cc_host.specs.Part.Step.{Prints};
+ghost use Rattle.cc_host.specs.Script.{same_role};
+ghost use Rattle.cc_host.specs.declared.event.HostCall.TheVariants.{Print};
+ghost use Rattle.cc_host.specs.declared.event.LineKind.TheVariants.{Shown};
+ghost use Rattle.cc_tool.specs.Asked.{question_events};
+ghost use Rattle.cc_build.specs.Course.{CallsEnd};
+ghost use Rattle.cc_build.specs.Error.{no_memory};
+ghost use Rattle.cc_build.specs.Kept.{Aside};
+ghost use Rattle.cc_build.specs.Stop.{fault_error, why_name as name_of_why};
+ghost use Rattle.cc_command.specs.Answer.{told};
+ghost use Rattle.cc_command.specs.Generated.{counted_line as line_of};
+ghost use Rattle.cc_command.specs.Summary.{begins as is_begun, counts as is_counted, links as is_link, number, log_lines, shows, print_error, SumsUp, Concludes, Sums};
+
+use crate::ended::{Ended, ended_done, ended_wanting, refuse};
+use crate::large_run::{Generated, generate};
+use cc_build::{Error, ErrorKind};
+use cc_host::{Event, Host, HostError, LineKind, Role, Why, World};
+use cc_text::{Mem, NoMemory, Text, Words};
+use std::alloc::Global;
+use std::sync::Wait;
+
+// What is counted in a log: commands of a role that begin, or link lines.
+#[derive(Clone, Copy)]
+enum Counted {
+    Commands(Role),
+    Links,
+}
+
+fn is_same_role(a: Role, b: Role) -> bool
+    ensures { result ≡ same_role a b }
+{
+    a == b
+}
+
+// Whether an event begins a command of a role: one that is started, or run to its end.
+fn begins(event: &Event, role: Role) -> bool
+    ensures { result ≡ is_begun role event.now }
+{
+    match event {
+        Event::Started { role: found, .. } => is_same_role(*found, role),
+        Event::Ran { role: found, .. } => is_same_role(*found, role),
+        _ => false,
+    }
+}
+
+// Whether an event prints a line that has Cargo link.
+fn links(event: &Event) -> bool
+    ensures { result ≡ is_link event.now }
+{
+    match event {
+        Event::Printed { kind, .. } => matches!(kind, LineKind::Link),
+        _ => false,
+    }
+}
+
+fn counts(event: &Event, what: Counted) -> bool
+    ensures { result ≡ is_counted what event.now }
+{
+    match what {
+        Counted::Commands(role) => begins(event, role),
+        Counted::Links => links(event),
+    }
+}
+
+fn number(log: &[Event], what: Counted) -> usize
+    ensures { result ≡ number (is_counted what) log.now }
+{
+    log.iter().filter(|event| counts(event, what)).count()
+}
+
+// Adds the line of a name and its number.
+fn push_count(alloc: Global, lines: &mut Words, name: &str, count: u64) -> Mem<()>
+    ensures { OnOk result (lines.new ≡ lines.old ++ line_of name.now count ∷ []) }
+{
+    let digits = format!(in alloc; "{count}")?;
+    let mut line = Text::of(alloc, name)?;
+    line.push_str(" ")?;
+    line.push_str(digits.as_str())?;
+    line.push_str("\n")?;
+    lines.push_text(line)
+}
+
+// The lines that sum up a run of so many sources, by its log.
+#[tactic(auto, unfolding(crate::specs::Summary::log_lines))]
+fn summary_lines(alloc: Global, count: u32, log: &[Event]) -> Mem<Words>
+    ensures { IfOk result (λ lines. lines ≡ log_lines count log.now) }
+{
+    let compiles = number(log, Counted::Commands(Role::Compile)) as u64;
+    let archives = number(log, Counted::Commands(Role::Archive)) as u64;
+    let indexes = number(log, Counted::Commands(Role::Index)) as u64;
+    let links = number(log, Counted::Links) as u64;
+    let mut lines = Words::new(alloc);
+    push_count(alloc, &mut lines, "sources", count as u64)?;
+    push_count(alloc, &mut lines, "compiles", compiles)?;
+    push_count(alloc, &mut lines, "archives", archives)?;
+    push_count(alloc, &mut lines, "indexes", indexes)?;
+    push_count(alloc, &mut lines, "links", links)?;
+    Ok(lines)
+}
+
+fn why_name(why: Why) -> &'static str
+    ensures { result.now ≡ name_of_why why }
+{
+    match why {
+        Why::NotFound => "not found",
+        Why::Denied => "denied",
+        Why::Exists => "exists",
+        Why::Other => "other",
+    }
+}
+
+// The error of a print that the host refused.
+#[tactic(auto, unfolding(cc_build::specs::Stop::fault_error))]
+fn print_failed(alloc: Global, why: Why) -> Mem<Error>
+    ensures { IfOk result (λ e. e ≡ fault_error Print why []) }
+{
+    let mut message = Text::of(alloc, "print failed: ")?;
+    message.push_str(why_name(why))?;
+    Error::of(alloc, ErrorKind::IOError, "", message.as_str())
+}
+
+// The same of what the host answered, or want of memory for the texts.
+fn unprinted(alloc: Global, error: HostError) -> Error
+    ensures { (result ≡ no_memory) ⊎ (result ≡ print_error error) }
+{
+    match error {
+        HostError::Fault(_, why) => match print_failed(alloc, why) {
+            Ok(error) => error,
+            Err(memory) => Error::from(memory),
+        },
+        HostError::NoMemory => Error::from(NoMemory),
+    }
+}
+
+// Prints a line of the summary.
+#[tactic(auto, using(cc_host::proofs::Parts::since_append))]
+fn print_line<W: World, H: Host<W>>(alloc: Global, host: &mut H, line: &Text) -> Result<(), Error>
+    ensures aside { Aside H.log H.patience host.old host.new }
+    ensures outcome { CallsEnd (Prints Shown line.now ∷ [])
+        (part H.log host.old host.new) result }
+{
+    match host.print(LineKind::Shown, line.as_str().as_bytes()) {
+        Ok(()) => Ok(()),
+        Err(error) => Err(unprinted(alloc, error)),
+    }
+}
+
+#[tactic(auto, using(cc_build::proofs::Keeping::aside_none, cc_build::proofs::Keeping::aside_then))]
+fn print_lines<W: World, H: Host<W>>(
+    alloc: Global,
+    host: &mut H,
+    lines: &[Text],
+) -> Result<(), Error>
+    ensures aside { Aside H.log H.patience host.old host.new }
+    ensures outcome { CallsEnd (shows lines.now) (part H.log host.old host.new) result }
+{
+    for line in lines {
+        print_line(alloc, host, line)?;
+    }
+    Ok(())
+}
+
+// Sums a run up by its log.
+#[tactic(auto, using(cc_build::proofs::Keeping::aside_none))]
+fn print_summary<W: World, H: Host<W>>(
+    alloc: Global,
+    host: &mut H,
+    count: u32,
+    log: &[Event],
+) -> Result<(), Error>
+    ensures aside { Aside H.log H.patience host.old host.new }
+    ensures outcome { CallsEnd (shows (log_lines count log.now))
+        (part H.log host.old host.new) result }
+{
+    match summary_lines(alloc, count, log) {
+        Ok(lines) => print_lines(alloc, host, lines.as_slice()),
+        Err(memory) => Err(Error::from(memory)),
+    }
+}
+
+// Sums a run up that is done, and keeps the error of another.
+#[tactic(auto, using(cc_build::proofs::Keeping::aside_none))]
+fn sum_up<W: World, H: Host<W>>(
+    alloc: Global,
+    host: &mut H,
+    count: u32,
+    log: &[Event],
+    run: Result<(), Error>,
+) -> Result<(), Error>
+    ensures aside { Aside H.log H.patience host.old host.new }
+    ensures outcome { SumsUp (log_lines count log.now) run
+        (part H.log host.old host.new) result }
+{
+    match run {
+        Ok(()) => print_summary(alloc, host, count, log),
+        Err(error) => Err(error),
+    }
+}
+
+// Sums a run up, and says how the job ended.
+#[tactic(auto, using(cc_host::proofs::Parts::since_append))]
+fn conclude<W: World, H: Host<W>>(
+    alloc: Global,
+    host: &mut H,
+    count: u32,
+    log: &[Event],
+    run: Result<(), Error>,
+) -> Ended
+    ensures extends { H.log host.new ≡ H.log host.old ++ part H.log host.old host.new }
+    ensures asks_none { question_events (part H.log host.old host.new) ≡ [] }
+    ensures concludes { Concludes (log_lines count log.now) run
+        (part H.log host.old host.new) result }
+{
+    match sum_up(alloc, host, count, log, run) {
+        Ok(()) => ended_done(),
+        Err(error) => refuse(alloc, host, error),
+    }
+}
+
+// Sums a run up, and hands its host back.
+fn hand_back<W: World, H: Host<W>>(
+    alloc: Global,
+    host: &mut H,
+    count: u32,
+    generated: Generated,
+) -> Ended
+    ensures extends { H.log host.new ≡ H.log host.old ++ part H.log host.old host.new }
+    ensures asks_none { question_events (part H.log host.old host.new) ≡ [] }
+    ensures back { result.bench ≡ Some generated.bench }
+    ensures concludes { Concludes (log_lines count generated.bench.log) generated.result
+        (part H.log host.old host.new) (told result) }
+{
+    let Generated { bench, result } = generated;
+    let ended = conclude(alloc, host, count, bench.log(), result);
+    Ended {
+        bench: Some(bench),
+        ..ended
+    }
+}
+
+/// Compiles so many generated sources on a host in memory of its own, and prints what that came to on the host that is handed in.
+#[tactic(auto, using(cc_host::proofs::Parts::since_append))]
+pub(crate) fn generate_alone<W: World, H: Host<W>>(
+    rt: &impl Wait,
+    alloc: Global,
+    count: u32,
+    turns: u64,
+    host: &mut H,
+) -> Ended
+    ensures extends { H.log host.new ≡ H.log host.old ++ part H.log host.old host.new }
+    ensures asks_none { question_events (part H.log host.old host.new) ≡ [] }
+    ensures sums { Sums count turns (part H.log host.old host.new) result }
+{
+    match generate(rt, alloc, count, turns) {
+        Ok(generated) => hand_back(alloc, host, count, generated),
+        Err(NoMemory) => ended_wanting(),
+    }
+}
