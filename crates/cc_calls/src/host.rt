@@ -80,13 +80,13 @@ fn ask_of(word: &str) -> Read<Ask> {
     }
 }
 
-/// What is asked of `cc` with these words, in no environment.
-pub fn question(alloc: Global, ask: Ask, words: Words) -> Mem<Question>
+/// What is asked of a program with these words, in no environment.
+pub fn question(alloc: Global, ask: Ask, program: &str, words: Words) -> Mem<Question>
     ensures { IfOk result (λ q. q.ask ≡ ask) }
 {
     Ok(Question {
         ask,
-        program: Text::of(alloc, "cc")?,
+        program: Text::of(alloc, program)?,
         words,
         vars: Vars::new(alloc),
     })
@@ -149,7 +149,7 @@ fn answer_to(alloc: Global, question: &Question, outcome: &Outcome) -> Answer {
 }
 
 fn verdict_of(alloc: Global, ask: Ask, outcome: &Outcome) -> Answer {
-    let question = question(alloc, ask, Words::new(alloc))?;
+    let question = question(alloc, ask, "cc", Words::new(alloc))?;
     answer_to(alloc, &question, outcome)
 }
 

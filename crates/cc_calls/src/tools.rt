@@ -4,9 +4,9 @@ use crate::answer::{Answer, none, one, push, push_number, push_pair, truth_word}
 use crate::given::{Read, family, number, step};
 use crate::host::question;
 use cc_env::EnvSnapshot;
-use cc_host::{Ask, Bench, BenchHost, HostError, Verdict, command_line};
+use cc_host::{Ask, Bench, BenchHost, HostError, Question, Verdict, command_line};
 use cc_text::{Mem, Text, ascii_words, key_and_value, lookup};
-use cc_tool::{Emitted, Known, NamedTempfile, Tool};
+use cc_tool::{Emitted, Known, NamedTempfile, Places, Tool, question_digest};
 use std::alloc::Global;
 
 fn push_env(tool: &mut Tool, pair: &str) -> Read<()> {
@@ -103,19 +103,52 @@ fn push_found(texts: &mut Vec<String>, verdict: Option<&Verdict>) -> Mem<()> {
     }
 }
 
-fn known_step(known: &mut Known<Bench>, texts: &mut Vec<String>, word: &str) -> Read<()> {
-    let alloc = *texts.allocator();
-    let (verb, rest) = step(word);
-    let question = question(alloc, Ask::Version, ascii_words(alloc, rest)?)?;
-    match verb {
-        "keep" => Ok(known.keep_on(&question, &Verdict::Yes)?),
-        "find" => Ok(push_found(texts, known.find_on(&question))?),
-        _ => Err(CallError::Given),
+fn push_each(texts: &mut Vec<String>, places: &Places) -> Mem<()> {
+    for nth in 0..usize::MAX {
+        match places.get(nth) {
+            Some(place) => push_number(texts, place)?,
+            None => return Ok(()),
+        }
+    }
+    Ok(())
+}
+
+fn push_places(texts: &mut Vec<String>, places: Option<&Places>) -> Mem<()> {
+    match places {
+        Some(places) => push_each(texts, places),
+        None => push(texts, "none"),
     }
 }
 
-// Steps: `keep WORD..`, with the verdict yes, and `find WORD..`, of a question of the version with these words. What `find`
-// answers: `true` for yes, or `none`.
+fn push_known(
+    known: &Known<Bench>,
+    texts: &mut Vec<String>,
+    verb: &str,
+    question: &Question,
+) -> Read<()> {
+    match verb {
+        "find" => push_found(texts, known.find_on(question))?,
+        "digest" => push_number(texts, question_digest(question))?,
+        "places" => push_places(texts, known.bucket_on(question_digest(question)))?,
+        _ => return Err(CallError::Given),
+    }
+    Ok(())
+}
+
+fn known_step(known: &mut Known<Bench>, texts: &mut Vec<String>, word: &str) -> Read<()> {
+    let alloc = *texts.allocator();
+    let (verb, rest) = step(word);
+    let (program, words) = step(rest);
+    let question = question(alloc, Ask::Version, program, ascii_words(alloc, words)?)?;
+    match verb {
+        "keep" => Ok(known.keep_on(&question, &Verdict::Yes)?),
+        _ => push_known(known, texts, verb, &question),
+    }
+}
+
+// Steps, each of the question of a program's version with these words: `keep PROGRAM WORD..`, with the verdict yes, and these,
+// which answer: `find PROGRAM WORD..`, `true` for yes, or `none`; `digest PROGRAM WORD..`, in decimal; `places PROGRAM WORD..`,
+// of all that are kept with its digest, or `none`.
 fn known(alloc: Global, given: &[String]) -> Answer {
     let mut known: Known<Bench> = Known::new(alloc);
     let mut texts = Vec::new(alloc);

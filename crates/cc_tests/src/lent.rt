@@ -87,8 +87,7 @@ starts /o/libfoo.a
 ends
 ";
 
-#[test]
-fn without_a_token_of_the_client_sources_are_compiled_one_after_another(rt: HostRuntime) {
+fn check_without_token<R: AllocGlobal + Wait + Abort + Drop + Copy>(rt: R) {
     let client = MemoryClient::new(rt.alloc(), 0);
     let pool = InheritedPool::new(rt, Inherited::new(client));
     with_both(&rt, |build, host| {
@@ -97,12 +96,18 @@ fn without_a_token_of_the_client_sources_are_compiled_one_after_another(rt: Host
     });
 }
 
+#[test]
+fn without_a_token_of_the_client_sources_are_compiled_one_after_another(rt: HostRuntime) {
+    for _ in 0..50 {
+        check_without_token(rt);
+    }
+}
+
 const LEFT_ALONE: &str = "starts src/a.c
 leaves alone
 ";
 
-#[test]
-fn a_client_that_fails_ends_the_run_and_leaves_the_first_command_alone(rt: HostRuntime) {
+fn check_left_alone<R: AllocGlobal + Wait + Abort + Drop + Copy>(rt: R) {
     let mut client = MemoryClient::new(rt.alloc(), 1);
     client.fail_acquire(1).expect(&rt, "memory");
     let pool = InheritedPool::new(rt, Inherited::new(client));
@@ -116,4 +121,11 @@ fn a_client_that_fails_ends_the_run_and_leaves_the_first_command_alone(rt: HostR
             LEFT_ALONE,
         );
     });
+}
+
+#[test]
+fn a_client_that_fails_ends_the_run_and_leaves_the_first_command_alone(rt: HostRuntime) {
+    for _ in 0..50 {
+        check_left_alone(rt);
+    }
 }

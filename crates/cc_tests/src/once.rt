@@ -1,4 +1,4 @@
-// Link lines that a build and its clones print once.
+// Lines that a build and its clones print once.
 use crate::same::same;
 use crate::setup::{set_all, with_both};
 use cc_build::{Build, Error};
@@ -9,12 +9,12 @@ use std::alloc::{AllocGlobal, Global};
 use std::process::Abort;
 use std::sync::Wait;
 
-// The link lines of a log.
-fn links(alloc: Global, host: &BenchHost) -> Mem<Text> {
+// The lines of a kind in a log.
+fn lines(alloc: Global, host: &BenchHost, wanted: LineKind) -> Mem<Text> {
     let mut text = Text::new(alloc);
     for event in host.log() {
         if let Event::Printed { kind, bytes } = event {
-            if *kind == LineKind::Link {
+            if *kind == wanted {
                 text.push_str(str::from_utf8(bytes.as_slice()).unwrap_or("?"))?;
             }
         }
@@ -27,7 +27,7 @@ fn compile(rt: &impl Wait, build: &Build<Bench>, host: &mut BenchHost) -> Result
     build.try_compile(rt, host, &jobs, &mut seat, 50, "foo")
 }
 
-// Compiles a source of C++ by a build, and then by its clone.
+// Compiles by a build, and then by its clone.
 fn compile_twice(rt: &(impl Wait + Abort), build: &Build<Bench>, host: &mut BenchHost) {
     let clone = build.try_clone().expect(rt, "memory");
     compile(rt, build, host).expect(rt, "a library");
@@ -45,7 +45,7 @@ fn check_links(
     build.cpp_link_stdlib_static(true);
     build.file("a.cpp").expect(rt, "memory");
     compile_twice(rt, build, host);
-    let links = links(rt.alloc(), host).expect(rt, "memory");
+    let links = lines(rt.alloc(), host, LineKind::Link).expect(rt, "memory");
     same(rt, links.as_str(), want);
 }
 
@@ -59,4 +59,43 @@ cargo:rustc-link-search=native=/o
 #[test]
 fn a_clone_leaves_out_the_line_of_the_static_cpp_library(rt: HostRuntime) {
     with_both(&rt, |build, host| check_links(&rt, build, host, ONCE));
+}
+
+const VARIABLES: &str = "cargo:rerun-if-env-changed=ARFLAGS
+cargo:rerun-if-env-changed=ARFLAGS_x86_64-unknown-linux-gnu
+cargo:rerun-if-env-changed=ARFLAGS_x86_64_unknown_linux_gnu
+cargo:rerun-if-env-changed=CC_ENABLE_DEBUG_OUTPUT
+cargo:rerun-if-env-changed=CC_FORCE_DISABLE
+cargo:rerun-if-env-changed=CFLAGS
+cargo:rerun-if-env-changed=CFLAGS_x86_64-unknown-linux-gnu
+cargo:rerun-if-env-changed=CFLAGS_x86_64_unknown_linux_gnu
+cargo:rerun-if-env-changed=COMPILER_PATH
+cargo:rerun-if-env-changed=CPATH
+cargo:rerun-if-env-changed=CPLUS_INCLUDE_PATH
+cargo:rerun-if-env-changed=CRATE_CC_NO_DEFAULTS
+cargo:rerun-if-env-changed=C_INCLUDE_PATH
+cargo:rerun-if-env-changed=GCC_EXEC_PREFIX
+cargo:rerun-if-env-changed=HOST_ARFLAGS
+cargo:rerun-if-env-changed=HOST_CFLAGS
+cargo:rerun-if-env-changed=OBJCPLUS_INCLUDE_PATH
+cargo:rerun-if-env-changed=OBJC_INCLUDE_PATH
+cargo:rerun-if-env-changed=SOURCE_DATE_EPOCH
+";
+
+fn check_variables(
+    rt: &(impl Wait + AllocGlobal + Abort),
+    build: &mut Build<Bench>,
+    host: &mut BenchHost,
+) {
+    set_all(rt, build, "/o", "cc");
+    build.emit_rerun_if_env_changed(true);
+    build.file("a.c").expect(rt, "memory");
+    compile_twice(rt, build, host);
+    let variables = lines(rt.alloc(), host, LineKind::Rerun).expect(rt, "memory");
+    same(rt, variables.as_str(), VARIABLES);
+}
+
+#[test]
+fn a_clone_tells_cargo_of_no_variable_twice(rt: HostRuntime) {
+    with_both(&rt, |build, host| check_variables(&rt, build, host));
 }

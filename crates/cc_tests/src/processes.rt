@@ -218,7 +218,7 @@ fn standard_error_that_is_not_heard_goes_nowhere(rt: HostRuntime) {
 }
 
 // A command that waits for a file, and one that writes more lines than a pipe and a host hold, and then makes it. The stand-in does the same with
-// 100,000 lines in `tests/real_use`: a test may print no more than a megabyte.
+// 100,000 lines in `tests/real_use`, fifty times in a row: a test may print no more than a megabyte.
 const WAITS: &str =
     "n=0; until test -e \"$0\"; do n=$((n+1)); test $n -lt 500 || exit 9; sleep 0.02; done";
 

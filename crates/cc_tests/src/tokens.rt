@@ -10,8 +10,7 @@ use std::process::Abort;
 use std::sync::Wait;
 use std::test::Fail;
 
-#[test]
-fn the_implicit_token_comes_first_and_is_home_first(rt: HostRuntime) -> Result<(), Fail> {
+fn check_implicit<R: AllocGlobal + Wait + Abort + Drop + Copy>(rt: R) -> Result<(), Fail> {
     let client = MemoryClient::new(rt.alloc(), 1);
     let pool = InheritedPool::new(rt, Inherited::new(client));
     let mut seat = pool.seat();
@@ -31,7 +30,14 @@ fn the_implicit_token_comes_first_and_is_home_first(rt: HostRuntime) -> Result<(
 }
 
 #[test]
-fn a_token_that_the_client_refuses_counts_as_given(rt: HostRuntime) -> Result<(), Fail> {
+fn the_implicit_token_comes_first_and_is_home_first(rt: HostRuntime) -> Result<(), Fail> {
+    for _ in 0..50 {
+        check_implicit(rt)?;
+    }
+    Ok(())
+}
+
+fn check_refused<R: AllocGlobal + Wait + Abort + Drop + Copy>(rt: R) -> Result<(), Fail> {
     let mut client = MemoryClient::new(rt.alloc(), 1);
     client.fail_release(1)?;
     let pool = InheritedPool::new(rt, Inherited::new(client));
@@ -46,9 +52,14 @@ fn a_token_that_the_client_refuses_counts_as_given(rt: HostRuntime) -> Result<()
 }
 
 #[test]
-fn a_client_that_fails_is_told_and_what_it_refuses_counts_as_given(
-    rt: HostRuntime,
-) -> Result<(), Fail> {
+fn a_token_that_the_client_refuses_counts_as_given(rt: HostRuntime) -> Result<(), Fail> {
+    for _ in 0..50 {
+        check_refused(rt)?;
+    }
+    Ok(())
+}
+
+fn check_failing<R: AllocGlobal + Wait + Abort + Drop + Copy>(rt: R) -> Result<(), Fail> {
     let mut client = MemoryClient::new(rt.alloc(), 1);
     client.fail_acquire(1)?;
     client.fail_release(1)?;
@@ -64,6 +75,16 @@ fn a_client_that_fails_is_told_and_what_it_refuses_counts_as_given(
     assert_eq!(rt; pool.held(&seat), 0);
     assert_eq!(rt; pool.take(&mut seat), Ok(Take::Token));
     assert_eq!(rt; pool.take(&mut seat), Ok(Take::Pending));
+    Ok(())
+}
+
+#[test]
+fn a_client_that_fails_is_told_and_what_it_refuses_counts_as_given(
+    rt: HostRuntime,
+) -> Result<(), Fail> {
+    for _ in 0..50 {
+        check_failing(rt)?;
+    }
     Ok(())
 }
 
@@ -118,5 +139,7 @@ fn check_ended(
 
 #[test]
 fn a_run_starts_no_more_than_it_has_tokens_for(rt: HostRuntime) {
-    with_both(&rt, |build, host| check_ended(&rt, build, host));
+    for _ in 0..50 {
+        with_both(&rt, |build, host| check_ended(&rt, build, host));
+    }
 }

@@ -6,7 +6,7 @@ use crate::log::check_log;
 use crate::same::same;
 use crate::setup::{set_all, with_both};
 use cc_build::{Build, ErrorKind};
-use cc_host::{Ask, Bench, BenchHost, Outcome, Status};
+use cc_host::{Ask, Bench, BenchHost, Host, Outcome, Status, World};
 use cc_text::{Bytes, Mem, ToolFamily};
 use std::alloc::{AllocGlobal, Global};
 use std::process::Abort;
@@ -24,7 +24,7 @@ fn done(alloc: Global, out: &str, err: &str) -> Mem<Outcome>
 }
 
 // What the question answers whether a flag is taken.
-fn answer(rt: &impl Wait, build: &Build<Bench>, host: &mut BenchHost) -> &'static str {
+fn answer<W: World, H: Host<W>>(rt: &impl Wait, build: &Build<W>, host: &mut H) -> &'static str {
     match build.is_flag_supported(rt, host, "-fx") {
         Ok(true) => "yes",
         Ok(false) => "no",
@@ -35,13 +35,26 @@ fn answer(rt: &impl Wait, build: &Build<Bench>, host: &mut BenchHost) -> &'stati
     }
 }
 
-fn clones_answer(
+fn clones_answer<W: World, H: Host<W>>(
     rt: &(impl Wait + Abort),
-    build: &Build<Bench>,
-    host: &mut BenchHost,
+    build: &Build<W>,
+    host: &mut H,
 ) -> &'static str {
     let clone = build.try_clone().expect(rt, "a clone");
     answer(rt, &clone, host)
+}
+
+// A build takes the flag, and so do its clones.
+pub(crate) fn check_answers<W: World, H: Host<W>>(
+    rt: &(impl Wait + Abort),
+    build: &Build<W>,
+    host: &mut H,
+    clones: u32,
+) {
+    same(rt, answer(rt, build, host), "yes");
+    for _ in 0..clones {
+        same(rt, clones_answer(rt, build, host), "yes");
+    }
 }
 
 const TRIED_ONCE: &str = "makes /o
@@ -61,6 +74,9 @@ drops
 knows macros
 knows help
 knows flag
+knows macros
+knows help
+knows flag
 ";
 
 fn check_tried(
@@ -69,8 +85,7 @@ fn check_tried(
     host: &mut BenchHost,
 ) {
     set_all(rt, build, "/o", "cc");
-    same(rt, answer(rt, build, host), "yes");
-    same(rt, clones_answer(rt, build, host), "yes");
+    check_answers(rt, build, host, 2);
     check_log(rt, host, TRIED_ONCE);
 }
 
