@@ -61,9 +61,12 @@ fn a_clone_leaves_out_the_line_of_the_static_cpp_library(rt: HostRuntime) {
     with_both(&rt, |build, host| check_links(&rt, build, host, ONCE));
 }
 
-const VARIABLES: &str = "cargo:rerun-if-env-changed=ARFLAGS
+const VARIABLES: &str = "cargo:rerun-if-env-changed=AR
+cargo:rerun-if-env-changed=ARFLAGS
 cargo:rerun-if-env-changed=ARFLAGS_x86_64-unknown-linux-gnu
 cargo:rerun-if-env-changed=ARFLAGS_x86_64_unknown_linux_gnu
+cargo:rerun-if-env-changed=AR_x86_64-unknown-linux-gnu
+cargo:rerun-if-env-changed=AR_x86_64_unknown_linux_gnu
 cargo:rerun-if-env-changed=CC_ENABLE_DEBUG_OUTPUT
 cargo:rerun-if-env-changed=CC_FORCE_DISABLE
 cargo:rerun-if-env-changed=CFLAGS
@@ -75,6 +78,7 @@ cargo:rerun-if-env-changed=CPLUS_INCLUDE_PATH
 cargo:rerun-if-env-changed=CRATE_CC_NO_DEFAULTS
 cargo:rerun-if-env-changed=C_INCLUDE_PATH
 cargo:rerun-if-env-changed=GCC_EXEC_PREFIX
+cargo:rerun-if-env-changed=HOST_AR
 cargo:rerun-if-env-changed=HOST_ARFLAGS
 cargo:rerun-if-env-changed=HOST_CFLAGS
 cargo:rerun-if-env-changed=OBJCPLUS_INCLUDE_PATH
