@@ -9,14 +9,13 @@ use std::alloc::Global;
 /// How many bytes of a child's standard error are kept until the host takes them. The child that writes more waits, as at any full pipe.
 pub const KEPT: usize = 65536;
 
-/// What was heard of a child and not yet taken, how it ended, and how its thread stands.
+/// What was heard of a child and not yet taken, how it ended, and whether it was left.
 #[derive(Drop)]
 pub struct Heard {
     bytes: Vec<u8>,
     pub unread: bool,
     pub ended: Option<Status>,
     pub is_left: bool,
-    pub is_done: bool,
 }
 
 /// What was taken of a child, so that it can be forgotten.
@@ -57,7 +56,6 @@ impl Heard {
             unread: false,
             ended: None,
             is_left: false,
-            is_done: false,
         })
     }
 

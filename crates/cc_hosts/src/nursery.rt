@@ -1,24 +1,38 @@
-// The threads of the children of a host. A thread of the host's own makes them, since what goes to a thread from a method of a trait
-// gets no proof.
+// The threads of the children of a host. Each watches one child at a time, and then the next one that comes, so that no more are made than
+// children run at once. A thread of the host's own makes them, since what goes to a thread from a method of a trait gets no proof.
 use crate::watched::Watched;
 use cc_text::Mem;
 use std::alloc::Global;
 use std::os::fd::AsRawFd;
 use std::process::{OpenProcess, Processes};
-use std::sync::{Arc, Mutex, Wait, WaitMethods};
+use std::sync::{Arc, Condvar, Mutex, Wait, WaitMethods};
 use std::thread::{self, JoinHandle, Parker, Threads};
 
-// The children that wait for a thread, and whether no more come.
+// The children that wait for a thread, how many threads watch no child, and whether no more children come.
 #[derive(Drop)]
 struct Arrivals<P: OpenProcess + Drop> {
     children: Vec<Arc<Watched<P>>>,
+    idle: usize,
     is_closed: bool,
 }
 
-// Where children wait for their threads.
+impl<P: OpenProcess + Drop> Arrivals<P> {
+    // Whether there is a thread for each child.
+    fn are_awaited(&self) -> bool {
+        self.children.len() <= self.idle
+    }
+
+    // Whether a thread that watches no child has nothing to do.
+    fn are_none(&self) -> bool {
+        self.children.is_empty() && !self.is_closed
+    }
+}
+
+// Where children wait for their threads, and threads for children.
 #[derive(Drop)]
 struct Door<P: OpenProcess + Drop> {
     arrivals: Mutex<Arrivals<P>>,
+    came: Condvar,
     bell: Parker,
 }
 
@@ -27,112 +41,133 @@ impl<P: OpenProcess + Drop> Door<P> {
         Door {
             arrivals: Mutex::new(Arrivals {
                 children: Vec::new(alloc),
+                idle: 0,
                 is_closed: false,
             }),
+            came: Condvar::new(),
             bell: Parker::new(),
         }
     }
 
+    // The next child for a thread that watches none, once there is one. None where no more come.
     fn next(&self, rt: &impl Wait) -> Option<Arc<Watched<P>>> {
-        self.arrivals.lock(rt).children.pop()
+        let arrivals = self.arrivals.lock(rt);
+        let mut arrivals = self
+            .came
+            .wait_while(rt, arrivals, |arrivals| arrivals.are_none());
+        let child = arrivals.children.pop()?;
+        arrivals.idle = arrivals.idle.saturating_sub(1);
+        Some(child)
+    }
+
+    // Counts a thread that watches no child.
+    fn count(&self, rt: &impl Wait) {
+        let mut arrivals = self.arrivals.lock(rt);
+        arrivals.idle = arrivals.idle.saturating_add(1);
+    }
+
+    // Counts a thread that is to be made, where a child has none.
+    fn wants_thread(&self, rt: &impl Wait) -> bool {
+        let mut arrivals = self.arrivals.lock(rt);
+        if arrivals.are_awaited() {
+            return false;
+        }
+        arrivals.idle = arrivals.idle.saturating_add(1);
+        true
+    }
+
+    // Takes back the count of a thread that couldn't be made. A child gets none.
+    fn turn_away(&self, rt: &impl Wait) {
+        let mut arrivals = self.arrivals.lock(rt);
+        arrivals.idle = arrivals.idle.saturating_sub(1);
+        drop(arrivals.children.pop());
     }
 
     fn is_closed(&self, rt: &impl Wait) -> bool {
         self.arrivals.lock(rt).is_closed
     }
 
-    // Lets a child wait. Where no memory is left for that, it gets no thread.
+    // Lets a child wait. Where no memory is left for that, it gets no thread. Answers whether a thread waits for it.
+    fn let_in(&self, rt: &impl Wait, child: Arc<Watched<P>>) -> bool {
+        let mut arrivals = self.arrivals.lock(rt);
+        let _ = arrivals.children.push(child);
+        arrivals.are_awaited()
+    }
+
     fn add(&self, rt: &impl Wait, child: Arc<Watched<P>>) {
-        let _ = self.arrivals.lock(rt).children.push(child);
-        self.bell.unpark();
+        if self.let_in(rt, child) {
+            self.came.notify_one();
+        } else {
+            self.bell.unpark();
+        }
     }
 
     fn close(&self, rt: &impl Wait) {
         self.arrivals.lock(rt).is_closed = true;
+        self.came.notify_all();
         self.bell.unpark();
     }
 }
 
-// A child, and the thread that watches it.
-struct Watcher<R: Processes + Threads + Wait + Copy> {
-    rt: R,
-    child: Arc<Watched<R::Started>>,
-    thread: JoinHandle<()>,
-}
-
-// Lets the thread end, and joins it. The child runs on.
-impl<R: Processes + Threads + Wait + Copy> Drop for Watcher<R> {
-    fn drop(self) {
-        let Self { rt, child, thread } = self;
-        child.leave(&rt);
-        thread.join(&rt);
-        drop(child);
-    }
-}
-
-impl<R: Processes + Threads + Wait + Copy> Watcher<R> {
-    fn is_done(&self) -> bool {
-        self.child.is_done(&self.rt)
-    }
-}
-
-// Joins the threads that ended.
-fn join_ended<R: Processes + Threads + Wait + Copy>(watchers: &mut Vec<Watcher<R>>) {
-    watchers.retain(|watcher| !watcher.is_done());
-}
-
-// Lets all threads end.
-fn leave_all<R: Processes + Threads + Wait + Copy>(watchers: &[Watcher<R>]) {
-    for watcher in watchers {
-        watcher.child.leave(&watcher.rt);
-    }
-}
-
-// A thread that watches a child, where one can be made.
-fn start<R: Processes + Threads + Wait + Copy + Send + 'static>(
-    rt: R,
-    child: Arc<Watched<R::Started>>,
-) -> Option<Watcher<R>>
+// Watches one child after another, until no more come.
+fn watch<R: Processes + Threads + Wait + Copy>(rt: R, door: &Door<R::Started>)
 where
-    R::Started: Send + 'static,
-    <R::Started as OpenProcess>::Stdin: Send + 'static,
-    <R::Started as OpenProcess>::Stdout: Send + 'static,
-    <R::Started as OpenProcess>::Stderr: AsRawFd + Send + 'static,
-{
-    let theirs = Arc::try_clone(&child).ok()?;
-    let thread = thread::spawn(&rt, move || theirs.watch(&rt)).ok()?;
-    Some(Watcher { rt, child, thread })
-}
-
-// Makes a thread for each child that came. One for which none can be made gets none.
-fn admit<R: Processes + Threads + Wait + Copy + Send + 'static>(
-    rt: R,
-    door: &Door<R::Started>,
-    watchers: &mut Vec<Watcher<R>>,
-)
-where
-    R::Started: Send + 'static,
-    <R::Started as OpenProcess>::Stdin: Send + 'static,
-    <R::Started as OpenProcess>::Stdout: Send + 'static,
-    <R::Started as OpenProcess>::Stderr: AsRawFd + Send + 'static,
+    <R::Started as OpenProcess>::Stderr: AsRawFd,
 {
     for _ in rt.forever() {
         let Some(child) = door.next(&rt) else {
             return;
         };
-        if watchers.reserve(1).is_ok() {
-            if let Some(watcher) = start(rt, child) {
-                watchers.push_reserved(watcher);
-            }
-        }
+        child.watch(&rt);
+        drop(child);
+        door.count(&rt);
     }
 }
 
-// Makes threads for the children that come, and joins those that ended, until no more come. Then it joins all.
-fn nurse<R: Processes + Threads + Wait + Copy + Send + 'static>(
+// A thread that watches children, where one can be made.
+fn start<R: Processes + Threads + Wait + Copy + Send + 'static>(
     rt: R,
-    alloc: Global,
-    door: &Door<R::Started>,
+    door: &Arc<Door<R::Started>>,
+) -> Option<JoinHandle<()>>
+where
+    R::Started: Send + 'static,
+    <R::Started as OpenProcess>::Stdin: Send + 'static,
+    <R::Started as OpenProcess>::Stdout: Send + 'static,
+    <R::Started as OpenProcess>::Stderr: AsRawFd + Send + 'static,
+{
+    let theirs = Arc::try_clone(door).ok()?;
+    thread::spawn(&rt, move || watch(rt, &theirs)).ok()
+}
+
+// Makes a thread, where it can be made and kept.
+fn add_thread<R: Processes + Threads + Wait + Copy + Send + 'static>(
+    rt: R,
+    door: &Arc<Door<R::Started>>,
+    threads: &mut Vec<JoinHandle<()>>,
+) -> bool
+where
+    R::Started: Send + 'static,
+    <R::Started as OpenProcess>::Stdin: Send + 'static,
+    <R::Started as OpenProcess>::Stdout: Send + 'static,
+    <R::Started as OpenProcess>::Stderr: AsRawFd + Send + 'static,
+{
+    if threads.reserve(1).is_err() {
+        return false;
+    }
+    match start(rt, door) {
+        Some(thread) => {
+            threads.push_reserved(thread);
+            true
+        }
+        None => false,
+    }
+}
+
+// Makes a thread for each child that has none. One for which none can be made gets none.
+fn admit<R: Processes + Threads + Wait + Copy + Send + 'static>(
+    rt: R,
+    door: &Arc<Door<R::Started>>,
+    threads: &mut Vec<JoinHandle<()>>,
 )
 where
     R::Started: Send + 'static,
@@ -140,16 +175,39 @@ where
     <R::Started as OpenProcess>::Stdout: Send + 'static,
     <R::Started as OpenProcess>::Stderr: AsRawFd + Send + 'static,
 {
-    let mut watchers = Vec::new(alloc);
+    for _ in rt.forever() {
+        if !door.wants_thread(&rt) {
+            return;
+        }
+        if !add_thread(rt, door, threads) {
+            door.turn_away(&rt);
+        }
+    }
+}
+
+// Makes threads for the children that come, until no more come. Then it joins all.
+fn nurse<R: Processes + Threads + Wait + Copy + Send + 'static>(
+    rt: R,
+    alloc: Global,
+    door: &Arc<Door<R::Started>>,
+)
+where
+    R::Started: Send + 'static,
+    <R::Started as OpenProcess>::Stdin: Send + 'static,
+    <R::Started as OpenProcess>::Stdout: Send + 'static,
+    <R::Started as OpenProcess>::Stderr: AsRawFd + Send + 'static,
+{
+    let mut threads = Vec::new(alloc);
     for _ in rt.forever() {
         door.bell.park(&rt);
-        join_ended(&mut watchers);
-        admit(rt, door, &mut watchers);
+        admit(rt, door, &mut threads);
         if door.is_closed(&rt) {
             break;
         }
     }
-    leave_all(&watchers);
+    for thread in threads {
+        thread.join(&rt);
+    }
 }
 
 /// The threads of the children of a host, and the thread that makes them, where it could be made.
@@ -159,7 +217,7 @@ pub struct Nursery<R: Processes + Threads + Wait + Copy> {
     thread: Option<JoinHandle<()>>,
 }
 
-/// Joins all threads. Children that run are left to run.
+/// Joins all threads, each once its child ended or was left. Children that run are left to run.
 impl<R: Processes + Threads + Wait + Copy> Drop for Nursery<R> {
     fn drop(self) {
         let Self { rt, door, thread } = self;
@@ -172,8 +230,11 @@ impl<R: Processes + Threads + Wait + Copy> Drop for Nursery<R> {
 }
 
 impl<R: Processes + Threads + Wait + Copy> Nursery<R> {
-    /// Has a thread made for a child, which gets none where none can be made.
+    /// Has a child watched by a thread, which is made where none is free. Where none can be made, the child has none.
     pub fn add(&self, child: &Arc<Watched<R::Started>>) {
+        if self.thread.is_none() {
+            return;
+        }
         if let Ok(child) = Arc::try_clone(child) {
             self.door.add(&self.rt, child);
         }

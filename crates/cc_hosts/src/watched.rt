@@ -201,11 +201,6 @@ impl<P: OpenProcess + Drop> Watched<P> {
         self.rest.unpark();
     }
 
-    /// Whether its thread is at its end.
-    pub fn is_done(&self, rt: &impl Wait) -> bool {
-        self.heard.lock(rt).is_done
-    }
-
     fn is_left(&self, rt: &impl Wait) -> bool {
         self.heard.lock(rt).is_left
     }
@@ -299,7 +294,6 @@ where
         if let Some(mut ear) = ear {
             self.watch_on(rt, &mut ear);
         }
-        self.heard.lock(rt).is_done = true;
     }
 
     fn watch_on<R: Wait>(&self, rt: &R, ear: &mut Ear<P::Stderr>) {
