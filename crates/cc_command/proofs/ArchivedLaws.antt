@@ -17,7 +17,7 @@ use Rattle.cc_jobs.specs.Seats.{Rose}
 use Rattle.cc_plan.specs.Given.{is_disabled, probe_folder}
 use Rattle.cc_plan.specs.Link.{printed_links}
 use Rattle.cc_plan.specs.Plan.{archive_refusal, lists_of_run, removal_steps}
-use Rattle.cc_plan.specs.Questions.{RunAsks}
+use Rattle.cc_plan.specs.Questions.{RunAsks, PlanAsks, ArchiverAsks, RanlibAsks}
 use Rattle.cc_plan.specs.Refusal.{first_of, name_refusal, early_refusal, path_refusal, link_refusal}
 use Rattle.cc_plan.specs.declared.error.PlanError.{PlanError}
 use Rattle.cc_plan.specs.declared.settings.BuildConfig.{BuildConfig}
@@ -53,10 +53,11 @@ use Rattle.cc_command.specs.Answer.{AnswersError, IfArchives, IsAnswer, IsAnswer
 use Rattle.cc_command.specs.Archived.{alone, library_at, directed_stages, archive_stages, archive_refused, Agree, Archiving, build_in, wished_stages, wished_refusal, WishEnds, Says, Archived, Written, ArchivePromises}
 use Rattle.cc_command.specs.Promises.{PrintsLast, IsLine, FaultsLast, EndsSpent}
 use Rattle.cc_command.specs.Asks.{AsksAlone, AsksWish, AsksWords}
+use Rattle.cc_command.specs.Shown.{AsksTools, listed_build}
 use Rattle.cc_command.specs.Read.{Request, Wish, name_of, wish_of}
 use Rattle.cc_command.specs.declared.words.Job.{Job}
-use Rattle.cc_command.specs.declared.words.Job.TheVariants.{Compile, Archive, Generate}
-use Rattle.cc_command.specs.Read.Wish.{Compiles, Archives, Generates}
+use Rattle.cc_command.specs.declared.words.Job.TheVariants.{Compile, Archive, Generate, Show}
+use Rattle.cc_command.specs.Read.Wish.{Compiles, Archives, Generates, Shows}
 use Rattle.cc_command.specs.declared.words.BadWord.{BadWord}
 use Rattle.cc_command.specs.declared.ended.Ended.{Ended}
 use Rattle.cc_command.proofs.EnoughLaws.{count, calls_none, unless_few, unless_none, ended_count, mapped, disabled_or, first_never, NeverSpent}
@@ -164,6 +165,7 @@ pub archived_wanting : (steady : Bool) (world : Question → Outcome) (patience 
 archived_wanting steady world patience turns log (Ok (Compiles q)) ended is = tt
 archived_wanting steady world patience turns log (Ok (Archives q)) ended is = unread steady world patience turns q (since log log) ended (part_is log log [] (sym (append-nil log))) is
 archived_wanting steady world patience turns log (Ok (Generates n)) ended is = tt
+archived_wanting steady world patience turns log (Ok (Shows b)) ended is = tt
 archived_wanting steady world patience turns log (Err bad) ended is = tt
 
 -- ---- the commands of a library
@@ -470,6 +472,7 @@ pub archive_promises : (steady : Bool) (world : Question → Outcome) (patience 
 archive_promises steady world patience turned part ended (Ok (Compiles q)) h = tt
 archive_promises steady world patience turned part ended (Ok (Archives q)) h = archive_promised steady world q patience turned part ended h
 archive_promises steady world patience turned part ended (Ok (Generates n)) h = tt
+archive_promises steady world patience turned part ended (Ok (Shows b)) h = tt
 archive_promises steady world patience turned part ended (Err bad) h = tt
 
 -- ---- by the job
@@ -479,14 +482,30 @@ pub of_compile : (job : Job) (name : List ℕ) (build : BuildSeen) (ended : Ende
 of_compile (Compile n) name build ended look part c is h = h
 of_compile (Archive n) name build ended look part c is h = absurd (cc)
 of_compile (Generate n) name build ended look part c is h = absurd (cc)
+of_compile Show name build ended look part c is h = absurd (cc)
 
 -- a job that archives asks what its wish does
 pub of_archive : (job : Job) (name : List ℕ) (build : BuildSeen) (steady : Bool) (world : Question → Outcome) (patience : Option ℕ) (turned : ℕ) (part : List Event) (ended : Ended) → job ≡ Archive name → Archived steady world (name_of job, build) patience turned part ended → AsksWish steady world (wish_of job build) part
 of_archive (Compile n) name build steady world patience turned part ended is h = absurd (cc)
 of_archive (Generate n) name build steady world patience turned part ended is h = absurd (cc)
+of_archive Show name build steady world patience turned part ended is h = absurd (cc)
 of_archive (Archive n) name build steady world patience turned part ended is h = archived_asks steady world (n, build) patience turned part ended h
 
 -- ---- nothing was asked
+
+-- a part without a question asks for no tool
+pub no_tools_asked : (steady : Bool) (world : Question → Outcome) (b : BuildSeen) (part : List Event) → question_events part ≡ [] → AsksTools steady world b part
+no_tools_asked steady world b part none = record {
+  compiler = [];
+  archiver = [];
+  ranlib = [];
+  rest = part;
+  cut = refl;
+  compiler_asks = asked_none steady world (probes b) (PlanAsks b.config b.env) [] refl;
+  archiver_asks = asked_none steady world (probes b) (ArchiverAsks b.config b.env) [] refl;
+  ranlib_asks = asked_none steady world (probes b) (RanlibAsks b.config b.env) [] refl;
+  quiet = none;
+}
 
 pub asked_wanting : (steady : Bool) (world : Question → Outcome) (log : List Event) (words : Result Wish BadWord) → AsksWords steady world words (since log log)
 asked_wanting steady world log (Ok (Compiles q)) =
@@ -499,6 +518,7 @@ asked_wanting steady world log (Ok (Archives q)) =
 asked_wanting steady world log (Ok (Generates n)) =
     let none : since log log ≡ [] = part_is log log [] (sym (append-nil log)) in
     ap question_events none
+asked_wanting steady world log (Ok (Shows b)) = no_tools_asked steady world (listed_build b (since log log)) (since log log) (ap question_events (part_is log log [] (sym (append-nil log))))
 asked_wanting steady world log (Err bad) =
     let none : since log log ≡ [] = part_is log log [] (sym (append-nil log)) in
     ap question_events none

@@ -17,6 +17,7 @@ pub mod RepeatLaws
 pub mod SettingLaws
 pub mod SettledPromises
 pub mod ShowLaws
+pub mod ShownLaws
 pub mod StartedPromises
 pub mod SummaryLaws
 pub mod SummedLaws

@@ -31,6 +31,7 @@ use Rattle.cc_build.specs.Stage.{Stage, commands_in, folder_stages, compile_stag
 use Rattle.cc_build.specs.Stage.Stage.{Asks, Calls}
 use Rattle.cc_build.specs.Went.{Terms, Means, Halted, Partly, Goes}
 use Rattle.cc_build.specs.declared.error.ErrorKind.TheVariants.{TurnsSpent}
+use Rattle.cc_build.specs.Promises.{FaultsEnd}
 use Rattle.cc_build.proofs.OrderLaws.{NoArchive, planned, archives_behind, no_source_archives, went_partly, halted_partly}
 use Rattle.cc_build.proofs.PromiseLaws.{none_inside, fault_ends}
 use Rattle.cc_build.proofs.FormLaws.{FormFirst, planned_first, halted_cause}
@@ -39,7 +40,7 @@ use Rattle.cc_build.proofs.TurnLaws.{halted_turns, halted_bound}
 use Rattle.cc_command.specs.Answer.{Answers, AnswersBad, AnswersWords, IfCompiles, BuiltBy, Refused, PrintsLine, first_listing, heard, env_in, terms_of, terms_in, repeating, stages_of, error_of, error_line, word_line, is_wanting, told, ended_well, ended_refused, ended_wanting}
 use Rattle.cc_command.specs.Promises.{PrintsLast, IsLine, Begun, IsBegun, ArchivesBehind, CompilesFirst, EndsAlone, FaultsLast, EndsSpent, IsComplete, IsEnough}
 use Rattle.cc_command.specs.Read.{Request, Wish}
-use Rattle.cc_command.specs.Read.Wish.{Compiles, Archives, Generates}
+use Rattle.cc_command.specs.Read.Wish.{Compiles, Archives, Generates, Shows}
 use Rattle.cc_command.specs.declared.ended.Ended.{Ended}
 use Rattle.cc_command.specs.declared.words.BadWord.{BadWord}
 use Rattle.cc_command.proofs.EnoughLaws.{planned_count, never_spent}
@@ -55,6 +56,7 @@ pub headline : (look : Look) (words : Result Wish BadWord) (part : List Event) (
 headline look (Ok (Compiles q)) part ended c a = built_of look q part ended c a
 headline look (Ok (Archives q)) part ended c a = tt
 headline look (Ok (Generates n)) part ended c a = tt
+headline look (Ok (Shows b)) part ended c a = tt
 headline look (Err bad) part ended c a = tt
 
 -- ---- the line of it is last
@@ -97,6 +99,7 @@ pub is_begun : (look : Look) (words : Result Wish BadWord) (part : List Event) (
 is_begun look (Ok (Compiles q)) part ended c a = begun_of look q part ended c a
 is_begun look (Ok (Archives q)) part ended c a = tt
 is_begun look (Ok (Generates n)) part ended c a = tt
+is_begun look (Ok (Shows b)) part ended c a = tt
 is_begun look (Err bad) part ended c a = tt
 
 -- ---- the line behind a run
@@ -202,6 +205,7 @@ pub compiles_first : (look : Look) (words : Result Wish BadWord) (part : List Ev
 compiles_first look (Ok (Compiles q)) part ended c a = order_of look q part c (begun_of look q part ended c a)
 compiles_first look (Ok (Archives q)) part ended c a = tt
 compiles_first look (Ok (Generates n)) part ended c a = tt
+compiles_first look (Ok (Shows b)) part ended c a = tt
 compiles_first look (Err bad) part ended c a = tt
 
 -- ---- a fault is last
@@ -210,12 +214,12 @@ compiles_first look (Err bad) part ended c a = tt
 line_behind : (ids : List ℕ) (rest after : List Event) (x : Event) → rest ≡ map Abandoned ids → after ≡ rest ++ x ∷ [] → IsLine (x ∷ []) → EndsAlone after
 line_behind ids rest after x ends is line = (ids, x ∷ [], (is ∙ ap (λ l. l ++ x ∷ []) ends, line))
 
--- stages that were begun, with a line behind them, have their fault last
-pub stages_last : (t : Terms) (stages : List Stage) (part run line : List Event) (x y : Means) → part ≡ run ++ line → Partly t stages run x y → IsLine line → FaultsLast part
-stages_last t stages part run line x y cut begun printed before after call why real is = by_line printed
+-- a run that has its fault last, with a line behind it
+pub faults_behind : (part run line : List Event) → part ≡ run ++ line → FaultsEnd run → IsLine line → FaultsLast part
+faults_behind part run line cut ends_so printed before after call why real is = by_line printed
   where
     in_it : (rest : List Event) → run ≡ before ++ Fault call why ∷ rest → (ids : List ℕ) × (rest ≡ map Abandoned ids)
-    in_it rest e = fault_ends t stages run x y before rest call why real e begun
+    in_it rest e = ends_so before rest call why real e
 
     by_line : IsLine line → EndsAlone after
     by_line (inl none) =
@@ -233,6 +237,11 @@ stages_last t stages part run line x y cut begun printed before after call why r
         either_way (inr found) =
             let ends = in_it found.0 found.1.0 in
             line_behind ends.0 found.0 after (Fault Print faulted.0) ends.1 found.1.1 (inr (inr (faulted.0, refl)))
+
+-- stages that were begun, with a line behind them, have their fault last
+pub stages_last : (t : Terms) (stages : List Stage) (part run line : List Event) (x y : Means) → part ≡ run ++ line → Partly t stages run x y → IsLine line → FaultsLast part
+stages_last t stages part run line x y cut begun printed =
+    faults_behind part run line cut (λ before rest call why real e. fault_ends t stages run x y before rest call why real e begun) printed
 
 alone_last : (x : Event) (before after : List Event) (event : Event) → x ∷ [] ≡ before ++ event ∷ after → after ≡ []
 alone_last x [] after event e = cc
@@ -343,6 +352,7 @@ pub complete : (look : Look) (words : Result Wish BadWord) (part : List Event) (
 complete look (Ok (Compiles q)) part ended c a = λ valid failed fault rose. complete_of look q part ended c a valid failed fault rose
 complete look (Ok (Archives q)) part ended c a = tt
 complete look (Ok (Generates n)) part ended c a = tt
+complete look (Ok (Shows b)) part ended c a = tt
 complete look (Err bad) part ended c a = tt
 
 -- ---- the turns are enough
@@ -377,4 +387,5 @@ pub enough : (look : Look) (words : Result Wish BadWord) (part : List Event) (en
 enough look (Ok (Compiles q)) part ended c a = enough_of look q part ended c a
 enough look (Ok (Archives q)) part ended c a = tt
 enough look (Ok (Generates n)) part ended c a = tt
+enough look (Ok (Shows b)) part ended c a = tt
 enough look (Err bad) part ended c a = tt

@@ -19,7 +19,8 @@ use Rattle.cc_build.specs.Stage.Stage.{Calls}
 use Rattle.cc_build.specs.Stop.{fault_error, host_error}
 use Rattle.cc_build.specs.Went.{Terms, Means, Went, Halted}
 use Rattle.cc_build.proofs.Going.{went_then, halted_more, halted_then, halted_none, refused_call, fault_of, part_is}
-use Rattle.cc_command.specs.Summary.{log_lines, shows, print_error, SumsUp}
+use Rattle.cc_command.specs.Lines.{shows, print_error}
+use Rattle.cc_command.specs.Summary.{log_lines, SumsUp}
 
 -- these lines were printed, whatever the terms and the means
 abbrev pub ShownSo : List (List ℕ) → List Event → Type 0
@@ -75,6 +76,11 @@ shown_all lines i part over so t x = (refl, subst (λ (l : List (List ℕ)). Wen
 pub unsummed : (count : ℕ) (log part : List Event) (e : ErrorSeen) → part ≡ [] → e ≡ no_memory → CallsEnd {T = Unit {0}} (shows (log_lines count log)) part (Err e)
 unfolding log_lines
 unsummed count log part e none memory t x = halted_none t None (calls (shows (log_lines count log))) part e x none memory (λ empty. absurd (cc))
+
+-- the same of other lines, if there is one
+pub unmade : (lines : List (List ℕ)) (part : List Event) (e : ErrorSeen) → (lines ≡ [] → ⊥) → part ≡ [] → e ≡ no_memory → CallsEnd {T = Unit {0}} (shows lines) part (Err e)
+unmade [] part e some none memory t x = absurd (some refl)
+unmade (line ∷ lines) part e some none memory t x = halted_none t None (calls (shows (line ∷ lines))) part e x none memory (λ empty. absurd (cc))
 
 -- a run that is done was summed up
 pub sums_done : (lines : List (List ℕ)) (run : Result (Unit {0}) ErrorSeen) (part : List Event) (result : Result (Unit {0}) ErrorSeen) → run ≡ Ok tt → CallsEnd (shows lines) part result → SumsUp lines run part result

@@ -11,6 +11,7 @@ use Rattle.cc_host.specs.declared.event.HostCall.TheVariants.{Print}
 use Rattle.cc_host.specs.declared.event.LineKind.TheVariants.{Fault as FaultLine}
 use Rattle.cc_host.specs.declared.event.Why.{Why}
 use Rattle.cc_plan.specs.declared.settings.BuildConfig.{BuildConfig}
+use Rattle.cc_build.specs.Build.{BuildSeen}
 use Rattle.cc_build.specs.Built.{Built}
 use Rattle.cc_build.specs.Captured.{with_vars}
 use Rattle.cc_build.specs.Course.{Course}
@@ -24,7 +25,7 @@ use Rattle.cc_build.specs.declared.error.ErrorKind.{ErrorKind}
 use Rattle.cc_build.specs.declared.error.ErrorKind.TheVariants.{NoMemory}
 use Rattle.cc_build.specs.Refusal.{refusal_error}
 use Rattle.cc_command.specs.Read.{Request, Wish, read}
-use Rattle.cc_command.specs.Read.Wish.{Compiles, Archives, Generates}
+use Rattle.cc_command.specs.Read.Wish.{Compiles, Archives, Generates, Shows}
 use Rattle.cc_command.specs.declared.words.BadWord.{BadWord}
 use Rattle.cc_command.specs.declared.words.WordCause.{WordCause}
 use Rattle.cc_command.specs.declared.words.WordCause.TheVariants.{NoCommand, UnknownCommand, NoName, NoValue, UnknownKey, BadValue}
@@ -152,6 +153,7 @@ abbrev pub IfCompiles : Result Wish BadWord → (Request → Type 0) → Type 0
 IfCompiles (Ok (Compiles request)) fact = fact request
 IfCompiles (Ok (Archives request)) fact = Unit {0}
 IfCompiles (Ok (Generates count)) fact = Unit {0}
+IfCompiles (Ok (Shows build)) fact = Unit {0}
 IfCompiles (Err bad) fact = Unit {0}
 
 -- a fact of an archive alone, where they wish that
@@ -159,6 +161,7 @@ abbrev pub IfArchives : Result Wish BadWord → (Request → Type 0) → Type 0
 IfArchives (Ok (Compiles request)) fact = Unit {0}
 IfArchives (Ok (Archives request)) fact = fact request
 IfArchives (Ok (Generates count)) fact = Unit {0}
+IfArchives (Ok (Shows build)) fact = Unit {0}
 IfArchives (Err bad) fact = Unit {0}
 
 -- a fact of a large run, where they wish one of so many sources
@@ -166,14 +169,24 @@ abbrev pub IfGenerates : Result Wish BadWord → (ℕ → Type 0) → Type 0
 IfGenerates (Ok (Compiles request)) fact = Unit {0}
 IfGenerates (Ok (Archives request)) fact = Unit {0}
 IfGenerates (Ok (Generates count)) fact = fact count
+IfGenerates (Ok (Shows build)) fact = Unit {0}
 IfGenerates (Err bad) fact = Unit {0}
 
+-- a fact of a build whose tools are shown, where they wish that
+abbrev pub IfShows : Result Wish BadWord → (BuildSeen → Type 0) → Type 0
+IfShows (Ok (Compiles request)) fact = Unit {0}
+IfShows (Ok (Archives request)) fact = Unit {0}
+IfShows (Ok (Generates count)) fact = Unit {0}
+IfShows (Ok (Shows build)) fact = fact build
+IfShows (Err bad) fact = Unit {0}
+
 -- Words that wish a compile run, or are bad, were answered. Those that can't be read for want of memory ask for nothing. A large run takes no token and
--- makes no turn but its own.
+-- makes no turn but its own; nor does what shows tools.
 abbrev pub AnswersWords : Look → Result Wish BadWord → List Event → Ended → Course → Type 0
 AnswersWords look (Ok (Compiles request)) part ended c = Answers look request part ended c
 AnswersWords look (Ok (Archives request)) part ended c = Unit {0}
 AnswersWords look (Ok (Generates count)) part ended c = c.after ≡ c.before
+AnswersWords look (Ok (Shows build)) part ended c = c.after ≡ c.before
 AnswersWords look (Err bad) part ended c = AnswersBad bad part ended × (c.after ≡ c.before)
 
 -- what the words ask for, or the first bad one

@@ -10,7 +10,8 @@ use Rattle.cc_command.specs.Answer.{env_in}
 use Rattle.cc_build.specs.Build.{AsksByRun}
 use Rattle.cc_command.specs.Archived.{alone, build_in}
 use Rattle.cc_command.specs.Read.{Request, Wish}
-use Rattle.cc_command.specs.Read.Wish.{Compiles, Archives, Generates}
+use Rattle.cc_command.specs.Read.Wish.{Compiles, Archives, Generates, Shows}
+use Rattle.cc_command.specs.Shown.{AsksTools, listed_build}
 use Rattle.cc_command.specs.declared.words.BadWord.{BadWord}
 
 -- Each question of a request is one that its run asks. Probe files lie in its out dir, else in the temp folder.
@@ -28,6 +29,7 @@ abbrev pub AsksWish : Bool → (Question → Outcome) → Wish → List Event �
 AsksWish steady world (Compiles request) part = AsksFor steady world request part
 AsksWish steady world (Archives request) part = AsksAlone steady world request part
 AsksWish steady world (Generates count) part = question_events part ≡ []
+AsksWish steady world (Shows build) part = AsksTools steady world (listed_build build part) part
 
 -- words that can't be read ask nothing
 abbrev pub AsksWords : Bool → (Question → Outcome) → Result Wish BadWord → List Event → Type 0

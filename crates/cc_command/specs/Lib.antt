@@ -2,8 +2,10 @@ pub mod Answer
 pub mod Archived
 pub mod Asks
 pub mod Generated
+pub mod Lines
 pub mod Promises
 pub mod Read
 pub mod SetsKey
+pub mod Shown
 pub mod Step
 pub mod Summary

@@ -1,4 +1,4 @@
--- What the words of the program ask for: `compile NAME key=value ...`, `archive NAME key=value ...` or `generate N`.
+-- What the words of the program ask for: `compile NAME key=value ...`, `archive NAME key=value ...`, `generate N` or `show key=value ...`.
 use Rattle.std.specs.Prelude.{◌≡◌, ℕ, ◌+◌, ◌^◌, List, [], ◌∷◌, ◌++◌, Bool, true, false, ◌&&◌, ◌||◌, fold, map, Option, Some, None, Result, Ok, Err, is_some, nat_lt, codes, bytes_eq, unwrap_or, if◌then◌else◌}
 use Prim.Native.String.{String}
 use Rattle.std.specs.Fmt.{decimal}
@@ -14,7 +14,7 @@ use Rattle.cc_command.specs.declared.words.WordCause.{WordCause}
 use Rattle.cc_command.specs.declared.words.WordCause.TheVariants.{NoCommand, UnknownCommand, NoName, NoValue, UnknownKey, BadValue}
 use Rattle.cc_command.specs.declared.words.Job.{Job}
 use Rattle.cc_command.specs.Generated.{gen_name}
-use Rattle.cc_command.specs.declared.words.Job.TheVariants.{Compile, Archive, Generate}
+use Rattle.cc_command.specs.declared.words.Job.TheVariants.{Compile, Archive, Generate, Show}
 use Rattle.cc_command.specs.declared.words.ReadError.{ReadError}
 use Rattle.cc_command.specs.declared.words.ReadError.TheVariants.{Bad}
 
@@ -223,11 +223,12 @@ settings_of words = record {
 abbrev pub Request : Type 0
 Request = List ℕ × BuildSeen
 
--- what is wished: a compile run, an archive alone, or a large run of so many sources
+-- what is wished: a compile run, an archive alone, a large run of so many sources, or that the tools of a build are shown
 pub data Wish : Type 0 where
   Compiles : Request → Wish
   Archives : Request → Wish
   Generates : ℕ → Wish
+  Shows : BuildSeen → Wish
 
 abbrev pub read_settings : (Request → Wish) → List ℕ → List (List ℕ) → Option BadWord → Result Wish BadWord
 read_settings wish name words (Some bad) = Err bad
@@ -286,27 +287,41 @@ read_count number words = if is_count number then unless_further (digits_value 1
 abbrev pub read_argued : List ℕ → List ℕ → List (List ℕ) → Result Wish BadWord
 read_argued command name words = if is command "generate" then read_count name words else read_named command name words
 
+-- what a command wishes that takes a word behind it, or the first bad word
+abbrev pub read_further : List ℕ → List (List ℕ) → Result Wish BadWord
+read_further command [] = Err (if is_command command then bad_at 1 NoName else bad_at 0 UnknownCommand)
+read_further command (name ∷ words) = read_argued command name words
+
+abbrev pub shown_unless : List (List ℕ) → Option BadWord → Result Wish BadWord
+shown_unless words (Some bad) = Err bad
+shown_unless words None = Ok (Wish.Shows (settings_of words))
+
+-- the settings whose tools are shown, which take no name before them, or the first bad word
+abbrev pub read_shown : List (List ℕ) → Result Wish BadWord
+read_shown words = shown_unless words (first_bad 1 words)
+
 -- what is wished, or the first bad word
 abbrev pub read : List (List ℕ) → Result Wish BadWord
 read [] = Err (bad_at 0 NoCommand)
-read (command ∷ []) = Err (if is_command command then bad_at 1 NoName else bad_at 0 UnknownCommand)
-read (command ∷ name ∷ words) = read_argued command name words
+read (command ∷ words) = if is command "show" then read_shown words else read_further command words
 
 abbrev pub bad_word : Option BadWord → Option ReadError
 bad_word None = None
 bad_word (Some bad) = Some (Bad bad)
 
--- the name of the library of a job, which is known of a large run
+-- the name of the library of a job, which is known of a large run, and is none where tools are shown
 abbrev pub name_of : Job → List ℕ
 name_of (Compile name) = name
 name_of (Archive name) = name
 name_of (Generate count) = gen_name
+name_of Show = []
 
 -- what a job with these settings wishes
 abbrev pub wish_of : Job → BuildSeen → Wish
 wish_of (Compile name) build = Wish.Compiles (name, build)
 wish_of (Archive name) build = Wish.Archives (name, build)
 wish_of (Generate count) build = Wish.Generates count
+wish_of Show build = Wish.Shows build
 
 -- the command takes a name, and a job for the library of this name does what it wishes
 abbrev pub IsJobOf : List ℕ → List ℕ → Job → Type 0

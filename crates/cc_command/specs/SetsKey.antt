@@ -21,6 +21,6 @@ SetsLevel old new value cause = (cause ≡ cause_unless (is_number value)) × (c
 abbrev pub SetsWord : BuildSeen → BuildSeen → List ℕ → Option WordCause → Type 0
 SetsWord old new word cause = (cause ≡ word_cause word) × (cause ≡ None → new ≡ with_word old word)
 
--- none of the words behind the name is bad, and this is what they set
-abbrev pub ReadsSettings : List (List ℕ) → BuildSeen → Type 0
-ReadsSettings words build = (first_bad 2 words ≡ None) × (build ≡ settings_of words)
+-- none of these words is bad, of which the first has this place, and this is what they set
+abbrev pub ReadsSettings : ℕ → List (List ℕ) → BuildSeen → Type 0
+ReadsSettings from words build = (first_bad from words ≡ None) × (build ≡ settings_of words)

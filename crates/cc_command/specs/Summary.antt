@@ -3,27 +3,22 @@ use Rattle.cc_command.specs.declared.summary.Counted.TheVariants.{Commands, Link
 use Rattle.cc_command.specs.declared.summary.Counted.{Counted}
 use Rattle.std.specs.Prelude.{◌≡◌, ◌⊎◌, ◌≤◌, ◌+◌, ◌*◌, ℕ, List, [], ◌++◌, length, map, filter, Bool, true, false, Some, Result, Ok, Err}
 use Rattle.cc_host.specs.Bench.{BenchSeen}
-use Rattle.cc_host.specs.Part.{Step}
-use Rattle.cc_host.specs.Part.Step.{Prints}
 use Rattle.cc_host.specs.Script.{same_role}
 use Rattle.cc_host.specs.declared.event.Event.{Event}
 use Rattle.cc_host.specs.declared.event.Event.TheVariants.{Started, Ran, Printed}
-use Rattle.cc_host.specs.declared.event.HostCall.TheVariants.{Print}
-use Rattle.cc_host.specs.declared.event.HostError.{HostError}
-use Rattle.cc_host.specs.declared.event.HostError.TheVariants.{Fault as Faulted, NoMemory as WantsMemory}
 use Rattle.cc_host.specs.declared.event.LineKind.TheVariants.{Link, Shown}
 use Rattle.cc_host.specs.declared.event.Role.{Role}
 use Rattle.cc_host.specs.declared.event.Role.TheVariants.{Compile, Archive, Index}
 use Rattle.cc_run.specs.Part.{turns}
 use Rattle.cc_build.specs.Built.{Built}
 use Rattle.cc_build.specs.Course.{CallsEnd}
-use Rattle.cc_build.specs.Error.{ErrorSeen, no_memory}
+use Rattle.cc_build.specs.Error.{ErrorSeen}
 use Rattle.cc_build.specs.Failed.{HasFault}
 use Rattle.cc_build.specs.Promises.{terms_for}
-use Rattle.cc_build.specs.Stop.{fault_error}
 use Rattle.cc_build.specs.declared.error.ErrorKind.TheVariants.{TurnsSpent}
 use Rattle.cc_command.specs.Answer.{told, ended_refused, ended_wanting}
 use Rattle.cc_command.specs.Archived.{Says}
+use Rattle.cc_command.specs.Lines.{shows}
 use Rattle.cc_command.specs.Generated.{gen_build, gen_settings, gen_name, no_variables, OnGenerated, GeneratedRun, counted_lines, summary}
 use Rattle.cc_command.specs.declared.ended.Ended.{Ended}
 
@@ -51,15 +46,6 @@ number test xs = length (filter test xs)
 unfoldable pub log_lines : ℕ → List Event → List (List ℕ)
 log_lines count log =
     counted_lines count (number (counts (Commands Compile)) log) (number (counts (Commands Archive)) log) (number (counts (Commands Index)) log) (number (counts Links) log)
-
--- these lines are printed as an answer of the program
-abbrev pub shows : List (List ℕ) → List Step
-shows = map (Prints Shown)
-
--- the error of a print that the host refused
-abbrev pub print_error : HostError → ErrorSeen
-print_error (Faulted call why) = fault_error Print why []
-print_error WantsMemory = no_memory
 
 -- a run that is done is summed up: its lines are printed, or the error has its cause; that of another run is kept
 abbrev pub SumsUp : List (List ℕ) → Result (Unit {0}) ErrorSeen → List Event → Result (Unit {0}) ErrorSeen → Type 0

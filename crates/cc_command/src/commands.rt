@@ -1,7 +1,7 @@
 // Reads the words of the program.
-ghost use Rattle.std.specs.Prelude.{◌≡◌, ◌⊎◌, [], Ok, Some, map, true, false, IfOk, IfErr, OnOk, string_bytes};
+ghost use Rattle.std.specs.Prelude.{◌≡◌, ◌⊎◌, [], ◌∷◌, Ok, Some, map, true, false, IfOk, IfErr, OnOk, string_bytes};
 ghost use Rattle.cc_command.specs.Answer.{asked_for};
-ghost use Rattle.cc_command.specs.Read.{bad_at, bad_word, IsJobOf, IsCountOf, taken, takes_name, is, is_command, read_named, read_count, read_argued, further, further_cause, wish_of, refusal_of};
+ghost use Rattle.cc_command.specs.Read.{bad_at, bad_word, IsJobOf, IsCountOf, taken, takes_name, is, is_command, read, read_named, read_count, read_argued, read_further, read_shown, further, further_cause, wish_of, refusal_of};
 ghost use Rattle.cc_command.specs.declared.words.ReadError.TheVariants.{Bad, NoMemory as WantsMemory};
 ghost use Rattle.cc_command.specs.declared.words.WordCause.TheVariants.{UnknownCommand as NoSuchCommand};
 
@@ -45,7 +45,7 @@ fn read_named<W: World>(
         (read_named command.now name.now (map string_bytes words.now)) ≡ Some e)) }
 {
     let job = job_of(alloc, command, name)?;
-    let build = read_settings(alloc, words)?;
+    let build = read_settings(alloc, words, 2)?;
     Ok(Request { job, build, alloc })
 }
 
@@ -103,7 +103,7 @@ fn read_count<W: World>(
     match count_of(alloc, number)? {
         Some(count) => {
             check_further(words)?;
-            let build = read_settings(alloc, words)?;
+            let build = read_settings(alloc, words, 2)?;
             let job = Job::Generate(count);
             Ok(Request { job, build, alloc })
         }
@@ -138,9 +138,67 @@ fn read_argued<W: World>(
     }
 }
 
+// Reads a command that takes a word behind it.
+fn read_further<W: World>(
+    alloc: Global,
+    command: &str,
+    words: &[String],
+) -> Result<Request<W>, ReadError>
+    ensures ok { IfOk result (λ request. read_further command.now
+        (map string_bytes words.now) ≡ Ok (wish_of request.job request.build)) }
+    ensures repeats { IfOk result (λ request. request.build.config.repeat_lines ≡ true) }
+    ensures refused { IfErr result (λ e. (e ≡ WantsMemory) ⊎ (refusal_of
+        (read_further command.now (map string_bytes words.now)) ≡ Some e)) }
+{
+    match words {
+        [] if is_command(command) => Err(bad(1, WordCause::NoName)),
+        [] => Err(bad(0, WordCause::UnknownCommand)),
+        [name, rest @ ..] => read_argued(alloc, command, name.as_str(), rest),
+    }
+}
+
+// Reads the words behind `show`: settings, and no name.
+fn read_shown<W: World>(alloc: Global, words: &[String]) -> Result<Request<W>, ReadError>
+    ensures ok { IfOk result (λ request. read_shown
+        (map string_bytes words.now) ≡ Ok (wish_of request.job request.build)) }
+    ensures repeats { IfOk result (λ request. request.build.config.repeat_lines ≡ true) }
+    ensures refused { IfErr result (λ e. (e ≡ WantsMemory) ⊎ (refusal_of
+        (read_shown (map string_bytes words.now)) ≡ Some e)) }
+{
+    let build = read_settings(alloc, words, 1)?;
+    let job = Job::Show;
+    Ok(Request { job, build, alloc })
+}
+
+// The command shows tools.
+fn shows_tools(command: &str) -> bool
+    ensures { result ≡ is command.now "show" }
+{
+    command == "show"
+}
+
+// Reads a command with the words behind it.
+fn read_command<W: World>(
+    alloc: Global,
+    command: &str,
+    words: &[String],
+) -> Result<Request<W>, ReadError>
+    ensures ok { IfOk result (λ request. read (command.now ∷ map string_bytes words.now)
+        ≡ Ok (wish_of request.job request.build)) }
+    ensures repeats { IfOk result (λ request. request.build.config.repeat_lines ≡ true) }
+    ensures refused { IfErr result (λ e. (e ≡ WantsMemory) ⊎ (refusal_of
+        (read (command.now ∷ map string_bytes words.now)) ≡ Some e)) }
+{
+    if shows_tools(command) {
+        read_shown(alloc, words)
+    } else {
+        read_further(alloc, command, words)
+    }
+}
+
 /// Reads the words behind the program's own name: `compile NAME key=value ...` or `archive NAME key=value ...`, where a word ends its key at
-/// its first `=`, or `generate N`. A list setting takes the values of its key in order, a single one the last; a large run takes a number
-/// from 1 to 10000 and no setting.
+/// its first `=`, `generate N`, or `show key=value ...`. A list setting takes the values of its key in order, a single one the last; a large
+/// run takes a number from 1 to 10000 and no setting.
 ///
 /// Refused at the first bad word, with its place from 0 and the first cause that holds; and for memory. Nothing is left then, and no host
 /// was asked anything.
@@ -153,8 +211,6 @@ pub fn read_words<W: World>(alloc: Global, words: &[String]) -> Result<Request<W
 {
     match words {
         [] => Err(bad(0, WordCause::NoCommand)),
-        [command] if is_command(command.as_str()) => Err(bad(1, WordCause::NoName)),
-        [_] => Err(bad(0, WordCause::UnknownCommand)),
-        [command, name, rest @ ..] => read_argued(alloc, command.as_str(), name.as_str(), rest),
+        [command, rest @ ..] => read_command(alloc, command.as_str(), rest),
     }
 }

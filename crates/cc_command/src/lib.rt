@@ -1,4 +1,4 @@
-//! The top call: words ask for a compile run, an archive alone, or a large run from a number, which `drive` does.
+//! The top call: words ask for a compile run, an archive alone, a large run from a number, or the tools of a build, which `drive` does.
 //!
 //! Stands on `cc_build` and the crates below it. `read_words` makes a request of the words, or tells the first bad one; `drive` reads them, captures
 //! the host's variables, compiles or archives, and prints why a run was refused. `generate`, as a word and as a call, compiles generated sources on a host in
@@ -10,7 +10,9 @@ mod archive;
 mod commands;
 mod ended;
 mod large_run;
+mod lines;
 mod reading;
+mod show;
 mod summary;
 mod top;
 mod words;

@@ -1,5 +1,5 @@
 // Reads the settings that words ask for.
-ghost use Rattle.std.specs.Prelude.{◌≡◌, ◌⊎◌, ◌++◌, [], ◌∷◌, Ok, Err, Some, None, map, true, false, IfOk, IfErr, OnOk, MatchResult, IsErr, string_bytes, codes};
+ghost use Rattle.std.specs.Prelude.{◌≡◌, ◌⊎◌, ◌≤◌, ◌++◌, [], ◌∷◌, Ok, Err, Some, None, map, true, false, IfOk, IfErr, OnOk, MatchResult, IsErr, string_bytes, codes};
 ghost use Rattle.std.specs.Option.{option_copied};
 ghost use Rattle.cc_build.specs.Build.{Sets};
 ghost use Rattle.cc_command.specs.Read.{bad_at, IsNumberOf, IsTruthOf, is_truth, is_text_key, is_item_key, is_choice_key, is_switch_key, cause_unless, definition_of, unless_empty, first_bad, bad_word};
@@ -368,14 +368,16 @@ pub(crate) fn bad(place: u64, cause: WordCause) -> ReadError
     ReadError::Bad(BadWord { place, cause })
 }
 
-/// Calls the setters of the words behind the name, in their order, up to the first bad word.
+/// Calls the setters of words, of which the first has this place, in their order, up to the first bad word.
 pub(crate) fn read_settings<W: World>(
     alloc: Global,
     words: &[String],
+    from: u64,
 ) -> Result<Build<W>, ReadError>
-    ensures ok { IfOk result (ReadsSettings (map string_bytes words.now)) }
+    requires { from ≤ 2 }
+    ensures ok { IfOk result (ReadsSettings from (map string_bytes words.now)) }
     ensures refused { IfErr result (λ e. (e ≡ WantsMemory)
-        ⊎ (bad_word (first_bad 2 (map string_bytes words.now)) ≡ Some e)) }
+        ⊎ (bad_word (first_bad from (map string_bytes words.now)) ≡ Some e)) }
 {
     let mut build = match Build::new(alloc) {
         Ok(build) => build,
@@ -384,7 +386,7 @@ pub(crate) fn read_settings<W: World>(
     build.repeat_lines(true);
     for (place, word) in words.iter().enumerate() {
         if let Some(cause) = set_word(alloc, &mut build, word.as_str())? {
-            return Err(bad(place as u64 + 2, cause));
+            return Err(bad(place as u64 + from, cause));
         }
     }
     Ok(build)

@@ -1,23 +1,20 @@
 // The job of a large run from a number: it is run, and what it came to is printed.
-ghost use Rattle.std.specs.Prelude.{◌≡◌, ◌⊎◌, ◌++◌, [], ◌∷◌, Some, IfOk, OnOk};
+ghost use Rattle.std.specs.Prelude.{◌≡◌, ◌++◌, [], ◌∷◌, Some, IfOk, OnOk};
 ghost use Rattle.cc_host.specs.Call.{part};
-ghost use Rattle.cc_host.specs.Part.Step.{Prints};
 ghost use Rattle.cc_host.specs.Script.{same_role};
-ghost use Rattle.cc_host.specs.declared.event.HostCall.TheVariants.{Print};
-ghost use Rattle.cc_host.specs.declared.event.LineKind.TheVariants.{Shown};
 ghost use Rattle.cc_tool.specs.Asked.{question_events};
 ghost use Rattle.cc_build.specs.Course.{CallsEnd};
-ghost use Rattle.cc_build.specs.Error.{no_memory};
 ghost use Rattle.cc_build.specs.Kept.{Aside};
-ghost use Rattle.cc_build.specs.Stop.{fault_error, why_name as name_of_why};
 ghost use Rattle.cc_command.specs.Answer.{told};
 ghost use Rattle.cc_command.specs.Generated.{counted_line as line_of};
-ghost use Rattle.cc_command.specs.Summary.{begins as is_begun, counts as is_counted, links as is_link, number, log_lines, shows, print_error, SumsUp, Concludes, Sums};
+ghost use Rattle.cc_command.specs.Lines.{shows};
+ghost use Rattle.cc_command.specs.Summary.{begins as is_begun, counts as is_counted, links as is_link, number, log_lines, SumsUp, Concludes, Sums};
 
 use crate::ended::{Ended, ended_done, ended_wanting, refuse};
 use crate::large_run::{Generated, generate};
-use cc_build::{Error, ErrorKind};
-use cc_host::{Event, Host, HostError, LineKind, Role, Why, World};
+use crate::lines::print_lines;
+use cc_build::Error;
+use cc_host::{Event, Host, LineKind, Role, World};
 use cc_text::{Mem, NoMemory, Text, Words};
 use std::alloc::Global;
 use std::sync::Wait;
@@ -99,68 +96,6 @@ fn summary_lines(alloc: Global, count: u32, log: &[Event]) -> Mem<Words>
     push_count(alloc, &mut lines, "indexes", indexes)?;
     push_count(alloc, &mut lines, "links", links)?;
     Ok(lines)
-}
-
-fn why_name(why: Why) -> &'static str
-    ensures { result.now ≡ name_of_why why }
-{
-    match why {
-        Why::NotFound => "not found",
-        Why::Denied => "denied",
-        Why::Exists => "exists",
-        Why::Other => "other",
-    }
-}
-
-// The error of a print that the host refused.
-#[tactic(auto, unfolding(cc_build::specs::Stop::fault_error))]
-fn print_failed(alloc: Global, why: Why) -> Mem<Error>
-    ensures { IfOk result (λ e. e ≡ fault_error Print why []) }
-{
-    let mut message = Text::of(alloc, "print failed: ")?;
-    message.push_str(why_name(why))?;
-    Error::of(alloc, ErrorKind::IOError, "", message.as_str())
-}
-
-// The same of what the host answered, or want of memory for the texts.
-fn unprinted(alloc: Global, error: HostError) -> Error
-    ensures { (result ≡ no_memory) ⊎ (result ≡ print_error error) }
-{
-    match error {
-        HostError::Fault(_, why) => match print_failed(alloc, why) {
-            Ok(error) => error,
-            Err(memory) => Error::from(memory),
-        },
-        HostError::NoMemory => Error::from(NoMemory),
-    }
-}
-
-// Prints a line of the summary.
-#[tactic(auto, using(cc_host::proofs::Parts::since_append))]
-fn print_line<W: World, H: Host<W>>(alloc: Global, host: &mut H, line: &Text) -> Result<(), Error>
-    ensures aside { Aside H.log H.patience host.old host.new }
-    ensures outcome { CallsEnd (Prints Shown line.now ∷ [])
-        (part H.log host.old host.new) result }
-{
-    match host.print(LineKind::Shown, line.as_str().as_bytes()) {
-        Ok(()) => Ok(()),
-        Err(error) => Err(unprinted(alloc, error)),
-    }
-}
-
-#[tactic(auto, using(cc_build::proofs::Keeping::aside_none, cc_build::proofs::Keeping::aside_then))]
-fn print_lines<W: World, H: Host<W>>(
-    alloc: Global,
-    host: &mut H,
-    lines: &[Text],
-) -> Result<(), Error>
-    ensures aside { Aside H.log H.patience host.old host.new }
-    ensures outcome { CallsEnd (shows lines.now) (part H.log host.old host.new) result }
-{
-    for line in lines {
-        print_line(alloc, host, line)?;
-    }
-    Ok(())
 }
 
 // Sums a run up by its log.

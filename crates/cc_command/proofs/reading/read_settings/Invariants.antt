@@ -5,6 +5,6 @@ use Rattle.cc_command.proofs.reading.read_settings.Given as goal
 -- the words so far were good, and are set
 abbrev pub invariant-loop-place : goal.invariant-loop-place
 invariant-loop-place g l = record {
-  rest : first_bad (2 + l.place) (map string_bytes (drop l.place l.words)) ≡ first_bad 2 (map string_bytes l.words);
+  rest : first_bad (l.from + l.place) (map string_bytes (drop l.place l.words)) ≡ first_bad l.from (map string_bytes l.words);
   build : l.build ≡ settings_of (map string_bytes (take l.place l.words));
 }

@@ -2,7 +2,7 @@ use Rattle.std.proofs.Common.{◌∙◌, List, ℕ, sym, subst, append-nil}
 use Rattle.cc_host.specs.Part.{since}
 use Rattle.cc_build.specs.Course.{CallsEnd}
 use Rattle.cc_build.proofs.Going.{part_is}
-use Rattle.cc_command.specs.Summary.{shows}
+use Rattle.cc_command.specs.Lines.{shows}
 use Rattle.cc_command.proofs.ShowLaws.{unsummed}
 use Rattle.cc_command.proofs.summary.print_summary.Goals as goal
 

@@ -3,6 +3,7 @@ use Rattle.cc_host.specs.Part.{since}
 use Rattle.cc_build.specs.Course.{course}
 use Rattle.cc_build.specs.Went.{means}
 use Rattle.cc_command.proofs.ArchivedLaws.{of_compile, of_archive}
+use Rattle.cc_command.proofs.ShownLaws.{of_show, asks_show, shown_show}
 use Rattle.cc_command.proofs.SummedLaws.{of_generate, asks_generate, sums_generate}
 use Rattle.cc_command.proofs.top.serve.Goals as goal
 
@@ -35,3 +36,17 @@ returns-in-Generate-clause-asked g c =
 pub returns-in-Generate-clause-generated : goal.returns-in-Generate-clause-generated
 returns-in-Generate-clause-generated g c =
     sums_generate c.args.request.now.job _ c.args.turns c.args.request.now.build (since (g.H.Host.log c.args.host.now) (g.H.Host.log c.generate_alone.new.host)) c.generate_alone.result c.in-Generate.is c.generate_alone.ensures.sums
+
+pub returns-in-Show-clause-answer : goal.returns-in-Show-clause-answer
+returns-in-Show-clause-answer g c =
+    let part = since (g.H.Host.log c.args.host.now) (g.H.Host.log c.show_tools.new.host) in
+    let left = means c.args.turns (g.J.Jobs.faults c.args.seat.now) (g.J.Jobs.taken c.args.seat.now) (g.J.Jobs.load c.args.seat.now) in
+    record { under = λ look agree. (c.args.turns, of_show c.args.request.now.job c.args.request.now.build c.show_tools.result look part (course (g.J.Jobs.total c.args.seat.now) (g.H.Host.patience c.args.host.now) left left) c.in-Show.is refl) }
+
+pub returns-in-Show-clause-asked : goal.returns-in-Show-clause-asked
+returns-in-Show-clause-asked g c =
+    asks_show c.args.request.now.job c.args.request.now.build g.W.World.steady g.W.World.answer (since (g.H.Host.log c.args.host.now) (g.H.Host.log c.show_tools.new.host)) c.show_tools.result c.in-Show.is c.show_tools.ensures.shown
+
+pub returns-in-Show-clause-shown : goal.returns-in-Show-clause-shown
+returns-in-Show-clause-shown g c =
+    shown_show c.args.request.now.job c.args.request.now.build g.W.World.steady g.W.World.answer (since (g.H.Host.log c.args.host.now) (g.H.Host.log c.show_tools.new.host)) c.show_tools.result c.in-Show.is c.show_tools.ensures.shown

@@ -5,7 +5,7 @@ use Rattle.cc_host.specs.declared.event.Event.TheVariants.{Printed}
 use Rattle.cc_host.specs.declared.event.LineKind.TheVariants.{Shown}
 use Rattle.cc_build.proofs.Going.{called, part_is}
 use Rattle.cc_command.proofs.ShowLaws.{unshown}
-use Rattle.cc_command.proofs.summary.print_line.Goals as goal
+use Rattle.cc_command.proofs.lines.print_line.Goals as goal
 
 pub returns-in-Ok-clause-outcome : goal.returns-in-Ok-clause-outcome
 returns-in-Ok-clause-outcome g c =

@@ -2,7 +2,7 @@ use Rattle.std.proofs.Common.{take}
 use Rattle.cc_host.specs.Call.{part}
 use Rattle.cc_build.specs.Kept.{Aside}
 use Rattle.cc_command.proofs.ShowLaws.{ShownSo}
-use Rattle.cc_command.proofs.summary.print_lines.Given as goal
+use Rattle.cc_command.proofs.lines.print_lines.Given as goal
 
 -- the lines so far were printed
 abbrev pub invariant-loop-line : goal.invariant-loop-line

@@ -2,7 +2,7 @@ use Rattle.std.proofs.Common.{arith}
 use Rattle.std.proofs.lemmas.Result.{err_from_is_err_and}
 use Rattle.cc_build.proofs.Keeping.{aside_none, aside_then}
 use Rattle.cc_command.proofs.ShowLaws.{shown_none, shown_all, shown_more, shown_refused}
-use Rattle.cc_command.proofs.summary.print_lines.Goals as goal
+use Rattle.cc_command.proofs.lines.print_lines.Goals as goal
 
 pub loop-line-init : goal.loop-line-init
 loop-line-init g c = record { aside = aside_none g.H.Host.log g.H.Host.patience c.args.host.now; shown = shown_none c.args.lines.now (g.H.Host.log c.args.host.now) }
