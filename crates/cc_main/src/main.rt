@@ -22,7 +22,7 @@ use cc_text::{Mem, NoMemory, Vars};
 use std::alloc::Global;
 use std::process::ExitCode;
 use std::sync::Wait;
-use std::{env, io};
+use std::{env, io, mem};
 
 static HELP: &str = "\
 Compiles C, C++ and assembly into a static library, and prints how Cargo links it.
@@ -119,7 +119,10 @@ fn run<W: World, H: Host<W>>(
     let total = tokens(alloc, host)?;
     let (jobs, mut seat) = SharedPool::new(alloc, total)?;
     let ended = drive(rt, alloc, words, u64::MAX, host, &jobs, &mut seat);
-    Ok(ended.status)
+    let status = ended.status;
+    // The process ends right behind this, and with it goes what the host of a large run has noted.
+    mem::forget(ended);
+    Ok(status)
 }
 
 // What the program answers on standard output where its first word asks for that.
