@@ -1,10 +1,10 @@
 -- The planned compile commands: the tool, then the words of the object and the source.
-use Rattle.std.specs.Prelude.{List, ◌++◌, Option, None, unwrap_or, map, if◌then◌else◌}
+use Rattle.std.specs.Prelude.{ℕ, List, ◌++◌, Option, None, unwrap_or, map, if◌then◌else◌}
 use Rattle.cc_host.specs.Command.{CommandSeen}
 use Rattle.cc_target.specs.Targets.{Info}
 use Rattle.cc_text.specs.declared.family.ToolFamily.{ToolFamily}
 use Rattle.cc_tool.specs.Tool.{ToolSeen, tool_command}
-use Rattle.cc_plan.specs.CompileWords.{compile_words, is_masm}
+use Rattle.cc_plan.specs.CompileWords.{compile_words, expand_words, is_masm}
 use Rattle.cc_plan.specs.declared.object.Object.{Object}
 use Rattle.cc_plan.specs.declared.settings.BuildConfig.{BuildConfig}
 
@@ -23,3 +23,7 @@ compile_of set info tool assembler object = with_object set info tool.family obj
 -- one command an object, in order
 abbrev pub compiles_of : BuildConfig → Info → ToolSeen → List Object → List CommandSeen
 compiles_of set info tool objects = map (compile_of set info tool None) objects
+
+-- the command that expands a source
+abbrev pub expand_of : BuildConfig → ToolSeen → List ℕ → CommandSeen
+expand_of set tool source = record (tool_command tool) { args = (tool_command tool).args ++ expand_words tool.family set.cpp source }

@@ -57,6 +57,14 @@ source_words family cpp source =
     if is_cl family && cpp && has_extension_cc source then (codes "-Tp" ++ source) ∷ []
     else when (is_clang_cl family) (word "--") ++ source ∷ []
 
+-- the source of a file that is expanded: for assembly no dashes stand before it
+unfoldable pub expanded_source : ToolFamily → Bool → List ℕ → List (List ℕ)
+expanded_source family cpp source = if is_clang_cl family && is_asm source then source ∷ [] else source_words family cpp source
+
+-- the words of a command that expands a source, which follow those of the tool
+abbrev pub expand_words : ToolFamily → Bool → List ℕ → List (List ℕ)
+expand_words family cpp source = word "-E" ++ expanded_source family cpp source
+
 -- the words of a compile command that follow those of the tool
 abbrev pub compile_words : BuildConfig → ToolFamily → Info → Object → List (List ℕ)
 compile_words set family target object =

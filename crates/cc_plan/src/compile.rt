@@ -3,10 +3,10 @@ ghost use Rattle.std.specs.Prelude.{◌≡◌, IfOk, IfErr, OnOk, None, unwrap_o
 ghost use Rattle.std.specs.Option.{option_copied};
 ghost use Rattle.cc_target.specs.Targets.{info_seen};
 ghost use Rattle.cc_tool.specs.Tool.{tool_command};
-ghost use Rattle.cc_plan.specs.Compile.{tool_for, with_object, compile_of, compiles_of};
+ghost use Rattle.cc_plan.specs.Compile.{tool_for, with_object, compile_of, compiles_of, expand_of};
 ghost use Rattle.cc_plan.specs.declared.error.PlanError.TheVariants.{NoMemory as WantsMemory};
 
-use crate::words::{compile_words, is_masm};
+use crate::words::{compile_words, expand_words, is_masm};
 use crate::{BuildConfig, Object, PlanError};
 use cc_host::Command;
 use cc_target::TargetInfo;
@@ -103,4 +103,15 @@ pub(crate) fn compile_commands(
         cmds.push(command_from(&start, alloc, set, target, tool, object)?)?;
     }
     Ok(cmds)
+}
+
+/// The command that expands a source: the tool in its whole environment, then `-E` and the source in the form of the tool's family. Only
+/// want of memory refuses.
+pub fn expand_command(alloc: Global, set: &BuildConfig, tool: &Tool, source: &str) -> Mem<Command>
+    ensures { IfOk result (λ c. c ≡ expand_of set.now tool.now source.now) }
+{
+    let mut cmd = tool.to_command()?;
+    let words = expand_words(alloc, tool.family(), set.cpp, source)?;
+    cmd.args(&words)?;
+    Ok(cmd)
 }

@@ -49,7 +49,7 @@ pub use archive::{
 };
 pub use batch::batches;
 pub use choice::Choice;
-pub use compile::compile_command;
+pub use compile::{compile_command, expand_command};
 pub use compiler::Compiler;
 pub use error::{ArgumentCause, PlanError};
 pub use flag_verdict::{FlagSupport, flag_support};

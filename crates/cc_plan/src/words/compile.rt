@@ -135,6 +135,29 @@ fn push_source_words(words: &mut Words, family: ToolFamily, cpp: bool, source: &
     Ok(())
 }
 
+// The source of a file that is expanded. For assembly no `--` stands before it.
+#[tactic(auto, unfolding(crate::specs::CompileWords::expanded_source))]
+fn push_expanded_source(words: &mut Words, family: ToolFamily, cpp: bool, source: &str) -> Mem<()>
+    ensures { OnOk result (words.new ≡ words.old ++ spec.expanded_source family cpp source.now) }
+{
+    if is_clang_cl(family) && is_asm(source) {
+        words.push(source)
+    } else {
+        push_source_words(words, family, cpp, source)
+    }
+}
+
+/// The words of a command that expands a source, which follow those of the tool: `-E`, which stops behind the preprocessor (GCC's "Options
+/// Controlling the Kind of Output"), and the source. Only want of memory refuses.
+pub(crate) fn expand_words(alloc: Global, family: ToolFamily, cpp: bool, source: &str) -> Mem<Words>
+    ensures { IfOk result (λ words. words ≡ spec.expand_words family cpp source.now) }
+{
+    let mut words = Words::new(alloc);
+    words.push("-E")?;
+    push_expanded_source(&mut words, family, cpp, source)?;
+    Ok(words)
+}
+
 /// The words of a compile command that follow those of the tool: the object, `-c`, which compiles and links nothing (GCC's "Options
 /// Controlling the Kind of Output"), the flags of sources in assembly, and the source. Only want of memory refuses.
 pub(crate) fn compile_words(

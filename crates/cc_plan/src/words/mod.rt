@@ -4,7 +4,7 @@ mod defaults;
 mod settings;
 mod tool;
 
-pub(crate) use compile::{compile_words, is_masm};
+pub(crate) use compile::{compile_words, expand_words, is_masm};
 pub(crate) use defaults::check_defaults;
 pub(crate) use settings::{is_link, is_link_flag};
 pub(crate) use tool::{asked_words, remapped, rust_words, tool_warnings, tool_words, trimmed};
