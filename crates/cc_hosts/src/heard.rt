@@ -9,6 +9,9 @@ use std::alloc::Global;
 /// How many bytes of a child's standard error are kept until the host takes them. The child that writes more waits, as at any full pipe.
 pub const KEPT: usize = 65536;
 
+// For how many there is room from the start. Most children write less.
+const FIRST: usize = 8192;
+
 /// What was heard of a child and not yet taken, how it ended, and whether it was left.
 #[derive(Drop)]
 pub struct Heard {
@@ -52,7 +55,7 @@ impl Heard {
     /// Nothing yet.
     pub fn new(alloc: Global) -> Mem<Heard> {
         Ok(Heard {
-            bytes: Vec::with_capacity(alloc, KEPT)?,
+            bytes: Vec::with_capacity(alloc, FIRST)?,
             unread: false,
             ended: None,
             is_left: false,
@@ -64,12 +67,16 @@ impl Heard {
         !self.bytes.is_empty() || self.unread || self.ended.is_some()
     }
 
-    /// How many bytes more can be kept.
-    pub fn room(&self) -> usize {
-        KEPT.saturating_sub(self.bytes.len())
+    /// How many bytes more can be kept. Where memory for more is wanting, what is kept has to be taken first.
+    pub fn room(&mut self) -> usize {
+        let len = self.bytes.len();
+        if len == self.bytes.capacity() && len < KEPT {
+            let _ = self.bytes.reserve(len);
+        }
+        self.bytes.capacity().min(KEPT).saturating_sub(len)
     }
 
-    /// Keeps what was read. Bytes that can't be kept count as unread.
+    /// Keeps what was read, for which there was room. Bytes that can't be kept count as unread.
     pub fn add(&mut self, bytes: &[u8]) {
         if self.bytes.extend_from_slice(bytes).is_err() {
             self.unread = true;

@@ -13,13 +13,13 @@ mod entry;
 mod fixed_host;
 mod heard;
 mod look_up;
-mod nursery;
 mod plain;
 mod process_host;
 mod reason;
 mod running;
 mod standard;
 mod watched;
+mod watchers;
 
 pub use child::Closed;
 pub use fixed_host::{Fixed, FixedHost};

@@ -6,10 +6,10 @@ use crate::asking::{KEPT, ask, outcome_of};
 use crate::child::{self, Begun, Closed, Ended, Streams};
 use crate::disk::{create_new, remove};
 use crate::entry::list_vars;
-use crate::nursery::Nursery;
 use crate::reason::why_of;
 use crate::running::{self, Process};
 use crate::watched::Watched;
+use crate::watchers::Watchers;
 use cc_host::{
     ChildLog, Command, Created, Event, Host, HostCall, HostError, LineKind, News, Outcome, Pipes,
     ProbeFiles, Question, Ran, Removal, Role, Scope, Start, Verdict, Why, World, exists_of,
@@ -42,8 +42,8 @@ impl World for Real {
 /// A host over the processes, the files and the streams of the machine, by its runtime. It keeps the trait `Host`, and no
 /// more is proved of it: no proof can say what a process did.
 ///
-/// Each child that was started has a thread that reads its standard error as it comes and sees its end; where no thread can be made, each
-/// turn does that itself. Of each child at most 64 KiB are kept until a turn takes them, and a child that writes more waits for that. A
+/// Each child that was started has a thread that reads its standard error as it comes and sees its end; within a child's first millisecond
+/// of rest, and where no thread can be made, each turn does that itself. Of each child at most 64 KiB are kept until a turn takes them, and a child that writes more waits for that. A
 /// turn takes what is there, of every child, and rests before only as long as there is nothing. A child that was left alone is ended, and
 /// its thread with it. With the host all threads are joined, and children that run are left to run.
 ///
@@ -56,7 +56,7 @@ pub struct ProcessHost<R: Processes + Threads + Wait + Copy> {
     alloc: Global,
     log: ChildLog,
     processes: Vec<Process<R>>,
-    nursery: Nursery<R>,
+    watchers: Watchers<R>,
     news: Arc<Parker>,
     drawn: u64,
     closed: Closed,
@@ -82,13 +82,13 @@ where
     {
         let alloc = rt.alloc();
         let news = Arc::new(alloc, Parker::new())?;
-        let nursery = Nursery::new(rt, alloc)?;
+        let watchers = Watchers::new(rt, alloc)?;
         Ok(ProcessHost {
             rt,
             alloc,
             log: ChildLog::new(alloc),
             processes: Vec::new(alloc),
-            nursery,
+            watchers,
             news,
             drawn: 0,
             closed: Closed {
@@ -191,7 +191,6 @@ where
             Begun::Child(child) => {
                 let id = self.log.note_child(role, command, pipes, held, None);
                 let process = Process::new(self.rt, id, place, child);
-                self.nursery.add(process.watched());
                 self.processes.push_reserved(process);
                 Ok(Start::Child(id))
             }
@@ -199,7 +198,14 @@ where
     }
 
     fn turn(&mut self, rest_ms: u64) -> Result<Vec<News>, HostError> {
-        running::rest(&self.rt, &self.news, &self.processes, rest_ms);
+        running::rest(
+            self.rt,
+            self.alloc,
+            &self.news,
+            &self.watchers,
+            &mut self.processes,
+            rest_ms,
+        );
         let news = running::turn(self.alloc, &mut self.log, &mut self.processes)?;
         Ok(news)
     }

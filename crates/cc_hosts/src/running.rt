@@ -1,4 +1,6 @@
-// The processes that run as children of this one, each with a thread of its own.
+// The processes that run as children of this one. A child is young until it was silent for a first rest: so long each turn watches it by
+// itself, and all young ones wait in one `poll(2)`, since most of what a short command would cost is the way to a thread and back. Then it
+// gets a thread of its own.
 ghost use Rattle.std.specs.Prelude.{◌≡◌, ◌++◌, IfOk, OnErr};
 ghost use Rattle.cc_host.specs.ChildLog.{AreTold, IsPieceBy};
 ghost use Rattle.cc_host.specs.Children.{IsNews};
@@ -6,13 +8,15 @@ ghost use Rattle.cc_host.specs.Event.{turned};
 
 use crate::heard::Taken;
 use crate::watched::Watched;
+use crate::watchers::Watchers;
 use cc_host::{ChildLog, News, RunningChild, Status};
 use cc_text::Mem;
+use libc::types::pollfd;
 use std::alloc::Global;
 use std::os::fd::AsRawFd;
 use std::process::{Child, OpenProcess, Processes};
 use std::sync::{Arc, Wait};
-use std::thread::Parker;
+use std::thread::{Parker, Threads};
 use std::time::Duration;
 
 /// A process that runs, as its child is watched.
@@ -21,7 +25,11 @@ pub struct Process<R: Processes + Wait + Copy> {
     id: u64,
     watched: Arc<Watched<R::Started>>,
     taken: Taken,
+    is_young: bool,
 }
+
+// How long the young children are waited for in one rest, in milliseconds. What the others did isn't seen meanwhile.
+const YOUNG_MS: u64 = 1;
 
 /// Lets the child's thread end. The process runs on.
 impl<R: Processes + Wait + Copy> Drop for Process<R> {
@@ -31,6 +39,7 @@ impl<R: Processes + Wait + Copy> Drop for Process<R> {
             id: _,
             watched,
             taken: _,
+            is_young: _,
         } = self;
         watched.leave(&rt);
         drop(watched);
@@ -68,12 +77,8 @@ impl<R: Processes + Wait + Copy> Process<R> {
             id,
             watched,
             taken: Taken::none(),
+            is_young: true,
         }
-    }
-
-    /// Its child, as it is watched.
-    pub fn watched(&self) -> &Arc<Watched<R::Started>> {
-        &self.watched
     }
 }
 
@@ -163,18 +168,80 @@ where
     has_news
 }
 
-/// Rests until a child has news, for at most so many milliseconds.
-pub fn rest<R: Processes + Wait + Copy>(
-    rt: &R,
-    news: &Parker,
+// The pipes of the young children, to be waited for. None where there is none, where one of them can't be waited for, or where memory is
+// wanting.
+fn young_pipes<R: Processes + Wait + Copy>(
+    alloc: Global,
     processes: &[Process<R>],
+) -> Option<Vec<pollfd>>
+where
+    <R::Started as OpenProcess>::Stderr: AsRawFd,
+{
+    let mut pipes = Vec::new(alloc);
+    for process in processes {
+        if process.is_young {
+            pipes.push(process.watched.pipe(&process.rt)?).ok()?;
+        }
+    }
+    if pipes.is_empty() {
+        return None;
+    }
+    Some(pipes)
+}
+
+// Waits until a young child writes or ends, for at most so many milliseconds, and answers how many are left to rest.
+fn wait_for_young<R: Processes + Wait + Copy>(
+    alloc: Global,
+    processes: &[Process<R>],
+    rest_ms: u64,
+) -> u64
+where
+    <R::Started as OpenProcess>::Stderr: AsRawFd,
+{
+    match young_pipes(alloc, processes) {
+        Some(mut pipes) => {
+            libc::net::poll(&mut pipes, YOUNG_MS as i32);
+            rest_ms.saturating_sub(YOUNG_MS)
+        }
+        None => rest_ms,
+    }
+}
+
+// Gives each young child to a thread.
+fn grow<R: Processes + Threads + Wait + Copy>(
+    watchers: &Watchers<R>,
+    processes: &mut [Process<R>],
+) {
+    for process in processes {
+        if process.is_young {
+            watchers.add(&process.watched);
+            process.is_young = false;
+        }
+    }
+}
+
+/// Rests until a child has news, for at most so many milliseconds. A young child that was silent gets a thread.
+pub fn rest<R: Processes + Threads + Wait + Copy>(
+    rt: R,
+    alloc: Global,
+    news: &Parker,
+    watchers: &Watchers<R>,
+    processes: &mut [Process<R>],
     rest_ms: u64,
 )
 where
     <R::Started as OpenProcess>::Stderr: AsRawFd,
 {
-    if !look(processes) && rest_ms > 0 {
-        news.park_timeout(rt, Duration::from_millis(rest_ms));
+    if look(processes) || rest_ms == 0 {
+        return;
+    }
+    let left = wait_for_young(alloc, processes, rest_ms);
+    if look(processes) {
+        return;
+    }
+    grow(watchers, processes);
+    if left > 0 {
+        news.park_timeout(&rt, Duration::from_millis(left));
         look(processes);
     }
 }

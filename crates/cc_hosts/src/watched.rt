@@ -28,7 +28,8 @@ const READ: usize = 8192;
 // How long the thread waits for a child that is silent, in milliseconds.
 const PATIENCE: i32 = 50;
 
-// How many steps are made in a turn for a child that has no thread.
+// How many steps are made in a turn for a child that has no thread. One whose pipe was closed is mostly about to end, so it is asked for as
+// often.
 const STEPS: u32 = 64;
 
 // How many reads may follow the end of a child. A pipe holds no more of what it wrote.
@@ -78,13 +79,18 @@ enum Step {
     Over,
 }
 
-// Whether a file can be read without waiting, or has an end to tell, within so many milliseconds.
-fn is_ready(file: &impl AsRawFd, most_ms: i32) -> bool {
-    let mut asked = [pollfd {
+// A file to be waited for, until it can be read or has an end to tell.
+fn awaited(file: &impl AsRawFd) -> pollfd {
+    pollfd {
         fd: file.as_raw_fd(),
         events: POLLIN,
         revents: 0,
-    }];
+    }
+}
+
+// Whether a file can be read without waiting, or has an end to tell, within so many milliseconds.
+fn is_ready(file: &impl AsRawFd, most_ms: i32) -> bool {
+    let mut asked = [awaited(file)];
     libc::net::poll(&mut asked, most_ms) > 0
 }
 
@@ -282,9 +288,22 @@ where
     fn attend_to(&self, rt: &impl Wait, ear: &mut Ear<P::Stderr>) {
         for _ in 0..STEPS {
             match self.step(rt, ear, 0) {
-                Step::News | Step::Again => {}
-                Step::Silent | Step::Full | Step::Closed | Step::Over => return,
+                Step::News | Step::Again | Step::Closed => {}
+                Step::Silent | Step::Full | Step::Over => return,
             }
+        }
+    }
+
+    /// Its standard error, to be waited for. None where it is closed, or read by a thread.
+    pub fn pipe(&self, rt: &impl Wait) -> Option<pollfd> {
+        match &*self.ear.lock(rt) {
+            Some(
+                Ear {
+                    pipe: Some(pipe),
+                    ..
+                },
+            ) => Some(awaited(pipe)),
+            _ => None,
         }
     }
 
