@@ -41,7 +41,7 @@ pub alone_unless : (b : Bool) (stages : List Stage) → AreAlone stages → AreA
 alone_unless true stages h = tt
 alone_unless false stages h = h
 
-alone_calls : (steps : List Step) → AreAlone (calls steps)
+pub alone_calls : (steps : List Step) → AreAlone (calls steps)
 alone_calls [] = tt
 alone_calls (step ∷ steps) = (tt, alone_calls steps)
 
@@ -126,6 +126,11 @@ module _ (shows : Shows) (patience old new : Option ℕ) (faults taken load : �
         went = went_alone h.before h.front x h.y (alone_before h.before h.after all) h.went;
         halts = halts_alone refusal h.after h.rest e h.y z (alone_behind h.before h.after all) h.halts;
       }
+
+  -- they end so, whatever the pool
+  pub ends_alone : {T : Type 0} (refusal : Option ErrorSeen) (stages : List Stage) (part : List Event) (r : Result T ErrorSeen) (x z : Means) → AreAlone stages → Ends (on old) refusal stages part r x z → Ends (on new) refusal stages part r (seat x) (seat z)
+  ends_alone refusal stages part (Ok done) x z alone o = (o.0, went_alone stages part x z alone o.1)
+  ends_alone refusal stages part (Err e) x z alone o = halted_alone refusal stages part e x z alone o
 
 -- ---- stages that start no child
 

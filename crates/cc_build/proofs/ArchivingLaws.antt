@@ -1,5 +1,5 @@
 -- How an archive alone ends, by what it checked and did.
-use Rattle.std.proofs.Common.{◌≡◌, ◌⊎◌, inl, inr, ℕ, List, [], ◌∷◌, ◌++◌, Bool, false, if◌then◌else◌, is_some, Option, Some, None, option_map, Result, Ok, Err, refl, sym, ◌∙◌, ap, subst}
+use Rattle.std.proofs.Common.{◌≡◌, ◌⊎◌, inl, inr, ℕ, List, [], ◌∷◌, Bool, false, if◌then◌else◌, is_some, Option, Some, None, option_map, Result, Err, refl, sym, ◌∙◌, ap, subst}
 use Rattle.cc_env.specs.Env.{EnvSeen}
 use Rattle.cc_host.specs.Question.{Look, Answer, Agrees, answers, Holds}
 use Rattle.cc_host.specs.declared.question.Outcome.{Outcome}
@@ -10,10 +10,10 @@ use Rattle.cc_plan.specs.Given.{is_disabled, probe_folder}
 use Rattle.cc_plan.specs.Plan.{archive_refusal}
 use Rattle.cc_plan.specs.Questions.{RunAsks}
 use Rattle.cc_plan.specs.Refusal.{first_of, name_refusal, early_refusal}
-use Rattle.cc_plan.specs.declared.error.PlanError.{PlanError}
 use Rattle.cc_plan.specs.declared.settings.BuildConfig.{BuildConfig}
+use Rattle.cc_plan.specs.declared.variables.Reads.{Reads}
 use Rattle.cc_run.specs.declared.planned.Shows.{Shows}
-use Rattle.cc_build.specs.Archiving.{unarchived_error, creation_stages, Creates}
+use Rattle.cc_build.specs.Archiving.{archive_reads, unarchived_error, creation_error, creation_stages, Creates}
 use Rattle.cc_build.specs.Build.{BuildSeen}
 use Rattle.cc_build.specs.Course.{Course, course_alone}
 use Rattle.cc_build.specs.Error.{ErrorSeen, no_memory}
@@ -21,15 +21,16 @@ use Rattle.cc_build.specs.Kept.{AsksOn}
 use Rattle.cc_build.specs.Promises.{terms_for, NothingRuns, FaultsEnd}
 use Rattle.cc_build.specs.Refusal.{plan_error, disabled_error, archive_error}
 use Rattle.cc_build.specs.Shows.{shows_of}
-use Rattle.cc_build.specs.Stage.{Stage, asked_then, library_stages}
+use Rattle.cc_build.specs.Stage.{Stage, asked_then, library_stages, name_stages, told_library}
 use Rattle.cc_build.specs.Stage.Stage.{Asks}
-use Rattle.cc_build.specs.Went.{Terms, Means, terms, means, Went, Halted}
+use Rattle.cc_build.specs.Way.{Firsts, Repeats, all_firsts}
+use Rattle.cc_build.specs.Went.{Terms, Means, terms, means, Halted, Ends, Partly}
 use Rattle.cc_tool.proofs.SomeLemmas.{some_agree}
 use Rattle.cc_tool.specs.Asked.{Asked}
-use Rattle.cc_build.proofs.AloneLaws.{AreAlone, alone_then, alone_unless, alone_library, went_alone, halted_alone}
+use Rattle.cc_build.proofs.AloneLaws.{AreAlone, alone_then, alone_unless, alone_calls, alone_library, ends_alone}
 use Rattle.cc_build.proofs.Growing.{on_asked}
 use Rattle.cc_build.proofs.Going.{went_none, halted_none, halted_end}
-use Rattle.cc_build.proofs.OrderLaws.{went_partly, halted_partly}
+use Rattle.cc_build.proofs.OrderLaws.{ended_partly}
 use Rattle.cc_build.proofs.PromiseLaws.{none_inside, fault_ends}
 use Rattle.cc_build.proofs.SettledLaws.{partly_settled}
 
@@ -53,9 +54,9 @@ never_created t None late run part e x none (inr is) = absurd (cc)
 never_created t (Some error) late run part e x none (inl memory) = halted_none t (Some error) [] part e x none memory (λ empty. refl)
 never_created t (Some error) late run part e x none (inr is) = halted_end t (Some error) [] part e x x (went_none t part x none) is
 
-behind_checks : (t : Terms) (early late : Option ErrorSeen) (stages : List Stage) (part : List Event) (e : ErrorSeen) (x z : Means) → early ≡ None → Halted t late stages part e x z → Halted t (first_of early late) (if is_some early then [] else stages) part e x z
-behind_checks t None late stages part e x z is h = h
-behind_checks t (Some error) late stages part e x z is h = absurd (cc)
+behind_checks : {T : Type 0} (t : Terms) (early late : Option ErrorSeen) (stages : List Stage) (part : List Event) (r : Result T ErrorSeen) (x z : Means) → early ≡ None → Ends t late stages part r x z → Ends t (first_of early late) (if is_some early then [] else stages) part r x z
+behind_checks t None late stages part r x z is o = o
+behind_checks t (Some error) late stages part r x z is o = absurd (cc)
 
 -- what a call asked that began with no answers
 module _ (set : BuildConfig) (env : EnvSeen) (part : List Event) (steady : Bool) (world : Question → Outcome) (fresh known : List Answer) (none : fresh ≡ []) (on : AsksOn steady world (probe_folder set env) (RunAsks set env) part fresh known) where
@@ -70,102 +71,72 @@ module _ (set : BuildConfig) (env : EnvSeen) (patience : Option ℕ) (turns : �
   abbrev pub seen : BuildSeen
   seen = record { config = set; env = env }
 
+  abbrev told_with : Look → Bool → Firsts → List Stage
+  told_with look is_plain firsts = asked_then (archive_refusal set env look) (told_library set env archive_reads is_plain look firsts output)
+
   -- nothing was asked: the checks refused it, or memory was wanted
   pub uncreated : (T : Type 0) (look : Look) (e : ErrorSeen) → part ≡ [] → (e ≡ no_memory) ⊎ (unarchived_error set env output ≡ Some e) → Creates {T = T} seen patience turns output (Err e) look part
   uncreated T look e none cause =
-      let run : List Stage = if is_some (archive_refusal set env look) then [] else library_stages set env false look output ++ Asks ∷ [] in
-      (turns, (false, never_created (terms (shows_of set env) (Some 1) patience) (unarchived_error set env output) (archive_error set env look output) run part e (means turns 0 0 0) none cause))
+      let run : List Stage = if is_some (archive_refusal set env look) then [] else told_library set env archive_reads false look all_firsts output in
+      (turns, (false, all_firsts, ((λ _. refl), never_created (terms (shows_of set env) (Some 1) patience) (unarchived_error set env output) (archive_error set env look output) run part e (means turns 0 0 0) none cause)))
 
-  module _ (shows : Shows) (c : Course) (same : shows ≡ shows_of set env) (patient : c.patience ≡ patience) (given : c.before.left ≡ turns) (passed : unarchived_error set env output ≡ None) where
+  module _ (shows : Shows) (c : Course) (reads : Reads) (same : shows ≡ shows_of set env) (patient : c.patience ≡ patience) (given : c.before.left ≡ turns) (those : reads ≡ archive_reads) (passed : unarchived_error set env output ≡ None) where
     -- the terms of a run that takes no token of a pool
     abbrev in_run : Shows → Option ℕ → Terms
     in_run shown p = terms shown (Some 1) p
 
-    abbrev written_with : Look → Bool → List Stage
-    written_with look is_plain = asked_then (archive_refusal set env look) (library_stages set env is_plain look output)
-
-    abbrev halted_with : Look → Bool → List Stage
-    halted_with look is_plain = asked_then (archive_refusal set env look) (library_stages set env is_plain look output ++ Asks ∷ [])
-
-    written_alone : (look : Look) (is_plain : Bool) → AreAlone (written_with look is_plain)
-    written_alone look is_plain = (tt, alone_unless (is_some (archive_refusal set env look)) (library_stages set env is_plain look output) (alone_library set env is_plain look output))
-
-    stopped_alone : (look : Look) (is_plain : Bool) → AreAlone (halted_with look is_plain)
-    stopped_alone look is_plain = (
+    told_alone : (look : Look) (is_plain : Bool) (firsts : Firsts) → AreAlone (told_with look is_plain firsts)
+    told_alone look is_plain firsts = (
       tt,
-      alone_unless (is_some (archive_refusal set env look)) (library_stages set env is_plain look output ++ Asks ∷ [])
-          (alone_then (library_stages set env is_plain look output) (Asks ∷ []) (alone_library set env is_plain look output) (tt, tt)),
+      alone_unless (is_some (archive_refusal set env look)) (told_library set env archive_reads is_plain look firsts output)
+          (alone_then (library_stages set env is_plain look output) (Asks ∷ name_stages set env archive_reads look firsts) (alone_library set env is_plain look output) (tt, alone_calls _)),
     )
 
-    -- the library was written
-    pub created : {T : Type 0} (v : T) (look : Look) → (is_plain : Bool) × ((archive_refusal set env look ≡ None) × Went (terms shows c.total c.patience) (Asks ∷ library_stages set env is_plain look output) part c.before c.after) → Creates seen patience turns output (Ok v) look part
-    created v look h =
-        let went : Went (terms shows c.total c.patience) (written_with look h.0) part c.before c.after =
-        subst (λ (o : Option PlanError). Went (terms shows c.total c.patience) (asked_then o (library_stages set env h.0 look output)) part c.before c.after) (sym h.1.0) h.1.1 in
-        let alone : Went (in_run shows c.patience) (written_with look h.0) part (means c.before.left 0 0 0) (means c.after.left 0 0 0) = went_alone shows c.patience c.total (Some 1) 0 0 0 (written_with look h.0) part c.before c.after (written_alone look h.0) went in (
-          c.after.left,
-          (
-            h.0,
-            (
-              passed,
-              h.1.0,
-              subst (λ (s : Shows). Went (in_run s patience) (written_with look h.0) part (means turns 0 0 0) (means c.after.left 0 0 0)) same
-                  (subst (λ (p : Option ℕ). Went (in_run shows p) (written_with look h.0) part (means turns 0 0 0) (means c.after.left 0 0 0)) patient
-                  (subst (λ (n : ℕ). Went (in_run shows c.patience) (written_with look h.0) part (means n 0 0 0) (means c.after.left 0 0 0)) given alone)),
-            ),
-          ),
-        )
-
-    -- it ended before
-    pub creation_halted : (T : Type 0) (e : ErrorSeen) (look : Look) → (is_plain : Bool) × Halted (terms shows c.total c.patience) (archive_error set env look output) (halted_with look is_plain) part e c.before c.after → Creates {T = T} seen patience turns output (Err e) look part
-    creation_halted T e look h =
+    -- the library was written and the lines were printed, or it ended before
+    created : {T : Type 0} (r : Result T ErrorSeen) (look : Look) → (is_plain : Bool) × (firsts : Firsts) × (Repeats set firsts × Ends (terms shows c.total c.patience) (archive_error set env look output) (asked_then (archive_refusal set env look) (told_library set env reads is_plain look firsts output)) part r c.before c.after) → Creates seen patience turns output r look part
+    created r look h =
         let error = archive_error set env look output in
-        let alone : Halted (in_run shows c.patience) error (halted_with look h.0) part e (means c.before.left 0 0 0) (means c.after.left 0 0 0) =
-        halted_alone shows c.patience c.total (Some 1) 0 0 0 error (halted_with look h.0) part e c.before c.after (stopped_alone look h.0) h.1 in (
+        let stages = told_with look h.0 h.1 in
+        let its : Ends (terms shows c.total c.patience) error stages part r c.before c.after =
+        subst (λ (rd : Reads). Ends (terms shows c.total c.patience) error (asked_then (archive_refusal set env look) (told_library set env rd h.0 look h.1 output)) part r c.before c.after) those h.2.1 in
+        let alone : Ends (in_run shows c.patience) error stages part r (means c.before.left 0 0 0) (means c.after.left 0 0 0) =
+        ends_alone shows c.patience c.total (Some 1) 0 0 0 error stages part r c.before c.after (told_alone look h.0 h.1) its in (
           c.after.left,
           (
             h.0,
-            behind_checks (in_run (shows_of set env) patience) (unarchived_error set env output) error (halted_with look h.0) part e (means turns 0 0 0) (means c.after.left 0 0 0) passed
-                (subst (λ (s : Shows). Halted (in_run s patience) error (halted_with look h.0) part e (means turns 0 0 0) (means c.after.left 0 0 0)) same
-                (subst (λ (p : Option ℕ). Halted (in_run shows p) error (halted_with look h.0) part e (means turns 0 0 0) (means c.after.left 0 0 0)) patient
-                (subst (λ (n : ℕ). Halted (in_run shows c.patience) error (halted_with look h.0) part e (means n 0 0 0) (means c.after.left 0 0 0)) given alone))),
+            h.1,
+            (
+              h.2.0,
+              behind_checks (in_run (shows_of set env) patience) (unarchived_error set env output) error stages part r (means turns 0 0 0) (means c.after.left 0 0 0) passed
+                  (subst (λ (s : Shows). Ends (in_run s patience) error stages part r (means turns 0 0 0) (means c.after.left 0 0 0)) same
+                  (subst (λ (p : Option ℕ). Ends (in_run shows p) error stages part r (means turns 0 0 0) (means c.after.left 0 0 0)) patient
+                  (subst (λ (n : ℕ). Ends (in_run shows c.patience) error stages part r (means n 0 0 0) (means c.after.left 0 0 0)) given alone))),
+            ),
           ),
         )
 
     -- the same of a call that began with no answers
     module _ (steady : Bool) (world : Question → Outcome) (fresh known : List Answer) (none : fresh ≡ []) (on : AsksOn steady world (probe_folder set env) (RunAsks set env) part fresh known) where
-      pub created_by : {T : Type 0} (v : T) → Holds known (λ look. (is_plain : Bool) × ((archive_refusal set env look ≡ None) × Went (terms shows c.total c.patience) (Asks ∷ library_stages set env is_plain look output) part c.before c.after)) → Holds (answers part) (λ look. Creates seen patience turns output (Ok v) look part)
-      created_by v h = record { under = λ look agree. created v look (h.under look (subst (Agrees look) (sym (asked_all set env part steady world fresh known none on).1) agree)) }
-
-      pub halted_by : (T : Type 0) (e : ErrorSeen) → Holds known (λ look. (is_plain : Bool) × Halted (terms shows c.total c.patience) (archive_error set env look output) (halted_with look is_plain) part e c.before c.after) → Holds (answers part) (λ look. Creates {T = T} seen patience turns output (Err e) look part)
-      halted_by T e h = record { under = λ look agree. creation_halted T e look (h.under look (subst (Agrees look) (sym (asked_all set env part steady world fresh known none on).1) agree)) }
+      pub created_by : {T : Type 0} (r : Result T ErrorSeen) → Holds known (λ look. (is_plain : Bool) × (firsts : Firsts) × (Repeats set firsts × Ends (terms shows c.total c.patience) (archive_error set env look output) (asked_then (archive_refusal set env look) (told_library set env reads is_plain look firsts output)) part r c.before c.after)) → Holds (answers part) (λ look. Creates seen patience turns output r look part)
+      created_by r h = record { under = λ look agree. created r look (h.under look (subst (Agrees look) (sym (asked_all set env part steady world fresh known none on).1) agree)) }
 
 -- ---- what follows from how it ends
 
 pub no_faults : (part : List Event) → part ≡ [] → FaultsEnd part
 no_faults part none before after call why real is = absurd (none_inside before after (Fault call why) (sym none ∙ is))
 
-module _ (b : BuildSeen) (patience : Option ℕ) (turns : ℕ) (output : List ℕ) (look : Look) (part : List Event) where
-  abbrev error_by : Option ErrorSeen
-  error_by = first_of (unarchived_error b.config b.env output) (archive_error b.config b.env look output)
+module _ {T : Type 0} (b : BuildSeen) (patience : Option ℕ) (turns : ℕ) (output : List ℕ) (look : Look) (part : List Event) (result : Result T ErrorSeen) (h : Creates b patience turns output result look part) where
+  abbrev its_course : Course
+  its_course = course_alone patience turns h.0
 
-  abbrev stages_by : Bool → List Stage
-  stages_by is_plain = if is_some (unarchived_error b.config b.env output) then [] else asked_then (archive_refusal b.config b.env look) (library_stages b.config b.env is_plain look output ++ Asks ∷ [])
+  abbrev its_stages : List Stage
+  its_stages = creation_stages b.config b.env h.1.0 look h.1.1 output
 
-  pub creates_settled : (T : Type 0) (result : Result T ErrorSeen) → Creates b patience turns output result look part → NothingRuns part
-  creates_settled T (Ok v) h =
-      let c = course_alone patience turns h.0 in
-      let stages = creation_stages b.config b.env h.1.0 look output in
-      partly_settled (terms_for b c) stages part c.before c.after 0 (went_partly (terms_for b c) stages part c.before c.after h.1.1.2)
-  creates_settled T (Err e) h =
-      let c = course_alone patience turns h.0 in
-      partly_settled (terms_for b c) (stages_by h.1.0) part c.before c.after 0 (halted_partly (terms_for b c) error_by (stages_by h.1.0) part e c.before c.after h.1.1)
+  partly_created : Partly (terms_for b its_course) its_stages part its_course.before its_course.after
+  partly_created = ended_partly (terms_for b its_course) (creation_error b.config b.env look output) its_stages part result its_course.before its_course.after h.1.2.1
 
-  pub creates_faults : (T : Type 0) (result : Result T ErrorSeen) → Creates b patience turns output result look part → FaultsEnd part
-  creates_faults T (Ok v) h before after call why real is =
-      let c = course_alone patience turns h.0 in
-      let stages = creation_stages b.config b.env h.1.0 look output in
-      fault_ends (terms_for b c) stages part c.before c.after before after call why real is (went_partly (terms_for b c) stages part c.before c.after h.1.1.2)
-  creates_faults T (Err e) h before after call why real is =
-      let c = course_alone patience turns h.0 in
-      fault_ends (terms_for b c) (stages_by h.1.0) part c.before c.after before after call why real is (halted_partly (terms_for b c) error_by (stages_by h.1.0) part e c.before c.after h.1.1)
+  pub creates_settled : NothingRuns part
+  creates_settled = partly_settled (terms_for b its_course) its_stages part its_course.before its_course.after 0 partly_created
+
+  pub creates_faults : FaultsEnd part
+  creates_faults before after call why real is = fault_ends (terms_for b its_course) its_stages part its_course.before its_course.after before after call why real is partly_created

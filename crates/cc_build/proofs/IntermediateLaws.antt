@@ -1,5 +1,5 @@
 -- How a run that compiles the sources alone ends, by what it checked and did.
-use Rattle.std.proofs.Common.{◌≡◌, ◌⊎◌, inl, inr, ℕ, List, [], ◌∷◌, ◌++◌, length, Bool, true, false, if◌then◌else◌, is_some, Option, Some, None, option_map, Result, Ok, Err, refl, sym, ◌∙◌, ap, ap₂, subst, append-nil}
+use Rattle.std.proofs.Common.{◌≡◌, ◌⊎◌, inl, inr, ℕ, List, [], ◌∷◌, ◌++◌, length, Bool, true, false, if◌then◌else◌, is_some, Option, Some, None, option_map, Result, Ok, Err, refl, sym, ◌∙◌, ap, ap₂, subst, append_assoc, append-nil}
 use Rattle.cc_env.specs.Env.{EnvSeen}
 use Rattle.cc_host.specs.Part.{since}
 use Rattle.cc_host.specs.Question.{Look}
@@ -12,22 +12,25 @@ use Rattle.cc_plan.specs.Refusal.{first_of, intermediate_refusal, late_refusal}
 use Rattle.cc_plan.specs.declared.error.PlanError.{PlanError}
 use Rattle.cc_plan.specs.declared.error.PlanError.TheVariants.{NoMemory as WantsMemory}
 use Rattle.cc_plan.specs.declared.settings.BuildConfig.{BuildConfig}
+use Rattle.cc_plan.specs.declared.variables.Reads.{Reads}
 use Rattle.cc_run.specs.declared.planned.Shows.{Shows}
 use Rattle.cc_build.specs.Build.{BuildSeen}
 use Rattle.cc_build.specs.Course.{Course, course}
 use Rattle.cc_build.specs.Error.{ErrorSeen, no_memory}
-use Rattle.cc_build.specs.Intermediates.{intermediate_stages, intermediate_error, IntermediateEnds, Compiled, AreCompiled}
+use Rattle.cc_build.specs.Intermediates.{source_reads, intermediate_stages, intermediate_error, IntermediateEnds, Compiled, AreCompiled}
 use Rattle.cc_build.specs.Promises.{terms_for, NothingRuns, FaultsEnd}
 use Rattle.cc_build.specs.Refusal.{plan_error, disabled_error}
 use Rattle.cc_build.specs.Shows.{shows_of}
-use Rattle.cc_build.specs.Stage.{Stage, calls, planned, asked_then, folder_stages, compile_stages, children_in}
+use Rattle.cc_build.specs.Stage.{Stage, calls, planned, asked_then, folder_stages, compile_stages, name_stages, told_sources, children_in}
 use Rattle.cc_build.specs.Stage.Stage.{Asks}
+use Rattle.cc_build.specs.Way.{Firsts, Repeats, all_firsts}
 use Rattle.cc_build.specs.Went.{Terms, Means, terms, Went, Halted, Ends}
 use Rattle.cc_build.proofs.BuiltLaws.{folder_children, compile_children, started_from, ended_from, planned_length}
 use Rattle.cc_build.proofs.Going.{IsOpen, went_none, halted_none, halted_more, halted_end, halted_from, ends_from}
 use Rattle.cc_build.proofs.OrderLaws.{ended_partly}
 use Rattle.cc_build.proofs.PromiseLaws.{fault_ends}
-use Rattle.cc_build.proofs.RunLaws.{children_then}
+use Rattle.cc_build.proofs.RerunLaws.{name_children}
+use Rattle.cc_build.proofs.RunLaws.{children_then, went_split}
 use Rattle.cc_build.proofs.SettledLaws.{partly_settled}
 use Rattle.cc_build.proofs.Stages.{both_none, folder_is, plan_cause}
 
@@ -96,18 +99,18 @@ module _ (set : BuildConfig) (env : EnvSeen) (look : Look) (total patience : Opt
   abbrev late_in : Option ErrorSeen
   late_in = option_map (plan_error set env []) (late_refusal set env look)
 
-  abbrev run_with : Bool → List Stage
-  run_with warns_of_link = if is_some (late_refusal set env look) then [] else compile_stages set env warns_of_link look
+  abbrev run_with : Bool → Firsts → List Stage
+  run_with warns_of_link firsts = if is_some (late_refusal set env look) then [] else told_sources set env (source_reads set) warns_of_link look firsts
 
   -- the settings were refused before the folder was made, or memory was wanted
   pub alone_unchecked : (part : List Event) (e : ErrorSeen) (x : Means) (error : PlanError) → part ≡ [] → (e ≡ no_memory) ⊎ (e ≡ plan_error set env [] error) → (error ≡ WantsMemory) ⊎ (intermediate_refusal set env ≡ Some error) → IntermediateEnds {T = Unit {0}} seen (Err e) look part (course total patience x x)
   alone_unchecked part e x error none made cause =
-      (false, never_begun in_run (plan_error set env []) late_in (folder_stages set env) (run_with false) (intermediate_refusal set env) (is_disabled env) part e x none (plan_cause set env [] error e (intermediate_refusal set env) made cause))
+      (false, all_firsts, ((λ _. refl), never_begun in_run (plan_error set env []) late_in (folder_stages set env) (run_with false all_firsts) (intermediate_refusal set env) (is_disabled env) part e x none (plan_cause set env [] error e (intermediate_refusal set env) made cause)))
 
   -- the folder wasn't made
   pub alone_unfoldered : (part : List Event) (e : ErrorSeen) (x : Means) → intermediate_refusal set env ≡ None → Halted in_run None (calls (folder_steps set env)) part e x x → IntermediateEnds {T = Unit {0}} seen (Err e) look part (course total patience x x)
   alone_unfoldered part e x early h =
-      (false, unfoldered in_run (plan_error set env []) late_in (folder_stages set env) (run_with false) (intermediate_refusal set env) (is_disabled env) part e x early (subst (λ (s : List Stage). Halted in_run None s part e x x) (sym (folder_is set env)) h))
+      (false, all_firsts, ((λ _. refl), unfoldered in_run (plan_error set env []) late_in (folder_stages set env) (run_with false all_firsts) (intermediate_refusal set env) (is_disabled env) part e x early (subst (λ (s : List Stage). Halted in_run None s part e x x) (sym (folder_is set env)) h)))
 
   module _ (early : intermediate_refusal set env ≡ None) (old made : List Event) (x : Means) (first : made ≡ old ++ since old made) (folder : Went in_run (calls (folder_steps set env)) (since old made) x x) where
     made_so : Went in_run (folder_stages set env) (since old made) x x
@@ -115,55 +118,71 @@ module _ (set : BuildConfig) (env : EnvSeen) (look : Look) (total patience : Opt
 
     -- no command may run
     pub alone_disabled : (e : ErrorSeen) → is_disabled env ≡ true → (e ≡ no_memory) ⊎ (e ≡ disabled_error) → IntermediateEnds {T = Unit {0}} seen (Err e) look (since old made) (course total patience x x)
-    alone_disabled e disabled of = (false, stopped in_run (plan_error set env []) late_in (folder_stages set env) (run_with false) old made x first made_so (intermediate_refusal set env) (is_disabled env) e early disabled of)
+    alone_disabled e disabled of = (false, all_firsts, ((λ _. refl), stopped in_run (plan_error set env []) late_in (folder_stages set env) (run_with false all_firsts) old made x first made_so (intermediate_refusal set env) (is_disabled env) e early disabled of))
 
     -- memory was wanted before a question
     pub alone_wanting : (e : ErrorSeen) → e ≡ no_memory → IntermediateEnds {T = Unit {0}} seen (Err e) look (since old made) (course total patience x x)
-    alone_wanting e memory = (false, wanting in_run (plan_error set env []) late_in (folder_stages set env) (run_with false) old made x first made_so (intermediate_refusal set env) (is_disabled env) e early memory)
+    alone_wanting e memory = (false, all_firsts, ((λ _. refl), wanting in_run (plan_error set env []) late_in (folder_stages set env) (run_with false all_firsts) old made x first made_so (intermediate_refusal set env) (is_disabled env) e early memory))
 
-    -- the sources were compiled so
-    pub alone_behind : {T : Type 0} (shows : Shows) (t' p' : Option ℕ) (new : List Event) (r : Result T ErrorSeen) (z : Means) → shows ≡ shows_of set env → t' ≡ total → p' ≡ patience → is_disabled env ≡ false → new ≡ made ++ since made new
-        → (warns_of_link : Bool) × Ends (terms shows t' p') late_in (asked_then (late_refusal set env look) (compile_stages set env warns_of_link look)) (since made new) r x z
+    -- the sources were compiled, and the lines of the variables were printed so
+    pub alone_behind : {T : Type 0} (shows : Shows) (t' p' : Option ℕ) (reads : Reads) (new : List Event) (r : Result T ErrorSeen) (z : Means) → shows ≡ shows_of set env → t' ≡ total → p' ≡ patience → reads ≡ source_reads set → is_disabled env ≡ false → new ≡ made ++ since made new
+        → (warns_of_link : Bool) × (firsts : Firsts) × (Repeats set firsts × Ends (terms shows t' p') late_in (asked_then (late_refusal set env look) (told_sources set env reads warns_of_link look firsts)) (since made new) r x z)
         → IntermediateEnds seen r look (since old new) (course total patience x z)
-    alone_behind shows t' p' new r z is a b enabled last h =
-        let stages = asked_then (late_refusal set env look) (compile_stages set env h.0 look) in
+    alone_behind shows t' p' reads new r z is a b those enabled last h =
+        let stages = asked_then (late_refusal set env look) (told_sources set env (source_reads set) h.0 look h.1) in
         let ends : Ends in_run late_in stages (since made new) r x z =
         subst (λ (s : Shows). Ends (terms s total patience) late_in stages (since made new) r x z) is
         (subst (λ (n : Option ℕ). Ends (terms shows n patience) late_in stages (since made new) r x z) a
-        (subst (λ (n : Option ℕ). Ends (terms shows t' n) late_in stages (since made new) r x z) b h.1)) in
-        (h.0, behind in_run (plan_error set env []) late_in (folder_stages set env) (run_with h.0) old made x first made_so (intermediate_refusal set env) (is_disabled env) new r z early enabled last ends)
+        (subst (λ (n : Option ℕ). Ends (terms shows t' n) late_in stages (since made new) r x z) b
+        (subst (λ (rd : Reads). Ends (terms shows t' p') late_in (asked_then (late_refusal set env look) (told_sources set env rd h.0 look h.1)) (since made new) r x z) those h.2.1))) in
+        (h.0, h.1, (h.2.0, behind in_run (plan_error set env []) late_in (folder_stages set env) (run_with h.0 h.1) old made x first made_so (intermediate_refusal set env) (is_disabled env) new r z early enabled last ends))
 
 -- ---- what follows from how it ends
 
-checked_children : (f : PlanError → ErrorSeen) (early : Option PlanError) (disabled : Bool) (late : Option PlanError) (folder stages : List Stage) → error_by f early disabled (option_map f late) ≡ None → children_in (checked early disabled folder (if is_some late then [] else stages)) ≡ children_in folder ++ children_in stages
-checked_children f None false None folder stages h = children_then folder (Asks ∷ stages)
-checked_children f None false (Some error) folder stages h = absurd (cc)
-checked_children f None true late folder stages h = absurd (cc)
-checked_children f (Some error) disabled late folder stages h = absurd (cc)
+checked_all : (f : PlanError → ErrorSeen) (early : Option PlanError) (disabled : Bool) (late : Option PlanError) (folder stages : List Stage) → error_by f early disabled (option_map f late) ≡ None → checked early disabled folder (if is_some late then [] else stages) ≡ folder ++ Asks ∷ stages
+checked_all f None false None folder stages h = refl
+checked_all f None false (Some error) folder stages h = absurd (cc)
+checked_all f None true late folder stages h = absurd (cc)
+checked_all f (Some error) disabled late folder stages h = absurd (cc)
 
-compiled_by : (t : Terms) (b : BuildSeen) (look : Look) (part : List Event) (x y : Means) (warns_of_link : Bool) → intermediate_error b.config b.env look ≡ None → Went t (intermediate_stages b.config b.env warns_of_link look) part x y → Compiled t b look part
-compiled_by t b look part x y warns_of_link h w =
-    let stages = intermediate_stages b.config b.env warns_of_link look in
+compiled_by : (t : Terms) (b : BuildSeen) (look : Look) (part : List Event) (x y : Means) (warns_of_link : Bool) (firsts : Firsts) → Repeats b.config firsts → intermediate_error b.config b.env look ≡ None → Went t (intermediate_stages b.config b.env warns_of_link look firsts) part x y → Compiled t b look part
+compiled_by t b look part x y warns_of_link firsts repeats h w =
     let cmds = planned Compile (compiles_of b.config b.env look) in
-    let own : children_in stages ≡ cmds =
-    checked_children (plan_error b.config b.env []) (intermediate_refusal b.config b.env) (is_disabled b.env) (late_refusal b.config b.env look) (folder_stages b.config b.env) (compile_stages b.config b.env warns_of_link look) h
-    ∙ ap₂ (λ u v. u ++ v) (folder_children b.config b.env) (compile_children b.config b.env warns_of_link look) in
+    let folder = folder_stages b.config b.env in
+    let compiles = compile_stages b.config b.env warns_of_link look in
+    let sources : List Stage = folder ++ Asks ∷ compiles in
+    let told : List Stage = Asks ∷ name_stages b.config b.env (source_reads b.config) look firsts in
+    let stages_are : intermediate_stages b.config b.env warns_of_link look firsts ≡ sources ++ told =
+    checked_all (plan_error b.config b.env []) (intermediate_refusal b.config b.env) (is_disabled b.env) (late_refusal b.config b.env look) folder (compiles ++ told) h
+    ∙ sym (append_assoc folder (Asks ∷ compiles) told) in
+    let all : Went t (sources ++ told) part x y = subst (λ (stages : List Stage). Went t stages part x y) stages_are w in
+    let own : children_in (sources ++ told) ≡ cmds =
+    children_then sources told
+    ∙ ap₂ (λ u v. u ++ v) (children_then folder (Asks ∷ compiles) ∙ ap₂ (λ u v. u ++ v) (folder_children b.config b.env) (compile_children b.config b.env warns_of_link look)) (name_children b.config b.env (source_reads b.config) look firsts)
+    ∙ append-nil cmds in
+    let halves = went_split t sources told part x y all in
     record {
-      compiles = started_from t stages part x y cmds w own;
-      ended = ended_from t stages part x y cmds (length (compiles_of b.config b.env look)) w own (planned_length Compile (compiles_of b.config b.env look));
+      compiles = started_from t (sources ++ told) part x y cmds all own;
+      ended = ended_from t (sources ++ told) part x y cmds (length (compiles_of b.config b.env look)) all own (planned_length Compile (compiles_of b.config b.env look));
+      runs = halves.0;
+      lines = halves.1;
+      cut = halves.3.0;
+      firsts = firsts;
+      repeats = repeats;
+      told = (halves.2, y, halves.3.2);
     }
 
 module _ {T : Type 0} (b : BuildSeen) (look : Look) (part : List Event) (c : Course) where
   pub alone_compiled : (result : Result T ErrorSeen) → IntermediateEnds b result look part c → AreCompiled b result look part c
-  alone_compiled (Ok v) h = compiled_by (terms_for b c) b look part c.before c.after h.0 h.1.0 h.1.1
+  alone_compiled (Ok v) h = compiled_by (terms_for b c) b look part c.before c.after h.0 h.1 h.2.0 h.2.1.0 h.2.1.1
   alone_compiled (Err e) h = tt
 
   pub alone_settled : (result : Result T ErrorSeen) → IntermediateEnds b result look part c → NothingRuns part
   alone_settled result h =
-      let stages = intermediate_stages b.config b.env h.0 look in
-      partly_settled (terms_for b c) stages part c.before c.after 0 (ended_partly (terms_for b c) (intermediate_error b.config b.env look) stages part result c.before c.after h.1)
+      let stages = intermediate_stages b.config b.env h.0 look h.1 in
+      partly_settled (terms_for b c) stages part c.before c.after 0 (ended_partly (terms_for b c) (intermediate_error b.config b.env look) stages part result c.before c.after h.2.1)
 
   pub alone_faults : (result : Result T ErrorSeen) → IntermediateEnds b result look part c → FaultsEnd part
   alone_faults result h before after call why real is =
-      let stages = intermediate_stages b.config b.env h.0 look in
-      fault_ends (terms_for b c) stages part c.before c.after before after call why real is (ended_partly (terms_for b c) (intermediate_error b.config b.env look) stages part result c.before c.after h.1)
+      let stages = intermediate_stages b.config b.env h.0 look h.1 in
+      fault_ends (terms_for b c) stages part c.before c.after before after call why real is (ended_partly (terms_for b c) (intermediate_error b.config b.env look) stages part result c.before c.after h.2.1)

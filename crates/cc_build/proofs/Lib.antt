@@ -4,6 +4,7 @@ pub mod Asking
 pub mod BesideLaws
 pub mod BuiltLaws
 pub mod Doing
+pub mod ExpandLaws
 pub mod FailedLaws
 pub mod Finding
 pub mod FirstLaws
@@ -19,6 +20,7 @@ pub mod Outcomes
 pub mod PartLaws
 pub mod PhaseLaws
 pub mod PromiseLaws
+pub mod RerunLaws
 pub mod RunLaws
 pub mod Running
 pub mod SettledLaws

@@ -10,7 +10,7 @@ agrees_both : (look : Look) (xs ys : List Answer) → Agrees look (xs ++ ys) →
 agrees_both look [] ys h = (tt, h)
 agrees_both look (x ∷ xs) ys h = let rest = agrees_both look xs ys h.1 in ((h.0, rest.0), rest.1)
 
-agrees_parts : (look : Look) (a b : List Event) → Agrees look (answers (a ++ b)) → Agrees look (answers a) × Agrees look (answers b)
+pub agrees_parts : (look : Look) (a b : List Event) → Agrees look (answers (a ++ b)) → Agrees look (answers a) × Agrees look (answers b)
 agrees_parts look a b h = agrees_both look (answers a) (answers b) (subst (Agrees look) (flat_map-append answer_of a b) h)
 
 -- the same of the parts of two calls, one after the other

@@ -34,11 +34,11 @@ use Rattle.cc_build.specs.Went.{Terms, is_refusal, Tried}
 
 -- ---- lines
 
-abbrev is_line : Event → Bool
+abbrev pub is_line : Event → Bool
 is_line (Printed kind bytes) = true
 is_line _ = false
 
-all_lines : (lines : List Line) → list_all is_line (prints lines) ≡ true
+pub all_lines : (lines : List Line) → list_all is_line (prints lines) ≡ true
 all_lines [] = refl
 all_lines (line ∷ lines) = all_lines lines
 
@@ -55,20 +55,20 @@ lines_any g quiet (event ∷ part) h = absurd (cc)
 -- ---- a command that was tried
 
 -- it is this command, and it was refused or ended with 0
-abbrev IsTry : Planned → Bool → Event → Type 0
+abbrev pub IsTry : Planned → Bool → Event → Type 0
 IsTry p refused (Ran role cmd pipes status out err) = (role ≡ p.role) × (cmd ≡ p.cmd) × (is_success status ≡ not refused)
 IsTry p refused (Missing role cmd) = (role ≡ p.role) × (cmd ≡ p.cmd) × (false ≡ not refused)
 IsTry p refused _ = ⊥
 
 -- it stands alone between lines
 pub record Done (p : Planned) (refused : Bool) (part : List Event) : Type 0 where
-  front : List Event
-  event : Event
-  rest : List Event
-  cut : part ≡ front ++ event ∷ rest
-  lines_before : list_all is_line front ≡ true
-  lines_behind : list_all is_line rest ≡ true
-  try : IsTry p refused event
+  pub front : List Event
+  pub event : Event
+  pub rest : List Event
+  pub cut : part ≡ front ++ event ∷ rest
+  pub lines_before : list_all is_line front ≡ true
+  pub lines_behind : list_all is_line rest ≡ true
+  pub try : IsTry p refused event
 
 -- the command as it ran
 abbrev ran : Shows → Planned → Status → List ℕ → List ℕ → Event
@@ -108,28 +108,28 @@ module _ (t : Terms) (p : Planned) (part : List Event) where
 -- ---- a command at which the run ended
 
 -- nothing, or the command
-abbrev IsTriedOf : Planned → List Event → Type 0
+abbrev pub IsTriedOf : Planned → List Event → Type 0
 IsTriedOf p [] = Unit {0}
 IsTriedOf p (Ran role cmd pipes status out err ∷ []) = (role ≡ p.role) × (cmd ≡ p.cmd)
 IsTriedOf p _ = ⊥
 
 -- nothing, or a fault that no question made
-abbrev IsLast : List Event → Type 0
+abbrev pub IsLast : List Event → Type 0
 IsLast [] = Unit {0}
 IsLast (Fault call why ∷ []) = is_probing call ≡ false
 IsLast _ = ⊥
 
 -- the command between lines, and the fault behind them
 pub record Broken (p : Planned) (part : List Event) : Type 0 where
-  front : List Event
-  tried : List Event
-  rest : List Event
-  last : List Event
-  cut : part ≡ front ++ (tried ++ (rest ++ last))
-  lines_before : list_all is_line front ≡ true
-  lines_behind : list_all is_line rest ≡ true
-  of_command : IsTriedOf p tried
-  ended : IsLast last
+  pub front : List Event
+  pub tried : List Event
+  pub rest : List Event
+  pub last : List Event
+  pub cut : part ≡ front ++ (tried ++ (rest ++ last))
+  pub lines_before : list_all is_line front ≡ true
+  pub lines_behind : list_all is_line rest ≡ true
+  pub of_command : IsTriedOf p tried
+  pub ended : IsLast last
 
 module _ (shows : Shows) (p : Planned) (part : List Event) where
   pub broken_of : (error : RunError) → is_refusal error ≡ false → IsSilentRun shows p (Err error) part → Broken p part
@@ -282,12 +282,12 @@ sole_asks_none (event ∷ part) h = absurd (cc)
 -- ---- what it tells
 
 module _ {X : Type 0} (f : Event → List X) (quiet : (kind : LineKind) (bytes : List ℕ) → f (Printed kind bytes) ≡ []) (p : Planned) (part : List Event) where
-  done_tells : (refused : Bool) → (d : Done p refused part) → flat_map f part ≡ f d.event
+  pub done_tells : (refused : Bool) → (d : Done p refused part) → flat_map f part ≡ f d.event
   done_tells refused d =
       ap (flat_map f) d.cut ∙ flat_map-append f d.front (d.event ∷ d.rest) ∙ ap (λ l. l ++ flat_map f (d.event ∷ d.rest)) (lines_none f quiet d.front d.lines_before)
       ∙ ap (λ l. f d.event ++ l) (lines_none f quiet d.rest d.lines_behind) ∙ append-nil (f d.event)
 
-  broken_tells : (b : Broken p part) → flat_map f part ≡ flat_map f b.tried ++ flat_map f b.last
+  pub broken_tells : (b : Broken p part) → flat_map f part ≡ flat_map f b.tried ++ flat_map f b.last
   broken_tells b =
       ap (flat_map f) b.cut ∙ flat_map-append f b.front (b.tried ++ (b.rest ++ b.last)) ∙ ap (λ l. l ++ flat_map f (b.tried ++ (b.rest ++ b.last))) (lines_none f quiet b.front b.lines_before)
       ∙ flat_map-append f b.tried (b.rest ++ b.last) ∙ ap (λ l. flat_map f b.tried ++ l) (flat_map-append f b.rest b.last ∙ ap (λ l. l ++ flat_map f b.last) (lines_none f quiet b.rest b.lines_behind))
@@ -354,7 +354,7 @@ module _ (g : Event → Bool) (quiet : (kind : LineKind) (bytes : List ℕ) → 
   done_any refused d none =
       ap (list_any g) d.cut ∙ list_any-append g d.front (d.event ∷ d.rest) ∙ or_false (list_any g d.front) (g d.event || list_any g d.rest) (lines_any g quiet d.front d.lines_before) (or_false (g d.event) (list_any g d.rest) none (lines_any g quiet d.rest d.lines_behind))
 
-  broken_any : (b : Broken p part) → list_any g b.tried ≡ false → list_any g b.last ≡ false → list_any g part ≡ false
+  pub broken_any : (b : Broken p part) → list_any g b.tried ≡ false → list_any g b.last ≡ false → list_any g part ≡ false
   broken_any b none last =
       ap (list_any g) b.cut ∙ list_any-append g b.front (b.tried ++ (b.rest ++ b.last))
       ∙ or_false (list_any g b.front) (list_any g (b.tried ++ (b.rest ++ b.last))) (lines_any g quiet b.front b.lines_before)

@@ -1,5 +1,5 @@
 -- An archive alone: objects that are there already are archived into a library.
-use Rattle.std.specs.Prelude.{◌≡◌, ℕ, Bool, true, false, List, [], ◌∷◌, ◌++◌, Option, Some, None, Result, Ok, Err, is_some, if◌then◌else◌}
+use Rattle.std.specs.Prelude.{ℕ, Bool, true, false, List, [], Option, Some, Result, is_some, if◌then◌else◌}
 use Rattle.std.specs.Option.{option_map}
 use Rattle.cc_env.specs.Env.{EnvSeen}
 use Rattle.cc_host.specs.Question.{Look}
@@ -15,9 +15,9 @@ use Rattle.cc_build.specs.Course.{Course, course_alone}
 use Rattle.cc_build.specs.Error.{ErrorSeen}
 use Rattle.cc_build.specs.Promises.{terms_for}
 use Rattle.cc_build.specs.Refusal.{plan_error, disabled_error, archive_error}
-use Rattle.cc_build.specs.Stage.{Stage, asked_then, library_stages}
-use Rattle.cc_build.specs.Stage.Stage.{Asks}
-use Rattle.cc_build.specs.Went.{Went, Halted}
+use Rattle.cc_build.specs.Stage.{Stage, asked_then, told_library}
+use Rattle.cc_build.specs.Way.{Firsts, Repeats}
+use Rattle.cc_build.specs.Went.{Ends}
 
 -- what an archive alone reads variables for
 abbrev pub archive_reads : Reads
@@ -33,16 +33,21 @@ unarchived_error set env output =
     first_of (option_map (plan_error set env output) (name_refusal output))
     (if is_disabled env then Some disabled_error else option_map (plan_error set env output) (early_refusal set env output))
 
--- the archiver is asked for, the old library is removed, and the new one is written
-abbrev pub creation_stages : BuildConfig → EnvSeen → Bool → Look → List ℕ → List Stage
-creation_stages set env is_plain look output = asked_then (archive_refusal set env look) (library_stages set env is_plain look output)
+-- the error of settings that are refused: by those checks, or by the plan of the archive
+abbrev pub creation_error : BuildConfig → EnvSeen → Look → List ℕ → Option ErrorSeen
+creation_error set env look output = first_of (unarchived_error set env output) (archive_error set env look output)
 
--- Ok: nothing is refused, and the library was written. Else the first stages were done, and the error has its cause.
+-- The archiver is asked for, the old library is removed, the new one is written, and the lines of the variables that were read are printed. Settings that
+-- the checks refuse have no stage.
+abbrev pub creation_stages : BuildConfig → EnvSeen → Bool → Look → Firsts → List ℕ → List Stage
+creation_stages set env is_plain look firsts output =
+    if is_some (unarchived_error set env output) then [] else asked_then (archive_refusal set env look) (told_library set env archive_reads is_plain look firsts output)
+
+-- Ok: nothing is refused, the library was written, and behind it exactly those lines were printed. Else the first stages were done, and the error has its
+-- cause.
 abbrev pub CreationEnds : {T : Type 0} → BuildSeen → List ℕ → Result T ErrorSeen → Look → List Event → Course → Type 0
-CreationEnds b output (Ok _) look part c =
-    (is_plain : Bool) × ((unarchived_error b.config b.env output ≡ None) × (archive_refusal b.config b.env look ≡ None) × Went (terms_for b c) (creation_stages b.config b.env is_plain look output) part c.before c.after)
-CreationEnds b output (Err e) look part c =
-    (is_plain : Bool) × Halted (terms_for b c) (first_of (unarchived_error b.config b.env output) (archive_error b.config b.env look output)) (if is_some (unarchived_error b.config b.env output) then [] else asked_then (archive_refusal b.config b.env look) (library_stages b.config b.env is_plain look output ++ Asks ∷ [])) part e c.before c.after
+CreationEnds b output result look part c =
+    (is_plain : Bool) × (firsts : Firsts) × (Repeats b.config firsts × Ends (terms_for b c) (creation_error b.config b.env look output) (creation_stages b.config b.env is_plain look firsts output) part result c.before c.after)
 
 -- so it ended, with this patience of its host, and with some left of these turns
 abbrev pub Creates : {T : Type 0} → BuildSeen → Option ℕ → ℕ → List ℕ → Result T ErrorSeen → Look → List Event → Type 0

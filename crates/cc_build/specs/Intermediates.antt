@@ -1,5 +1,5 @@
 -- A run that compiles the sources alone: their objects are made, and nothing is archived or linked.
-use Rattle.std.specs.Prelude.{◌≡◌, Bool, true, false, not, List, [], ◌++◌, length, Option, Result, OnOk, is_some, if◌then◌else◌}
+use Rattle.std.specs.Prelude.{◌≡◌, Bool, true, false, not, List, [], ◌∷◌, ◌++◌, length, Option, Result, OnOk, is_some, if◌then◌else◌}
 use Rattle.std.specs.Option.{option_map}
 use Rattle.cc_env.specs.Env.{EnvSeen}
 use Rattle.cc_host.specs.Question.{Look}
@@ -19,18 +19,21 @@ use Rattle.cc_build.specs.Course.{Course}
 use Rattle.cc_build.specs.Error.{ErrorSeen}
 use Rattle.cc_build.specs.Promises.{terms_for}
 use Rattle.cc_build.specs.Refusal.{plan_error, late_error}
-use Rattle.cc_build.specs.Stage.{Stage, planned, asked_then, folder_stages, compile_stages}
-use Rattle.cc_build.specs.Went.{Terms, Ends}
+use Rattle.cc_build.specs.Stage.{Stage, planned, asked_then, folder_stages, name_stages, told_sources}
+use Rattle.cc_build.specs.Stage.Stage.{Asks}
+use Rattle.cc_build.specs.Way.{Firsts, Repeats}
+use Rattle.cc_build.specs.Went.{Terms, Goes, Ends}
 
 -- what it reads variables for: where there is a source a compiler is planned and commands are run
 abbrev pub source_reads : BuildConfig → Reads
 source_reads set = record { disabled = true; debug = not (is_empty set.files); compiler = not (is_empty set.files); archiver = false; links = false }
 
--- the folder is made where there is a source, and where commands may run the sources are compiled
-abbrev pub intermediate_stages : BuildConfig → EnvSeen → Bool → Look → List Stage
-intermediate_stages set env warns_of_link look =
+-- The folder is made where there is a source, and where commands may run the sources are compiled, and the lines of the variables that were read are
+-- printed.
+abbrev pub intermediate_stages : BuildConfig → EnvSeen → Bool → Look → Firsts → List Stage
+intermediate_stages set env warns_of_link look firsts =
     if is_some (intermediate_refusal set env) then []
-    else folder_stages set env ++ (if is_disabled env then [] else asked_then (late_refusal set env look) (compile_stages set env warns_of_link look))
+    else folder_stages set env ++ (if is_disabled env then [] else asked_then (late_refusal set env look) (told_sources set env (source_reads set) warns_of_link look firsts))
 
 -- the error of settings that are refused: that of the first part which doesn't hold
 abbrev pub intermediate_error : BuildConfig → EnvSeen → Look → Option ErrorSeen
@@ -39,12 +42,20 @@ intermediate_error set env look = first_of (option_map (plan_error set env []) (
 -- Ok: nothing is refused, and all stages were done. Else the first ones were, and the error has its cause.
 abbrev pub IntermediateEnds : {T : Type 0} → BuildSeen → Result T ErrorSeen → Look → List Event → Course → Type 0
 IntermediateEnds b result look part c =
-    (warns_of_link : Bool) × Ends (terms_for b c) (intermediate_error b.config b.env look) (intermediate_stages b.config b.env warns_of_link look) part result c.before c.after
+    (warns_of_link : Bool) × (firsts : Firsts) × (Repeats b.config firsts × Ends (terms_for b c) (intermediate_error b.config b.env look) (intermediate_stages b.config b.env warns_of_link look firsts) part result c.before c.after)
 
 -- one planned compile command per source was started, in the order added, and nothing else; and each of them has ended with 0
 pub record Compiled (t : Terms) (b : BuildSeen) (look : Look) (part : List Event) : Type 0 where
   pub compiles : started part ≡ asked t.shows (planned Compile (compiles_of b.config b.env look))
   pub ended : run_from nothing part ≡ ended_well (length (compiles_of b.config b.env look))
+  pub runs : List Event
+  pub lines : List Event
+  pub cut : part ≡ runs ++ lines
+  -- which of the lines that are printed once were printed here; where lines are repeated, all of them
+  pub firsts : Firsts
+  pub repeats : Repeats b.config firsts
+  -- behind all of this questions were asked, and then exactly the lines of the variables that were read were printed
+  pub told : Goes t (Asks ∷ name_stages b.config b.env (source_reads b.config) look firsts) lines
 
 -- Ok: the sources are compiled
 abbrev pub AreCompiled : {T : Type 0} → BuildSeen → Result T ErrorSeen → Look → List Event → Course → Type 0

@@ -8,6 +8,7 @@ pub mod Course
 pub mod Error
 pub mod ErrorFields
 pub mod ErrorText
+pub mod Expand
 pub mod Failed
 pub mod FlagSupport
 pub mod Flags

@@ -14,7 +14,7 @@ use Rattle.cc_build.specs.Course.{Course, OnCourse}
 use Rattle.cc_build.specs.Error.{ErrorSeen}
 use Rattle.cc_build.specs.Refusal.{plan_error}
 use Rattle.cc_build.specs.Seen.{stages_seen, form_stages, library_seen}
-use Rattle.cc_build.specs.Stage.{Stage, asked_then, compile_stages, library_stages, link_stages, links_of, printed_stages, asked_stages}
+use Rattle.cc_build.specs.Stage.{Stage, asked_then, compile_stages, library_stages, link_stages, links_of, name_stages, printed_stages, asked_stages, told_sources, told_library}
 use Rattle.cc_build.specs.Stage.Stage.{Asks, Tries}
 use Rattle.cc_build.specs.Way.{Way, Firsts, Repeats}
 use Rattle.cc_build.specs.Went.{Terms, Means, terms, Went, Halted, Ends}
@@ -56,6 +56,21 @@ cargo_stages task reads name library firsts look =
 abbrev pub LinkedEnds : {T : Type 0} → Task → Reads → List ℕ → List ℕ → Result T ErrorSeen → Look → List Event → Course → Type 0
 LinkedEnds task reads name library result look part c =
     (firsts : Firsts) × (Repeats task.set.now firsts × PhaseEnds task (link_refusal task.set.now task.env.now look) (cargo_stages task reads name library firsts look) result part c)
+
+-- those of the variables that such a call reads were printed alone
+abbrev pub NamesEnd : {T : Type 0} → Task → Reads → Result T ErrorSeen → Look → List Event → Course → Type 0
+NamesEnd task reads result look part c =
+    (firsts : Firsts) × (Repeats task.set.now firsts × PhaseEnds task None (name_stages task.set.now task.env.now reads look firsts) result part c)
+
+-- the sources were compiled, and then those lines were printed
+abbrev pub CompiledEnds : {T : Type 0} → Task → Reads → Result T ErrorSeen → Look → List Event → Course → Type 0
+CompiledEnds task reads result look part c =
+    (warns_of_link : Bool) × (firsts : Firsts) × (Repeats task.set.now firsts × PhaseEnds task (late_refusal task.set.now task.env.now look) (told_sources task.set.now task.env.now reads warns_of_link look firsts) result part c)
+
+-- the library was written, and then those lines were printed
+abbrev pub WrittenEnds : {T : Type 0} → Task → Reads → Result T ErrorSeen → Look → List Event → Course → Type 0
+WrittenEnds task reads result look part c =
+    (is_plain : Bool) × (firsts : Firsts) × (Repeats task.set.now firsts × PhaseEnds task (archive_refusal task.set.now task.env.now look) (told_library task.set.now task.env.now reads is_plain look firsts task.output.now) result part c)
 
 -- all of this, one after another
 abbrev pub AskedEnds : {T : Type 0} → Task → Result T ErrorSeen → Look → List Event → Course → Type 0

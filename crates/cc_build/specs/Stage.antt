@@ -151,6 +151,10 @@ cargo_steps firsts lines names = prints Link (printed_links firsts.links lines) 
 abbrev pub printed_stages : Firsts → List LinkLine → List (List ℕ) → List Stage
 printed_stages firsts lines names = calls (cargo_steps firsts lines names)
 
+-- the lines of the variables that a call reads are printed
+abbrev pub name_stages : BuildConfig → EnvSeen → Reads → Look → Firsts → List Stage
+name_stages set env reads look firsts = calls (prints Rerun (rerun_lines (chosen firsts.names (rerun_names reads set env look))))
+
 -- the link lines are printed, and then those of the variables that the run read
 unfoldable pub link_stages : BuildConfig → EnvSeen → Look → Firsts → List ℕ → List Stage
 link_stages set env look firsts output = printed_stages firsts (link_lines set env look output) (rerun_names (run_reads set) set env look)
@@ -162,6 +166,14 @@ ending_stages set env way look output = asked_then (link_refusal set env look) (
 -- the old library is removed, and the new one is written
 abbrev pub library_stages : BuildConfig → EnvSeen → Bool → Look → List ℕ → List Stage
 library_stages set env is_plain look output = removal_stages set env output ++ (list_stages set env look output ++ archive_stages set env look is_plain output)
+
+-- the sources are compiled, and by questions the lines of the variables that the call reads are printed
+abbrev pub told_sources : BuildConfig → EnvSeen → Reads → Bool → Look → Firsts → List Stage
+told_sources set env reads warns_of_link look firsts = compile_stages set env warns_of_link look ++ Asks ∷ name_stages set env reads look firsts
+
+-- the same of the library, which is written
+abbrev pub told_library : BuildConfig → EnvSeen → Reads → Bool → Look → Firsts → List ℕ → List Stage
+told_library set env reads is_plain look firsts output = library_stages set env is_plain look output ++ Asks ∷ name_stages set env reads look firsts
 
 -- the stages behind the sources
 unfoldable pub later_stages : BuildConfig → EnvSeen → Way → Look → List ℕ → List Stage

@@ -1,5 +1,5 @@
 // An archive alone.
-ghost use Rattle.std.specs.Prelude.{◌≡◌, ◌++◌, ◌⊎◌, Some, None, IfOk, IfErr, OnOk};
+ghost use Rattle.std.specs.Prelude.{◌≡◌, ◌++◌, ◌⊎◌, ◌+◌, ◌<◌, ◌^◌, Some, None, IfOk, IfErr, OnOk};
 ghost use Rattle.cc_host.specs.Call.{part};
 ghost use Rattle.cc_plan.specs.Given.{probe_folder};
 ghost use Rattle.cc_plan.specs.Plan.{objects_of, library_of};
@@ -7,18 +7,22 @@ ghost use Rattle.cc_build.specs.Archiving.{archive_reads as reads_of, with_objec
 ghost use Rattle.cc_build.specs.Build.{AsksByRun};
 ghost use Rattle.cc_build.specs.Course.{ByPart};
 ghost use Rattle.cc_build.specs.Error.{no_memory};
+ghost use Rattle.cc_build.specs.Kept.{AsksFor};
+ghost use Rattle.cc_build.specs.Phases.{ByKnown, WrittenEnds};
 ghost use Rattle.cc_build.specs.Promises.{NothingRuns, FaultsEnd};
+ghost use Rattle.cc_run.specs.Keeping.{IsIdle};
 
 use crate::message::or_no_memory;
 use crate::phases::archive_objects;
 use crate::refusal::{disabled, plan_error};
 use crate::reporting::Reporting;
+use crate::reruns::print_names;
 use crate::shows::shows_of;
 use crate::task::{Shared, Task};
 use crate::{Build, Error};
 use cc_env::BuildEnv;
 use cc_host::{Host, World};
-use cc_jobs::OneCaller;
+use cc_jobs::{Jobs, OneCaller};
 use cc_plan::{
     BuildConfig, Reads, Sources, archive_settings, is_disabled, lib_and_archive_names, plan_sources,
 };
@@ -69,13 +73,48 @@ fn check_archive(
     }
 }
 
+// Writes the library, and then tells Cargo of the variables that were read for it.
+#[tactic(auto, using(cc_host::proofs::Parts::since_append))]
+fn archive_and_tell<W: World, H: Host<W>, J: Jobs>(
+    rt: &impl Wait,
+    shared: &Shared<'_, W, J>,
+    host: &mut H,
+    seat: &mut J::Seat,
+    turns: &mut Turns,
+    answers: &mut Answers,
+) -> Result<(), Error>
+    requires idle { IsIdle J.fits J.held shared.now.jobs.now seat.old }
+    requires few { turns.old.left + turns.old.used < 2 ^ 64 }
+    requires dir { shared.now.sources.now.dir
+        ≡ probe_folder shared.now.task.set.now shared.now.task.env.now }
+    requires library { shared.now.sources.now.library ≡ library_of
+        shared.now.task.set.now shared.now.task.env.now shared.now.task.output.now }
+    requires objects { shared.now.sources.now.objects.items
+        ≡ objects_of shared.now.task.set.now shared.now.task.env.now }
+    ensures idle { IsIdle J.fits J.held shared.now.jobs.now seat.new }
+    ensures total { J.total seat.new ≡ J.total seat.old }
+    ensures sum { turns.new.left + turns.new.used ≡ turns.old.left + turns.old.used }
+    ensures asks { AsksFor W.steady W.answer shared.now.task H.log H.patience
+        host.old host.new answers.old answers.new }
+    ensures outcome { ByKnown answers.new
+        H.log H.patience J.total J.faults J.taken J.load turns.old.left turns.new.left
+        host.old host.new seat.old seat.new (WrittenEnds shared.now.task shared.now.reads result) }
+{
+    match archive_objects(rt, shared, host, seat, turns, answers) {
+        Ok(()) => {}
+        Err(error) => return Err(error),
+    }
+    print_names(rt, shared, host, seat, turns, answers)
+}
+
 impl<W: World> Build<W> {
-    /// Archives these objects, and then the added ones, into the library of `output`, as `try_compile` does with those of its sources, and
-    /// answers the library's path. Sources don't count, and no link line is printed. At most `turns` turns are made.
+    /// Archives these objects, and then the added ones, into the library of `output`, as `try_compile` does with those of its sources,
+    /// prints the lines of the variables that were read for it, where they are wanted, and answers the library's path. Sources don't count,
+    /// and no link line is printed. At most `turns` turns are made.
     ///
     /// Refused, in this order, where the output names no library, no command may run (Disabled), the out dir is set nowhere or empty, or an
-    /// object is the library; then as `try_compile` is behind the sources. After a refusal every command that was started has ended or is
-    /// left alone. The build is as before.
+    /// object is the library; then as `try_compile` is behind the sources, and where a line couldn't be printed. After a refusal every
+    /// command that was started has ended or is left alone. The build is as before.
     #[tactic(auto, using(cc_host::proofs::Parts::since_append))]
     pub fn try_create_archive<H: Host<W>>(
         &self,
@@ -120,7 +159,7 @@ impl<W: World> Build<W> {
             left: turns,
             used: 0,
         };
-        match archive_objects(rt, &shared, host, &mut seat, &mut left, &mut answers) {
+        match archive_and_tell(rt, &shared, host, &mut seat, &mut left, &mut answers) {
             Ok(()) => Ok(path),
             Err(error) => Err(error),
         }

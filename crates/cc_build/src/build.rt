@@ -223,8 +223,9 @@ impl<W: World> Build<W> {
     /// archived, and no link line printed; added objects don't count.
     ///
     /// Makes the out dir where there is a source, asks what the compile commands want to know, prints the warnings, and runs one compile
-    /// command per source, as `try_compile` does, which tells more of seat and turns. It is refused as that is, up to there. After a
-    /// refusal every command that was started has ended or is left alone. The build is as before, and may be run again.
+    /// command per source, as `try_compile` does, which tells more of seat and turns. Behind them are the lines of the variables that were
+    /// read for them, where they are wanted. It is refused as that is, up to there, and where a line couldn't be printed. After a refusal
+    /// every command that was started has ended or is left alone. The build is as before, and may be run again.
     pub fn try_compile_intermediates<H: Host<W>, J: Jobs>(
         &self,
         rt: &impl Wait,
@@ -244,7 +245,7 @@ impl<W: World> Build<W> {
         ensures objects { IfOk result (λ paths.
             paths ≡ paths_of (objects_of self.now.config self.now.env)) }
 
-        // Ok: one planned command per source was started, and has ended with 0.
+        // Ok: one planned command per source was started, and has ended with 0; the lines of the variables that were read are last.
         ensures compiled { ByRun H.log H.patience J.total J.faults J.taken J.load turns
             host.old host.new seat.old seat.new (AreCompiled self.now result) }
 

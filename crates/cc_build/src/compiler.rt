@@ -30,6 +30,7 @@ pub(crate) fn compiler<W: World, H: Host<W>>(
     set: &BuildConfig,
     env: &BuildEnv,
 ) -> Result<Tool, Error>
+    ensures patient { H.patience host.new ≡ H.patience host.old }
     ensures extends { H.log host.new ≡ H.log host.old ++ part H.log host.old host.new }
     ensures asked { Asked W.steady W.answer (probe_folder set.now env.now)
         (PlanAsks set.now env.now) (part H.log host.old host.new) }

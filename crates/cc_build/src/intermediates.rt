@@ -1,11 +1,14 @@
 // A run that compiles the sources alone.
-ghost use Rattle.std.specs.Prelude.{◌≡◌, ◌++◌, IfOk, take};
+ghost use Rattle.std.specs.Prelude.{◌≡◌, ◌++◌, ◌+◌, ◌<◌, ◌^◌, IfOk};
 ghost use Rattle.cc_host.specs.Call.{part};
 ghost use Rattle.cc_plan.specs.Archive.{paths_of};
+ghost use Rattle.cc_plan.specs.Given.{probe_folder};
 ghost use Rattle.cc_plan.specs.Plan.{objects_of};
 ghost use Rattle.cc_build.specs.Build.{AsksByRun};
 ghost use Rattle.cc_build.specs.Course.{ByRun};
 ghost use Rattle.cc_build.specs.Intermediates.{IntermediateEnds, source_reads as reads_of};
+ghost use Rattle.cc_build.specs.Kept.{AsksFor};
+ghost use Rattle.cc_build.specs.Phases.{ByKnown, CompiledEnds};
 ghost use Rattle.cc_run.specs.Keeping.{IsIdle};
 
 use crate::compiling::prepare_folder;
@@ -13,6 +16,7 @@ use crate::message::or_no_memory;
 use crate::phases::compile_sources;
 use crate::refusal::{disabled, plan_error};
 use crate::reporting::Reporting;
+use crate::reruns::print_names;
 use crate::shows::shows_of;
 use crate::task::{Shared, Task};
 use crate::{Build, Error};
@@ -49,8 +53,40 @@ fn source_reads(set: &BuildConfig) -> Reads
     }
 }
 
+// Compiles the sources, and then tells Cargo of the variables that were read for them.
+#[tactic(auto, using(cc_host::proofs::Parts::since_append))]
+fn compile_and_tell<W: World, H: Host<W>, J: Jobs>(
+    rt: &impl Wait,
+    shared: &Shared<'_, W, J>,
+    host: &mut H,
+    seat: &mut J::Seat,
+    turns: &mut Turns,
+    answers: &mut Answers,
+) -> Result<(), Error>
+    requires idle { IsIdle J.fits J.held shared.now.jobs.now seat.old }
+    requires few { turns.old.left + turns.old.used < 2 ^ 64 }
+    requires dir { shared.now.sources.now.dir
+        ≡ probe_folder shared.now.task.set.now shared.now.task.env.now }
+    requires objects { shared.now.sources.now.objects.items
+        ≡ objects_of shared.now.task.set.now shared.now.task.env.now }
+    ensures idle { IsIdle J.fits J.held shared.now.jobs.now seat.new }
+    ensures total { J.total seat.new ≡ J.total seat.old }
+    ensures sum { turns.new.left + turns.new.used ≡ turns.old.left + turns.old.used }
+    ensures asks { AsksFor W.steady W.answer shared.now.task H.log H.patience
+        host.old host.new answers.old answers.new }
+    ensures outcome { ByKnown answers.new
+        H.log H.patience J.total J.faults J.taken J.load turns.old.left turns.new.left
+        host.old host.new seat.old seat.new (CompiledEnds shared.now.task shared.now.reads result) }
+{
+    match compile_sources(rt, shared, host, seat, turns, answers) {
+        Ok(()) => {}
+        Err(error) => return Err(error),
+    }
+    print_names(rt, shared, host, seat, turns, answers)
+}
+
 impl<W: World> Build<W> {
-    // Checks the settings, makes the folder, and compiles the sources. The paths are those of their objects.
+    // Checks the settings, makes the folder, compiles the sources, and tells Cargo what was read. The paths are those of their objects.
     #[tactic(auto, using(cc_host::proofs::Parts::since_append))]
     pub(crate) fn compile_alone<H: Host<W>, J: Jobs>(
         &self,
@@ -105,7 +141,7 @@ impl<W: World> Build<W> {
             left: turns,
             used: 0,
         };
-        match compile_sources(rt, &shared, host, seat, &mut left, &mut answers) {
+        match compile_and_tell(rt, &shared, host, seat, &mut left, &mut answers) {
             Ok(()) => Ok(paths),
             Err(error) => Err(error),
         }

@@ -268,9 +268,9 @@ pub(crate) fn archive_objects<W: World, H: Host<W>, J: Jobs>(
     write_library(task.reporting, host, shared.jobs, seat, turns, &library)
 }
 
-// Plans of which variables Cargo is told.
+/// Plans of which variables Cargo is told.
 #[tactic(auto, using(cc_host::proofs::Parts::since_append))]
-fn plan_names<W: World, H: Host<W>, J>(
+pub(crate) fn plan_names<W: World, H: Host<W>, J>(
     rt: &impl Wait,
     shared: &Shared<'_, W, J>,
     host: &mut H,

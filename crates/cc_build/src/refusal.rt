@@ -12,7 +12,7 @@ use cc_plan::{ArgumentCause, BuildConfig, PlanError, object_path, out_dir_of};
 use cc_text::{Mem, Text, quoted};
 use std::alloc::Global;
 
-fn source_at(set: &BuildConfig, place: u64) -> &str
+pub(crate) fn source_at(set: &BuildConfig, place: u64) -> &str
     ensures { result.now ≡ source_at set.now place }
 {
     match set.files.get(place as usize) {
@@ -37,7 +37,7 @@ pub(crate) fn dir_of<'a>(set: &'a BuildConfig, env: &'a BuildEnv) -> &'a str
 }
 
 // An error of kind InvalidArgument with a text alone as its message.
-fn invalid(alloc: Global, subject: &str, message: &str) -> Mem<Error>
+pub(crate) fn invalid(alloc: Global, subject: &str, message: &str) -> Mem<Error>
     ensures { IfOk result (λ e. e ≡ invalid_error subject.now message.now) }
 {
     let subject = Text::of(alloc, subject)?;

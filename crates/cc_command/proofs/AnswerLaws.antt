@@ -28,7 +28,7 @@ use Rattle.cc_command.specs.Asks.{AsksFor}
 use Rattle.cc_command.specs.Answer.{IsHalted, Answers, AnswersError, AnswersWords, env_in, terms_in, error_of, repeating, stages_of, ended_well, ended_wanting}
 use Rattle.cc_command.proofs.RepeatLaws.{went_same, halted_same}
 use Rattle.cc_command.specs.Read.{Request, Wish, refusal_of}
-use Rattle.cc_command.specs.Read.Wish.{Compiles, Archives, Generates, Shows}
+use Rattle.cc_command.specs.Read.Wish.{Compiles, Archives, Generates, Expands, Shows}
 use Rattle.cc_command.specs.declared.ended.Ended.{Ended}
 use Rattle.cc_command.specs.declared.words.BadWord.{BadWord}
 use Rattle.cc_command.specs.declared.words.ReadError.{ReadError}
@@ -119,6 +119,7 @@ bad_read (Err found) e bad is (inr refused) = let same : Some (Bad found) ≡ So
 pub answers_wanting : (look : Look) (words : Result Wish BadWord) (log : List Event) (ended : Ended) (c : Course) → ended ≡ ended_wanting → c.after ≡ c.before → AnswersWords look words (since log log) ended c
 answers_wanting look (Ok (Archives q)) log ended c is same = tt
 answers_wanting look (Ok (Generates n)) log ended c is same = same
+answers_wanting look (Ok (Expands b)) log ended c is same = same
 answers_wanting look (Ok (Shows b)) log ended c is same = same
 answers_wanting look (Ok (Compiles q)) log ended c is same =
     let none : since log log ≡ [] = part_is log log [] (sym (append-nil log)) in

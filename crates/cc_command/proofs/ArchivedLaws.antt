@@ -1,7 +1,7 @@
 -- What an archive alone answers, and what follows from it.
 use Rattle.cc_build.specs.Way.{all_firsts}
 use Rattle.cc_plan.specs.Reruns.{rerun_names}
-use Rattle.std.proofs.Common.{◌≡◌, ◌⊎◌, inl, inr, ℕ, ◌+◌, ◌<◌, List, [], ◌∷◌, ◌++◌, length, map, Bool, true, false, if◌then◌else◌, is_some, Option, Some, None, option_map, Result, Ok, Err, refl, sym, ◌∙◌, ap, subst, append_assoc, append-nil, zero-add, arith}
+use Rattle.std.proofs.Common.{◌≡◌, ◌⊎◌, inl, inr, ℕ, ◌+◌, ◌<◌, List, [], ◌∷◌, ◌++◌, length, map, Bool, true, false, if◌then◌else◌, is_some, Option, Some, None, option_map, Result, Ok, Err, refl, sym, ◌∙◌, ap, ap₂, subst, append_assoc, append-nil, zero-add, arith}
 use Rattle.std.specs.Prelude.{◌≤◌, ◌*◌}
 use Rattle.std.proofs.Math.Nat.{mul-le-mul_left}
 use Rattle.cc_env.specs.Env.{EnvSeen}
@@ -27,7 +27,7 @@ use Rattle.cc_run.specs.declared.planned.Planned.{Planned}
 use Rattle.cc_tool.proofs.Asides.{asked_none, asked_around}
 use Rattle.cc_tool.proofs.SomeLemmas.{some_agree}
 use Rattle.cc_tool.specs.Asked.{question_events}
-use Rattle.cc_build.specs.Archiving.{unarchived_error}
+use Rattle.cc_build.specs.Archiving.{archive_reads, unarchived_error}
 use Rattle.cc_build.specs.Attempts.{to_attempt}
 use Rattle.cc_build.specs.Build.{BuildSeen, AsksByRun, probes}
 use Rattle.cc_build.specs.Built.{ended_well as all_ended}
@@ -39,28 +39,29 @@ use Rattle.cc_build.specs.Linking.{linked_name, link_reads}
 use Rattle.cc_build.specs.Promises.{terms_for, AreFirst, NothingRuns}
 use Rattle.cc_build.specs.Refusal.{plan_error}
 use Rattle.cc_build.specs.Shows.{shows_of}
-use Rattle.cc_build.specs.Stage.{Stage, asked_then, archive_stages as library_archive, calls, commands_in, children_in, has_libtool, removal_stages, list_stages, library_commands, library_stages, links_of, printed_stages, written, written_children, writings, cargo_steps, rerun_lines}
+use Rattle.cc_build.specs.Stage.{Stage, asked_then, archive_stages as library_archive, calls, commands_in, children_in, has_libtool, removal_stages, list_stages, library_commands, library_stages, links_of, name_stages, printed_stages, written, written_children, writings, cargo_steps, rerun_lines}
 use Rattle.cc_build.specs.Stage.Stage.{Asks, Calls}
 use Rattle.cc_build.specs.Went.{Terms, Means, Ends, Partly}
-use Rattle.cc_build.proofs.FormLaws.{FormFirst, formed_unless, library_first, none_first}
+use Rattle.cc_build.proofs.FormLaws.{FormFirst, formed_then, formed_unless, library_first, none_first}
 use Rattle.cc_build.proofs.Going.{called, part_is, halted_among, halted_more, halted_none, ends_then}
-use Rattle.cc_build.proofs.OrderLaws.{ended_partly, no_lines_archives}
+use Rattle.cc_build.proofs.OrderLaws.{ended_partly, no_line_archives, no_lines_archives}
+use Rattle.cc_build.proofs.RerunLaws.{name_commands, name_children}
 use Rattle.cc_build.proofs.RunLaws.{commands_then, commands_calls, commands_written, children_then, children_calls, children_written, went_started, went_run}
 use Rattle.cc_build.proofs.SettledLaws.{went_attempts, partly_first}
-use Rattle.cc_build.proofs.StopLaws.{ArePlain, plain_both, plain_unless, plain_library}
+use Rattle.cc_build.proofs.StopLaws.{ArePlain, plain_then, plain_lines, plain_both, plain_unless, plain_library}
 use Rattle.cc_build.proofs.TurnLaws.{halted_bound}
 use Rattle.cc_command.specs.Answer.{AnswersError, IfArchives, IsAnswer, IsAnswerOf, env_in, error_line, heard, repeating, told, ended_well, ended_wanting}
-use Rattle.cc_command.specs.Archived.{alone, library_at, directed_stages, archive_stages, archive_refused, Agree, Archiving, build_in, wished_stages, wished_refusal, WishEnds, Says, Archived, Written, ArchivePromises}
+use Rattle.cc_command.specs.Archived.{alone, library_at, directed_stages, behind_library, archive_stages, archive_refused, Agree, Archiving, build_in, wished_stages, wished_refusal, WishEnds, Says, Archived, Written, ArchivePromises}
 use Rattle.cc_command.specs.Promises.{PrintsLast, IsLine, FaultsLast, EndsSpent}
 use Rattle.cc_command.specs.Asks.{AsksAlone, AsksWish, AsksWords}
 use Rattle.cc_command.specs.Shown.{AsksTools, listed_build}
 use Rattle.cc_command.specs.Read.{Request, Wish, name_of, wish_of}
 use Rattle.cc_command.specs.declared.words.Job.{Job}
-use Rattle.cc_command.specs.declared.words.Job.TheVariants.{Compile, Archive, Generate, Show}
-use Rattle.cc_command.specs.Read.Wish.{Compiles, Archives, Generates, Shows}
+use Rattle.cc_command.specs.declared.words.Job.TheVariants.{Compile, Archive, Generate, Expand, Show}
+use Rattle.cc_command.specs.Read.Wish.{Compiles, Archives, Generates, Expands, Shows}
 use Rattle.cc_command.specs.declared.words.BadWord.{BadWord}
 use Rattle.cc_command.specs.declared.ended.Ended.{Ended}
-use Rattle.cc_command.proofs.EnoughLaws.{count, calls_none, unless_few, unless_none, ended_count, mapped, disabled_or, first_never, NeverSpent}
+use Rattle.cc_command.proofs.EnoughLaws.{count, unless_few, ended_count, mapped, disabled_or, first_never, NeverSpent}
 use Rattle.cc_command.proofs.PromiseLaws.{line_of, heard_same, turns_same, same_error, stages_last, spends}
 use Rattle.cc_command.proofs.SettledPromises.{stages_settled, attempts_same}
 
@@ -165,6 +166,7 @@ pub archived_wanting : (steady : Bool) (world : Question → Outcome) (patience 
 archived_wanting steady world patience turns log (Ok (Compiles q)) ended is = tt
 archived_wanting steady world patience turns log (Ok (Archives q)) ended is = unread steady world patience turns q (since log log) ended (part_is log log [] (sym (append-nil log))) is
 archived_wanting steady world patience turns log (Ok (Generates n)) ended is = tt
+archived_wanting steady world patience turns log (Ok (Expands b)) ended is = tt
 archived_wanting steady world patience turns log (Ok (Shows b)) ended is = tt
 archived_wanting steady world patience turns log (Err bad) ended is = tt
 
@@ -202,36 +204,65 @@ module _ (b : BuildSeen) (is_plain : Bool) (look links : Look) (output : List �
   abbrev unlinked : Bool
   unlinked = is_some (first_of (path_refusal (library_at b output)) (link_refusal b.config b.env links))
 
+  abbrev names : List Stage
+  names = name_stages (alone b).config (alone b).env archive_reads look all_firsts
+
+  abbrev read : List (List ℕ)
+  read = rerun_lines (rerun_names archive_reads (alone b).config (alone b).env look)
+
+  abbrev printed : List (List ℕ)
+  printed = printed_links true (links_of b.config b.env (linked_name (library_at b output)) (library_at b output) links)
+
+  abbrev reread : List (List ℕ)
+  reread = rerun_lines (rerun_names link_reads b.config b.env links)
+
+  abbrev shown : List Step
+  shown = cargo_steps all_firsts (links_of b.config b.env (linked_name (library_at b output)) (library_at b output) links) (rerun_names link_reads b.config b.env links)
+
+  abbrev behind : List Stage
+  behind = behind_library b look links output
+
+  behind_plain : ArePlain behind
+  behind_plain = (tt, plain_then names (directed_stages b links (library_at b output)) (plain_lines Rerun read) (tt, plain_unless unlinked lines (plain_both Link Rerun printed reread)))
+
   alone_plain : ArePlain (Calls Lists ∷ archive_stages b is_plain look links output)
   alone_plain = (
     tt,
-    plain_unless (is_some (unarchived_error (alone b).config (alone b).env output)) _ (
-      tt,
-      plain_unless (is_some (archive_refusal (alone b).config (alone b).env look)) _
-          (plain_library (alone b).config (alone b).env is_plain look output (directed_stages b links (library_at b output)) (tt, plain_unless unlinked lines (plain_both Link Rerun (printed_links true (links_of b.config b.env (linked_name (library_at b output)) (library_at b output) links)) (rerun_lines (rerun_names link_reads b.config b.env links))))),
-    ),
+    plain_unless (is_some (unarchived_error (alone b).config (alone b).env output)) _
+        (tt, plain_unless (is_some (archive_refusal (alone b).config (alone b).env look)) _ (plain_library (alone b).config (alone b).env is_plain look output behind behind_plain)),
   )
+
+  behind_first : FormFirst behind
+  behind_first = inr (refl, formed_then names (directed_stages b links (library_at b output)) (no_line_archives Rerun read) (inr (refl, formed_unless unlinked lines (none_first lines (no_lines_archives Link Rerun printed reread)))))
 
   alone_first : has_libtool (alone b).config (alone b).env look ≡ false → FormFirst (Calls Lists ∷ archive_stages b is_plain look links output)
   alone_first other = inr (
     refl,
     formed_unless (is_some (unarchived_error (alone b).config (alone b).env output)) _
-        (inr (
-          refl,
-          formed_unless (is_some (archive_refusal (alone b).config (alone b).env look)) _
-              (library_first (alone b).config (alone b).env (repeating is_plain) look output (directed_stages b links (library_at b output))
-              (inr (refl, formed_unless unlinked lines (none_first lines (no_lines_archives Link Rerun (printed_links true (links_of b.config b.env (linked_name (library_at b output)) (library_at b output) links)) (rerun_lines (rerun_names link_reads b.config b.env links))))))
-              other),
-        )),
+        (inr (refl, formed_unless (is_some (archive_refusal (alone b).config (alone b).env look)) _ (library_first (alone b).config (alone b).env (repeating is_plain) look output behind behind_first other))),
   )
+
+  unless_commands : (d : Bool) (stages : List Stage) → commands_in stages ≡ [] → commands_in (if d then [] else stages) ≡ []
+  unless_commands true stages h = refl
+  unless_commands false stages h = h
+
+  unless_children : (d : Bool) (stages : List Stage) → children_in stages ≡ [] → children_in (if d then [] else stages) ≡ []
+  unless_children true stages h = refl
+  unless_children false stages h = h
+
+  -- no command stands behind the library
+  behind_commands : commands_in behind ≡ []
+  behind_commands = commands_then names (directed_stages b links (library_at b output)) ∙ ap₂ (λ u v. u ++ v) (name_commands (alone b).config (alone b).env archive_reads look all_firsts) (unless_commands unlinked lines (commands_calls shown))
+
+  behind_children : children_in behind ≡ []
+  behind_children = children_then names (directed_stages b links (library_at b output)) ∙ ap₂ (λ u v. u ++ v) (name_children (alone b).config (alone b).env archive_reads look all_firsts) (unless_children unlinked lines (children_calls shown))
 
   alone_count : count (Calls Lists ∷ archive_stages b is_plain look links output) ≤ length b.config.objects + 2
   alone_count =
       let few : count (archive_stages b is_plain look links output) ≤ 0 + length b.config.objects + 2 =
       unless_few (is_some (unarchived_error (alone b).config (alone b).env output)) _ (0 + length b.config.objects + 2)
       (unless_few (is_some (archive_refusal (alone b).config (alone b).env look)) _ (0 + length b.config.objects + 2)
-      (ended_count (alone b).config (alone b).env look is_plain output (directed_stages b links (library_at b output))
-      (unless_none unlinked lines (calls_none (cargo_steps all_firsts (links_of b.config b.env (linked_name (library_at b output)) (library_at b output) links) (rerun_names link_reads b.config b.env links)))))) in
+      (ended_count (alone b).config (alone b).env look is_plain output behind (ap length behind_commands))) in
       omega arith
 
   -- no settings that are refused spend the turns
@@ -250,34 +281,20 @@ module _ (b : BuildSeen) (is_plain : Bool) (look links : Look) (output : List �
   all_stages None None f late run none = refl
 
   module _ (accepted : archive_refused b look links output ≡ None) where
-    abbrev behind : List Stage
-    behind = directed_stages b links (library_at b output)
-
     stages_are : archive_stages b is_plain look links output ≡ Asks ∷ (library_stages (alone b).config (alone b).env is_plain look output ++ behind)
     stages_are = all_stages (unarchived_error (alone b).config (alone b).env output) (archive_refusal (alone b).config (alone b).env look) (plan_error (alone b).config (alone b).env output) _ (library_stages (alone b).config (alone b).env is_plain look output ++ behind) accepted
-
-    unless_commands : (d : Bool) (stages : List Stage) → commands_in stages ≡ [] → commands_in (if d then [] else stages) ≡ []
-    unless_commands true stages h = refl
-    unless_commands false stages h = h
-
-    unless_children : (d : Bool) (stages : List Stage) → children_in stages ≡ [] → children_in (if d then [] else stages) ≡ []
-    unless_children true stages h = refl
-    unless_children false stages h = h
 
     abbrev commands : List Planned
     commands = library_commands (alone b).config (alone b).env look is_plain output
 
-    abbrev shown : List Step
-    shown = cargo_steps all_firsts (links_of b.config b.env (linked_name (library_at b output)) (library_at b output) links) (rerun_names link_reads b.config b.env links)
-
     commands_are : commands_in (Calls Lists ∷ archive_stages b is_plain look links output) ≡ commands
     commands_are =
-        ap commands_in stages_are ∙ commands_then (library_stages (alone b).config (alone b).env is_plain look output) behind ∙ ap (λ l. commands_in (library_stages (alone b).config (alone b).env is_plain look output) ++ l) (unless_commands unlinked lines (commands_calls shown))
+        ap commands_in stages_are ∙ commands_then (library_stages (alone b).config (alone b).env is_plain look output) behind ∙ ap (λ l. commands_in (library_stages (alone b).config (alone b).env is_plain look output) ++ l) behind_commands
         ∙ append-nil (commands_in (library_stages (alone b).config (alone b).env is_plain look output)) ∙ commands_library (alone b).config (alone b).env is_plain look output
 
     children_are : children_in (Calls Lists ∷ archive_stages b is_plain look links output) ≡ written_children (has_libtool (alone b).config (alone b).env look) commands
     children_are =
-        ap children_in stages_are ∙ children_then (library_stages (alone b).config (alone b).env is_plain look output) behind ∙ ap (λ l. children_in (library_stages (alone b).config (alone b).env is_plain look output) ++ l) (unless_children unlinked lines (children_calls shown))
+        ap children_in stages_are ∙ children_then (library_stages (alone b).config (alone b).env is_plain look output) behind ∙ ap (λ l. children_in (library_stages (alone b).config (alone b).env is_plain look output) ++ l) behind_children
         ∙ append-nil (children_in (library_stages (alone b).config (alone b).env is_plain look output)) ∙ children_library (alone b).config (alone b).env is_plain look output
 
 -- ---- its line
@@ -472,6 +489,7 @@ pub archive_promises : (steady : Bool) (world : Question → Outcome) (patience 
 archive_promises steady world patience turned part ended (Ok (Compiles q)) h = tt
 archive_promises steady world patience turned part ended (Ok (Archives q)) h = archive_promised steady world q patience turned part ended h
 archive_promises steady world patience turned part ended (Ok (Generates n)) h = tt
+archive_promises steady world patience turned part ended (Ok (Expands b)) h = tt
 archive_promises steady world patience turned part ended (Ok (Shows b)) h = tt
 archive_promises steady world patience turned part ended (Err bad) h = tt
 
@@ -482,12 +500,14 @@ pub of_compile : (job : Job) (name : List ℕ) (build : BuildSeen) (ended : Ende
 of_compile (Compile n) name build ended look part c is h = h
 of_compile (Archive n) name build ended look part c is h = absurd (cc)
 of_compile (Generate n) name build ended look part c is h = absurd (cc)
+of_compile Expand name build ended look part c is h = absurd (cc)
 of_compile Show name build ended look part c is h = absurd (cc)
 
 -- a job that archives asks what its wish does
 pub of_archive : (job : Job) (name : List ℕ) (build : BuildSeen) (steady : Bool) (world : Question → Outcome) (patience : Option ℕ) (turned : ℕ) (part : List Event) (ended : Ended) → job ≡ Archive name → Archived steady world (name_of job, build) patience turned part ended → AsksWish steady world (wish_of job build) part
 of_archive (Compile n) name build steady world patience turned part ended is h = absurd (cc)
 of_archive (Generate n) name build steady world patience turned part ended is h = absurd (cc)
+of_archive Expand name build steady world patience turned part ended is h = absurd (cc)
 of_archive Show name build steady world patience turned part ended is h = absurd (cc)
 of_archive (Archive n) name build steady world patience turned part ended is h = archived_asks steady world (n, build) patience turned part ended h
 
@@ -518,6 +538,9 @@ asked_wanting steady world log (Ok (Archives q)) =
 asked_wanting steady world log (Ok (Generates n)) =
     let none : since log log ≡ [] = part_is log log [] (sym (append-nil log)) in
     ap question_events none
+asked_wanting steady world log (Ok (Expands b)) =
+    let none : since log log ≡ [] = part_is log log [] (sym (append-nil log)) in
+    asked_none steady world (probes (listed_build b (since log log))) (PlanAsks (listed_build b (since log log)).config (listed_build b (since log log)).env) (since log log) (ap question_events none)
 asked_wanting steady world log (Ok (Shows b)) = no_tools_asked steady world (listed_build b (since log log)) (since log log) (ap question_events (part_is log log [] (sym (append-nil log))))
 asked_wanting steady world log (Err bad) =
     let none : since log log ≡ [] = part_is log log [] (sym (append-nil log)) in

@@ -9,14 +9,14 @@ use Rattle.cc_host.specs.declared.question.Question.{Question}
 use Rattle.cc_plan.specs.Plan.{archive_refusal}
 use Rattle.cc_plan.specs.Refusal.{first_of, path_refusal, link_refusal}
 use Rattle.cc_plan.specs.declared.error.PlanError.{PlanError}
-use Rattle.cc_build.specs.Archiving.{unarchived_error, Creates}
+use Rattle.cc_build.specs.Archiving.{archive_reads, unarchived_error, creation_stages, Creates}
 use Rattle.cc_build.specs.Build.{BuildSeen, AsksByRun}
 use Rattle.cc_build.specs.Course.{course_alone}
 use Rattle.cc_build.specs.Error.{ErrorSeen, no_memory}
 use Rattle.cc_build.specs.Linking.{DirectivesEnd, directive_stages, linked_name, link_reads}
 use Rattle.cc_build.specs.Promises.{terms_for}
-use Rattle.cc_build.specs.Refusal.{plan_error}
-use Rattle.cc_build.specs.Stage.{Stage, asked_then, library_stages, links_of, printed_stages}
+use Rattle.cc_build.specs.Refusal.{plan_error, archive_error}
+use Rattle.cc_build.specs.Stage.{Stage, asked_then, library_stages, links_of, name_stages, printed_stages}
 use Rattle.cc_build.specs.Stage.Stage.{Asks}
 use Rattle.cc_build.specs.Went.{Terms, Means, Went, Halts, Halted, Ends}
 use Rattle.cc_build.proofs.Going.{went_one, halted_more, halted_among, halted_end, ends_then}
@@ -50,22 +50,26 @@ module _ (t : Terms) (refusal : Option ErrorSeen) (e : ErrorSeen) where
 
 -- ---- an archive, and its link lines
 
-module _ (t : Terms) (early : Option ErrorSeen) (f g : PlanError → ErrorSeen) (library lines : List Stage) where
-  -- the stages, where these are the refusals of the archive, of the path and of the link lines
+module _ (t : Terms) (early : Option ErrorSeen) (f g : PlanError → ErrorSeen) (library names lines : List Stage) where
+  -- the stages of the archive, which ends with the lines of its variables
+  abbrev archived : Option PlanError → List Stage
+  archived ar = if is_some early then [] else asked_then ar (library ++ Asks ∷ names)
+
+  -- those of both, where these are the refusals of the archive, of the path and of the link lines
   abbrev wholly : Option PlanError → Option PlanError → Option PlanError → List Stage
-  wholly ar path link = if is_some early then [] else asked_then ar (library ++ asked_then (first_of path link) lines)
+  wholly ar path link = if is_some early then [] else asked_then ar (library ++ Asks ∷ (names ++ asked_then (first_of path link) lines))
 
   abbrev refused_by : Option PlanError → Option PlanError → Option PlanError → Option ErrorSeen
   refused_by ar path link = first_of early (first_of (option_map f ar) (first_of (option_map g path) (option_map g link)))
 
 -- an archive that ended ended the whole
-pub halted_made : (t : Terms) (early : Option ErrorSeen) (f g : PlanError → ErrorSeen) (library lines : List Stage) (ar path link : Option PlanError) (part : List Event) (e : ErrorSeen) (x z : Means) → Halted t (first_of early (option_map f ar)) (if is_some early then [] else asked_then ar (library ++ Asks ∷ [])) part e x z → Halted t (refused_by t early f g library lines ar path link) (wholly t early f g library lines ar path link) part e x z
-halted_made t (Some error) f g library lines ar path link part e x z h = h
-halted_made t None f g library lines (Some error) path link part e x z h = h
-halted_made t None f g library lines None path link part e x z h =
-    let rest : List Stage = if is_some (first_of path link) then [] else lines in
+pub halted_made : (t : Terms) (early : Option ErrorSeen) (f g : PlanError → ErrorSeen) (library names lines : List Stage) (ar path link : Option PlanError) (part : List Event) (e : ErrorSeen) (x z : Means) → Halted t (first_of early (option_map f ar)) (archived t early f g library names lines ar) part e x z → Halted t (refused_by t early f g library names lines ar path link) (wholly t early f g library names lines ar path link) part e x z
+halted_made t (Some error) f g library names lines ar path link part e x z h = h
+halted_made t None f g library names lines (Some error) path link part e x z h = h
+halted_made t None f g library names lines None path link part e x z h =
+    let rest : List Stage = asked_then (first_of path link) lines in
     let refusal = first_of (option_map g path) (option_map g link) in
-    subst (λ (stages : List Stage). Halted t refusal (Asks ∷ stages) part e x z) (append_assoc library (Asks ∷ []) rest) (halted_more t refusal (Asks ∷ (library ++ Asks ∷ [])) rest part e x z h)
+    subst (λ (stages : List Stage). Halted t refusal (Asks ∷ stages) part e x z) (append_assoc library (Asks ∷ names) rest) (halted_more t refusal (Asks ∷ (library ++ Asks ∷ names)) rest part e x z h)
 
 -- the link lines ended so, whatever their path
 directed : {T : Type 0} (t : Terms) (g : PlanError → ErrorSeen) (lines : List Stage) (path link : Option PlanError) (part : List Event) (r : Result T ErrorSeen) (x z : Means) → Ends t (first_of (option_map g path) (option_map g link)) (if is_some path then [] else asked_then link lines) part r x z → Ends t (first_of (option_map g path) (option_map g link)) (asked_then (first_of path link) lines) part r x z
@@ -81,11 +85,14 @@ directed t g lines (Some error) link part (Err e) x z o =
     by_cause (inr is) w = halted_end t (Some (g error)) (Asks ∷ []) [] e x x w is
 
 -- the archive was made, and the link lines ended so
-pub linked_then : {T : Type 0} (t : Terms) (early : Option ErrorSeen) (f g : PlanError → ErrorSeen) (library lines : List Stage) (ar path link : Option PlanError) (made linked : List Event) (r : Result T ErrorSeen) (x y z : Means) → early ≡ None → ar ≡ None → Went t (asked_then ar library) made x y → Ends t (first_of (option_map g path) (option_map g link)) (if is_some path then [] else asked_then link lines) linked r y z → Ends t (refused_by t early f g library lines ar path link) (wholly t early f g library lines ar path link) (made ++ linked) r x z
-linked_then t (Some error) f g library lines ar path link made linked r x y z is ok w o = absurd (cc)
-linked_then t None f g library lines (Some error) path link made linked r x y z is ok w o = absurd (cc)
-linked_then t None f g library lines None path link made linked r x y z is ok w o =
-    ends_then t (first_of (option_map g path) (option_map g link)) (Asks ∷ library) (asked_then (first_of path link) lines) made linked r x y z w (directed t g lines path link linked r y z o)
+pub linked_then : {P T : Type 0} (t : Terms) (early : Option ErrorSeen) (f g : PlanError → ErrorSeen) (library names lines : List Stage) (ar path link : Option PlanError) (made linked : List Event) (v : P) (r : Result T ErrorSeen) (x y z : Means) → Ends t (first_of early (option_map f ar)) (archived t early f g library names lines ar) made (Ok v) x y → Ends t (first_of (option_map g path) (option_map g link)) (if is_some path then [] else asked_then link lines) linked r y z → Ends t (refused_by t early f g library names lines ar path link) (wholly t early f g library names lines ar path link) (made ++ linked) r x z
+linked_then t (Some error) f g library names lines ar path link made linked v r x y z m o = absurd (let none : Some error ≡ None = m.0 in cc)
+linked_then t None f g library names lines (Some error) path link made linked v r x y z m o = absurd (let none : Some (f error) ≡ None = m.0 in cc)
+linked_then t None f g library names lines None path link made linked v r x y z m o =
+    let rest : List Stage = asked_then (first_of path link) lines in
+    let refusal = first_of (option_map g path) (option_map g link) in
+    subst (λ (stages : List Stage). Ends t refusal (Asks ∷ stages) (made ++ linked) r x z) (append_assoc library (Asks ∷ names) rest)
+    (ends_then t refusal (Asks ∷ (library ++ Asks ∷ names)) rest made linked r x y z m.1 (directed t g lines path link linked r y z o))
 
 -- ---- of a build
 
@@ -99,9 +106,22 @@ module _ (steady : Bool) (world : Question → Outcome) (b : BuildSeen) (patienc
   abbrev lines_by : Look → List Stage
   lines_by links = printed_stages all_firsts (links_of b.config b.env (linked_name (library_at b output)) (library_at b output) links) (rerun_names link_reads b.config b.env links)
 
+  abbrev names_by : Look → List Stage
+  names_by look = name_stages (alone b).config (alone b).env archive_reads look all_firsts
+
+  -- all lines of the variables were printed
+  module _ {P : Type 0} (r : Result P ErrorSeen) (repeats : b.config.repeat_lines ≡ true) (look : Look) (part : List Event) (h : Creates (alone b) patience turns output r look part) where
+    abbrev its_terms : Terms
+    its_terms = terms_for (alone b) (course_alone patience turns h.0)
+
+    made_so : Ends its_terms (first_of (unarchived_error (alone b).config (alone b).env output) (archive_error (alone b).config (alone b).env look output)) (creation_stages (alone b).config (alone b).env h.1.0 look all_firsts output) part r (course_alone patience turns h.0).before (course_alone patience turns h.0).after
+    made_so =
+        let all : h.1.1 ≡ all_firsts = h.1.2.0 repeats in
+        subst (λ (firsts : Firsts). Ends its_terms (first_of (unarchived_error (alone b).config (alone b).env output) (archive_error (alone b).config (alone b).env look output)) (creation_stages (alone b).config (alone b).env h.1.0 look firsts output) part r (course_alone patience turns h.0).before (course_alone patience turns h.0).after) all h.1.2.1
+
   -- the archive ended
-  pub archive_ended : (part : List Event) (e : ErrorSeen) → AsksByRun steady world (alone b) part → AsksByRun steady world b [] → Holds (answers part) (λ look. Creates {T = List ℕ} (alone b) patience turns output (Err e) look part) → Archiving steady world b patience turns output part (Err e)
-  archive_ended part e asks none h = record {
+  pub archive_ended : (part : List Event) (e : ErrorSeen) → b.config.repeat_lines ≡ true → AsksByRun steady world (alone b) part → AsksByRun steady world b [] → Holds (answers part) (λ look. Creates {T = List ℕ} (alone b) patience turns output (Err e) look part) → Archiving steady world b patience turns output part (Err e)
+  archive_ended part e repeats asks none h = record {
     made = part;
     linked = [];
     cut = sym (append-nil part);
@@ -111,8 +131,8 @@ module _ (steady : Bool) (world : Question → Outcome) (b : BuildSeen) (patienc
         let k = h.under look agree.0 in (
           k.0,
           k.1.0,
-          halted_made (terms_for (alone b) (course_alone patience turns k.0)) (unarchived_error (alone b).config (alone b).env output) first_error link_error (library_stages (alone b).config (alone b).env k.1.0 look output) (lines_by links)
-              (archive_refusal (alone b).config (alone b).env look) (path_refusal (library_at b output)) (link_refusal b.config b.env links) part e (course_alone patience turns k.0).before (course_alone patience turns k.0).after k.1.1,
+          halted_made (terms_for (alone b) (course_alone patience turns k.0)) (unarchived_error (alone b).config (alone b).env output) first_error link_error (library_stages (alone b).config (alone b).env k.1.0 look output) (names_by look) (lines_by links)
+              (archive_refusal (alone b).config (alone b).env look) (path_refusal (library_at b output)) (link_refusal b.config b.env links) part e (course_alone patience turns k.0).before (course_alone patience turns k.0).after (made_so {P = List ℕ} (Err e) repeats look part k),
         );
   }
 
@@ -132,8 +152,8 @@ module _ (steady : Bool) (world : Question → Outcome) (b : BuildSeen) (patienc
         let all : d.0 ≡ all_firsts = d.1.0 repeats in (
           c.0,
           c.1.0,
-          linked_then t (unarchived_error (alone b).config (alone b).env output) first_error link_error (library_stages (alone b).config (alone b).env c.1.0 look output) (lines_by links)
-              (archive_refusal (alone b).config (alone b).env look) (path_refusal (library_at b output)) (link_refusal b.config b.env links) made linked r (course_alone patience turns c.0).before y y c.1.1.0 c.1.1.1 c.1.1.2
+          linked_then t (unarchived_error (alone b).config (alone b).env output) first_error link_error (library_stages (alone b).config (alone b).env c.1.0 look output) (names_by look) (lines_by links)
+              (archive_refusal (alone b).config (alone b).env look) (path_refusal (library_at b output)) (link_refusal b.config b.env links) made linked path r (course_alone patience turns c.0).before y y (made_so (Ok path) repeats look made c)
               (subst (λ (firsts : Firsts). Ends t (first_of (option_map link_error (path_refusal (library_at b output))) (option_map link_error (link_refusal b.config b.env links))) (directive_stages b.config b.env links firsts (library_at b output)) linked r y y) all (d.1.1 t y)),
         );
   }

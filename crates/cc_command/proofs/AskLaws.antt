@@ -8,17 +8,19 @@ use Rattle.cc_tool.proofs.Asides.{aside_answers}
 use Rattle.cc_tool.proofs.SomeLemmas.{some_agree}
 use Rattle.cc_build.specs.Course.{Course}
 use Rattle.cc_build.specs.Promises.{NothingRuns}
-use Rattle.cc_command.specs.Answer.{Answers, AnswersBad, AnswersWords, IfArchives, IfGenerates, IfShows}
+use Rattle.cc_command.specs.Answer.{Answers, AnswersBad, AnswersWords, IfArchives, IfExpands, IfGenerates, IfShows}
 use Rattle.cc_command.specs.Archived.{Archived}
 use Rattle.cc_command.specs.Asks.{AsksWords}
+use Rattle.cc_command.specs.Expanded.{Expanded}
 use Rattle.cc_command.specs.Promises.{PrintsLast, FaultsLast}
 use Rattle.cc_command.specs.Read.{Wish}
 use Rattle.cc_command.specs.Shown.{Shown}
 use Rattle.cc_command.specs.Summary.{Sums}
-use Rattle.cc_command.specs.Read.Wish.{Compiles, Archives, Generates, Shows}
+use Rattle.cc_command.specs.Read.Wish.{Compiles, Archives, Generates, Expands, Shows}
 use Rattle.cc_command.specs.declared.ended.Ended.{Ended}
 use Rattle.cc_command.specs.declared.words.BadWord.{BadWord}
 use Rattle.cc_command.proofs.ArchivedLaws.{archived_last, archived_faults, archived_settled}
+use Rattle.cc_command.proofs.ExpandedLaws.{expanded_last, expanded_faults, expanded_settled}
 use Rattle.cc_command.proofs.PromiseLaws.{begun_of, request_last, word_last, request_faults, word_faults}
 use Rattle.cc_command.proofs.SettledPromises.{request_settled, word_settled}
 use Rattle.cc_command.proofs.ShownLaws.{shown_last, shown_faults, shown_settled}
@@ -29,19 +31,21 @@ abbrev pub Said : Bool → (Question → Outcome) → Option ℕ → ℕ → Res
 Said steady world patience turns (Ok (Compiles q)) part ended = (look : Look) × (c : Course) × Answers look q part ended c
 Said steady world patience turns (Ok (Archives q)) part ended = Archived steady world q patience turns part ended
 Said steady world patience turns (Ok (Generates count)) part ended = Sums count turns part ended
+Said steady world patience turns (Ok (Expands b)) part ended = Expanded steady world b part ended
 Said steady world patience turns (Ok (Shows b)) part ended = Shown steady world b part ended
 Said steady world patience turns (Err bad) part ended = AnswersBad bad part ended
 
 module _ (steady : Bool) (world : Question → Outcome) (patience : Option ℕ) (turns : ℕ) (part : List Event) (ended : Ended) where
-  pub said : (words : Result Wish BadWord) (on : ℕ → Course) → AsksWords steady world words part → Holds (answers part) (λ look. (left : ℕ) × AnswersWords look words part ended (on left)) → IfArchives words (λ q. Archived steady world q patience turns part ended) → IfGenerates words (λ count. Sums count turns part ended) → IfShows words (λ b. Shown steady world b part ended) → Said steady world patience turns words part ended
-  said (Ok (Compiles q)) on asked run archived generated shown =
+  pub said : (words : Result Wish BadWord) (on : ℕ → Course) → AsksWords steady world words part → Holds (answers part) (λ look. (left : ℕ) × AnswersWords look words part ended (on left)) → IfArchives words (λ q. Archived steady world q patience turns part ended) → IfGenerates words (λ count. Sums count turns part ended) → IfExpands words (λ b. Expanded steady world b part ended) → IfShows words (λ b. Shown steady world b part ended) → Said steady world patience turns words part ended
+  said (Ok (Compiles q)) on asked run archived generated expanded shown =
       let some = some_agree (answers part) asked.once in
       let answer = run.under some.0 some.1 in
       (some.0, on answer.0, answer.1)
-  said (Ok (Archives q)) on asked run archived generated shown = archived
-  said (Ok (Generates count)) on asked run archived generated shown = generated
-  said (Ok (Shows b)) on asked run archived generated shown = shown
-  said (Err bad) on asked run archived generated shown =
+  said (Ok (Archives q)) on asked run archived generated expanded shown = archived
+  said (Ok (Generates count)) on asked run archived generated expanded shown = generated
+  said (Ok (Expands b)) on asked run archived generated expanded shown = expanded
+  said (Ok (Shows b)) on asked run archived generated expanded shown = shown
+  said (Err bad) on asked run archived generated expanded shown =
       let some = some_agree (answers part) (subst NoTwice (sym (aside_answers part asked)) tt) in
       (run.under some.0 some.1).1.0
 
@@ -49,6 +53,7 @@ module _ (steady : Bool) (world : Question → Outcome) (patience : Option ℕ) 
   prints_last (Ok (Compiles q)) s = request_last s.0 q part ended s.1 s.2
   prints_last (Ok (Archives q)) s = archived_last steady world q patience turns part ended s
   prints_last (Ok (Generates count)) s = summed_last count turns part ended s
+  prints_last (Ok (Expands b)) s = expanded_last steady world b part ended s
   prints_last (Ok (Shows b)) s = shown_last steady world b part ended s
   prints_last (Err bad) s = word_last bad part ended s
 
@@ -56,6 +61,7 @@ module _ (steady : Bool) (world : Question → Outcome) (patience : Option ℕ) 
   faults_last (Ok (Compiles q)) s = request_faults s.0 q part s.1 (begun_of s.0 q part ended s.1 s.2)
   faults_last (Ok (Archives q)) s = archived_faults steady world q patience turns part ended s
   faults_last (Ok (Generates count)) s = summed_faults count turns part ended s
+  faults_last (Ok (Expands b)) s = expanded_faults steady world b part ended s
   faults_last (Ok (Shows b)) s = shown_faults steady world b part ended s
   faults_last (Err bad) s = word_faults bad part ended s
 
@@ -63,5 +69,6 @@ module _ (steady : Bool) (world : Question → Outcome) (patience : Option ℕ) 
   settled (Ok (Compiles q)) s = request_settled s.0 q part s.1 (begun_of s.0 q part ended s.1 s.2)
   settled (Ok (Archives q)) s = archived_settled steady world q patience turns part ended s
   settled (Ok (Generates count)) s = summed_settled count turns part ended s
+  settled (Ok (Expands b)) s = expanded_settled steady world b part ended s
   settled (Ok (Shows b)) s = shown_settled steady world b part ended s
   settled (Err bad) s = word_settled bad part ended s

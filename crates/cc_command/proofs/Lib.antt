@@ -5,6 +5,7 @@ pub mod AskLaws
 pub mod CountLaws
 pub mod DottedPaths
 pub mod EnoughLaws
+pub mod ExpandedLaws
 pub mod FlagLaws
 pub mod GeneratedLaws
 pub mod GeneratedObjects

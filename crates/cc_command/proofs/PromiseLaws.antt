@@ -40,7 +40,7 @@ use Rattle.cc_build.proofs.TurnLaws.{halted_turns, halted_bound}
 use Rattle.cc_command.specs.Answer.{Answers, AnswersBad, AnswersWords, IfCompiles, BuiltBy, Refused, PrintsLine, first_listing, heard, env_in, terms_of, terms_in, repeating, stages_of, error_of, error_line, word_line, is_wanting, told, ended_well, ended_refused, ended_wanting}
 use Rattle.cc_command.specs.Promises.{PrintsLast, IsLine, Begun, IsBegun, ArchivesBehind, CompilesFirst, EndsAlone, FaultsLast, EndsSpent, IsComplete, IsEnough}
 use Rattle.cc_command.specs.Read.{Request, Wish}
-use Rattle.cc_command.specs.Read.Wish.{Compiles, Archives, Generates, Shows}
+use Rattle.cc_command.specs.Read.Wish.{Compiles, Archives, Generates, Expands, Shows}
 use Rattle.cc_command.specs.declared.ended.Ended.{Ended}
 use Rattle.cc_command.specs.declared.words.BadWord.{BadWord}
 use Rattle.cc_command.proofs.EnoughLaws.{planned_count, never_spent}
@@ -56,6 +56,7 @@ pub headline : (look : Look) (words : Result Wish BadWord) (part : List Event) (
 headline look (Ok (Compiles q)) part ended c a = built_of look q part ended c a
 headline look (Ok (Archives q)) part ended c a = tt
 headline look (Ok (Generates n)) part ended c a = tt
+headline look (Ok (Expands b)) part ended c a = tt
 headline look (Ok (Shows b)) part ended c a = tt
 headline look (Err bad) part ended c a = tt
 
@@ -99,6 +100,7 @@ pub is_begun : (look : Look) (words : Result Wish BadWord) (part : List Event) (
 is_begun look (Ok (Compiles q)) part ended c a = begun_of look q part ended c a
 is_begun look (Ok (Archives q)) part ended c a = tt
 is_begun look (Ok (Generates n)) part ended c a = tt
+is_begun look (Ok (Expands b)) part ended c a = tt
 is_begun look (Ok (Shows b)) part ended c a = tt
 is_begun look (Err bad) part ended c a = tt
 
@@ -205,6 +207,7 @@ pub compiles_first : (look : Look) (words : Result Wish BadWord) (part : List Ev
 compiles_first look (Ok (Compiles q)) part ended c a = order_of look q part c (begun_of look q part ended c a)
 compiles_first look (Ok (Archives q)) part ended c a = tt
 compiles_first look (Ok (Generates n)) part ended c a = tt
+compiles_first look (Ok (Expands b)) part ended c a = tt
 compiles_first look (Ok (Shows b)) part ended c a = tt
 compiles_first look (Err bad) part ended c a = tt
 
@@ -352,6 +355,7 @@ pub complete : (look : Look) (words : Result Wish BadWord) (part : List Event) (
 complete look (Ok (Compiles q)) part ended c a = λ valid failed fault rose. complete_of look q part ended c a valid failed fault rose
 complete look (Ok (Archives q)) part ended c a = tt
 complete look (Ok (Generates n)) part ended c a = tt
+complete look (Ok (Expands b)) part ended c a = tt
 complete look (Ok (Shows b)) part ended c a = tt
 complete look (Err bad) part ended c a = tt
 
@@ -387,5 +391,6 @@ pub enough : (look : Look) (words : Result Wish BadWord) (part : List Event) (en
 enough look (Ok (Compiles q)) part ended c a = enough_of look q part ended c a
 enough look (Ok (Archives q)) part ended c a = tt
 enough look (Ok (Generates n)) part ended c a = tt
+enough look (Ok (Expands b)) part ended c a = tt
 enough look (Ok (Shows b)) part ended c a = tt
 enough look (Err bad) part ended c a = tt

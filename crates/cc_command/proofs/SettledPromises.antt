@@ -18,7 +18,7 @@ use Rattle.cc_build.specs.Promises.{NothingRuns}
 use Rattle.cc_command.specs.Answer.{AnswersBad, AnswersWords, asked_for, env_in, terms_in, repeating, stages_of, word_line}
 use Rattle.cc_command.specs.Promises.{Begun, IsLine, IsPrefix, Promises}
 use Rattle.cc_command.specs.Read.{Request, Wish}
-use Rattle.cc_command.specs.Read.Wish.{Compiles, Archives, Generates, Shows}
+use Rattle.cc_command.specs.Read.Wish.{Compiles, Archives, Generates, Expands, Shows}
 use Rattle.cc_command.specs.declared.ended.Ended.{Ended}
 use Rattle.cc_command.specs.declared.words.BadWord.{BadWord}
 use Rattle.cc_command.proofs.PromiseLaws.{is_begun, compiles_first, complete, enough, line_of, heard_same, run_same, no_child}
@@ -50,6 +50,7 @@ attempts_same part run line cut printed =
 pub first : (look : Look) (words : Result Wish BadWord) (part : List Event) (ended : Ended) (c : Course) → AnswersWords look words part ended c → IsPrefix look words part
 first look (Ok (Archives q)) part ended c a = tt
 first look (Ok (Generates n)) part ended c a = tt
+first look (Ok (Expands b)) part ended c a = tt
 first look (Ok (Shows b)) part ended c a = tt
 first look (Ok (Compiles q)) part ended c a =
     let b : Begun look q part c = is_begun look (Ok (Compiles q)) part ended c a in

@@ -10,6 +10,7 @@ use Rattle.cc_host.specs.declared.event.Event.{Event}
 use Rattle.cc_host.specs.declared.event.HostCall.TheVariants.{Print}
 use Rattle.cc_host.specs.declared.event.HostError.{HostError}
 use Rattle.cc_host.specs.declared.event.HostError.TheVariants.{Fault as Faulted, NoMemory as WantsMemory}
+use Rattle.cc_host.specs.declared.event.LineKind.{LineKind}
 use Rattle.cc_host.specs.declared.event.LineKind.TheVariants.{Shown}
 use Rattle.cc_host.proofs.Parts.{since_since}
 use Rattle.cc_build.specs.Course.{CallsEnd}
@@ -32,9 +33,9 @@ as_host before now error e caused (inl memory) = inl memory
 as_host before now (Faulted call why) e caused (inr is) = inr (is ∙ ap (λ c. fault_error c why []) (sym caused.0))
 as_host before now WantsMemory e caused (inr is) = inr is
 
-pub unshown : (t : Terms) (line : List ℕ) (error : HostError) (part : List Event) (e : ErrorSeen) (before now : ℕ) (x : Means) → part ≡ refused error → IsCaused Print before now error → (e ≡ no_memory) ⊎ (e ≡ print_error error) → Halted t None (Calls (Prints Shown line) ∷ []) part e x x
-unshown t line error part e before now x one caused is =
-    refused_call t (Prints Shown line) error [] part e x one (fault_of (Prints Shown line) Print before now error (λ _ _ same. same) caused) (λ _ _. refl) (as_host before now error e caused is)
+pub unshown : (t : Terms) (kind : LineKind) (line : List ℕ) (error : HostError) (part : List Event) (e : ErrorSeen) (before now : ℕ) (x : Means) → part ≡ refused error → IsCaused Print before now error → (e ≡ no_memory) ⊎ (e ≡ print_error error) → Halted t None (Calls (Prints kind line) ∷ []) part e x x
+unshown t kind line error part e before now x one caused is =
+    refused_call t (Prints kind line) error [] part e x one (fault_of (Prints kind line) Print before now error (λ _ _ same. same) caused) (λ _ _. refl) (as_host before now error e caused is)
 
 stages_of : (a b : List (List ℕ)) → calls (shows (a ++ b)) ≡ calls (shows a) ++ calls (shows b)
 stages_of a b = ap calls (map-append (Prints Shown) a b) ∙ map-append Calls (shows a) (shows b)

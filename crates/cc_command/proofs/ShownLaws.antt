@@ -54,32 +54,32 @@ use Rattle.cc_command.specs.Asks.{AsksWish}
 use Rattle.cc_command.specs.Lines.{shows}
 use Rattle.cc_command.specs.Promises.{PrintsLast, FaultsLast, IsLine}
 use Rattle.cc_command.specs.Read.{Wish, wish_of}
-use Rattle.cc_command.specs.Read.Wish.{Compiles, Archives, Generates, Shows}
+use Rattle.cc_command.specs.Read.Wish.{Compiles, Archives, Generates, Expands, Shows}
 use Rattle.cc_command.specs.Shown.{tool_lines, Looks, lines_of, tools_steps, show_steps, show_error, AsksTools, Agree, Showing, listed_build, Shown, ShowPromises}
 use Rattle.cc_command.specs.declared.ended.Ended.{Ended}
 use Rattle.cc_command.specs.declared.words.BadWord.{BadWord}
 use Rattle.cc_command.specs.declared.words.Job.{Job}
-use Rattle.cc_command.specs.declared.words.Job.TheVariants.{Compile, Archive, Generate, Show}
+use Rattle.cc_command.specs.declared.words.Job.TheVariants.{Compile, Archive, Generate, Expand, Show}
 use Rattle.cc_command.proofs.ArchivedLaws.{no_tools_asked, says_last, says_line}
 use Rattle.cc_command.proofs.PromiseLaws.{any_before, faults_behind, known_memory}
 
 -- ---- lines and listings
 
 -- a line is printed, or the variables are listed
-abbrev is_told : Step → Bool
+abbrev pub is_told : Step → Bool
 is_told (Prints kind bytes) = true
 is_told Lists = true
 is_told _ = false
 
-told_prints : (kind : LineKind) (lines : List (List ℕ)) → list_all is_told (map (Prints kind) lines) ≡ true
+pub told_prints : (kind : LineKind) (lines : List (List ℕ)) → list_all is_told (map (Prints kind) lines) ≡ true
 told_prints kind [] = refl
 told_prints kind (line ∷ lines) = told_prints kind lines
 
 -- what refuses such a step is a fault, and no question's
-abbrev IsRealFault : Event → Type 0
+abbrev pub IsRealFault : Event → Type 0
 IsRealFault event = (call : HostCall) × (why : Why) × ((event ≡ Fault call why) × (is_probing call ≡ false))
 
-told_refused : (step : Step) (event : Event) → is_told step ≡ true → Refuses step event → IsRealFault event
+pub told_refused : (step : Step) (event : Event) → is_told step ≡ true → Refuses step event → IsRealFault event
 told_refused (Prints kind bytes) (Fault call why) told refuses = (call, why, (refl, ap is_probing refuses))
 told_refused Lists (Fault call why) told refuses = (call, why, (refl, ap is_probing refuses))
 told_refused (Prints kind bytes) event told refuses = absurd refuses
@@ -117,18 +117,18 @@ stepped_childless (Unread id) step did = absurd (cc)
 stepped_childless (Turn count) step did = absurd (cc)
 stepped_childless event step did = refl
 
-or_false : (a b : Bool) → a ≡ false → b ≡ false → (a || b) ≡ false
+pub or_false : (a b : Bool) → a ≡ false → b ≡ false → (a || b) ≡ false
 or_false true b p q = absurd (cc)
 or_false false b p q = q
 
-neither : (a b : Bool) → (a || b) ≡ false → (a ≡ false) × (b ≡ false)
+pub neither : (a b : Bool) → (a || b) ≡ false → (a ≡ false) × (b ≡ false)
 neither true b h = absurd (cc)
 neither false b h = (refl, h)
 
-abbrev IsChildless : List Event → Type 0
+abbrev pub IsChildless : List Event → Type 0
 IsChildless part = list_any is_of_children part ≡ false
 
-childless_then : (a b : List Event) → IsChildless a → IsChildless b → IsChildless (a ++ b)
+pub childless_then : (a b : List Event) → IsChildless a → IsChildless b → IsChildless (a ++ b)
 childless_then a b p q = list_any-append is_of_children a b ∙ or_false (list_any is_of_children a) (list_any is_of_children b) p q
 
 -- ---- calls of the host that list and print
@@ -201,7 +201,7 @@ module _ (t : Terms) where
         )
 
 -- calls that list and print have their outcome
-calls_outcome : {T : Type 0} (b : BuildSeen) (refusal : Option ErrorSeen) (steps : List Step) (part : List Event) (r : Result T ErrorSeen) → refusal ≡ None → list_all is_told steps ≡ true → CallsEnd steps part r → Outcome refusal steps part r × IsChildless part
+pub calls_outcome : {T : Type 0} (b : BuildSeen) (refusal : Option ErrorSeen) (steps : List Step) (part : List Event) (r : Result T ErrorSeen) → refusal ≡ None → list_all is_told steps ≡ true → CallsEnd steps part r → Outcome refusal steps part r × IsChildless part
 calls_outcome b refusal steps part (Ok v) none told ends =
     let w = went_whole (terms (shows_of b.config b.env) None None) steps part (means 0 0 0 0) (means 0 0 0 0) (ends (terms (shows_of b.config b.env) None None) (means 0 0 0 0)).1 in
     ((none, w.0), w.1)
@@ -510,13 +510,13 @@ children_after (EndedChild id status) r h = absurd (cc)
 children_after (Abandoned id) r h = absurd (cc)
 children_after event r h = refl
 
-childless_run : (part : List Event) (r : Run) → IsChildless part → run_from r part ≡ r
+pub childless_run : (part : List Event) (r : Run) → IsChildless part → run_from r part ≡ r
 childless_run [] r h = refl
 childless_run (event ∷ part) r h =
     let k = neither (is_of_children event) (list_any is_of_children part) h in
     ap (λ s. run_from s part) (children_after event r k.0) ∙ childless_run part r k.1
 
-childless_line : (line : List Event) → IsLine line → IsChildless line
+pub childless_line : (line : List Event) → IsLine line → IsChildless line
 childless_line line (inl none) = ap (list_any is_of_children) none
 childless_line line (inr (inl printed)) = ap (list_any is_of_children) printed.1
 childless_line line (inr (inr faulted)) = ap (list_any is_of_children) faulted.1
@@ -539,7 +539,7 @@ none_behind (x ∷ after) event stop none e =
     absurd (cc)
 
 -- a run whose first steps were done has its fault last
-partly_faults : (steps : List Step) (part : List Event) → IsPartly steps part → FaultsEnd part
+pub partly_faults : (steps : List Step) (part : List Event) → IsPartly steps part → FaultsEnd part
 partly_faults steps part p before after call why real is = ([], nothing_behind)
   where
     fault : Event
@@ -571,11 +571,11 @@ partly_faults steps part p before after call why real is = ([], nothing_behind)
     nothing_behind : after ≡ []
     nothing_behind = none_behind after fault (fault_stops fault real_fault) alone.1 (append_cancel_left before (fault ∷ after) (after ++ fault ∷ []) both)
 
-outcome_partly : (refusal : Option ErrorSeen) (steps : List Step) (part : List Event) (r : Result (Unit {0}) ErrorSeen) → Outcome refusal steps part r → IsPartly steps part
+pub outcome_partly : (refusal : Option ErrorSeen) (steps : List Step) (part : List Event) (r : Result (Unit {0}) ErrorSeen) → Outcome refusal steps part r → IsPartly steps part
 outcome_partly refusal steps part (Ok done) o = partly_whole steps part o.1
 outcome_partly refusal steps part (Err e) o = o.0
 
-told_printed : (kind : LineKind) (lines : List (List ℕ)) → list_all is_told (prints kind lines) ≡ true
+pub told_printed : (kind : LineKind) (lines : List (List ℕ)) → list_all is_told (prints kind lines) ≡ true
 unfolding prints
 told_printed kind [] = refl
 told_printed kind (line ∷ lines) = told_printed kind lines
@@ -587,7 +587,7 @@ told_all b warns_of_link looks =
     ∙ ap (λ v. v && list_all is_told (shows (lines_of b looks))) (told_printed Warning (warned_lines b.config b.env warns_of_link looks.compiler)) ∙ told_prints ShownLine (lines_of b looks)
 
 -- a step that was refused faulted
-stopped_fault : (refusal : Option ErrorSeen) (steps : List Step) (part : List Event) (e : ErrorSeen) → list_all is_told steps ≡ true → IsPartly steps part → stopped_by (left steps part) (stops part) ≡ Some e → HasFault part
+pub stopped_fault : (refusal : Option ErrorSeen) (steps : List Step) (part : List Event) (e : ErrorSeen) → list_all is_told steps ≡ true → IsPartly steps part → stopped_by (left steps part) (stops part) ≡ Some e → HasFault part
 stopped_fault refusal steps part e told p stopped = by_left (left steps part) (stops part) told_left p.stop refl stopped
   where
     told_left : list_all is_told (left steps part) ≡ true
@@ -667,6 +667,7 @@ pub show_promises : (steady : Bool) (world : Question → Verdicts) (part : List
 show_promises steady world part ended (Ok (Compiles q)) s = tt
 show_promises steady world part ended (Ok (Archives q)) s = tt
 show_promises steady world part ended (Ok (Generates count)) s = tt
+show_promises steady world part ended (Ok (Expands b)) s = tt
 show_promises steady world part ended (Ok (Shows b)) s = promises steady world b part ended s
 show_promises steady world part ended (Err bad) s = tt
 
@@ -677,6 +678,7 @@ pub shown_wanting : (steady : Bool) (world : Question → Verdicts) (log : List 
 shown_wanting steady world log (Ok (Compiles q)) ended is = tt
 shown_wanting steady world log (Ok (Archives q)) ended is = tt
 shown_wanting steady world log (Ok (Generates count)) ended is = tt
+shown_wanting steady world log (Ok (Expands b)) ended is = tt
 shown_wanting steady world log (Ok (Shows b)) ended is = unread steady world b (since log log) ended (part_is log log [] (sym (append-nil log))) is
 shown_wanting steady world log (Err bad) ended is = tt
 
@@ -685,16 +687,19 @@ pub of_show : (job : Job) (build : BuildSeen) (ended : Ended) (look : Look) (par
 of_show (Compile name) build ended look part c is same = absurd (cc)
 of_show (Archive name) build ended look part c is same = absurd (cc)
 of_show (Generate count) build ended look part c is same = absurd (cc)
+of_show Expand build ended look part c is same = absurd (cc)
 of_show Show build ended look part c is same = same
 
 pub asks_show : (job : Job) (build : BuildSeen) (steady : Bool) (world : Question → Verdicts) (part : List Event) (ended : Ended) → job ≡ Show → Shown steady world build part ended → AsksWish steady world (wish_of job build) part
 asks_show (Compile name) build steady world part ended is s = absurd (cc)
 asks_show (Archive name) build steady world part ended is s = absurd (cc)
 asks_show (Generate count) build steady world part ended is s = absurd (cc)
+asks_show Expand build steady world part ended is s = absurd (cc)
 asks_show Show build steady world part ended is s = s.asks
 
 pub shown_show : (job : Job) (build : BuildSeen) (steady : Bool) (world : Question → Verdicts) (part : List Event) (ended : Ended) → job ≡ Show → Shown steady world build part ended → IfShows (Ok (wish_of job build)) (λ b. Shown steady world b part ended)
 shown_show (Compile name) build steady world part ended is s = tt
 shown_show (Archive name) build steady world part ended is s = tt
 shown_show (Generate count) build steady world part ended is s = tt
+shown_show Expand build steady world part ended is s = tt
 shown_show Show build steady world part ended is s = s

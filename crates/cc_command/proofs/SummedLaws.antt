@@ -37,13 +37,13 @@ use Rattle.cc_command.specs.Generated.{gen_build, gen_course, GeneratedRun, summ
 use Rattle.cc_command.specs.Promises.{PrintsLast, FaultsLast, IsLine}
 use Rattle.cc_command.specs.Asks.{AsksWish}
 use Rattle.cc_command.specs.Read.{Wish, wish_of}
-use Rattle.cc_command.specs.Read.Wish.{Compiles, Archives, Generates, Shows}
+use Rattle.cc_command.specs.Read.Wish.{Compiles, Archives, Generates, Expands, Shows}
 use Rattle.cc_command.specs.Lines.{shows}
 use Rattle.cc_command.specs.Summary.{log_lines, SumsUp, Concludes, Summed, Sums, BuiltAlone, SpentAlone, GeneratePromises}
 use Rattle.cc_command.specs.declared.ended.Ended.{Ended}
 use Rattle.cc_command.specs.declared.words.BadWord.{BadWord}
 use Rattle.cc_command.specs.declared.words.Job.{Job}
-use Rattle.cc_command.specs.declared.words.Job.TheVariants.{Compile, Archive, Generate, Show}
+use Rattle.cc_command.specs.declared.words.Job.TheVariants.{Compile, Archive, Generate, Expand, Show}
 use Rattle.cc_command.proofs.ArchivedLaws.{says_last, says_line}
 use Rattle.cc_command.proofs.PromiseLaws.{any_before, known_memory, same_error, stages_last}
 use Rattle.cc_command.proofs.SettledPromises.{stages_settled}
@@ -271,6 +271,7 @@ pub generate_promises : (turned : ℕ) (part : List Event) (ended : Ended) (word
 generate_promises turned part ended (Ok (Compiles q)) s = tt
 generate_promises turned part ended (Ok (Archives q)) s = tt
 generate_promises turned part ended (Ok (Generates count)) s = sums_promise count turned part ended s
+generate_promises turned part ended (Ok (Expands b)) s = tt
 generate_promises turned part ended (Ok (Shows b)) s = tt
 generate_promises turned part ended (Err bad) s = tt
 
@@ -281,6 +282,7 @@ pub sums_wanting : (turned : ℕ) (log : List Event) (words : Result Wish BadWor
 sums_wanting turned log (Ok (Compiles q)) ended is = tt
 sums_wanting turned log (Ok (Archives q)) ended is = tt
 sums_wanting turned log (Ok (Generates count)) ended is = inr (is, part_is log log [] (sym (append-nil log)))
+sums_wanting turned log (Ok (Expands b)) ended is = tt
 sums_wanting turned log (Ok (Shows b)) ended is = tt
 sums_wanting turned log (Err bad) ended is = tt
 
@@ -289,16 +291,19 @@ pub of_generate : (job : Job) (count : ℕ) (build : BuildSeen) (ended : Ended) 
 of_generate (Compile name) count build ended look part c is same = absurd (cc)
 of_generate (Archive name) count build ended look part c is same = absurd (cc)
 of_generate (Generate n) count build ended look part c is same = same
+of_generate Expand count build ended look part c is same = same
 of_generate Show count build ended look part c is same = same
 
 pub asks_generate : (job : Job) (count : ℕ) (build : BuildSeen) (steady : Bool) (world : Question → Outcome) (part : List Event) → job ≡ Generate count → question_events part ≡ [] → AsksWish steady world (wish_of job build) part
 asks_generate (Compile name) count build steady world part is none = absurd (cc)
 asks_generate (Archive name) count build steady world part is none = absurd (cc)
 asks_generate (Generate n) count build steady world part is none = none
+asks_generate Expand count build steady world part is none = absurd (cc)
 asks_generate Show count build steady world part is none = absurd (cc)
 
 pub sums_generate : (job : Job) (count turned : ℕ) (build : BuildSeen) (part : List Event) (ended : Ended) → job ≡ Generate count → Sums count turned part ended → IfGenerates (Ok (wish_of job build)) (λ n. Sums n turned part ended)
 sums_generate (Compile name) count turned build part ended is s = tt
+sums_generate Expand count turned build part ended is s = tt
 sums_generate Show count turned build part ended is s = tt
 sums_generate (Archive name) count turned build part ended is s = tt
 sums_generate (Generate n) count turned build part ended is s = let same : count ≡ n = cc in subst (λ (m : ℕ). Sums m turned part ended) same s

@@ -7,7 +7,7 @@ use Rattle.std.proofs.lemmas.Grind.{take_at_read}
 use Rattle.std.proofs.lemmas.List.{map-append}
 use Rattle.cc_plan.specs.Settings.{unset_settings}
 use Rattle.cc_build.specs.Build.{BuildSeen}
-use Rattle.cc_command.specs.Read.{bad_at, bad_or, bad_word, first_bad, word_cause, values, settings_of, IsJobOf, wish_by, wish_of, is_count, IsCountOf, IsNumberOf, taken, further, read_named, read_count, read_shown, refusal_of}
+use Rattle.cc_command.specs.Read.{bad_at, bad_or, bad_word, first_bad, word_cause, values, settings_of, IsJobOf, wish_by, wish_of, is_count, IsCountOf, IsNumberOf, taken, further, read_named, read_count, read_build, refusal_of}
 use Rattle.cc_command.specs.SetsKey.{ReadsSettings}
 use Rattle.cc_command.specs.Step.{with_word}
 use Rattle.cc_command.specs.declared.words.BadWord.{BadWord}
@@ -16,7 +16,7 @@ use Rattle.cc_command.specs.declared.words.ReadError.{ReadError}
 use Rattle.cc_command.specs.declared.words.ReadError.TheVariants.{Bad}
 use Rattle.cc_command.specs.declared.words.WordCause.{WordCause}
 use Rattle.cc_command.specs.declared.words.WordCause.TheVariants.{BadValue}
-use Rattle.cc_command.specs.Read.Wish.{Generates, Shows}
+use Rattle.cc_command.specs.Read.Wish.{Generates, Expands, Shows}
 use Rattle.cc_command.proofs.SettingLaws.{next_settings}
 
 -- before the first word nothing is set but that lines are repeated
@@ -87,5 +87,8 @@ counts_none number words e k is = rw k (ap Some (sym is))
 -- ---- the tools of a build
 
 -- words of settings that are good
-pub shows_so : (words : List (List ℕ)) (build : BuildSeen) → ReadsSettings 1 words build → read_shown words ≡ Ok (Shows build)
+pub shows_so : (words : List (List ℕ)) (build : BuildSeen) → ReadsSettings 1 words build → read_build Shows words ≡ Ok (Shows build)
 shows_so words build r = rw r.0 (ap (λ b. Ok (Shows b)) (sym r.1))
+
+pub expands_so : (words : List (List ℕ)) (build : BuildSeen) → ReadsSettings 1 words build → read_build Expands words ≡ Ok (Expands build)
+expands_so words build r = rw r.0 (ap (λ b. Ok (Expands b)) (sym r.1))

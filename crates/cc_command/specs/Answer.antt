@@ -25,7 +25,7 @@ use Rattle.cc_build.specs.declared.error.ErrorKind.{ErrorKind}
 use Rattle.cc_build.specs.declared.error.ErrorKind.TheVariants.{NoMemory}
 use Rattle.cc_build.specs.Refusal.{refusal_error}
 use Rattle.cc_command.specs.Read.{Request, Wish, read}
-use Rattle.cc_command.specs.Read.Wish.{Compiles, Archives, Generates, Shows}
+use Rattle.cc_command.specs.Read.Wish.{Compiles, Archives, Generates, Expands, Shows}
 use Rattle.cc_command.specs.declared.words.BadWord.{BadWord}
 use Rattle.cc_command.specs.declared.words.WordCause.{WordCause}
 use Rattle.cc_command.specs.declared.words.WordCause.TheVariants.{NoCommand, UnknownCommand, NoName, NoValue, UnknownKey, BadValue}
@@ -153,6 +153,7 @@ abbrev pub IfCompiles : Result Wish BadWord → (Request → Type 0) → Type 0
 IfCompiles (Ok (Compiles request)) fact = fact request
 IfCompiles (Ok (Archives request)) fact = Unit {0}
 IfCompiles (Ok (Generates count)) fact = Unit {0}
+IfCompiles (Ok (Expands build)) fact = Unit {0}
 IfCompiles (Ok (Shows build)) fact = Unit {0}
 IfCompiles (Err bad) fact = Unit {0}
 
@@ -161,6 +162,7 @@ abbrev pub IfArchives : Result Wish BadWord → (Request → Type 0) → Type 0
 IfArchives (Ok (Compiles request)) fact = Unit {0}
 IfArchives (Ok (Archives request)) fact = fact request
 IfArchives (Ok (Generates count)) fact = Unit {0}
+IfArchives (Ok (Expands build)) fact = Unit {0}
 IfArchives (Ok (Shows build)) fact = Unit {0}
 IfArchives (Err bad) fact = Unit {0}
 
@@ -169,23 +171,35 @@ abbrev pub IfGenerates : Result Wish BadWord → (ℕ → Type 0) → Type 0
 IfGenerates (Ok (Compiles request)) fact = Unit {0}
 IfGenerates (Ok (Archives request)) fact = Unit {0}
 IfGenerates (Ok (Generates count)) fact = fact count
+IfGenerates (Ok (Expands build)) fact = Unit {0}
 IfGenerates (Ok (Shows build)) fact = Unit {0}
 IfGenerates (Err bad) fact = Unit {0}
+
+-- a fact of a build whose source is expanded, where they wish that
+abbrev pub IfExpands : Result Wish BadWord → (BuildSeen → Type 0) → Type 0
+IfExpands (Ok (Compiles request)) fact = Unit {0}
+IfExpands (Ok (Archives request)) fact = Unit {0}
+IfExpands (Ok (Generates count)) fact = Unit {0}
+IfExpands (Ok (Expands build)) fact = fact build
+IfExpands (Ok (Shows build)) fact = Unit {0}
+IfExpands (Err bad) fact = Unit {0}
 
 -- a fact of a build whose tools are shown, where they wish that
 abbrev pub IfShows : Result Wish BadWord → (BuildSeen → Type 0) → Type 0
 IfShows (Ok (Compiles request)) fact = Unit {0}
 IfShows (Ok (Archives request)) fact = Unit {0}
 IfShows (Ok (Generates count)) fact = Unit {0}
+IfShows (Ok (Expands build)) fact = Unit {0}
 IfShows (Ok (Shows build)) fact = fact build
 IfShows (Err bad) fact = Unit {0}
 
 -- Words that wish a compile run, or are bad, were answered. Those that can't be read for want of memory ask for nothing. A large run takes no token and
--- makes no turn but its own; nor does what shows tools.
+-- makes no turn but its own; nor does what expands a source or shows tools.
 abbrev pub AnswersWords : Look → Result Wish BadWord → List Event → Ended → Course → Type 0
 AnswersWords look (Ok (Compiles request)) part ended c = Answers look request part ended c
 AnswersWords look (Ok (Archives request)) part ended c = Unit {0}
 AnswersWords look (Ok (Generates count)) part ended c = c.after ≡ c.before
+AnswersWords look (Ok (Expands build)) part ended c = c.after ≡ c.before
 AnswersWords look (Ok (Shows build)) part ended c = c.after ≡ c.before
 AnswersWords look (Err bad) part ended c = AnswersBad bad part ended × (c.after ≡ c.before)
 

@@ -12,7 +12,7 @@ use Rattle.cc_plan.specs.Refusal.{first_of, path_refusal, link_refusal}
 use Rattle.cc_run.specs.Part.{started}
 use Rattle.cc_run.specs.Planned.{asked}
 use Rattle.cc_run.specs.Run.{run_from, nothing}
-use Rattle.cc_build.specs.Archiving.{with_objects, unarchived_error}
+use Rattle.cc_build.specs.Archiving.{archive_reads, with_objects, unarchived_error}
 use Rattle.cc_build.specs.Attempts.{attempts, to_attempt}
 use Rattle.cc_build.specs.Build.{BuildSeen, AsksByRun}
 use Rattle.cc_build.specs.Built.{ended_well as all_ended}
@@ -23,8 +23,8 @@ use Rattle.cc_build.specs.Linking.{linked_name, directive_error, link_reads}
 use Rattle.cc_build.specs.Promises.{terms_for, AreFirst}
 use Rattle.cc_build.specs.Refusal.{archive_error}
 use Rattle.cc_build.specs.Shows.{shows_of}
-use Rattle.cc_build.specs.Stage.{Stage, asked_then, has_libtool, library_commands, library_stages, links_of, printed_stages, written_children}
-use Rattle.cc_build.specs.Stage.Stage.{Calls}
+use Rattle.cc_build.specs.Stage.{Stage, asked_then, has_libtool, library_commands, library_stages, links_of, name_stages, printed_stages, written_children}
+use Rattle.cc_build.specs.Stage.Stage.{Asks, Calls}
 use Rattle.cc_build.specs.Went.{Went, Ends}
 use Rattle.cc_command.specs.Answer.{AnswersError, env_in, ended_well, ended_wanting}
 use Rattle.cc_command.specs.Promises.{EndsSpent}
@@ -44,11 +44,15 @@ abbrev pub directed_stages : BuildSeen → Look → List ℕ → List Stage
 directed_stages b links library =
     asked_then (first_of (path_refusal library) (link_refusal b.config b.env links)) (printed_stages all_firsts (links_of b.config b.env (linked_name library) library links) (rerun_names link_reads b.config b.env links))
 
--- The stages of an archive and of its link lines. The archive goes by some verdicts, the link lines by those of their own questions.
+-- behind the library the lines of the variables that were read for it are printed, and then how it is linked
+abbrev pub behind_library : BuildSeen → Look → Look → List ℕ → List Stage
+behind_library b look links output = Asks ∷ (name_stages (alone b).config (alone b).env archive_reads look all_firsts ++ directed_stages b links (library_at b output))
+
+-- The stages of an archive and of its link lines. The archive and its lines go by some verdicts, the link lines by those of their own questions.
 abbrev pub archive_stages : BuildSeen → Bool → Look → Look → List ℕ → List Stage
 archive_stages b is_plain look links output =
     if is_some (unarchived_error (alone b).config (alone b).env output) then []
-    else asked_then (archive_refusal (alone b).config (alone b).env look) (library_stages (alone b).config (alone b).env is_plain look output ++ directed_stages b links (library_at b output))
+    else asked_then (archive_refusal (alone b).config (alone b).env look) (library_stages (alone b).config (alone b).env is_plain look output ++ behind_library b look links output)
 
 -- the error of settings that are refused: before the archive, by its plan, or by that of the link lines
 abbrev pub archive_refused : BuildSeen → Look → Look → List ℕ → Option ErrorSeen
@@ -105,7 +109,7 @@ pub record Archived (steady : Bool) (world : Question → Outcome) (request : Re
   pub says : Says result line ended
 
 -- The planned archive and index commands were run, and no other: the first was tried, unless it is libtool's, and each of the others has ended with 0.
--- Behind them exactly the link lines were printed.
+-- Behind them exactly the lines of the variables that were read for them were printed, and then exactly the link lines, with those of their own variables.
 pub record Written (b : BuildSeen) (patience : Option ℕ) (turns : ℕ) (look links : Look) (output : List ℕ) (part : List Event) : Type 0 where
   pub accepted : archive_refused b look links output ≡ None
   pub is_plain : Bool
@@ -119,7 +123,7 @@ pub record Written (b : BuildSeen) (patience : Option ℕ) (turns : ℕ) (look l
 pub record ArchivePromises (steady : Bool) (world : Question → Outcome) (request : Request) (patience : Option ℕ) (turns : ℕ) (part : List Event) (ended : Ended) : Type 0 where
   -- the whole answer: each status with its cause
   pub answer : Archived steady world request patience turns part ended
-  -- status 0: the library was written, and then its link lines were printed
+  -- status 0: the library was written, and then the lines of its variables and its link lines were printed
   pub written : ended.status ≡ 0 → (look links : Look) → Agree answer.made answer.linked look links → Written (build_in request part) patience turns look links request.0 part
   -- one attempt for each of the first planned commands, and no other
   pub prefix : (look links : Look) → Agree answer.made answer.linked look links → (is_plain : Bool) × AreFirst (wished_stages request is_plain look links part) part

@@ -7,10 +7,10 @@ use Rattle.cc_plan.specs.Given.{probe_folder}
 use Rattle.cc_plan.specs.Questions.{RunAsks}
 use Rattle.cc_tool.specs.Asked.{question_events, Asked}
 use Rattle.cc_command.specs.Answer.{env_in}
-use Rattle.cc_build.specs.Build.{AsksByRun}
+use Rattle.cc_build.specs.Build.{AsksByRun, AsksByPlan}
 use Rattle.cc_command.specs.Archived.{alone, build_in}
 use Rattle.cc_command.specs.Read.{Request, Wish}
-use Rattle.cc_command.specs.Read.Wish.{Compiles, Archives, Generates, Shows}
+use Rattle.cc_command.specs.Read.Wish.{Compiles, Archives, Generates, Expands, Shows}
 use Rattle.cc_command.specs.Shown.{AsksTools, listed_build}
 use Rattle.cc_command.specs.declared.words.BadWord.{BadWord}
 
@@ -29,6 +29,7 @@ abbrev pub AsksWish : Bool → (Question → Outcome) → Wish → List Event �
 AsksWish steady world (Compiles request) part = AsksFor steady world request part
 AsksWish steady world (Archives request) part = AsksAlone steady world request part
 AsksWish steady world (Generates count) part = question_events part ≡ []
+AsksWish steady world (Expands build) part = AsksByPlan steady world (listed_build build part) part
 AsksWish steady world (Shows build) part = AsksTools steady world (listed_build build part) part
 
 -- words that can't be read ask nothing

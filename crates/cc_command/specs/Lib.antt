@@ -1,6 +1,7 @@
 pub mod Answer
 pub mod Archived
 pub mod Asks
+pub mod Expanded
 pub mod Generated
 pub mod Lines
 pub mod Promises

@@ -1,4 +1,5 @@
--- What the words of the program ask for: `compile NAME key=value ...`, `archive NAME key=value ...`, `generate N` or `show key=value ...`.
+-- What the words of the program ask for: `compile NAME key=value ...`, `archive NAME key=value ...`, `generate N`, or `expand` or `show` with
+-- `key=value ...`.
 use Rattle.std.specs.Prelude.{◌≡◌, ℕ, ◌+◌, ◌^◌, List, [], ◌∷◌, ◌++◌, Bool, true, false, ◌&&◌, ◌||◌, fold, map, Option, Some, None, Result, Ok, Err, is_some, nat_lt, codes, bytes_eq, unwrap_or, if◌then◌else◌}
 use Prim.Native.String.{String}
 use Rattle.std.specs.Fmt.{decimal}
@@ -14,7 +15,7 @@ use Rattle.cc_command.specs.declared.words.WordCause.{WordCause}
 use Rattle.cc_command.specs.declared.words.WordCause.TheVariants.{NoCommand, UnknownCommand, NoName, NoValue, UnknownKey, BadValue}
 use Rattle.cc_command.specs.declared.words.Job.{Job}
 use Rattle.cc_command.specs.Generated.{gen_name}
-use Rattle.cc_command.specs.declared.words.Job.TheVariants.{Compile, Archive, Generate, Show}
+use Rattle.cc_command.specs.declared.words.Job.TheVariants.{Compile, Archive, Generate, Expand, Show}
 use Rattle.cc_command.specs.declared.words.ReadError.{ReadError}
 use Rattle.cc_command.specs.declared.words.ReadError.TheVariants.{Bad}
 
@@ -223,11 +224,12 @@ settings_of words = record {
 abbrev pub Request : Type 0
 Request = List ℕ × BuildSeen
 
--- what is wished: a compile run, an archive alone, a large run of so many sources, or that the tools of a build are shown
+-- what is wished: a compile run, an archive alone, a large run of so many sources, that the source of a build is expanded, or that its tools are shown
 pub data Wish : Type 0 where
   Compiles : Request → Wish
   Archives : Request → Wish
   Generates : ℕ → Wish
+  Expands : BuildSeen → Wish
   Shows : BuildSeen → Wish
 
 abbrev pub read_settings : (Request → Wish) → List ℕ → List (List ℕ) → Option BadWord → Result Wish BadWord
@@ -292,28 +294,34 @@ abbrev pub read_further : List ℕ → List (List ℕ) → Result Wish BadWord
 read_further command [] = Err (if is_command command then bad_at 1 NoName else bad_at 0 UnknownCommand)
 read_further command (name ∷ words) = read_argued command name words
 
-abbrev pub shown_unless : List (List ℕ) → Option BadWord → Result Wish BadWord
-shown_unless words (Some bad) = Err bad
-shown_unless words None = Ok (Wish.Shows (settings_of words))
+abbrev pub build_unless : (BuildSeen → Wish) → List (List ℕ) → Option BadWord → Result Wish BadWord
+build_unless wish words (Some bad) = Err bad
+build_unless wish words None = Ok (wish (settings_of words))
 
--- the settings whose tools are shown, which take no name before them, or the first bad word
-abbrev pub read_shown : List (List ℕ) → Result Wish BadWord
-read_shown words = shown_unless words (first_bad 1 words)
+-- what is wished of settings that take no name before them, or the first bad word
+abbrev pub read_build : (BuildSeen → Wish) → List (List ℕ) → Result Wish BadWord
+read_build wish words = build_unless wish words (first_bad 1 words)
+
+-- a command that takes settings alone, or one that takes a word before them
+abbrev pub read_command : List ℕ → List (List ℕ) → Result Wish BadWord
+read_command command words =
+    if is command "show" then read_build Wish.Shows words else if is command "expand" then read_build Wish.Expands words else read_further command words
 
 -- what is wished, or the first bad word
 abbrev pub read : List (List ℕ) → Result Wish BadWord
 read [] = Err (bad_at 0 NoCommand)
-read (command ∷ words) = if is command "show" then read_shown words else read_further command words
+read (command ∷ words) = read_command command words
 
 abbrev pub bad_word : Option BadWord → Option ReadError
 bad_word None = None
 bad_word (Some bad) = Some (Bad bad)
 
--- the name of the library of a job, which is known of a large run, and is none where tools are shown
+-- the name of the library of a job, which is known of a large run, and is none where no library is made
 abbrev pub name_of : Job → List ℕ
 name_of (Compile name) = name
 name_of (Archive name) = name
 name_of (Generate count) = gen_name
+name_of Expand = []
 name_of Show = []
 
 -- what a job with these settings wishes
@@ -321,6 +329,7 @@ abbrev pub wish_of : Job → BuildSeen → Wish
 wish_of (Compile name) build = Wish.Compiles (name, build)
 wish_of (Archive name) build = Wish.Archives (name, build)
 wish_of (Generate count) build = Wish.Generates count
+wish_of Expand build = Wish.Expands build
 wish_of Show build = Wish.Shows build
 
 -- the command takes a name, and a job for the library of this name does what it wishes

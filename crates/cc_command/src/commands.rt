@@ -1,7 +1,8 @@
 // Reads the words of the program.
 ghost use Rattle.std.specs.Prelude.{◌≡◌, ◌⊎◌, [], ◌∷◌, Ok, Some, map, true, false, IfOk, IfErr, OnOk, string_bytes};
 ghost use Rattle.cc_command.specs.Answer.{asked_for};
-ghost use Rattle.cc_command.specs.Read.{bad_at, bad_word, IsJobOf, IsCountOf, taken, takes_name, is, is_command, read, read_named, read_count, read_argued, read_further, read_shown, further, further_cause, wish_of, refusal_of};
+ghost use Rattle.cc_command.specs.Read.{bad_at, bad_word, IsJobOf, IsCountOf, taken, takes_name, is, is_command, read, read_named, read_count, read_argued, read_further, read_build, further, further_cause, wish_of, refusal_of};
+ghost use Rattle.cc_command.specs.Read.Wish.{Expands, Shows};
 ghost use Rattle.cc_command.specs.declared.words.ReadError.TheVariants.{Bad, NoMemory as WantsMemory};
 ghost use Rattle.cc_command.specs.declared.words.WordCause.TheVariants.{UnknownCommand as NoSuchCommand};
 
@@ -159,15 +160,31 @@ fn read_further<W: World>(
 
 // Reads the words behind `show`: settings, and no name.
 fn read_shown<W: World>(alloc: Global, words: &[String]) -> Result<Request<W>, ReadError>
-    ensures ok { IfOk result (λ request. read_shown
+    ensures ok { IfOk result (λ request. read_build Shows
         (map string_bytes words.now) ≡ Ok (wish_of request.job request.build)) }
     ensures repeats { IfOk result (λ request. request.build.config.repeat_lines ≡ true) }
     ensures refused { IfErr result (λ e. (e ≡ WantsMemory) ⊎ (refusal_of
-        (read_shown (map string_bytes words.now)) ≡ Some e)) }
+        (read_build Shows (map string_bytes words.now)) ≡ Some e)) }
 {
     let build = read_settings(alloc, words, 1)?;
     let job = Job::Show;
     Ok(Request { job, build, alloc })
+}
+
+// Reads the words behind `expand`, which are such as those behind `show`.
+fn read_expanded<W: World>(alloc: Global, words: &[String]) -> Result<Request<W>, ReadError>
+    ensures ok { IfOk result (λ request. read_build Expands
+        (map string_bytes words.now) ≡ Ok (wish_of request.job request.build)) }
+    ensures repeats { IfOk result (λ request. request.build.config.repeat_lines ≡ true) }
+    ensures refused { IfErr result (λ e. (e ≡ WantsMemory) ⊎ (refusal_of
+        (read_build Expands (map string_bytes words.now)) ≡ Some e)) }
+{
+    let set = read_settings(alloc, words, 1)?;
+    Ok(Request {
+        job: Job::Expand,
+        build: set,
+        alloc,
+    })
 }
 
 // The command shows tools.
@@ -175,6 +192,13 @@ fn shows_tools(command: &str) -> bool
     ensures { result ≡ is command.now "show" }
 {
     command == "show"
+}
+
+// The command expands a source.
+fn expands(command: &str) -> bool
+    ensures { result ≡ is command.now "expand" }
+{
+    command == "expand"
 }
 
 // Reads a command with the words behind it.
@@ -191,13 +215,15 @@ fn read_command<W: World>(
 {
     if shows_tools(command) {
         read_shown(alloc, words)
+    } else if expands(command) {
+        read_expanded(alloc, words)
     } else {
         read_further(alloc, command, words)
     }
 }
 
 /// Reads the words behind the program's own name: `compile NAME key=value ...` or `archive NAME key=value ...`, where a word ends its key at
-/// its first `=`, `generate N`, or `show key=value ...`. A list setting takes the values of its key in order, a single one the last; a large
+/// its first `=`, `generate N`, or `expand` or `show` with `key=value ...`. A list setting takes the values of its key in order, a single one the last; a large
 /// run takes a number from 1 to 10000 and no setting.
 ///
 /// Refused at the first bad word, with its place from 0 and the first cause that holds; and for memory. Nothing is left then, and no host

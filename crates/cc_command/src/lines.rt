@@ -49,17 +49,31 @@ fn unprinted(alloc: Global, error: HostError) -> Error
     }
 }
 
-// Prints a line.
+/// Prints these bytes as an answer of the program, as they are.
 #[tactic(auto, using(cc_host::proofs::Parts::since_append))]
+pub(crate) fn print_bytes<W: World, H: Host<W>>(
+    alloc: Global,
+    host: &mut H,
+    kind: LineKind,
+    bytes: &[u8],
+) -> Result<(), Error>
+    ensures aside { Aside H.log H.patience host.old host.new }
+    ensures outcome { CallsEnd (Prints kind bytes.now ∷ [])
+        (part H.log host.old host.new) result }
+{
+    match host.print(kind, bytes) {
+        Ok(()) => Ok(()),
+        Err(error) => Err(unprinted(alloc, error)),
+    }
+}
+
+// Prints a line.
 fn print_line<W: World, H: Host<W>>(alloc: Global, host: &mut H, line: &Text) -> Result<(), Error>
     ensures aside { Aside H.log H.patience host.old host.new }
     ensures outcome { CallsEnd (Prints Shown line.now ∷ [])
         (part H.log host.old host.new) result }
 {
-    match host.print(LineKind::Shown, line.as_str().as_bytes()) {
-        Ok(()) => Ok(()),
-        Err(error) => Err(unprinted(alloc, error)),
-    }
+    print_bytes(alloc, host, LineKind::Shown, line.as_str().as_bytes())
 }
 
 /// Prints these lines as an answer of the program, one after another.

@@ -3,9 +3,10 @@ ghost use Rattle.std.specs.Prelude.{◌≡◌, ◌++◌, Ok, true};
 ghost use Rattle.cc_host.specs.Call.{part};
 ghost use Rattle.cc_build.specs.Course.{ByRun};
 ghost use Rattle.cc_build.specs.Promises.{NothingRuns};
-ghost use Rattle.cc_command.specs.Answer.{asked_for, IfArchives, IfGenerates, IfShows, IsAnswer, IsAnswerOf, IsAnswerTo};
+ghost use Rattle.cc_command.specs.Answer.{asked_for, IfArchives, IfExpands, IfGenerates, IfShows, IsAnswer, IsAnswerOf, IsAnswerTo};
 ghost use Rattle.cc_command.specs.Archived.{Archived, ArchivePromises};
 ghost use Rattle.cc_command.specs.Asks.{AsksFor, AsksWish, AsksWords};
+ghost use Rattle.cc_command.specs.Expanded.{Expanded, ExpandPromises};
 ghost use Rattle.cc_command.specs.Promises.{Headline, Promises, PrintsLast, FaultsLast};
 ghost use Rattle.cc_command.specs.Read.{name_of, wish_of};
 ghost use Rattle.cc_command.specs.Shown.{Shown, ShowPromises};
@@ -14,6 +15,7 @@ ghost use Rattle.cc_command.specs.Summary.{Sums, GeneratePromises};
 use crate::archive::archive;
 use crate::commands::read_words;
 use crate::ended::{Ended, ended_done, ended_wanting, refuse, refuse_word};
+use crate::expand::expand;
 use crate::show::show;
 use crate::summary::generate_alone;
 use crate::words::{Invocation, Job, ReadError, Request};
@@ -79,6 +81,27 @@ fn archive_alone<W: World, H: Host<W>>(
     }
 }
 
+// Takes the host's variables, and expands the source of the build.
+#[tactic(auto, using(cc_host::proofs::Parts::since_append))]
+fn expand_alone<W: World, H: Host<W>>(
+    rt: &impl Wait,
+    request: &mut Request<W>,
+    host: &mut H,
+) -> Ended
+    ensures extends { H.log host.new ≡ H.log host.old ++ part H.log host.old host.new }
+    ensures expanded { Expanded W.steady W.answer request.old.build
+        (part H.log host.old host.new) result }
+{
+    let alloc = request.alloc;
+    match request.build.capture(host) {
+        Ok(()) => match expand(rt, alloc, &request.build, host) {
+            Ok(()) => ended_done(),
+            Err(error) => refuse(alloc, host, error),
+        },
+        Err(error) => refuse(alloc, host, error),
+    }
+}
+
 // Takes the host's variables, and shows the tools of the build.
 #[tactic(auto, using(cc_host::proofs::Parts::since_append))]
 fn show_tools<W: World, H: Host<W>>(rt: &impl Wait, request: &mut Request<W>, host: &mut H) -> Ended
@@ -122,6 +145,8 @@ fn serve<W: World, H: Host<W>, J: Jobs>(
         (part H.log host.old host.new) result) }
     ensures generated { IfGenerates (Ok (wish_of request.old.job request.old.build))
         (λ count. Sums count turns (part H.log host.old host.new) result) }
+    ensures expanded { IfExpands (Ok (wish_of request.old.job request.old.build))
+        (λ b. Expanded W.steady W.answer b (part H.log host.old host.new) result) }
     ensures shown { IfShows (Ok (wish_of request.old.job request.old.build))
         (λ b. Shown W.steady W.answer b (part H.log host.old host.new) result) }
 {
@@ -129,6 +154,7 @@ fn serve<W: World, H: Host<W>, J: Jobs>(
         Job::Compile(_) => compile(rt, request, turns, host, jobs, seat),
         Job::Archive(_) => archive_alone(rt, request, turns, host),
         Job::Generate(count) => generate_alone(rt, request.alloc, count, turns, host),
+        Job::Expand => expand_alone(rt, request, host),
         Job::Show => show_tools(rt, request, host),
     }
 }
@@ -156,6 +182,8 @@ fn run<W: World, H: Host<W>, J: Jobs>(
         (part H.log host.old host.new) result) }
     ensures generated { IfGenerates (asked_for invocation.entry.words.now)
         (λ count. Sums count invocation.entry.turns (part H.log host.old host.new) result) }
+    ensures expanded { IfExpands (asked_for invocation.entry.words.now)
+        (λ b. Expanded W.steady W.answer b (part H.log host.old host.new) result) }
     ensures shown { IfShows (asked_for invocation.entry.words.now)
         (λ b. Shown W.steady W.answer b (part H.log host.old host.new) result) }
 {
@@ -185,6 +213,10 @@ fn run<W: World, H: Host<W>, J: Jobs>(
 /// turns, of which two for each source and two more are enough. Status 0 of it means: over the whole log of that host, which is handed back
 /// as `bench` and was empty before, the library `gen` of N sources is built; and exactly five lines were printed on the host that was
 /// handed in, of kind Shown: `sources`, `compiles`, `archives`, `indexes` and `links`, each with its number.
+///
+/// `expand key=value ..` takes no token and makes no turn. Status 0 of it means: the host listed its variables, the warnings of how the
+/// compiler was found were printed; then exactly one command ran, the planned one that expands the one source, and ended with 0; and then its
+/// standard output was printed as it is, of kind Expanded.
 ///
 /// `show key=value ..` starts no command but those of questions. Status 0 of it means: the host listed its variables, the warnings of how
 /// the compiler was found were printed, and then exactly four lines of kind Shown, `family`, `compiler`, `archiver` and `ranlib`, as the
@@ -224,6 +256,10 @@ pub fn drive<W: World, H: Host<W>, J: Jobs>(
     // A large run from a number.
     ensures generated { IfGenerates (asked_for words.now)
         (λ count. GeneratePromises count turns (part H.log host.old host.new) result) }
+
+    // A source that is expanded.
+    ensures expanded { IfExpands (asked_for words.now) (λ b. ExpandPromises W.steady W.answer b
+        (part H.log host.old host.new) result) }
 
     // The tools of a build.
     ensures shown { IfShows (asked_for words.now) (λ b. ShowPromises W.steady W.answer b

@@ -13,7 +13,7 @@ use std::alloc::Global;
 pub enum WordCause {
     /// There is no word at all. Its place is 0.
     NoCommand,
-    /// The first word is no command: neither `compile`, `archive`, `generate` nor `show`. Its place is 0.
+    /// The first word is no command: neither `compile`, `archive`, `generate`, `expand` nor `show`. Its place is 0.
     UnknownCommand,
     /// The name of the library behind the command is missing, or the number behind `generate`. Its place is 1.
     NoName,
@@ -45,12 +45,14 @@ pub enum Job {
     /// Compile so many generated sources, from 1 to 10000, into the library `gen`, on a host in memory that the job makes: the host of the
     /// run gives and gets nothing but the lines of the summary.
     Generate(u32),
+    /// Expand the one source: print what the compiler's preprocessor makes of it.
+    Expand,
     /// Show the tools of the build: the family of its compiler, and the commands of compiler, archiver and the tool that writes an index.
     Show,
 }
 
 impl Job {
-    // The name of the library, which is known of a large run, and is none where tools are shown.
+    // The name of the library, which is known of a large run, and is none where no library is made.
     pub(crate) fn name(&self) -> &str
         ensures { result.now ≡ name_of self.now }
     {
@@ -58,7 +60,7 @@ impl Job {
             Job::Compile(name) => name.as_str(),
             Job::Archive(name) => name.as_str(),
             Job::Generate(_) => "gen",
-            Job::Show => "",
+            Job::Expand | Job::Show => "",
         }
     }
 }

@@ -1,6 +1,6 @@
-//! The command: its words ask for a compile run, an archive alone, a large run from a number, or the tools of a build, which it drives on the
-//! machine. Standard output bears the lines that Cargo reads from a build script (The Cargo Book, "Build Scripts"), or those that sum a large
-//! run up or show the tools; `HELP` lists the words and the statuses.
+//! The command: its words ask for a compile run, an archive alone, a large run from a number, an expanded source, or the tools of a build, which
+//! it drives on the machine. Standard output bears the lines that Cargo reads from a build script (The Cargo Book, "Build Scripts"), those that
+//! sum a large run up or show the tools, or the expanded source; `HELP` lists the words and the statuses.
 //!
 //! Stands on `cc_command`, whose `drive` reads the words and runs what they ask for: that call carries the theorem
 //! of the repository. Here is what knows the process: its words, the host that runs processes, and a pool of the
@@ -30,12 +30,14 @@ Compiles C, C++ and assembly into a static library, and prints how Cargo links i
 usage: cc_main compile NAME key=value ...
        cc_main archive NAME key=value ...
        cc_main generate N
+       cc_main expand key=value ...
        cc_main show key=value ...
 
 commands:
   compile NAME   compile the sources, and archive them into lib<NAME>.a
   archive NAME   archive the added objects alone into lib<NAME>.a
   generate N     compile N generated sources, from 1 to 10000, on a host in memory, and sum up what that took
+  expand         print what the compiler's preprocessor makes of the one source
   show           print the compiler's family, and the commands of compiler, archiver and ranlib with the words that come first
 
 keys that may stand again, each adding one:

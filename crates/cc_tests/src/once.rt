@@ -4,7 +4,7 @@ use crate::setup::{set_all, with_both};
 use cc_build::{Build, Error};
 use cc_host::{Bench, BenchHost, Event, Host, LineKind};
 use cc_jobs::OneCaller;
-use cc_text::{Mem, Text};
+use cc_text::{Mem, Text, Words};
 use std::alloc::{AllocGlobal, Global};
 use std::process::Abort;
 use std::sync::Wait;
@@ -102,4 +102,60 @@ fn check_variables(
 #[test]
 fn a_clone_tells_cargo_of_no_variable_twice(rt: HostRuntime) {
     with_both(&rt, |build, host| check_variables(&rt, build, host));
+}
+
+// Compiles the sources, and archives what was added, by calls of their own.
+fn run_parts(
+    rt: &impl Wait,
+    alloc: Global,
+    build: &Build<Bench>,
+    host: &mut BenchHost,
+) -> Result<Text, Error> {
+    let (jobs, mut seat) = OneCaller::new(2);
+    build.try_compile_intermediates(rt, host, &jobs, &mut seat, 50)?;
+    build.try_create_archive(rt, host, 50, "foo", &Words::new(alloc))
+}
+
+const PARTS: &str = "cargo:rerun-if-env-changed=CC_ENABLE_DEBUG_OUTPUT
+cargo:rerun-if-env-changed=CC_FORCE_DISABLE
+cargo:rerun-if-env-changed=CFLAGS
+cargo:rerun-if-env-changed=CFLAGS_x86_64-unknown-linux-gnu
+cargo:rerun-if-env-changed=CFLAGS_x86_64_unknown_linux_gnu
+cargo:rerun-if-env-changed=COMPILER_PATH
+cargo:rerun-if-env-changed=CPATH
+cargo:rerun-if-env-changed=CPLUS_INCLUDE_PATH
+cargo:rerun-if-env-changed=CRATE_CC_NO_DEFAULTS
+cargo:rerun-if-env-changed=C_INCLUDE_PATH
+cargo:rerun-if-env-changed=GCC_EXEC_PREFIX
+cargo:rerun-if-env-changed=HOST_CFLAGS
+cargo:rerun-if-env-changed=OBJCPLUS_INCLUDE_PATH
+cargo:rerun-if-env-changed=OBJC_INCLUDE_PATH
+cargo:rerun-if-env-changed=SOURCE_DATE_EPOCH
+cargo:rerun-if-env-changed=AR
+cargo:rerun-if-env-changed=ARFLAGS
+cargo:rerun-if-env-changed=ARFLAGS_x86_64-unknown-linux-gnu
+cargo:rerun-if-env-changed=ARFLAGS_x86_64_unknown_linux_gnu
+cargo:rerun-if-env-changed=AR_x86_64-unknown-linux-gnu
+cargo:rerun-if-env-changed=AR_x86_64_unknown_linux_gnu
+cargo:rerun-if-env-changed=HOST_AR
+cargo:rerun-if-env-changed=HOST_ARFLAGS
+";
+
+fn check_parts(
+    rt: &(impl Wait + AllocGlobal + Abort),
+    build: &mut Build<Bench>,
+    host: &mut BenchHost,
+) {
+    set_all(rt, build, "/o", "cc");
+    build.emit_rerun_if_env_changed(true);
+    build.file("a.c").expect(rt, "memory");
+    run_parts(rt, rt.alloc(), build, host).expect(rt, "a library");
+    run_parts(rt, rt.alloc(), build, host).expect(rt, "a library");
+    let variables = lines(rt.alloc(), host, LineKind::Rerun).expect(rt, "memory");
+    same(rt, variables.as_str(), PARTS);
+}
+
+#[test]
+fn each_part_of_a_run_tells_cargo_of_what_it_reads_and_of_nothing_twice(rt: HostRuntime) {
+    with_both(&rt, |build, host| check_parts(&rt, build, host));
 }

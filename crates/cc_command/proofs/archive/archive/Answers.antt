@@ -26,7 +26,7 @@ returns-in_err-library-clause-archiving g c =
     subst (λ (n : List ℕ). Holds (answers part) (λ look. Creates {T = List ℕ} (with_objects b c.new-objects.result) patience c.args.turns n (Err e) look part)) c.name-name.ensures c.in_err-library.ensures.outcome in
     let none : c.new-objects.result ≡ [] = c.new-objects.ensures in
     rw (p.1, p.2)
-    (archive_ended g.W.World.steady g.W.World.answer b patience c.args.turns name part e
+    (archive_ended g.W.World.steady g.W.World.answer b patience c.args.turns name part e c.requires.repeats
     (subst (λ (o : List (List ℕ)). AsksByRun g.W.World.steady g.W.World.answer (with_objects b o) part) none c.try_create_archive.ensures.asked)
     (asked_none g.W.World.steady g.W.World.answer (probes b) (RunAsks b.config b.env) [] refl)
     (subst (λ (o : List (List ℕ)). Holds (answers part) (λ look. Creates {T = List ℕ} (with_objects b o) patience c.args.turns name (Err e) look part)) none named))

@@ -5,6 +5,7 @@ use Rattle.cc_build.specs.Went.{means}
 use Rattle.cc_command.specs.Answer.{asked_for}
 use Rattle.cc_command.proofs.AskLaws.{said, prints_last, faults_last, settled}
 use Rattle.cc_command.proofs.ArchivedLaws.{archive_promises}
+use Rattle.cc_command.proofs.ExpandedLaws.{expand_promises}
 use Rattle.cc_command.proofs.PromiseLaws.{headline}
 use Rattle.cc_command.proofs.SettledPromises.{promised}
 use Rattle.cc_command.proofs.ShownLaws.{show_promises}
@@ -43,6 +44,11 @@ returns-clause-generated g c =
     let part = since (g.H.Host.log c.args.host.now) (g.H.Host.log c.run.new.host) in
     generate_promises c.args.turns part c.run.result (asked_for c.args.words.now) c.run.ensures.generated
 
+pub returns-clause-expanded : goal.returns-clause-expanded
+returns-clause-expanded g c =
+    let part = since (g.H.Host.log c.args.host.now) (g.H.Host.log c.run.new.host) in
+    expand_promises g.W.World.steady g.W.World.answer part c.run.result (asked_for c.args.words.now) c.run.ensures.expanded
+
 pub returns-clause-shown : goal.returns-clause-shown
 returns-clause-shown g c =
     let part = since (g.H.Host.log c.args.host.now) (g.H.Host.log c.run.new.host) in
@@ -55,7 +61,7 @@ returns-clause-printed g c =
     let before = means c.args.turns (g.J.Jobs.faults c.args.seat.now) (g.J.Jobs.taken c.args.seat.now) (g.J.Jobs.load c.args.seat.now) in
     let on : ℕ → Course = λ left. course (g.J.Jobs.total c.args.seat.now) patience before (means left (g.J.Jobs.faults c.run.new.seat) (g.J.Jobs.taken c.run.new.seat) (g.J.Jobs.load c.run.new.seat)) in
     let words = asked_for c.args.words.now in
-    prints_last g.W.World.steady g.W.World.answer patience c.args.turns part c.run.result words (said g.W.World.steady g.W.World.answer patience c.args.turns part c.run.result words on c.run.ensures.asked c.run.ensures.answer c.run.ensures.archived c.run.ensures.generated c.run.ensures.shown)
+    prints_last g.W.World.steady g.W.World.answer patience c.args.turns part c.run.result words (said g.W.World.steady g.W.World.answer patience c.args.turns part c.run.result words on c.run.ensures.asked c.run.ensures.answer c.run.ensures.archived c.run.ensures.generated c.run.ensures.expanded c.run.ensures.shown)
 
 pub returns-clause-faults_last : goal.returns-clause-faults_last
 returns-clause-faults_last g c =
@@ -64,7 +70,7 @@ returns-clause-faults_last g c =
     let before = means c.args.turns (g.J.Jobs.faults c.args.seat.now) (g.J.Jobs.taken c.args.seat.now) (g.J.Jobs.load c.args.seat.now) in
     let on : ℕ → Course = λ left. course (g.J.Jobs.total c.args.seat.now) patience before (means left (g.J.Jobs.faults c.run.new.seat) (g.J.Jobs.taken c.run.new.seat) (g.J.Jobs.load c.run.new.seat)) in
     let words = asked_for c.args.words.now in
-    faults_last g.W.World.steady g.W.World.answer patience c.args.turns part c.run.result words (said g.W.World.steady g.W.World.answer patience c.args.turns part c.run.result words on c.run.ensures.asked c.run.ensures.answer c.run.ensures.archived c.run.ensures.generated c.run.ensures.shown)
+    faults_last g.W.World.steady g.W.World.answer patience c.args.turns part c.run.result words (said g.W.World.steady g.W.World.answer patience c.args.turns part c.run.result words on c.run.ensures.asked c.run.ensures.answer c.run.ensures.archived c.run.ensures.generated c.run.ensures.expanded c.run.ensures.shown)
 
 pub returns-clause-settled : goal.returns-clause-settled
 returns-clause-settled g c =
@@ -73,4 +79,4 @@ returns-clause-settled g c =
     let before = means c.args.turns (g.J.Jobs.faults c.args.seat.now) (g.J.Jobs.taken c.args.seat.now) (g.J.Jobs.load c.args.seat.now) in
     let on : ℕ → Course = λ left. course (g.J.Jobs.total c.args.seat.now) patience before (means left (g.J.Jobs.faults c.run.new.seat) (g.J.Jobs.taken c.run.new.seat) (g.J.Jobs.load c.run.new.seat)) in
     let words = asked_for c.args.words.now in
-    settled g.W.World.steady g.W.World.answer patience c.args.turns part c.run.result words (said g.W.World.steady g.W.World.answer patience c.args.turns part c.run.result words on c.run.ensures.asked c.run.ensures.answer c.run.ensures.archived c.run.ensures.generated c.run.ensures.shown)
+    settled g.W.World.steady g.W.World.answer patience c.args.turns part c.run.result words (said g.W.World.steady g.W.World.answer patience c.args.turns part c.run.result words on c.run.ensures.asked c.run.ensures.answer c.run.ensures.archived c.run.ensures.generated c.run.ensures.expanded c.run.ensures.shown)

@@ -2,14 +2,16 @@ use Rattle.std.proofs.Common.{Ok, Err, sym, subst, refl}
 use Rattle.cc_host.specs.Part.{since}
 use Rattle.cc_build.specs.Course.{course}
 use Rattle.cc_build.specs.Went.{means}
-use Rattle.cc_command.specs.Answer.{asked_for, IfArchives, IfGenerates, IfShows}
+use Rattle.cc_command.specs.Answer.{asked_for, IfArchives, IfExpands, IfGenerates, IfShows}
 use Rattle.cc_command.specs.Archived.{Archived}
 use Rattle.cc_command.specs.Asks.{AsksWords}
+use Rattle.cc_command.specs.Expanded.{Expanded}
 use Rattle.cc_command.specs.Read.{wish_of}
 use Rattle.cc_command.specs.Shown.{Shown}
 use Rattle.cc_command.specs.Summary.{Sums}
 use Rattle.cc_command.proofs.AnswerLaws.{answers_read, bad_read, answers_wanting}
 use Rattle.cc_command.proofs.ArchivedLaws.{archived_wanting, asked_wanting}
+use Rattle.cc_command.proofs.ExpandedLaws.{expanded_wanting}
 use Rattle.cc_command.proofs.ShownLaws.{shown_wanting}
 use Rattle.cc_command.proofs.SummedLaws.{sums_wanting}
 use Rattle.cc_command.proofs.top.run.Goals as goal
@@ -88,6 +90,22 @@ returns-in-Err-Bad-clause-generated g c =
 
 pub returns-in-Err-NoMemory-clause-generated : goal.returns-in-Err-NoMemory-clause-generated
 returns-in-Err-NoMemory-clause-generated g c = sums_wanting c.args.invocation.turns (g.H.Host.log c.args.host.now) (asked_for c.args.invocation.words.now) c.ended_wanting.result c.ended_wanting.ensures
+
+pub returns-in-Ok-clause-expanded : goal.returns-in-Ok-clause-expanded
+returns-in-Ok-clause-expanded g c =
+    let part = since (g.H.Host.log c.args.host.now) (g.H.Host.log c.serve.new.host) in
+    subst (λ words. IfExpands words (λ b. Expanded g.W.World.steady g.W.World.answer b part c.serve.result)) (sym c.in-Ok.ensures.ok) c.serve.ensures.expanded
+
+pub returns-in-Err-Bad-clause-expanded : goal.returns-in-Err-Bad-clause-expanded
+returns-in-Err-Bad-clause-expanded g c =
+    let words = asked_for c.args.invocation.words.now in
+    let part = since (g.H.Host.log c.args.host.now) (g.H.Host.log c.refuse_word.new.host) in
+    subst (λ w. IfExpands w (λ b. Expanded g.W.World.steady g.W.World.answer b part c.refuse_word.result))
+    (sym (bad_read words c.in-Err-Bad.field-0 c.in-Err-Bad.bad c.in-Err-Bad.field-0-is c.in-Err-Bad.ensures.refused)) tt
+
+pub returns-in-Err-NoMemory-clause-expanded : goal.returns-in-Err-NoMemory-clause-expanded
+returns-in-Err-NoMemory-clause-expanded g c =
+    expanded_wanting g.W.World.steady g.W.World.answer (g.H.Host.log c.args.host.now) (asked_for c.args.invocation.words.now) c.ended_wanting.result c.ended_wanting.ensures
 
 pub returns-in-Ok-clause-shown : goal.returns-in-Ok-clause-shown
 returns-in-Ok-clause-shown g c =

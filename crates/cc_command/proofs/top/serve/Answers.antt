@@ -3,6 +3,7 @@ use Rattle.cc_host.specs.Part.{since}
 use Rattle.cc_build.specs.Course.{course}
 use Rattle.cc_build.specs.Went.{means}
 use Rattle.cc_command.proofs.ArchivedLaws.{of_compile, of_archive}
+use Rattle.cc_command.proofs.ExpandedLaws.{of_expand, asks_expand, expanded_expand}
 use Rattle.cc_command.proofs.ShownLaws.{of_show, asks_show, shown_show}
 use Rattle.cc_command.proofs.SummedLaws.{of_generate, asks_generate, sums_generate}
 use Rattle.cc_command.proofs.top.serve.Goals as goal
@@ -36,6 +37,20 @@ returns-in-Generate-clause-asked g c =
 pub returns-in-Generate-clause-generated : goal.returns-in-Generate-clause-generated
 returns-in-Generate-clause-generated g c =
     sums_generate c.args.request.now.job _ c.args.turns c.args.request.now.build (since (g.H.Host.log c.args.host.now) (g.H.Host.log c.generate_alone.new.host)) c.generate_alone.result c.in-Generate.is c.generate_alone.ensures.sums
+
+pub returns-in-Expand-clause-answer : goal.returns-in-Expand-clause-answer
+returns-in-Expand-clause-answer g c =
+    let part = since (g.H.Host.log c.args.host.now) (g.H.Host.log c.expand_alone.new.host) in
+    let left = means c.args.turns (g.J.Jobs.faults c.args.seat.now) (g.J.Jobs.taken c.args.seat.now) (g.J.Jobs.load c.args.seat.now) in
+    record { under = λ look agree. (c.args.turns, of_expand c.args.request.now.job c.args.request.now.build c.expand_alone.result look part (course (g.J.Jobs.total c.args.seat.now) (g.H.Host.patience c.args.host.now) left left) c.in-Expand.is refl) }
+
+pub returns-in-Expand-clause-asked : goal.returns-in-Expand-clause-asked
+returns-in-Expand-clause-asked g c =
+    asks_expand c.args.request.now.job c.args.request.now.build g.W.World.steady g.W.World.answer (since (g.H.Host.log c.args.host.now) (g.H.Host.log c.expand_alone.new.host)) c.expand_alone.result c.in-Expand.is c.expand_alone.ensures.expanded
+
+pub returns-in-Expand-clause-expanded : goal.returns-in-Expand-clause-expanded
+returns-in-Expand-clause-expanded g c =
+    expanded_expand c.args.request.now.job c.args.request.now.build g.W.World.steady g.W.World.answer (since (g.H.Host.log c.args.host.now) (g.H.Host.log c.expand_alone.new.host)) c.expand_alone.result c.in-Expand.is c.expand_alone.ensures.expanded
 
 pub returns-in-Show-clause-answer : goal.returns-in-Show-clause-answer
 returns-in-Show-clause-answer g c =

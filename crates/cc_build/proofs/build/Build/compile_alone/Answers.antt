@@ -113,86 +113,86 @@ returns-in_err-paths-clause-outcome g c =
 pub returns-in_err-paths-clause-asked : goal.returns-in_err-paths-clause-asked
 returns-in_err-paths-clause-asked g c = asked_none _ _ _ _ (since (g.H.Host.log c.args.host.now) (g.H.Host.log c.prepare_folder.new.host)) c.prepare_folder.ensures.aside.asks_none
 
-pub returns-in-Err-compile_sources-clause-outcome : goal.returns-in-Err-compile_sources-clause-outcome
-returns-in-Err-compile_sources-clause-outcome g c =
+pub returns-in-Err-compile_and_tell-clause-outcome : goal.returns-in-Err-compile_and_tell-clause-outcome
+returns-in-Err-compile_and_tell-clause-outcome g c =
     let old = g.H.Host.log c.args.host.now in
     let made = g.H.Host.log c.prepare_folder.new.host in
-    let new = g.H.Host.log c.compile_sources.new.host in
+    let new = g.H.Host.log c.compile_and_tell.new.host in
     let total = g.J.Jobs.total c.args.seat.now in
     let patience = g.H.Host.patience c.args.host.now in
     let x = means c.args.turns (g.J.Jobs.faults c.args.seat.now) (g.J.Jobs.taken c.args.seat.now) (g.J.Jobs.load c.args.seat.now) in
-    let faults = g.J.Jobs.faults c.compile_sources.new.seat in
-    let taken = g.J.Jobs.taken c.compile_sources.new.seat in
-    let load = g.J.Jobs.load c.compile_sources.new.seat in
-    let left = c.compile_sources.new.turns.left in
+    let faults = g.J.Jobs.faults c.compile_and_tell.new.seat in
+    let taken = g.J.Jobs.taken c.compile_and_tell.new.seat in
+    let load = g.J.Jobs.load c.compile_and_tell.new.seat in
+    let left = c.compile_and_tell.new.turns.left in
     let set = c.self.inside.config in
     let env = c.self.inside.env in
-    let on : AsksOn g.W.World.steady g.W.World.answer (probe_folder set env) (RunAsks set env) (since made new) [] c.compile_sources.new.answers =
-    subst (λ (l : List Answer). AsksOn g.W.World.steady g.W.World.answer (probe_folder set env) (RunAsks set env) (since made new) l c.compile_sources.new.answers) c.new-answers.ensures c.compile_sources.ensures.asks.asks in
-    let same : c.compile_sources.new.answers ≡ answers (since made new) = (on_asked g.W.World.steady g.W.World.answer (probe_folder set env) (RunAsks set env) (since made new) c.compile_sources.new.answers on).1 in
-    subst (λ (b : BuildSeen). Holds (answers (since old new)) (λ look. (left : ℕ) × IntermediateEnds {T = List (List ℕ)} b (Err c.in-Err-compile_sources.error) look (since old new) (course total patience x (means left faults taken load)))) c.self.view_is
+    let on : AsksOn g.W.World.steady g.W.World.answer (probe_folder set env) (RunAsks set env) (since made new) [] c.compile_and_tell.new.answers =
+    subst (λ (l : List Answer). AsksOn g.W.World.steady g.W.World.answer (probe_folder set env) (RunAsks set env) (since made new) l c.compile_and_tell.new.answers) c.new-answers.ensures c.compile_and_tell.ensures.asks.asks in
+    let same : c.compile_and_tell.new.answers ≡ answers (since made new) = (on_asked g.W.World.steady g.W.World.answer (probe_folder set env) (RunAsks set env) (since made new) c.compile_and_tell.new.answers on).1 in
+    subst (λ (b : BuildSeen). Holds (answers (since old new)) (λ look. (left : ℕ) × IntermediateEnds {T = List (List ℕ)} b (Err c.in-Err-compile_and_tell.error) look (since old new) (course total patience x (means left faults taken load)))) c.self.view_is
     (record {
       under = λ look agree.
-          let later = (agrees_since look old made new c.prepare_folder.ensures.aside.extends c.compile_sources.ensures.asks.extends agree).1 in
-          let known : Agrees look c.compile_sources.new.answers = subst (Agrees look) (sym same) later in (
+          let later = (agrees_since look old made new c.prepare_folder.ensures.aside.extends c.compile_and_tell.ensures.asks.extends agree).1 in
+          let known : Agrees look c.compile_and_tell.new.answers = subst (Agrees look) (sym same) later in (
             left,
             alone_behind set env look total patience c.in-Ok.ensures.allowed old made x c.prepare_folder.ensures.aside.extends
                 (c.in_ok-prepare_folder.ensures.outcome (terms (shows_of set env) total patience) x).1 {T = Unit {0}}
-                c.shows_of-shows.result total (g.H.Host.patience c.prepare_folder.new.host) new (Err c.in-Err-compile_sources.error) (means left faults taken load) c.shows_of-shows.ensures refl c.prepare_folder.ensures.aside.patient (sym c.if-is_disabled.ensures) c.compile_sources.ensures.asks.extends
-                (c.in-Err-compile_sources.ensures.outcome.under look known),
+                c.shows_of-shows.result total (g.H.Host.patience c.prepare_folder.new.host) c.source_reads.result new (Err c.in-Err-compile_and_tell.error) (means left faults taken load) c.shows_of-shows.ensures refl c.prepare_folder.ensures.aside.patient c.source_reads.ensures (sym c.if-is_disabled.ensures) c.compile_and_tell.ensures.asks.extends
+                (c.in-Err-compile_and_tell.ensures.outcome.under look known),
           );
     })
 
-pub returns-in-Err-compile_sources-clause-asked : goal.returns-in-Err-compile_sources-clause-asked
-returns-in-Err-compile_sources-clause-asked g c =
+pub returns-in-Err-compile_and_tell-clause-asked : goal.returns-in-Err-compile_and_tell-clause-asked
+returns-in-Err-compile_and_tell-clause-asked g c =
     let made = g.H.Host.log c.prepare_folder.new.host in
-    let new = g.H.Host.log c.compile_sources.new.host in
+    let new = g.H.Host.log c.compile_and_tell.new.host in
     let set = c.self.inside.config in
     let env = c.self.inside.env in
-    let on : AsksOn g.W.World.steady g.W.World.answer (probe_folder set env) (RunAsks set env) (since made new) [] c.compile_sources.new.answers =
-    subst (λ (l : List Answer). AsksOn g.W.World.steady g.W.World.answer (probe_folder set env) (RunAsks set env) (since made new) l c.compile_sources.new.answers) c.new-answers.ensures c.compile_sources.ensures.asks.asks in
-    let asked : Asked g.W.World.steady g.W.World.answer (probe_folder set env) (RunAsks set env) (since made new) = (on_asked g.W.World.steady g.W.World.answer (probe_folder set env) (RunAsks set env) (since made new) c.compile_sources.new.answers on).0 in
-    asked_behind _ _ _ _ (g.H.Host.log c.args.host.now) made new c.prepare_folder.ensures.aside.extends c.compile_sources.ensures.asks.extends c.prepare_folder.ensures.aside.asks_none
+    let on : AsksOn g.W.World.steady g.W.World.answer (probe_folder set env) (RunAsks set env) (since made new) [] c.compile_and_tell.new.answers =
+    subst (λ (l : List Answer). AsksOn g.W.World.steady g.W.World.answer (probe_folder set env) (RunAsks set env) (since made new) l c.compile_and_tell.new.answers) c.new-answers.ensures c.compile_and_tell.ensures.asks.asks in
+    let asked : Asked g.W.World.steady g.W.World.answer (probe_folder set env) (RunAsks set env) (since made new) = (on_asked g.W.World.steady g.W.World.answer (probe_folder set env) (RunAsks set env) (since made new) c.compile_and_tell.new.answers on).0 in
+    asked_behind _ _ _ _ (g.H.Host.log c.args.host.now) made new c.prepare_folder.ensures.aside.extends c.compile_and_tell.ensures.asks.extends c.prepare_folder.ensures.aside.asks_none
     (subst (λ (b : BuildSeen). AsksByRun g.W.World.steady g.W.World.answer b (since made new)) c.self.view_is asked)
 
-pub returns-in-Ok-compile_sources-clause-outcome : goal.returns-in-Ok-compile_sources-clause-outcome
-returns-in-Ok-compile_sources-clause-outcome g c =
+pub returns-in-Ok-compile_and_tell-clause-outcome : goal.returns-in-Ok-compile_and_tell-clause-outcome
+returns-in-Ok-compile_and_tell-clause-outcome g c =
     let old = g.H.Host.log c.args.host.now in
     let made = g.H.Host.log c.prepare_folder.new.host in
-    let new = g.H.Host.log c.compile_sources.new.host in
+    let new = g.H.Host.log c.compile_and_tell.new.host in
     let total = g.J.Jobs.total c.args.seat.now in
     let patience = g.H.Host.patience c.args.host.now in
     let x = means c.args.turns (g.J.Jobs.faults c.args.seat.now) (g.J.Jobs.taken c.args.seat.now) (g.J.Jobs.load c.args.seat.now) in
-    let faults = g.J.Jobs.faults c.compile_sources.new.seat in
-    let taken = g.J.Jobs.taken c.compile_sources.new.seat in
-    let load = g.J.Jobs.load c.compile_sources.new.seat in
-    let left = c.compile_sources.new.turns.left in
+    let faults = g.J.Jobs.faults c.compile_and_tell.new.seat in
+    let taken = g.J.Jobs.taken c.compile_and_tell.new.seat in
+    let load = g.J.Jobs.load c.compile_and_tell.new.seat in
+    let left = c.compile_and_tell.new.turns.left in
     let set = c.self.inside.config in
     let env = c.self.inside.env in
-    let on : AsksOn g.W.World.steady g.W.World.answer (probe_folder set env) (RunAsks set env) (since made new) [] c.compile_sources.new.answers =
-    subst (λ (l : List Answer). AsksOn g.W.World.steady g.W.World.answer (probe_folder set env) (RunAsks set env) (since made new) l c.compile_sources.new.answers) c.new-answers.ensures c.compile_sources.ensures.asks.asks in
-    let same : c.compile_sources.new.answers ≡ answers (since made new) = (on_asked g.W.World.steady g.W.World.answer (probe_folder set env) (RunAsks set env) (since made new) c.compile_sources.new.answers on).1 in
+    let on : AsksOn g.W.World.steady g.W.World.answer (probe_folder set env) (RunAsks set env) (since made new) [] c.compile_and_tell.new.answers =
+    subst (λ (l : List Answer). AsksOn g.W.World.steady g.W.World.answer (probe_folder set env) (RunAsks set env) (since made new) l c.compile_and_tell.new.answers) c.new-answers.ensures c.compile_and_tell.ensures.asks.asks in
+    let same : c.compile_and_tell.new.answers ≡ answers (since made new) = (on_asked g.W.World.steady g.W.World.answer (probe_folder set env) (RunAsks set env) (since made new) c.compile_and_tell.new.answers on).1 in
     subst (λ (b : BuildSeen). Holds (answers (since old new)) (λ look. (left : ℕ) × IntermediateEnds {T = List (List ℕ)} b (Ok c.in_ok-paths.paths) look (since old new) (course total patience x (means left faults taken load)))) c.self.view_is
     (record {
       under = λ look agree.
-          let later = (agrees_since look old made new c.prepare_folder.ensures.aside.extends c.compile_sources.ensures.asks.extends agree).1 in
-          let known : Agrees look c.compile_sources.new.answers = subst (Agrees look) (sym same) later in (
+          let later = (agrees_since look old made new c.prepare_folder.ensures.aside.extends c.compile_and_tell.ensures.asks.extends agree).1 in
+          let known : Agrees look c.compile_and_tell.new.answers = subst (Agrees look) (sym same) later in (
             left,
             alone_behind set env look total patience c.in-Ok.ensures.allowed old made x c.prepare_folder.ensures.aside.extends
                 (c.in_ok-prepare_folder.ensures.outcome (terms (shows_of set env) total patience) x).1 {T = Unit {0}}
-                c.shows_of-shows.result total (g.H.Host.patience c.prepare_folder.new.host) new (Ok (tt {0})) (means left faults taken load) c.shows_of-shows.ensures refl c.prepare_folder.ensures.aside.patient (sym c.if-is_disabled.ensures) c.compile_sources.ensures.asks.extends
-                (c.in-Ok-compile_sources.ensures.outcome.under look known),
+                c.shows_of-shows.result total (g.H.Host.patience c.prepare_folder.new.host) c.source_reads.result new (Ok (tt {0})) (means left faults taken load) c.shows_of-shows.ensures refl c.prepare_folder.ensures.aside.patient c.source_reads.ensures (sym c.if-is_disabled.ensures) c.compile_and_tell.ensures.asks.extends
+                (c.in-Ok-compile_and_tell.ensures.outcome.under look known),
           );
     })
 
-pub returns-in-Ok-compile_sources-clause-asked : goal.returns-in-Ok-compile_sources-clause-asked
-returns-in-Ok-compile_sources-clause-asked g c =
+pub returns-in-Ok-compile_and_tell-clause-asked : goal.returns-in-Ok-compile_and_tell-clause-asked
+returns-in-Ok-compile_and_tell-clause-asked g c =
     let made = g.H.Host.log c.prepare_folder.new.host in
-    let new = g.H.Host.log c.compile_sources.new.host in
+    let new = g.H.Host.log c.compile_and_tell.new.host in
     let set = c.self.inside.config in
     let env = c.self.inside.env in
-    let on : AsksOn g.W.World.steady g.W.World.answer (probe_folder set env) (RunAsks set env) (since made new) [] c.compile_sources.new.answers =
-    subst (λ (l : List Answer). AsksOn g.W.World.steady g.W.World.answer (probe_folder set env) (RunAsks set env) (since made new) l c.compile_sources.new.answers) c.new-answers.ensures c.compile_sources.ensures.asks.asks in
-    let asked : Asked g.W.World.steady g.W.World.answer (probe_folder set env) (RunAsks set env) (since made new) = (on_asked g.W.World.steady g.W.World.answer (probe_folder set env) (RunAsks set env) (since made new) c.compile_sources.new.answers on).0 in
-    asked_behind _ _ _ _ (g.H.Host.log c.args.host.now) made new c.prepare_folder.ensures.aside.extends c.compile_sources.ensures.asks.extends c.prepare_folder.ensures.aside.asks_none
+    let on : AsksOn g.W.World.steady g.W.World.answer (probe_folder set env) (RunAsks set env) (since made new) [] c.compile_and_tell.new.answers =
+    subst (λ (l : List Answer). AsksOn g.W.World.steady g.W.World.answer (probe_folder set env) (RunAsks set env) (since made new) l c.compile_and_tell.new.answers) c.new-answers.ensures c.compile_and_tell.ensures.asks.asks in
+    let asked : Asked g.W.World.steady g.W.World.answer (probe_folder set env) (RunAsks set env) (since made new) = (on_asked g.W.World.steady g.W.World.answer (probe_folder set env) (RunAsks set env) (since made new) c.compile_and_tell.new.answers on).0 in
+    asked_behind _ _ _ _ (g.H.Host.log c.args.host.now) made new c.prepare_folder.ensures.aside.extends c.compile_and_tell.ensures.asks.extends c.prepare_folder.ensures.aside.asks_none
     (subst (λ (b : BuildSeen). AsksByRun g.W.World.steady g.W.World.answer b (since made new)) c.self.view_is asked)

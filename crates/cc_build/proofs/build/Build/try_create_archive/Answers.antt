@@ -8,7 +8,7 @@ use Rattle.cc_plan.proofs.LineLemmas.{since_none}
 use Rattle.cc_build.specs.Archiving.{with_objects, unarchived_error, Creates}
 use Rattle.cc_build.specs.Build.{BuildSeen}
 use Rattle.cc_build.specs.Error.{no_memory}
-use Rattle.cc_build.proofs.ArchivingLaws.{uncreated, agreed, created_by, halted_by, no_faults, creates_settled, creates_faults}
+use Rattle.cc_build.proofs.ArchivingLaws.{uncreated, agreed, created_by, no_faults, creates_settled, creates_faults}
 use Rattle.cc_build.proofs.build.Build.try_create_archive.Goals as goal
 
 pub returns-in_err-set-clause-outcome : goal.returns-in_err-set-clause-outcome
@@ -54,72 +54,72 @@ returns-in_err-path-clause-faults_last g c = no_faults (since (g.H.Host.log c.ar
 
 pub returns-in-Ok-clause-outcome : goal.returns-in-Ok-clause-outcome
 returns-in-Ok-clause-outcome g c =
-    let part = since (g.H.Host.log c.args.host.now) (g.H.Host.log c.archive_objects.new.host) in
+    let part = since (g.H.Host.log c.args.host.now) (g.H.Host.log c.archive_and_tell.new.host) in
     let patience = g.H.Host.patience c.args.host.now in
     let set = c.in_ok-set.set in
     let env = c.self.inside.env in
     let inside : BuildSeen = record { config = set; env = env } in
     let ran : Holds (answers part) (λ look. Creates {T = List ℕ} inside patience c.args.turns c.args.output.now (Ok c.in_ok-path.path) look part) =
-    created_by set env patience c.args.turns c.args.output.now part c.shows_of-shows.result _ c.shows_of-shows.ensures refl refl c.in_ok-sources.ensures.allowed g.W.World.steady g.W.World.answer _ _ c.new-answers.ensures c.archive_objects.ensures.asks.asks c.in_ok-path.path c.in-Ok.ensures.outcome in
+    created_by set env patience c.args.turns c.args.output.now part c.shows_of-shows.result _ c.archive_reads.result c.shows_of-shows.ensures refl refl c.archive_reads.ensures c.in_ok-sources.ensures.allowed g.W.World.steady g.W.World.answer _ _ c.new-answers.ensures c.archive_and_tell.ensures.asks.asks {T = List ℕ} (Ok c.in_ok-path.path) c.in-Ok.ensures.outcome in
     let same : inside ≡ with_objects c.args.self.now c.args.objects.now = ap (λ (s : BuildConfig). record { config = s; env = env }) c.in_ok-set.ensures ∙ ap (λ (b : BuildSeen). with_objects b c.args.objects.now) c.self.view_is in
     subst (λ (b : BuildSeen). Holds (answers part) (λ look. Creates {T = List ℕ} b patience c.args.turns c.args.output.now (Ok c.in_ok-path.path) look part)) same ran
 
 pub returns-in-Ok-clause-settled : goal.returns-in-Ok-clause-settled
 returns-in-Ok-clause-settled g c =
-    let part = since (g.H.Host.log c.args.host.now) (g.H.Host.log c.archive_objects.new.host) in
+    let part = since (g.H.Host.log c.args.host.now) (g.H.Host.log c.archive_and_tell.new.host) in
     let patience = g.H.Host.patience c.args.host.now in
     let set = c.in_ok-set.set in
     let env = c.self.inside.env in
     let inside : BuildSeen = record { config = set; env = env } in
     let ran : Holds (answers part) (λ look. Creates {T = List ℕ} inside patience c.args.turns c.args.output.now (Ok c.in_ok-path.path) look part) =
-    created_by set env patience c.args.turns c.args.output.now part c.shows_of-shows.result _ c.shows_of-shows.ensures refl refl c.in_ok-sources.ensures.allowed g.W.World.steady g.W.World.answer _ _ c.new-answers.ensures c.archive_objects.ensures.asks.asks c.in_ok-path.path c.in-Ok.ensures.outcome in
-    let some = agreed set env part g.W.World.steady g.W.World.answer _ _ c.new-answers.ensures c.archive_objects.ensures.asks.asks in
-    creates_settled inside patience c.args.turns c.args.output.now some.0 part (List ℕ) (Ok c.in_ok-path.path) (ran.under some.0 some.1)
+    created_by set env patience c.args.turns c.args.output.now part c.shows_of-shows.result _ c.archive_reads.result c.shows_of-shows.ensures refl refl c.archive_reads.ensures c.in_ok-sources.ensures.allowed g.W.World.steady g.W.World.answer _ _ c.new-answers.ensures c.archive_and_tell.ensures.asks.asks {T = List ℕ} (Ok c.in_ok-path.path) c.in-Ok.ensures.outcome in
+    let some = agreed set env part g.W.World.steady g.W.World.answer _ _ c.new-answers.ensures c.archive_and_tell.ensures.asks.asks in
+    creates_settled {T = List ℕ} inside patience c.args.turns c.args.output.now some.0 part (Ok c.in_ok-path.path) (ran.under some.0 some.1)
 
 pub returns-in-Ok-clause-faults_last : goal.returns-in-Ok-clause-faults_last
 returns-in-Ok-clause-faults_last g c =
-    let part = since (g.H.Host.log c.args.host.now) (g.H.Host.log c.archive_objects.new.host) in
+    let part = since (g.H.Host.log c.args.host.now) (g.H.Host.log c.archive_and_tell.new.host) in
     let patience = g.H.Host.patience c.args.host.now in
     let set = c.in_ok-set.set in
     let env = c.self.inside.env in
     let inside : BuildSeen = record { config = set; env = env } in
     let ran : Holds (answers part) (λ look. Creates {T = List ℕ} inside patience c.args.turns c.args.output.now (Ok c.in_ok-path.path) look part) =
-    created_by set env patience c.args.turns c.args.output.now part c.shows_of-shows.result _ c.shows_of-shows.ensures refl refl c.in_ok-sources.ensures.allowed g.W.World.steady g.W.World.answer _ _ c.new-answers.ensures c.archive_objects.ensures.asks.asks c.in_ok-path.path c.in-Ok.ensures.outcome in
-    let some = agreed set env part g.W.World.steady g.W.World.answer _ _ c.new-answers.ensures c.archive_objects.ensures.asks.asks in
-    creates_faults inside patience c.args.turns c.args.output.now some.0 part (List ℕ) (Ok c.in_ok-path.path) (ran.under some.0 some.1)
+    created_by set env patience c.args.turns c.args.output.now part c.shows_of-shows.result _ c.archive_reads.result c.shows_of-shows.ensures refl refl c.archive_reads.ensures c.in_ok-sources.ensures.allowed g.W.World.steady g.W.World.answer _ _ c.new-answers.ensures c.archive_and_tell.ensures.asks.asks {T = List ℕ} (Ok c.in_ok-path.path) c.in-Ok.ensures.outcome in
+    let some = agreed set env part g.W.World.steady g.W.World.answer _ _ c.new-answers.ensures c.archive_and_tell.ensures.asks.asks in
+    creates_faults {T = List ℕ} inside patience c.args.turns c.args.output.now some.0 part (Ok c.in_ok-path.path) (ran.under some.0 some.1)
 
 pub returns-clause-outcome : goal.returns-clause-outcome
 returns-clause-outcome g c =
-    let part = since (g.H.Host.log c.args.host.now) (g.H.Host.log c.archive_objects.new.host) in
+    let part = since (g.H.Host.log c.args.host.now) (g.H.Host.log c.archive_and_tell.new.host) in
     let patience = g.H.Host.patience c.args.host.now in
     let set = c.in_ok-set.set in
     let env = c.self.inside.env in
     let inside : BuildSeen = record { config = set; env = env } in
     let ran : Holds (answers part) (λ look. Creates {T = List ℕ} inside patience c.args.turns c.args.output.now (Err c.in-Err.error) look part) =
-    halted_by set env patience c.args.turns c.args.output.now part c.shows_of-shows.result _ c.shows_of-shows.ensures refl refl c.in_ok-sources.ensures.allowed g.W.World.steady g.W.World.answer _ _ c.new-answers.ensures c.archive_objects.ensures.asks.asks (List ℕ) c.in-Err.error c.in-Err.ensures.outcome in
+    created_by set env patience c.args.turns c.args.output.now part c.shows_of-shows.result _ c.archive_reads.result c.shows_of-shows.ensures refl refl c.archive_reads.ensures c.in_ok-sources.ensures.allowed g.W.World.steady g.W.World.answer _ _ c.new-answers.ensures c.archive_and_tell.ensures.asks.asks {T = List ℕ} (Err c.in-Err.error) c.in-Err.ensures.outcome in
     let same : inside ≡ with_objects c.args.self.now c.args.objects.now = ap (λ (s : BuildConfig). record { config = s; env = env }) c.in_ok-set.ensures ∙ ap (λ (b : BuildSeen). with_objects b c.args.objects.now) c.self.view_is in
     subst (λ (b : BuildSeen). Holds (answers part) (λ look. Creates {T = List ℕ} b patience c.args.turns c.args.output.now (Err c.in-Err.error) look part)) same ran
 
 pub returns-clause-settled : goal.returns-clause-settled
 returns-clause-settled g c =
-    let part = since (g.H.Host.log c.args.host.now) (g.H.Host.log c.archive_objects.new.host) in
+    let part = since (g.H.Host.log c.args.host.now) (g.H.Host.log c.archive_and_tell.new.host) in
     let patience = g.H.Host.patience c.args.host.now in
     let set = c.in_ok-set.set in
     let env = c.self.inside.env in
     let inside : BuildSeen = record { config = set; env = env } in
     let ran : Holds (answers part) (λ look. Creates {T = List ℕ} inside patience c.args.turns c.args.output.now (Err c.in-Err.error) look part) =
-    halted_by set env patience c.args.turns c.args.output.now part c.shows_of-shows.result _ c.shows_of-shows.ensures refl refl c.in_ok-sources.ensures.allowed g.W.World.steady g.W.World.answer _ _ c.new-answers.ensures c.archive_objects.ensures.asks.asks (List ℕ) c.in-Err.error c.in-Err.ensures.outcome in
-    let some = agreed set env part g.W.World.steady g.W.World.answer _ _ c.new-answers.ensures c.archive_objects.ensures.asks.asks in
-    creates_settled inside patience c.args.turns c.args.output.now some.0 part (List ℕ) (Err c.in-Err.error) (ran.under some.0 some.1)
+    created_by set env patience c.args.turns c.args.output.now part c.shows_of-shows.result _ c.archive_reads.result c.shows_of-shows.ensures refl refl c.archive_reads.ensures c.in_ok-sources.ensures.allowed g.W.World.steady g.W.World.answer _ _ c.new-answers.ensures c.archive_and_tell.ensures.asks.asks {T = List ℕ} (Err c.in-Err.error) c.in-Err.ensures.outcome in
+    let some = agreed set env part g.W.World.steady g.W.World.answer _ _ c.new-answers.ensures c.archive_and_tell.ensures.asks.asks in
+    creates_settled {T = List ℕ} inside patience c.args.turns c.args.output.now some.0 part (Err c.in-Err.error) (ran.under some.0 some.1)
 
 pub returns-clause-faults_last : goal.returns-clause-faults_last
 returns-clause-faults_last g c =
-    let part = since (g.H.Host.log c.args.host.now) (g.H.Host.log c.archive_objects.new.host) in
+    let part = since (g.H.Host.log c.args.host.now) (g.H.Host.log c.archive_and_tell.new.host) in
     let patience = g.H.Host.patience c.args.host.now in
     let set = c.in_ok-set.set in
     let env = c.self.inside.env in
     let inside : BuildSeen = record { config = set; env = env } in
     let ran : Holds (answers part) (λ look. Creates {T = List ℕ} inside patience c.args.turns c.args.output.now (Err c.in-Err.error) look part) =
-    halted_by set env patience c.args.turns c.args.output.now part c.shows_of-shows.result _ c.shows_of-shows.ensures refl refl c.in_ok-sources.ensures.allowed g.W.World.steady g.W.World.answer _ _ c.new-answers.ensures c.archive_objects.ensures.asks.asks (List ℕ) c.in-Err.error c.in-Err.ensures.outcome in
-    let some = agreed set env part g.W.World.steady g.W.World.answer _ _ c.new-answers.ensures c.archive_objects.ensures.asks.asks in
-    creates_faults inside patience c.args.turns c.args.output.now some.0 part (List ℕ) (Err c.in-Err.error) (ran.under some.0 some.1)
+    created_by set env patience c.args.turns c.args.output.now part c.shows_of-shows.result _ c.archive_reads.result c.shows_of-shows.ensures refl refl c.archive_reads.ensures c.in_ok-sources.ensures.allowed g.W.World.steady g.W.World.answer _ _ c.new-answers.ensures c.archive_and_tell.ensures.asks.asks {T = List ℕ} (Err c.in-Err.error) c.in-Err.ensures.outcome in
+    let some = agreed set env part g.W.World.steady g.W.World.answer _ _ c.new-answers.ensures c.archive_and_tell.ensures.asks.asks in
+    creates_faults {T = List ℕ} inside patience c.args.turns c.args.output.now some.0 part (Err c.in-Err.error) (ran.under some.0 some.1)
