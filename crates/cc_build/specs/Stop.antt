@@ -4,11 +4,11 @@ use Rattle.cc_text.specs.Quoted.{quoted}
 use Rattle.cc_host.specs.Command.{CommandSeen}
 use Rattle.cc_host.specs.CommandLine.{command_line}
 use Rattle.cc_host.specs.Part.{Step}
-use Rattle.cc_host.specs.Part.Step.{Runs, Makes, Removes, Writes, Prints, Lists}
+use Rattle.cc_host.specs.Part.Step.{Runs, Makes, Removes, Writes, Copies, Finds, Says, Prints, Lists}
 use Rattle.cc_host.specs.declared.event.Event.{Event}
 use Rattle.cc_host.specs.declared.event.Event.TheVariants.{Ran, Missing, Fault}
 use Rattle.cc_host.specs.declared.event.HostCall.{HostCall}
-use Rattle.cc_host.specs.declared.event.HostCall.TheVariants.{Start, Turn, Output, Probe, MakeDir, CreateProbe, Write, Remove, Print, Vars}
+use Rattle.cc_host.specs.declared.event.HostCall.TheVariants.{Start, Turn, Output, Probe, MakeDir, CreateProbe, Write, Copy, Remove, CurrentDir, Print, Say, Vars}
 use Rattle.cc_host.specs.declared.event.HostError.{HostError}
 use Rattle.cc_host.specs.declared.event.HostError.TheVariants.{Fault as Faulted, NoMemory as WantsMemory}
 use Rattle.cc_host.specs.declared.event.Status.{Status}
@@ -26,8 +26,11 @@ call_name Probe = codes "probe"
 call_name (MakeDir scope) = codes "make dir"
 call_name CreateProbe = codes "create probe"
 call_name Write = codes "write"
+call_name Copy = codes "copy"
 call_name Remove = codes "remove"
+call_name CurrentDir = codes "current dir"
 call_name Print = codes "print"
+call_name Say = codes "say"
 call_name Vars = codes "vars"
 
 abbrev pub why_name : Why → List ℕ
@@ -65,6 +68,9 @@ stop_error (Runs role cmd) (Fault call why) = unstarted_error cmd
 stop_error (Makes scope path) (Fault call why) = fault_error call why path
 stop_error (Removes path) (Fault call why) = fault_error call why path
 stop_error (Writes path bytes) (Fault call why) = fault_error call why path
+stop_error (Copies from to) (Fault call why) = fault_error call why to
+stop_error (Finds path) (Fault call why) = fault_error call why []
+stop_error (Says message) (Fault call why) = fault_error call why []
 stop_error (Prints kind bytes) (Fault call why) = fault_error call why []
 stop_error Lists (Fault call why) = fault_error call why []
 stop_error _ _ = no_memory

@@ -32,8 +32,11 @@ fn call_name(call: HostCall) -> &'static str
         HostCall::MakeDir(_) => "make dir",
         HostCall::CreateProbe => "create probe",
         HostCall::Write => "write",
+        HostCall::Copy => "copy",
         HostCall::Remove => "remove",
+        HostCall::CurrentDir => "current dir",
         HostCall::Print => "print",
+        HostCall::Say => "say",
         HostCall::Vars => "vars",
     }
 }

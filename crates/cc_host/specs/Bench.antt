@@ -1,5 +1,5 @@
 -- The host in memory: what it is seen as, and what it answers.
-use Rattle.std.specs.Prelude.{◌≡◌, ℕ, pos, List, [], ◌∷◌, ◌++◌, drop, map, filter, Bool, true, false, not, if◌then◌else◌, bytes_eq, Option, Some, Result, Ok, Err}
+use Rattle.std.specs.Prelude.{◌≡◌, ℕ, pos, List, [], ◌∷◌, ◌++◌, drop, map, filter, Bool, true, false, not, if◌then◌else◌, bytes_eq, codes, Option, Some, Result, Ok, Err}
 use Rattle.std.specs.List.{All}
 use Rattle.cc_text.specs.declared.memory.NoMemory.{NoMemory as WantsMemory}
 use Rattle.cc_host.specs.Command.{CommandSeen}
@@ -41,7 +41,7 @@ use Rattle.cc_host.specs.Call.{Keeps}
 use Rattle.cc_host.specs.ChildLog.{news_in, left_in, without_child, begun}
 
 -- what a host in memory is seen as: its log, how often it failed, the children that run, how often each call was made, and what it
--- was given for commands, of calls, of variables, of questions, of files and of words to draw
+-- was given for commands, of calls, of variables, of questions, of files and of words to draw, and whether it listens
 pub record BenchSeen : Type 0 where
   pub log : List Event
   pub faults : ℕ
@@ -54,10 +54,11 @@ pub record BenchSeen : Type 0 where
   pub given : List Given
   pub files : List (List ℕ)
   pub words : List ℕ
+  pub listens : Bool
 
 -- a host on which nothing was set, before its first call
 abbrev pub fresh : BenchSeen
-fresh = record { log = []; faults = 0; children = []; made = no_calls; scripts = []; missing = []; failures = []; vars = []; given = []; files = []; words = [] }
+fresh = record { log = []; faults = 0; children = []; made = no_calls; scripts = []; missing = []; failures = []; vars = []; given = []; files = []; words = []; listens = false }
 
 -- the count of faults didn't fall, and the patience is the same
 abbrev pub KeepsBench : BenchSeen → BenchSeen → Type 0
@@ -117,6 +118,10 @@ ends_as host role cmd pipes = let script = script_for host.scripts role cmd in
 -- the answer to a command that is not to fail
 abbrev pub answer_to : BenchSeen → Role → CommandSeen → Pipes → Ran
 answer_to host role cmd pipes = if has_word cmd.program host.missing then Missing else ends_as host role cmd pipes
+
+-- the current folder
+abbrev pub current_folder : List ℕ
+current_folder = codes "/w"
 
 -- the answers to a probe file that is to be made and to a file that is to be removed
 abbrev pub created_at : Bool → Created

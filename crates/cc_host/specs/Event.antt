@@ -30,7 +30,8 @@ use Rattle.cc_host.specs.declared.event.HostError.TheVariants.{Fault as Failed, 
 use Rattle.cc_host.specs.declared.event.Ran.{Ran}
 use Rattle.cc_host.specs.declared.event.Ran.TheVariants.{Missing as Absent, Done}
 use Rattle.cc_host.specs.declared.event.Event.{Event}
-use Rattle.cc_host.specs.declared.event.Event.TheVariants.{Started, Ended, Heard, Unread, Turn, Ran as RanTo, Missing, Answered, Reused, Unasked, Drawn, Opened, Taken, Made, Removed, Wrote, Printed, Listed, Fault}
+use Rattle.cc_host.specs.declared.event.Event.TheVariants.{Started, Ended, Heard, Unread, Turn, Ran as RanTo, Missing, Answered, Reused, Unasked, Drawn, Opened, Taken, Made, Removed, Wrote, Copied, Here, Printed, Said, Listed, Fault}
+use Rattle.cc_host.specs.declared.event.Message.{Message}
 
 -- a refused call adds its fault, and nothing where memory is refused
 abbrev pub refused : HostError → List Event
@@ -81,6 +82,15 @@ abbrev pub wrote : {T : Type 0} → List ℕ → List ℕ → Result T HostError
 wrote path bytes (Ok _) = Wrote path bytes ∷ []
 wrote path bytes (Err e) = refused e
 
+abbrev pub copied : {T : Type 0} → List ℕ → List ℕ → Result T HostError → List Event
+copied from to (Ok _) = Copied from to ∷ []
+copied from to (Err e) = refused e
+
+-- the current folder is the answer
+abbrev pub told_here : Result (List ℕ) HostError → List Event
+told_here (Ok path) = Here path ∷ []
+told_here (Err e) = refused e
+
 abbrev pub removed : List ℕ → Result Removal HostError → List Event
 removed path (Ok how) = Removed path how ∷ []
 removed path (Err e) = refused e
@@ -88,6 +98,10 @@ removed path (Err e) = refused e
 abbrev pub printed : {T : Type 0} → LineKind → List ℕ → Result T HostError → List Event
 printed kind bytes (Ok _) = Printed kind bytes ∷ []
 printed kind bytes (Err e) = refused e
+
+abbrev pub said : {T : Type 0} → Message → Result T HostError → List Event
+said message (Ok _) = Said message ∷ []
+said message (Err e) = refused e
 
 abbrev pub listed : Result (List (List ℕ × List ℕ)) HostError → List Event
 listed (Ok vars) = Listed vars ∷ []

@@ -8,9 +8,10 @@ use Rattle.cc_host.specs.declared.event.Scope.{Scope}
 use Rattle.cc_host.specs.declared.event.Scope.TheVariants.{Build, Probe as ForProbes}
 use Rattle.cc_host.specs.declared.event.HostCall.{HostCall}
 use Rattle.cc_host.specs.declared.event.LineKind.{LineKind}
-use Rattle.cc_host.specs.declared.event.HostCall.TheVariants.{Output, Probe, MakeDir, CreateProbe, Write, Remove, Print, Vars}
+use Rattle.cc_host.specs.declared.event.HostCall.TheVariants.{Output, Probe, MakeDir, CreateProbe, Write, Copy, Remove, CurrentDir, Print, Say, Vars}
 use Rattle.cc_host.specs.declared.event.Event.{Event}
-use Rattle.cc_host.specs.declared.event.Event.TheVariants.{Ran, Missing, Fault, Made, Removed, Wrote, Printed, Listed}
+use Rattle.cc_host.specs.declared.event.Event.TheVariants.{Ran, Missing, Fault, Made, Removed, Wrote, Copied, Here, Printed, Said, Listed}
+use Rattle.cc_host.specs.declared.event.Message.{Message}
 
 -- the events since an earlier log
 abbrev pub since : List Event → List Event → List Event
@@ -29,16 +30,22 @@ pub data Step : Type 0 where
   Makes : Scope → List ℕ → Step
   Removes : List ℕ → Step
   Writes : List ℕ → List ℕ → Step
+  Copies : List ℕ → List ℕ → Step
+  Finds : List ℕ → Step
+  Says : Message → Step
   Prints : LineKind → List ℕ → Step
   Lists : Step
 
 -- the step that an event did: a command that ended with 0, a folder for objects made, a file removed, a file written,
--- a line printed, the variables listed. What a question leaves in the log is no step.
+-- a file copied, the current folder found, a line printed, a message said, the variables listed. What a question leaves in the log is no step.
 abbrev pub step_of : Event → List Step
 step_of (Ran role cmd pipes status out err) = if is_success status then Runs role cmd ∷ [] else []
 step_of (Made Build path) = Makes Build path ∷ []
 step_of (Removed path how) = Removes path ∷ []
 step_of (Wrote path bytes) = Writes path bytes ∷ []
+step_of (Copied from to) = Copies from to ∷ []
+step_of (Here path) = Finds path ∷ []
+step_of (Said message) = Says message ∷ []
 step_of (Printed kind bytes) = Prints kind bytes ∷ []
 step_of (Listed vars) = Lists ∷ []
 step_of _ = []
@@ -81,6 +88,9 @@ Refuses (Runs role cmd) (Fault call why) = call ≡ Output
 Refuses (Makes scope path) (Fault call why) = call ≡ MakeDir scope
 Refuses (Removes path) (Fault call why) = call ≡ Remove
 Refuses (Writes path bytes) (Fault call why) = call ≡ Write
+Refuses (Copies from to) (Fault call why) = call ≡ Copy
+Refuses (Finds path) (Fault call why) = call ≡ CurrentDir
+Refuses (Says message) (Fault call why) = call ≡ Say
 Refuses (Prints kind bytes) (Fault call why) = call ≡ Print
 Refuses Lists (Fault call why) = call ≡ Vars
 Refuses _ _ = ⊥

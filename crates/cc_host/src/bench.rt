@@ -32,6 +32,7 @@ pub struct BenchHost {
     pub(crate) given: GivenList,
     pub(crate) files: Vec<Text>,
     pub(crate) words: Vec<u64>,
+    pub(crate) listens: bool,
 }
 
 impl Model for BenchHost {
@@ -49,6 +50,7 @@ impl Model for BenchHost {
       given = h.given;
       files = h.files.items;
       words = reverse h.words.items;
+      listens = h.listens;
     } };
 }
 
@@ -68,6 +70,7 @@ impl BenchHost {
             given: GivenList::new(alloc),
             files: Vec::new(alloc),
             words: Vec::new(alloc),
+            listens: false,
         })
     }
 
@@ -141,6 +144,13 @@ impl BenchHost {
         let mut words = words;
         words.as_mut_slice().reverse();
         self.words = words;
+    }
+
+    /// Whether the host listens from now on. At first it doesn't.
+    pub fn set_listens(&mut self, on: bool)
+        ensures { self.new ≡ record self.old { listens = on } }
+    {
+        self.listens = on;
     }
 
     // Whether the next call of the kind is to fail.

@@ -1,14 +1,14 @@
 // What a host in memory does with commands and files.
 ghost use Rattle.std.specs.Prelude.{◌≡◌, ◌++◌, ◌∷◌, [], Ok, IfOk, OnOk, OnErr};
-ghost use Rattle.cc_host.specs.declared.event.Event.TheVariants.{Started, Opened, Wrote};
-ghost use Rattle.cc_host.specs.declared.event.HostCall.TheVariants.{Output, CreateProbe, Write};
+ghost use Rattle.cc_host.specs.declared.event.Event.TheVariants.{Started, Opened, Wrote, Copied};
+ghost use Rattle.cc_host.specs.declared.event.HostCall.TheVariants.{Output, CreateProbe, Write, Copy};
 ghost use Rattle.cc_host.specs.declared.event.Ran.TheVariants.{Done};
 ghost use Rattle.cc_host.specs.declared.event.Start.TheVariants.{Child};
 ghost use Rattle.cc_host.specs.Children.{IsFresh};
 ghost use Rattle.cc_host.specs.Event.{is_captured, ran};
 ghost use Rattle.cc_host.specs.Bench.{ends_as, Begins, called, with_file};
 
-use crate::{BenchHost, Command, Event, HostCall, OutputKind, Pipes, Ran, Role, Status, script};
+use crate::{BenchHost, Boxed, Command, Event, HostCall, OutputKind, Pipes, Ran, Role, Status, script};
 use cc_text::{Bytes, Mem, Text};
 
 // Whether the standard output of a command is kept.
@@ -49,8 +49,8 @@ impl BenchHost {
             ≡ called Output (ran role cmd pipes (Ok (Done status out.now err.now))) self.old) }
         ensures err { OnErr result (self.new ≡ self.old) }
     {
-        let out = out.try_clone()?;
-        let err = err.try_clone()?;
+        let out = Boxed::new(self.alloc, out.try_clone()?)?;
+        let err = Boxed::new(self.alloc, err.try_clone()?)?;
         let event = Event::Ran {
             role,
             cmd,
@@ -129,6 +129,25 @@ impl BenchHost {
         self.files.push(file)?;
         self.journal.note(Event::Wrote { path: name, bytes });
         self.made.count(HostCall::Write);
+        Ok(())
+    }
+
+    // Copies a file, whether one stands at the other path or not.
+    pub(crate) fn put_copy(&mut self, from: &str, to: &str) -> Mem<()>
+        ensures ok { OnOk result
+            (self.new ≡ called Copy (Copied from.now to.now ∷ []) (with_file to.now self.old)) }
+        ensures err { OnErr result (self.new ≡ self.old) }
+    {
+        let source = Text::of(self.alloc, from)?;
+        let name = Text::of(self.alloc, to)?;
+        let file = Text::of(self.alloc, to)?;
+        self.journal.reserve(1)?;
+        self.files.push(file)?;
+        self.journal.note(Event::Copied {
+            from: source,
+            to: name,
+        });
+        self.made.count(HostCall::Copy);
         Ok(())
     }
 }

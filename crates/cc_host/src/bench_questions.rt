@@ -4,7 +4,7 @@ ghost use Rattle.cc_host.specs.Event.{found};
 ghost use Rattle.cc_host.specs.Given.{is_answered, outcome_of};
 ghost use Rattle.cc_host.specs.Bench.{has_file, noted, asked, failed_probe};
 
-use crate::{BenchHost, Event, HostCall, Outcome, ProbeFiles, Question, Why, exists_of};
+use crate::{BenchHost, Boxed, Event, HostCall, Outcome, ProbeFiles, Question, Why, exists_of};
 use cc_text::Mem;
 
 impl BenchHost {
@@ -13,12 +13,12 @@ impl BenchHost {
         ensures ok { OnOk result (self.new ≡ asked q.now files.now answer.now self.old) }
         ensures err { OnErr result (self.new ≡ self.old) }
     {
-        let question = q.try_clone()?;
-        let files = files.try_clone()?;
-        let outcome = answer.try_clone()?;
+        let question = Boxed::new(self.alloc, q.try_clone()?)?;
+        let files = Boxed::new(self.alloc, Some(files.try_clone()?))?;
+        let outcome = Boxed::new(self.alloc, answer.try_clone()?)?;
         let event = Event::Answered {
             question,
-            files: Some(files),
+            files,
             outcome,
         };
         self.add_call(HostCall::Probe, event)
@@ -42,13 +42,14 @@ impl BenchHost {
         ensures err { OnErr result (self.new ≡ self.old) }
         ensures later { self.old.faults ≤ self.new.faults }
     {
-        let question = q.try_clone()?;
-        let files = files.try_clone()?;
+        let question = Boxed::new(self.alloc, q.try_clone()?)?;
+        let files = Boxed::new(self.alloc, Some(files.try_clone()?))?;
+        let outcome = Boxed::new(self.alloc, Outcome::Unanswered)?;
         self.journal.reserve(2)?;
         let event = Event::Answered {
             question,
-            files: Some(files),
-            outcome: Outcome::Unanswered,
+            files,
+            outcome,
         };
         self.journal.fault(HostCall::Probe, Why::Other);
         self.journal.note(event);
@@ -64,9 +65,9 @@ impl BenchHost {
     {
         let there = self.has_file(path);
         let event = Event::Answered {
-            question: exists_of(self.alloc, path)?,
-            files: None,
-            outcome: Outcome::Exists(there),
+            question: Boxed::new(self.alloc, exists_of(self.alloc, path)?)?,
+            files: Boxed::new(self.alloc, None)?,
+            outcome: Boxed::new(self.alloc, Outcome::Exists(there))?,
         };
         self.add(event)?;
         Ok(there)

@@ -23,8 +23,11 @@ pub struct Counts {
     pub probe_dirs: u64,
     pub probe_files: u64,
     pub writes: u64,
+    pub copies: u64,
     pub removals: u64,
+    pub folders: u64,
     pub prints: u64,
+    pub sayings: u64,
     pub listings: u64,
 }
 
@@ -48,8 +51,11 @@ impl Counts {
             probe_dirs: 0,
             probe_files: 0,
             writes: 0,
+            copies: 0,
             removals: 0,
+            folders: 0,
             prints: 0,
+            sayings: 0,
             listings: 0,
         }
     }
@@ -67,8 +73,11 @@ impl Counts {
             HostCall::MakeDir(Scope::Probe) => self.probe_dirs,
             HostCall::CreateProbe => self.probe_files,
             HostCall::Write => self.writes,
+            HostCall::Copy => self.copies,
             HostCall::Remove => self.removals,
+            HostCall::CurrentDir => self.folders,
             HostCall::Print => self.prints,
+            HostCall::Say => self.sayings,
             HostCall::Vars => self.listings,
         }
     }
@@ -86,8 +95,11 @@ impl Counts {
             HostCall::MakeDir(Scope::Probe) => self.probe_dirs = plus_one(self.probe_dirs),
             HostCall::CreateProbe => self.probe_files = plus_one(self.probe_files),
             HostCall::Write => self.writes = plus_one(self.writes),
+            HostCall::Copy => self.copies = plus_one(self.copies),
             HostCall::Remove => self.removals = plus_one(self.removals),
+            HostCall::CurrentDir => self.folders = plus_one(self.folders),
             HostCall::Print => self.prints = plus_one(self.prints),
+            HostCall::Say => self.sayings = plus_one(self.sayings),
             HostCall::Vars => self.listings = plus_one(self.listings),
         }
     }

@@ -1,26 +1,30 @@
 // A command: what a child is started with.
 ghost use Rattle.std.specs.Prelude.{◌≡◌, ◌++◌, [], ◌∷◌, IfOk, OnOk, OnErr, Some, None};
+ghost use Rattle.std.specs.Arc.{arc_value};
 ghost use Rattle.std.specs.Option.{option_copied};
 ghost use Rattle.cc_host.specs.Command.{CommandSeen};
 
-use cc_text::{Mem, Text, Vars, Words};
+use crate::shared::Parts;
+use cc_text::{Mem, NoMemory, Vars, Words};
 use std::alloc::Global;
+use std::fmt;
 use std::marker::Model;
+use std::sync::Arc;
 
 /// A program, its words, its whole environment, and the folder that it runs in, where one is given.
-#[derive(Drop, Debug)]
+///
+/// A second command that is equal shares these by a count of its owners, since each command that is started stands in a log too. A command that
+/// is changed while it shares them copies them first.
+#[derive(Drop)]
 pub struct Command {
     alloc: Global,
-    program: Text,
-    args: Words,
-    env: Vars,
-    dir: Option<Text>,
+    shared: Arc<Parts, Global>,
 }
 
 impl Model for Command {
     ghost Value = { CommandSeen };
 
-    ghost view = { λ c. record { program = c.program; args = c.args; env = c.env; dir = c.dir } };
+    ghost view = { λ c. arc_value c.shared };
 }
 
 impl Command {
@@ -29,13 +33,23 @@ impl Command {
         ensures { IfOk result (λ c. c
             ≡ record { program = program.now; args = []; env = []; dir = None }) }
     {
+        let parts = Parts::new(alloc, program)?;
         Ok(Command {
             alloc,
-            program: Text::of(alloc, program)?,
-            args: Words::new(alloc),
-            env: Vars::new(alloc),
-            dir: None,
+            shared: Arc::new(alloc, parts)?,
         })
+    }
+
+    // Gives the command parts of its own, where another command shares them. Refused for memory, it stays as it was.
+    fn own(&mut self) -> Mem<()>
+        ensures { self.new ≡ self.old }
+    {
+        if Arc::strong_count(&self.shared) == 1 {
+            return Ok(());
+        }
+        let parts = self.shared.try_clone()?;
+        self.shared = Arc::new(self.alloc, parts)?;
+        Ok(())
     }
 
     /// Adds a word last. Refused for memory, the command stays as it was.
@@ -44,7 +58,11 @@ impl Command {
             (self.new ≡ record self.old { args = self.old.args ++ word.now ∷ [] }) }
         ensures err { OnErr result (self.new ≡ self.old) }
     {
-        self.args.push(word)
+        self.own()?;
+        match Arc::get_mut(&mut self.shared) {
+            Some(parts) => parts.arg(word),
+            None => Err(NoMemory),
+        }
     }
 
     /// Adds each of these words, in order, last. Refused for memory, the command stays as it was.
@@ -53,7 +71,11 @@ impl Command {
             (self.new ≡ record self.old { args = self.old.args ++ words.now }) }
         ensures err { OnErr result (self.new ≡ self.old) }
     {
-        self.args.extend(words)
+        self.own()?;
+        match Arc::get_mut(&mut self.shared) {
+            Some(parts) => parts.args(words),
+            None => Err(NoMemory),
+        }
     }
 
     /// Adds a variable last. Refused for memory, the command stays as it was.
@@ -62,7 +84,11 @@ impl Command {
             ≡ record self.old { env = self.old.env ++ (name.now, value.now) ∷ [] }) }
         ensures err { OnErr result (self.new ≡ self.old) }
     {
-        self.env.push(name, value)
+        self.own()?;
+        match Arc::get_mut(&mut self.shared) {
+            Some(parts) => parts.env(name, value),
+            None => Err(NoMemory),
+        }
     }
 
     /// Adds each of these variables, in order, last. Refused for memory, the command stays as it was.
@@ -70,7 +96,11 @@ impl Command {
         ensures ok { OnOk result (self.new ≡ record self.old { env = self.old.env ++ vars.now }) }
         ensures err { OnErr result (self.new ≡ self.old) }
     {
-        self.env.extend(vars)
+        self.own()?;
+        match Arc::get_mut(&mut self.shared) {
+            Some(parts) => parts.envs(vars),
+            None => Err(NoMemory),
+        }
     }
 
     /// Sets the folder that it runs in. Refused for memory, the command stays as it was.
@@ -78,39 +108,39 @@ impl Command {
         ensures ok { OnOk result (self.new ≡ record self.old { dir = Some dir.now }) }
         ensures err { OnErr result (self.new ≡ self.old) }
     {
-        self.dir = Some(Text::of(self.alloc, dir)?);
-        Ok(())
+        self.own()?;
+        match Arc::get_mut(&mut self.shared) {
+            Some(parts) => parts.current_dir(dir),
+            None => Err(NoMemory),
+        }
     }
 
     /// The program, lent.
     pub fn get_program(&self) -> &str
         ensures { result.now ≡ self.now.program }
     {
-        self.program.as_str()
+        self.shared.program()
     }
 
     /// The words after the program, lent.
     pub fn get_args(&self) -> &Words
         ensures { result.now ≡ self.now.args }
     {
-        &self.args
+        self.shared.words()
     }
 
     /// The variables of its environment, lent.
     pub fn get_envs(&self) -> &Vars
         ensures { result.now ≡ self.now.env }
     {
-        &self.env
+        self.shared.vars()
     }
 
     /// The folder that it runs in, lent, where one is given.
     pub fn get_current_dir(&self) -> Option<&str>
         ensures { option_copied result ≡ self.now.dir }
     {
-        match &self.dir {
-            Some(dir) => Some(dir.as_str()),
-            None => None,
-        }
+        self.shared.dir()
     }
 
     /// A second command, equal to this one.
@@ -119,13 +149,14 @@ impl Command {
     {
         Ok(Command {
             alloc: self.alloc,
-            program: self.program.try_clone()?,
-            args: self.args.try_clone()?,
-            env: self.env.try_clone()?,
-            dir: match &self.dir {
-                Some(dir) => Some(dir.try_clone()?),
-                None => None,
-            },
+            shared: Arc::try_clone(&self.shared)?,
         })
+    }
+}
+
+impl fmt::Debug for Command {
+    fn fmt<W: fmt::Write>(&self, f: &mut fmt::Formatter<W>) -> fmt::Result {
+        let parts: &Parts = &self.shared;
+        parts.fmt(f)
     }
 }

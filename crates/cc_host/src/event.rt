@@ -1,10 +1,10 @@
 // What a host is asked, what it answers, and the events of its log.
-ghost use Rattle.std.specs.Prelude.{◌≡◌};
+ghost use Rattle.std.specs.Prelude.{◌≡◌, IfOk};
 ghost use Rattle.cc_host.specs.Status.{is_success};
 ghost use Rattle.cc_host.specs.declared.event.HostError.TheVariants.{NoMemory as WantsMemory};
 
-use crate::{Command, Outcome, ProbeFiles, Question, Verdict};
-use cc_text::{Bytes, NoMemory, Text, Vars};
+use crate::{Boxed, Command, CompileCommand, Line, Outcome, ProbeFiles, Question, Verdict};
+use cc_text::{Bytes, Mem, NoMemory, Text, Vars};
 use std::alloc::{AllocError, AllocFailed};
 
 /// What a command is for.
@@ -123,10 +123,16 @@ pub enum HostCall {
     CreateProbe,
     /// A file was to be written.
     Write,
+    /// A file was to be copied.
+    Copy,
     /// A file was to be removed.
     Remove,
+    /// The current folder was to be told.
+    CurrentDir,
     /// Bytes were to be printed.
     Print,
+    /// A message was to be said.
+    Say,
     /// The variables of the host were to be listed.
     Vars,
 }
@@ -212,7 +218,38 @@ pub struct News {
     pub ended: Option<Status>,
 }
 
-/// What a host did, as its log has it.
+/// What a run says to a host that listens.
+#[derive(Drop, Debug)]
+pub enum Message {
+    /// A warning, of a plan or of a run.
+    GeneralWarning(Text),
+    /// A line of the standard error of a command, without its line end.
+    StderrForwarding(Text, Command),
+    /// A command ended so: with another status than 0. The text is that of the error.
+    CommandFailed(Status, Text, Command),
+    /// A command is about to compile a source. The text is its command line.
+    Compiles(Text, CompileCommand),
+}
+
+impl Message {
+    /// A second message, equal to this one.
+    pub fn try_clone(&self) -> Mem<Message>
+        ensures { IfOk result (λ m. m ≡ self.now) }
+    {
+        Ok(match self {
+            Message::GeneralWarning(text) => Message::GeneralWarning(text.try_clone()?),
+            Message::StderrForwarding(text, cmd) => {
+                Message::StderrForwarding(text.try_clone()?, cmd.try_clone()?)
+            }
+            Message::CommandFailed(status, text, cmd) => {
+                Message::CommandFailed(*status, text.try_clone()?, cmd.try_clone()?)
+            }
+            Message::Compiles(text, cmd) => Message::Compiles(text.try_clone()?, cmd.try_clone()?),
+        })
+    }
+}
+
+/// What a host did, as its log has it. Large parts are on the heap, since a log may have an event for each line that a command wrote.
 #[derive(Drop, Debug)]
 pub enum Event {
     /// A command runs as the child of this number. `held` is the number of tokens that its caller held.
@@ -247,18 +284,18 @@ pub enum Event {
     },
     /// A question was asked, with these probe files where it was a command.
     Answered {
-        question: Question,
-        files: Option<ProbeFiles>,
-        outcome: Outcome,
+        question: Boxed<Question>,
+        files: Boxed<Option<ProbeFiles>>,
+        outcome: Boxed<Outcome>,
     },
     /// A question has this verdict from earlier.
     Reused {
-        question: Question,
+        question: Boxed<Question>,
         verdict: Verdict,
     },
     /// A question couldn't be asked.
     Unasked {
-        question: Question,
+        question: Boxed<Question>,
     },
     /// A word was drawn at random.
     Drawn {
@@ -283,8 +320,8 @@ pub enum Event {
         cmd: Command,
         pipes: Pipes,
         status: Status,
-        out: Bytes,
-        err: Bytes,
+        out: Boxed<Bytes>,
+        err: Boxed<Bytes>,
     },
     /// The program of a command can't be found.
     Missing {
@@ -306,10 +343,23 @@ pub enum Event {
         path: Text,
         bytes: Bytes,
     },
+    /// A file has the bytes of another now.
+    Copied {
+        from: Text,
+        to: Text,
+    },
+    /// The current folder was told.
+    Here {
+        path: Text,
+    },
     /// Bytes were printed.
     Printed {
         kind: LineKind,
-        bytes: Bytes,
+        bytes: Line,
+    },
+    /// A message was said.
+    Said {
+        message: Boxed<Message>,
     },
     /// The variables of the host's own environment were listed.
     Listed {

@@ -9,6 +9,7 @@ mod bench;
 mod bench_commands;
 mod bench_host;
 mod bench_questions;
+mod boxed;
 mod calls;
 mod child;
 mod child_log;
@@ -22,16 +23,18 @@ mod line;
 mod probe;
 mod question;
 mod script;
+mod shared;
 mod verdicts;
 
 pub use bench::BenchHost;
 pub use bench_host::Bench;
+pub use boxed::{Boxed, Line};
 pub use child::RunningChild;
 pub use child_log::ChildLog;
 pub use command::Command;
 pub use compile_command::CompileCommand;
 pub use event::{
-    Created, Event, HostCall, HostError, LineKind, News, OutputKind, Pipes, Ran, Removal, Role,
+    Created, Event, HostCall, HostError, LineKind, Message, News, OutputKind, Pipes, Ran, Removal, Role,
     Scope, Start, Status, Why,
 };
 pub use host::{Host, World};

@@ -4,10 +4,10 @@ ghost use Rattle.cc_host.specs.Bench.{BenchSeen, fresh, with_script, with_missin
 ghost use Rattle.cc_host.specs.Script.{patience_of};
 
 use cc_host::{
-    BenchHost, Command, Created, Event, Host, HostCall, HostError, LineKind, News, Outcome, Pipes,
+    BenchHost, Command, Created, Event, Host, HostCall, HostError, LineKind, Message, News, Outcome, Pipes,
     ProbeFiles, Question, Ran, Removal, Role, Scope, Script, Start, Verdict, World,
 };
-use cc_text::{Mem, Vars};
+use cc_text::{Mem, Text, Vars};
 use std::alloc::Global;
 use std::marker::Model;
 
@@ -87,6 +87,13 @@ impl FixedHost {
         self.bench.set_vars(vars);
     }
 
+    /// Whether the host listens from now on. At first it doesn't.
+    pub fn set_listens(&mut self, on: bool)
+        ensures { self.new ≡ record self.old { listens = on } }
+    {
+        self.bench.set_listens(on);
+    }
+
     /// Gives the host the words that it draws, in order, in place of those that it had. After them it draws 0 for ever.
     pub fn set_random(&mut self, words: Vec<u64>)
         ensures { self.new ≡ record self.old { words = words.items } }
@@ -101,6 +108,8 @@ impl Host<Fixed> for FixedHost {
     ghost faults = { λ h. h.faults };
 
     ghost patience = { λ h. patience_of h.scripts };
+
+    ghost listens = { λ h. h.listens };
 
     fn start(
         &mut self,
@@ -160,16 +169,32 @@ impl Host<Fixed> for FixedHost {
         self.bench.write_file(path, contents)
     }
 
+    fn copy_file(&mut self, from: &str, to: &str) -> Result<(), HostError> {
+        self.bench.copy_file(from, to)
+    }
+
     fn remove_file(&mut self, path: &str) -> Result<Removal, HostError> {
         self.bench.remove_file(path)
+    }
+
+    fn current_dir(&mut self) -> Result<Text, HostError> {
+        self.bench.current_dir()
     }
 
     fn print(&mut self, kind: LineKind, bytes: &[u8]) -> Result<(), HostError> {
         self.bench.print(kind, bytes)
     }
 
+    fn say(&mut self, message: &Message) -> Result<(), HostError> {
+        self.bench.say(message)
+    }
+
     fn vars(&mut self) -> Result<Vars, HostError> {
         self.bench.vars()
+    }
+
+    fn listens(&self) -> bool {
+        self.bench.listens()
     }
 
     fn log(&self) -> &[Event] {

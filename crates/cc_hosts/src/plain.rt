@@ -4,10 +4,10 @@ ghost use Rattle.cc_host.specs.Bench.{BenchSeen, fresh, IsPlain};
 ghost use Rattle.cc_hosts.specs.Plain.{IsPlainLog, IsPlainHost};
 
 use cc_host::{
-    Bench, BenchHost, Command, Created, Event, Host, HostError, LineKind, News, Outcome, Pipes,
+    Bench, BenchHost, Command, Created, Event, Host, HostError, LineKind, Message, News, Outcome, Pipes,
     ProbeFiles, Question, Ran, Removal, Role, Scope, Start, Verdict,
 };
-use cc_text::{Mem, Vars};
+use cc_text::{Mem, Text, Vars};
 use std::alloc::Global;
 use std::marker::Model;
 
@@ -52,6 +52,8 @@ impl Host<Bench> for PlainHost {
     ghost faults = { λ h. h.faults };
 
     ghost patience = { λ h. Some 1 };
+
+    ghost listens = { λ h. h.listens };
 
     fn start(
         &mut self,
@@ -111,16 +113,32 @@ impl Host<Bench> for PlainHost {
         self.bench.write_file(path, contents)
     }
 
+    fn copy_file(&mut self, from: &str, to: &str) -> Result<(), HostError> {
+        self.bench.copy_file(from, to)
+    }
+
     fn remove_file(&mut self, path: &str) -> Result<Removal, HostError> {
         self.bench.remove_file(path)
+    }
+
+    fn current_dir(&mut self) -> Result<Text, HostError> {
+        self.bench.current_dir()
     }
 
     fn print(&mut self, kind: LineKind, bytes: &[u8]) -> Result<(), HostError> {
         self.bench.print(kind, bytes)
     }
 
+    fn say(&mut self, message: &Message) -> Result<(), HostError> {
+        self.bench.say(message)
+    }
+
     fn vars(&mut self) -> Result<Vars, HostError> {
         self.bench.vars()
+    }
+
+    fn listens(&self) -> bool {
+        self.bench.listens()
     }
 
     fn log(&self) -> &[Event] {

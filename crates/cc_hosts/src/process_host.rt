@@ -1,5 +1,5 @@
 // A host over the machine.
-ghost use Rattle.std.specs.Prelude.{◌≡◌, None, IfOk};
+ghost use Rattle.std.specs.Prelude.{◌≡◌, None, IfOk, false};
 ghost use Rattle.cc_hosts.specs.HostSeen.{HostSeen, fresh};
 
 use crate::asking::{KEPT, ask, outcome_of};
@@ -11,8 +11,9 @@ use crate::running::{self, Process};
 use crate::watched::Watched;
 use crate::watchers::Watchers;
 use cc_host::{
-    ChildLog, Command, Created, Event, Host, HostCall, HostError, LineKind, News, Outcome, Pipes,
-    ProbeFiles, Question, Ran, Removal, Role, Scope, Start, Verdict, Why, World, exists_of,
+    Boxed, ChildLog, Command, Created, Event, Host, HostCall, HostError, Line, LineKind, Message,
+    News, Outcome, Pipes, ProbeFiles, Question, Ran, Removal, Role, Scope, Start, Verdict, Why,
+    World, exists_of,
 };
 use cc_text::{Bytes, Mem, NoMemory, Text, Vars, Words};
 use std::alloc::Global;
@@ -25,7 +26,7 @@ use std::random::RandomSource;
 use std::rt::Files;
 use std::sync::{Arc, Wait};
 use std::thread::{Parker, Threads};
-use std::{fs, io};
+use std::{env, fs, io};
 
 /// The world of `ProcessHost`. It isn't steady: the machine may change.
 pub struct Real;
@@ -170,6 +171,8 @@ where
 
     ghost patience = { λ _. None };
 
+    ghost listens = { λ _. false };
+
     fn start(
         &mut self,
         role: Role,
@@ -218,13 +221,15 @@ where
     #[tactic(auto, using(cc_host::proofs::GivenLemmas::answered_event, cc_host::proofs::GivenLemmas::answered_is))]
     fn probe(&mut self, q: &Question, files: &ProbeFiles) -> Mem<Outcome> {
         self.log.reserve(2)?;
-        let question = q.try_clone()?;
-        let with = files.try_clone()?;
+        let question = Boxed::new(self.alloc, q.try_clone()?)?;
+        let with = Boxed::new(self.alloc, Some(files.try_clone()?))?;
+        let unanswered = Boxed::new(self.alloc, Outcome::Unanswered)?;
         match outcome_of(ask(self.alloc, &self.rt, q, files, self.streams(KEPT))?)? {
             Ok((outcome, copy)) => {
+                let copy = Boxed::new(self.alloc, copy)?;
                 self.log.note(Event::Answered {
                     question,
-                    files: Some(with),
+                    files: with,
                     outcome: copy,
                 });
                 Ok(outcome)
@@ -233,8 +238,8 @@ where
                 self.log.fault(HostCall::Probe, why);
                 self.log.note(Event::Answered {
                     question,
-                    files: Some(with),
-                    outcome: Outcome::Unanswered,
+                    files: with,
+                    outcome: unanswered,
                 });
                 Ok(Outcome::Unanswered)
             }
@@ -243,7 +248,7 @@ where
 
     fn reused(&mut self, q: &Question, verdict: &Verdict) -> Mem<()> {
         self.log.reserve(1)?;
-        let question = q.try_clone()?;
+        let question = Boxed::new(self.alloc, q.try_clone()?)?;
         let verdict = verdict.try_clone()?;
         self.log.note(Event::Reused { question, verdict });
         Ok(())
@@ -251,19 +256,21 @@ where
 
     fn unasked(&mut self, q: &Question) -> Mem<()> {
         self.log.reserve(1)?;
-        let question = q.try_clone()?;
+        let question = Boxed::new(self.alloc, q.try_clone()?)?;
         self.log.note(Event::Unasked { question });
         Ok(())
     }
 
     fn exists(&mut self, path: &str) -> Mem<bool> {
         self.log.reserve(1)?;
-        let question = exists_of(self.alloc, path)?;
+        let question = Boxed::new(self.alloc, exists_of(self.alloc, path)?)?;
+        let files = Boxed::new(self.alloc, None)?;
         let there = fs::exists(&self.rt, path).unwrap_or(false);
+        let outcome = Boxed::new(self.alloc, Outcome::Exists(there))?;
         self.log.note(Event::Answered {
             question,
-            files: None,
-            outcome: Outcome::Exists(there),
+            files,
+            outcome,
         });
         Ok(there)
     }
@@ -310,6 +317,8 @@ where
             child::Outcome::Failed(why) => Err(self.log.fault(HostCall::Output, why)),
             child::Outcome::Ended(end) | child::Outcome::Lost(end, _) => {
                 let Ended { status, out, err } = end.try_clone()?;
+                let out = Boxed::new(self.alloc, out)?;
+                let err = Boxed::new(self.alloc, err)?;
                 self.log.note(Event::Ran {
                     role,
                     cmd: command,
@@ -355,6 +364,22 @@ where
         }
     }
 
+    fn copy_file(&mut self, from: &str, to: &str) -> Result<(), HostError> {
+        self.log.reserve(1)?;
+        let source = Text::of(self.alloc, from)?;
+        let name = Text::of(self.alloc, to)?;
+        match fs::copy(&self.rt, from, to) {
+            Ok(_) => {
+                self.log.note(Event::Copied {
+                    from: source,
+                    to: name,
+                });
+                Ok(())
+            }
+            Err(error) => Err(self.log.fault(HostCall::Copy, why_of(error.kind()))),
+        }
+    }
+
     fn remove_file(&mut self, path: &str) -> Result<Removal, HostError> {
         self.log.reserve(1)?;
         let removed = Text::of(self.alloc, path)?;
@@ -367,9 +392,22 @@ where
         }
     }
 
+    fn current_dir(&mut self) -> Result<Text, HostError> {
+        self.log.reserve(1)?;
+        match env::current_dir(&self.rt) {
+            Ok(here) => {
+                let answer = Text::of(self.alloc, here.as_str())?;
+                let path = Text::of(self.alloc, here.as_str())?;
+                self.log.note(Event::Here { path });
+                Ok(answer)
+            }
+            Err(error) => Err(self.log.fault(HostCall::CurrentDir, why_of(error.kind()))),
+        }
+    }
+
     fn print(&mut self, kind: LineKind, bytes: &[u8]) -> Result<(), HostError> {
         self.log.reserve(1)?;
-        let line = Bytes::of(self.alloc, bytes)?;
+        let line = Line::of(self.alloc, bytes)?;
         let text = String::from_utf8_lossy(self.alloc, bytes).map_err(NoMemory::from)?;
         match write_line(&self.rt, kind, bytes, text) {
             Ok(()) => {
@@ -378,6 +416,13 @@ where
             }
             Err(error) => Err(self.log.fault(HostCall::Print, why_of(error.kind()))),
         }
+    }
+
+    fn say(&mut self, message: &Message) -> Result<(), HostError> {
+        self.log.reserve(1)?;
+        let message = Boxed::new(self.alloc, message.try_clone()?)?;
+        self.log.note(Event::Said { message });
+        Ok(())
     }
 
     fn vars(&mut self) -> Result<Vars, HostError> {
@@ -392,6 +437,11 @@ where
             }
             Err(error) => Err(self.log.fault(HostCall::Vars, why_of(error.kind()))),
         }
+    }
+
+    // Nobody listens at the machine. A logger stands round this host.
+    fn listens(&self) -> bool {
+        false
     }
 
     fn log(&self) -> &[Event] {

@@ -5,7 +5,7 @@ use crate::commands::{
 use crate::line::Line;
 use crate::names::{call_name, removal_name, role_name, why_name};
 use cc_host::{
-    Ask, Command, Event, HostCall, LineKind, Outcome, Pipes, ProbeFiles, Question, Removal, Role,
+    Ask, Command, Event, HostCall, Line as LineBytes, LineKind, Message, Outcome, Pipes, ProbeFiles, Question, Removal, Role,
     Scope, Status, Verdict, Why,
 };
 use cc_text::{Bytes, Mem, Text, Vars};
@@ -123,7 +123,22 @@ fn push_kind(line: &mut Line, kind: LineKind) -> Mem<()> {
     }
 }
 
-fn push_printed(line: &mut Line, kind: LineKind, bytes: &Bytes) -> Mem<()> {
+fn push_copied(line: &mut Line, from: &Text, to: &Text) -> Mem<()> {
+    line.push_named("copies ", from.as_str())?;
+    line.push_named(" to ", to.as_str())
+}
+
+// The text of a message, behind what it is.
+fn push_said(line: &mut Line, message: &Message) -> Mem<()> {
+    match message {
+        Message::GeneralWarning(text) => line.push_named("says a warning: ", text.as_str()),
+        Message::StderrForwarding(text, _) => line.push_named("says a line: ", text.as_str()),
+        Message::CommandFailed(_, text, _) => line.push_named("says a failure: ", text.as_str()),
+        Message::Compiles(text, _) => line.push_named("says what compiles: ", text.as_str()),
+    }
+}
+
+fn push_printed(line: &mut Line, kind: LineKind, bytes: &LineBytes) -> Mem<()> {
     line.push_str("prints ")?;
     push_kind(line, kind)?;
     line.push_str(": ")?;
@@ -166,7 +181,7 @@ fn push_course(line: &mut Line, vars: &Vars, event: &Event) -> Mem<()> {
             err,
         } => {
             push_ran(line, vars, *role, cmd, *pipes)?;
-            push_end(line, *status, out, err)
+            push_end(line, *status, out.get(), err.get())
         }
         _ => Ok(()),
     }
@@ -179,9 +194,9 @@ fn push_asking(line: &mut Line, vars: &Vars, event: &Event) -> Mem<()> {
             question,
             files,
             outcome,
-        } => push_answered(line, vars, question, files, outcome),
-        Event::Reused { question, verdict } => push_reused(line, question, verdict),
-        Event::Unasked { question } => push_question(line, "leaves ", question),
+        } => push_answered(line, vars, question.get(), files.get(), outcome.get()),
+        Event::Reused { question, verdict } => push_reused(line, question.get(), verdict),
+        Event::Unasked { question } => push_question(line, "leaves ", question.get()),
         Event::Drawn { word } => line.push_number("draws ", *word),
         Event::Opened { path, bytes } => push_opened(line, path, bytes),
         Event::Taken { path } => line.push_named("finds ", path.as_str()),
@@ -195,7 +210,10 @@ fn push_event(line: &mut Line, vars: &Vars, event: &Event) -> Mem<()> {
         Event::Made { scope, path } => push_made(line, *scope, path),
         Event::Removed { path, how } => push_removed(line, path, *how),
         Event::Wrote { path, bytes } => push_wrote(line, path, bytes),
+        Event::Copied { from, to } => push_copied(line, from, to),
+        Event::Here { path } => line.push_named("is in ", path.as_str()),
         Event::Printed { kind, bytes } => push_printed(line, *kind, bytes),
+        Event::Said { message } => push_said(line, message.get()),
         Event::Listed { vars } => push_listed(line, vars),
         Event::Fault { call, why } => push_fault(line, *call, *why),
         Event::Started { .. }

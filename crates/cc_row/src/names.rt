@@ -52,8 +52,11 @@ const CALLS: &[(&str, HostCall)] = &[
     ("make probe dir", HostCall::MakeDir(Scope::Probe)),
     ("create probe", HostCall::CreateProbe),
     ("write", HostCall::Write),
+    ("copy", HostCall::Copy),
     ("remove", HostCall::Remove),
+    ("current dir", HostCall::CurrentDir),
     ("print", HostCall::Print),
+    ("say", HostCall::Say),
     ("vars", HostCall::Vars),
 ];
 
@@ -122,8 +125,11 @@ pub fn call_name(call: HostCall) -> &'static str {
         HostCall::MakeDir(Scope::Probe) => "make probe dir",
         HostCall::CreateProbe => "create probe",
         HostCall::Write => "write",
+        HostCall::Copy => "copy",
         HostCall::Remove => "remove",
+        HostCall::CurrentDir => "current dir",
         HostCall::Print => "print",
+        HostCall::Say => "say",
         HostCall::Vars => "vars",
     }
 }

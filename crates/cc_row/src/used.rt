@@ -121,11 +121,12 @@ fn answers_it(answer: &Answer, question: &Question) -> bool {
 fn uses_answer(event: &Event, answer: &Answer, later: &[Answer]) -> bool {
     match event {
         Event::Answered {
-            outcome: Outcome::Unanswered,
-            ..
-        } => false,
-        Event::Answered { question, .. } => {
-            answers_it(answer, question) && !later.iter().any(|other| answers_it(other, question))
+            question, outcome, ..
+        } => {
+            let question = question.get();
+            !matches!(outcome.get(), Outcome::Unanswered)
+                && answers_it(answer, question)
+                && !later.iter().any(|other| answers_it(other, question))
         }
         _ => false,
     }

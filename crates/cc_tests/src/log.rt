@@ -13,15 +13,11 @@ fn kind_of(event: &Event) -> &'static str {
         Event::Heard { .. } => "hears",
         Event::Unread { .. } => "fails to hear",
         Event::Turn { .. } => "turns",
-        Event::Answered {
-            outcome: Outcome::Exists(true),
-            ..
-        } => "sees ",
-        Event::Answered {
-            outcome: Outcome::Exists(false),
-            ..
-        } => "doesn't see ",
-        Event::Answered { .. } => "asks ",
+        Event::Answered { outcome, .. } => match outcome.get() {
+            Outcome::Exists(true) => "sees ",
+            Outcome::Exists(false) => "doesn't see ",
+            _ => "asks ",
+        },
         Event::Reused { .. } => "knows ",
         Event::Unasked { .. } => "doesn't ask ",
         Event::Drawn { .. } => "draws",
@@ -40,7 +36,10 @@ fn kind_of(event: &Event) -> &'static str {
             ..
         } => "removes nothing at ",
         Event::Wrote { .. } => "writes ",
+        Event::Copied { .. } => "copies to ",
+        Event::Here { .. } => "is in ",
         Event::Printed { .. } => "prints ",
+        Event::Said { .. } => "says",
         Event::Listed { .. } => "lists",
         Event::Fault { .. } => "faults",
     }
@@ -66,14 +65,16 @@ fn subject_of(event: &Event) -> &str {
         Event::Started { cmd, .. } => cmd.get_program(),
         Event::Ran { cmd, .. } => cmd.get_program(),
         Event::Missing { cmd, .. } => cmd.get_program(),
-        Event::Answered { question, .. } => asked(question),
-        Event::Reused { question, .. } => asked(question),
-        Event::Unasked { question } => asked(question),
+        Event::Answered { question, .. } => asked(question.get()),
+        Event::Reused { question, .. } => asked(question.get()),
+        Event::Unasked { question } => asked(question.get()),
         Event::Opened { path, .. } => path.as_str(),
         Event::Taken { path } => path.as_str(),
         Event::Made { path, .. } => path.as_str(),
         Event::Removed { path, .. } => path.as_str(),
         Event::Wrote { path, .. } => path.as_str(),
+        Event::Copied { to, .. } => to.as_str(),
+        Event::Here { path } => path.as_str(),
         Event::Printed { bytes, .. } => str::from_utf8(bytes.as_slice()).unwrap_or("?").trim_end(),
         _ => "",
     }

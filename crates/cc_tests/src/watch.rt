@@ -3,11 +3,11 @@ ghost use Rattle.std.specs.Prelude.{Some};
 ghost use Rattle.cc_host.specs.Script.{patience_of};
 
 use cc_host::{
-    Bench, BenchHost, Command, Created, Event, Host, HostError, LineKind, News, Outcome, Pipes,
+    Bench, BenchHost, Command, Created, Event, Host, HostError, LineKind, Message, News, Outcome, Pipes,
     ProbeFiles, Question, Ran, Removal, Role, Scope, Start, Verdict,
 };
 use cc_jobs::{JobFault, Jobs, OneCaller, OneSeat, Take};
-use cc_text::{Mem, Vars};
+use cc_text::{Mem, Text, Vars};
 use std::cell::Cell;
 
 /// What is seen of a run: the tokens that are out, the children that run, the starts under another number of tokens than one for each child; and the rest that
@@ -142,6 +142,8 @@ impl Host<Bench> for WatchedHost<'_> {
 
     ghost patience = { λ h. patience_of h.bench.scripts };
 
+    ghost listens = { λ h. h.bench.listens };
+
     fn start(
         &mut self,
         role: Role,
@@ -207,16 +209,32 @@ impl Host<Bench> for WatchedHost<'_> {
         self.bench.write_file(path, contents)
     }
 
+    fn copy_file(&mut self, from: &str, to: &str) -> Result<(), HostError> {
+        self.bench.copy_file(from, to)
+    }
+
     fn remove_file(&mut self, path: &str) -> Result<Removal, HostError> {
         self.bench.remove_file(path)
+    }
+
+    fn current_dir(&mut self) -> Result<Text, HostError> {
+        self.bench.current_dir()
     }
 
     fn print(&mut self, kind: LineKind, bytes: &[u8]) -> Result<(), HostError> {
         self.bench.print(kind, bytes)
     }
 
+    fn say(&mut self, message: &Message) -> Result<(), HostError> {
+        self.bench.say(message)
+    }
+
     fn vars(&mut self) -> Result<Vars, HostError> {
         self.bench.vars()
+    }
+
+    fn listens(&self) -> bool {
+        self.bench.listens()
     }
 
     fn log(&self) -> &[Event] {
