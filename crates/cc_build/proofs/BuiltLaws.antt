@@ -10,7 +10,7 @@ use Rattle.cc_host.specs.Part.Step.{Runs, Removes}
 use Rattle.cc_host.specs.Question.{Look}
 use Rattle.cc_host.specs.Status.{is_success}
 use Rattle.cc_host.specs.declared.event.Event.{Event}
-use Rattle.cc_host.specs.declared.event.Event.TheVariants.{Started, Missing, Ran, Made, Removed, Wrote, Printed, Listed}
+use Rattle.cc_host.specs.declared.event.Event.TheVariants.{Started, Missing, Ran, Made, Removed, Wrote, Copied, Here, Said, Printed, Listed}
 use Rattle.cc_host.specs.declared.event.LineKind.TheVariants.{Warning}
 use Rattle.cc_host.specs.declared.event.Removal.{Removal}
 use Rattle.cc_host.specs.declared.event.Role.{Role}
@@ -207,6 +207,9 @@ removed_is path (Ran role cmd pipes status out err) e = absurd (by_test (is_succ
 removed_is path (Made Build folder) e = absurd (cc)
 removed_is path (Made ForProbes folder) e = absurd (cc)
 removed_is path (Wrote file bytes) e = absurd (cc)
+removed_is path (Copied a_file to_file) e = absurd (cc)
+removed_is path (Here here) e = absurd (cc)
+removed_is path (Said message) e = absurd (cc)
 removed_is path (Printed kind bytes) e = absurd (cc)
 removed_is path (Listed vars) e = absurd (cc)
 removed_is path event e = absurd (cc)

@@ -7,7 +7,7 @@ use Rattle.std.proofs.lemmas.List.{map-append}
 use Rattle.cc_env.specs.Env.{EnvSeen}
 use Rattle.cc_host.specs.Command.{CommandSeen}
 use Rattle.cc_host.specs.Part.{Step, Refuses}
-use Rattle.cc_host.specs.Part.Step.{Runs, Makes, Removes, Writes, Prints, Lists}
+use Rattle.cc_host.specs.Part.Step.{Runs, Makes, Removes, Writes, Copies, Finds, Says, Prints, Lists}
 use Rattle.cc_host.specs.Question.{Look}
 use Rattle.cc_host.specs.declared.event.Event.{Event}
 use Rattle.cc_host.specs.declared.event.Event.TheVariants.{Fault}
@@ -52,6 +52,9 @@ call_kind (Runs role cmd) event plain r h = absurd plain
 call_kind (Makes scope path) (Fault call why) plain r h = cc
 call_kind (Removes path) (Fault call why) plain r h = cc
 call_kind (Writes path bytes) (Fault call why) plain r h = cc
+call_kind (Copies from to) (Fault call why) plain r h = cc
+call_kind (Finds path) (Fault call why) plain r h = cc
+call_kind (Says message) (Fault call why) plain r h = cc
 call_kind (Prints kind bytes) (Fault call why) plain r h = cc
 call_kind Lists (Fault call why) plain r h = cc
 call_kind _ _ plain r h = absurd r

@@ -7,7 +7,7 @@ use Rattle.std.proofs.lemmas.List.Folds.{list_any-append}
 use Rattle.cc_env.specs.Env.{EnvSeen}
 use Rattle.cc_host.specs.Command.{CommandSeen}
 use Rattle.cc_host.specs.Part.{Step, since, step_of, Refuses}
-use Rattle.cc_host.specs.Part.Step.{Runs, Makes, Removes, Writes, Prints, Lists}
+use Rattle.cc_host.specs.Part.Step.{Runs, Makes, Removes, Writes, Copies, Finds, Says, Prints, Lists}
 use Rattle.cc_host.specs.Question.{Look}
 use Rattle.cc_host.specs.Status.{is_success}
 use Rattle.cc_host.specs.declared.event.Event.{Event}
@@ -203,16 +203,25 @@ refusal_silent step (Started id role cmd pipes held) none r = no_refusal step r
     no_refusal (Makes scope path) k = absurd k
     no_refusal (Removes path) k = absurd k
     no_refusal (Writes path bytes) k = absurd k
+    no_refusal (Copies from to) k = absurd k
+    no_refusal (Finds path) k = absurd k
+    no_refusal (Says message) k = absurd k
     no_refusal (Prints kind bytes) k = absurd k
     no_refusal Lists k = absurd k
 refusal_silent (Makes scope path) (Missing role cmd) none r = absurd r
 refusal_silent (Removes path) (Missing role cmd) none r = absurd r
 refusal_silent (Writes path bytes) (Missing role cmd) none r = absurd r
+refusal_silent (Copies from to) (Missing role cmd) none r = absurd r
+refusal_silent (Finds path) (Missing role cmd) none r = absurd r
+refusal_silent (Says message) (Missing role cmd) none r = absurd r
 refusal_silent (Prints kind bytes) (Missing role cmd) none r = absurd r
 refusal_silent Lists (Missing role cmd) none r = absurd r
 refusal_silent (Makes scope path) (Ran role cmd pipes status out err) none r = absurd r
 refusal_silent (Removes path) (Ran role cmd pipes status out err) none r = absurd r
 refusal_silent (Writes path bytes) (Ran role cmd pipes status out err) none r = absurd r
+refusal_silent (Copies from to) (Ran role cmd pipes status out err) none r = absurd r
+refusal_silent (Finds path) (Ran role cmd pipes status out err) none r = absurd r
+refusal_silent (Says message) (Ran role cmd pipes status out err) none r = absurd r
 refusal_silent (Prints kind bytes) (Ran role cmd pipes status out err) none r = absurd r
 refusal_silent Lists (Ran role cmd pipes status out err) none r = absurd r
 refusal_silent step event none r = refl

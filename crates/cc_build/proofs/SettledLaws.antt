@@ -6,7 +6,7 @@ use Rattle.std.proofs.lemmas.Grind.{common_steps, flat_map-append}
 use Rattle.std.proofs.lemmas.List.{map-append, take-append-drop}
 use Rattle.cc_host.specs.Command.{CommandSeen}
 use Rattle.cc_host.specs.Part.{Step, step_of, Refuses}
-use Rattle.cc_host.specs.Part.Step.{Runs, Makes, Removes, Writes, Prints, Lists}
+use Rattle.cc_host.specs.Part.Step.{Runs, Makes, Removes, Writes, Copies, Finds, Says, Prints, Lists}
 use Rattle.cc_host.specs.Status.{is_success}
 use Rattle.cc_host.specs.declared.event.Event.{Event}
 use Rattle.cc_host.specs.declared.event.Event.TheVariants.{Started, Ended, Abandoned, Ran, Missing, Fault}
@@ -65,6 +65,9 @@ refused_still (Runs role cmd) (Fault call why) r h = refl
 refused_still (Makes scope path) (Fault call why) r h = refl
 refused_still (Removes path) (Fault call why) r h = refl
 refused_still (Writes path bytes) (Fault call why) r h = refl
+refused_still (Copies from to) (Fault call why) r h = refl
+refused_still (Finds path) (Fault call why) r h = refl
+refused_still (Says message) (Fault call why) r h = refl
 refused_still (Prints kind bytes) (Fault call why) r h = refl
 refused_still Lists (Fault call why) r h = refl
 refused_still _ _ r h = absurd h
@@ -227,6 +230,9 @@ uncalled_none (Runs role cmd) event plain r = absurd plain
 uncalled_none (Makes scope path) (Fault call why) plain r = refl
 uncalled_none (Removes path) (Fault call why) plain r = refl
 uncalled_none (Writes path bytes) (Fault call why) plain r = refl
+uncalled_none (Copies from to) (Fault call why) plain r = refl
+uncalled_none (Finds path) (Fault call why) plain r = refl
+uncalled_none (Says message) (Fault call why) plain r = refl
 uncalled_none (Prints kind bytes) (Fault call why) plain r = refl
 uncalled_none Lists (Fault call why) plain r = refl
 uncalled_none _ _ plain r = absurd r

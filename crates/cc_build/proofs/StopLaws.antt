@@ -9,7 +9,7 @@ use Rattle.std.specs.List.{list_all, list_any}
 use Rattle.cc_env.specs.Env.{EnvSeen}
 use Rattle.cc_host.specs.Command.{CommandSeen}
 use Rattle.cc_host.specs.Part.{Step, since, step_of, Refuses, is_probing}
-use Rattle.cc_host.specs.Part.Step.{Runs, Makes, Removes, Writes, Prints, Lists}
+use Rattle.cc_host.specs.Part.Step.{Runs, Makes, Removes, Writes, Copies, Finds, Says, Prints, Lists}
 use Rattle.cc_host.specs.Question.{Look}
 use Rattle.cc_host.specs.declared.event.Event.{Event}
 use Rattle.cc_host.specs.declared.event.Event.TheVariants.{Abandoned, Ran, Missing, Fault}
@@ -349,6 +349,9 @@ call_cause (Makes ForProbes path) event plain r = absurd plain
 call_cause (Makes Build path) (Fault call why) plain r = some_fault (Fault call why ∷ []) call [] refl (ap is_probing r)
 call_cause (Removes path) (Fault call why) plain r = some_fault (Fault call why ∷ []) call [] refl (ap is_probing r)
 call_cause (Writes path bytes) (Fault call why) plain r = some_fault (Fault call why ∷ []) call [] refl (ap is_probing r)
+call_cause (Copies from to) (Fault call why) plain r = some_fault (Fault call why ∷ []) call [] refl (ap is_probing r)
+call_cause (Finds path) (Fault call why) plain r = some_fault (Fault call why ∷ []) call [] refl (ap is_probing r)
+call_cause (Says message) (Fault call why) plain r = some_fault (Fault call why ∷ []) call [] refl (ap is_probing r)
 call_cause (Prints kind bytes) (Fault call why) plain r = some_fault (Fault call why ∷ []) call [] refl (ap is_probing r)
 call_cause Lists (Fault call why) plain r = some_fault (Fault call why ∷ []) call [] refl (ap is_probing r)
 call_cause _ _ plain r = absurd r

@@ -14,7 +14,7 @@ use Rattle.cc_host.specs.declared.event.Why.{Why}
 use Rattle.cc_host.specs.declared.question.Outcome.{Outcome as WorldOutcome}
 use Rattle.cc_host.specs.declared.question.Question.{Question}
 use Rattle.cc_host.specs.Part.{Step, since, stops, left, StopsAt, IsPartly, IsWhole}
-use Rattle.cc_host.specs.Part.Step.{Runs, Makes, Removes, Writes, Prints, Lists}
+use Rattle.cc_host.specs.Part.Step.{Runs, Makes, Removes, Writes, Copies, Finds, Says, Prints, Lists}
 use Rattle.cc_host.specs.Question.{Look, Answer, answer_of, answers, Agrees, Settles, Holds}
 use Rattle.cc_host.proofs.Parts.{since_since, since_append, since_extends, partly_none}
 use Rattle.cc_tool.specs.Asked.{question_events, Asked}
@@ -62,6 +62,9 @@ printing_stop (Runs role cmd ∷ steps) why h = absurd (cc)
 printing_stop (Makes scope path ∷ steps) why h = absurd (cc)
 printing_stop (Removes path ∷ steps) why h = absurd (cc)
 printing_stop (Writes path bytes ∷ steps) why h = absurd (cc)
+printing_stop (Copies from to ∷ steps) why h = absurd (cc)
+printing_stop (Finds path ∷ steps) why h = absurd (cc)
+printing_stop (Says message ∷ steps) why h = absurd (cc)
 printing_stop (Lists ∷ steps) why h = absurd (cc)
 
 print_error : (set : BuildConfig) (env : EnvSeen) (why : Why) → plan_error set env [] (Host Print why) ≡ fault_error Print why []

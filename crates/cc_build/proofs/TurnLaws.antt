@@ -7,7 +7,7 @@ use Rattle.std.proofs.Math.Nat.{mul-add}
 use Rattle.std.specs.List.{list_all}
 use Rattle.cc_host.specs.Command.{CommandSeen}
 use Rattle.cc_host.specs.Part.{Step, step_of, Refuses}
-use Rattle.cc_host.specs.Part.Step.{Runs, Makes, Removes, Writes, Prints, Lists}
+use Rattle.cc_host.specs.Part.Step.{Runs, Makes, Removes, Writes, Copies, Finds, Says, Prints, Lists}
 use Rattle.cc_host.specs.declared.event.Event.{Event}
 use Rattle.cc_host.specs.declared.event.Event.TheVariants.{Turn, Ran, Missing, Fault}
 use Rattle.cc_run.specs.Part.{turns, turns_of}
@@ -51,6 +51,9 @@ refused_turns (Runs role cmd) (Turn n) h = absurd h
 refused_turns (Makes scope path) (Turn n) h = absurd h
 refused_turns (Removes path) (Turn n) h = absurd h
 refused_turns (Writes path bytes) (Turn n) h = absurd h
+refused_turns (Copies from to) (Turn n) h = absurd h
+refused_turns (Finds path) (Turn n) h = absurd h
+refused_turns (Says message) (Turn n) h = absurd h
 refused_turns (Prints kind bytes) (Turn n) h = absurd h
 refused_turns Lists (Turn n) h = absurd h
 refused_turns _ _ h = refl
@@ -202,6 +205,9 @@ stop_kind (Runs role cmd) (Fault call why) h = cc
 stop_kind (Makes scope path) (Fault call why) h = cc
 stop_kind (Removes path) (Fault call why) h = cc
 stop_kind (Writes path bytes) (Fault call why) h = cc
+stop_kind (Copies from to) (Fault call why) h = cc
+stop_kind (Finds path) (Fault call why) h = cc
+stop_kind (Says message) (Fault call why) h = cc
 stop_kind (Prints kind bytes) (Fault call why) h = cc
 stop_kind Lists (Fault call why) h = cc
 stop_kind _ _ h = cc

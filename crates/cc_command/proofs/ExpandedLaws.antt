@@ -8,7 +8,7 @@ use Rattle.cc_host.specs.Part.{Step, since, step_of, stop_of, stops, done, left,
 use Rattle.cc_host.specs.Part.Step.{Runs, Prints, Lists}
 use Rattle.cc_host.specs.Question.{Look, Agrees, answers, Holds}
 use Rattle.cc_host.specs.declared.event.Event.{Event}
-use Rattle.cc_host.specs.declared.event.Event.TheVariants.{Started, Missing, Ran, Fault, Printed, Removed, Wrote, Made, Listed}
+use Rattle.cc_host.specs.declared.event.Event.TheVariants.{Started, Missing, Ran, Fault, Printed, Removed, Wrote, Copied, Here, Said, Made, Listed}
 use Rattle.cc_host.specs.declared.event.LineKind.{LineKind}
 use Rattle.cc_host.specs.declared.event.LineKind.TheVariants.{Warning, Expanded as ExpandedLine}
 use Rattle.cc_host.specs.declared.event.Scope.TheVariants.{Build as Building, Probe as ForProbes}
@@ -157,6 +157,9 @@ printed_is (Made Building path) kind bytes h = absurd (cc)
 printed_is (Made ForProbes path) kind bytes h = absurd (cc)
 printed_is (Removed path how) kind bytes h = absurd (cc)
 printed_is (Wrote path written) kind bytes h = absurd (cc)
+printed_is (Copied a_file to_file) kind bytes h = absurd (cc)
+printed_is (Here here) kind bytes h = absurd (cc)
+printed_is (Said message) kind bytes h = absurd (cc)
 printed_is (Printed k b) kind bytes h = cc
 printed_is (Listed vars) kind bytes h = absurd (cc)
 printed_is event kind bytes h = absurd (cc)

@@ -6,10 +6,10 @@ use Rattle.std.proofs.lemmas.List.{append_cancel_left}
 use Rattle.std.proofs.lemmas.List.Folds.{list_all-append, list_any-append}
 use Rattle.cc_host.specs.Command.{CommandSeen}
 use Rattle.cc_host.specs.Part.{Step, since, step_of, stop_of, calm_of, stops, calm, done, left, is_probing, Refuses, StopsAt, IsPartly, IsWhole}
-use Rattle.cc_host.specs.Part.Step.{Runs, Makes, Removes, Writes, Prints, Lists}
+use Rattle.cc_host.specs.Part.Step.{Runs, Makes, Removes, Writes, Copies, Finds, Says, Prints, Lists}
 use Rattle.cc_host.specs.Question.{Look, answers, Holds}
 use Rattle.cc_host.specs.declared.event.Event.{Event}
-use Rattle.cc_host.specs.declared.event.Event.TheVariants.{Started, Missing, Ended as EndedChild, Abandoned, Ran, Heard, Unread, Turn, Fault, Printed, Removed, Wrote, Made, Listed}
+use Rattle.cc_host.specs.declared.event.Event.TheVariants.{Started, Missing, Ended as EndedChild, Abandoned, Ran, Heard, Unread, Turn, Fault, Printed, Removed, Wrote, Copied, Here, Said, Made, Listed}
 use Rattle.cc_host.specs.declared.event.HostCall.{HostCall}
 use Rattle.cc_host.specs.declared.event.LineKind.{LineKind}
 use Rattle.cc_host.specs.declared.event.LineKind.TheVariants.{Warning, Shown as ShownLine}
@@ -88,6 +88,9 @@ told_refused (Runs role cmd) event told refuses = absurd (cc)
 told_refused (Makes scope path) event told refuses = absurd (cc)
 told_refused (Removes path) event told refuses = absurd (cc)
 told_refused (Writes path bytes) event told refuses = absurd (cc)
+told_refused (Copies from to) event told refuses = absurd (cc)
+told_refused (Finds path) event told refuses = absurd (cc)
+told_refused (Says message) event told refuses = absurd (cc)
 
 fault_stops : (event : Event) → IsRealFault event → stop_of event ≡ event ∷ []
 fault_stops event f = ap stop_of f.2.0 ∙ by_test (is_probing f.0) f.2.1 ∙ ap (λ e. e ∷ []) (sym f.2.0)
@@ -214,6 +217,9 @@ asked_step : (event : Event) → is_asked event ≡ true → step_of event ≡ [
 asked_step (Ran role cmd pipes status out err) h = absurd (cc)
 asked_step (Removed path how) h = absurd (cc)
 asked_step (Wrote path bytes) h = absurd (cc)
+asked_step (Copied a_file to_file) h = absurd (cc)
+asked_step (Here here) h = absurd (cc)
+asked_step (Said message) h = absurd (cc)
 asked_step (Made Building path) h = absurd (cc)
 asked_step (Made ForProbes path) h = refl
 asked_step (Printed kind bytes) h = absurd (cc)

@@ -5,11 +5,11 @@ use Rattle.std.proofs.lemmas.List.{map-append, length-map}
 use Rattle.cc_env.specs.Env.{EnvSeen}
 use Rattle.cc_host.specs.Command.{CommandSeen}
 use Rattle.cc_host.specs.Part.{Step, step_of}
-use Rattle.cc_host.specs.Part.Step.{Runs, Makes, Removes, Writes, Prints, Lists}
+use Rattle.cc_host.specs.Part.Step.{Runs, Makes, Removes, Writes, Copies, Finds, Says, Prints, Lists}
 use Rattle.cc_host.specs.Question.{Look}
 use Rattle.cc_host.specs.Status.{is_success}
 use Rattle.cc_host.specs.declared.event.Event.{Event}
-use Rattle.cc_host.specs.declared.event.Event.TheVariants.{Ran, Made, Removed, Wrote, Printed, Listed}
+use Rattle.cc_host.specs.declared.event.Event.TheVariants.{Ran, Made, Removed, Wrote, Copied, Here, Said, Printed, Listed}
 use Rattle.cc_host.specs.declared.event.LineKind.{LineKind}
 use Rattle.cc_host.specs.declared.event.LineKind.TheVariants.{Link, Rerun, Warning, Stderr, Debug, Fault as FaultLine, Expanded, Shown}
 use Rattle.cc_host.specs.declared.event.Role.{Role}
@@ -70,6 +70,9 @@ called_links step (Ran role cmd pipes status out err) e = by_status (is_success 
 called_links step (Made Build path) e = let same : Makes Build path ≡ step = cc in ap (λ s. link_number (Calls s)) same
 called_links step (Removed path how) e = let same : Removes path ≡ step = cc in ap (λ s. link_number (Calls s)) same
 called_links step (Wrote path bytes) e = let same : Writes path bytes ≡ step = cc in ap (λ s. link_number (Calls s)) same
+called_links step (Copied from to) e = let same : Copies from to ≡ step = cc in ap (λ s. link_number (Calls s)) same
+called_links step (Here path) e = let same : Finds path ≡ step = cc in ap (λ s. link_number (Calls s)) same
+called_links step (Said message) e = let same : Says message ≡ step = cc in ap (λ s. link_number (Calls s)) same
 called_links step (Listed vars) e = let same : Lists ≡ step = cc in ap (λ s. link_number (Calls s)) same
 called_links step (Made ForProbes path) e = absurd (cc)
 called_links step event e = absurd (cc)

@@ -8,7 +8,7 @@ use Rattle.cc_host.specs.Event.{apart}
 use Rattle.cc_host.specs.Part.{since, step_of, Refuses}
 use Rattle.cc_host.specs.Part.Step.{Runs, Prints}
 use Rattle.cc_host.specs.declared.event.Event.{Event}
-use Rattle.cc_host.specs.declared.event.Event.TheVariants.{Ran, Made, Removed, Wrote, Printed, Listed, Fault}
+use Rattle.cc_host.specs.declared.event.Event.TheVariants.{Ran, Made, Removed, Wrote, Copied, Here, Said, Printed, Listed, Fault}
 use Rattle.cc_host.specs.declared.event.HostCall.TheVariants.{Print}
 use Rattle.cc_host.specs.declared.event.LineKind.TheVariants.{Shown}
 use Rattle.cc_host.specs.declared.event.Scope.TheVariants.{Build as Building, Probe as ForProbes}
@@ -88,6 +88,9 @@ module _ (t : Terms) where
   one_shown line (Made ForProbes path) e = absurd (cc)
   one_shown line (Removed path how) e = absurd (cc)
   one_shown line (Wrote path bytes) e = absurd (cc)
+  one_shown line (Copied from to) e = absurd (cc)
+  one_shown line (Here path) e = absurd (cc)
+  one_shown line (Said message) e = absurd (cc)
   one_shown line (Listed vars) e = absurd (cc)
   one_shown line event e = absurd (cc)
 

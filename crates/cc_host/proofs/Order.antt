@@ -5,7 +5,7 @@ use Rattle.std.proofs.Math.Seq.{drop-append_seam}
 use Rattle.std.proofs.lemmas.List.Elements.{Contains-append_cases, Contains-append_left, Contains-append_right}
 use Rattle.cc_host.proofs.Parts.{IsCalm, IsQuiet, IsStop, IsKind, kind_is, done_then, stops_both, calm_then, calm_whole}
 use Rattle.cc_host.specs.Status.{is_success}
-use Rattle.cc_host.specs.Part.{Step, Runs, Makes, Removes, Writes, Prints, Lists, step_of, done, stop_of, stops, calm, left, Refuses, StopsAt, IsPartly, runs}
+use Rattle.cc_host.specs.Part.{Step, Runs, Makes, Removes, Writes, Copies, Finds, Says, Prints, Lists, step_of, done, stop_of, stops, calm, left, Refuses, StopsAt, IsPartly, runs}
 use Rattle.cc_host.specs.Command.{CommandSeen}
 use Rattle.cc_host.specs.declared.event.Role.{Role}
 use Rattle.cc_host.specs.declared.event.Role.TheVariants.{Compile, Archive}
@@ -14,7 +14,7 @@ use Rattle.cc_host.specs.declared.event.Status.{Status}
 use Rattle.cc_host.specs.declared.event.Status.TheVariants.{Code, NoCode}
 use Rattle.cc_host.specs.declared.event.Scope.TheVariants.{Build, Probe as ForProbes}
 use Rattle.cc_host.specs.declared.event.Event.{Event}
-use Rattle.cc_host.specs.declared.event.Event.TheVariants.{Ran, Missing, Made, Removed, Wrote, Printed, Listed}
+use Rattle.cc_host.specs.declared.event.Event.TheVariants.{Ran, Missing, Made, Removed, Wrote, Copied, Here, Said, Printed, Listed}
 
 -- whatever step this event did or refused passes the test
 abbrev pub IsOnly : (Step → Bool) → Event → Type 0
@@ -122,6 +122,9 @@ ran_refused test role r (Runs at cmd) c pipes status out err all is refusal = ap
 ran_refused test role r (Makes scope path) c pipes status out err all is refusal = absurd refusal
 ran_refused test role r (Removes path) c pipes status out err all is refusal = absurd refusal
 ran_refused test role r (Writes path bytes) c pipes status out err all is refusal = absurd refusal
+ran_refused test role r (Copies from to) c pipes status out err all is refusal = absurd refusal
+ran_refused test role r (Finds path) c pipes status out err all is refusal = absurd refusal
+ran_refused test role r (Says message) c pipes status out err all is refusal = absurd refusal
 ran_refused test role r (Prints kind bytes) c pipes status out err all is refusal = absurd refusal
 ran_refused test role r Lists c pipes status out err all is refusal = absurd refusal
 
@@ -130,6 +133,9 @@ missing_refused test role r (Runs at cmd) c all is refusal = ap (λ k. test (Run
 missing_refused test role r (Makes scope path) c all is refusal = absurd refusal
 missing_refused test role r (Removes path) c all is refusal = absurd refusal
 missing_refused test role r (Writes path bytes) c all is refusal = absurd refusal
+missing_refused test role r (Copies from to) c all is refusal = absurd refusal
+missing_refused test role r (Finds path) c all is refusal = absurd refusal
+missing_refused test role r (Says message) c all is refusal = absurd refusal
 missing_refused test role r (Prints kind bytes) c all is refusal = absurd refusal
 missing_refused test role r Lists c all is refusal = absurd refusal
 
@@ -199,6 +205,9 @@ succeeds part role cmd (Made Build path) has e = absurd (cc)
 succeeds part role cmd (Made ForProbes path) has e = absurd (cc)
 succeeds part role cmd (Removed path how) has e = absurd (cc)
 succeeds part role cmd (Wrote path bytes) has e = absurd (cc)
+succeeds part role cmd (Copied from to) has e = absurd (cc)
+succeeds part role cmd (Here path) has e = absurd (cc)
+succeeds part role cmd (Said message) has e = absurd (cc)
 succeeds part role cmd (Printed kind bytes) has e = absurd (cc)
 succeeds part role cmd (Listed vars) has e = absurd (cc)
 succeeds part role cmd event has e = absurd (cc)

@@ -5,12 +5,12 @@ use Rattle.std.proofs.Math.ListN.{get_or-map}
 use Rattle.std.proofs.lemmas.List.{length-append, length-map, map-append, take-append-drop, take_more, drop_more, take-map, drop-map}
 use Rattle.std.proofs.lemmas.Grind.{flat_map-append}
 use Rattle.cc_host.specs.Status.{is_success}
-use Rattle.cc_host.specs.Part.{since, is_probing, Step, Runs, Makes, Removes, Writes, Prints, Lists, step_of, done, stop_of, stops, calm_of, calm, listing_of, listings, left, Refuses, StopsAt, IsPartly, IsWhole, runs}
+use Rattle.cc_host.specs.Part.{since, is_probing, Step, Runs, Makes, Removes, Writes, Copies, Finds, Says, Prints, Lists, step_of, done, stop_of, stops, calm_of, calm, listing_of, listings, left, Refuses, StopsAt, IsPartly, IsWhole, runs}
 use Rattle.cc_host.specs.Command.{CommandSeen}
 use Rattle.cc_host.specs.declared.event.Role.{Role}
 use Rattle.cc_host.specs.declared.event.Scope.TheVariants.{Build, Probe as ForProbes}
 use Rattle.cc_host.specs.declared.event.Event.{Event}
-use Rattle.cc_host.specs.declared.event.Event.TheVariants.{Ran, Missing, Fault, Made, Removed, Wrote, Printed, Listed}
+use Rattle.cc_host.specs.declared.event.Event.TheVariants.{Ran, Missing, Fault, Made, Removed, Wrote, Copied, Here, Printed, Said, Listed}
 
 -- what was appended is what came since
 pub since_append : (old part : List Event) → since old (old ++ part) ≡ part
@@ -63,6 +63,9 @@ kind_is (Made Build path) = inl (refl, refl, (Makes Build path, refl))
 kind_is (Made ForProbes path) = inr (inl (refl, refl, refl))
 kind_is (Removed path how) = inl (refl, refl, (Removes path, refl))
 kind_is (Wrote path bytes) = inl (refl, refl, (Writes path bytes, refl))
+kind_is (Copied from to) = inl (refl, refl, (Copies from to, refl))
+kind_is (Here path) = inl (refl, refl, (Finds path, refl))
+kind_is (Said message) = inl (refl, refl, (Says message, refl))
 kind_is (Printed kind bytes) = inl (refl, refl, (Prints kind bytes, refl))
 kind_is (Listed vars) = inl (refl, refl, (Lists, refl))
 kind_is event = inr (inl (refl, refl, refl))

@@ -10,7 +10,7 @@ use Rattle.cc_host.specs.CommandLine.{command_line}
 use Rattle.cc_host.specs.Part.{since}
 use Rattle.cc_host.specs.Status.{is_success}
 use Rattle.cc_host.specs.declared.event.Event.{Event}
-use Rattle.cc_host.specs.declared.event.Event.TheVariants.{Started, Ended, Abandoned, Heard, Unread, Turn, Answered, Reused, Unasked, Drawn, Opened, Taken, Dropped, Ran, Missing, Made, Removed, Wrote, Printed, Listed, Fault}
+use Rattle.cc_host.specs.declared.event.Event.TheVariants.{Started, Ended, Abandoned, Heard, Unread, Turn, Answered, Reused, Unasked, Drawn, Opened, Taken, Dropped, Ran, Missing, Made, Removed, Wrote, Copied, Here, Said, Printed, Listed, Fault}
 use Rattle.cc_host.specs.declared.event.LineKind.TheVariants.{Warning}
 use Rattle.cc_host.specs.declared.event.Status.{Status}
 use Rattle.cc_run.specs.Children.{Kept, run_of, seat, AreBelow, nothing_kept}
@@ -106,6 +106,9 @@ debug_due shows warns cmds k (Missing role cmd) h = refl
 debug_due shows warns cmds k (Made scope p) h = refl
 debug_due shows warns cmds k (Removed p how) h = refl
 debug_due shows warns cmds k (Wrote p bytes) h = refl
+debug_due shows warns cmds k (Copied a_file to_file) h = refl
+debug_due shows warns cmds k (Here here) h = refl
+debug_due shows warns cmds k (Said message) h = refl
 debug_due shows warns cmds k (Printed kind b) h = refl
 debug_due shows warns cmds k (Listed vars) h = refl
 debug_due shows warns cmds k (Fault call why) h = refl
@@ -151,6 +154,9 @@ counted shows r (Missing role cmd) on h = omega arith
 counted shows r (Made scope p) on h = omega arith
 counted shows r (Removed p how) on h = omega arith
 counted shows r (Wrote p bytes) on h = omega arith
+counted shows r (Copied a_file to_file) on h = omega arith
+counted shows r (Here here) on h = omega arith
+counted shows r (Said message) on h = omega arith
 counted shows r (Printed kind b) on h = omega arith
 counted shows r (Listed vars) on h = omega arith
 counted shows r (Fault call why) on h = omega arith

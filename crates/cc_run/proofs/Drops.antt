@@ -9,7 +9,7 @@ use Rattle.cc_host.specs.Part.{since}
 use Rattle.cc_host.proofs.Parts.{since_append}
 use Rattle.cc_host.specs.declared.event.Status.{Status}
 use Rattle.cc_host.specs.declared.event.Event.{Event}
-use Rattle.cc_host.specs.declared.event.Event.TheVariants.{Started, Ended, Abandoned, Heard, Unread, Turn, Answered, Reused, Unasked, Drawn, Opened, Taken, Dropped, Ran, Missing, Made, Removed, Wrote, Printed, Listed, Fault}
+use Rattle.cc_host.specs.declared.event.Event.TheVariants.{Started, Ended, Abandoned, Heard, Unread, Turn, Answered, Reused, Unasked, Drawn, Opened, Taken, Dropped, Ran, Missing, Made, Removed, Wrote, Copied, Here, Said, Printed, Listed, Fault}
 use Rattle.cc_run.specs.Children.{seat}
 use Rattle.cc_run.specs.declared.running.Child.{Child}
 use Rattle.cc_run.specs.Planned.{Asked}
@@ -86,6 +86,9 @@ in_order_after r ls (Missing role cmd) h = h
 in_order_after r ls (Made scope p) h = h
 in_order_after r ls (Removed p how) h = h
 in_order_after r ls (Wrote p bytes) h = h
+in_order_after r ls (Copied a_file to_file) h = h
+in_order_after r ls (Here here) h = h
+in_order_after r ls (Said message) h = h
 in_order_after r ls (Printed kind b) h = h
 in_order_after r ls (Listed vars) h = h
 in_order_after r ls (Fault call why) h = h

@@ -12,7 +12,7 @@ use Rattle.cc_host.specs.Event.{reported, heard, unread, ended}
 use Rattle.cc_host.specs.Part.{since}
 use Rattle.cc_host.proofs.Parts.{since_append, since_since}
 use Rattle.cc_host.specs.declared.event.Event.{Event}
-use Rattle.cc_host.specs.declared.event.Event.TheVariants.{Started, Ended, Abandoned, Heard, Unread, Turn, Answered, Reused, Unasked, Drawn, Opened, Taken, Dropped, Ran, Missing, Made, Removed, Wrote, Printed, Listed, Fault}
+use Rattle.cc_host.specs.declared.event.Event.TheVariants.{Started, Ended, Abandoned, Heard, Unread, Turn, Answered, Reused, Unasked, Drawn, Opened, Taken, Dropped, Ran, Missing, Made, Removed, Wrote, Copied, Here, Said, Printed, Listed, Fault}
 use Rattle.cc_host.specs.declared.event.News.{News}
 use Rattle.cc_host.specs.declared.event.Pipes.{Pipes}
 use Rattle.cc_host.specs.declared.event.Role.{Role}
@@ -142,6 +142,9 @@ module _ (id : ℕ) where
   skips (Made scope p) ne = record { start = refl; unread = refl; lives = λ _. refl; life = λ _. refl }
   skips (Removed p how) ne = record { start = refl; unread = refl; lives = λ _. refl; life = λ _. refl }
   skips (Wrote p bytes) ne = record { start = refl; unread = refl; lives = λ _. refl; life = λ _. refl }
+  skips (Copied a_file to_file) ne = record { start = refl; unread = refl; lives = λ _. refl; life = λ _. refl }
+  skips (Here here) ne = record { start = refl; unread = refl; lives = λ _. refl; life = λ _. refl }
+  skips (Said message) ne = record { start = refl; unread = refl; lives = λ _. refl; life = λ _. refl }
   skips (Printed kind b) ne = record { start = refl; unread = refl; lives = λ _. refl; life = λ _. refl }
   skips (Listed vars) ne = record { start = refl; unread = refl; lives = λ _. refl; life = λ _. refl }
   skips (Fault call why) ne = record { start = refl; unread = refl; lives = λ _. refl; life = λ _. refl }
@@ -166,6 +169,9 @@ module _ (id : ℕ) where
   own_by P a b c d f (Made scope p) is = absurd (cc)
   own_by P a b c d f (Removed p how) is = absurd (cc)
   own_by P a b c d f (Wrote p bytes) is = absurd (cc)
+  own_by P a b c d f (Copied a_file to_file) is = absurd (cc)
+  own_by P a b c d f (Here here) is = absurd (cc)
+  own_by P a b c d f (Said message) is = absurd (cc)
   own_by P a b c d f (Printed kind x) is = absurd (cc)
   own_by P a b c d f (Listed vars) is = absurd (cc)
   own_by P a b c d f (Fault call why) is = absurd (cc)

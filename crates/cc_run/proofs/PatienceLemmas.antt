@@ -14,7 +14,7 @@ use Rattle.cc_host.specs.declared.event.Pipes.{Pipes}
 use Rattle.cc_host.specs.declared.event.Status.{Status}
 use Rattle.cc_host.specs.declared.event.HostCall.TheVariants.{Turn as Turning}
 use Rattle.cc_host.specs.declared.event.Event.{Event}
-use Rattle.cc_host.specs.declared.event.Event.TheVariants.{Started, Ended, Abandoned, Heard, Unread, Turn, Answered, Reused, Unasked, Drawn, Opened, Taken, Dropped, Ran, Missing, Made, Removed, Wrote, Printed, Listed, Fault}
+use Rattle.cc_host.specs.declared.event.Event.TheVariants.{Started, Ended, Abandoned, Heard, Unread, Turn, Answered, Reused, Unasked, Drawn, Opened, Taken, Dropped, Ran, Missing, Made, Removed, Wrote, Copied, Here, Said, Printed, Listed, Fault}
 use Rattle.cc_run.specs.Children.{Kept, nothing_kept, run_of}
 use Rattle.cc_run.specs.Outcome.{IsOpen, IsRunError, IsUnturned}
 use Rattle.cc_run.specs.Paid.{starts, starts_of}
@@ -60,6 +60,9 @@ by_kind P a b c d q (Missing role cmd) = q (Missing role cmd) (record { lives = 
 by_kind P a b c d q (Made scope p) = q (Made scope p) (record { lives = λ _. refl; run = λ _. refl; turn = refl; start = refl })
 by_kind P a b c d q (Removed p how) = q (Removed p how) (record { lives = λ _. refl; run = λ _. refl; turn = refl; start = refl })
 by_kind P a b c d q (Wrote p bytes) = q (Wrote p bytes) (record { lives = λ _. refl; run = λ _. refl; turn = refl; start = refl })
+by_kind P a b c d q (Copied a_file to_file) = q (Copied a_file to_file) (record { lives = λ _. refl; run = λ _. refl; turn = refl; start = refl })
+by_kind P a b c d q (Here here) = q (Here here) (record { lives = λ _. refl; run = λ _. refl; turn = refl; start = refl })
+by_kind P a b c d q (Said message) = q (Said message) (record { lives = λ _. refl; run = λ _. refl; turn = refl; start = refl })
 by_kind P a b c d q (Printed kind x) = q (Printed kind x) (record { lives = λ _. refl; run = λ _. refl; turn = refl; start = refl })
 by_kind P a b c d q (Listed vars) = q (Listed vars) (record { lives = λ _. refl; run = λ _. refl; turn = refl; start = refl })
 by_kind P a b c d q (Fault call why) = q (Fault call why) (record { lives = λ _. refl; run = λ _. refl; turn = refl; start = refl })

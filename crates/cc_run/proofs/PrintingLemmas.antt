@@ -9,7 +9,7 @@ use Rattle.cc_host.specs.Event.{reported, heard, unread, ended}
 use Rattle.cc_host.specs.Part.{since}
 use Rattle.cc_host.proofs.Parts.{since_append, since_since}
 use Rattle.cc_host.specs.declared.event.Event.{Event}
-use Rattle.cc_host.specs.declared.event.Event.TheVariants.{Started, Ended, Abandoned, Heard, Unread, Turn, Answered, Reused, Unasked, Drawn, Opened, Taken, Dropped, Ran, Missing, Made, Removed, Wrote, Printed, Listed, Fault}
+use Rattle.cc_host.specs.declared.event.Event.TheVariants.{Started, Ended, Abandoned, Heard, Unread, Turn, Answered, Reused, Unasked, Drawn, Opened, Taken, Dropped, Ran, Missing, Made, Removed, Wrote, Copied, Here, Said, Printed, Listed, Fault}
 use Rattle.cc_host.specs.declared.event.News.{News}
 use Rattle.cc_host.specs.declared.event.Status.{Status}
 use Rattle.cc_host.specs.declared.event.HostCall.TheVariants.{Start}
@@ -70,6 +70,9 @@ kept_run_after k (Missing role cmd) = refl
 kept_run_after k (Made scope p) = refl
 kept_run_after k (Removed p how) = refl
 kept_run_after k (Wrote p bytes) = refl
+kept_run_after k (Copied a_file to_file) = refl
+kept_run_after k (Here here) = refl
+kept_run_after k (Said message) = refl
 kept_run_after k (Printed kind b) = refl
 kept_run_after k (Listed vars) = refl
 kept_run_after k (Fault call why) = refl

@@ -7,7 +7,7 @@ use Rattle.std.proofs.lemmas.List.Elements.{filter-append}
 use Rattle.cc_text.specs.Words.{when}
 use Rattle.cc_host.specs.Command.{CommandSeen}
 use Rattle.cc_host.specs.declared.event.Event.{Event}
-use Rattle.cc_host.specs.declared.event.Event.TheVariants.{Started, Ended, Abandoned, Heard, Unread, Turn, Answered, Reused, Unasked, Drawn, Opened, Taken, Dropped, Ran, Missing, Made, Removed, Wrote, Printed, Listed, Fault}
+use Rattle.cc_host.specs.declared.event.Event.TheVariants.{Started, Ended, Abandoned, Heard, Unread, Turn, Answered, Reused, Unasked, Drawn, Opened, Taken, Dropped, Ran, Missing, Made, Removed, Wrote, Copied, Here, Said, Printed, Listed, Fault}
 use Rattle.cc_run.specs.Children.{Kept, run_of, seat, AreBelow}
 use Rattle.cc_run.specs.Part.{started}
 use Rattle.cc_run.specs.Printing.{printed, kept_after, due, due_from, due_next, lines_along, IsPrinted}
@@ -64,6 +64,9 @@ begun_after k (Missing role cmd) es = refl
 begun_after k (Made scope p) es = refl
 begun_after k (Removed p how) es = refl
 begun_after k (Wrote p bytes) es = refl
+begun_after k (Copied a_file to_file) es = refl
+begun_after k (Here here) es = refl
+begun_after k (Said message) es = refl
 begun_after k (Printed kind b) es = refl
 begun_after k (Listed vars) es = refl
 begun_after k (Fault call why) es = refl
@@ -88,6 +91,9 @@ below_after n k (Missing role cmd) es h lt = h
 below_after n k (Made scope p) es h lt = h
 below_after n k (Removed p how) es h lt = h
 below_after n k (Wrote p bytes) es h lt = h
+below_after n k (Copied a_file to_file) es h lt = h
+below_after n k (Here here) es h lt = h
+below_after n k (Said message) es h lt = h
 below_after n k (Printed kind b) es h lt = h
 below_after n k (Listed vars) es h lt = h
 below_after n k (Fault call why) es h lt = h

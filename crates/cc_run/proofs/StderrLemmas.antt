@@ -10,7 +10,7 @@ use Rattle.cc_host.specs.Children.{started_ids}
 use Rattle.cc_host.specs.Command.{CommandSeen}
 use Rattle.cc_host.specs.Status.{is_success}
 use Rattle.cc_host.specs.declared.event.Event.{Event}
-use Rattle.cc_host.specs.declared.event.Event.TheVariants.{Started, Ended, Abandoned, Heard, Unread, Turn, Answered, Reused, Unasked, Drawn, Opened, Taken, Dropped as DroppedFiles, Ran, Missing, Made, Removed, Wrote, Printed, Listed, Fault}
+use Rattle.cc_host.specs.declared.event.Event.TheVariants.{Started, Ended, Abandoned, Heard, Unread, Turn, Answered, Reused, Unasked, Drawn, Opened, Taken, Dropped as DroppedFiles, Ran, Missing, Made, Removed, Wrote, Copied, Here, Said, Printed, Listed, Fault}
 use Rattle.cc_host.specs.declared.event.Pipes.{Pipes}
 use Rattle.cc_host.specs.declared.event.Role.{Role}
 use Rattle.cc_host.specs.declared.event.Status.{Status}
@@ -184,6 +184,9 @@ module _ (id : ℕ) where
   other_event shows warns cmds k (Made scope p) ne = (refl, refl)
   other_event shows warns cmds k (Removed p how) ne = (refl, refl)
   other_event shows warns cmds k (Wrote p bytes) ne = (refl, refl)
+  other_event shows warns cmds k (Copied a_file to_file) ne = (refl, refl)
+  other_event shows warns cmds k (Here here) ne = (refl, refl)
+  other_event shows warns cmds k (Said message) ne = (refl, refl)
   other_event shows warns cmds k (Printed kind b) ne = (refl, refl)
   other_event shows warns cmds k (Listed vars) ne = (refl, refl)
   other_event shows warns cmds k (Fault call why) ne = (refl, refl)
@@ -227,6 +230,9 @@ module _ (shows : Shows) (warns : Bool) (cmds : List Planned) (id : ℕ) where
   reads_other (Made scope p) ne = (refl, refl)
   reads_other (Removed p how) ne = (refl, refl)
   reads_other (Wrote p bytes) ne = (refl, refl)
+  reads_other (Copied a_file to_file) ne = (refl, refl)
+  reads_other (Here here) ne = (refl, refl)
+  reads_other (Said message) ne = (refl, refl)
   reads_other (Printed kind b) ne = (refl, refl)
   reads_other (Listed vars) ne = (refl, refl)
   reads_other (Fault call why) ne = (refl, refl)

@@ -7,7 +7,7 @@ use Rattle.cc_text.specs.Words.{when}
 use Rattle.cc_host.specs.Command.{CommandSeen}
 use Rattle.cc_host.specs.Status.{is_success}
 use Rattle.cc_host.specs.declared.event.Event.{Event}
-use Rattle.cc_host.specs.declared.event.Event.TheVariants.{Started, Ended, Abandoned, Heard, Unread, Turn, Answered, Reused, Unasked, Drawn, Opened, Taken, Dropped, Ran, Missing, Made, Removed, Wrote, Printed, Listed, Fault}
+use Rattle.cc_host.specs.declared.event.Event.TheVariants.{Started, Ended, Abandoned, Heard, Unread, Turn, Answered, Reused, Unasked, Drawn, Opened, Taken, Dropped, Ran, Missing, Made, Removed, Wrote, Copied, Here, Said, Printed, Listed, Fault}
 use Rattle.cc_host.specs.declared.event.LineKind.TheVariants.{Warning}
 use Rattle.cc_host.specs.declared.event.Status.{Status}
 use Rattle.cc_run.specs.Children.{Kept, run_of, seat, AreBelow, nothing_kept}
@@ -108,6 +108,9 @@ warned_due shows warns cmds k (Missing role cmd) h = refl
 warned_due shows warns cmds k (Made scope p) h = refl
 warned_due shows warns cmds k (Removed p how) h = refl
 warned_due shows warns cmds k (Wrote p bytes) h = refl
+warned_due shows warns cmds k (Copied a_file to_file) h = refl
+warned_due shows warns cmds k (Here here) h = refl
+warned_due shows warns cmds k (Said message) h = refl
 warned_due shows warns cmds k (Printed kind b) h = refl
 warned_due shows warns cmds k (Listed vars) h = refl
 warned_due shows warns cmds k (Fault call why) h = refl

@@ -4,7 +4,7 @@ use Rattle.std.specs.List.{All}
 use Rattle.std.proofs.lemmas.Grind.{flat_map-append}
 use Rattle.std.proofs.Math.Seq.{drop-append_seam}
 use Rattle.cc_host.specs.declared.event.Event.{Event}
-use Rattle.cc_host.specs.declared.event.Event.TheVariants.{Answered, Reused, Unasked, Drawn, Opened, Taken, Dropped, Made, Fault, Ran, Missing, Removed, Wrote, Printed, Listed}
+use Rattle.cc_host.specs.declared.event.Event.TheVariants.{Answered, Reused, Unasked, Drawn, Opened, Taken, Dropped, Made, Fault, Ran, Missing, Removed, Wrote, Copied, Here, Said, Printed, Listed}
 use Rattle.cc_host.specs.declared.event.HostCall.{HostCall}
 use Rattle.cc_host.specs.declared.event.HostCall.TheVariants.{Probe, MakeDir, CreateProbe}
 use Rattle.cc_host.specs.declared.event.Scope.TheVariants.{Build, Probe as ForProbes}
@@ -204,6 +204,9 @@ asked_step (Ran role cmd pipes status out err) h = absurd (cc)
 asked_step (Made Build path) h = absurd (cc)
 asked_step (Removed path how) h = absurd (cc)
 asked_step (Wrote path bytes) h = absurd (cc)
+asked_step (Copied from to) h = absurd (cc)
+asked_step (Here path) h = absurd (cc)
+asked_step (Said message) h = absurd (cc)
 asked_step (Printed kind bytes) h = absurd (cc)
 asked_step (Listed vars) h = absurd (cc)
 asked_step event h = refl
