@@ -8,7 +8,9 @@ ghost use Rattle.cc_host.specs.Children.{IsFresh};
 ghost use Rattle.cc_host.specs.Event.{is_captured, ran};
 ghost use Rattle.cc_host.specs.Bench.{ends_as, Begins, called, with_file};
 
-use crate::{BenchHost, Boxed, Command, Event, HostCall, OutputKind, Pipes, Ran, Role, Status, script};
+use crate::{
+    BenchHost, Boxed, Command, Event, HostCall, OutputKind, Pipes, Ran, Role, Status, script,
+};
 use cc_text::{Bytes, Mem, Text};
 
 // Whether the standard output of a command is kept.

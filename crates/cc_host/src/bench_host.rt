@@ -17,8 +17,8 @@ ghost use Rattle.cc_host.specs.Bench.{KeepsBench, has_file, answer_to, current_f
 use crate::bench::take_word;
 use crate::script::has_word;
 use crate::{
-    BenchHost, Boxed, Command, Created, Event, Host, HostCall, HostError, Line, LineKind, Message, News,
-    Outcome, Pipes, ProbeFiles, Question, Ran, Removal, Role, Scope, Start, Verdict, World,
+    BenchHost, Boxed, Command, Created, Event, Host, HostCall, HostError, Line, LineKind, Message,
+    News, Outcome, Pipes, ProbeFiles, Question, Ran, Removal, Role, Scope, Start, Verdict, World,
 };
 use cc_text::{Mem, Text, Vars};
 

@@ -13,8 +13,8 @@ ghost use Rattle.cc_host.specs.Event.{started, turned, refused, ran, probed, fou
 ghost use Rattle.cc_host.specs.Probe.{IsOpen, IsTidy};
 
 use crate::{
-    Command, Created, Event, HostError, LineKind, Message, News, Outcome, Pipes, ProbeFiles, Question, Ran,
-    Removal, Role, Scope, Start, Verdict,
+    Command, Created, Event, HostError, LineKind, Message, News, Outcome, Pipes, ProbeFiles,
+    Question, Ran, Removal, Role, Scope, Start, Verdict,
 };
 use cc_text::{Mem, Text, Vars};
 

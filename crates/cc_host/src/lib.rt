@@ -34,8 +34,8 @@ pub use child_log::ChildLog;
 pub use command::Command;
 pub use compile_command::CompileCommand;
 pub use event::{
-    Created, Event, HostCall, HostError, LineKind, Message, News, OutputKind, Pipes, Ran, Removal, Role,
-    Scope, Start, Status, Why,
+    Created, Event, HostCall, HostError, LineKind, Message, News, OutputKind, Pipes, Ran, Removal,
+    Role, Scope, Start, Status, Why,
 };
 pub use host::{Host, World};
 pub use journal::Journal;

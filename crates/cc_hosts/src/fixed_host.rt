@@ -4,8 +4,8 @@ ghost use Rattle.cc_host.specs.Bench.{BenchSeen, fresh, with_script, with_missin
 ghost use Rattle.cc_host.specs.Script.{patience_of};
 
 use cc_host::{
-    BenchHost, Command, Created, Event, Host, HostCall, HostError, LineKind, Message, News, Outcome, Pipes,
-    ProbeFiles, Question, Ran, Removal, Role, Scope, Script, Start, Verdict, World,
+    BenchHost, Command, Created, Event, Host, HostCall, HostError, LineKind, Message, News,
+    Outcome, Pipes, ProbeFiles, Question, Ran, Removal, Role, Scope, Script, Start, Verdict, World,
 };
 use cc_text::{Mem, Text, Vars};
 use std::alloc::Global;

@@ -4,8 +4,8 @@ ghost use Rattle.cc_host.specs.Bench.{BenchSeen, fresh, IsPlain};
 ghost use Rattle.cc_hosts.specs.Plain.{IsPlainLog, IsPlainHost};
 
 use cc_host::{
-    Bench, BenchHost, Command, Created, Event, Host, HostError, LineKind, Message, News, Outcome, Pipes,
-    ProbeFiles, Question, Ran, Removal, Role, Scope, Start, Verdict,
+    Bench, BenchHost, Command, Created, Event, Host, HostError, LineKind, Message, News, Outcome,
+    Pipes, ProbeFiles, Question, Ran, Removal, Role, Scope, Start, Verdict,
 };
 use cc_text::{Mem, Text, Vars};
 use std::alloc::Global;

@@ -5,8 +5,8 @@ use crate::commands::{
 use crate::line::Line;
 use crate::names::{call_name, removal_name, role_name, why_name};
 use cc_host::{
-    Ask, Command, Event, HostCall, Line as LineBytes, LineKind, Message, Outcome, Pipes, ProbeFiles, Question, Removal, Role,
-    Scope, Status, Verdict, Why,
+    Ask, Command, Event, HostCall, Line as LineBytes, LineKind, Message, Outcome, Pipes,
+    ProbeFiles, Question, Removal, Role, Scope, Status, Verdict, Why,
 };
 use cc_text::{Bytes, Mem, Text, Vars};
 use std::alloc::Global;

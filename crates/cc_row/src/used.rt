@@ -121,7 +121,9 @@ fn answers_it(answer: &Answer, question: &Question) -> bool {
 fn uses_answer(event: &Event, answer: &Answer, later: &[Answer]) -> bool {
     match event {
         Event::Answered {
-            question, outcome, ..
+            question,
+            outcome,
+            ..
         } => {
             let question = question.get();
             !matches!(outcome.get(), Outcome::Unanswered)

@@ -3,8 +3,8 @@ ghost use Rattle.std.specs.Prelude.{Some};
 ghost use Rattle.cc_host.specs.Script.{patience_of};
 
 use cc_host::{
-    Bench, BenchHost, Command, Created, Event, Host, HostError, LineKind, Message, News, Outcome, Pipes,
-    ProbeFiles, Question, Ran, Removal, Role, Scope, Start, Verdict,
+    Bench, BenchHost, Command, Created, Event, Host, HostError, LineKind, Message, News, Outcome,
+    Pipes, ProbeFiles, Question, Ran, Removal, Role, Scope, Start, Verdict,
 };
 use cc_jobs::{JobFault, Jobs, OneCaller, OneSeat, Take};
 use cc_text::{Mem, Text, Vars};
