@@ -57,6 +57,7 @@ impl Surroundings {
         }
         host.set_vars(self.vars.try_clone()?);
         host.set_random(self.random.clone()?);
+        host.set_listens(self.listens);
         Ok(())
     }
 }

@@ -14,8 +14,8 @@ use std::collections::BTreeSet;
 use toml::{Table, Value};
 
 const KEYS: &[&str] = &[
-    "name", "words", "vars", "files", "random", "script", "missing", "answer", "fail", "tokens",
-    "turns", "status", "error", "word", "log", "has", "lacks", "once",
+    "name", "words", "vars", "files", "random", "listens", "script", "missing", "answer", "fail",
+    "tokens", "turns", "status", "error", "word", "log", "has", "lacks", "once",
 ];
 
 // The name of the row of this number, from 1.

@@ -36,12 +36,13 @@ pub struct Knobs {
     pub failures: Vec<Failure>,
 }
 
-/// What is there before the run: variables, files, and the words that are drawn.
+/// What is there before the run: variables, files, the words that are drawn, and whether the host listens.
 #[derive(Drop)]
 pub struct Surroundings {
     pub vars: Vars,
     pub files: Vec<String>,
     pub random: Vec<u64>,
+    pub listens: bool,
 }
 
 /// What becomes of commands: those that are scripted, and the programs that are missing.

@@ -1,6 +1,6 @@
 // A log as text: of each event its kind and what it is about, a line an event. In which order probe files are dropped, no one promises.
 use crate::same::same;
-use cc_host::{Ask, Event, Host, Outcome, Question, Removal, World};
+use cc_host::{Ask, Event, Host, Message, Outcome, Question, Removal, World};
 use cc_text::{Mem, Text};
 use std::alloc::{AllocGlobal, Global};
 use std::process::Abort;
@@ -39,7 +39,7 @@ fn kind_of(event: &Event) -> &'static str {
         Event::Copied { .. } => "copies to ",
         Event::Here { .. } => "is in ",
         Event::Printed { .. } => "prints ",
-        Event::Said { .. } => "says",
+        Event::Said { .. } => "says ",
         Event::Listed { .. } => "lists",
         Event::Fault { .. } => "faults",
     }
@@ -60,6 +60,15 @@ fn asked(question: &Question) -> &str {
     }
 }
 
+fn said(message: &Message) -> &str {
+    match message {
+        Message::GeneralWarning(text) => text.as_str(),
+        Message::StderrForwarding(text, _) => text.as_str(),
+        Message::CommandFailed(_, text, _) => text.as_str(),
+        Message::Compiles(text, _) => text.as_str(),
+    }
+}
+
 fn subject_of(event: &Event) -> &str {
     match event {
         Event::Started { cmd, .. } => cmd.get_program(),
@@ -76,6 +85,7 @@ fn subject_of(event: &Event) -> &str {
         Event::Copied { to, .. } => to.as_str(),
         Event::Here { path } => path.as_str(),
         Event::Printed { bytes, .. } => str::from_utf8(bytes.as_slice()).unwrap_or("?").trim_end(),
+        Event::Said { message } => said(message.get()),
         _ => "",
     }
 }

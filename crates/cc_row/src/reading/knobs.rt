@@ -44,6 +44,7 @@ fn read_surroundings(fields: Fields<'_, '_>) -> Read<Surroundings> {
         vars: read_vars(fields)?,
         files: fields.texts("files")?,
         random: read_random(fields)?,
+        listens: fields.is_on("listens")?,
     })
 }
 
