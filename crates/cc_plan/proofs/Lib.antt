@@ -10,6 +10,7 @@ pub mod FindLemmas
 pub mod LibtoolLaws
 pub mod LineLemmas
 pub mod OwnLemmas
+pub mod PlacesLemmas
 pub mod QuestionLemmas
 pub mod ResultLemmas
 pub mod SourceLaws

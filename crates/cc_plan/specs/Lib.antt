@@ -20,6 +20,7 @@ pub mod Libtool
 pub mod Link
 pub mod Names
 pub mod Object
+pub mod Places
 pub mod Plan
 pub mod Planned
 pub mod Prefix

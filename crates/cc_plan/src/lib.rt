@@ -30,6 +30,7 @@ mod link;
 mod link_warning;
 mod names;
 mod object;
+mod places;
 mod plan;
 mod prefix;
 mod printing;

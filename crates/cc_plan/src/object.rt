@@ -6,6 +6,7 @@ ghost use Rattle.cc_env.specs.Snapshot.{last_value};
 ghost use Rattle.cc_plan.specs.Object.{after_text, after_root, placed, ended, hashed, object_name as name_of, object_path as path_of, objects_of};
 ghost use Rattle.cc_plan.specs.Refusal.{objects_refusal, AllowedBy, RefusedBy};
 
+use crate::places::Places;
 use crate::{ArgumentCause, PlanError};
 use cc_env::EnvSnapshot;
 use cc_text::{
@@ -13,7 +14,6 @@ use cc_text::{
     strip_prefix, with_extension,
 };
 use std::alloc::Global;
-use std::collections::BTreeMap;
 
 /// A source and its object.
 #[derive(Drop, Debug)]
@@ -166,7 +166,7 @@ pub fn objects_from_files(
 {
     let roots = roots_of(env, source_root);
     let mut objects = Vec::new(alloc);
-    let mut places = BTreeMap::new(alloc);
+    let mut places = Places::new(alloc);
     for (place, src) in files.as_slice().iter().enumerate() {
         let src = src.as_str();
         let place = place as u64;
@@ -174,10 +174,9 @@ pub fn objects_from_files(
             return Err(PlanError::Argument(ArgumentCause::NoFileName(place)));
         }
         let dst = object_in(alloc, &roots, dst, src)?;
-        if let Some(earlier) = places.get(dst.as_str()) {
-            return Err(PlanError::Argument(ArgumentCause::SameObject(*earlier, place)));
+        if let Some(earlier) = places.put(alloc, dst.as_str(), place)? {
+            return Err(PlanError::Argument(ArgumentCause::SameObject(earlier, place)));
         }
-        places.insert(String::from_str(alloc, dst.as_str())?, place)?;
         objects.push(Object {
             src: Text::of(alloc, src)?,
             dst,
