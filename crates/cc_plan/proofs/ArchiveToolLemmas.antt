@@ -1,5 +1,5 @@
 -- How a tool of archives is found: which questions are asked, and what is refused.
-use Rattle.std.proofs.Common.{◌≡◌, ◌⊎◌, inl, inr, ℕ, List, Option, Some, None, refl, sym, ap, ◌∙◌}
+use Rattle.std.proofs.Common.{◌≡◌, ◌⊎◌, inl, inr, ℕ, true, List, Option, Some, None, refl, sym, ap, ◌∙◌}
 use Rattle.cc_env.specs.Env.{EnvSeen}
 use Rattle.cc_env.specs.Snapshot.{child_of}
 use Rattle.cc_host.specs.Question.{Look, Answer, Settles, Holds}
@@ -8,7 +8,7 @@ use Rattle.cc_tool.proofs.SettleLemmas.{settles_so}
 use Rattle.cc_plan.specs.ArchiveTool.{llvm_name, search_question, version_question, plain_name, gcc_name, set_program, variable_tool}
 use Rattle.cc_plan.specs.Choice.{choice_of, cross_prefix}
 use Rattle.cc_plan.specs.Given.{target_of}
-use Rattle.cc_plan.specs.Questions.{IsForAndroid, IsForWasm, ToolAsks, ArchiveToolAsks, ArchiverAsks, RanlibAsks}
+use Rattle.cc_plan.specs.Questions.{IsForAndroid, IsForWasm, ToolAsks, ArchiveToolAsks, ArchiverAsks, RanlibAsks, NameAsks}
 use Rattle.cc_plan.specs.Refusal.{target_refusal, qnx_arch_refusal, found_refusal, known_refusal, choice_refusal, look_up_refusal, archive_tool_refusal}
 use Rattle.cc_plan.specs.Target.{target_info}
 use Rattle.cc_plan.specs.declared.archive_tool.ArchiveTool.{ArchiveTool}
@@ -17,6 +17,7 @@ use Rattle.cc_plan.specs.declared.choice.Choice.{Choice}
 use Rattle.cc_plan.specs.declared.error.PlanError.{PlanError}
 use Rattle.cc_plan.specs.declared.error.PlanError.TheVariants.{NoMemory as WantsMemory}
 use Rattle.cc_plan.specs.declared.settings.BuildConfig.{BuildConfig}
+use Rattle.cc_plan.specs.declared.variables.Reads.{Reads}
 
 -- what finds the archiver is what its plan asks
 pub archiver_asks : (set : BuildConfig) (env : EnvSeen) (look : Look) (q : Question) → ArchiveToolAsks Archiver set env look q → ArchiverAsks set env look q
@@ -27,6 +28,20 @@ archiver_asks set env look q h = h
 pub ranlib_asks : (set : BuildConfig) (env : EnvSeen) (look : Look) (q : Question) → ArchiveToolAsks Ranlib set env look q → RanlibAsks set env look q
 unfolding RanlibAsks
 ranlib_asks set env look q h = h
+
+-- names of variables are planned by what finds the compiler, and by what finds the tools of archives that the call plans
+module _ (reads : Reads) (set : BuildConfig) (env : EnvSeen) where
+  pub tool_for_names : (look : Look) (q : Question) → ToolAsks set env look q → NameAsks reads set env look q
+  unfolding NameAsks
+  tool_for_names look q h = inl h
+
+  pub archiver_for_names : reads.archiver ≡ true → (look : Look) (q : Question) → ArchiveToolAsks Archiver set env look q → NameAsks reads set env look q
+  unfolding NameAsks
+  archiver_for_names plans look q h = inr (inl (plans, archiver_asks set env look q h))
+
+  pub ranlib_for_names : reads.ranlib ≡ true → (look : Look) (q : Question) → ArchiveToolAsks Ranlib set env look q → NameAsks reads set env look q
+  unfolding NameAsks
+  ranlib_for_names plans look q h = inr (inr (plans, ranlib_asks set env look q h))
 
 module _ (tool : ArchiveTool) (set : BuildConfig) (env : EnvSeen) where
   -- ---- questions

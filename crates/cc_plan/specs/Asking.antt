@@ -18,7 +18,7 @@ use Rattle.cc_tool.specs.Own.{AnswersAmong}
 use Rattle.cc_plan.specs.Choice.{choice_of, cross_prefix}
 use Rattle.cc_plan.specs.Link.{printed_line}
 use Rattle.cc_plan.specs.Plan.{prints}
-use Rattle.cc_plan.specs.Questions.{ToolAsks, PlanAsks, ArchiveToolAsks, ArchiverAsks, RanlibAsks, LinkAsks, SupportAsks}
+use Rattle.cc_plan.specs.Questions.{ToolAsks, PlanAsks, ArchiveToolAsks, ArchiverAsks, RanlibAsks, NameAsks, LinkAsks, SupportAsks}
 use Rattle.cc_plan.specs.declared.archive_tool.ArchiveTool.{ArchiveTool}
 use Rattle.cc_plan.specs.declared.choice.Choice.{Choice}
 use Rattle.cc_plan.specs.declared.compilation.Inputs.{Inputs}
@@ -26,6 +26,7 @@ use Rattle.cc_plan.specs.declared.error.PlanError.{PlanError}
 use Rattle.cc_plan.specs.declared.error.PlanError.TheVariants.{Host, NoMemory}
 use Rattle.cc_plan.specs.declared.settings.BuildConfig.{BuildConfig}
 use Rattle.cc_plan.specs.declared.sight.Sight.{Sight}
+use Rattle.cc_plan.specs.declared.variables.Reads.{Reads}
 
 -- A call asks, and does nothing else: its host, its answers and its folder are those that it was lent, log and answers went on by its questions,
 -- whose probe files are in the folder, and the host is as patient as before. Whichever verdicts agree with its answers, each question is one that is
@@ -53,6 +54,10 @@ AsksForArchiver steady world log patience set env old new = OnlyAsks steady worl
 -- a call asks what finds the tool that writes an archive's index
 abbrev pub AsksForRanlib : {W H : Type 0} → {ghosts : Ghosts W} → Bool → (Question → Outcome) → (H → List Event) → (H → Option ℕ) → BuildConfig → EnvSeen → Sight W H ghosts → Sight W H ghosts → Type 0
 AsksForRanlib steady world log patience set env old new = OnlyAsks steady world log patience (RanlibAsks set env) old new
+
+-- a call asks what its names of variables are planned by
+abbrev pub AsksForNames : {W H : Type 0} → {ghosts : Ghosts W} → Bool → (Question → Outcome) → (H → List Event) → (H → Option ℕ) → Reads → BuildConfig → EnvSeen → Sight W H ghosts → Sight W H ghosts → Type 0
+AsksForNames steady world log patience reads set env old new = OnlyAsks steady world log patience (NameAsks reads set env) old new
 
 -- a call asks what finds either of the two
 abbrev pub AsksForEither : {W H : Type 0} → {ghosts : Ghosts W} → Bool → (Question → Outcome) → (H → List Event) → (H → Option ℕ) → ArchiveTool → BuildConfig → EnvSeen → Sight W H ghosts → Sight W H ghosts → Type 0
@@ -88,6 +93,10 @@ AsksBy steady world log patience inputs old new = AsksFor steady world log patie
 -- a call asks for these inputs what finds a tool of archives
 abbrev pub AsksForTool : {W H : Type 0} → {ghosts : Ghosts W} → Bool → (Question → Outcome) → (H → List Event) → (H → Option ℕ) → ArchiveTool → Inputs → Sight W H ghosts → Sight W H ghosts → Type 0
 AsksForTool steady world log patience tool inputs old new = AsksForEither steady world log patience tool inputs.set.now inputs.env.now old new
+
+-- a call asks for these inputs what its names of variables are planned by
+abbrev pub AsksForNamesBy : {W H : Type 0} → {ghosts : Ghosts W} → Bool → (Question → Outcome) → (H → List Event) → (H → Option ℕ) → Reads → Inputs → Sight W H ghosts → Sight W H ghosts → Type 0
+AsksForNamesBy steady world log patience reads inputs old new = AsksForNames steady world log patience reads inputs.set.now inputs.env.now old new
 
 -- a call asks this question alone
 abbrev pub AsksThis : {W H : Type 0} → {ghosts : Ghosts W} → Bool → (Question → Outcome) → (H → List Event) → (H → Option ℕ) → Question → Sight W H ghosts → Sight W H ghosts → Type 0

@@ -22,6 +22,7 @@ use Rattle.cc_plan.specs.declared.archive_tool.ArchiveTool.{ArchiveTool}
 use Rattle.cc_plan.specs.declared.archive_tool.ArchiveTool.TheVariants.{Archiver, Ranlib}
 use Rattle.cc_plan.specs.declared.choice.Choice.{Choice}
 use Rattle.cc_plan.specs.declared.settings.BuildConfig.{BuildConfig}
+use Rattle.cc_plan.specs.declared.variables.Reads.{Reads}
 
 -- whether a file is there: it runs no program
 abbrev pub IsForFile : Question → Type 0
@@ -97,6 +98,11 @@ ArchiverAsks set env look q = ArchiveToolAsks Archiver set env look q
 -- one that is asked to find the tool that writes an archive's index
 unfoldable pub RanlibAsks : BuildConfig → EnvSeen → Look → Question → Type 0
 RanlibAsks set env look q = ArchiveToolAsks Ranlib set env look q
+
+-- one that is asked to learn which variables a call reads: what finds the compiler, and what finds the tools of archives that the call plans
+unfoldable pub NameAsks : Reads → BuildConfig → EnvSeen → Look → Question → Type 0
+NameAsks reads set env look q =
+    ToolAsks set env look q ⊎ (((reads.archiver ≡ true) × ArchiverAsks set env look q) ⊎ ((reads.ranlib ≡ true) × RanlibAsks set env look q))
 
 -- one that is asked for the C++ library: one that the plan of the tool asks, or the one on its library
 unfoldable pub LibraryAsks : BuildConfig → EnvSeen → Look → Question → Type 0

@@ -20,12 +20,14 @@ use Rattle.cc_plan.specs.ArchiveTool.{tool_variable, set_program, system_name, w
 use Rattle.cc_plan.specs.Choice.{is_wasm, fixed_compiler}
 use Rattle.cc_plan.specs.Compiler.{compiler_of}
 use Rattle.cc_plan.specs.EnvTool.{env_tool}
+use Rattle.cc_plan.specs.FlagSupport.{found}
 use Rattle.cc_plan.specs.Given.{target_of, host_of, prefixed_value, variable_flags, flags_variable, has_no_defaults}
 use Rattle.cc_plan.specs.Languages.{compiler_variable}
 use Rattle.cc_plan.specs.Prefix.{is_cross}
 use Rattle.cc_plan.specs.Refusal.{links_cpp}
 use Rattle.cc_plan.specs.Search.{is_there}
 use Rattle.cc_plan.specs.Stdlib.{given_library, is_wasm_wasi}
+use Rattle.cc_plan.specs.Support.{flag_settings}
 use Rattle.cc_plan.specs.Target.{target_info}
 use Rattle.cc_plan.specs.declared.archive_tool.ArchiveTool.{ArchiveTool}
 use Rattle.cc_plan.specs.declared.archive_tool.ArchiveTool.TheVariants.{Archiver, Ranlib}
@@ -187,6 +189,14 @@ words_names set env target compiler =
 abbrev pub compiler_names : BuildConfig → EnvSeen → Look → List (List ℕ)
 compiler_names set env look = choice_names set env look ++ words_names set env (target_info set env) (compiler_of set env look)
 
+-- those that a question on a flag reads: its settings name the compiler that was found, and bring its words
+abbrev pub question_names : BuildConfig → EnvSeen → Compiler × Compiler → List (List ℕ)
+question_names set env compilers = words_names (flag_settings set compilers.0.choice.path []) env (target_info set env) compilers.1
+
+-- those by which a compiler is chosen, and asked whether it takes a flag
+abbrev pub trial_names : BuildConfig → EnvSeen → Look → List (List ℕ)
+trial_names set env look = choice_names set env look ++ question_names set env (found set env look)
+
 -- ---- tools of archives
 
 -- the variable of its flags
@@ -270,21 +280,41 @@ run_names reads = when reads.disabled (codes "CC_FORCE_DISABLE" ∷ []) ++ when 
 abbrev pub planned_names : Reads → BuildConfig → EnvSeen → Look → List (List ℕ)
 planned_names reads set env look = if reads.compiler then compiler_names set env look else []
 
+-- those of a question on a flag, where one is asked
+abbrev pub tried_names : Reads → BuildConfig → EnvSeen → Look → List (List ℕ)
+tried_names reads set env look = if reads.flag then trial_names set env look else []
+
+-- both
+abbrev pub compiling_names : Reads → BuildConfig → EnvSeen → Look → List (List ℕ)
+compiling_names reads set env look = planned_names reads set env look ++ tried_names reads set env look
+
 -- those of the archiver, where one is planned
 abbrev pub archiver_names : Reads → BuildConfig → EnvSeen → Look → List (List ℕ)
 archiver_names reads set env look = if reads.archiver then archive_names Archiver set env look else []
+
+-- those of the tool that writes an archive's index, where one is planned
+abbrev pub ranlib_names : Reads → BuildConfig → EnvSeen → Look → List (List ℕ)
+ranlib_names reads set env look = if reads.ranlib then archive_names Ranlib set env look else []
+
+-- both
+abbrev pub archiving_names : Reads → BuildConfig → EnvSeen → Look → List (List ℕ)
+archiving_names reads set env look = archiver_names reads set env look ++ ranlib_names reads set env look
 
 -- those of link lines, where some are planned
 abbrev pub linking_names : Reads → BuildConfig → EnvSeen → List (List ℕ)
 linking_names reads set env = if reads.links then link_names set env else []
 
--- those of a run itself, of its compiler, of its archiver, and of its link lines
-abbrev pub joined_names : Reads → BuildConfig → EnvSeen → List (List ℕ) → List (List ℕ) → List (List ℕ)
-joined_names reads set env planned archiver = ((run_names reads ++ planned) ++ archiver) ++ linking_names reads set env
+-- those of a run itself, of the tools that it plans, and of its link lines
+abbrev pub joined_names : Reads → BuildConfig → EnvSeen → List (List ℕ) → List (List ℕ)
+joined_names reads set env tools = (run_names reads ++ tools) ++ linking_names reads set env
+
+-- those of the tools that a call plans
+abbrev pub tools_names : Reads → BuildConfig → EnvSeen → Look → List (List ℕ)
+tools_names reads set env look = compiling_names reads set env look ++ archiving_names reads set env look
 
 -- those that a call reads, by what it does
 abbrev pub read_names : Reads → BuildConfig → EnvSeen → Look → List (List ℕ)
-read_names reads set env look = joined_names reads set env (planned_names reads set env look) (archiver_names reads set env look)
+read_names reads set env look = joined_names reads set env (tools_names reads set env look)
 
 -- texts in the order of their bytes, each once
 abbrev pub in_order : List (List ℕ) → List (List ℕ)

@@ -90,9 +90,9 @@ struct Support {
     warnings: Words,
 }
 
-// The compiler, and the one that is asked: that of its path alone.
+/// The compiler, and the one that is asked: that of its path alone. Only want of memory refuses; what was asked until then is kept.
 #[tactic(auto, using(crate::proofs::QuestionLemmas::chosen_at))]
-fn found_compiler<W: World, H: Host<W>>(
+pub(crate) fn found_compiler<W: World, H: Host<W>>(
     rt: &impl Wait,
     inputs: &Inputs<'_>,
     sight: &mut Sight<'_, W, H>,

@@ -11,6 +11,7 @@ mod android;
 mod archive;
 mod archive_asks;
 mod archive_names;
+mod archive_reruns;
 mod archive_tool;
 mod batch;
 mod blanks;

@@ -1,25 +1,24 @@
 // The variables whose change asks for another run of the build script, which Cargo is told of by `cargo:rerun-if-env-changed` (Cargo's book,
 // "Build Scripts").
 ghost use Rattle.std.specs.Prelude.{◌≡◌, ◌++◌, IfOk, is_some};
-ghost use Rattle.cc_plan.specs.Asking.{AsksBy, AsksForTool, AsksForArchiver, SettledIn, SettledBy};
+ghost use Rattle.cc_plan.specs.Asking.{AsksBy, AsksForNames, AsksForNamesBy, SettledIn, SettledBy};
 ghost use Rattle.cc_plan.specs.Reruns as spec;
-ghost use Rattle.cc_plan.specs.declared.archive_tool.ArchiveTool.TheVariants.{Archiver};
 
-use crate::archive_names::{set_program, system_name, tool_variable};
-use crate::archive_tool::{ArchiveTool, wasm_tool};
-use crate::choice::is_wasm;
+use crate::archive_reruns::archive_names;
+use crate::archive_tool::ArchiveTool;
 use crate::compilation::Inputs;
-use crate::compiler::compiler_of;
+use crate::compiler::{Compiler, compiler_of};
 use crate::env_tool::env_tool;
+use crate::flag_verdict::found_compiler;
 use crate::given::prefixed_value;
 use crate::inherited::read_handed;
 use crate::languages::compiler_variable;
 use crate::prefix::is_cross;
 use crate::sight::is_there;
 use crate::stdlib::target_info;
+use crate::support::flag_settings;
 use crate::variables::{
-    Reads, flags_names, in_order, joined_names, push_if, push_target_names, tool_flags,
-    value_names, wants_reruns, words_names,
+    Reads, in_order, joined_names, push_target_names, value_names, wants_reruns, words_names,
 };
 use crate::{BuildConfig, Sight};
 use cc_env::BuildEnv;
@@ -64,8 +63,8 @@ fn parts_value<W: World, H: Host<W>>(
     }
 }
 
-// The names by which a tool of the environment is found.
-fn tool_names<W: World, H: Host<W>>(
+/// The names by which a tool of the environment is found.
+pub(crate) fn tool_names<W: World, H: Host<W>>(
     rt: &impl Wait,
     inputs: &Inputs<'_>,
     variable: &str,
@@ -83,8 +82,8 @@ fn tool_names<W: World, H: Host<W>>(
     Ok(names)
 }
 
-// The environment names such a tool.
-fn is_named<W: World, H: Host<W>>(
+/// The environment names such a tool.
+pub(crate) fn is_named<W: World, H: Host<W>>(
     rt: &impl Wait,
     inputs: &Inputs<'_>,
     variable: &str,
@@ -116,9 +115,9 @@ fn found_names<W: World, H: Host<W>>(
     Ok(names)
 }
 
-// Those by which the compiler is chosen.
+/// The names by which the compiler is chosen.
 #[tactic(auto, using(crate::proofs::AskingLemmas::only_none))]
-fn choice_names<W: World, H: Host<W>>(
+pub(crate) fn choice_names<W: World, H: Host<W>>(
     rt: &impl Wait,
     inputs: &Inputs<'_>,
     sight: &mut Sight<'_, W, H>,
@@ -154,142 +153,36 @@ fn compiler_names<W: World, H: Host<W>>(
     Ok(names)
 }
 
-// A prefix is sought for a tool of archives, where that of WebAssembly isn't found.
-fn seeks_prefix<W: World, H: Host<W>>(
-    rt: &impl Wait,
-    tool: ArchiveTool,
-    inputs: &Inputs<'_>,
-    sight: &mut Sight<'_, W, H>,
-) -> Mem<bool>
-    ensures asks { AsksForTool W.steady W.answer H.log H.patience tool inputs.now
-        sight.old sight.new }
-    ensures settles { SettledBy sight.new (spec.seeks_prefix tool) inputs.now result }
+// Those of a question on a flag: its settings name the compiler that was found, and bring its words.
+fn question_names(inputs: &Inputs<'_>, compilers: &(Compiler, Compiler)) -> Mem<Words>
+    ensures { IfOk result (λ names. names
+        ≡ spec.question_names inputs.now.set.now inputs.now.env.now compilers.now) }
 {
-    let found = wasm_tool(rt, tool, inputs, sight)?;
-    let system = system_name(inputs.alloc, tool, inputs.target)?;
-    let cross = is_cross(inputs.set, inputs.env);
-    Ok(found.is_none() && inputs.target.os != "android" && system.is_none() && cross)
+    let path = compilers.0.choice.path.as_str();
+    let settings = flag_settings(inputs.alloc, inputs.set, path, "")?;
+    let names = words_names(
+        inputs.alloc,
+        &settings,
+        inputs.env,
+        inputs.target,
+        &compilers.1,
+    )?;
+    Ok(names)
 }
 
-// For WebAssembly the compiler is chosen first.
-#[tactic(auto, using(crate::proofs::AskingLemmas::only_none))]
-fn wasm_names<W: World, H: Host<W>>(
+// Those by which a compiler is chosen, and asked whether it takes a flag.
+fn trial_names<W: World, H: Host<W>>(
     rt: &impl Wait,
     inputs: &Inputs<'_>,
     sight: &mut Sight<'_, W, H>,
 ) -> Mem<Words>
     ensures asks { AsksBy W.steady W.answer H.log H.patience inputs.now sight.old sight.new }
-    ensures settles { SettledBy sight.new spec.wasm_names inputs.now result }
+    ensures settles { SettledBy sight.new spec.trial_names inputs.now result }
 {
-    if is_wasm(inputs.target) {
-        choice_names(rt, inputs, sight)
-    } else {
-        Ok(Words::new(inputs.alloc))
-    }
-}
-
-fn wasm_or_prefix_names<W: World, H: Host<W>>(
-    rt: &impl Wait,
-    tool: ArchiveTool,
-    inputs: &Inputs<'_>,
-    sight: &mut Sight<'_, W, H>,
-) -> Mem<Words>
-    ensures asks { AsksForTool W.steady W.answer H.log H.patience tool inputs.now
-        sight.old sight.new }
-    ensures settles { SettledBy sight.new (spec.wasm_or_prefix_names tool) inputs.now result }
-{
-    let seeks = seeks_prefix(rt, tool, inputs, sight)?;
-    let mut names = wasm_names(rt, inputs, sight)?;
-    push_if(&mut names, seeks, "CROSS_COMPILE")?;
-    Ok(names)
-}
-
-// Emscripten has its own.
-#[tactic(auto, using(crate::proofs::AskingLemmas::only_none))]
-fn target_tool_names<W: World, H: Host<W>>(
-    rt: &impl Wait,
-    tool: ArchiveTool,
-    inputs: &Inputs<'_>,
-    sight: &mut Sight<'_, W, H>,
-) -> Mem<Words>
-    ensures asks { AsksForTool W.steady W.answer H.log H.patience tool inputs.now
-        sight.old sight.new }
-    ensures settles { SettledBy sight.new (spec.target_tool_names tool) inputs.now result }
-{
-    if inputs.target.os == "emscripten" {
-        Ok(Words::new(inputs.alloc))
-    } else {
-        wasm_or_prefix_names(rt, tool, inputs, sight)
-    }
-}
-
-// Unless the environment names it.
-fn own_tool_names<W: World, H: Host<W>>(
-    rt: &impl Wait,
-    tool: ArchiveTool,
-    inputs: &Inputs<'_>,
-    sight: &mut Sight<'_, W, H>,
-) -> Mem<Words>
-    ensures asks { AsksForTool W.steady W.answer H.log H.patience tool inputs.now
-        sight.old sight.new }
-    ensures settles { SettledBy sight.new (spec.own_tool_names tool) inputs.now result }
-{
-    let named = is_named(rt, inputs, tool_variable(tool), sight)?;
-    if named {
-        return Ok(Words::new(inputs.alloc));
-    }
-    let names = target_tool_names(rt, tool, inputs, sight)?;
-    Ok(names)
-}
-
-// Those that are read where the settings name no such tool.
-fn found_tool_names<W: World, H: Host<W>>(
-    rt: &impl Wait,
-    tool: ArchiveTool,
-    inputs: &Inputs<'_>,
-    sight: &mut Sight<'_, W, H>,
-) -> Mem<Words>
-    ensures asks { AsksForTool W.steady W.answer H.log H.patience tool inputs.now
-        sight.old sight.new }
-    ensures settles { SettledBy sight.new (spec.found_tool_names tool) inputs.now result }
-{
-    let own = own_tool_names(rt, tool, inputs, sight)?;
-    let mut names = tool_names(rt, inputs, tool_variable(tool), sight)?;
-    names.append(own)?;
-    Ok(names)
-}
-
-// Those by which a tool of archives is chosen.
-#[tactic(auto, using(crate::proofs::AskingLemmas::only_none))]
-fn tool_choice_names<W: World, H: Host<W>>(
-    rt: &impl Wait,
-    tool: ArchiveTool,
-    inputs: &Inputs<'_>,
-    sight: &mut Sight<'_, W, H>,
-) -> Mem<Words>
-    ensures asks { AsksForTool W.steady W.answer H.log H.patience tool inputs.now
-        sight.old sight.new }
-    ensures settles { SettledBy sight.new (spec.tool_choice_names tool) inputs.now result }
-{
-    match set_program(tool, inputs.set) {
-        Some(_) => Ok(Words::new(inputs.alloc)),
-        None => found_tool_names(rt, tool, inputs, sight),
-    }
-}
-
-// And those of its flags.
-fn archive_names<W: World, H: Host<W>>(
-    rt: &impl Wait,
-    tool: ArchiveTool,
-    inputs: &Inputs<'_>,
-    sight: &mut Sight<'_, W, H>,
-) -> Mem<Words>
-    ensures asks { AsksForTool W.steady W.answer H.log H.patience tool inputs.now
-        sight.old sight.new }
-    ensures settles { SettledBy sight.new (spec.archive_names tool) inputs.now result }
-{
-    let mut names = tool_choice_names(rt, tool, inputs, sight)?;
-    names.append(flags_names(inputs.alloc, inputs.set, inputs.env, tool_flags(tool))?)?;
+    let mut names = choice_names(rt, inputs, sight)?;
+    let compilers = found_compiler(rt, inputs, sight)?;
+    let more = question_names(inputs, &compilers)?;
+    names.append(more)?;
     Ok(names)
 }
 
@@ -311,6 +204,40 @@ fn planned_names<W: World, H: Host<W>>(
     }
 }
 
+// Those of a question on a flag, where one is asked.
+#[tactic(auto, using(crate::proofs::AskingLemmas::only_none))]
+fn tried_names<W: World, H: Host<W>>(
+    rt: &impl Wait,
+    reads: Reads,
+    inputs: &Inputs<'_>,
+    sight: &mut Sight<'_, W, H>,
+) -> Mem<Words>
+    ensures asks { AsksBy W.steady W.answer H.log H.patience inputs.now sight.old sight.new }
+    ensures settles { SettledBy sight.new (spec.tried_names reads) inputs.now result }
+{
+    if reads.flag {
+        trial_names(rt, inputs, sight)
+    } else {
+        Ok(Words::new(inputs.alloc))
+    }
+}
+
+// Both.
+fn compiling_names<W: World, H: Host<W>>(
+    rt: &impl Wait,
+    reads: Reads,
+    inputs: &Inputs<'_>,
+    sight: &mut Sight<'_, W, H>,
+) -> Mem<Words>
+    ensures asks { AsksBy W.steady W.answer H.log H.patience inputs.now sight.old sight.new }
+    ensures settles { SettledBy sight.new (spec.compiling_names reads) inputs.now result }
+{
+    let mut names = planned_names(rt, reads, inputs, sight)?;
+    let tried = tried_names(rt, reads, inputs, sight)?;
+    names.append(tried)?;
+    Ok(names)
+}
+
 // Those of the archiver, where one is planned.
 #[tactic(auto, using(crate::proofs::AskingLemmas::only_none))]
 fn archiver_names<W: World, H: Host<W>>(
@@ -319,15 +246,68 @@ fn archiver_names<W: World, H: Host<W>>(
     inputs: &Inputs<'_>,
     sight: &mut Sight<'_, W, H>,
 ) -> Mem<Words>
-    ensures asks { AsksForTool W.steady W.answer H.log H.patience Archiver inputs.now
+    ensures asks { AsksForNamesBy W.steady W.answer H.log H.patience reads inputs.now
         sight.old sight.new }
     ensures settles { SettledBy sight.new (spec.archiver_names reads) inputs.now result }
 {
-    if reads.archiver {
-        archive_names(rt, ArchiveTool::Archiver, inputs, sight)
-    } else {
-        Ok(Words::new(inputs.alloc))
+    if !reads.archiver {
+        return Ok(Words::new(inputs.alloc));
     }
+    let names = archive_names(rt, ArchiveTool::Archiver, inputs, sight)?;
+    Ok(names)
+}
+
+// Those of the tool that writes an archive's index, where one is planned.
+#[tactic(auto, using(crate::proofs::AskingLemmas::only_none))]
+fn ranlib_names<W: World, H: Host<W>>(
+    rt: &impl Wait,
+    reads: Reads,
+    inputs: &Inputs<'_>,
+    sight: &mut Sight<'_, W, H>,
+) -> Mem<Words>
+    ensures asks { AsksForNamesBy W.steady W.answer H.log H.patience reads inputs.now
+        sight.old sight.new }
+    ensures settles { SettledBy sight.new (spec.ranlib_names reads) inputs.now result }
+{
+    if !reads.ranlib {
+        return Ok(Words::new(inputs.alloc));
+    }
+    let names = archive_names(rt, ArchiveTool::Ranlib, inputs, sight)?;
+    Ok(names)
+}
+
+// Both.
+fn archiving_names<W: World, H: Host<W>>(
+    rt: &impl Wait,
+    reads: Reads,
+    inputs: &Inputs<'_>,
+    sight: &mut Sight<'_, W, H>,
+) -> Mem<Words>
+    ensures asks { AsksForNamesBy W.steady W.answer H.log H.patience reads inputs.now
+        sight.old sight.new }
+    ensures settles { SettledBy sight.new (spec.archiving_names reads) inputs.now result }
+{
+    let mut names = archiver_names(rt, reads, inputs, sight)?;
+    let ranlib = ranlib_names(rt, reads, inputs, sight)?;
+    names.append(ranlib)?;
+    Ok(names)
+}
+
+// Those of the tools that a call plans.
+fn tools_names<W: World, H: Host<W>>(
+    rt: &impl Wait,
+    reads: Reads,
+    inputs: &Inputs<'_>,
+    sight: &mut Sight<'_, W, H>,
+) -> Mem<Words>
+    ensures asks { AsksForNamesBy W.steady W.answer H.log H.patience reads inputs.now
+        sight.old sight.new }
+    ensures settles { SettledBy sight.new (spec.tools_names reads) inputs.now result }
+{
+    let mut names = compiling_names(rt, reads, inputs, sight)?;
+    let archiving = archiving_names(rt, reads, inputs, sight)?;
+    names.append(archiving)?;
+    Ok(names)
 }
 
 // Those that a call reads.
@@ -337,20 +317,12 @@ fn read_names<W: World, H: Host<W>>(
     inputs: &Inputs<'_>,
     sight: &mut Sight<'_, W, H>,
 ) -> Mem<Words>
-    ensures asks { AsksForTool W.steady W.answer H.log H.patience Archiver inputs.now
+    ensures asks { AsksForNamesBy W.steady W.answer H.log H.patience reads inputs.now
         sight.old sight.new }
     ensures settles { SettledBy sight.new (spec.read_names reads) inputs.now result }
 {
-    let planned = planned_names(rt, reads, inputs, sight)?;
-    let archiver = archiver_names(rt, reads, inputs, sight)?;
-    let names = joined_names(
-        inputs.alloc,
-        inputs.set,
-        inputs.env,
-        reads,
-        planned,
-        archiver,
-    )?;
+    let tools = tools_names(rt, reads, inputs, sight)?;
+    let names = joined_names(inputs.alloc, inputs.set, inputs.env, reads, tools)?;
     Ok(names)
 }
 
@@ -368,7 +340,7 @@ pub fn rerun_names<W: World, H: Host<W>>(
     env: &BuildEnv,
     sight: &mut Sight<'_, W, H>,
 ) -> Mem<Words>
-    ensures asks { AsksForArchiver W.steady W.answer H.log H.patience set.now env.now
+    ensures asks { AsksForNames W.steady W.answer H.log H.patience reads set.now env.now
         sight.old sight.new }
     ensures settles { SettledIn sight.new (spec.rerun_names reads set.now env.now) result }
 {

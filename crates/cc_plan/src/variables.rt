@@ -29,8 +29,12 @@ pub struct Reads {
     pub debug: bool,
     /// It plans a compiler.
     pub compiler: bool,
+    /// It asks a compiler whether it takes a flag.
+    pub flag: bool,
     /// It plans an archiver.
     pub archiver: bool,
+    /// It plans the tool that writes an archive's index.
+    pub ranlib: bool,
     /// It plans link lines.
     pub links: bool,
 }
@@ -478,21 +482,18 @@ fn run_names(alloc: Global, reads: Reads) -> Mem<Words>
     Ok(names)
 }
 
-/// Those that a call reads: those of a run itself, of its compiler, of its archiver, and of its link lines.
+/// Those that a call reads: those of a run itself, of the tools that it plans, and of its link lines.
 pub(crate) fn joined_names(
     alloc: Global,
     set: &BuildConfig,
     env: &BuildEnv,
     reads: Reads,
-    planned: Words,
-    archiver: Words,
+    tools: Words,
 ) -> Mem<Words>
-    ensures { IfOk result (λ names. names
-        ≡ spec.joined_names reads set.now env.now planned archiver) }
+    ensures { IfOk result (λ names. names ≡ spec.joined_names reads set.now env.now tools) }
 {
     let mut names = run_names(alloc, reads)?;
-    names.append(planned)?;
-    names.append(archiver)?;
+    names.append(tools)?;
     names.append(linking_names(alloc, set, env, reads)?)?;
     Ok(names)
 }

@@ -5,7 +5,7 @@ use Rattle.cc_tool.proofs.SettleLemmas.{settles_on, settles_two, holds_all}
 use Rattle.cc_plan.proofs.ArchiveToolLemmas.{tool_for_archive}
 use Rattle.cc_text.specs.Words.{when}
 use Rattle.cc_plan.specs.Reruns.{seeks_prefix}
-use Rattle.cc_plan.proofs.reruns.wasm_or_prefix_names.Goals as goal
+use Rattle.cc_plan.proofs.archive_reruns.wasm_or_prefix_names.Goals as goal
 
 pub returns-in_err-names-clause-asks : goal.returns-in_err-names-clause-asks
 returns-in_err-names-clause-asks g c = only_then c.seeks_prefix.ensures.asks (only_more c.wasm_names.ensures.asks (holds_all (tool_for_archive c.args.tool c.args.inputs.now.set.now c.args.inputs.now.env.now)))

@@ -4,7 +4,7 @@ use Rattle.cc_tool.proofs.AskLemmas.{asks_grows}
 use Rattle.cc_plan.proofs.AskingLemmas.{only_then, only_more}
 use Rattle.cc_tool.proofs.SettleLemmas.{settles_on, settles_two, holds_all}
 use Rattle.cc_plan.proofs.ArchiveToolLemmas.{tool_for_archive}
-use Rattle.cc_plan.proofs.reruns.own_tool_names.Goals as goal
+use Rattle.cc_plan.proofs.archive_reruns.own_tool_names.Goals as goal
 
 pub returns-in_err-named-clause-asks : goal.returns-in_err-named-clause-asks
 returns-in_err-named-clause-asks g c = only_more c.is_named.ensures.asks (holds_all (tool_for_archive c.args.tool c.args.inputs.now.set.now c.args.inputs.now.env.now))
