@@ -26,10 +26,15 @@ pub struct Process<R: Processes + Wait + Copy> {
     watched: Arc<Watched<R::Started>>,
     taken: Taken,
     is_young: bool,
+    passed: u32,
 }
 
 // How long the young children are waited for in one rest, in milliseconds. What the others did isn't seen meanwhile.
 const YOUNG_MS: u64 = 1;
+
+// How often a young child whose pipe was silent is passed over before it is asked whether it ended all the same, as one does that leaves its
+// pipe to another process.
+const MOST_PASSED: u32 = 64;
 
 /// Lets the child's thread end. The process runs on.
 impl<R: Processes + Wait + Copy> Drop for Process<R> {
@@ -40,6 +45,7 @@ impl<R: Processes + Wait + Copy> Drop for Process<R> {
             watched,
             taken: _,
             is_young: _,
+            passed: _,
         } = self;
         watched.leave(&rt);
         drop(watched);
@@ -78,6 +84,22 @@ impl<R: Processes + Wait + Copy> Process<R> {
             watched,
             taken: Taken::none(),
             is_young: true,
+            passed: 0,
+        }
+    }
+}
+
+impl<R: Processes + Wait + Copy> Process<R>
+where
+    <R::Started as OpenProcess>::Stderr: AsRawFd,
+{
+    // Does what is to be done for a child whose pipe was waited for.
+    fn attend(&mut self, is_ready: bool) {
+        if is_ready || self.passed >= MOST_PASSED {
+            self.passed = 0;
+            self.watched.attend(&self.rt, is_ready);
+        } else {
+            self.passed = self.passed.saturating_add(1);
         }
     }
 }
@@ -155,17 +177,25 @@ pub fn turn<R: Processes + Wait + Copy>(
     Ok(news)
 }
 
+// Whether a child has news.
+fn has_news<R: Processes + Wait + Copy>(processes: &[Process<R>]) -> bool {
+    for process in processes {
+        if process.watched.has_news(&process.rt) {
+            return true;
+        }
+    }
+    false
+}
+
 // Does what is to be done for the children that have no thread, and answers whether a child has news.
 fn look<R: Processes + Wait + Copy>(processes: &[Process<R>]) -> bool
 where
     <R::Started as OpenProcess>::Stderr: AsRawFd,
 {
-    let mut has_news = false;
     for process in processes {
-        process.watched.attend(&process.rt);
-        has_news = has_news || process.watched.has_news(&process.rt);
+        process.watched.attend(&process.rt, false);
     }
-    has_news
+    has_news(processes)
 }
 
 // The pipes of the young children, to be waited for. None where there is none, where one of them can't be waited for, or where memory is
@@ -189,10 +219,26 @@ where
     Some(pipes)
 }
 
-// Waits until a young child writes or ends, for at most so many milliseconds, and answers how many are left to rest.
+// Does what is to be done for the young children, of which these pipes were waited for.
+fn attend_young<R: Processes + Wait + Copy>(processes: &mut [Process<R>], pipes: &[pollfd])
+where
+    <R::Started as OpenProcess>::Stderr: AsRawFd,
+{
+    let mut waited = pipes.iter();
+    for process in processes {
+        if process.is_young
+            && let Some(pipe) = waited.next()
+        {
+            process.attend(pipe.revents != 0);
+        }
+    }
+}
+
+// Waits until a young child writes or ends, for at most so many milliseconds, does what is to be done for it, and answers how many
+// milliseconds are left to rest.
 fn wait_for_young<R: Processes + Wait + Copy>(
     alloc: Global,
-    processes: &[Process<R>],
+    processes: &mut [Process<R>],
     rest_ms: u64,
 ) -> u64
 where
@@ -200,10 +246,15 @@ where
 {
     match young_pipes(alloc, processes) {
         Some(mut pipes) => {
-            libc::net::poll(&mut pipes, YOUNG_MS as i32);
-            rest_ms.saturating_sub(YOUNG_MS)
+            let young_ms = rest_ms.min(YOUNG_MS);
+            libc::net::poll(&mut pipes, young_ms as i32);
+            attend_young(processes, &pipes);
+            rest_ms.saturating_sub(young_ms)
         }
-        None => rest_ms,
+        None => {
+            look(processes);
+            rest_ms
+        }
     }
 }
 
@@ -232,11 +283,9 @@ pub fn rest<R: Processes + Threads + Wait + Copy>(
 where
     <R::Started as OpenProcess>::Stderr: AsRawFd,
 {
-    if look(processes) || rest_ms == 0 {
-        return;
-    }
+    let rest_ms = if has_news(processes) { 0 } else { rest_ms };
     let left = wait_for_young(alloc, processes, rest_ms);
-    if look(processes) {
+    if rest_ms == 0 || has_news(processes) || look(processes) {
         return;
     }
     grow(watchers, processes);

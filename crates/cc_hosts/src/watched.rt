@@ -79,6 +79,13 @@ enum Step {
     Over,
 }
 
+// How long a pipe is waited for, in milliseconds, or that it is known to be ready.
+#[derive(Clone, Copy)]
+enum Patience {
+    Within(i32),
+    Known,
+}
+
 // A file to be waited for, until it can be read or has an end to tell.
 fn awaited(file: &impl AsRawFd) -> pollfd {
     pollfd {
@@ -252,23 +259,29 @@ impl<P: OpenProcess + Drop> Watched<P>
 where
     P::Stderr: AsRawFd,
 {
-    // Reads once what comes within so many milliseconds.
-    fn hear(&self, rt: &impl Wait, pipe: &mut P::Stderr, most_ms: i32) -> Hearing {
+    // Reads once what comes within so many milliseconds, or what is known to be there.
+    fn hear(&self, rt: &impl Wait, pipe: &mut P::Stderr, patience: Patience) -> Hearing {
         let room = self.heard.lock(rt).room();
         if room == 0 {
             return Hearing::NoRoom;
         }
-        if !is_ready(pipe, most_ms) {
+        if let Patience::Within(most_ms) = patience
+            && !is_ready(pipe, most_ms)
+        {
             return Hearing::Nothing;
         }
         self.read(rt, pipe, room)
     }
 
-    // Hears what comes within so many milliseconds, or asks whether the child ended.
-    fn step(&self, rt: &impl Wait, ear: &mut Ear<P::Stderr>, most_ms: i32) -> Step {
-        let most_ms = if ear.is_gone { 0 } else { most_ms };
+    // Hears what comes within so many milliseconds, or what is known to be there, or asks whether the child ended.
+    fn step(&self, rt: &impl Wait, ear: &mut Ear<P::Stderr>, patience: Patience) -> Step {
+        let patience = if ear.is_gone {
+            Patience::Within(0)
+        } else {
+            patience
+        };
         let hearing = match &mut ear.pipe {
-            Some(pipe) => self.hear(rt, pipe, most_ms),
+            Some(pipe) => self.hear(rt, pipe, patience),
             None => return self.look(rt),
         };
         let step = ear.note(hearing);
@@ -278,17 +291,23 @@ where
         step
     }
 
-    /// Does what is to be done for the child without waiting, where it has no thread.
-    pub fn attend(&self, rt: &impl Wait) {
+    /// Does what is to be done for the child without waiting, where it has no thread. Where its pipe is known to be ready, that isn't asked
+    /// again.
+    pub fn attend(&self, rt: &impl Wait, is_ready: bool) {
         if let Some(ear) = &mut *self.ear.lock(rt) {
-            self.attend_to(rt, ear);
+            self.attend_to(rt, ear, is_ready);
         }
     }
 
-    fn attend_to(&self, rt: &impl Wait, ear: &mut Ear<P::Stderr>) {
+    fn attend_to(&self, rt: &impl Wait, ear: &mut Ear<P::Stderr>, is_ready: bool) {
+        let mut patience = if is_ready {
+            Patience::Known
+        } else {
+            Patience::Within(0)
+        };
         for _ in 0..STEPS {
-            match self.step(rt, ear, 0) {
-                Step::News | Step::Again | Step::Closed => {}
+            match self.step(rt, ear, patience) {
+                Step::News | Step::Again | Step::Closed => patience = Patience::Within(0),
                 Step::Silent | Step::Full | Step::Over => return,
             }
         }
@@ -321,7 +340,7 @@ where
             if self.is_left(rt) {
                 return;
             }
-            match self.step(rt, ear, PATIENCE) {
+            match self.step(rt, ear, Patience::Within(PATIENCE)) {
                 Step::News => self.news.unpark(),
                 Step::Again | Step::Silent => {}
                 Step::Full => self
