@@ -43,7 +43,7 @@ impl Places {
         ensures old { IfOk result (λ old. old ≡ place_at self.old path.now) }
         ensures new { OnOk result ((text : List ℕ)
             → place_at self.new text
-                ≡ update bytes_eq (place_at self.old) path.now (Some place) text) }
+            ≡ update bytes_eq (place_at self.old) path.now (Some place) text) }
     {
         let old = self.by_path.insert(reversed(alloc, path)?, place)?;
         Ok(old)
