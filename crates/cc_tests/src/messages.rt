@@ -5,7 +5,7 @@ use cc_db::{
     BuildMessage, BuildMessageKind, BuildMessageLogger, CompileCommandCollector, CompileCommands,
     Extra, Logged,
 };
-use cc_host::{BenchHost, Command, CompileCommand, Host, HostError, Message, Status, World};
+use cc_host::{Bench, BenchHost, Command, CompileCommand, Host, HostError, Message, Status, World};
 use cc_text::{Mem, NoMemory, Text};
 use std::alloc::{AllocGlobal, Global};
 use std::cell::RefCell;
@@ -15,7 +15,22 @@ use std::sync::Wait;
 // A logger that notes what it hears, a line a message.
 #[derive(Drop)]
 struct Notes<'a> {
-    lines: &'a RefCell<String>,
+    lines: &'a RefCell<Text>,
+}
+
+fn kind_word(kind: BuildMessageKind) -> &'static str {
+    match kind {
+        BuildMessageKind::GeneralWarning => "warning of ",
+        BuildMessageKind::StderrForwarding => "line of ",
+        BuildMessageKind::CommandFailed { exit_status } => {
+            if exit_status == Status::Code(2) {
+                "end with 2 of "
+            } else {
+                "end of "
+            }
+        }
+        BuildMessageKind::CompileCommand => "compile of ",
+    }
 }
 
 fn subject_of(extra: &Extra) -> &str {
@@ -26,17 +41,13 @@ fn subject_of(extra: &Extra) -> &str {
     }
 }
 
-fn note(
-    lines: &mut String,
-    kind: BuildMessageKind,
-    msg: BuildMessage<'_>,
-    extra: &Extra,
-) -> Mem<()> {
-    let alloc = *lines.allocator();
-    let subject = subject_of(extra);
-    let line = format!(in alloc; "{kind:?} of {subject}: {msg}\n")?;
-    lines.push_str(line.as_str())?;
-    Ok(())
+fn note(lines: &mut Text, kind: BuildMessageKind, msg: BuildMessage<'_>, extra: &Extra) -> Mem<()> {
+    let BuildMessage::Str(text) = msg;
+    lines.push_str(kind_word(kind))?;
+    lines.push_str(subject_of(extra))?;
+    lines.push_str(": ")?;
+    lines.push_str(text)?;
+    lines.push('\n')
 }
 
 impl BuildMessageLogger for Notes<'_> {
@@ -58,33 +69,45 @@ impl BuildMessageLogger for Refused {
     }
 }
 
-fn compiles(alloc: Global, cmd: &Command, src: &str) -> Mem<Message> {
-    let text = Text::of(alloc, src)?;
-    let compiled = CompileCommand::new(alloc, cmd, src, "a.o", "/w")?;
-    Ok(Message::Compiles(text, compiled))
+fn say_warning<W: World, H: Host<W>>(alloc: Global, host: &mut H) -> Result<(), HostError> {
+    let message = Message::GeneralWarning(Text::of(alloc, "no family")?);
+    host.say(&message)
 }
 
-// A message of each kind, and of the last one two.
-fn messages(alloc: Global) -> Mem<[Message; 5]> {
+fn say_line<W: World, H: Host<W>>(alloc: Global, host: &mut H) -> Result<(), HostError> {
     let cmd = Command::new(alloc, "cc")?;
-    Ok([
-        Message::GeneralWarning(Text::of(alloc, "no family")?),
-        compiles(alloc, &cmd, "a.c")?,
-        Message::StderrForwarding(Text::of(alloc, "a.c: odd")?, cmd.try_clone()?),
-        Message::CommandFailed(
-            Status::Code(2),
-            Text::of(alloc, "it failed")?,
-            cmd.try_clone()?,
-        ),
-        compiles(alloc, &cmd, "b.c")?,
-    ])
+    let message = Message::StderrForwarding(Text::of(alloc, "a.c: odd")?, cmd);
+    host.say(&message)
 }
 
-fn say_all<W: World, H: Host<W>>(host: &mut H, messages: &[Message]) -> Result<(), HostError> {
-    for message in messages {
-        host.say(message)?;
-    }
-    Ok(())
+fn say_end<W: World, H: Host<W>>(alloc: Global, host: &mut H) -> Result<(), HostError> {
+    let cmd = Command::new(alloc, "cc")?;
+    let message = Message::CommandFailed(Status::Code(2), Text::of(alloc, "it failed")?, cmd);
+    host.say(&message)
+}
+
+fn compiled(alloc: Global, src: &str) -> Mem<CompileCommand> {
+    let cmd = Command::new(alloc, "cc")?;
+    CompileCommand::new(alloc, &cmd, src, "a.o", "/w")
+}
+
+fn say_compile<W: World, H: Host<W>>(
+    alloc: Global,
+    host: &mut H,
+    src: &str,
+) -> Result<(), HostError> {
+    let compiled = compiled(alloc, src)?;
+    let message = Message::Compiles(Text::of(alloc, src)?, compiled);
+    host.say(&message)
+}
+
+// Says a message of each kind, and of the last one two.
+fn say_all<W: World, H: Host<W>>(alloc: Global, host: &mut H) -> Result<(), HostError> {
+    say_warning(alloc, host)?;
+    say_compile(alloc, host, "a.c")?;
+    say_line(alloc, host)?;
+    say_end(alloc, host)?;
+    say_compile(alloc, host, "b.c")
 }
 
 fn check_next(rt: &(impl Wait + Abort), commands: &mut CompileCommands, want: &str) {
@@ -94,11 +117,11 @@ fn check_next(rt: &(impl Wait + Abort), commands: &mut CompileCommands, want: &s
     }
 }
 
-const HEARD: &str = "GeneralWarning of nothing: no family
-CompileCommand of /w/a.c: a.c
-StderrForwarding of cc: a.c: odd
-CommandFailed { exit_status: Code(2) } of cc: it failed
-CompileCommand of /w/b.c: b.c
+const HEARD: &str = "warning of nothing: no family
+compile of /w/a.c: a.c
+line of cc: a.c: odd
+end with 2 of cc: it failed
+compile of /w/b.c: b.c
 ";
 
 const SAID: &str = "says no family
@@ -108,38 +131,49 @@ says it failed
 says b.c
 ";
 
-fn check_said<R: AllocGlobal + Wait + Abort + Drop + Copy>(
-    rt: R,
-    host: BenchHost,
-    lines: &RefCell<String>,
+fn check_said<L: BuildMessageLogger>(
+    rt: &(impl AllocGlobal + Abort),
+    logged: &mut Logged<Bench, BenchHost, L>,
 ) {
-    let messages = messages(rt.alloc()).expect(&rt, "memory");
+    holds(rt, "it listens", logged.listens());
+    say_all(rt.alloc(), logged).expect(rt, "memory");
+    check_log(rt, logged, SAID);
+}
+
+fn check_kept(rt: &(impl Wait + Abort), commands: &mut CompileCommands) {
+    check_next(rt, commands, "/w/a.c");
+    check_next(rt, commands, "/w/b.c");
+    check_next(rt, commands, "none");
+}
+
+fn check_collected<R: AllocGlobal + Wait + Abort + Drop + Copy>(rt: R, lines: &RefCell<Text>) {
+    let host = BenchHost::new(rt.alloc()).expect(&rt, "a host");
     let (collector, mut commands) = CompileCommandCollector::new(rt.alloc(), rt).expect(
         &rt, "memory",
     );
     let mut logged = Logged::new(host, collector.forward_to(Notes { lines }));
-    holds(&rt, "it listens", logged.listens());
-    say_all(&mut logged, &messages).expect(&rt, "memory");
-    check_next(&rt, &mut commands, "/w/a.c");
-    check_next(&rt, &mut commands, "/w/b.c");
-    check_next(&rt, &mut commands, "none");
-    check_log(&rt, &logged.into_inner(), SAID);
+    check_said(&rt, &mut logged);
+    check_kept(&rt, &mut commands);
 }
 
 #[test]
 fn a_collector_keeps_compile_commands_and_another_logger_hears_all_messages(rt: HostRuntime) {
-    let lines = RefCell::new(String::new(rt.alloc()));
-    let host = BenchHost::new(rt.alloc()).expect(&rt, "a host");
-    check_said(rt, host, &lines);
+    let lines = RefCell::new(Text::new(rt.alloc()));
+    check_collected(rt, &lines);
     same(&rt, lines.into_inner().as_str(), HEARD);
+}
+
+fn check_refused<L: BuildMessageLogger>(
+    rt: &(impl AllocGlobal + Abort),
+    logged: &mut Logged<Bench, BenchHost, L>,
+) {
+    let said = say_warning(rt.alloc(), logged);
+    holds(rt, "it is refused", said == Err(HostError::NoMemory));
+    check_log(rt, logged, "");
 }
 
 #[test]
 fn a_message_that_a_logger_has_no_memory_for_is_not_said(rt: HostRuntime) {
-    let messages = messages(rt.alloc()).expect(&rt, "memory");
     let host = BenchHost::new(rt.alloc()).expect(&rt, "a host");
-    let mut logged = Logged::new(host, Refused);
-    let said = say_all(&mut logged, &messages);
-    holds(&rt, "it is refused", said == Err(HostError::NoMemory));
-    check_log(&rt, &logged.into_inner(), "");
+    check_refused(&rt, &mut Logged::new(host, Refused));
 }
