@@ -1,3 +1,4 @@
+pub mod AscendingLemmas
 pub mod PlainLaws
 pub mod RunningLemmas
 pub mod CommandLemmas

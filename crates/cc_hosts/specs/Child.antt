@@ -1,5 +1,6 @@
 -- A command as a child of the machine, and what is kept of its end.
 use Rattle.std.specs.Prelude.{◌≡◌, ℕ, ℤ, Bool, false, List, [], reverse, Option, Some, None, option_map, if◌then◌else◌}
+use Rattle.std.specs.Option.{option_or}
 use Rattle.cc_text.specs.Vars.{lookup}
 use Rattle.cc_host.specs.Event.{is_captured}
 use Rattle.cc_host.specs.declared.event.Pipes.{Pipes}
@@ -11,6 +12,10 @@ use Rattle.cc_hosts.specs.declared.child.Outcome.TheVariants.{Missing, Failed, E
 -- what a child gets for a name: the value of the last pair of that name
 abbrev pub child_value : List (List ℕ × List ℕ) → List ℕ → Option (Option (List ℕ))
 child_value env name = option_map Some (lookup (reverse env) name)
+
+-- what a child gets for a name that had another value before: that of the last pair of the name, where there is one
+abbrev pub value_over : List (List ℕ × List ℕ) → (List ℕ → Option (Option (List ℕ))) → List ℕ → Option (Option (List ℕ))
+value_over env before name = option_or (child_value env name) (before name)
 
 -- how a child ended, by the number that it ended with
 abbrev pub status_of : Option ℤ → Status

@@ -1,10 +1,11 @@
 // A command as std starts it.
-ghost use Rattle.std.specs.Prelude.{◌≡◌, ◌++◌, ◌∷◌, List, ℕ, codes, true, Some, None, IfOk, OnOk};
+ghost use Rattle.std.specs.Prelude.{◌≡◌, ◌++◌, ◌∷◌, ◌<◌, ◌≤◌, List, ℕ, length, take, codes, true, Some, None, IfOk, OnOk};
 ghost use Rattle.std.specs.Process.{command_program, command_args, command_var, command_dir, clears_env, SameProgramAndArgs, SameEnv, SameOtherVars, SameDir};
-ghost use Rattle.cc_hosts.specs.Child.{child_value};
+ghost use Rattle.cc_text.specs.Vars.{names_ascend};
+ghost use Rattle.cc_hosts.specs.Child.{child_value, value_over};
 
 use cc_host::Command;
-use cc_text::{Mem, Vars, Words};
+use cc_text::{Mem, Text, Vars, Words};
 use std::alloc::Global;
 use std::process;
 
@@ -33,6 +34,38 @@ fn set_var(child: &mut process::Command, name: &str, value: &str) -> Mem<()>
     Ok(())
 }
 
+// How many pairs from the first on have names that ascend.
+fn ascending(vars: &[(Text, Text)]) -> usize
+    requires { 0 < length vars.now }
+    ensures some { 0 < result }
+    ensures within { result ≤ length vars.now }
+    ensures ascends { names_ascend (take result vars.now) ≡ true }
+{
+    let mut last = 0;
+    while last + 1 < vars.len() && vars[last].0.as_str().cmp(vars[last + 1].0.as_str()).is_lt() {
+        last += 1;
+    }
+    last + 1
+}
+
+// Sets variables whose names ascend, the last one first: the child keeps its variables in order, and each is looked for from the first on.
+fn set_ascending(child: &mut process::Command, vars: &[(Text, Text)]) -> Mem<()>
+    requires { names_ascend vars.now ≡ true }
+    ensures vars { OnOk result ((name : List ℕ) → command_var child.new name
+        ≡ value_over vars.now (command_var child.old) name) }
+    ensures clears { OnOk result (clears_env child.new ≡ clears_env child.old) }
+    ensures call { OnOk result (SameProgramAndArgs child.old child.new) }
+    ensures dir { OnOk result (SameDir child.old child.new) }
+{
+    let mut left = vars.len();
+    while left > 0 {
+        left -= 1;
+        let pair = &vars[left];
+        set_var(child, pair.0.as_str(), pair.1.as_str())?;
+    }
+    Ok(())
+}
+
 // Sets the variables of a child that has none. Of a name given twice the last counts.
 fn set_vars(child: &mut process::Command, vars: &Vars) -> Mem<()>
     requires { (name : List ℕ) → command_var child.old name ≡ None }
@@ -42,8 +75,13 @@ fn set_vars(child: &mut process::Command, vars: &Vars) -> Mem<()>
     ensures call { OnOk result (SameProgramAndArgs child.old child.new) }
     ensures dir { OnOk result (SameDir child.old child.new) }
 {
-    for (name, value) in vars.as_slice() {
-        set_var(child, name.as_str(), value.as_str())?;
+    let pairs = vars.as_slice();
+    let mut start = 0;
+    while start < pairs.len() {
+        let rest = &pairs[start..];
+        let count = ascending(rest);
+        set_ascending(child, &rest[..count])?;
+        start += count;
     }
     Ok(())
 }

@@ -1,8 +1,17 @@
-use Rattle.std.proofs.Common.{◌≡◌, ℕ, List, take}
+use Rattle.std.proofs.Common.{◌≡◌, ◌≤◌, ◌-◌, ℕ, List, length, take}
 use Rattle.std.specs.Process.{command_var, clears_env, SameProgramAndArgs, SameDir}
 use Rattle.cc_hosts.specs.Child.{child_value}
 use Rattle.cc_hosts.proofs.command.set_vars.Given as goal
 
-abbrev pub invariant-loop-name : goal.invariant-loop-name
-invariant-loop-name l =
-    ((name : List ℕ) → command_var l.child name ≡ child_value (take l.name-index l.name-items) name) × (clears_env l.child ≡ clears_env l.initial.child) × SameProgramAndArgs l.initial.child l.child × SameDir l.initial.child l.child
+-- the variables before `start` are set
+abbrev pub invariant-loop-start : goal.invariant-loop-start
+invariant-loop-start l = record {
+  within : l.start ≤ length l.pairs;
+  vars : (name : List ℕ) → command_var l.child name ≡ child_value (take l.start l.pairs) name;
+  clears : clears_env l.child ≡ clears_env l.initial.child;
+  call : SameProgramAndArgs l.initial.child l.child;
+  dir : SameDir l.initial.child l.child;
+}
+
+abbrev pub decreases-loop-start : goal.decreases-loop-start
+decreases-loop-start l = length l.pairs - l.start
