@@ -44,9 +44,9 @@ impl World for Real {
 /// more is proved of it: no proof can say what a process did.
 ///
 /// Each child that was started has a thread that reads its standard error as it comes and sees its end; within a child's first millisecond
-/// of rest, and where no thread can be made, each turn does that itself. Of each child at most 64 KiB are kept until a turn takes them, and a child that writes more waits for that. A
-/// turn takes what is there, of every child, and rests before only as long as there is nothing. A child that was left alone is ended, and
-/// its thread with it. With the host all threads are joined, and children that run are left to run.
+/// of rest, and where no thread can be made, each turn does that itself. Of each child at most 64 KiB are kept until a turn takes them, and
+/// a child that writes more waits for that. A turn takes what is there, of every child, and rests before only as long as there is nothing. A
+/// child that was left alone is ended, and its thread with it. With the host all threads are joined, and children that run are left to run.
 ///
 /// A child whose standard error isn't heard writes it nowhere. Refused for memory, a call that started nothing did nothing, and a turn
 /// loses nothing: the next one has it. A command of `output` or `probe` whose end can't be kept did run: its end is lost, and no event is

@@ -1,6 +1,6 @@
 // The processes that run as children of this one. A child is young until it was silent for a first rest: so long each turn watches it by
-// itself, and all young ones wait in one `poll(2)`, since most of what a short command would cost is the way to a thread and back. Then it
-// gets a thread of its own.
+// itself, and all young ones wait in one `poll(2)`, since the way to a thread and back is an eighth to a fifth of what the program takes of its own
+// for a short command. Then it gets a thread of its own.
 ghost use Rattle.std.specs.Prelude.{◌≡◌, ◌++◌, IfOk, OnErr};
 ghost use Rattle.cc_host.specs.ChildLog.{AreTold, IsPieceBy};
 ghost use Rattle.cc_host.specs.Children.{IsNews};
