@@ -28,5 +28,6 @@ pub mod Stages
 pub mod StopLaws
 pub mod SupportLaws
 pub mod Telling
+pub mod ToldLaws
 pub mod Trying
 pub mod TurnLaws

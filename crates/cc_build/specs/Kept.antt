@@ -8,7 +8,8 @@ use Rattle.cc_host.specs.Question.{Look, Answer, answers, NoTwice, Holds}
 use Rattle.cc_host.specs.declared.question.Outcome.{Outcome}
 use Rattle.cc_host.specs.declared.question.Question.{Question}
 use Rattle.cc_plan.specs.Given.{probe_folder}
-use Rattle.cc_plan.specs.Questions.{RunAsks}
+use Rattle.cc_plan.specs.Questions.{RunAsks, NameAsks}
+use Rattle.cc_plan.specs.declared.variables.Reads.{Reads}
 use Rattle.cc_run.specs.declared.planned.Turns.{Turns}
 use Rattle.cc_tool.specs.Asked.{question_events, start}
 use Rattle.cc_tool.specs.Asks.{IsWorlds}
@@ -51,3 +52,7 @@ pub record Asking {X : Type 0} (steady : Bool) (world : Question → Outcome) (d
 -- the same, where the questions are those of a run
 abbrev pub AsksFor : {X : Type 0} → Bool → (Question → Outcome) → Task → (X → List Event) → (X → Option ℕ) → X → X → List Answer → List Answer → Type 0
 AsksFor steady world task log patience = Asking steady world (probe_folder task.set.now task.env.now) (RunAsks task.set.now task.env.now) log patience
+
+-- the same, where they are those that the names of variables are planned by
+abbrev pub AsksForNames : {X : Type 0} → Bool → (Question → Outcome) → Task → Reads → (X → List Event) → (X → Option ℕ) → X → X → List Answer → List Answer → Type 0
+AsksForNames steady world task reads log patience = Asking steady world (probe_folder task.set.now task.env.now) (NameAsks reads task.set.now task.env.now) log patience

@@ -1,5 +1,5 @@
 -- The stages of a compile run: what it asks of its host, one after another.
-use Rattle.std.specs.Prelude.{ℕ, Bool, true, not, List, [], ◌∷◌, ◌++◌, map, Option, None, is_some, unwrap_or, if◌then◌else◌}
+use Rattle.std.specs.Prelude.{ℕ, Bool, true, false, not, List, [], ◌∷◌, ◌++◌, map, Option, None, is_some, unwrap_or, if◌then◌else◌}
 use Rattle.std.specs.List.{flat_map}
 use Rattle.std.specs.Path.{path_parent}
 use Rattle.cc_env.specs.Env.{EnvSeen}
@@ -138,7 +138,7 @@ links_of set env name library look = lines_of set env name (folder_in library) l
 
 -- what a run reads variables for; it plans a compiler where there is a source
 abbrev pub run_reads : BuildConfig → Reads
-run_reads set = record { disabled = true; debug = true; compiler = not (is_empty set.files); archiver = true; links = true }
+run_reads set = record { disabled = true; debug = true; compiler = not (is_empty set.files); flag = false; archiver = true; ranlib = false; links = true }
 
 -- the lines that tell Cargo of variables
 abbrev pub rerun_lines : List (List ℕ) → List (List ℕ)

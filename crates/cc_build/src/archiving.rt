@@ -1,5 +1,5 @@
 // An archive alone.
-ghost use Rattle.std.specs.Prelude.{◌≡◌, ◌++◌, ◌⊎◌, ◌+◌, ◌<◌, ◌^◌, Some, None, IfOk, IfErr, OnOk};
+ghost use Rattle.std.specs.Prelude.{◌≡◌, ◌++◌, ◌⊎◌, ◌+◌, ◌<◌, ◌^◌, Some, None, IfOk, IfErr, OnOk, false};
 ghost use Rattle.cc_host.specs.Call.{part};
 ghost use Rattle.cc_plan.specs.Given.{probe_folder};
 ghost use Rattle.cc_plan.specs.Plan.{objects_of, library_of};
@@ -40,7 +40,9 @@ fn archive_reads() -> Reads
         disabled: true,
         debug: true,
         compiler: false,
+        flag: false,
         archiver: true,
+        ranlib: false,
         links: false,
     }
 }
@@ -85,6 +87,7 @@ fn archive_and_tell<W: World, H: Host<W>, J: Jobs>(
 ) -> Result<(), Error>
     requires idle { IsIdle J.fits J.held shared.now.jobs.now seat.old }
     requires few { turns.old.left + turns.old.used < 2 ^ 64 }
+    requires plain { shared.now.reads.ranlib ≡ false }
     requires dir { shared.now.sources.now.dir
         ≡ probe_folder shared.now.task.set.now shared.now.task.env.now }
     requires library { shared.now.sources.now.library ≡ library_of

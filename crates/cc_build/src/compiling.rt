@@ -38,7 +38,9 @@ fn run_reads(set: &BuildConfig) -> Reads
         disabled: true,
         debug: true,
         compiler: !set.files.is_empty(),
+        flag: false,
         archiver: true,
+        ranlib: false,
         links: true,
     }
 }

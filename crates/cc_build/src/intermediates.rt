@@ -1,5 +1,5 @@
 // A run that compiles the sources alone.
-ghost use Rattle.std.specs.Prelude.{◌≡◌, ◌++◌, ◌+◌, ◌<◌, ◌^◌, IfOk};
+ghost use Rattle.std.specs.Prelude.{◌≡◌, ◌++◌, ◌+◌, ◌<◌, ◌^◌, IfOk, false};
 ghost use Rattle.cc_host.specs.Call.{part};
 ghost use Rattle.cc_plan.specs.Archive.{paths_of};
 ghost use Rattle.cc_plan.specs.Given.{probe_folder};
@@ -48,7 +48,9 @@ fn source_reads(set: &BuildConfig) -> Reads
         disabled: true,
         debug: is_any,
         compiler: is_any,
+        flag: false,
         archiver: false,
+        ranlib: false,
         links: false,
     }
 }
@@ -65,6 +67,7 @@ fn compile_and_tell<W: World, H: Host<W>, J: Jobs>(
 ) -> Result<(), Error>
     requires idle { IsIdle J.fits J.held shared.now.jobs.now seat.old }
     requires few { turns.old.left + turns.old.used < 2 ^ 64 }
+    requires plain { shared.now.reads.ranlib ≡ false }
     requires dir { shared.now.sources.now.dir
         ≡ probe_folder shared.now.task.set.now shared.now.task.env.now }
     requires objects { shared.now.sources.now.objects.items

@@ -28,7 +28,9 @@ fn link_reads() -> Reads
         disabled: false,
         debug: false,
         compiler: false,
+        flag: false,
         archiver: false,
+        ranlib: false,
         links: true,
     }
 }

@@ -1,6 +1,6 @@
 // The parts of a run behind the folder of the objects. Each asks what it wants to know, and then does its stages: the sources are compiled, the
 // library is written, and the lines for Cargo are printed.
-ghost use Rattle.std.specs.Prelude.{◌≡◌, ◌⊎◌, ◌+◌, ◌<◌, ◌^◌, None, Some, IfOk, IfErr};
+ghost use Rattle.std.specs.Prelude.{◌≡◌, ◌⊎◌, ◌+◌, ◌<◌, ◌^◌, None, Some, IfOk, IfErr, false};
 ghost use Rattle.std.specs.Option.{option_map};
 ghost use Rattle.cc_host.specs.Call.{part};
 ghost use Rattle.cc_host.specs.Question.{Holds, Settles};
@@ -22,13 +22,14 @@ use crate::directives::{Lines, first_stages};
 use crate::library::{Library, write_library};
 use crate::message::or_no_memory;
 use crate::refusal::plan_error;
+use crate::reruns::read_names;
 use crate::stage::{do_stages, stages_of};
 use crate::task::{Shared, Task};
 use cc_host::{Host, World};
 use cc_jobs::Jobs;
 use cc_plan::{
     Archiver, LinkLine, Plan, PlanError, Sight, Sources, archived_paths, archiver_of, check_list,
-    link_lines, plan_commands, rerun_names,
+    link_lines, plan_commands,
 };
 use cc_run::Turns;
 use cc_text::{Mem, Words, parent};
@@ -276,6 +277,7 @@ pub(crate) fn plan_names<W: World, H: Host<W>, J>(
     host: &mut H,
     answers: &mut Answers,
 ) -> Mem<Words>
+    requires plain { shared.now.reads.ranlib ≡ false }
     requires dir { shared.now.sources.now.dir
         ≡ probe_folder shared.now.task.set.now shared.now.task.env.now }
     ensures quiet { AsksOnly (part H.log host.old host.new) }
@@ -284,21 +286,7 @@ pub(crate) fn plan_names<W: World, H: Host<W>, J>(
     ensures planned { IfOk result (λ names. Settles answers.new
         (rerun_names shared.now.reads shared.now.task.set.now shared.now.task.env.now) names) }
 {
-    let task = &shared.task;
-    let mut sight = Sight {
-        host,
-        caches: shared.caches,
-        answers,
-        dir: shared.sources.dir.as_str(),
-    };
-    rerun_names(
-        rt,
-        task.reporting.alloc,
-        shared.reads,
-        task.set,
-        task.env,
-        &mut sight,
-    )
+    read_names(rt, &shared.task, shared.caches, shared.reads, host, answers)
 }
 
 // Plans the lines for Cargo.
@@ -309,6 +297,7 @@ fn plan_lines<W: World, H: Host<W>, J>(
     host: &mut H,
     answers: &mut Answers,
 ) -> Result<Lines, Error>
+    requires plain { shared.now.reads.ranlib ≡ false }
     requires dir { shared.now.sources.now.dir
         ≡ probe_folder shared.now.task.set.now shared.now.task.env.now }
     ensures quiet { AsksOnly (part H.log host.old host.new) }
@@ -347,6 +336,7 @@ pub(crate) fn print_links<W: World, H: Host<W>, J: Jobs>(
 ) -> Result<(), Error>
     requires idle { IsIdle J.fits J.held shared.now.jobs.now seat.old }
     requires few { turns.old.left + turns.old.used < 2 ^ 64 }
+    requires plain { shared.now.reads.ranlib ≡ false }
     requires dir { shared.now.sources.now.dir
         ≡ probe_folder shared.now.task.set.now shared.now.task.env.now }
     ensures idle { IsIdle J.fits J.held shared.now.jobs.now seat.new }

@@ -1,20 +1,58 @@
 // The lines of the variables that a call read, which it prints as its last act.
-ghost use Rattle.std.specs.Prelude.{◌≡◌, ◌+◌, ◌<◌, ◌^◌};
+ghost use Rattle.std.specs.Prelude.{◌≡◌, ◌+◌, ◌<◌, ◌^◌, false, IfOk};
+ghost use Rattle.cc_host.specs.Call.{part};
+ghost use Rattle.cc_host.specs.Question.{Settles};
 ghost use Rattle.cc_plan.specs.Given.{probe_folder};
+ghost use Rattle.cc_plan.specs.Reruns.{rerun_names};
 ghost use Rattle.cc_run.specs.Keeping.{IsIdle};
-ghost use Rattle.cc_build.specs.Kept.{AsksFor};
+ghost use Rattle.cc_build.specs.Kept.{AsksFor, AsksForNames};
 ghost use Rattle.cc_build.specs.Phases.{ByKnown, NamesEnd};
+ghost use Rattle.cc_build.specs.Questions.{AsksOnly};
 
 use crate::Error;
 use crate::directives::{Lines, first_stages};
 use crate::phases::plan_names;
 use crate::stage::do_stages;
-use crate::task::Shared;
+use crate::task::{Shared, Task};
 use cc_host::{Host, World};
 use cc_jobs::Jobs;
+use cc_plan::{Reads, Sight, probe_folder, rerun_names};
 use cc_run::Turns;
-use cc_tool::Answers;
+use cc_text::{Mem, Words};
+use cc_tool::{Answers, Caches};
 use std::sync::Wait;
+
+/// Asks what the names of the variables are planned by that a call reads, and plans them.
+#[tactic(auto, using(cc_host::proofs::Parts::since_append))]
+pub(crate) fn read_names<W: World, H: Host<W>>(
+    rt: &impl Wait,
+    task: &Task<'_>,
+    caches: &Caches<W>,
+    reads: Reads,
+    host: &mut H,
+    answers: &mut Answers,
+) -> Mem<Words>
+    ensures quiet { AsksOnly (part H.log host.old host.new) }
+    ensures asks { AsksForNames W.steady W.answer task.now reads H.log H.patience
+        host.old host.new answers.old answers.new }
+    ensures planned { IfOk result (λ names. Settles answers.new
+        (rerun_names reads task.now.set.now task.now.env.now) names) }
+{
+    let mut sight = Sight {
+        host,
+        caches,
+        answers,
+        dir: probe_folder(task.set, task.env),
+    };
+    rerun_names(
+        rt,
+        task.reporting.alloc,
+        reads,
+        task.set,
+        task.env,
+        &mut sight,
+    )
+}
 
 /// Asks what the names of the variables that the call read are planned by, and prints their lines, and no link line.
 #[tactic(auto, using(cc_host::proofs::Parts::since_append))]
@@ -28,6 +66,7 @@ pub(crate) fn print_names<W: World, H: Host<W>, J: Jobs>(
 ) -> Result<(), Error>
     requires idle { IsIdle J.fits J.held shared.now.jobs.now seat.old }
     requires few { turns.old.left + turns.old.used < 2 ^ 64 }
+    requires plain { shared.now.reads.ranlib ≡ false }
     requires dir { shared.now.sources.now.dir
         ≡ probe_folder shared.now.task.set.now shared.now.task.env.now }
     ensures idle { IsIdle J.fits J.held shared.now.jobs.now seat.new }
