@@ -6,7 +6,6 @@ use Rattle.cc_host.specs.declared.event.Event.{Event}
 use Rattle.cc_host.specs.declared.question.Outcome.{Outcome as WorldOutcome}
 use Rattle.cc_host.specs.declared.question.Question.{Question}
 use Rattle.cc_plan.specs.Questions.{ToolAsks, ArchiverAsks, NameAsks, RunAsks}
-use Rattle.cc_plan.specs.declared.archive_tool.ArchiveTool.TheVariants.{Archiver}
 use Rattle.cc_plan.specs.declared.settings.BuildConfig.{BuildConfig}
 use Rattle.cc_plan.specs.declared.variables.Reads.{Reads}
 use Rattle.cc_plan.proofs.ArchiveToolLemmas.{archiver_asks, tool_for_archive}
@@ -14,7 +13,7 @@ use Rattle.cc_build.specs.Kept.{AsksOn}
 
 module _ (reads : Reads) (set : BuildConfig) (env : EnvSeen) (look : Look) (q : Question) where
   archiver_too : ToolAsks set env look q → ArchiverAsks set env look q
-  archiver_too h = archiver_asks set env look q (tool_for_archive Archiver set env look q h)
+  archiver_too h = archiver_asks set env look q (tool_for_archive _ set env look q h)
 
   -- a run asks them, which plans no tool that writes an index
   pub names_in_run : reads.ranlib ≡ false → NameAsks reads set env look q → RunAsks set env look q
