@@ -1,4 +1,4 @@
-//! Tests of the library that no row of data can say: the processes and the files of the machine, loggers, a caller that goes between the turns of a host, and several
+//! Tests of the library that no row of data can say: the processes and the files of the machine, a caller that goes between the turns of a host, and several
 //! calls on one build or its clones.
 //!
 //! The crate has tests alone. They stand here, and not in the crates that they test, since a crate with tests is proved twice. A helper has no promise,
@@ -21,8 +21,6 @@ mod log;
 mod machine;
 #[cfg(test)]
 mod memory;
-#[cfg(test)]
-mod messages;
 #[cfg(test)]
 mod on_machine;
 #[cfg(test)]
