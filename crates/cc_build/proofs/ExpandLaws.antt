@@ -2,11 +2,10 @@
 use Rattle.std.proofs.Common.{◌≡◌, ◌≢◌, ◌⊎◌, inl, inr, ℕ, List, [], ◌∷◌, ◌++◌, take, Bool, true, false, not, ◌||◌, Option, Some, None, Result, Ok, Err, refl, sym, ◌∙◌, ap, subst, append_assoc, append-nil}
 use Rattle.std.specs.List.{list_all, list_any}
 use Rattle.std.proofs.lemmas.Bool.{and_parts}
-use Rattle.std.proofs.lemmas.Grind.{flat_map-append}
 use Rattle.std.proofs.lemmas.List.Folds.{list_any-append}
 use Rattle.cc_host.specs.Command.{CommandSeen}
 use Rattle.cc_host.specs.Part.{since, is_probing}
-use Rattle.cc_host.specs.Question.{Look, Answer, answer_of, answers, Holds}
+use Rattle.cc_host.specs.Question.{Look, Answer, answers, Holds}
 use Rattle.cc_host.specs.declared.event.Event.{Event}
 use Rattle.cc_host.specs.declared.event.Event.TheVariants.{Ran, Missing, Printed, Fault}
 use Rattle.cc_host.specs.declared.event.HostCall.TheVariants.{Output}
@@ -24,7 +23,6 @@ use Rattle.cc_run.specs.declared.error.RunError.TheVariants.{ToolNotFound, Faile
 use Rattle.cc_run.specs.declared.planned.Planned.{Planned}
 use Rattle.cc_run.specs.declared.planned.Shows.{Shows}
 use Rattle.cc_tool.specs.Asked.{question_events}
-use Rattle.cc_tool.proofs.Asides.{aside_answers}
 use Rattle.cc_tool.specs.Tool.{ToolSeen}
 use Rattle.cc_build.specs.Attempts.{attempt_of, attempts, to_attempt}
 use Rattle.cc_build.specs.Build.{BuildSeen}
@@ -198,12 +196,6 @@ pub childless_since : (old mid new : List Event) → mid ≡ old ++ since old mi
 childless_since old mid new first last p q =
     ap (list_any is_of_children) (since_since old mid new first last) ∙ list_any-append is_of_children (since old mid) (since mid new)
     ∙ or_false (list_any is_of_children (since old mid)) (list_any is_of_children (since mid new)) p q
-
--- the answers are those of the first part, where the other asks nothing
-pub answers_behind : (old mid new : List Event) → mid ≡ old ++ since old mid → new ≡ mid ++ since mid new → question_events (since mid new) ≡ [] → (known : List Answer) → known ≡ answers (since old mid) → known ≡ answers (since old new)
-answers_behind old mid new first last none known is =
-    is ∙ sym (ap answers (since_since old mid new first last) ∙ flat_map-append answer_of (since old mid) (since mid new)
-    ∙ ap (λ l. answers (since old mid) ++ l) (aside_answers (since mid new) none) ∙ append-nil (answers (since old mid)))
 
 module _ (b : BuildSeen) where
   -- the checks refused it

@@ -26,7 +26,6 @@ pub mod Seen
 pub mod Shows
 pub mod Stage
 pub mod Stop
-pub mod Told
 pub mod Tools
 pub mod Values
 pub mod Way

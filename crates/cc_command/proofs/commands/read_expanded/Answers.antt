@@ -6,4 +6,4 @@ pub returns-clause-ok : goal.returns-clause-ok
 returns-clause-ok g c = expands_so (map string_bytes c.args.words.now) c.in_ok-set.set c.in_ok-set.ensures.ok
 
 pub returns-clause-repeats : goal.returns-clause-repeats
-returns-clause-repeats g c = repeats_so false 1 (map string_bytes c.args.words.now) c.in_ok-set.set c.in_ok-set.ensures.ok
+returns-clause-repeats g c = repeats_so 1 (map string_bytes c.args.words.now) c.in_ok-set.set c.in_ok-set.ensures.ok

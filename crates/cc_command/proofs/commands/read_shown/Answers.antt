@@ -6,4 +6,4 @@ pub returns-clause-ok : goal.returns-clause-ok
 returns-clause-ok g c = shows_so (map string_bytes c.args.words.now) c.in_ok-build.build c.in_ok-build.ensures.ok
 
 pub returns-clause-repeats : goal.returns-clause-repeats
-returns-clause-repeats g c = repeats_so false 1 (map string_bytes c.args.words.now) c.in_ok-build.build c.in_ok-build.ensures.ok
+returns-clause-repeats g c = repeats_so 1 (map string_bytes c.args.words.now) c.in_ok-build.build c.in_ok-build.ensures.ok
