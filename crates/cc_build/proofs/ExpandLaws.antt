@@ -38,7 +38,7 @@ use Rattle.cc_build.proofs.Trying.{IsLast, Done, Broken, is_line, all_lines, is_
 
 -- the command as it ran
 abbrev ran : Shows → Planned → Status → List ℕ → List ℕ → Event
-ran shows p status output stderr = Ran p.role p.cmd (record { out = Capture; hear = shows.warnings || shows.listens }) status output stderr
+ran shows p status output stderr = Ran p.role p.cmd (record { out = Capture; hear = shows.warnings }) status output stderr
 
 -- the command stands between lines, with a fault behind them, or it is missing
 abbrev pub Shape : Planned → List Event → Type 0
@@ -50,11 +50,11 @@ module _ (shows : Shows) (p : Planned) (ignored : Option (List ℕ)) (part : Lis
   to_end status output r = record {
     front = prints (announced shows p.cmd);
     tried = ran shows p status output r.stderr ∷ [];
-    rest = prints (behind shows p.cmd true ignored status r.stderr);
+    rest = prints (behind shows true ignored status r.stderr);
     last = [];
-    cut = r.is ∙ ap (λ l. prints (announced shows p.cmd) ++ (ran shows p status output r.stderr ∷ l)) (sym (append-nil (prints (behind shows p.cmd true ignored status r.stderr))));
+    cut = r.is ∙ ap (λ l. prints (announced shows p.cmd) ++ (ran shows p status output r.stderr ∷ l)) (sym (append-nil (prints (behind shows true ignored status r.stderr))));
     lines_before = all_lines (announced shows p.cmd);
-    lines_behind = all_lines (behind shows p.cmd true ignored status r.stderr);
+    lines_behind = all_lines (behind shows true ignored status r.stderr);
     of_command = (refl, refl);
     ended = tt;
   }
@@ -64,11 +64,11 @@ module _ (shows : Shows) (p : Planned) (ignored : Option (List ℕ)) (part : Lis
   part_way w last is ended = record {
     front = prints (announced shows p.cmd);
     tried = ran shows p w.status w.output w.stderr ∷ [];
-    rest = prints (take w.count (behind shows p.cmd true ignored w.status w.stderr));
+    rest = prints (take w.count (behind shows true ignored w.status w.stderr));
     last = last;
-    cut = w.is ∙ append_assoc (prints (announced shows p.cmd)) (ran shows p w.status w.output w.stderr ∷ prints (take w.count (behind shows p.cmd true ignored w.status w.stderr))) w.rest ∙ ap (λ l. prints (announced shows p.cmd) ++ (ran shows p w.status w.output w.stderr ∷ (prints (take w.count (behind shows p.cmd true ignored w.status w.stderr)) ++ l))) is;
+    cut = w.is ∙ append_assoc (prints (announced shows p.cmd)) (ran shows p w.status w.output w.stderr ∷ prints (take w.count (behind shows true ignored w.status w.stderr))) w.rest ∙ ap (λ l. prints (announced shows p.cmd) ++ (ran shows p w.status w.output w.stderr ∷ (prints (take w.count (behind shows true ignored w.status w.stderr)) ++ l))) is;
     lines_before = all_lines (announced shows p.cmd);
-    lines_behind = all_lines (take w.count (behind shows p.cmd true ignored w.status w.stderr));
+    lines_behind = all_lines (take w.count (behind shows true ignored w.status w.stderr));
     of_command = (refl, refl);
     ended = ended;
   }
@@ -108,12 +108,12 @@ module _ (shows : Shows) (p : Planned) (ignored : Option (List ℕ)) (part : Lis
     -- no call of the host failed
     pub given_faultless : list_any is_fault part ≡ false
     unfolding whole to_end
-    given_faultless = broken_any is_fault (λ kind bytes. refl) (λ message. refl) p part whole refl refl
+    given_faultless = broken_any is_fault (λ kind bytes. refl) p part whole refl refl
 
     -- and the command was tried once
     pub given_attempts : attempts part ≡ to_attempt p ∷ []
     unfolding whole to_end
-    given_attempts = broken_tells attempt_of (λ kind bytes. refl) (λ message. refl) p part whole
+    given_attempts = broken_tells attempt_of (λ kind bytes. refl) p part whole
 
   -- ---- where it gave none
 
@@ -131,14 +131,14 @@ module _ (shows : Shows) (p : Planned) (ignored : Option (List ℕ)) (part : Lis
   spoilt : (error : RunError) → IsOutput shows p Capture true ignored (Err error) part → (error ≡ NoMemory) ⊎ IsSpoilt
   unfolding lacking
   spoilt (Fails place status) h =
-      inr (inr (inr (any_last ran_badly (prints (announced shows p.cmd)) (ran shows p status h.2.0 h.2.1.stderr ∷ prints (behind shows p.cmd true ignored status h.2.1.stderr)) h.2.1.is (ap (λ b. not b || list_any ran_badly (prints (behind shows p.cmd true ignored status h.2.1.stderr))) h.1))))
+      inr (inr (inr (any_last ran_badly (prints (announced shows p.cmd)) (ran shows p status h.2.0 h.2.1.stderr ∷ prints (behind shows true ignored status h.2.1.stderr)) h.2.1.is (ap (λ b. not b || list_any ran_badly (prints (behind shows true ignored status h.2.1.stderr))) h.1))))
   spoilt (ToolNotFound place) h =
-      let lacks : missing part ≡ (p.role, p.cmd) ∷ [] = done_tells missing_of (λ kind bytes. refl) (λ message. refl) p part true (lacking place h) in
+      let lacks : missing part ≡ (p.role, p.cmd) ∷ [] = done_tells missing_of (λ kind bytes. refl) p part true (lacking place h) in
       inr (inr (inl (λ none. let clash : (p.role, p.cmd) ∷ [] ≡ [] = sym lacks ∙ none in cc)))
   spoilt (StartFault place) h = inr (inl (any_last is_fault (prints (announced shows p.cmd)) (Fault Output h.1.0 ∷ []) h.1.1 refl))
   spoilt (HostFault call why) (is, inl alone) = inr (inl (any_last is_fault [] (Fault call why ∷ []) alone (ap (λ b. not b || false) (ap is_probing is))))
   spoilt (HostFault call why) (is, inr (w, last)) =
-      inr (inl (any_last is_fault (prints (announced shows p.cmd) ++ ran shows p w.status w.output w.stderr ∷ prints (take w.count (behind shows p.cmd true ignored w.status w.stderr))) w.rest w.is (ap (list_any is_fault) last ∙ ap (λ b. not b || false) (ap is_probing is))))
+      inr (inl (any_last is_fault (prints (announced shows p.cmd) ++ ran shows p w.status w.output w.stderr ∷ prints (take w.count (behind shows true ignored w.status w.stderr))) w.rest w.is (ap (list_any is_fault) last ∙ ap (λ b. not b || false) (ap is_probing is))))
   spoilt NoMemory h = inl refl
   spoilt WaitFault h = absurd h
   spoilt JobFault h = absurd h

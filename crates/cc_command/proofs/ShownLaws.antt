@@ -6,7 +6,7 @@ use Rattle.std.proofs.lemmas.List.{append_cancel_left}
 use Rattle.std.proofs.lemmas.List.Folds.{list_all-append, list_any-append}
 use Rattle.cc_host.specs.Command.{CommandSeen}
 use Rattle.cc_host.specs.Part.{Step, since, step_of, stop_of, calm_of, stops, calm, done, left, is_probing, Refuses, StopsAt, IsPartly, IsWhole}
-use Rattle.cc_host.specs.Part.Step.{Runs, Makes, Removes, Writes, Copies, Finds, Says, Prints, Lists}
+use Rattle.cc_host.specs.Part.Step.{Runs, Makes, Removes, Writes, Copies, Finds, Says as SaysMessage, Prints, Lists}
 use Rattle.cc_host.specs.Question.{Look, answers, Holds}
 use Rattle.cc_host.specs.declared.event.Event.{Event}
 use Rattle.cc_host.specs.declared.event.Event.TheVariants.{Started, Missing, Ended as EndedChild, Abandoned, Ran, Heard, Unread, Turn, Fault, Printed, Removed, Wrote, Copied, Here, Said, Made, Listed}
@@ -90,7 +90,7 @@ told_refused (Removes path) event told refuses = absurd (cc)
 told_refused (Writes path bytes) event told refuses = absurd (cc)
 told_refused (Copies from to) event told refuses = absurd (cc)
 told_refused (Finds path) event told refuses = absurd (cc)
-told_refused (Says message) event told refuses = absurd (cc)
+told_refused (SaysMessage message) event told refuses = absurd (cc)
 
 fault_stops : (event : Event) → IsRealFault event → stop_of event ≡ event ∷ []
 fault_stops event f = ap stop_of f.2.0 ∙ by_test (is_probing f.0) f.2.1 ∙ ap (λ e. e ∷ []) (sym f.2.0)

@@ -6,7 +6,6 @@ pub mod Hearing
 pub mod Keeping
 pub mod Life
 pub mod Lines
-pub mod Messages
 pub mod Outcome
 pub mod Output
 pub mod Own
@@ -17,7 +16,6 @@ pub mod Planned
 pub mod Printing
 pub mod Prints
 pub mod Run
-pub mod Said
 pub mod Solo
 pub mod Started
 pub mod Stderr

@@ -10,7 +10,6 @@ mod all;
 mod error;
 mod forwarder;
 mod hearing;
-mod messages;
 mod one;
 mod planned;
 mod print;

@@ -1,36 +1,29 @@
 // The lines that a run prints.
 ghost use Rattle.std.specs.Prelude.{◌≡◌, ◌++◌, [], IfOk, OnOk, map, string_bytes};
 ghost use Rattle.std.specs.Fmt.{signed_decimal};
-ghost use Rattle.cc_run.specs.Texts.{cargo_line, debug_line, ended_text, end_in_brackets, failed_text, failed_line, announced, unread_text};
+ghost use Rattle.cc_run.specs.Texts.{cargo_line, debug_line, ended_text, end_in_brackets, failed_text, failed_line, announced};
 
 use crate::Shows;
-use crate::print::Notice;
+use crate::print::Line;
 use cc_host::{Command, LineKind, Status, command_line};
 use cc_text::{Bytes, Mem, Text};
 use std::alloc::{AllocError, Global};
 
 // A line for Cargo, which shows it as a warning.
-pub(crate) fn cargo_line(alloc: Global, kind: LineKind, text: &[u8]) -> Mem<Notice>
+pub(crate) fn cargo_line(alloc: Global, kind: LineKind, text: &[u8]) -> Mem<Line>
     ensures { IfOk result (λ line. line ≡ cargo_line kind text.now) }
 {
     let mut bytes = Vec::from_slice(alloc, b"cargo:warning=")?;
     bytes.extend_from_slice(text)?;
     bytes.push(b'\n')?;
-    Ok(Notice::Shown {
+    Ok(Line {
         kind,
         bytes: Bytes::owning(bytes),
     })
 }
 
-// The warning of a standard error that failed to be read.
-pub(crate) fn unread_text() -> &'static str
-    ensures { result.now ≡ unread_text }
-{
-    "Failed to read from child stderr"
-}
-
 // Adds each of these texts as such a line.
-pub(crate) fn push_lines(kind: LineKind, texts: &[Bytes], lines: &mut Vec<Notice>) -> Mem<()>
+pub(crate) fn push_lines(kind: LineKind, texts: &[Bytes], lines: &mut Vec<Line>) -> Mem<()>
     ensures { OnOk result (lines.new.items ≡ lines.old.items ++ map (cargo_line kind) texts.now) }
 {
     let alloc = *lines.allocator();
@@ -41,12 +34,12 @@ pub(crate) fn push_lines(kind: LineKind, texts: &[Bytes], lines: &mut Vec<Notice
 }
 
 // A line for debugging.
-fn debug_line(alloc: Global, text: &[u8]) -> Mem<Notice>
+fn debug_line(alloc: Global, text: &[u8]) -> Mem<Line>
     ensures { IfOk result (λ line. line ≡ debug_line text.now) }
 {
     let mut bytes = Vec::from_slice(alloc, text)?;
     bytes.push(b'\n')?;
-    Ok(Notice::Shown {
+    Ok(Line {
         kind: LineKind::Debug,
         bytes: Bytes::owning(bytes),
     })
@@ -54,7 +47,7 @@ fn debug_line(alloc: Global, text: &[u8]) -> Mem<Notice>
 
 // The line before a command, where it is wanted.
 #[tactic(auto, unfolding(crate::specs::Texts::announced))]
-pub(crate) fn announced(alloc: Global, shows: &Shows, cmd: &Command) -> Mem<Vec<Notice>>
+pub(crate) fn announced(alloc: Global, shows: &Shows, cmd: &Command) -> Mem<Vec<Line>>
     ensures { IfOk result (λ lines. lines.items ≡ announced shows.now cmd.now) }
 {
     let mut lines = Vec::new(alloc);
@@ -88,7 +81,7 @@ fn ended_text(alloc: Global, status: Status) -> Mem<Text>
 }
 
 // The line after a command.
-pub(crate) fn ended_line(alloc: Global, status: Status) -> Mem<Notice>
+pub(crate) fn ended_line(alloc: Global, status: Status) -> Mem<Line>
     ensures { IfOk result (λ line. line ≡ debug_line (ended_text status)) }
 {
     let text = ended_text(alloc, status)?;
@@ -126,7 +119,7 @@ pub fn failed_text(alloc: Global, status: Status, cmd: &Command) -> Mem<Text>
 
 // The warning of a command that failed among others.
 #[tactic(auto, unfolding(crate::specs::Texts::failed_line))]
-pub(crate) fn failed_line(alloc: Global, status: Status, cmd: &Command) -> Mem<Notice>
+pub(crate) fn failed_line(alloc: Global, status: Status, cmd: &Command) -> Mem<Line>
     ensures { IfOk result (λ line. line ≡ failed_line status cmd.now) }
 {
     let message = failed_text(alloc, status, cmd)?;

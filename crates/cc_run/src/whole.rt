@@ -6,11 +6,10 @@ ghost use Rattle.cc_host.specs.declared.event.OutputKind.TheVariants.{Capture};
 ghost use Rattle.cc_run.specs.Output.{IsOutput, IsOutputBy, IsSilentRun, behind_by};
 
 use crate::error::start_error;
-use crate::messages::{push_failed, push_warned};
-use crate::print::{Notice, print_all};
+use crate::print::{Line, print_all};
 use crate::texts::{announced, ended_line, push_lines};
 use crate::{Planned, RunError, Shows, stderr_warnings};
-use cc_host::{Command, Host, LineKind, OutputKind, Pipes, Ran, Status, World};
+use cc_host::{Host, LineKind, OutputKind, Pipes, Ran, Status, World};
 use cc_text::{Bytes, Mem};
 use std::alloc::Global;
 
@@ -23,33 +22,25 @@ struct Outputs<'a> {
     ignored: Option<&'a [u8]>,
 }
 
-// What comes behind a command: the warnings of its standard error, how it ended, and the messages of both.
+// The lines behind a command: the warnings of its standard error, and then how it ended.
 #[tactic(auto, unfolding(crate::specs::Output::behind))]
 fn lines_behind(
     alloc: Global,
     shows: &Shows,
-    cmd: &Command,
     outputs: Outputs<'_>,
     status: Status,
     stderr: &[u8],
-) -> Mem<Vec<Notice>>
+) -> Mem<Vec<Line>>
     ensures { IfOk result (λ lines.
-        lines.items ≡ behind_by shows.now cmd.now outputs.entry status stderr.now) }
+        lines.items ≡ behind_by shows.now outputs.entry status stderr.now) }
 {
     let mut lines = Vec::new(alloc);
     if shows.warnings && (outputs.always || status.is_success()) {
         let texts = stderr_warnings(alloc, stderr, outputs.ignored)?;
         push_lines(LineKind::Warning, &texts, &mut lines)?;
     }
-    if shows.listens && (outputs.always || status.is_success()) {
-        let texts = stderr_warnings(alloc, stderr, outputs.ignored)?;
-        push_warned(cmd, &texts, &mut lines)?;
-    }
     if shows.debug {
         lines.push(ended_line(alloc, status)?)?;
-    }
-    if outputs.always {
-        push_failed(shows, status, cmd, &mut lines)?;
     }
     Ok(lines)
 }
@@ -70,7 +61,7 @@ fn run_whole<W: World, H: Host<W>>(
 {
     let pipes = Pipes {
         out: outputs.out,
-        hear: shows.warnings || shows.listens,
+        hear: shows.warnings,
     };
     let before = announced(alloc, shows, &planned.cmd)?;
     match print_all(host, &before) {
@@ -80,7 +71,7 @@ fn run_whole<W: World, H: Host<W>>(
     match host.output(planned.role, &planned.cmd, pipes) {
         Ok(Ran::Missing) => Err(RunError::ToolNotFound(0)),
         Ok(Ran::Done { status, out, err }) => {
-            let behind = lines_behind(alloc, shows, &planned.cmd, outputs, status, err.as_slice());
+            let behind = lines_behind(alloc, shows, outputs, status, err.as_slice());
             let Ok(lines) = behind else {
                 return Err(RunError::NoMemory);
             };
@@ -99,11 +90,10 @@ fn run_whole<W: World, H: Host<W>>(
 }
 
 /// Runs a command to its end in one call of the host, with its standard output discarded. Printed are, as `shows` says,
-/// a line before it, the warnings of its standard error where it ended with 0, and then its status. To a host that listens
-/// these warnings are said too, also where none are shown.
+/// a line before it, the warnings of its standard error where it ended with 0, and then its status.
 ///
 /// Refused are a missing program, a fault of the host, another status than 0 and want of memory, each with place 0. A
-/// refused line, message or memory leaves the first of these.
+/// refused print or memory leaves the first of the lines printed.
 pub fn run_silent<W: World, H: Host<W>>(
     alloc: Global,
     host: &mut H,
@@ -127,7 +117,7 @@ pub fn run_silent<W: World, H: Host<W>>(
 
 /// Runs a command to its end in one call of the host, and gives all bytes of its standard output. Printed are, as
 /// `shows` says, a line before it, the warnings of its standard error however it ended, without the ignored line, and
-/// then its status. To a host that listens these warnings are said too, and a failure. `ignored` is for a compiler that names each source on its standard error, as Visual Studio's does.
+/// then its status. `ignored` is for a compiler that names each source on its standard error, as Visual Studio's does.
 ///
 /// It is refused as `run_silent` is; its output is then lost.
 pub fn run_output<W: World, H: Host<W>>(

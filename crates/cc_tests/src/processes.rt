@@ -240,7 +240,6 @@ const HEARD: Shows = Shows {
     warnings: true,
     debug: false,
     out: OutputKind::Discard,
-    listens: false,
 };
 
 // Whether both commands end well over a pool of two.

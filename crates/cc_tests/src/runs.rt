@@ -42,7 +42,6 @@ const QUIET: Shows = Shows {
     warnings: false,
     debug: false,
     out: OutputKind::Discard,
-    listens: false,
 };
 
 // Whether the commands all end well over a pool of two.
