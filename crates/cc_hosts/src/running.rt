@@ -32,8 +32,8 @@ pub struct Process<R: Processes + Wait + Copy> {
 // How long the young children are waited for in one rest, in milliseconds. What the others did isn't seen meanwhile.
 const YOUNG_MS: u64 = 1;
 
-// How often a young child whose pipe was silent is passed over before it is asked whether it ended all the same, as one does that leaves its
-// pipe to another process.
+// How often a child without a thread whose pipe was silent is passed over before it is asked whether it ended all the same, as one does that
+// leaves its pipe to another process.
 const MOST_PASSED: u32 = 64;
 
 /// Lets the child's thread end. The process runs on.
@@ -93,7 +93,7 @@ impl<R: Processes + Wait + Copy> Process<R>
 where
     <R::Started as OpenProcess>::Stderr: AsRawFd,
 {
-    // Does what is to be done for a child whose pipe was waited for.
+    // Does what is to be done for a child that may have no thread, of which is known whether its pipe is ready.
     fn attend(&mut self, is_ready: bool) {
         if is_ready || self.passed >= MOST_PASSED {
             self.passed = 0;
@@ -219,18 +219,20 @@ where
     Some(pipes)
 }
 
-// Does what is to be done for the young children, of which these pipes were waited for.
-fn attend_young<R: Processes + Wait + Copy>(processes: &mut [Process<R>], pipes: &[pollfd])
+// Does what is to be done for the children that have no thread: the young ones, of which these pipes were waited for, and those for which
+// none could be made.
+fn attend_all<R: Processes + Wait + Copy>(processes: &mut [Process<R>], pipes: &[pollfd])
 where
     <R::Started as OpenProcess>::Stderr: AsRawFd,
 {
     let mut waited = pipes.iter();
     for process in processes {
-        if process.is_young
-            && let Some(pipe) = waited.next()
-        {
-            process.attend(pipe.revents != 0);
-        }
+        let is_ready = process.is_young
+            && match waited.next() {
+                Some(pipe) => pipe.revents != 0,
+                None => false,
+            };
+        process.attend(is_ready);
     }
 }
 
@@ -248,7 +250,7 @@ where
         Some(mut pipes) => {
             let young_ms = rest_ms.min(YOUNG_MS);
             libc::net::poll(&mut pipes, young_ms as i32);
-            attend_young(processes, &pipes);
+            attend_all(processes, &pipes);
             rest_ms.saturating_sub(young_ms)
         }
         None => {
