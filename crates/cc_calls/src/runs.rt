@@ -71,6 +71,7 @@ fn shows_of(shown: &str) -> Shows {
         warnings: contains(shown, "warnings"),
         debug: contains(shown, "debug"),
         out: OutputKind::Forward,
+        listens: contains(shown, "listens"),
     }
 }
 

@@ -1,12 +1,14 @@
 -- Laws on the children that run.
-use Rattle.std.proofs.Common.{◌≡◌, ℕ, zero, suc, ◌+◌, ◌<◌, List, [], ◌∷◌, ◌++◌, length, map, take, drop, get_or, refl, sym, ap, subst, add-one, arith, ◌≢◌, Bool, true, false}
-use Rattle.std.specs.Prelude.{None, Some, ◌==◌, if◌then◌else◌}
+use Rattle.std.proofs.Common.{◌≡◌, ℕ, zero, suc, ◌+◌, ◌<◌, List, [], ◌∷◌, ◌++◌, length, map, take, drop, get_or, refl, sym, ◌∙◌, ap, subst, add-one, arith, ◌≢◌, Bool, true, false}
+use Rattle.std.specs.Prelude.{Option, None, Some, ◌==◌, if◌then◌else◌}
+use Rattle.std.specs.List.{slice_get}
 use Rattle.std.proofs.lemmas.Grind.{common_steps}
 use Rattle.std.proofs.Math.ListN.{set}
+use Rattle.cc_run.specs.declared.planned.Planned.{Planned}
 use Rattle.cc_run.specs.declared.running.Child.{Child}
 use Rattle.cc_run.specs.Children.{Kept, seat, run_of, without_child, AreBelow, ArePlaced, IsFirst}
 use Rattle.cc_run.specs.Hearing.{at_child, of_child}
-use Rattle.cc_run.specs.declared.print.Line.{Line}
+use Rattle.cc_run.specs.declared.print.Notice.{Notice}
 use Rattle.cc_run.specs.Run.{place_of, without}
 
 pub place_here : (id : ℕ) (cs : List Child) (at : ℕ) (d : Child) → at < length cs → (get_or cs at d).id ≡ id → place_of id (map seat (drop at cs)) ≡ Some (get_or cs at d).place
@@ -92,7 +94,7 @@ change_at id f (c ∷ cs) (suc at) d lt own h = step (c.id == id) refl (change_a
     step false e k = ap (λ l. c ∷ l) k
 change_at id f [] at d lt own h = absurd (omega arith)
 
-read_at : (id : ℕ) (f : Child → List Line) (cs : List Child) (at : ℕ) (d : Child) → at < length cs → (get_or cs at d).id ≡ id → Befores id cs at → of_child id f cs ≡ f (get_or cs at d)
+read_at : (id : ℕ) (f : Child → List Notice) (cs : List Child) (at : ℕ) (d : Child) → at < length cs → (get_or cs at d).id ≡ id → Befores id cs at → of_child id f cs ≡ f (get_or cs at d)
 unfolding Befores
 read_at id f (c ∷ cs) zero d lt own h = grind (arith, common_steps)
 read_at id f (c ∷ cs) (suc at) d lt own h = step (c.id == id) refl (read_at id f cs at d (omega arith) own (λ k e l. h (suc k) e (omega arith)))
@@ -108,9 +110,14 @@ unfolding Befores
 first_at id f cs at d h = change_at id f cs at d h.below (h.own d) h.before
 
 -- and its lines
-pub first_of : (id : ℕ) (f : Child → List Line) (cs : List Child) (at : ℕ) (d : Child) → IsFirst id cs at → of_child id f cs ≡ f (get_or cs at d)
+pub first_of : (id : ℕ) (f : Child → List Notice) (cs : List Child) (at : ℕ) (d : Child) → IsFirst id cs at → of_child id f cs ≡ f (get_or cs at d)
 unfolding Befores
 first_of id f cs at d h = read_at id f cs at d h.below (h.own d) h.before
+
+-- and what it gave, by its command
+pub first_given : (f : Option Planned → Child → List Notice) (id : ℕ) (cmds : List Planned) (cs : List Child) (at : ℕ) (x d : Child) (o : Option Planned) (old new : List Notice) → IsFirst id cs at → x ≡ get_or cs at d → o ≡ slice_get cmds x.place → new ≡ old ++ f o x → new ≡ old ++ of_child id (λ c. f (slice_get cmds c.place) c) cs
+first_given f id cmds cs at x d o old new h e p n =
+    n ∙ ap (λ l. old ++ l) (ap (λ q. f q x) p ∙ ap (λ c. f (slice_get cmds c.place) c) e ∙ sym (first_of id (λ c. f (slice_get cmds c.place) c) cs at d h))
 
 pub none_at : (id : ℕ) (f : Child → Child) (cs : List Child) → place_of id (map seat cs) ≡ None → at_child id f cs ≡ cs
 none_at id f [] h = refl
@@ -120,7 +127,7 @@ none_at id f (c ∷ cs) h = at (c.id == id) h (none_at id f cs)
     at true h rec = absurd (cc)
     at false h rec = ap (λ l. c ∷ l) (rec h)
 
-pub none_of : (id : ℕ) (f : Child → List Line) (cs : List Child) → place_of id (map seat cs) ≡ None → of_child id f cs ≡ []
+pub none_of : (id : ℕ) (f : Child → List Notice) (cs : List Child) → place_of id (map seat cs) ≡ None → of_child id f cs ≡ []
 none_of id f [] h = refl
 none_of id f (c ∷ cs) h = at (c.id == id) h (none_of id f cs)
   where

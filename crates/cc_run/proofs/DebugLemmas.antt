@@ -1,7 +1,7 @@
 -- Laws on the lines for debugging.
 use Rattle.std.proofs.Common.{◌≡◌, ℕ, ◌+◌, ◌*◌, ◌<◌, ◌≤◌, zero, suc, Bool, true, false, List, [], ◌∷◌, ◌++◌, ◌==◌, ◌&&◌, not, length, map, take, drop, refl, ◌∙◌, ap, arith, if◌then◌else◌}
-use Rattle.std.specs.Prelude.{Result, Ok, Err, OnOk, None, Some, filter, option_to_list, codes}
-use Rattle.std.specs.List.{flat_map}
+use Rattle.std.specs.Prelude.{Result, Ok, Err, OnOk, Option, None, Some, filter, option_to_list, codes}
+use Rattle.std.specs.List.{flat_map, slice_get}
 use Rattle.std.proofs.lemmas.List.{append-nil, length-append, length-map, take_all}
 use Rattle.std.proofs.lemmas.List.Elements.{filter-append}
 use Rattle.cc_text.specs.Words.{when}
@@ -16,7 +16,7 @@ use Rattle.cc_host.specs.declared.event.Status.{Status}
 use Rattle.cc_run.specs.Children.{Kept, run_of, seat, AreBelow, nothing_kept}
 use Rattle.cc_run.specs.Debugging.{is_debug, debug_printed, end_line, debug_of, debug_from}
 use Rattle.cc_run.specs.Forwarded.{heard_lines, rest_lines, unread_lines, ended_lines}
-use Rattle.cc_run.specs.Hearing.{of_child, end_lines}
+use Rattle.cc_run.specs.Hearing.{of_child, heard_at, unread_at, end_lines}
 use Rattle.cc_run.specs.Lines.{whole_lines, last_line}
 use Rattle.cc_run.specs.Outcome.{IsDone}
 use Rattle.cc_run.specs.Part.{started, started_of, abandoned, abandoned_of}
@@ -27,41 +27,43 @@ use Rattle.cc_run.specs.Texts.{announced, cargo_line, stderr_line, debug_line, e
 use Rattle.cc_run.specs.declared.error.RunError.{RunError}
 use Rattle.cc_run.specs.declared.planned.Planned.{Planned}
 use Rattle.cc_run.specs.declared.planned.Shows.{Shows}
-use Rattle.cc_run.specs.declared.print.Line.{Line}
+use Rattle.cc_run.specs.declared.print.Notice.{Notice}
 use Rattle.cc_run.specs.declared.running.Child.{Child}
-use Rattle.cc_run.proofs.SiftLemmas.{filter_when, when_none, along_due}
+use Rattle.cc_run.proofs.SiftLemmas.{filter_when, when_none, untold_start, untold_given, untold_unread, untold_ended, along_due}
 
 no_stderr : (id : ℕ) (ts : List (List ℕ)) → filter is_debug (map (stderr_line id) ts) ≡ []
 no_stderr id [] = refl
 no_stderr id (t ∷ ts) = no_stderr id ts
 
-heard_none : (shows : Shows) (p : List ℕ) (c : Child) → filter is_debug (heard_lines shows c p) ≡ []
-heard_none shows p c = filter_when is_debug shows.warnings _ ∙ ap (when shows.warnings) (no_stderr c.id (whole_lines (c.rest ++ p))) ∙ when_none shows.warnings
+heard_none : (shows : Shows) (o : Option Planned) (p : List ℕ) (c : Child) → filter is_debug (heard_lines shows o c p) ≡ []
+heard_none shows o p c = untold_given is_debug (λ m. refl) shows o c.id (whole_lines (c.rest ++ p)) ∙ filter_when is_debug shows.warnings _ ∙ ap (when shows.warnings) (no_stderr c.id (whole_lines (c.rest ++ p))) ∙ when_none shows.warnings
 
-rest_none : (shows : Shows) (c : Child) → filter is_debug (rest_lines shows c) ≡ []
-rest_none shows c = filter_when is_debug shows.warnings _ ∙ ap (when shows.warnings) (no_stderr c.id (option_to_list (last_line c.rest))) ∙ when_none shows.warnings
+rest_none : (shows : Shows) (o : Option Planned) (c : Child) → filter is_debug (rest_lines shows o c) ≡ []
+rest_none shows o c = untold_given is_debug (λ m. refl) shows o c.id (option_to_list (last_line c.rest)) ∙ filter_when is_debug shows.warnings _ ∙ ap (when shows.warnings) (no_stderr c.id (option_to_list (last_line c.rest))) ∙ when_none shows.warnings
 
-unread_none : (shows : Shows) (c : Child) → filter is_debug (unread_lines shows c) ≡ []
-unread_none shows c =
-    filter-append is_debug (rest_lines shows c) (when shows.warnings (cargo_line Warning unread_text ∷ []))
-    ∙ ap (λ l. l ++ filter is_debug (when shows.warnings (cargo_line Warning unread_text ∷ []))) (rest_none shows c)
+unread_none : (shows : Shows) (o : Option Planned) (c : Child) → filter is_debug (unread_lines shows o c) ≡ []
+unread_none shows o c =
+    untold_unread is_debug (λ m. refl) shows o c ∙
+    filter-append is_debug (rest_lines shows o c) (when shows.warnings (cargo_line Warning unread_text ∷ []))
+    ∙ ap (λ l. l ++ filter is_debug (when shows.warnings (cargo_line Warning unread_text ∷ []))) (rest_none shows o c)
     ∙ filter_when is_debug shows.warnings _ ∙ when_none shows.warnings
 
-ended_one : (shows : Shows) (warns : Bool) (cmd : CommandSeen) (s : Status) (c : Child) → filter is_debug (ended_lines shows warns cmd s c) ≡ when shows.debug (debug_line (ended_text s) ∷ [])
+ended_one : (shows : Shows) (warns : Bool) (q : Planned) (s : Status) (c : Child) → filter is_debug (ended_lines shows warns q s c) ≡ when shows.debug (debug_line (ended_text s) ∷ [])
 unfolding failed_line
-ended_one shows warns cmd s c =
-    filter-append is_debug (rest_lines shows c ++ when shows.debug (debug_line (ended_text s) ∷ [])) (when (warns && shows.warnings && not (is_success s)) (failed_line s cmd ∷ []))
-    ∙ ap (λ l. filter is_debug (rest_lines shows c ++ when shows.debug (debug_line (ended_text s) ∷ [])) ++ l) (filter_when is_debug (warns && shows.warnings && not (is_success s)) _ ∙ when_none (warns && shows.warnings && not (is_success s)))
+ended_one shows warns q s c =
+    untold_ended is_debug (λ m. refl) shows warns q s c ∙
+    filter-append is_debug (rest_lines shows (Some q) c ++ when shows.debug (debug_line (ended_text s) ∷ [])) (when (warns && shows.warnings && not (is_success s)) (failed_line s q.cmd ∷ []))
+    ∙ ap (λ l. filter is_debug (rest_lines shows (Some q) c ++ when shows.debug (debug_line (ended_text s) ∷ [])) ++ l) (filter_when is_debug (warns && shows.warnings && not (is_success s)) _ ∙ when_none (warns && shows.warnings && not (is_success s)))
     ∙ append-nil _
-    ∙ filter-append is_debug (rest_lines shows c) (when shows.debug (debug_line (ended_text s) ∷ []))
-    ∙ ap (λ l. l ++ filter is_debug (when shows.debug (debug_line (ended_text s) ∷ []))) (rest_none shows c)
+    ∙ filter-append is_debug (rest_lines shows (Some q) c) (when shows.debug (debug_line (ended_text s) ∷ []))
+    ∙ ap (λ l. l ++ filter is_debug (when shows.debug (debug_line (ended_text s) ∷ []))) (rest_none shows (Some q) c)
     ∙ filter_when is_debug shows.debug _
 
 announced_one : (shows : Shows) (cmd : CommandSeen) → filter is_debug (announced shows cmd) ≡ announced shows cmd
 unfolding announced
 announced_one shows cmd = filter_when is_debug shows.debug _
 
-none_of : (id : ℕ) (g : Child → List Line) → ((c : Child) → filter is_debug (g c) ≡ []) → (cs : List Child) → filter is_debug (of_child id g cs) ≡ []
+none_of : (id : ℕ) (g : Child → List Notice) → ((c : Child) → filter is_debug (g c) ≡ []) → (cs : List Child) → filter is_debug (of_child id g cs) ≡ []
 none_of id g h [] = refl
 none_of id g h (c ∷ cs) = at (c.id == id) (none_of id g h cs)
   where
@@ -73,8 +75,8 @@ none_of id g h (c ∷ cs) = at (c.id == id) (none_of id g h cs)
 end_one : (shows : Shows) (warns : Bool) (cmds : List Planned) (s : Status) (c : Child) → c.place < length cmds → filter is_debug (end_lines shows warns cmds s c) ≡ when shows.debug (debug_line (ended_text s) ∷ [])
 end_one shows warns cmds s c lt = at cmds c.place lt
   where
-    at : (cmds : List Planned) (place : ℕ) → place < length cmds → filter is_debug (flat_map (λ p. ended_lines shows warns p.cmd s c) (take 1 (drop place cmds))) ≡ when shows.debug (debug_line (ended_text s) ∷ [])
-    at (p ∷ cmds) zero lt = ap (filter is_debug) (append-nil (ended_lines shows warns p.cmd s c)) ∙ ended_one shows warns p.cmd s c
+    at : (cmds : List Planned) (place : ℕ) → place < length cmds → filter is_debug (flat_map (λ p. ended_lines shows warns p s c) (take 1 (drop place cmds))) ≡ when shows.debug (debug_line (ended_text s) ∷ [])
+    at (p ∷ cmds) zero lt = ap (filter is_debug) (append-nil (ended_lines shows warns p s c)) ∙ ended_one shows warns p s c
     at (p ∷ cmds) (suc place) lt = at cmds place (omega arith)
     at [] place lt = absurd (omega arith)
 
@@ -88,9 +90,9 @@ end_of shows warns cmds id s (c ∷ cs) h = at (c.id == id) (end_of shows warns 
 
 -- one event
 debug_due : (shows : Shows) (warns : Bool) (cmds : List Planned) (k : Kept) (e : Event) → AreBelow (length cmds) (map seat k.children) → filter is_debug (due shows warns cmds k e) ≡ debug_of shows (run_of k) e
-debug_due shows warns cmds k (Started n role cmd pipes held) h = announced_one shows cmd
-debug_due shows warns cmds k (Heard n p) h = none_of n (λ c. heard_lines shows c p) (heard_none shows p) k.children
-debug_due shows warns cmds k (Unread n) h = none_of n (unread_lines shows) (unread_none shows) k.children
+debug_due shows warns cmds k (Started n role cmd pipes held) h = untold_start is_debug (λ m. refl) shows cmd (take 1 (drop k.begun cmds)) ∙ announced_one shows cmd
+debug_due shows warns cmds k (Heard n p) h = none_of n (heard_at shows cmds p) (λ c. heard_none shows (slice_get cmds c.place) p c) k.children
+debug_due shows warns cmds k (Unread n) h = none_of n (unread_at shows cmds) (λ c. unread_none shows (slice_get cmds c.place) c) k.children
 debug_due shows warns cmds k (Ended n s) h = end_of shows warns cmds n s k.children h
 debug_due shows warns cmds k (Abandoned n) h = refl
 debug_due shows warns cmds k (Turn n) h = refl

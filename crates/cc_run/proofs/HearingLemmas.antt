@@ -14,7 +14,7 @@ use Rattle.cc_run.specs.Hearing.{of_child, children_after, children_from, end_li
 use Rattle.cc_run.specs.Run.{Run, ended_run}
 use Rattle.cc_run.specs.declared.planned.Planned.{Planned}
 use Rattle.cc_run.specs.declared.planned.Shows.{Shows}
-use Rattle.cc_run.specs.declared.print.Line.{Line}
+use Rattle.cc_run.specs.declared.print.Notice.{Notice}
 use Rattle.cc_run.specs.declared.running.Child.{Child}
 
 pub children_both : (cs : List Child) (a b : List Event) → children_from cs (a ++ b) ≡ children_from (children_from cs a) b
@@ -33,11 +33,11 @@ pub reported_owed : (shows : Shows) (warns : Bool) (cmds : List Planned) (cs : L
 reported_owed shows warns cmds cs n = owed_both shows warns cmds cs (front_of n) (ended n.id n.ended)
 
 -- the end of a child by its command
-pub end_at : (shows : Shows) (warns : Bool) (cmds : List Planned) (status : Status) (c : Child) (d : Planned) → c.place < length cmds → end_lines shows warns cmds status c ≡ ended_lines shows warns (get_or cmds c.place d).cmd status c
+pub end_at : (shows : Shows) (warns : Bool) (cmds : List Planned) (status : Status) (c : Child) (d : Planned) → c.place < length cmds → end_lines shows warns cmds status c ≡ ended_lines shows warns (get_or cmds c.place d) status c
 end_at shows warns cmds status c d lt = at cmds c.place lt
   where
-    at : (cmds : List Planned) (place : ℕ) → place < length cmds → flat_map (λ p. ended_lines shows warns p.cmd status c) (take 1 (drop place cmds)) ≡ ended_lines shows warns (get_or cmds place d).cmd status c
-    at (p ∷ cmds) zero lt = append-nil (ended_lines shows warns p.cmd status c)
+    at : (cmds : List Planned) (place : ℕ) → place < length cmds → flat_map (λ p. ended_lines shows warns p status c) (take 1 (drop place cmds)) ≡ ended_lines shows warns (get_or cmds place d) status c
+    at (p ∷ cmds) zero lt = append-nil (ended_lines shows warns p status c)
     at (p ∷ cmds) (suc place) lt = at cmds place (omega arith)
     at [] place lt = absurd (omega arith)
 
@@ -81,7 +81,7 @@ pub more_children : (cs now new : List Child) (news : List News) (i : ℕ) (n : 
 more_children cs now new news i n lt at a b =
     b ∙ ap (λ l. children_from l (reported n)) a ∙ ap (λ m. children_from (children_from cs (flat_map reported (take i news))) (reported m)) at ∙ sym (news_children cs news i n lt)
 
-pub more_lines : (shows : Shows) (warns : Bool) (cmds : List Planned) (cs now : List Child) (news : List News) (i : ℕ) (n : News) (first lines new : List Line) → i < length news → n ≡ get_or news i n → now ≡ children_from cs (flat_map reported (take i news)) → lines ≡ first ++ owed_from shows warns cmds cs (flat_map reported (take i news)) → new ≡ lines ++ owed_from shows warns cmds now (reported n) → new ≡ first ++ owed_from shows warns cmds cs (flat_map reported (take (i + 1) news))
+pub more_lines : (shows : Shows) (warns : Bool) (cmds : List Planned) (cs now : List Child) (news : List News) (i : ℕ) (n : News) (first lines new : List Notice) → i < length news → n ≡ get_or news i n → now ≡ children_from cs (flat_map reported (take i news)) → lines ≡ first ++ owed_from shows warns cmds cs (flat_map reported (take i news)) → new ≡ lines ++ owed_from shows warns cmds now (reported n) → new ≡ first ++ owed_from shows warns cmds cs (flat_map reported (take (i + 1) news))
 more_lines shows warns cmds cs now news i n first lines new lt at a c b =
     b ∙ ap (λ l. l ++ owed_from shows warns cmds now (reported n)) c ∙ append_assoc first _ _
     ∙ ap (λ l. first ++ (owed_from shows warns cmds cs (flat_map reported (take i news)) ++ owed_from shows warns cmds l (reported n))) a
@@ -89,16 +89,16 @@ more_lines shows warns cmds cs now news i n first lines new lt at a c b =
     ∙ ap (λ l. first ++ l) (sym (news_owed shows warns cmds cs news i n lt))
 
 -- the end of somebody else's child
-pub foreign_lines : (shows : Shows) (warns : Bool) (cmds : List Planned) (cs now : List Child) (n : News) (status : Status) (first lines : List Line) → n.ended ≡ Some status → of_child n.id (end_lines shows warns cmds status) now ≡ [] → now ≡ children_from cs (front_of n) → lines ≡ first ++ owed_from shows warns cmds cs (front_of n) → lines ≡ first ++ owed_from shows warns cmds cs (reported n)
+pub foreign_lines : (shows : Shows) (warns : Bool) (cmds : List Planned) (cs now : List Child) (n : News) (status : Status) (first lines : List Notice) → n.ended ≡ Some status → of_child n.id (end_lines shows warns cmds status) now ≡ [] → now ≡ children_from cs (front_of n) → lines ≡ first ++ owed_from shows warns cmds cs (front_of n) → lines ≡ first ++ owed_from shows warns cmds cs (reported n)
 foreign_lines shows warns cmds cs now n status first lines e z a b =
     b ∙ ap (λ l. first ++ l) (sym (reported_owed shows warns cmds cs n
     ∙ ap (λ l. owed_from shows warns cmds cs (front_of n) ++ l) (ap (λ x. owed_from shows warns cmds (children_from cs (front_of n)) (ended n.id x)) e ∙ append-nil _ ∙ ap (of_child n.id (end_lines shows warns cmds status)) (sym a) ∙ z)
     ∙ append-nil _))
 
 -- the end of a child of the run
-pub ended_owed : (shows : Shows) (warns : Bool) (cmds : List Planned) (cs now : List Child) (n : News) (status : Status) (c : Child) (p : Planned) (first lines new : List Line) → n.ended ≡ Some status → of_child n.id (end_lines shows warns cmds status) now ≡ end_lines shows warns cmds status c → c.place < length cmds → now ≡ children_from cs (front_of n) → lines ≡ first ++ owed_from shows warns cmds cs (front_of n) → new ≡ lines ++ ended_lines shows warns (get_or cmds c.place p).cmd status c → new ≡ first ++ owed_from shows warns cmds cs (reported n)
+pub ended_owed : (shows : Shows) (warns : Bool) (cmds : List Planned) (cs now : List Child) (n : News) (status : Status) (c : Child) (p : Planned) (first lines new : List Notice) → n.ended ≡ Some status → of_child n.id (end_lines shows warns cmds status) now ≡ end_lines shows warns cmds status c → c.place < length cmds → now ≡ children_from cs (front_of n) → lines ≡ first ++ owed_from shows warns cmds cs (front_of n) → new ≡ lines ++ ended_lines shows warns (get_or cmds c.place p) status c → new ≡ first ++ owed_from shows warns cmds cs (reported n)
 ended_owed shows warns cmds cs now n status c p first lines new e own lt a b d =
-    let last : owed_from shows warns cmds (children_from cs (front_of n)) (ended n.id n.ended) ≡ ended_lines shows warns (get_or cmds c.place p).cmd status c =
+    let last : owed_from shows warns cmds (children_from cs (front_of n)) (ended n.id n.ended) ≡ ended_lines shows warns (get_or cmds c.place p) status c =
     ap (λ x. owed_from shows warns cmds (children_from cs (front_of n)) (ended n.id x)) e ∙ append-nil _ ∙ ap (of_child n.id (end_lines shows warns cmds status)) (sym a) ∙ own ∙ end_at shows warns cmds status c p lt in
-    d ∙ ap (λ l. l ++ ended_lines shows warns (get_or cmds c.place p).cmd status c) b ∙ append_assoc first _ _
+    d ∙ ap (λ l. l ++ ended_lines shows warns (get_or cmds c.place p) status c) b ∙ append_assoc first _ _
     ∙ ap (λ l. first ++ l) (ap (λ l. owed_from shows warns cmds cs (front_of n) ++ l) (sym last) ∙ sym (reported_owed shows warns cmds cs n))

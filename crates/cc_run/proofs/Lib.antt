@@ -13,6 +13,7 @@ pub mod Payments
 pub mod PrintingLemmas
 pub mod Quiet
 pub mod Runs
+pub mod SaidLaws
 pub mod SiftLemmas
 pub mod SoloLemmas
 pub mod StartLemmas

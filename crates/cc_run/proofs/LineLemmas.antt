@@ -6,7 +6,7 @@ use Rattle.std.proofs.lemmas.Grind.{common_steps}
 use Rattle.std.proofs.lemmas.List.Splits.{slice_split-cons_no}
 use Rattle.std.specs.Prelude.{option_to_list}
 use Rattle.std.proofs.lemmas.List.{append-nil, take_more, map-append}
-use Rattle.cc_run.specs.declared.print.Line.{Line}
+use Rattle.cc_run.specs.declared.print.Notice.{Notice}
 use Rattle.cc_run.specs.Lines.{is_feed, IsUncut, pieces, front, back, whole_lines, rest_of, lines, some_line, last_line}
 
 -- bytes put before the first of some pieces
@@ -131,7 +131,7 @@ pub first_line : {before after : List (List ℕ)} {owned text start : List ℕ} 
 first_line {before} {after} {owned} {text} {start} r head a b c d e = a ∙ ap (λ l. l ++ owned ∷ []) b ∙ ap (λ t. t ∷ []) (c ∙ d ∙ ap (λ t. t ++ head) e)
 
 -- one line more, for one text more
-pub push_line : (f : List ℕ → Line) (texts : List (List ℕ)) (i : ℕ) (t : List ℕ) (before after all : List Line) → i < length texts → t ≡ get_or texts i t → after ≡ before ++ f t ∷ [] → before ≡ all ++ map f (take i texts) → after ≡ all ++ map f (take (i + 1) texts)
+pub push_line : (f : List ℕ → Notice) (texts : List (List ℕ)) (i : ℕ) (t : List ℕ) (before after all : List Notice) → i < length texts → t ≡ get_or texts i t → after ≡ before ++ f t ∷ [] → before ≡ all ++ map f (take i texts) → after ≡ all ++ map f (take (i + 1) texts)
 push_line f texts i t before after all lt at e h =
     e ∙ ap (λ l. l ++ f t ∷ []) h ∙ append_assoc all (map f (take i texts)) (f t ∷ [])
     ∙ ap (λ l. all ++ l) (sym (ap (map f) (take_more texts i t lt ∙ ap (λ x. take i texts ++ x ∷ []) (sym at)) ∙ map-append f (take i texts) (t ∷ [])))

@@ -27,7 +27,8 @@ use Rattle.cc_run.specs.declared.error.RunError.{RunError}
 use Rattle.cc_run.specs.declared.error.RunError.TheVariants.{ToolNotFound, Failed, StartFault, WaitFault, HostFault, JobFault, TurnsSpent, NoMemory}
 use Rattle.cc_run.specs.declared.planned.Planned.{Planned}
 use Rattle.cc_run.specs.declared.planned.Shows.{Shows}
-use Rattle.cc_run.specs.declared.print.Line.{Line}
+use Rattle.cc_run.specs.declared.print.Notice.{Notice}
+use Rattle.cc_run.specs.declared.print.Notice.TheVariants.{Shown, Told}
 use Rattle.cc_run.proofs.Drops.{live_append}
 use Rattle.cc_run.proofs.Runs.{run_from-append}
 use Rattle.cc_run.proofs.SoloLemmas.{solo_turns, turns_pair}
@@ -500,9 +501,10 @@ module _ (shows : Shows) (cmds : List Planned) (old mid new : List Event) (k : K
   all_unspent (Some t) p result m g l c e = whole_unspent (length cmds) old old mid new (run_of k) r' kept_first first calm_first g.extends g.steps.run b dropped p m l (subst (λ n. IsOpen n r') (length-map cmds (asked_by shows)) (open_at (length (asked shows cmds)) r' result e c))
 
 -- what was printed behind a turn polls no child
-still_prints : (ls : List Line) (cs : List Live) → live_from cs (prints ls) ≡ cs
+still_prints : (ls : List Notice) (cs : List Live) → live_from cs (prints ls) ≡ cs
 still_prints [] cs = refl
-still_prints (l ∷ ls) cs = still_prints ls cs
+still_prints (Shown kind bytes ∷ ls) cs = still_prints ls cs
+still_prints (Told message ∷ ls) cs = still_prints ls cs
 
 -- a turn and what was printed behind it
 pub waited_turn : {T : Type 0} (p p' : Option ℕ) (old mid new : List Event) (result : Result T RunError) → turns (since old new) ≡ 1 → p' ≡ p → Waits p mid → new ≡ mid ++ since mid new → Spoken (fault_of_answer result) (since mid new) → Waited p' old new

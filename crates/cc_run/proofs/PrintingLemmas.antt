@@ -1,9 +1,9 @@
 -- Laws on the lines that a run prints.
-use Rattle.std.proofs.Common.{◌≡◌, ℕ, ◌+◌, ◌<◌, ◌≤◌, zero, suc, inl, inr, Bool, true, false, List, [], ◌∷◌, ◌++◌, ◌==◌, length, map, take, get_or, refl, sym, ◌∙◌, ap, subst, append_assoc, arith, if◌then◌else◌}
+use Rattle.std.proofs.Common.{◌≡◌, ℕ, ◌+◌, ◌<◌, ◌≤◌, zero, suc, inl, inr, Bool, true, false, List, [], ◌∷◌, ◌++◌, ◌==◌, length, map, take, drop, get_or, refl, sym, ◌∙◌, ap, subst, append_assoc, arith, if◌then◌else◌}
 use Rattle.std.specs.Prelude.{Result, Ok, Err, Option, None, Some}
 use Rattle.std.specs.List.{flat_map}
 use Rattle.std.proofs.Math.Seq.{take-append-add}
-use Rattle.std.proofs.lemmas.List.{append-nil, map-append, take-append-le, take_all}
+use Rattle.std.proofs.lemmas.List.{append-nil, map-append, take-append-le}
 use Rattle.std.proofs.lemmas.Grind.{flat_map-append}
 use Rattle.cc_host.specs.Event.{reported, heard, unread, ended}
 use Rattle.cc_host.specs.Part.{since}
@@ -22,12 +22,14 @@ use Rattle.cc_run.specs.Printing.{printed, printed_of, kept_after, kept_from, du
 use Rattle.cc_run.specs.Run.{Run, run_after, run_from, gone, failed_at, place_of}
 use Rattle.cc_run.specs.Prints.{ArePrinted, IsPrintError, prints, print_fault}
 use Rattle.cc_run.specs.Started.{IsStart}
+use Rattle.cc_run.specs.Messages.{before, compiles}
 use Rattle.cc_run.specs.Texts.{announced}
 use Rattle.cc_run.specs.declared.error.RunError.{RunError}
 use Rattle.cc_run.specs.declared.error.RunError.TheVariants.{ToolNotFound, Failed, StartFault, WaitFault, HostFault, JobFault, TurnsSpent, NoMemory}
 use Rattle.cc_run.specs.declared.planned.Planned.{Planned}
 use Rattle.cc_run.specs.declared.planned.Shows.{Shows}
-use Rattle.cc_run.specs.declared.print.Line.{Line}
+use Rattle.cc_run.specs.declared.print.Notice.{Notice}
+use Rattle.cc_run.specs.declared.print.Notice.TheVariants.{Shown, Told}
 use Rattle.cc_run.specs.declared.running.Child.{Child}
 use Rattle.cc_run.proofs.ChildLemmas.{seats_without}
 use Rattle.cc_run.proofs.HearingLemmas.{children_both, owed_both}
@@ -122,9 +124,10 @@ module _ (shows : Shows) (warns : Bool) (cmds : List Planned) where
       )
 
   -- lines that were printed give no further ones
-  pub prints_due : (k : Kept) (ls : List Line) → (kept_from k (prints ls) ≡ k) × (due_from shows warns cmds k (prints ls) ≡ [])
+  pub prints_due : (k : Kept) (ls : List Notice) → (kept_from k (prints ls) ≡ k) × (due_from shows warns cmds k (prints ls) ≡ [])
   prints_due k [] = (refl, refl)
-  prints_due k (l ∷ ls) = prints_due k ls
+  prints_due k (Shown kind bytes ∷ ls) = prints_due k ls
+  prints_due k (Told message ∷ ls) = prints_due k ls
 
   fault_due : (k : Kept) (e : RunError) → (kept_from k (print_fault e) ≡ k) × (due_from shows warns cmds k (print_fault e) ≡ []) × (printed (print_fault e) ≡ [])
   fault_due k (HostFault call why) = (refl, refl, refl)
@@ -140,9 +143,10 @@ module _ (shows : Shows) (warns : Bool) (cmds : List Planned) where
   gone_due k [] = (refl, refl, refl)
   gone_due k (c ∷ cs) = gone_due (kept_after k (Abandoned c.0)) cs
 
-pub prints_printed : (ls : List Line) → printed (prints ls) ≡ ls
+pub prints_printed : (ls : List Notice) → printed (prints ls) ≡ ls
 prints_printed [] = refl
-prints_printed (l ∷ ls) = ap (λ k. l ∷ k) (prints_printed ls)
+prints_printed (Shown kind bytes ∷ ls) = ap (λ k. Shown kind bytes ∷ k) (prints_printed ls)
+prints_printed (Told message ∷ ls) = ap (λ k. Told message ∷ k) (prints_printed ls)
 
 -- A part after which this is kept, and then another.
 module _ (shows : Shows) (warns : Bool) (cmds : List Planned) (k k' : Kept) (a b : List Event) where
@@ -195,14 +199,14 @@ kept_then k k' k'' old mid new x y e f = ap (kept_from k) (since_since old mid n
 
 -- A turn, and lines that were printed behind it.
 module _ (shows : Shows) (warns : Bool) (cmds : List Planned) (k : Kept) (ns : List News) where
-  given : List Line
+  given : List Notice
   given = owed_from shows warns cmds k.children (flat_map reported ns)
 
   -- events that give nothing
   IsIdle : List Event → Type 0
   IsIdle q = (x : Kept) → (kept_from x q ≡ x) × (due_from shows warns cmds x q ≡ []) × (printed q ≡ [])
 
-  turn_lines : (ls : List Line) (q : List Event) → IsIdle q → (kept_from k ((Turn 1 ∷ flat_map reported ns) ++ (prints ls ++ q)) ≡ kept_from k (flat_map reported ns)) × (due_from shows warns cmds k ((Turn 1 ∷ flat_map reported ns) ++ (prints ls ++ q)) ≡ given) × (printed ((Turn 1 ∷ flat_map reported ns) ++ (prints ls ++ q)) ≡ ls)
+  turn_lines : (ls : List Notice) (q : List Event) → IsIdle q → (kept_from k ((Turn 1 ∷ flat_map reported ns) ++ (prints ls ++ q)) ≡ kept_from k (flat_map reported ns)) × (due_from shows warns cmds k ((Turn 1 ∷ flat_map reported ns) ++ (prints ls ++ q)) ≡ given) × (printed ((Turn 1 ∷ flat_map reported ns) ++ (prints ls ++ q)) ≡ ls)
   unfolding given IsIdle
   turn_lines ls q h =
       let n = kept_from k (flat_map reported ns) in
@@ -264,15 +268,21 @@ unturned_printed U shows warns cmds k old new (StartFault n) h = absurd h
 unturned_printed U shows warns cmds k old new JobFault h = absurd h
 
 -- the line before the command at a place
-next_at : (shows : Shows) (cmds : List Planned) (i : ℕ) (p : Planned) → i < length cmds → p ≡ get_or cmds i p → next_lines shows cmds i ≡ announced shows p.cmd
-next_at shows (c ∷ cmds) zero p lt at = append-nil (announced shows c.cmd) ∙ ap (λ q. announced shows q.cmd) (sym at)
+next_at : (shows : Shows) (cmds : List Planned) (i : ℕ) (p : Planned) → i < length cmds → p ≡ get_or cmds i p → next_lines shows cmds i ≡ before shows p
+next_at shows (c ∷ cmds) zero p lt at = append-nil (before shows c) ∙ ap (before shows) (sym at)
 next_at shows (c ∷ cmds) (suc i) p lt at = next_at shows cmds i p (omega arith) at
 next_at shows [] i p lt at = absurd (omega arith)
 
+-- the message of the command at a place
+compiled_at : (shows : Shows) (cmds : List Planned) (i : ℕ) (p : Planned) → i < length cmds → p ≡ get_or cmds i p → flat_map (compiles shows) (take 1 (drop i cmds)) ≡ compiles shows p
+compiled_at shows (c ∷ cmds) zero p lt at = append-nil (compiles shows c) ∙ ap (compiles shows) (sym at)
+compiled_at shows (c ∷ cmds) (suc i) p lt at = compiled_at shows cmds i p (omega arith) at
+compiled_at shows [] i p lt at = absurd (omega arith)
+
 -- A start, and what it printed.
 module _ (shows : Shows) (warns : Bool) (cmds : List Planned) (p : Planned) (held : ℕ) (old new : Kept) (part : List Event) where
-  begun : List Line
-  begun = announced shows p.cmd
+  begun : List Notice
+  begun = before shows p
 
   start_lines : (e : Event) → due shows warns cmds old e ≡ [] → kept_after old e ≡ old → printed_of e ≡ [] → part ≡ prints begun ++ e ∷ [] → old.begun < length cmds → p ≡ get_or cmds old.begun p → printed part ≡ due_next shows warns cmds old part
   unfolding begun
@@ -283,27 +293,33 @@ module _ (shows : Shows) (warns : Bool) (cmds : List Planned) (p : Planned) (hel
       pr ∙ sym (ap (λ l. l ++ next_lines shows cmds (kept_from old part).begun) du ∙ ap (λ q. next_lines shows cmds q.begun) ke ∙ next_at shows cmds old.begun p lt at)
 
   -- all that it gives
-  pub start_kept : (id : ℕ) → IsStart shows p held old (Ok id) new part → (kept_from old part ≡ new) × (printed part ≡ due_from shows warns cmds old part)
+  pub start_kept : (id : ℕ) → IsStart shows p held old (Ok id) new part → old.begun < length cmds → p ≡ get_or cmds old.begun p → (kept_from old part ≡ new) × (printed part ≡ due_from shows warns cmds old part)
   unfolding begun
-  start_kept id s =
+  start_kept id s lt at =
       let e = Started id p.role p.cmd (pipes_of shows) held in (
         ap (kept_from old) s.0 ∙ kept_both old (prints begun) (e ∷ []) ∙ ap (λ q. kept_after q e) (prints_due shows warns cmds old begun).0 ∙ sym s.1,
         ap printed s.0 ∙ flat_map-append printed_of (prints begun) (e ∷ []) ∙ append-nil (printed (prints begun)) ∙ prints_printed begun
-            ∙ sym (ap (due_from shows warns cmds old) s.0 ∙ due_both shows warns cmds old (prints begun) (e ∷ []) ∙ ap (λ l. l ++ due_from shows warns cmds (kept_from old (prints begun)) (e ∷ [])) (prints_due shows warns cmds old begun).1 ∙ append-nil begun),
+            ∙ ap (λ l. announced shows p.cmd ++ l) (sym (compiled_at shows cmds old.begun p lt at))
+            ∙ sym (ap (due_from shows warns cmds old) s.0 ∙ due_both shows warns cmds old (prints begun) (e ∷ []) ∙ ap (λ l. l ++ due_from shows warns cmds (kept_from old (prints begun)) (e ∷ [])) (prints_due shows warns cmds old begun).1 ∙ ap (λ q. due_from shows warns cmds q (e ∷ [])) (prints_due shows warns cmds old begun).0 ∙ append-nil (due shows warns cmds old e)),
       )
 
-  -- or the line before it, where it couldn't be started
+  -- the first of what comes before it, and then events that give nothing
+  first_printed : (n : ℕ) (q : List Event) → printed q ≡ [] → ((k : Kept) → (kept_from k q ≡ k) × (due_from shows warns cmds k q ≡ [])) → part ≡ prints (take n begun) ++ q → old.begun < length cmds → p ≡ get_or cmds old.begun p → printed part ≡ take n (due_next shows warns cmds old part)
+  unfolding begun
+  first_printed n q z h x lt at =
+      let ls = take n begun in
+      let du : due_from shows warns cmds old part ≡ [] = ap (due_from shows warns cmds old) x ∙ due_both shows warns cmds old (prints ls) q ∙ ap (λ l. l ++ due_from shows warns cmds (kept_from old (prints ls)) q) (prints_due shows warns cmds old ls).1 ∙ (h (kept_from old (prints ls))).1 in
+      let ke : kept_from old part ≡ old = ap (kept_from old) x ∙ kept_both old (prints ls) q ∙ ap (λ k. kept_from k q) (prints_due shows warns cmds old ls).0 ∙ (h old).0 in
+      let du_next : due_next shows warns cmds old part ≡ begun = ap (λ l. l ++ next_lines shows cmds (kept_from old part).begun) du ∙ ap (λ k. next_lines shows cmds k.begun) ke ∙ next_at shows cmds old.begun p lt at in
+      ap printed x ∙ flat_map-append printed_of (prints ls) q ∙ ap (λ l. l ++ printed q) (prints_printed ls) ∙ ap (λ l. ls ++ l) z ∙ append-nil ls ∙ ap (take n) (sym du_next)
+
+  -- or what comes before it, where it couldn't be started
   pub unstarted_printed : (U : Type 0) (e : RunError) → IsStart shows p held old (Err e) new part → old.begun < length cmds → p ≡ get_or cmds old.begun p → IsPrinted {T = U} shows warns cmds old (Err e) part
   unfolding begun
   unstarted_printed U (ToolNotFound n) s lt at = start_lines (Missing p.role p.cmd) refl refl refl s.0 lt at
   unstarted_printed U (StartFault n) (why, s) lt at = start_lines (Fault Start why) refl refl refl s.0 lt at
-  unstarted_printed U (HostFault call why) s lt at = (0, ap printed s.0)
-  unstarted_printed U NoMemory (inl n, s) lt at = (0, ap printed n)
-  unstarted_printed U NoMemory (inr n, s) lt at =
-      let du : due_from shows warns cmds old part ≡ [] = ap (due_from shows warns cmds old) n ∙ (prints_due shows warns cmds old begun).1 in
-      let ke : kept_from old part ≡ old = ap (kept_from old) n ∙ (prints_due shows warns cmds old begun).0 in
-      let du_next : due_next shows warns cmds old part ≡ begun = ap (λ l. l ++ next_lines shows cmds (kept_from old part).begun) du ∙ ap (λ q. next_lines shows cmds q.begun) ke ∙ next_at shows cmds old.begun p lt at in
-      (length begun, ap printed n ∙ prints_printed begun ∙ sym (ap (take (length begun)) du_next ∙ take_all (length begun) begun (omega arith)))
+  unstarted_printed U (HostFault call why) (n, s) lt at = (n, first_printed n (Fault call why ∷ []) refl (λ k. (refl, refl)) s.0 lt at)
+  unstarted_printed U NoMemory (n, s) lt at = (n, first_printed n [] refl (λ k. (refl, refl)) (s.0 ∙ sym (append-nil (prints (take n begun)))) lt at)
   unstarted_printed U (Failed n s') s lt at = absurd s
   unstarted_printed U WaitFault s lt at = absurd s
   unstarted_printed U JobFault s lt at = absurd s

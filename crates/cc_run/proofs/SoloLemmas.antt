@@ -17,7 +17,7 @@ use Rattle.cc_run.specs.Run.{Run, nothing, run_after, run_from, gone}
 use Rattle.cc_run.specs.Prints.{prints}
 use Rattle.cc_run.specs.Solo.{Alone, IsSolo}
 use Rattle.cc_run.specs.Started.{IsStart}
-use Rattle.cc_run.specs.Texts.{announced}
+use Rattle.cc_run.specs.Messages.{before}
 use Rattle.cc_run.specs.declared.error.RunError.{RunError}
 use Rattle.cc_run.specs.declared.error.RunError.TheVariants.{ToolNotFound, Failed, StartFault, WaitFault, HostFault, JobFault, TurnsSpent, NoMemory}
 use Rattle.cc_run.specs.declared.error.Step.{Step}
@@ -55,7 +55,7 @@ alone_none cmds old new r g f = record { extends = g.extends; run = g.steps.run;
 -- the start of the one command
 pub alone_start : (shows : Shows) (p : Planned) (id : ℕ) (old new : Kept) (log log' : List Event) → log' ≡ log ++ since log log' → old ≡ nothing_kept → IsStart shows p 0 old (Ok id) new (since log log') → IsNewcomer log id → Alone (asked shows (p ∷ [])) log log' (run_of new)
 alone_start shows p id old new log log' x none s fresh =
-    let ann = announced shows p.cmd in
+    let ann = before shows p in
     let e = Started id p.role p.cmd (pipes_of shows) 0 in
     let one : run_of new ≡ run_after nothing e = ap run_of s.1 ∙ ap (λ k. run_of (record k { children = k.children ++ record { id = id; place = k.begun; rest = [] } ∷ []; begun = k.begun + 1 })) none in
     record {
@@ -89,7 +89,7 @@ loads_pair old mid new e f a b = let both : loads (since old new) ≡ loads (sin
 unstarted_cause : (shows : Shows) (p : Planned) (old new : Kept) (part : List Event) (e : RunError) → old ≡ nothing_kept → IsStart shows p 0 old (Err e) new part → IsRunError 1 nothing e
 unstarted_cause shows p old new part (ToolNotFound n) z s = let k : n ≡ 0 = s.1 ∙ ap (λ x. x.begun) z in (k, omega arith)
 unstarted_cause shows p old new part (StartFault n) z (why, s) = let k : n ≡ 0 = s.1 ∙ ap (λ x. x.begun) z in (k, omega arith)
-unstarted_cause shows p old new part (HostFault call why) z s = s.1
+unstarted_cause shows p old new part (HostFault call why) z (n, s) = s.1
 unstarted_cause shows p old new part NoMemory z s = tt
 unstarted_cause shows p old new part (Failed n s') z s = absurd s
 unstarted_cause shows p old new part WaitFault z s = absurd s

@@ -1,7 +1,7 @@
 -- Laws on the lines of the standard error of one child.
 use Rattle.std.proofs.Common.{◌≡◌, ℕ, ◌+◌, ◌<◌, ◌≤◌, zero, suc, Bool, true, false, cond, List, [], ◌∷◌, ◌++◌, ◌==◌, ◌&&◌, ◌||◌, not, length, map, take, drop, refl, sym, ◌∙◌, ap, subst, append_assoc, arith, if◌then◌else◌}
-use Rattle.std.specs.Prelude.{Result, Option, filter, option_to_list}
-use Rattle.std.specs.List.{flat_map, list_any, Contains}
+use Rattle.std.specs.Prelude.{Result, Option, Some, filter, option_to_list}
+use Rattle.std.specs.List.{flat_map, list_any, slice_get, Contains}
 use Rattle.std.proofs.lemmas.Bool.{eqb-true, eq-eqb}
 use Rattle.std.proofs.lemmas.List.{append-nil, map-append, length-map}
 use Rattle.std.proofs.lemmas.List.Elements.{filter-append}
@@ -17,7 +17,7 @@ use Rattle.cc_host.specs.declared.event.Status.{Status}
 use Rattle.cc_host.specs.declared.event.LineKind.TheVariants.{Warning}
 use Rattle.cc_run.specs.Children.{Kept, nothing_kept, without_child}
 use Rattle.cc_run.specs.Forwarded.{fed, emptied, heard_lines, rest_lines, unread_lines, ended_lines}
-use Rattle.cc_run.specs.Hearing.{at_child, of_child, end_lines}
+use Rattle.cc_run.specs.Hearing.{at_child, of_child, heard_at, unread_at, end_lines}
 use Rattle.cc_run.specs.Lines.{IsUncut, lines, whole_lines, rest_of, last_line}
 use Rattle.cc_run.specs.Part.{started, started_of}
 use Rattle.cc_run.specs.Printing.{kept_after, due, due_from, IsPrinted}
@@ -28,7 +28,7 @@ use Rattle.cc_run.specs.Texts.{announced, cargo_line, stderr_line, debug_line, e
 use Rattle.cc_run.specs.declared.error.RunError.{RunError}
 use Rattle.cc_run.specs.declared.planned.Planned.{Planned}
 use Rattle.cc_run.specs.declared.planned.Shows.{Shows}
-use Rattle.cc_run.specs.declared.print.Line.{Line}
+use Rattle.cc_run.specs.declared.print.Notice.{Notice}
 use Rattle.cc_run.specs.declared.running.Child.{Child}
 use Rattle.cc_host.specs.Part.{since}
 use Rattle.cc_host.proofs.Parts.{since_append}
@@ -37,7 +37,7 @@ use Rattle.cc_run.specs.Planned.{asked, asked_by}
 use Rattle.cc_run.specs.Run.{gone}
 use Rattle.cc_run.specs.Solo.{IsSolo}
 use Rattle.cc_run.specs.Whole.{IsRun}
-use Rattle.cc_run.proofs.SiftLemmas.{filter_when, when_none, filter_flat, begun_after, sifted}
+use Rattle.cc_run.proofs.SiftLemmas.{filter_when, when_none, filter_flat, untold_start, untold_given, untold_unread, untold_ended, raw_rest, begun_after, sifted}
 use Rattle.cc_run.proofs.LifeLemmas.{own_by, own_if, skips, amiss_from, part_sound}
 use Rattle.cc_run.proofs.LineLemmas.{rest_uncut, whole_both, lines_both, uncut_whole, uncut_lines}
 
@@ -45,7 +45,7 @@ use Rattle.cc_run.proofs.LineLemmas.{rest_uncut, whole_both, lines_both, uncut_w
 abbrev mine : ℕ → List Child → List Child
 mine id = filter (λ c. c.id == id)
 
-when_both : (b : Bool) (xs ys : List Line) → when b xs ++ when b ys ≡ when b (xs ++ ys)
+when_both : (b : Bool) (xs ys : List Notice) → when b xs ++ when b ys ≡ when b (xs ++ ys)
 when_both true xs ys = refl
 when_both false xs ys = refl
 
@@ -99,7 +99,7 @@ module _ (id : ℕ) where
       at true x e k = cc
       at false x e k = skip c (without_child id cs) x ∙ k e
 
-  own_of : (g : Child → List Line) (cs : List Child) (d : Child) → mine id cs ≡ d ∷ [] → of_child id g cs ≡ g d
+  own_of : (g : Child → List Notice) (cs : List Child) (d : Child) → mine id cs ≡ d ∷ [] → of_child id g cs ≡ g d
   own_of g [] d e = absurd (cc)
   own_of g (c ∷ cs) d e = at (c.id == id) e (own_of g cs d)
     where
@@ -107,7 +107,7 @@ module _ (id : ℕ) where
       at true e k = let one : c ≡ d = cc in ap g one
       at false e k = k e
 
-  other_of : (n : ℕ) (g : Child → List Line) (cs : List Child) → ((c : Child) → (c.id == n) ≡ true → filter (is_stderr id) (g c) ≡ []) → filter (is_stderr id) (of_child n g cs) ≡ []
+  other_of : (n : ℕ) (g : Child → List Notice) (cs : List Child) → ((c : Child) → (c.id == n) ≡ true → filter (is_stderr id) (g c) ≡ []) → filter (is_stderr id) (of_child n g cs) ≡ []
   other_of n g [] h = refl
   other_of n g (c ∷ cs) h = at (c.id == n) refl (other_of n g cs h)
     where
@@ -127,49 +127,53 @@ module _ (id : ℕ) where
   unfolding announced
   announced_other shows cmd = filter_when (is_stderr id) shows.debug _ ∙ when_none shows.debug
 
-  ended_rest : (shows : Shows) (warns : Bool) (cmd : CommandSeen) (s : Status) (c : Child) → filter (is_stderr id) (ended_lines shows warns cmd s c) ≡ filter (is_stderr id) (rest_lines shows c)
+  ended_rest : (shows : Shows) (warns : Bool) (q : Planned) (s : Status) (c : Child) → filter (is_stderr id) (ended_lines shows warns q s c) ≡ filter (is_stderr id) (raw_rest shows c)
   unfolding failed_line
-  ended_rest shows warns cmd s c =
-      let a = filter (is_stderr id) (rest_lines shows c) in
-      filter-append (is_stderr id) (rest_lines shows c ++ when shows.debug (debug_line (ended_text s) ∷ [])) (when (warns && shows.warnings && not (is_success s)) (failed_line s cmd ∷ []))
-      ∙ ap (λ l. filter (is_stderr id) (rest_lines shows c ++ when shows.debug (debug_line (ended_text s) ∷ [])) ++ l) (filter_when (is_stderr id) (warns && shows.warnings && not (is_success s)) _ ∙ when_none (warns && shows.warnings && not (is_success s)))
+  ended_rest shows warns q s c =
+      let rest = rest_lines shows (Some q) c in
+      let a = filter (is_stderr id) rest in
+      untold_ended (is_stderr id) (λ m. refl) shows warns q s c
+      ∙ filter-append (is_stderr id) (rest ++ when shows.debug (debug_line (ended_text s) ∷ [])) (when (warns && shows.warnings && not (is_success s)) (failed_line s q.cmd ∷ []))
+      ∙ ap (λ l. filter (is_stderr id) (rest ++ when shows.debug (debug_line (ended_text s) ∷ [])) ++ l) (filter_when (is_stderr id) (warns && shows.warnings && not (is_success s)) _ ∙ when_none (warns && shows.warnings && not (is_success s)))
       ∙ append-nil _
-      ∙ filter-append (is_stderr id) (rest_lines shows c) (when shows.debug (debug_line (ended_text s) ∷ []))
+      ∙ filter-append (is_stderr id) rest (when shows.debug (debug_line (ended_text s) ∷ []))
       ∙ ap (λ l. a ++ l) (filter_when (is_stderr id) shows.debug _ ∙ when_none shows.debug)
-      ∙ append-nil a
+      ∙ append-nil a ∙ untold_given (is_stderr id) (λ m. refl) shows (Some q) c.id (option_to_list (last_line c.rest))
 
-  unread_rest : (shows : Shows) (c : Child) → filter (is_stderr id) (unread_lines shows c) ≡ filter (is_stderr id) (rest_lines shows c)
-  unread_rest shows c =
-      filter-append (is_stderr id) (rest_lines shows c) (when shows.warnings (cargo_line Warning unread_text ∷ []))
-      ∙ ap (λ l. filter (is_stderr id) (rest_lines shows c) ++ l) (filter_when (is_stderr id) shows.warnings _ ∙ when_none shows.warnings)
-      ∙ append-nil _
+  unread_rest : (shows : Shows) (o : Option Planned) (c : Child) → filter (is_stderr id) (unread_lines shows o c) ≡ filter (is_stderr id) (raw_rest shows c)
+  unread_rest shows o c =
+      let rest = rest_lines shows o c in
+      untold_unread (is_stderr id) (λ m. refl) shows o c
+      ∙ filter-append (is_stderr id) rest (when shows.warnings (cargo_line Warning unread_text ∷ []))
+      ∙ ap (λ l. filter (is_stderr id) rest ++ l) (filter_when (is_stderr id) shows.warnings _ ∙ when_none shows.warnings)
+      ∙ append-nil _ ∙ untold_given (is_stderr id) (λ m. refl) shows o c.id (option_to_list (last_line c.rest))
 
-  rest_other : (shows : Shows) (c : Child) → (c.id == id) ≡ false → filter (is_stderr id) (rest_lines shows c) ≡ []
+  rest_other : (shows : Shows) (c : Child) → (c.id == id) ≡ false → filter (is_stderr id) (raw_rest shows c) ≡ []
   rest_other shows c e = filter_when (is_stderr id) shows.warnings _ ∙ ap (when shows.warnings) (other_lines c.id (option_to_list (last_line c.rest)) e) ∙ when_none shows.warnings
 
-  rest_own : (shows : Shows) (c : Child) → c.id ≡ id → filter (is_stderr id) (rest_lines shows c) ≡ when shows.warnings (map (stderr_line id) (option_to_list (last_line c.rest)))
+  rest_own : (shows : Shows) (c : Child) → c.id ≡ id → filter (is_stderr id) (raw_rest shows c) ≡ when shows.warnings (map (stderr_line id) (option_to_list (last_line c.rest)))
   rest_own shows c e = filter_when (is_stderr id) shows.warnings _ ∙ ap (when shows.warnings) (own_lines c.id (option_to_list (last_line c.rest)) (own_is c.id e) ∙ ap (λ n. map (stderr_line n) (option_to_list (last_line c.rest))) e)
 
-  heard_other : (shows : Shows) (c : Child) (p : List ℕ) → (c.id == id) ≡ false → filter (is_stderr id) (heard_lines shows c p) ≡ []
-  heard_other shows c p e = filter_when (is_stderr id) shows.warnings _ ∙ ap (when shows.warnings) (other_lines c.id (whole_lines (c.rest ++ p)) e) ∙ when_none shows.warnings
+  heard_other : (shows : Shows) (o : Option Planned) (c : Child) (p : List ℕ) → (c.id == id) ≡ false → filter (is_stderr id) (heard_lines shows o c p) ≡ []
+  heard_other shows o c p e = untold_given (is_stderr id) (λ m. refl) shows o c.id (whole_lines (c.rest ++ p)) ∙ filter_when (is_stderr id) shows.warnings _ ∙ ap (when shows.warnings) (other_lines c.id (whole_lines (c.rest ++ p)) e) ∙ when_none shows.warnings
 
-  heard_own : (shows : Shows) (c : Child) (p : List ℕ) → c.id ≡ id → filter (is_stderr id) (heard_lines shows c p) ≡ when shows.warnings (map (stderr_line id) (whole_lines (c.rest ++ p)))
-  heard_own shows c p e = filter_when (is_stderr id) shows.warnings _ ∙ ap (when shows.warnings) (own_lines c.id (whole_lines (c.rest ++ p)) (own_is c.id e) ∙ ap (λ n. map (stderr_line n) (whole_lines (c.rest ++ p))) e)
+  heard_own : (shows : Shows) (o : Option Planned) (c : Child) (p : List ℕ) → c.id ≡ id → filter (is_stderr id) (heard_lines shows o c p) ≡ when shows.warnings (map (stderr_line id) (whole_lines (c.rest ++ p)))
+  heard_own shows o c p e = untold_given (is_stderr id) (λ m. refl) shows o c.id (whole_lines (c.rest ++ p)) ∙ filter_when (is_stderr id) shows.warnings _ ∙ ap (when shows.warnings) (own_lines c.id (whole_lines (c.rest ++ p)) (own_is c.id e) ∙ ap (λ n. map (stderr_line n) (whole_lines (c.rest ++ p))) e)
 
-  end_own : (shows : Shows) (warns : Bool) (cmds : List Planned) (s : Status) (c : Child) → c.place < length cmds → filter (is_stderr id) (end_lines shows warns cmds s c) ≡ filter (is_stderr id) (rest_lines shows c)
+  end_own : (shows : Shows) (warns : Bool) (cmds : List Planned) (s : Status) (c : Child) → c.place < length cmds → filter (is_stderr id) (end_lines shows warns cmds s c) ≡ filter (is_stderr id) (raw_rest shows c)
   end_own shows warns cmds s c lt = at cmds c.place lt
     where
-      at : (cmds : List Planned) (place : ℕ) → place < length cmds → filter (is_stderr id) (flat_map (λ p. ended_lines shows warns p.cmd s c) (take 1 (drop place cmds))) ≡ filter (is_stderr id) (rest_lines shows c)
-      at (p ∷ cmds) zero lt = ap (filter (is_stderr id)) (append-nil (ended_lines shows warns p.cmd s c)) ∙ ended_rest shows warns p.cmd s c
+      at : (cmds : List Planned) (place : ℕ) → place < length cmds → filter (is_stderr id) (flat_map (λ p. ended_lines shows warns p s c) (take 1 (drop place cmds))) ≡ filter (is_stderr id) (raw_rest shows c)
+      at (p ∷ cmds) zero lt = ap (filter (is_stderr id)) (append-nil (ended_lines shows warns p s c)) ∙ ended_rest shows warns p s c
       at (p ∷ cmds) (suc place) lt = at cmds place (omega arith)
       at [] place lt = absurd (omega arith)
 
   -- an event of another child changes nothing for this one
   other_event : (shows : Shows) (warns : Bool) (cmds : List Planned) (k : Kept) (e : Event) → is_of id e ≡ false → (mine id (kept_after k e).children ≡ mine id k.children) × (filter (is_stderr id) (due shows warns cmds k e) ≡ [])
-  other_event shows warns cmds k (Started n role cmd pipes held) ne = (filter-append (λ c. c.id == id) k.children _ ∙ ap (λ l. mine id k.children ++ l) (skip (record { id = n; place = k.begun; rest = [] }) [] ne) ∙ append-nil (mine id k.children), announced_other shows cmd)
-  other_event shows warns cmds k (Heard n p) ne = (other_at n (fed p) (λ c. refl) k.children ne, other_of n (λ c. heard_lines shows c p) k.children (λ c e. heard_other shows c p (foreign n c e ne)))
-  other_event shows warns cmds k (Unread n) ne = (other_at n emptied (λ c. refl) k.children ne, other_of n (unread_lines shows) k.children (λ c e. unread_rest shows c ∙ rest_other shows c (foreign n c e ne)))
-  other_event shows warns cmds k (Ended n s) ne = (other_without n k.children ne, other_of n (end_lines shows warns cmds s) k.children (λ c e. filter_flat (is_stderr id) (λ p. ended_lines shows warns p.cmd s c) (λ p. ended_rest shows warns p.cmd s c ∙ rest_other shows c (foreign n c e ne)) (take 1 (drop c.place cmds))))
+  other_event shows warns cmds k (Started n role cmd pipes held) ne = (filter-append (λ c. c.id == id) k.children _ ∙ ap (λ l. mine id k.children ++ l) (skip (record { id = n; place = k.begun; rest = [] }) [] ne) ∙ append-nil (mine id k.children), untold_start (is_stderr id) (λ m. refl) shows cmd (take 1 (drop k.begun cmds)) ∙ announced_other shows cmd)
+  other_event shows warns cmds k (Heard n p) ne = (other_at n (fed p) (λ c. refl) k.children ne, other_of n (heard_at shows cmds p) k.children (λ c e. heard_other shows (slice_get cmds c.place) c p (foreign n c e ne)))
+  other_event shows warns cmds k (Unread n) ne = (other_at n emptied (λ c. refl) k.children ne, other_of n (unread_at shows cmds) k.children (λ c e. unread_rest shows (slice_get cmds c.place) c ∙ rest_other shows c (foreign n c e ne)))
+  other_event shows warns cmds k (Ended n s) ne = (other_without n k.children ne, other_of n (end_lines shows warns cmds s) k.children (λ c e. filter_flat (is_stderr id) (λ p. ended_lines shows warns p s c) (λ p. ended_rest shows warns p s c ∙ rest_other shows c (foreign n c e ne)) (take 1 (drop c.place cmds))))
   other_event shows warns cmds k (Abandoned n) ne = (other_without n k.children ne, refl)
   other_event shows warns cmds k (Turn n) ne = (refl, refl)
   other_event shows warns cmds k (Answered q f o) ne = (refl, refl)
@@ -193,7 +197,7 @@ module _ (id : ℕ) where
 
 -- The lines of one child, event by event.
 module _ (shows : Shows) (warns : Bool) (cmds : List Planned) (id : ℕ) where
-  given : Kept → List Event → List Line
+  given : Kept → List Event → List Notice
   given k es = filter (is_stderr id) (due_from shows warns cmds k es)
 
   given_more : (k : Kept) (e : Event) (es : List Event) → given k (e ∷ es) ≡ filter (is_stderr id) (due shows warns cmds k e) ++ given (kept_after k e) es
@@ -203,7 +207,7 @@ module _ (shows : Shows) (warns : Bool) (cmds : List Planned) (id : ℕ) where
   given_skip : (k : Kept) (e : Event) (es : List Event) → is_of id e ≡ false → given k (e ∷ es) ≡ given (kept_after k e) es
   given_skip k e es ne = given_more k e es ∙ ap (λ l. l ++ given (kept_after k e) es) (other_event id shows warns cmds k e ne).1
 
-  as_lines : List (List ℕ) → List Line
+  as_lines : List (List ℕ) → List Notice
   as_lines ls = when shows.warnings (map (stderr_line id) ls)
 
   no_lines : as_lines [] ≡ []
@@ -284,9 +288,9 @@ module _ (shows : Shows) (warns : Bool) (cmds : List Planned) (id : ℕ) where
   unfolding as_lines
   unread_child k es c one is none =
       given_more k (Unread id) es
-      ∙ ap (λ l. filter (is_stderr id) l ++ given (kept_after k (Unread id)) es) (own_of id (unread_lines shows) k.children c one)
-      ∙ ap (λ l. filter (is_stderr id) (unread_lines shows c) ++ l) none
-      ∙ append-nil _ ∙ unread_rest id shows c ∙ rest_own id shows c is
+      ∙ ap (λ l. filter (is_stderr id) l ++ given (kept_after k (Unread id)) es) (own_of id (unread_at shows cmds) k.children c one)
+      ∙ ap (λ l. filter (is_stderr id) (unread_at shows cmds c) ++ l) none
+      ∙ append-nil _ ∙ unread_rest id shows (slice_get cmds c.place) c ∙ rest_own id shows c is
 
   gone_child : (k : Kept) (es : List Event) → given (kept_after k (Abandoned id)) es ≡ [] → given k (Abandoned id ∷ es) ≡ []
   gone_child k es none = given_more k (Abandoned id) es ∙ none
@@ -340,8 +344,8 @@ module _ (shows : Shows) (warns : Bool) (cmds : List Planned) (id : ℕ) where
       on_heard p rest =
           let x = c.rest ++ p in
           given_more k (Heard id p) es
-          ∙ ap (λ l. filter (is_stderr id) l ++ given (kept_after k (Heard id p)) es) (own_of id (λ d. heard_lines shows d p) k.children c one)
-          ∙ ap (λ l. l ++ given (kept_after k (Heard id p)) es) (heard_own id shows c p is)
+          ∙ ap (λ l. filter (is_stderr id) l ++ given (kept_after k (Heard id p)) es) (own_of id (heard_at shows cmds p) k.children c one)
+          ∙ ap (λ l. l ++ given (kept_after k (Heard id p)) es) (heard_own id shows (slice_get cmds c.place) c p is)
           ∙ ap (λ l. as_lines (whole_lines x) ++ l) rest
           ∙ when_both shows.warnings _ _
           ∙ ap (when shows.warnings) (sym (map-append (stderr_line id) (whole_lines x) (lines_by (over es) (rest_of x ++ heard id es))))
@@ -393,7 +397,7 @@ module _ (shows : Shows) (warns : Bool) (cmds : List Planned) (id : ℕ) where
           let x = Started id role cmd pipes held in
           let c : Child = record { id = id; place = k.begun; rest = [] } in
           let own : mine id (kept_after k x).children ≡ c ∷ [] = filter-append (λ x. x.id == id) k.children (c ∷ []) ∙ ap (λ l. l ++ mine id (c ∷ [])) none ∙ keep id c [] (eq-eqb id id refl) in
-          given_more k x es ∙ ap (λ l. l ++ given (kept_after k x) es) (announced_other id shows cmd)
+          given_more k x es ∙ ap (λ l. l ++ given (kept_after k x) es) (untold_start (is_stderr id) (λ m. refl) shows cmd (take 1 (drop k.begun cmds)) ∙ announced_other id shows cmd)
           ∙ runs (kept_after k x) es c (sound_on Unstarted Runs x es (own_if id Runs Unstarted) s) own refl (omega (arith, few)) tt
 
       at : (b : Bool) → is_of id e ≡ b → (Sound Unstarted es → mine id (kept_after k e).children ≡ [] → (kept_after k e).begun + length (started es) ≤ length cmds → given (kept_after k e) es ≡ as_lines (lines_by (over es) (heard id es))) → given k (e ∷ es) ≡ as_lines (lines_by (over (e ∷ es)) (heard id (e ∷ es)))
@@ -417,7 +421,7 @@ module _ (shows : Shows) (warns : Bool) (cmds : List Planned) (id : ℕ) where
 -- What was printed of a child that was started, by the answer.
 pub child_printed : {T : Type 0} (shows : Shows) (warns : Bool) (cmds : List Planned) (id : ℕ) (old new : List Event) (result : Result T RunError) → LivesOn old new → Contains (started_ids (since old new)) id → IsPrinted shows warns cmds nothing_kept result (since old new) → 0 + length (started (since old new)) ≤ length cmds → IsForwarded result (stderr_printed id (since old new)) (stderr_given shows id (since old new))
 child_printed shows warns cmds id old new result lives has q few =
-    sifted (is_stderr id) shows warns cmds nothing_kept (since old new) (stderr_given shows id (since old new)) (announced_other id shows) (child_given shows warns cmds id nothing_kept (since old new) (part_sound id old new lives has) refl few) result q
+    sifted (is_stderr id) shows warns cmds nothing_kept (since old new) (stderr_given shows id (since old new)) (λ m. refl) (announced_other id shows) (child_given shows warns cmds id nothing_kept (since old new) (part_sound id old new lives has) refl few) result q
 
 take_short : {X : Type 0} (n : ℕ) (xs : List X) → length (take n xs) ≤ length xs
 take_short zero xs = omega arith

@@ -21,13 +21,13 @@ use Rattle.cc_run.specs.Run.{Run, run_from}
 use Rattle.cc_run.specs.Prints.{ArePrinted, IsPrintError, prints, print_fault}
 use Rattle.cc_run.specs.declared.error.RunError.{RunError}
 use Rattle.cc_run.specs.declared.error.RunError.TheVariants.{ToolNotFound, Failed, StartFault, WaitFault, HostFault, JobFault, TurnsSpent, NoMemory}
-use Rattle.cc_run.specs.declared.print.Line.{Line}
+use Rattle.cc_run.specs.declared.print.Notice.{Notice}
 use Rattle.cc_run.proofs.Quiet.{goes_prints, behind_missing, behind_faults, behind_abandoned, behind_turns, behind_starts, behind_loads}
 use Rattle.cc_run.proofs.Runs.{goes_turn, goes_then, goes_refused, news_missing, news_faults, news_abandoned, news_turns, news_starts, news_loads}
 
 -- what was printed: some lines, and then the fault of a refused print
 pub record Spoken (e : List Event) (part : List Event) : Type 0 where
-  pub lines : List Line
+  pub lines : List Notice
   pub is : part ≡ prints lines ++ e
 
 -- the fault of an answer
@@ -35,7 +35,7 @@ pub fault_of_answer : {T : Type 0} → Result T RunError → List Event
 fault_of_answer (Ok _) = []
 fault_of_answer (Err e) = print_fault e
 
-pub spoken : {T : Type 0} (ls : List Line) (result : Result T RunError) (part : List Event) → ArePrinted ls result part → Spoken (fault_of_answer result) part
+pub spoken : {T : Type 0} (ls : List Notice) (result : Result T RunError) (part : List Event) → ArePrinted ls result part → Spoken (fault_of_answer result) part
 unfolding fault_of_answer
 spoken ls (Ok x) part s = record { lines = ls; is = s ∙ sym (append-nil (prints ls)) }
 spoken ls (Err e) part s = record { lines = take s.0 ls; is = s.1.2 }

@@ -1,7 +1,7 @@
 -- Laws on the warnings of a run.
 use Rattle.std.proofs.Common.{◌≡◌, ℕ, ◌+◌, ◌≤◌, Bool, true, false, List, [], ◌∷◌, ◌++◌, ◌==◌, ◌&&◌, not, length, map, take, drop, refl, ◌∙◌, ap, if◌then◌else◌}
-use Rattle.std.specs.Prelude.{Result, Some, filter, option_to_list}
-use Rattle.std.specs.List.{flat_map}
+use Rattle.std.specs.Prelude.{Result, Option, Some, filter, option_to_list}
+use Rattle.std.specs.List.{flat_map, slice_get}
 use Rattle.std.proofs.lemmas.List.Elements.{filter-append}
 use Rattle.cc_text.specs.Words.{when}
 use Rattle.cc_host.specs.Command.{CommandSeen}
@@ -12,7 +12,7 @@ use Rattle.cc_host.specs.declared.event.LineKind.TheVariants.{Warning}
 use Rattle.cc_host.specs.declared.event.Status.{Status}
 use Rattle.cc_run.specs.Children.{Kept, run_of, seat, AreBelow, nothing_kept}
 use Rattle.cc_run.specs.Forwarded.{heard_lines, rest_lines, unread_lines, ended_lines}
-use Rattle.cc_run.specs.Hearing.{of_child, end_lines}
+use Rattle.cc_run.specs.Hearing.{of_child, heard_at, unread_at, end_lines}
 use Rattle.cc_run.specs.Lines.{whole_lines, last_line}
 use Rattle.cc_run.specs.Part.{started}
 use Rattle.cc_run.specs.Printing.{due, IsPrinted}
@@ -23,33 +23,35 @@ use Rattle.cc_run.specs.Warned.{is_warning, warnings_printed, unread_warned, fai
 use Rattle.cc_run.specs.declared.error.RunError.{RunError}
 use Rattle.cc_run.specs.declared.planned.Planned.{Planned}
 use Rattle.cc_run.specs.declared.planned.Shows.{Shows}
-use Rattle.cc_run.specs.declared.print.Line.{Line}
+use Rattle.cc_run.specs.declared.print.Notice.{Notice}
 use Rattle.cc_run.specs.declared.running.Child.{Child}
-use Rattle.cc_run.proofs.SiftLemmas.{filter_when, when_none, along_due, sifted}
+use Rattle.cc_run.proofs.SiftLemmas.{filter_when, when_none, untold_start, untold_given, untold_unread, untold_ended, along_due, sifted}
 
 no_stderr : (id : ℕ) (ts : List (List ℕ)) → filter is_warning (map (stderr_line id) ts) ≡ []
 no_stderr id [] = refl
 no_stderr id (t ∷ ts) = no_stderr id ts
 
-heard_none : (shows : Shows) (p : List ℕ) (c : Child) → filter is_warning (heard_lines shows c p) ≡ []
-heard_none shows p c = filter_when is_warning shows.warnings _ ∙ ap (when shows.warnings) (no_stderr c.id (whole_lines (c.rest ++ p))) ∙ when_none shows.warnings
+heard_none : (shows : Shows) (o : Option Planned) (p : List ℕ) (c : Child) → filter is_warning (heard_lines shows o c p) ≡ []
+heard_none shows o p c = untold_given is_warning (λ m. refl) shows o c.id (whole_lines (c.rest ++ p)) ∙ filter_when is_warning shows.warnings _ ∙ ap (when shows.warnings) (no_stderr c.id (whole_lines (c.rest ++ p))) ∙ when_none shows.warnings
 
-rest_none : (shows : Shows) (c : Child) → filter is_warning (rest_lines shows c) ≡ []
-rest_none shows c = filter_when is_warning shows.warnings _ ∙ ap (when shows.warnings) (no_stderr c.id (option_to_list (last_line c.rest))) ∙ when_none shows.warnings
+rest_none : (shows : Shows) (o : Option Planned) (c : Child) → filter is_warning (rest_lines shows o c) ≡ []
+rest_none shows o c = untold_given is_warning (λ m. refl) shows o c.id (option_to_list (last_line c.rest)) ∙ filter_when is_warning shows.warnings _ ∙ ap (when shows.warnings) (no_stderr c.id (option_to_list (last_line c.rest))) ∙ when_none shows.warnings
 
-unread_one : (shows : Shows) (c : Child) → filter is_warning (unread_lines shows c) ≡ when shows.warnings (cargo_line Warning unread_text ∷ [])
-unread_one shows c =
-    filter-append is_warning (rest_lines shows c) (when shows.warnings (cargo_line Warning unread_text ∷ []))
-    ∙ ap (λ l. l ++ filter is_warning (when shows.warnings (cargo_line Warning unread_text ∷ []))) (rest_none shows c)
+unread_one : (shows : Shows) (o : Option Planned) (c : Child) → filter is_warning (unread_lines shows o c) ≡ when shows.warnings (cargo_line Warning unread_text ∷ [])
+unread_one shows o c =
+    untold_unread is_warning (λ m. refl) shows o c ∙
+    filter-append is_warning (rest_lines shows o c) (when shows.warnings (cargo_line Warning unread_text ∷ []))
+    ∙ ap (λ l. l ++ filter is_warning (when shows.warnings (cargo_line Warning unread_text ∷ []))) (rest_none shows o c)
     ∙ filter_when is_warning shows.warnings _
 
-ended_one : (shows : Shows) (warns : Bool) (cmd : CommandSeen) (s : Status) (c : Child) → filter is_warning (ended_lines shows warns cmd s c) ≡ when (warns && shows.warnings && not (is_success s)) (failed_line s cmd ∷ [])
+ended_one : (shows : Shows) (warns : Bool) (q : Planned) (s : Status) (c : Child) → filter is_warning (ended_lines shows warns q s c) ≡ when (warns && shows.warnings && not (is_success s)) (failed_line s q.cmd ∷ [])
 unfolding failed_line
-ended_one shows warns cmd s c =
-    filter-append is_warning (rest_lines shows c ++ when shows.debug (debug_line (ended_text s) ∷ [])) (when (warns && shows.warnings && not (is_success s)) (failed_line s cmd ∷ []))
-    ∙ ap (λ l. l ++ filter is_warning (when (warns && shows.warnings && not (is_success s)) (failed_line s cmd ∷ [])))
-    (filter-append is_warning (rest_lines shows c) (when shows.debug (debug_line (ended_text s) ∷ []))
-    ∙ ap (λ l. l ++ filter is_warning (when shows.debug (debug_line (ended_text s) ∷ []))) (rest_none shows c)
+ended_one shows warns q s c =
+    untold_ended is_warning (λ m. refl) shows warns q s c ∙
+    filter-append is_warning (rest_lines shows (Some q) c ++ when shows.debug (debug_line (ended_text s) ∷ [])) (when (warns && shows.warnings && not (is_success s)) (failed_line s q.cmd ∷ []))
+    ∙ ap (λ l. l ++ filter is_warning (when (warns && shows.warnings && not (is_success s)) (failed_line s q.cmd ∷ [])))
+    (filter-append is_warning (rest_lines shows (Some q) c) (when shows.debug (debug_line (ended_text s) ∷ []))
+    ∙ ap (λ l. l ++ filter is_warning (when shows.debug (debug_line (ended_text s) ∷ []))) (rest_none shows (Some q) c)
     ∙ filter_when is_warning shows.debug _ ∙ when_none shows.debug)
     ∙ filter_when is_warning (warns && shows.warnings && not (is_success s)) _
 
@@ -57,7 +59,7 @@ announced_none : (shows : Shows) (cmd : CommandSeen) → filter is_warning (anno
 unfolding announced
 announced_none shows cmd = filter_when is_warning shows.debug _ ∙ when_none shows.debug
 
-heard_of : (id : ℕ) (g : Child → List Line) → ((c : Child) → filter is_warning (g c) ≡ []) → (cs : List Child) → filter is_warning (of_child id g cs) ≡ []
+heard_of : (id : ℕ) (g : Child → List Notice) → ((c : Child) → filter is_warning (g c) ≡ []) → (cs : List Child) → filter is_warning (of_child id g cs) ≡ []
 heard_of id g h [] = refl
 heard_of id g h (c ∷ cs) = at (c.id == id) (heard_of id g h cs)
   where
@@ -65,19 +67,19 @@ heard_of id g h (c ∷ cs) = at (c.id == id) (heard_of id g h cs)
     at true k = h c
     at false k = k
 
-unread_of : (shows : Shows) (id : ℕ) (cs : List Child) → filter is_warning (of_child id (unread_lines shows) cs) ≡ unread_warned shows (place_of id (map seat cs))
-unread_of shows id [] = refl
-unread_of shows id (c ∷ cs) = at (c.id == id) (unread_of shows id cs)
+unread_of : (shows : Shows) (cmds : List Planned) (id : ℕ) (cs : List Child) → filter is_warning (of_child id (unread_at shows cmds) cs) ≡ unread_warned shows (place_of id (map seat cs))
+unread_of shows cmds id [] = refl
+unread_of shows cmds id (c ∷ cs) = at (c.id == id) (unread_of shows cmds id cs)
   where
-    at : (b : Bool) → filter is_warning (of_child id (unread_lines shows) cs) ≡ unread_warned shows (place_of id (map seat cs)) → filter is_warning (if b then unread_lines shows c else of_child id (unread_lines shows) cs) ≡ unread_warned shows (if b then Some c.place else place_of id (map seat cs))
-    at true k = unread_one shows c
+    at : (b : Bool) → filter is_warning (of_child id (unread_at shows cmds) cs) ≡ unread_warned shows (place_of id (map seat cs)) → filter is_warning (if b then unread_at shows cmds c else of_child id (unread_at shows cmds) cs) ≡ unread_warned shows (if b then Some c.place else place_of id (map seat cs))
+    at true k = unread_one shows (slice_get cmds c.place) c
     at false k = k
 
-end_one : (shows : Shows) (warns : Bool) (s : Status) (c : Child) (ps : List Planned) → filter is_warning (flat_map (λ p. ended_lines shows warns p.cmd s c) ps) ≡ flat_map (λ p. when (warns && shows.warnings && not (is_success s)) (failed_line s p.cmd ∷ [])) ps
+end_one : (shows : Shows) (warns : Bool) (s : Status) (c : Child) (ps : List Planned) → filter is_warning (flat_map (λ p. ended_lines shows warns p s c) ps) ≡ flat_map (λ p. when (warns && shows.warnings && not (is_success s)) (failed_line s p.cmd ∷ [])) ps
 end_one shows warns s c [] = refl
 end_one shows warns s c (p ∷ ps) =
-    filter-append is_warning (ended_lines shows warns p.cmd s c) (flat_map (λ q. ended_lines shows warns q.cmd s c) ps)
-    ∙ ap (λ l. l ++ filter is_warning (flat_map (λ q. ended_lines shows warns q.cmd s c) ps)) (ended_one shows warns p.cmd s c)
+    filter-append is_warning (ended_lines shows warns p s c) (flat_map (λ q. ended_lines shows warns q s c) ps)
+    ∙ ap (λ l. l ++ filter is_warning (flat_map (λ q. ended_lines shows warns q s c) ps)) (ended_one shows warns p s c)
     ∙ ap (λ l. when (warns && shows.warnings && not (is_success s)) (failed_line s p.cmd ∷ []) ++ l) (end_one shows warns s c ps)
 
 end_of : (shows : Shows) (warns : Bool) (cmds : List Planned) (id : ℕ) (s : Status) (cs : List Child) → filter is_warning (of_child id (end_lines shows warns cmds s) cs) ≡ failed_warned shows warns cmds s (place_of id (map seat cs))
@@ -90,9 +92,9 @@ end_of shows warns cmds id s (c ∷ cs) = at (c.id == id) (end_of shows warns cm
 
 -- one event
 warned_due : (shows : Shows) (warns : Bool) (cmds : List Planned) (k : Kept) (e : Event) → AreBelow (length cmds) (map seat k.children) → filter is_warning (due shows warns cmds k e) ≡ warning_of shows warns cmds (run_of k) e
-warned_due shows warns cmds k (Started n role cmd pipes held) h = announced_none shows cmd
-warned_due shows warns cmds k (Heard n p) h = heard_of n (λ c. heard_lines shows c p) (heard_none shows p) k.children
-warned_due shows warns cmds k (Unread n) h = unread_of shows n k.children
+warned_due shows warns cmds k (Started n role cmd pipes held) h = untold_start is_warning (λ m. refl) shows cmd (take 1 (drop k.begun cmds)) ∙ announced_none shows cmd
+warned_due shows warns cmds k (Heard n p) h = heard_of n (heard_at shows cmds p) (λ c. heard_none shows (slice_get cmds c.place) p c) k.children
+warned_due shows warns cmds k (Unread n) h = unread_of shows cmds n k.children
 warned_due shows warns cmds k (Ended n s) h = end_of shows warns cmds n s k.children
 warned_due shows warns cmds k (Abandoned n) h = refl
 warned_due shows warns cmds k (Turn n) h = refl
@@ -118,4 +120,4 @@ warned_due shows warns cmds k (Fault call why) h = refl
 -- those that were printed, by the answer
 pub warned_all : {T : Type 0} (shows : Shows) (warns : Bool) (cmds : List Planned) (part : List Event) (result : Result T RunError) → IsPrinted shows warns cmds nothing_kept result part → 0 + length (started part) ≤ length cmds → IsForwarded result (warnings_printed part) (warnings_from shows warns cmds nothing part)
 warned_all shows warns cmds part result q few =
-    sifted is_warning shows warns cmds nothing_kept part (warnings_from shows warns cmds nothing part) (announced_none shows) (along_due is_warning (warning_of shows warns cmds) shows warns cmds (warned_due shows warns cmds) nothing_kept part tt few) result q
+    sifted is_warning shows warns cmds nothing_kept part (warnings_from shows warns cmds nothing part) (λ m. refl) (announced_none shows) (along_due is_warning (warning_of shows warns cmds) shows warns cmds (warned_due shows warns cmds) nothing_kept part tt few) result q

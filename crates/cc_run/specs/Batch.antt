@@ -9,7 +9,7 @@ use Rattle.cc_run.specs.Planned.{Asked, asked}
 use Rattle.cc_run.specs.Printing.{IsPrinted}
 use Rattle.cc_run.specs.declared.error.RunError.{RunError}
 use Rattle.cc_run.specs.declared.planned.Batch.{Batch}
-use Rattle.cc_run.specs.declared.print.Line.{Line}
+use Rattle.cc_run.specs.declared.print.Notice.{Notice}
 use Rattle.cc_run.specs.declared.running.Child.{Child}
 
 -- how many commands it has
@@ -33,7 +33,7 @@ abbrev pub IsFinished : {J : Type 0} → Batch J → Kept → Type 0
 IsFinished batch kept = IsDone (length (asked_of batch)) (run_of kept)
 
 -- the lines that the news of its children give
-abbrev pub owed_by : {J : Type 0} → Batch J → List Child → List Event → List Line
+abbrev pub owed_by : {J : Type 0} → Batch J → List Child → List Event → List Notice
 owed_by batch = owed_from batch.shows.now batch.warns batch.cmds.now
 
 -- what was printed of its run, by the answer

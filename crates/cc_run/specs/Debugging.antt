@@ -11,31 +11,33 @@ use Rattle.cc_run.specs.Run.{Run, nothing, place_of}
 use Rattle.cc_run.specs.Texts.{announced, debug_line, ended_text}
 use Rattle.cc_run.specs.declared.error.RunError.{RunError}
 use Rattle.cc_run.specs.declared.planned.Shows.{Shows}
-use Rattle.cc_run.specs.declared.print.Line.{Line}
+use Rattle.cc_run.specs.declared.print.Notice.{Notice}
+use Rattle.cc_run.specs.declared.print.Notice.TheVariants.{Shown, Told}
 
 abbrev pub is_debug_kind : LineKind → Bool
 is_debug_kind Debug = true
 is_debug_kind _ = false
 
-abbrev pub is_debug : Line → Bool
-is_debug line = is_debug_kind line.kind
+abbrev pub is_debug : Notice → Bool
+is_debug (Shown kind bytes) = is_debug_kind kind
+is_debug (Told message) = false
 
 -- the lines for debugging that were printed
-abbrev pub debug_printed : List Event → List Line
+abbrev pub debug_printed : List Event → List Notice
 debug_printed part = filter is_debug (printed part)
 
 -- the line after a command, where its child is one of the run
-abbrev pub end_line : Shows → Status → Option ℕ → List Line
+abbrev pub end_line : Shows → Status → Option ℕ → List Notice
 end_line shows status None = []
 end_line shows status (Some place) = when shows.debug (debug_line (ended_text status) ∷ [])
 
-abbrev pub debug_of : Shows → Run → Event → List Line
+abbrev pub debug_of : Shows → Run → Event → List Notice
 debug_of shows r (Started id role cmd pipes held) = announced shows cmd
 debug_of shows r (Ended id status) = end_line shows status (place_of id r.live)
 debug_of shows r _ = []
 
 -- the lines for debugging that these events give, in order
-abbrev pub debug_from : Shows → Run → List Event → List Line
+abbrev pub debug_from : Shows → Run → List Event → List Notice
 debug_from shows = lines_along (debug_of shows)
 
 -- on Ok the lines for debugging that were printed are those of the run's events

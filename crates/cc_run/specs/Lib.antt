@@ -6,6 +6,7 @@ pub mod Hearing
 pub mod Keeping
 pub mod Life
 pub mod Lines
+pub mod Messages
 pub mod Outcome
 pub mod Output
 pub mod Own
@@ -16,6 +17,7 @@ pub mod Planned
 pub mod Printing
 pub mod Prints
 pub mod Run
+pub mod Said
 pub mod Solo
 pub mod Started
 pub mod Stderr

@@ -3,7 +3,7 @@ use Rattle.std.specs.Prelude.{◌≡◌, ◌<◌, ◌⊎◌, ℕ, List, [], ◌�
 use Rattle.cc_host.specs.Command.{CommandSeen}
 use Rattle.cc_host.specs.declared.event.Status.{Status}
 use Rattle.cc_host.specs.declared.event.HostCall.{HostCall}
-use Rattle.cc_host.specs.declared.event.HostCall.TheVariants.{Start, Turn, Print}
+use Rattle.cc_host.specs.declared.event.HostCall.TheVariants.{Start, Turn, Print, Say}
 use Rattle.cc_host.specs.declared.event.HostError.{HostError}
 use Rattle.cc_host.specs.declared.event.HostError.TheVariants.{Fault, NoMemory as WantsMemory}
 use Rattle.cc_run.specs.Children.{Kept, run_of}
@@ -16,6 +16,10 @@ use Rattle.cc_host.specs.declared.event.Why.{Why}
 use Rattle.cc_run.specs.Part.{missing, faults, abandoned}
 use Rattle.cc_run.specs.declared.error.RunError.{RunError}
 use Rattle.cc_run.specs.declared.error.RunError.TheVariants.{ToolNotFound, Failed, StartFault, WaitFault, HostFault, TurnsSpent, NoMemory}
+
+-- a line was to be printed, or a message to be said
+abbrev pub IsNotice : HostCall → Type 0
+IsNotice call = (call ≡ Print) ⊎ (call ≡ Say)
 
 abbrev pub start_error : ℕ → HostError → RunError
 start_error place (Fault call why) = StartFault place
@@ -60,7 +64,7 @@ IsSpawnError count r (ToolNotFound place) = (place ≡ r.begun) × (place < coun
 IsSpawnError count r (StartFault place) = (place ≡ r.begun) × (place < count)
 IsSpawnError count r (Failed place status) = ⊥
 IsSpawnError count r WaitFault = ⊥
-IsSpawnError count r (HostFault call why) = call ≡ Print
+IsSpawnError count r (HostFault call why) = IsNotice call
 IsSpawnError count r TurnsSpent = ⊥
 IsSpawnError count r _ = Unit {0}
 
@@ -69,7 +73,7 @@ abbrev pub IsWaitError : RunError → Type 0
 IsWaitError WaitFault = Unit {0}
 IsWaitError TurnsSpent = Unit {0}
 IsWaitError NoMemory = Unit {0}
-IsWaitError (HostFault call why) = call ≡ Print
+IsWaitError (HostFault call why) = IsNotice call
 IsWaitError _ = ⊥
 
 -- the refusals of a pass
@@ -77,7 +81,7 @@ abbrev pub IsPassError : ℕ → Run → RunError → Type 0
 IsPassError count r (ToolNotFound place) = (place ≡ r.begun) × (place < count)
 IsPassError count r (StartFault place) = (place ≡ r.begun) × (place < count)
 IsPassError count r (Failed place status) = ⊥
-IsPassError count r (HostFault call why) = call ≡ Print
+IsPassError count r (HostFault call why) = IsNotice call
 IsPassError count r _ = Unit {0}
 
 -- a child runs or a command wasn't started
@@ -105,7 +109,7 @@ IsRunError count r (ToolNotFound place) = (place ≡ r.begun) × (place < count)
 IsRunError count r (StartFault place) = (place ≡ r.begun) × (place < count)
 IsRunError count r (Failed place status) = (r.failed ≡ Some (place, status)) × IsDone count r
 IsRunError count r TurnsSpent = IsOpen count r
-IsRunError count r (HostFault call why) = call ≡ Print
+IsRunError count r (HostFault call why) = IsNotice call
 IsRunError count r _ = Unit {0}
 
 -- a fault or a missing program is the last event

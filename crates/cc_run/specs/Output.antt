@@ -2,34 +2,40 @@
 use Rattle.std.specs.Prelude.{◌≡◌, ◌⊎◌, ◌≤◌, ℕ, Bool, true, false, List, [], ◌∷◌, ◌++◌, length, map, take, ◌&&◌, ◌||◌, Option, None, Result, Ok, Err}
 use Rattle.std.specs.Option.{option_copied}
 use Rattle.cc_text.specs.Words.{when}
+use Rattle.cc_host.specs.Command.{CommandSeen}
 use Rattle.cc_host.specs.Status.{is_success}
 use Rattle.cc_host.specs.declared.event.Event.{Event}
 use Rattle.cc_host.specs.declared.event.Event.TheVariants.{Ran, Missing, Fault}
-use Rattle.cc_host.specs.declared.event.HostCall.TheVariants.{Output, Print}
+use Rattle.cc_host.specs.declared.event.HostCall.TheVariants.{Output}
 use Rattle.cc_host.specs.declared.event.LineKind.TheVariants.{Warning}
 use Rattle.cc_host.specs.declared.event.OutputKind.{OutputKind}
 use Rattle.cc_host.specs.declared.event.OutputKind.TheVariants.{Discard}
 use Rattle.cc_host.specs.declared.event.Status.{Status}
 use Rattle.cc_host.specs.declared.event.Why.{Why}
 use Rattle.cc_run.specs.Lines.{warnings}
+use Rattle.cc_run.specs.Messages.{warned_of, failed_told}
+use Rattle.cc_run.specs.Outcome.{IsNotice}
 use Rattle.cc_run.specs.Prints.{prints}
 use Rattle.cc_run.specs.Texts.{announced, cargo_line, debug_line, ended_text}
 use Rattle.cc_run.specs.declared.error.RunError.{RunError}
 use Rattle.cc_run.specs.declared.error.RunError.TheVariants.{ToolNotFound, Failed, StartFault, HostFault, NoMemory}
 use Rattle.cc_run.specs.declared.planned.Planned.{Planned}
 use Rattle.cc_run.specs.declared.planned.Shows.{Shows}
-use Rattle.cc_run.specs.declared.print.Line.{Line}
+use Rattle.cc_run.specs.declared.print.Notice.{Notice}
 use Rattle.cc_run.specs.declared.whole.Outputs.{Outputs}
 
 -- the warnings of a standard error, each as a line for Cargo
-abbrev pub map_warnings : Option (List ℕ) → List ℕ → List Line
+abbrev pub map_warnings : Option (List ℕ) → List ℕ → List Notice
 map_warnings ignored stderr = map (cargo_line Warning) (warnings ignored stderr)
 
--- the lines behind a command: the warnings of its standard error, and then how it ended
-unfoldable pub behind : Shows → Bool → Option (List ℕ) → Status → List ℕ → List Line
-behind shows always ignored status stderr =
+-- what comes behind a command: the warnings of its standard error, as lines and as messages, how it ended, and where that
+-- is told too the message of its failure
+unfoldable pub behind : Shows → CommandSeen → Bool → Option (List ℕ) → Status → List ℕ → List Notice
+behind shows cmd always ignored status stderr =
     when (shows.warnings && (always || is_success status)) (map_warnings ignored stderr)
+    ++ when (shows.listens && (always || is_success status)) (map (warned_of cmd) (warnings ignored stderr))
     ++ when shows.debug (debug_line (ended_text status) ∷ [])
+    ++ when always (failed_told shows status cmd)
 
 -- a command as it ran, between the line before it and some of those behind it
 pub record RanWhole (shows : Shows) (p : Planned) (out : OutputKind) (always : Bool) (ignored : Option (List ℕ))
@@ -38,19 +44,19 @@ pub record RanWhole (shows : Shows) (p : Planned) (out : OutputKind) (always : B
   pub output : List ℕ
   pub stderr : List ℕ
   pub count : ℕ
-  pub few : count ≤ length (behind shows always ignored status stderr)
+  pub few : count ≤ length (behind shows p.cmd always ignored status stderr)
   pub rest : List Event
   pub is : part ≡ prints (announced shows p.cmd)
-      ++ Ran p.role p.cmd (record { out = out; hear = shows.warnings }) status output stderr
-      ∷ prints (take count (behind shows always ignored status stderr)) ++ rest
+      ++ Ran p.role p.cmd (record { out = out; hear = shows.warnings || shows.listens }) status output stderr
+      ∷ prints (take count (behind shows p.cmd always ignored status stderr)) ++ rest
 
 -- all of the lines behind it were printed
 pub record IsRanTo (shows : Shows) (p : Planned) (out : OutputKind) (always : Bool) (ignored : Option (List ℕ))
     (status : Status) (output : List ℕ) (part : List Event) : Type 0 where
   pub stderr : List ℕ
   pub is : part ≡ prints (announced shows p.cmd)
-      ++ Ran p.role p.cmd (record { out = out; hear = shows.warnings }) status output stderr
-      ∷ prints (behind shows always ignored status stderr)
+      ++ Ran p.role p.cmd (record { out = out; hear = shows.warnings || shows.listens }) status output stderr
+      ∷ prints (behind shows p.cmd always ignored status stderr)
 
 -- what a part says of the answer
 abbrev pub IsOutput : Shows → Planned → OutputKind → Bool → Option (List ℕ) → Result (List ℕ) RunError → List Event
@@ -63,7 +69,7 @@ IsOutput shows p out always ignored (Err (ToolNotFound place)) part = (place ≡
     × (part ≡ prints (announced shows p.cmd) ++ Missing p.role p.cmd ∷ [])
 IsOutput shows p out always ignored (Err (StartFault place)) part = (place ≡ 0) × ((why : Why)
     × (part ≡ prints (announced shows p.cmd) ++ Fault Output why ∷ []))
-IsOutput shows p out always ignored (Err (HostFault call why)) part = (call ≡ Print)
+IsOutput shows p out always ignored (Err (HostFault call why)) part = IsNotice call
     × ((part ≡ Fault call why ∷ []) ⊎ ((w : RanWhole shows p out always ignored part) × (w.rest ≡ Fault call why ∷ [])))
 IsOutput shows p out always ignored (Err NoMemory) part = (part ≡ []) ⊎ (part ≡ prints (announced shows p.cmd))
     ⊎ ((w : RanWhole shows p out always ignored part) × (w.rest ≡ []))
@@ -75,8 +81,8 @@ IsSilentRun shows p (Ok _) part = (output : List ℕ) × IsOutput shows p Discar
 IsSilentRun shows p (Err e) part = IsOutput shows p Discard false None (Err e) part
 
 -- the lines behind a command, and what a part says of the answer, by what is done with the outputs
-abbrev pub behind_by : Shows → Outputs → Status → List ℕ → List Line
-behind_by shows outputs = behind shows outputs.always (option_copied outputs.ignored)
+abbrev pub behind_by : Shows → CommandSeen → Outputs → Status → List ℕ → List Notice
+behind_by shows cmd outputs = behind shows cmd outputs.always (option_copied outputs.ignored)
 
 abbrev pub IsOutputBy : Shows → Planned → Outputs → Result (List ℕ) RunError → List Event → Type 0
 IsOutputBy shows p outputs = IsOutput shows p outputs.out outputs.always (option_copied outputs.ignored)

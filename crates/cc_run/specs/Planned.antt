@@ -1,5 +1,5 @@
 -- What is asked of a host.
-use Rattle.std.specs.Prelude.{List, map}
+use Rattle.std.specs.Prelude.{List, map, ◌||◌}
 use Rattle.cc_host.specs.Command.{CommandSeen}
 use Rattle.cc_host.specs.declared.event.Role.{Role}
 use Rattle.cc_host.specs.declared.event.Pipes.{Pipes}
@@ -12,9 +12,9 @@ pub record Asked : Type 0 where
   pub cmd : CommandSeen
   pub pipes : Pipes
 
--- the standard error is heard where warnings are shown
+-- the standard error is heard where warnings are shown or the host listens
 abbrev pub pipes_of : Shows → Pipes
-pipes_of shows = record { out = shows.out; hear = shows.warnings }
+pipes_of shows = record { out = shows.out; hear = shows.warnings || shows.listens }
 
 abbrev pub asked_by : Shows → Planned → Asked
 asked_by shows planned = record { role = planned.role; cmd = planned.cmd; pipes = pipes_of shows }

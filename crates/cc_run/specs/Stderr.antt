@@ -13,7 +13,8 @@ use Rattle.cc_run.specs.Texts.{stderr_line}
 use Rattle.cc_run.specs.declared.error.RunError.{RunError}
 use Rattle.cc_run.specs.declared.error.RunError.TheVariants.{HostFault, NoMemory}
 use Rattle.cc_run.specs.declared.planned.Shows.{Shows}
-use Rattle.cc_run.specs.declared.print.Line.{Line}
+use Rattle.cc_run.specs.declared.print.Notice.{Notice}
+use Rattle.cc_run.specs.declared.print.Notice.TheVariants.{Shown, Told}
 
 -- an event of the child of that id
 abbrev pub is_of : ℕ → Event → Bool
@@ -47,21 +48,22 @@ abbrev pub is_own_kind : ℕ → LineKind → Bool
 is_own_kind id (Stderr n) = n == id
 is_own_kind id _ = false
 
-abbrev pub is_stderr : ℕ → Line → Bool
-is_stderr id line = is_own_kind id line.kind
+abbrev pub is_stderr : ℕ → Notice → Bool
+is_stderr id (Shown kind bytes) = is_own_kind id kind
+is_stderr id (Told message) = false
 
 -- the lines of the standard error of that child that were printed
-abbrev pub stderr_printed : ℕ → List Event → List Line
+abbrev pub stderr_printed : ℕ → List Event → List Notice
 stderr_printed id part = filter (is_stderr id) (printed part)
 
 -- The lines that the standard error of that child gives: all of its bytes at once, split at line feeds. Where it was
 -- abandoned before it ended and before its standard error failed to be read, the rest behind the last line feed is none.
-abbrev pub stderr_given : Shows → ℕ → List Event → List Line
+abbrev pub stderr_given : Shows → ℕ → List Event → List Notice
 stderr_given shows id part =
     when shows.warnings (map (stderr_line id) (lines_by (list_any (is_over id) part) (heard id part)))
 
 -- all of these lines, or the first of them, where a print or memory was refused
-abbrev pub IsForwarded : {T : Type 0} → Result T RunError → List Line → List Line → Type 0
+abbrev pub IsForwarded : {T : Type 0} → Result T RunError → List Notice → List Notice → Type 0
 IsForwarded (Err (HostFault call why)) given wanted = (count : ℕ) × (given ≡ take count wanted)
 IsForwarded (Err NoMemory) given wanted = (count : ℕ) × (given ≡ take count wanted)
 IsForwarded _ given wanted = given ≡ wanted

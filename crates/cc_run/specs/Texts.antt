@@ -9,22 +9,23 @@ use Rattle.cc_host.specs.declared.event.LineKind.TheVariants.{Warning, Stderr, D
 use Rattle.cc_host.specs.declared.event.Status.{Status}
 use Rattle.cc_host.specs.declared.event.Status.TheVariants.{Code, NoCode}
 use Rattle.cc_run.specs.declared.planned.Shows.{Shows}
-use Rattle.cc_run.specs.declared.print.Line.{Line}
+use Rattle.cc_run.specs.declared.print.Notice.{Notice}
+use Rattle.cc_run.specs.declared.print.Notice.TheVariants.{Shown}
 
 -- a line for Cargo, which shows it as a warning
-abbrev pub cargo_line : LineKind → List ℕ → Line
-cargo_line kind text = record { kind = kind; bytes = codes "cargo:warning=" ++ text ++ 10 ∷ [] }
+abbrev pub cargo_line : LineKind → List ℕ → Notice
+cargo_line kind text = Shown kind (codes "cargo:warning=" ++ text ++ 10 ∷ [])
 
 -- a line of the standard error of a child
-abbrev pub stderr_line : ℕ → List ℕ → Line
+abbrev pub stderr_line : ℕ → List ℕ → Notice
 stderr_line id = cargo_line (Stderr id)
 
 -- a line for debugging
-abbrev pub debug_line : List ℕ → Line
-debug_line text = record { kind = Debug; bytes = text ++ 10 ∷ [] }
+abbrev pub debug_line : List ℕ → Notice
+debug_line text = Shown Debug (text ++ 10 ∷ [])
 
 -- the line before a command
-unfoldable pub announced : Shows → CommandSeen → List Line
+unfoldable pub announced : Shows → CommandSeen → List Notice
 announced shows cmd = when shows.debug (debug_line (codes "running: " ++ command_line cmd) ∷ [])
 
 -- how a command ended
@@ -42,7 +43,7 @@ failed_text status cmd = codes "command did not execute successfully " ++ end_in
     ++ command_line cmd
 
 -- the warning of such a command, which is the error of a build
-unfoldable pub failed_line : Status → CommandSeen → Line
+unfoldable pub failed_line : Status → CommandSeen → Notice
 failed_line status cmd = cargo_line Warning (codes "ToolExecError: " ++ failed_text status cmd)
 
 -- the standard error of a child failed to be read

@@ -17,6 +17,7 @@ ghost use Rattle.cc_run.specs.Patience.{Bounded, Waited, WhereOwned, LastsOn, Sp
 ghost use Rattle.cc_run.specs.Planned.{asked};
 ghost use Rattle.cc_run.specs.Printing.{IsPrinted, kept_from};
 ghost use Rattle.cc_run.specs.Run.{ids, gone};
+ghost use Rattle.cc_run.specs.Said.{SaysNone};
 ghost use Rattle.cc_run.specs.Stderr.{ForwardsEach};
 ghost use Rattle.cc_run.specs.Warned.{WarnsAll};
 ghost use Rattle.cc_run.specs.Whole.{HasRun};
@@ -182,7 +183,9 @@ pub(crate) fn drop_all<W: World, H: Host<W>, J: Jobs>(
 /// Both counts of the seat rose by the starts; where a start ended the run, the token of that start may stand in them too.
 ///
 /// Printed are, as `shows` says, a line before each command, the lines of each standard error as they come, a line with
-/// the status of each that ended, and a warning of each that failed. A refused print or memory leaves the first of these.
+/// the status of each that ended, and a warning of each that failed. To a host that listens is said, just before the start
+/// of a command with a message, that it compiles; each line of each standard error; that one can't be read; and each
+/// failure, also where no warnings are shown. A refused line, message or memory leaves the first of these.
 ///
 /// Where one caller owns the pool, no more turns are made than the host's patience for each command.
 pub fn run_all<W: World, H: Host<W>, J: Jobs>(
@@ -219,6 +222,7 @@ pub fn run_all<W: World, H: Host<W>, J: Jobs>(
     ensures twice { DebugsTimes shows.now result (2 * length cmds.now)
         (part H.log host.old host.new) }
     ensures warnings { WarnsAll shows.now true cmds.now result (part H.log host.old host.new) }
+    ensures silent { SaysNone shows.now (part H.log host.old host.new) }
 {
     // (where the host tells its patience it is at least 1: a law of the log that is lent)
     let _least = host.log();

@@ -10,6 +10,7 @@ mod all;
 mod error;
 mod forwarder;
 mod hearing;
+mod messages;
 mod one;
 mod planned;
 mod print;

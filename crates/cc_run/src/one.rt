@@ -13,6 +13,7 @@ ghost use Rattle.cc_run.specs.Part.{GoesOn};
 ghost use Rattle.cc_run.specs.Patience.{Bounded, LastsOn, SpentEarly};
 ghost use Rattle.cc_run.specs.Planned.{asked};
 ghost use Rattle.cc_run.specs.Printing.{IsPrinted};
+ghost use Rattle.cc_run.specs.Said.{SaysNone};
 ghost use Rattle.cc_run.specs.Solo.{IsSolo};
 ghost use Rattle.cc_run.specs.Stderr.{ForwardsEach};
 ghost use Rattle.cc_run.specs.Warned.{WarnsAll};
@@ -72,7 +73,7 @@ fn wait_out<W: World, H: Host<W>, J: Jobs>(
 /// Refused are its failure, a missing program, a fault of the host, want of memory and want of turns, with place 0. All
 /// but the first end the run at once: a child that runs is abandoned. After each answer no child of the run is left.
 ///
-/// It prints as `run_all` does, without a warning of a failure, and makes no more turns than the host's patience.
+/// It prints and says as `run_all` does, without a warning of a failure, and makes no more turns than the host's patience.
 pub fn run_one<W: World, H: Host<W>>(
     alloc: Global,
     host: &mut H,
@@ -96,6 +97,7 @@ pub fn run_one<W: World, H: Host<W>>(
     ensures twice { DebugsTimes shows.now result 2 (part H.log host.old host.new) }
     ensures warnings { WarnsAll shows.now false (cmd.now ∷ []) result
         (part H.log host.old host.new) }
+    ensures silent { SaysNone shows.now (part H.log host.old host.new) }
 {
     // (where the host tells its patience it is at least 1: a law of the log that is lent)
     let _least = host.log();

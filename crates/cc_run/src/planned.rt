@@ -18,13 +18,16 @@ pub struct Planned {
 /// What of a run is shown: on its host as lines, and of the commands' own standard output.
 #[derive(Clone, Copy, Debug, PartialEq, Eq)]
 pub struct Shows {
-    /// The lines of each standard error, and a warning of each failure, as lines `cargo:warning=..`. Where it is off,
-    /// no standard error is read.
+    /// The lines of each standard error, and a warning of each failure, as lines `cargo:warning=..`. Where it is off and
+    /// the host doesn't listen, no standard error is read.
     pub warnings: bool,
     /// A line before each command, and one with its status after it.
     pub debug: bool,
     /// Where the standard output of a command goes.
     pub out: OutputKind,
+    /// Whether the host listens, as it answers itself. Messages are said to one that does: that a command compiles, the
+    /// lines of each standard error, that one can't be read, and each failure.
+    pub listens: bool,
 }
 
 /// How many turns a run may still make, and how many were made. A turn asks a host for the news of its children.
@@ -52,6 +55,6 @@ pub(crate) fn pipes_of(shows: &Shows) -> Pipes
 {
     Pipes {
         out: shows.out,
-        hear: shows.warnings,
+        hear: shows.warnings || shows.listens,
     }
 }

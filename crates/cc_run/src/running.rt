@@ -4,7 +4,7 @@ ghost use Rattle.std.specs.Option.{option_map};
 ghost use Rattle.cc_run.specs.Children.{Kept, ArePlaced, IsOneLess, nothing_kept, run_of, seat, without_child, IsNoChild, IsFirst};
 ghost use Rattle.cc_run.specs.Hearing.{of_child, of_some};
 ghost use Rattle.cc_run.specs.Run.{ended_run, place_of};
-ghost use Rattle.cc_run.specs.declared.print.Line.{Line as LineSeen};
+ghost use Rattle.cc_run.specs.declared.print.Notice.{Notice as LineSeen};
 ghost use Rattle.cc_run.specs.declared.running.Child.{Child as ChildSeen};
 
 use crate::Forwarder;

@@ -15,10 +15,10 @@ ghost use Rattle.cc_run.specs.Printing.{PrintsStarts, kept_from};
 ghost use Rattle.cc_run.specs.Started.{IsStart, IsBegun};
 
 use crate::error::start_error;
+use crate::messages::before;
 use crate::planned::pipes_of;
 use crate::print::print_all;
 use crate::running::Child;
-use crate::texts::announced;
 use crate::{Forwarder, Planned, RunError, Running, Shows, Step};
 use cc_host::{Host, Start, World};
 use cc_jobs::{JobFault, Jobs, Take};
@@ -43,7 +43,7 @@ pub(crate) fn start<W: World, H: Host<W>>(
 {
     let alloc = running.alloc();
     running.children.reserve(1)?;
-    let lines = announced(alloc, shows, &planned.cmd)?;
+    let lines = before(alloc, shows, planned)?;
     if let Err(e) = print_all(host, &lines) {
         return Err(e);
     }

@@ -1,29 +1,36 @@
 // The lines that a run prints.
 ghost use Rattle.std.specs.Prelude.{◌≡◌, ◌++◌, [], IfOk, OnOk, map, string_bytes};
 ghost use Rattle.std.specs.Fmt.{signed_decimal};
-ghost use Rattle.cc_run.specs.Texts.{cargo_line, debug_line, ended_text, end_in_brackets, failed_text, failed_line, announced};
+ghost use Rattle.cc_run.specs.Texts.{cargo_line, debug_line, ended_text, end_in_brackets, failed_text, failed_line, announced, unread_text};
 
 use crate::Shows;
-use crate::print::Line;
+use crate::print::Notice;
 use cc_host::{Command, LineKind, Status, command_line};
 use cc_text::{Bytes, Mem, Text};
 use std::alloc::{AllocError, Global};
 
 // A line for Cargo, which shows it as a warning.
-pub(crate) fn cargo_line(alloc: Global, kind: LineKind, text: &[u8]) -> Mem<Line>
+pub(crate) fn cargo_line(alloc: Global, kind: LineKind, text: &[u8]) -> Mem<Notice>
     ensures { IfOk result (λ line. line ≡ cargo_line kind text.now) }
 {
     let mut bytes = Vec::from_slice(alloc, b"cargo:warning=")?;
     bytes.extend_from_slice(text)?;
     bytes.push(b'\n')?;
-    Ok(Line {
+    Ok(Notice::Shown {
         kind,
         bytes: Bytes::owning(bytes),
     })
 }
 
+// The warning of a standard error that failed to be read.
+pub(crate) fn unread_text() -> &'static str
+    ensures { result.now ≡ unread_text }
+{
+    "Failed to read from child stderr"
+}
+
 // Adds each of these texts as such a line.
-pub(crate) fn push_lines(kind: LineKind, texts: &[Bytes], lines: &mut Vec<Line>) -> Mem<()>
+pub(crate) fn push_lines(kind: LineKind, texts: &[Bytes], lines: &mut Vec<Notice>) -> Mem<()>
     ensures { OnOk result (lines.new.items ≡ lines.old.items ++ map (cargo_line kind) texts.now) }
 {
     let alloc = *lines.allocator();
@@ -34,12 +41,12 @@ pub(crate) fn push_lines(kind: LineKind, texts: &[Bytes], lines: &mut Vec<Line>)
 }
 
 // A line for debugging.
-fn debug_line(alloc: Global, text: &[u8]) -> Mem<Line>
+fn debug_line(alloc: Global, text: &[u8]) -> Mem<Notice>
     ensures { IfOk result (λ line. line ≡ debug_line text.now) }
 {
     let mut bytes = Vec::from_slice(alloc, text)?;
     bytes.push(b'\n')?;
-    Ok(Line {
+    Ok(Notice::Shown {
         kind: LineKind::Debug,
         bytes: Bytes::owning(bytes),
     })
@@ -47,7 +54,7 @@ fn debug_line(alloc: Global, text: &[u8]) -> Mem<Line>
 
 // The line before a command, where it is wanted.
 #[tactic(auto, unfolding(crate::specs::Texts::announced))]
-pub(crate) fn announced(alloc: Global, shows: &Shows, cmd: &Command) -> Mem<Vec<Line>>
+pub(crate) fn announced(alloc: Global, shows: &Shows, cmd: &Command) -> Mem<Vec<Notice>>
     ensures { IfOk result (λ lines. lines.items ≡ announced shows.now cmd.now) }
 {
     let mut lines = Vec::new(alloc);
@@ -81,7 +88,7 @@ fn ended_text(alloc: Global, status: Status) -> Mem<Text>
 }
 
 // The line after a command.
-pub(crate) fn ended_line(alloc: Global, status: Status) -> Mem<Line>
+pub(crate) fn ended_line(alloc: Global, status: Status) -> Mem<Notice>
     ensures { IfOk result (λ line. line ≡ debug_line (ended_text status)) }
 {
     let text = ended_text(alloc, status)?;
@@ -119,7 +126,7 @@ pub fn failed_text(alloc: Global, status: Status, cmd: &Command) -> Mem<Text>
 
 // The warning of a command that failed among others.
 #[tactic(auto, unfolding(crate::specs::Texts::failed_line))]
-pub(crate) fn failed_line(alloc: Global, status: Status, cmd: &Command) -> Mem<Line>
+pub(crate) fn failed_line(alloc: Global, status: Status, cmd: &Command) -> Mem<Notice>
     ensures { IfOk result (λ line. line ≡ failed_line status cmd.now) }
 {
     let message = failed_text(alloc, status, cmd)?;

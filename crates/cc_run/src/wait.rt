@@ -18,12 +18,12 @@ ghost use Rattle.cc_run.specs.Planned.{asked};
 ghost use Rattle.cc_run.specs.Prints.{ArePrinted, IsPrintError};
 ghost use Rattle.cc_run.specs.Printing.{IsPrinted, kept_from};
 ghost use Rattle.cc_run.specs.Run.{ended_run, run_from};
-ghost use Rattle.cc_run.specs.declared.print.Line.{Line as LineSeen};
+ghost use Rattle.cc_run.specs.declared.print.Notice.{Notice as LineSeen};
 
 use crate::error::turn_error;
 use crate::hearing::{hear, push_end};
 use crate::planned::Batch;
-use crate::print::{Line, print_all};
+use crate::print::{Notice, print_all};
 use crate::{Planned, RunError, Running, Shows, Step, Turns};
 use cc_host::{Host, News, World};
 use cc_jobs::Jobs;
@@ -43,7 +43,7 @@ fn settle<J: Jobs>(
     running: &mut Running,
     news: &News,
     batch: &Batch<'_, J>,
-    lines: &mut Vec<Line>,
+    lines: &mut Vec<Notice>,
 ) -> Mem<()>
     requires one_run { RunsBatch J.fits J.held batch.now seat.old running.old }
     ensures one_run { RunsBatch J.fits J.held batch.now seat.new running.new }
@@ -56,7 +56,7 @@ fn settle<J: Jobs>(
     ensures lines { OnOk result (lines.new.items
         ≡ lines.old.items ++ owed_by batch.now running.old.children (reported news.now)) }
 {
-    let heard = hear(running, news, batch.shows, lines);
+    let heard = hear(running, news, batch.cmds, batch.shows, lines);
     let Some(status) = news.ended else {
         return heard;
     };
@@ -65,8 +65,8 @@ fn settle<J: Jobs>(
     };
     batch.jobs.give(seat);
     heard?;
-    let cmd = &batch.cmds[child.place].cmd;
-    push_end(&mut child, cmd, status, batch.shows, batch.warns, lines)
+    let planned = &batch.cmds[child.place];
+    push_end(&mut child, planned, status, batch.shows, batch.warns, lines)
 }
 
 // Does so for each piece of news, in order.
@@ -76,7 +76,7 @@ fn settle_all<J: Jobs>(
     running: &mut Running,
     news: &[News],
     batch: &Batch<'_, J>,
-    lines: &mut Vec<Line>,
+    lines: &mut Vec<Notice>,
 ) -> Mem<()>
     requires one_run { RunsBatch J.fits J.held batch.now seat.old running.old }
     ensures one_run { RunsBatch J.fits J.held batch.now seat.new running.new }

@@ -8,7 +8,7 @@ use crate::forwarder::pieces_of;
 use cc_text::{Bytes, Mem};
 use std::alloc::Global;
 
-fn without_carriage_return(line: &[u8]) -> &[u8]
+pub(crate) fn without_carriage_return(line: &[u8]) -> &[u8]
     ensures { result.now ≡ strip_carriage_return line.now }
 {
     match line {

@@ -15,6 +15,7 @@ use Rattle.cc_run.proofs.PrintingLemmas.{printed_dropped}
 use Rattle.cc_run.proofs.StderrLemmas.{child_printed, few_run}
 use Rattle.cc_run.proofs.WarnedLemmas.{warned_all}
 use Rattle.cc_run.specs.Printing.{IsPrinted}
+use Rattle.cc_run.proofs.SaidLaws.{says_none}
 use Rattle.cc_run.proofs.all.run_all.Goals as goal
 
 pub drop_all-requires-clause-own : goal.drop_all-requires-clause-own
@@ -79,3 +80,6 @@ pub returns-clause-twice : goal.returns-clause-twice
 returns-clause-twice g c =
     let w : Goes (g.J.Jobs.total c.args.seat.now) (asked c.args.shows.now c.args.cmds.now) (g.H.Host.log c.args.host.now) nothing (g.H.Host.log c.run_passes-result.new.host) (run_of c.run_passes-result.new.running) = subst (λ k. Goes (g.J.Jobs.total c.args.seat.now) (asked c.args.shows.now c.args.cmds.now) (g.H.Host.log c.args.host.now) (run_of k) (g.H.Host.log c.run_passes-result.new.host) (run_of c.run_passes-result.new.running)) c.new-running.ensures c.run_passes-result.ensures.goes in
     debug_twice c.args.shows.now c.args.cmds.now (g.H.Host.log c.args.host.now) (g.H.Host.log c.run_passes-result.new.host) (g.H.Host.log c.drop_all.new.host) (run_of c.run_passes-result.new.running) c.run_passes-result.result (returns-clause-debug g c) c.drop_all.ensures.adds w.steps.run w.steps.asked c.run_passes-result.ensures.done c.run_passes-result.ensures.named.2
+
+pub returns-clause-silent : goal.returns-clause-silent
+returns-clause-silent g c = says_none c.args.shows.now true c.args.cmds.now nothing_kept (since (g.H.Host.log c.args.host.now) (g.H.Host.log c.drop_all.new.host)) c.run_passes-result.result (returns-clause-lines g c)

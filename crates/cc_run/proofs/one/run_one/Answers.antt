@@ -2,7 +2,7 @@ use Rattle.std.proofs.Common.{◌≡◌, ◌≤◌, ◌+◌, [], ◌∷◌, Ok, 
 use Rattle.std.specs.Prelude.{Some, None, OnOk, IfErr, length}
 use Rattle.cc_host.specs.Part.{since}
 use Rattle.cc_host.proofs.Parts.{since_extends}
-use Rattle.cc_run.specs.Children.{run_of}
+use Rattle.cc_run.specs.Children.{run_of, nothing_kept}
 use Rattle.cc_run.specs.Outcome.{NamesCause, IsDone, IsRunError}
 use Rattle.cc_run.specs.Part.{Goes, turns}
 use Rattle.cc_run.specs.Planned.{asked}
@@ -18,6 +18,7 @@ use Rattle.cc_run.proofs.PrintingLemmas.{start_kept, unstarted_printed, printed_
 use Rattle.cc_run.proofs.StderrLemmas.{child_printed, few_solo}
 use Rattle.cc_run.proofs.WarnedLemmas.{warned_all}
 use Rattle.cc_run.specs.declared.error.Step.TheVariants.{Ready}
+use Rattle.cc_run.proofs.SaidLaws.{says_none}
 use Rattle.cc_run.proofs.one.run_one.Goals as goal
 
 pub returns-in-Err-clause-outcome : goal.returns-in-Err-clause-outcome
@@ -100,7 +101,9 @@ returns-clause-lines g c =
     let log = g.H.Host.log c.args.host.now in
     let s = g.H.Host.log c.start.new.host in
     let w = g.H.Host.log c.wait_out-result.new.host in
-    let k = start_kept c.args.shows.now false (c.args.cmd.now ∷ []) c.args.cmd.now 0 c.new-running.result c.start.new.running (since log s) c.in-Ok.field-0 c.in-Ok.ensures.part in
+    let first : c.new-running.result.begun ≡ 0 = ap (λ k. k.begun) c.new-running.ensures in
+    let at : c.args.cmd.now ≡ get_or (c.args.cmd.now ∷ []) c.new-running.result.begun c.args.cmd.now = ap (λ n. get_or (c.args.cmd.now ∷ []) n c.args.cmd.now) (sym first) in
+    let k = start_kept c.args.shows.now false (c.args.cmd.now ∷ []) c.args.cmd.now 0 c.new-running.result c.start.new.running (since log s) c.in-Ok.field-0 c.in-Ok.ensures.part (omega (arith, first)) at in
     let q = subst (λ l. IsPrinted c.args.shows.now false l c.start.new.running r (since s w)) c.from_ref.ensures.value c.wait_out-result.ensures.lines in
     let a = printed_then c.args.shows.now false (c.args.cmd.now ∷ []) c.new-running.result c.start.new.running log s w r c.start.ensures.extends c.wait_out-result.ensures.goes.extends k.0 k.1 q in
     subst (λ k. IsPrinted c.args.shows.now false (c.args.cmd.now ∷ []) k r (since log (g.H.Host.log c.drop_all.new.host))) c.new-running.ensures
@@ -147,3 +150,9 @@ returns-clause-twice g c =
     let a = alone_then all log s w (run_of c.start.new.running) fin st go c.wait_out-result.ensures.free in
     let reported = named_pair all log s w Ready r st.extends go.extends (start_named c.args.shows.now c.args.cmd.now 0 c.new-running.result c.start.new.running (since log s) cmds c.in-Ok.field-0 c.in-Ok.ensures.part) (subst (λ l. NamesCause (asked c.args.shows.now l) r (since s w)) c.from_ref.ensures.value c.wait_out-result.ensures.named) in
     debug_twice c.args.shows.now cmds log w (g.H.Host.log c.drop_all.new.host) fin r (returns-clause-debug g c) c.drop_all.ensures.adds a.run a.begun (subst (λ l. OnOk r (IsDone (length (asked c.args.shows.now l)) fin × (fin.failed ≡ None))) c.from_ref.ensures.value c.wait_out-result.ensures.done) reported.2
+
+pub returns-in-Err-clause-silent : goal.returns-in-Err-clause-silent
+returns-in-Err-clause-silent g c = says_none {T = Unit {0}} c.args.shows.now false (c.args.cmd.now ∷ []) nothing_kept (since (g.H.Host.log c.args.host.now) (g.H.Host.log c.start.new.host)) (Err c.in-Err.e) (returns-in-Err-clause-lines g c)
+
+pub returns-clause-silent : goal.returns-clause-silent
+returns-clause-silent g c = says_none c.args.shows.now false (c.args.cmd.now ∷ []) nothing_kept (since (g.H.Host.log c.args.host.now) (g.H.Host.log c.drop_all.new.host)) c.wait_out-result.result (returns-clause-lines g c)

@@ -56,10 +56,14 @@ pub returns-in-Err-start-clause-own : goal.returns-in-Err-start-clause-own
 returns-in-Err-start-clause-own g c = own_start c.args.shows.now c.index-cmds-running.result c.held-held.result c.args.running.now c.start.new.running (since (g.H.Host.log c.args.host.now) (g.H.Host.log c.start.new.host)) (Err c.in-Err-start.e) c.in-Err-start.ensures.part
 
 pub returns-in-Ok-clause-kept : goal.returns-in-Ok-clause-kept
-returns-in-Ok-clause-kept g c = (start_kept c.args.shows.now true c.args.cmds.now c.index-cmds-running.result c.held-held.result c.args.running.now c.start.new.running (since (g.H.Host.log c.args.host.now) (g.H.Host.log c.start.new.host)) c.in-Ok.field-0 c.in-Ok.ensures.part).0
+returns-in-Ok-clause-kept g c =
+    let at : c.index-cmds-running.result ≡ get_or c.args.cmds.now c.args.running.now.begun c.index-cmds-running.result = grind (arith, common_steps) in
+    (start_kept c.args.shows.now true c.args.cmds.now c.index-cmds-running.result c.held-held.result c.args.running.now c.start.new.running (since (g.H.Host.log c.args.host.now) (g.H.Host.log c.start.new.host)) c.in-Ok.field-0 c.in-Ok.ensures.part c.requires.next at).0
 
 pub returns-in-Ok-clause-lines : goal.returns-in-Ok-clause-lines
-returns-in-Ok-clause-lines g c = λ warns. (start_kept c.args.shows.now warns c.args.cmds.now c.index-cmds-running.result c.held-held.result c.args.running.now c.start.new.running (since (g.H.Host.log c.args.host.now) (g.H.Host.log c.start.new.host)) c.in-Ok.field-0 c.in-Ok.ensures.part).1
+returns-in-Ok-clause-lines g c =
+    let at : c.index-cmds-running.result ≡ get_or c.args.cmds.now c.args.running.now.begun c.index-cmds-running.result = grind (arith, common_steps) in
+    λ warns. (start_kept c.args.shows.now warns c.args.cmds.now c.index-cmds-running.result c.held-held.result c.args.running.now c.start.new.running (since (g.H.Host.log c.args.host.now) (g.H.Host.log c.start.new.host)) c.in-Ok.field-0 c.in-Ok.ensures.part c.requires.next at).1
 
 pub returns-in-Err-start-clause-lines : goal.returns-in-Err-start-clause-lines
 returns-in-Err-start-clause-lines g c =

@@ -14,10 +14,10 @@ pub returns-in_default-clause-part : goal.returns-in_default-clause-part
 returns-in_default-clause-part g c = ran_unmade c.args.shows.now c.args.planned.now c.args.outputs.out c.args.outputs.always (option_copied c.args.outputs.ignored) (g.H.Host.log c.args.host.now) (g.H.Host.log c.print_all.new.host) (g.H.Host.log c.output.new.self) (g.H.Host.log c.output.new.self) c.in-Ok-Done.status c.in-Ok-Done.out c.in-Ok-Done.err c.print_all.ensures.extends (c.in-Ok.ensures.printed ∙ ap prints (c.deref.ensures.value ∙ c.in_ok-before.ensures)) (grind (arith, common_steps, c.in-Ok-Done.ensures.adds)) refl
 
 pub returns-in-Err-print_all-clause-part : goal.returns-in-Err-print_all-clause-part
-returns-in-Err-print_all-clause-part g c = ran_refused c.args.shows.now c.args.planned.now c.args.outputs.out c.args.outputs.always (option_copied c.args.outputs.ignored) (g.H.Host.log c.args.host.now) (g.H.Host.log c.print_all.new.host) (g.H.Host.log c.output.new.self) (g.H.Host.log c.print_all-in-Ok-Done.new.host) c.in-Ok-Done.status c.in-Ok-Done.out c.in-Ok-Done.err c.deref-in-Ok-Done.result.now c.in-Err-print_all.e c.print_all.ensures.extends (c.in-Ok.ensures.printed ∙ ap prints (c.deref.ensures.value ∙ c.in_ok-before.ensures)) (grind (arith, common_steps, c.in-Ok-Done.ensures.adds)) c.print_all-in-Ok-Done.ensures.extends (c.deref-in-Ok-Done.ensures.value ∙ c.in-Ok-behind.ensures ∙ ap (behind c.args.shows.now c.args.outputs.always (option_copied c.args.outputs.ignored) c.in-Ok-Done.status) c.as_slice.ensures) c.in-Err-print_all.ensures.printed c.in-Err-print_all.ensures.kind
+returns-in-Err-print_all-clause-part g c = ran_refused c.args.shows.now c.args.planned.now c.args.outputs.out c.args.outputs.always (option_copied c.args.outputs.ignored) (g.H.Host.log c.args.host.now) (g.H.Host.log c.print_all.new.host) (g.H.Host.log c.output.new.self) (g.H.Host.log c.print_all-in-Ok-Done.new.host) c.in-Ok-Done.status c.in-Ok-Done.out c.in-Ok-Done.err c.deref-in-Ok-Done.result.now c.in-Err-print_all.e c.print_all.ensures.extends (c.in-Ok.ensures.printed ∙ ap prints (c.deref.ensures.value ∙ c.in_ok-before.ensures)) (grind (arith, common_steps, c.in-Ok-Done.ensures.adds)) c.print_all-in-Ok-Done.ensures.extends (c.deref-in-Ok-Done.ensures.value ∙ c.in-Ok-behind.ensures ∙ ap (behind c.args.shows.now c.args.planned.now.cmd c.args.outputs.always (option_copied c.args.outputs.ignored) c.in-Ok-Done.status) c.as_slice.ensures) c.in-Err-print_all.ensures.printed c.in-Err-print_all.ensures.kind
 
 pub returns-then-is_success-clause-part : goal.returns-then-is_success-clause-part
-returns-then-is_success-clause-part g c = (c.in-Ok-Done.status, (sym c.is_success.ensures ∙ c.if-is_success.true, ran_to c.args.shows.now c.args.planned.now c.args.outputs.out c.args.outputs.always (option_copied c.args.outputs.ignored) (g.H.Host.log c.args.host.now) (g.H.Host.log c.print_all.new.host) (g.H.Host.log c.output.new.self) (g.H.Host.log c.print_all-in-Ok-Done.new.host) c.in-Ok-Done.status c.in-Ok-Done.out c.in-Ok-Done.err c.deref-in-Ok-Done.result.now c.print_all.ensures.extends (c.in-Ok.ensures.printed ∙ ap prints (c.deref.ensures.value ∙ c.in_ok-before.ensures)) (grind (arith, common_steps, c.in-Ok-Done.ensures.adds)) c.print_all-in-Ok-Done.ensures.extends (c.deref-in-Ok-Done.ensures.value ∙ c.in-Ok-behind.ensures ∙ ap (behind c.args.shows.now c.args.outputs.always (option_copied c.args.outputs.ignored) c.in-Ok-Done.status) c.as_slice.ensures) c.in-Ok-print_all.ensures.printed))
+returns-then-is_success-clause-part g c = (c.in-Ok-Done.status, (sym c.is_success.ensures ∙ c.if-is_success.true, ran_to c.args.shows.now c.args.planned.now c.args.outputs.out c.args.outputs.always (option_copied c.args.outputs.ignored) (g.H.Host.log c.args.host.now) (g.H.Host.log c.print_all.new.host) (g.H.Host.log c.output.new.self) (g.H.Host.log c.print_all-in-Ok-Done.new.host) c.in-Ok-Done.status c.in-Ok-Done.out c.in-Ok-Done.err c.deref-in-Ok-Done.result.now c.print_all.ensures.extends (c.in-Ok.ensures.printed ∙ ap prints (c.deref.ensures.value ∙ c.in_ok-before.ensures)) (grind (arith, common_steps, c.in-Ok-Done.ensures.adds)) c.print_all-in-Ok-Done.ensures.extends (c.deref-in-Ok-Done.ensures.value ∙ c.in-Ok-behind.ensures ∙ ap (behind c.args.shows.now c.args.planned.now.cmd c.args.outputs.always (option_copied c.args.outputs.ignored) c.in-Ok-Done.status) c.as_slice.ensures) c.in-Ok-print_all.ensures.printed))
 
 pub returns-in-Ok-Done-clause-part : goal.returns-in-Ok-Done-clause-part
-returns-in-Ok-Done-clause-part g c = (refl, sym c.is_success.ensures ∙ c.if-is_success.false, (c.in-Ok-Done.out, ran_to c.args.shows.now c.args.planned.now c.args.outputs.out c.args.outputs.always (option_copied c.args.outputs.ignored) (g.H.Host.log c.args.host.now) (g.H.Host.log c.print_all.new.host) (g.H.Host.log c.output.new.self) (g.H.Host.log c.print_all-in-Ok-Done.new.host) c.in-Ok-Done.status c.in-Ok-Done.out c.in-Ok-Done.err c.deref-in-Ok-Done.result.now c.print_all.ensures.extends (c.in-Ok.ensures.printed ∙ ap prints (c.deref.ensures.value ∙ c.in_ok-before.ensures)) (grind (arith, common_steps, c.in-Ok-Done.ensures.adds)) c.print_all-in-Ok-Done.ensures.extends (c.deref-in-Ok-Done.ensures.value ∙ c.in-Ok-behind.ensures ∙ ap (behind c.args.shows.now c.args.outputs.always (option_copied c.args.outputs.ignored) c.in-Ok-Done.status) c.as_slice.ensures) c.in-Ok-print_all.ensures.printed))
+returns-in-Ok-Done-clause-part g c = (refl, sym c.is_success.ensures ∙ c.if-is_success.false, (c.in-Ok-Done.out, ran_to c.args.shows.now c.args.planned.now c.args.outputs.out c.args.outputs.always (option_copied c.args.outputs.ignored) (g.H.Host.log c.args.host.now) (g.H.Host.log c.print_all.new.host) (g.H.Host.log c.output.new.self) (g.H.Host.log c.print_all-in-Ok-Done.new.host) c.in-Ok-Done.status c.in-Ok-Done.out c.in-Ok-Done.err c.deref-in-Ok-Done.result.now c.print_all.ensures.extends (c.in-Ok.ensures.printed ∙ ap prints (c.deref.ensures.value ∙ c.in_ok-before.ensures)) (grind (arith, common_steps, c.in-Ok-Done.ensures.adds)) c.print_all-in-Ok-Done.ensures.extends (c.deref-in-Ok-Done.ensures.value ∙ c.in-Ok-behind.ensures ∙ ap (behind c.args.shows.now c.args.planned.now.cmd c.args.outputs.always (option_copied c.args.outputs.ignored) c.in-Ok-Done.status) c.as_slice.ensures) c.in-Ok-print_all.ensures.printed))
