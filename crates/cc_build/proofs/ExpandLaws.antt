@@ -2,12 +2,13 @@
 use Rattle.std.proofs.Common.{◌≡◌, ◌≢◌, ◌⊎◌, inl, inr, ℕ, List, [], ◌∷◌, ◌++◌, take, Bool, true, false, not, ◌||◌, Option, Some, None, Result, Ok, Err, refl, sym, ◌∙◌, ap, subst, append_assoc, append-nil}
 use Rattle.std.specs.List.{list_all, list_any}
 use Rattle.std.proofs.lemmas.Bool.{and_parts}
+use Rattle.std.proofs.lemmas.Grind.{flat_map-append}
 use Rattle.std.proofs.lemmas.List.Folds.{list_any-append}
 use Rattle.cc_host.specs.Command.{CommandSeen}
 use Rattle.cc_host.specs.Part.{since, is_probing}
-use Rattle.cc_host.specs.Question.{Look, Answer, answers, Holds}
+use Rattle.cc_host.specs.Question.{Look, Answer, answer_of, answers, Holds}
 use Rattle.cc_host.specs.declared.event.Event.{Event}
-use Rattle.cc_host.specs.declared.event.Event.TheVariants.{Ran, Missing, Printed, Fault}
+use Rattle.cc_host.specs.declared.event.Event.TheVariants.{Ran, Missing, Printed, Said, Fault}
 use Rattle.cc_host.specs.declared.event.HostCall.TheVariants.{Output}
 use Rattle.cc_host.specs.declared.event.OutputKind.TheVariants.{Capture}
 use Rattle.cc_host.specs.declared.event.Role.{Role}
@@ -23,6 +24,7 @@ use Rattle.cc_run.specs.declared.error.RunError.TheVariants.{ToolNotFound, Faile
 use Rattle.cc_run.specs.declared.planned.Planned.{Planned}
 use Rattle.cc_run.specs.declared.planned.Shows.{Shows}
 use Rattle.cc_tool.specs.Asked.{question_events}
+use Rattle.cc_tool.proofs.Asides.{aside_answers}
 use Rattle.cc_tool.specs.Tool.{ToolSeen}
 use Rattle.cc_build.specs.Attempts.{attempt_of, attempts, to_attempt}
 use Rattle.cc_build.specs.Build.{BuildSeen}
@@ -34,11 +36,11 @@ use Rattle.cc_build.specs.Promises.{FaultsEnd}
 use Rattle.cc_build.specs.RunErrors.{run_error}
 use Rattle.cc_build.specs.Went.{IsOf}
 use Rattle.cc_build.proofs.Looks.{agrees_since}
-use Rattle.cc_build.proofs.Trying.{IsLast, Done, Broken, is_line, all_lines, is_sole, done_sole, broken_sole, sole_asks_none, done_attempts, done_tells, broken_tells, broken_any, broken_first, done_faultless, broken_last, no_such_fault}
+use Rattle.cc_build.proofs.Trying.{notice_unprobed, IsLast, Done, Broken, is_line, all_lines, is_sole, done_sole, broken_sole, sole_asks_none, done_attempts, done_tells, broken_tells, broken_any, broken_first, done_faultless, broken_last, no_such_fault}
 
 -- the command as it ran
 abbrev ran : Shows → Planned → Status → List ℕ → List ℕ → Event
-ran shows p status output stderr = Ran p.role p.cmd (record { out = Capture; hear = shows.warnings }) status output stderr
+ran shows p status output stderr = Ran p.role p.cmd (record { out = Capture; hear = shows.warnings || shows.listens }) status output stderr
 
 -- the command stands between lines, with a fault behind them, or it is missing
 abbrev pub Shape : Planned → List Event → Type 0
@@ -50,11 +52,11 @@ module _ (shows : Shows) (p : Planned) (ignored : Option (List ℕ)) (part : Lis
   to_end status output r = record {
     front = prints (announced shows p.cmd);
     tried = ran shows p status output r.stderr ∷ [];
-    rest = prints (behind shows true ignored status r.stderr);
+    rest = prints (behind shows p.cmd true ignored status r.stderr);
     last = [];
-    cut = r.is ∙ ap (λ l. prints (announced shows p.cmd) ++ (ran shows p status output r.stderr ∷ l)) (sym (append-nil (prints (behind shows true ignored status r.stderr))));
+    cut = r.is ∙ ap (λ l. prints (announced shows p.cmd) ++ (ran shows p status output r.stderr ∷ l)) (sym (append-nil (prints (behind shows p.cmd true ignored status r.stderr))));
     lines_before = all_lines (announced shows p.cmd);
-    lines_behind = all_lines (behind shows true ignored status r.stderr);
+    lines_behind = all_lines (behind shows p.cmd true ignored status r.stderr);
     of_command = (refl, refl);
     ended = tt;
   }
@@ -64,11 +66,11 @@ module _ (shows : Shows) (p : Planned) (ignored : Option (List ℕ)) (part : Lis
   part_way w last is ended = record {
     front = prints (announced shows p.cmd);
     tried = ran shows p w.status w.output w.stderr ∷ [];
-    rest = prints (take w.count (behind shows true ignored w.status w.stderr));
+    rest = prints (take w.count (behind shows p.cmd true ignored w.status w.stderr));
     last = last;
-    cut = w.is ∙ append_assoc (prints (announced shows p.cmd)) (ran shows p w.status w.output w.stderr ∷ prints (take w.count (behind shows true ignored w.status w.stderr))) w.rest ∙ ap (λ l. prints (announced shows p.cmd) ++ (ran shows p w.status w.output w.stderr ∷ (prints (take w.count (behind shows true ignored w.status w.stderr)) ++ l))) is;
+    cut = w.is ∙ append_assoc (prints (announced shows p.cmd)) (ran shows p w.status w.output w.stderr ∷ prints (take w.count (behind shows p.cmd true ignored w.status w.stderr))) w.rest ∙ ap (λ l. prints (announced shows p.cmd) ++ (ran shows p w.status w.output w.stderr ∷ (prints (take w.count (behind shows p.cmd true ignored w.status w.stderr)) ++ l))) is;
     lines_before = all_lines (announced shows p.cmd);
-    lines_behind = all_lines (take w.count (behind shows true ignored w.status w.stderr));
+    lines_behind = all_lines (take w.count (behind shows p.cmd true ignored w.status w.stderr));
     of_command = (refl, refl);
     ended = ended;
   }
@@ -86,8 +88,8 @@ module _ (shows : Shows) (p : Planned) (ignored : Option (List ℕ)) (part : Lis
   output_shape (Err (Fails place status)) h = inl (to_end status h.2.0 h.2.1)
   output_shape (Err (ToolNotFound place)) h = inr (lacking place h)
   output_shape (Err (StartFault place)) h = inl (unrun (prints (announced shows p.cmd)) (Fault Output h.1.0 ∷ []) h.1.1 (all_lines (announced shows p.cmd)) refl)
-  output_shape (Err (HostFault call why)) (is, inl alone) = inl (unrun [] (Fault call why ∷ []) alone refl (ap is_probing is))
-  output_shape (Err (HostFault call why)) (is, inr (w, last)) = inl (part_way w (Fault call why ∷ []) last (ap is_probing is))
+  output_shape (Err (HostFault call why)) (is, inl alone) = inl (unrun [] (Fault call why ∷ []) alone refl (notice_unprobed call is))
+  output_shape (Err (HostFault call why)) (is, inr (w, last)) = inl (part_way w (Fault call why ∷ []) last (notice_unprobed call is))
   output_shape (Err NoMemory) (inl none) = inl (unrun [] [] none refl tt)
   output_shape (Err NoMemory) (inr (inl lines)) = inl (unrun (prints (announced shows p.cmd)) [] (lines ∙ sym (append-nil (prints (announced shows p.cmd)))) (all_lines (announced shows p.cmd)) tt)
   output_shape (Err NoMemory) (inr (inr (w, last))) = inl (part_way w [] last tt)
@@ -108,12 +110,12 @@ module _ (shows : Shows) (p : Planned) (ignored : Option (List ℕ)) (part : Lis
     -- no call of the host failed
     pub given_faultless : list_any is_fault part ≡ false
     unfolding whole to_end
-    given_faultless = broken_any is_fault (λ kind bytes. refl) p part whole refl refl
+    given_faultless = broken_any is_fault (λ kind bytes. refl) (λ message. refl) p part whole refl refl
 
     -- and the command was tried once
     pub given_attempts : attempts part ≡ to_attempt p ∷ []
     unfolding whole to_end
-    given_attempts = broken_tells attempt_of (λ kind bytes. refl) p part whole
+    given_attempts = broken_tells attempt_of (λ kind bytes. refl) (λ message. refl) p part whole
 
   -- ---- where it gave none
 
@@ -131,14 +133,14 @@ module _ (shows : Shows) (p : Planned) (ignored : Option (List ℕ)) (part : Lis
   spoilt : (error : RunError) → IsOutput shows p Capture true ignored (Err error) part → (error ≡ NoMemory) ⊎ IsSpoilt
   unfolding lacking
   spoilt (Fails place status) h =
-      inr (inr (inr (any_last ran_badly (prints (announced shows p.cmd)) (ran shows p status h.2.0 h.2.1.stderr ∷ prints (behind shows true ignored status h.2.1.stderr)) h.2.1.is (ap (λ b. not b || list_any ran_badly (prints (behind shows true ignored status h.2.1.stderr))) h.1))))
+      inr (inr (inr (any_last ran_badly (prints (announced shows p.cmd)) (ran shows p status h.2.0 h.2.1.stderr ∷ prints (behind shows p.cmd true ignored status h.2.1.stderr)) h.2.1.is (ap (λ b. not b || list_any ran_badly (prints (behind shows p.cmd true ignored status h.2.1.stderr))) h.1))))
   spoilt (ToolNotFound place) h =
-      let lacks : missing part ≡ (p.role, p.cmd) ∷ [] = done_tells missing_of (λ kind bytes. refl) p part true (lacking place h) in
+      let lacks : missing part ≡ (p.role, p.cmd) ∷ [] = done_tells missing_of (λ kind bytes. refl) (λ message. refl) p part true (lacking place h) in
       inr (inr (inl (λ none. let clash : (p.role, p.cmd) ∷ [] ≡ [] = sym lacks ∙ none in cc)))
   spoilt (StartFault place) h = inr (inl (any_last is_fault (prints (announced shows p.cmd)) (Fault Output h.1.0 ∷ []) h.1.1 refl))
-  spoilt (HostFault call why) (is, inl alone) = inr (inl (any_last is_fault [] (Fault call why ∷ []) alone (ap (λ b. not b || false) (ap is_probing is))))
+  spoilt (HostFault call why) (is, inl alone) = inr (inl (any_last is_fault [] (Fault call why ∷ []) alone (ap (λ b. not b || false) (notice_unprobed call is))))
   spoilt (HostFault call why) (is, inr (w, last)) =
-      inr (inl (any_last is_fault (prints (announced shows p.cmd) ++ ran shows p w.status w.output w.stderr ∷ prints (take w.count (behind shows true ignored w.status w.stderr))) w.rest w.is (ap (list_any is_fault) last ∙ ap (λ b. not b || false) (ap is_probing is))))
+      inr (inl (any_last is_fault (prints (announced shows p.cmd) ++ ran shows p w.status w.output w.stderr ∷ prints (take w.count (behind shows p.cmd true ignored w.status w.stderr))) w.rest w.is (ap (list_any is_fault) last ∙ ap (λ b. not b || false) (notice_unprobed call is))))
   spoilt NoMemory h = inl refl
   spoilt WaitFault h = absurd h
   spoilt JobFault h = absurd h
@@ -155,6 +157,7 @@ module _ (shows : Shows) (p : Planned) (ignored : Option (List ℕ)) (part : Lis
 sole_childless : (part : List Event) → list_all is_sole part ≡ true → list_any is_of_children part ≡ false
 sole_childless [] h = refl
 sole_childless (Printed kind bytes ∷ part) h = sole_childless part h
+sole_childless (Said message ∷ part) h = sole_childless part h
 sole_childless (Ran role cmd pipes status out err ∷ part) h = sole_childless part h
 sole_childless (Missing role cmd ∷ part) h = sole_childless part h
 sole_childless (Fault call why ∷ part) h = sole_childless part (and_parts _ _ h).1
@@ -196,6 +199,12 @@ pub childless_since : (old mid new : List Event) → mid ≡ old ++ since old mi
 childless_since old mid new first last p q =
     ap (list_any is_of_children) (since_since old mid new first last) ∙ list_any-append is_of_children (since old mid) (since mid new)
     ∙ or_false (list_any is_of_children (since old mid)) (list_any is_of_children (since mid new)) p q
+
+-- the answers are those of the first part, where the other asks nothing
+pub answers_behind : (old mid new : List Event) → mid ≡ old ++ since old mid → new ≡ mid ++ since mid new → question_events (since mid new) ≡ [] → (known : List Answer) → known ≡ answers (since old mid) → known ≡ answers (since old new)
+answers_behind old mid new first last none known is =
+    is ∙ sym (ap answers (since_since old mid new first last) ∙ flat_map-append answer_of (since old mid) (since mid new)
+    ∙ ap (λ l. answers (since old mid) ++ l) (aside_answers (since mid new) none) ∙ append-nil (answers (since old mid)))
 
 module _ (b : BuildSeen) where
   -- the checks refused it

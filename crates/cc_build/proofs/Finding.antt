@@ -26,6 +26,9 @@ module _ (steady : Bool) (world : Question → Outcome) (dir : List ℕ) (questi
   pub alone_asked : (folder : List ℕ) → dir ≡ folder → Asked steady world folder questions (since old new)
   alone_asked folder same = subst (λ (d : List ℕ). Asked steady world d questions (since old new)) same (on_asked steady world dir questions (since old new) known on).0
 
+  pub alone_answered : (after : List Answer) → after ≡ known → after ≡ answers (since old new)
+  alone_answered after same = same ∙ (on_asked steady world dir questions (since old new) known on).1
+
   pub alone_quiet : list_all is_asked (since old new) ≡ true
   alone_quiet = quiet_of steady world dir old end new none known asks is
 

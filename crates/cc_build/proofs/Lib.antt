@@ -19,6 +19,7 @@ pub mod OrderLaws
 pub mod Outcomes
 pub mod PartLaws
 pub mod PhaseLaws
+pub mod PrintedLaws
 pub mod PromiseLaws
 pub mod RerunLaws
 pub mod RunLaws

@@ -50,7 +50,7 @@ use Rattle.cc_build.specs.Way.{Way, chosen, Firsts}
 use Rattle.cc_build.specs.Went.{Terms, Means, RanAll, RanOne, Did, Went, IsOf, Stops, Halts}
 use Rattle.cc_build.specs.declared.error.ErrorKind.TheVariants.{TurnsSpent as SpendsTurns}
 use Rattle.cc_build.proofs.RunLaws.{shift, shifted, went_run}
-use Rattle.cc_build.proofs.Trying.{done_of, done_sole, done_faultless, done_forms, broken_of, broken_fault, broken_last, sole_kept, no_such_fault}
+use Rattle.cc_build.proofs.Trying.{notice_unprobed, done_of, done_sole, done_faultless, done_forms, broken_of, broken_fault, broken_last, sole_kept, no_such_fault}
 use Rattle.cc_build.proofs.TurnLaws.{went_faults}
 
 -- ---- faults
@@ -337,7 +337,7 @@ module _ (cmds : List Asked) (ps : List Planned) (part : List Event) (e : ErrorS
       inr (inr (inr (inl (λ none. some_failed k s.work s.run place status s.is s.cause.0 (ap (λ p. (run_from (ended_well k) p).failed) (sym all) ∙ none)))))
   run_cause (StartFault place) s (inr is) job spent = inr (inl (some_fault part Start [] s.faults_are refl))
   run_cause WaitFault s (inr is) job spent = inr (inl (some_fault part Turning [] s.faults_are refl))
-  run_cause (HostFault call why) s (inr is) job spent = inr (inl (some_fault part call [] s.faults_are (ap is_probing s.cause)))
+  run_cause (HostFault call why) s (inr is) job spent = inr (inl (some_fault part call [] s.faults_are (notice_unprobed call s.cause)))
   run_cause JobFault s (inr is) job spent = inr (inr (inr (inr (inl (job refl)))))
   run_cause TurnsSpent s (inr is) job spent = inr (inr (inr (inr (inr (ap (λ o. o.kind) is, spent refl)))))
   run_cause NoMemory s (inr is) job spent = inl is

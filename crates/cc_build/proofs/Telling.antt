@@ -124,6 +124,10 @@ module _ (steady : Bool) (world : Question → WorldOutcome) (dir : List ℕ) (q
       ap answers (since_since old asked.mid new grown behind) ∙ flat_map-append answer_of (since old asked.mid) (since asked.mid new)
       ∙ ap (λ l. answers (since old asked.mid) ++ l) (aside_answers (since asked.mid new) silent) ∙ append-nil (answers (since old asked.mid)) ∙ sym (asked_by steady world dir questions old asked.mid known asks asked.own).1
 
+  -- its answers are those of the part
+  pub then_answered : (end : List Answer) → end ≡ known → end ≡ answers (since old new)
+  then_answered end same = same ∙ sym answers_are
+
   -- nothing is done to a child, where the part behind the questions does nothing to one
   pub then_childless : list_any is_of_children asked.rest ≡ false → list_any is_of_children (since old new) ≡ false
   then_childless none =

@@ -17,6 +17,10 @@ pub record BuildSeen : Type 0 where
   pub config : BuildConfig
   pub env : EnvSeen
 
+-- the one with these settings in this environment
+abbrev pub build_in : BuildConfig → EnvSeen → BuildSeen
+build_in set env = record { config = set; env = env }
+
 -- the settings are changed so, and all else stays
 abbrev pub Sets : BuildSeen → BuildSeen → (BuildConfig → BuildConfig) → Type 0
 Sets old new change = new ≡ record old { config = change old.config }

@@ -14,6 +14,7 @@ use Rattle.cc_tool.specs.Tool.{ToolSeen}
 use Rattle.cc_build.specs.Error.{ErrorSeen}
 use Rattle.cc_build.specs.Outcome.{Outcome}
 use Rattle.cc_build.specs.Refusal.{plan_error}
+use Rattle.cc_build.specs.Told.{compiler_reads, DoesAndTells}
 
 -- the error of settings that have no compiler
 abbrev pub tool_error : BuildConfig → EnvSeen → Look → Option ErrorSeen
@@ -30,3 +31,8 @@ IsTool set env tool look = tool ≡ tool_of set env look
 -- its warnings were printed, or the error has its cause
 abbrev pub ToolEnds : {T : Type 0} → BuildConfig → EnvSeen → Result T ErrorSeen → Look → List Event → Type 0
 ToolEnds set env result look part = (warns_of_link : Bool) × Outcome (tool_error set env look) (tool_steps set env warns_of_link look) part result
+
+-- those warnings were printed, and behind them the lines of the variables that were read, or the error has its cause
+abbrev pub CompilerEnds : {T : Type 0} → BuildConfig → EnvSeen → Result T ErrorSeen → Look → List Event → Type 0
+CompilerEnds set env result look part =
+    (warns_of_link : Bool) × DoesAndTells compiler_reads set env (tool_error set env look) (tool_steps set env warns_of_link look) result look part

@@ -23,6 +23,7 @@ use Rattle.cc_build.specs.Error.{ErrorSeen, no_memory}
 use Rattle.cc_build.specs.Refusal.{source_at, invalid, disabled_error}
 use Rattle.cc_build.specs.RunErrors.{run_error}
 use Rattle.cc_build.specs.Shows.{shows_of}
+use Rattle.cc_build.specs.Told.{expand_reads, NamesTold}
 use Rattle.cc_build.specs.Went.{IsOf}
 
 abbrev pub is_single : List (List ℕ) → Bool
@@ -72,3 +73,16 @@ ExpandEnds b (Ok output) look part = (unexpanded_error b.config b.env ≡ None) 
 ExpandEnds b (Err e) look part =
     ((part ≡ []) × ((e ≡ no_memory) ⊎ (unexpanded_error b.config b.env ≡ Some e)))
     ⊎ ((unexpanded_error b.config b.env ≡ None) × (ToolEnds {T = Unit {0}} b.config b.env (Err e) look part ⊎ RunsTool b (Err e) look part))
+
+-- the source was expanded, and then the lines of the variables that were read for it were printed
+pub record ExpandsAndTells (b : BuildSeen) (output : List ℕ) (result : Result (List ℕ) ErrorSeen) (look : Look) (part : List Event) : Type 0 where
+  pub expanding : List Event
+  pub telling : List Event
+  pub cut : part ≡ expanding ++ telling
+  pub expands : ExpandEnds b (Ok output) look expanding
+  pub told : NamesTold expand_reads b.config b.env result look telling
+
+-- so it was; or the source couldn't be expanded, and the error has its cause
+abbrev pub ExpandedEnds : BuildSeen → Result (List ℕ) ErrorSeen → Look → List Event → Type 0
+ExpandedEnds b (Ok output) look part = ExpandsAndTells b output (Ok output) look part
+ExpandedEnds b (Err e) look part = ExpandEnds b (Err e) look part ⊎ ((output : List ℕ) × ExpandsAndTells b output (Err e) look part)

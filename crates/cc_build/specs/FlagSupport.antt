@@ -16,6 +16,7 @@ use Rattle.cc_plan.specs.declared.settings.BuildConfig.{BuildConfig}
 use Rattle.cc_build.specs.Error.{ErrorSeen}
 use Rattle.cc_build.specs.Outcome.{Outcome}
 use Rattle.cc_build.specs.Refusal.{plan_error}
+use Rattle.cc_build.specs.Told.{flag_reads, DoesAndTells}
 use Rattle.cc_build.specs.declared.error.ErrorKind.TheVariants.{IOError}
 
 -- the flag wasn't tried: there is no answer, or no compiler
@@ -47,3 +48,7 @@ IsVerdict set env flag answer look = answer ≡ is_yes (flag_verdict set env fla
 -- the question was answered and the warnings were printed, or the error has its cause
 abbrev pub SupportEnds : {T : Type 0} → BuildConfig → EnvSeen → List ℕ → Result T ErrorSeen → Look → List Event → Type 0
 SupportEnds set env flag result look part = Outcome (support_error set env flag look) (support_steps set env look) part result
+
+-- the same, and behind the warnings the lines of the variables that were read were printed
+abbrev pub TrialEnds : {T : Type 0} → BuildConfig → EnvSeen → List ℕ → Result T ErrorSeen → Look → List Event → Type 0
+TrialEnds set env flag result look part = DoesAndTells flag_reads set env (support_error set env flag look) (support_steps set env look) result look part

@@ -26,6 +26,7 @@ pub mod Seen
 pub mod Shows
 pub mod Stage
 pub mod Stop
+pub mod Told
 pub mod Tools
 pub mod Values
 pub mod Way

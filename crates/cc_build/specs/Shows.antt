@@ -23,4 +23,4 @@ output_kind false = Discard
 
 -- what of a run the settings show, and the environment where they are silent
 abbrev pub shows_of : BuildConfig → EnvSeen → Shows
-shows_of set env = record { warnings = set.cargo_warnings; debug = unwrap_or set.cargo_debug (is_debug_wanted env); out = output_kind set.cargo_output }
+shows_of set env = record { warnings = set.cargo_warnings; debug = unwrap_or set.cargo_debug (is_debug_wanted env); out = output_kind set.cargo_output; listens = false }

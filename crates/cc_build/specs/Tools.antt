@@ -1,5 +1,5 @@
 -- The tools of archives of a build.
-use Rattle.std.specs.Prelude.{◌≡◌, ◌⊎◌, Bool, List, [], Option, Some, None}
+use Rattle.std.specs.Prelude.{◌≡◌, ◌⊎◌, Bool, List, [], Option, Some, None, Result}
 use Rattle.std.specs.Option.{option_map}
 use Rattle.cc_env.specs.Env.{EnvSeen}
 use Rattle.cc_host.specs.Command.{CommandSeen}
@@ -16,6 +16,7 @@ use Rattle.cc_tool.specs.Asked.{Asked}
 use Rattle.cc_build.specs.Build.{BuildSeen, probes}
 use Rattle.cc_build.specs.Error.{ErrorSeen, no_memory}
 use Rattle.cc_build.specs.Refusal.{plan_error}
+use Rattle.cc_build.specs.Told.{archiver_reads, ranlib_reads, DoesAndTells}
 
 -- nothing is refused, and this is the archiver's command
 pub record IsArchiver (set : BuildConfig) (env : EnvSeen) (cmd : CommandSeen) (look : Look) : Type 0 where
@@ -46,3 +47,18 @@ AsksForArchiver steady world b part = Asked steady world (probes b) (ArchiverAsk
 -- the same of the tool that writes an index
 abbrev pub AsksForRanlib : Bool → (Question → Outcome) → BuildSeen → List Event → Type 0
 AsksForRanlib steady world b part = Asked steady world (probes b) (RanlibAsks b.config b.env) part
+
+-- the error of settings that have no archiver
+abbrev pub archiver_error : BuildConfig → EnvSeen → Look → Option ErrorSeen
+archiver_error set env look = option_map (plan_error set env []) (archiver_refusal set env look)
+
+-- the same of the tool that writes an index
+abbrev pub ranlib_error : BuildConfig → EnvSeen → Look → Option ErrorSeen
+ranlib_error set env look = option_map (plan_error set env []) (ranlib_refusal set env look)
+
+-- beside the questions the lines of the variables that were read were printed alone, or the error has its cause
+abbrev pub ArchiverEnds : {T : Type 0} → BuildConfig → EnvSeen → Result T ErrorSeen → Look → List Event → Type 0
+ArchiverEnds set env result look part = DoesAndTells archiver_reads set env (archiver_error set env look) [] result look part
+
+abbrev pub RanlibEnds : {T : Type 0} → BuildConfig → EnvSeen → Result T ErrorSeen → Look → List Event → Type 0
+RanlibEnds set env result look part = DoesAndTells ranlib_reads set env (ranlib_error set env look) [] result look part

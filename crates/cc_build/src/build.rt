@@ -6,24 +6,27 @@ ghost use Rattle.cc_plan.specs.Asking.{is_of_children};
 ghost use Rattle.cc_tool.specs.Asked.{question_events};
 ghost use Rattle.cc_build.specs.Build.{Sets, TakesVars, flags_in, fresh_build, AsksByPlan, AsksByRun};
 ghost use Rattle.cc_build.specs.Captured.{Captures, CaptureEnds};
-ghost use Rattle.cc_build.specs.Compiler.{IsTool, ToolEnds};
+ghost use Rattle.cc_build.specs.Compiler.{IsTool, CompilerEnds};
 ghost use Rattle.cc_build.specs.Course.{ByPart, ByRun};
 ghost use Rattle.cc_build.specs.Error.{no_memory};
 ghost use Rattle.cc_build.specs.Flags.{always, flags_error};
-ghost use Rattle.cc_build.specs.Questions.{AsksOnly};
-ghost use Rattle.cc_build.specs.Tools.{AsksForArchiver, AsksForRanlib, IsArchiver, IsRanlib, LacksArchiver, LacksRanlib};
+ghost use Rattle.cc_build.specs.Shows.{shows_of};
+ghost use Rattle.cc_build.specs.Tools.{AsksForArchiver, AsksForRanlib, IsArchiver, IsRanlib, ArchiverEnds, RanlibEnds};
 ghost use Rattle.cc_build.specs.Intermediates.{AreCompiled, IntermediateEnds};
 ghost use Rattle.cc_plan.specs.Archive.{paths_of};
 ghost use Rattle.cc_plan.specs.Plan.{objects_of};
 ghost use Rattle.cc_build.specs.Promises.{IsBuilt, Promises, NothingRuns, FaultsEnd};
 
 use crate::Error;
-use crate::compiler::compiler;
+use crate::compiler::told_compiler;
 use crate::environment::flags_of_variable;
 use crate::goal::Goal;
 use crate::lists::always;
+use crate::reporting::Reporting;
 use crate::run::list_vars;
-use crate::tools::{archiver, ranlib};
+use crate::shows::shows_of;
+use crate::task::Task;
+use crate::tools::{told_archiver, told_ranlib};
 use cc_env::{BuildEnv, EnvSnapshot};
 use cc_host::{Command, Host, World};
 use cc_jobs::Jobs;
@@ -105,6 +108,24 @@ impl<W: World> Build<W> {
         &self.env
     }
 
+    // What a call of this build is given that names no library.
+    pub(crate) fn task(&self) -> Task<'_>
+        ensures set { result.set.now ≡ self.now.config }
+        ensures env { result.env.now ≡ self.now.env }
+        ensures shows { result.reporting.shows ≡ shows_of result.set.now result.env.now }
+    {
+        let (set, env) = (&self.config, &self.env);
+        Task {
+            reporting: Reporting {
+                alloc: self.alloc,
+                shows: shows_of(set, env),
+            },
+            set,
+            env,
+            output: "",
+        }
+    }
+
     /// Takes these pairs of name and value as the environment that the build inherits, in the place of all that it inherited before;
     /// entries of `env` stay. Of a name that is given more than once the last value counts. Refused only for memory; the build is as
     /// before.
@@ -166,11 +187,12 @@ impl<W: World> Build<W> {
     }
 
     /// The compiler of this build: the program with its wrapper, the words that each source is compiled with, and its variables. To find
-    /// it the compiler is asked for its family and for flags; then the warnings of its plan are printed, where they are on.
+    /// it the compiler is asked for its family and for flags; then the warnings of its plan are printed, where they are on, and behind them
+    /// the lines of the variables that were read, where those are wanted.
     ///
     /// Refused where the optimisation level, the target or the host is set nowhere (EnvVarNotFound), the target isn't known, a word of
-    /// the target or a flag of Rust code is refused, or a warning couldn't be printed; and for memory. The build is as before; what was
-    /// asked until then is kept, and no file stays.
+    /// the target or a flag of Rust code is refused, or a line couldn't be printed; and for memory. The build is as before; what was asked
+    /// until then is kept, and no file stays.
     pub fn try_get_compiler<H: Host<W>>(&self, rt: &impl Wait, host: &mut H) -> Result<Tool, Error>
         ensures extends { H.log host.new ≡ H.log host.old ++ part H.log host.old host.new }
         ensures asked { AsksByPlan W.steady W.answer self.now (part H.log host.old host.new) }
@@ -178,16 +200,17 @@ impl<W: World> Build<W> {
         ensures tool { IfOk result (λ tool. ByAnswers H.log host.old host.new
             (IsTool self.now.config self.now.env tool)) }
         ensures outcome { ByPart H.log host.old host.new
-            (ToolEnds self.now.config self.now.env result) }
+            (CompilerEnds self.now.config self.now.env result) }
     {
-        compiler(rt, self.alloc, host, &self.caches, &self.config, &self.env)
+        told_compiler(rt, &self.task(), &self.caches, host)
     }
 
     /// The command of the archiver of this build, with the words that it is given before those of a form: the set one, else that of
-    /// `AR`, else the one that the target wants. To find it the host may be asked; nothing else is done, and nothing printed.
+    /// `AR`, else the one that the target wants. To find it the host may be asked; then the lines of the variables that were read are
+    /// printed, where they are wanted, and nothing else is done.
     ///
-    /// Refused where the target or the host is set nowhere (EnvVarNotFound), or no archiver is known for the target; and for memory. The
-    /// build is as before; what was asked until then is kept, and no file stays.
+    /// Refused where the target or the host is set nowhere (EnvVarNotFound), no archiver is known for the target, or a line couldn't be
+    /// printed; and for memory. The build is as before; what was asked until then is kept, and no file stays.
     pub fn try_get_archiver<H: Host<W>>(
         &self,
         rt: &impl Wait,
@@ -196,13 +219,13 @@ impl<W: World> Build<W> {
         ensures extends { H.log host.new ≡ H.log host.old ++ part H.log host.old host.new }
         ensures asked { AsksForArchiver W.steady W.answer self.now
             (part H.log host.old host.new) }
-        ensures quiet { AsksOnly (part H.log host.old host.new) }
+        ensures childless { list_any is_of_children (part H.log host.old host.new) ≡ false }
         ensures archiver { IfOk result (λ cmd. ByAnswers H.log host.old host.new
             (IsArchiver self.now.config self.now.env cmd)) }
-        ensures refused { IfErr result (λ e. ByAnswers H.log host.old host.new
-            (LacksArchiver self.now e)) }
+        ensures outcome { ByPart H.log host.old host.new
+            (ArchiverEnds self.now.config self.now.env result) }
     {
-        archiver(rt, self.alloc, host, &self.caches, &self.config, &self.env)
+        told_archiver(rt, &self.task(), &self.caches, host)
     }
 
     /// The command of the tool that writes the index of an archive alone: the set one, else that of `RANLIB`, else the one that the
@@ -210,13 +233,13 @@ impl<W: World> Build<W> {
     pub fn try_get_ranlib<H: Host<W>>(&self, rt: &impl Wait, host: &mut H) -> Result<Command, Error>
         ensures extends { H.log host.new ≡ H.log host.old ++ part H.log host.old host.new }
         ensures asked { AsksForRanlib W.steady W.answer self.now (part H.log host.old host.new) }
-        ensures quiet { AsksOnly (part H.log host.old host.new) }
+        ensures childless { list_any is_of_children (part H.log host.old host.new) ≡ false }
         ensures ranlib { IfOk result (λ cmd. ByAnswers H.log host.old host.new
             (IsRanlib self.now.config self.now.env cmd)) }
-        ensures refused { IfErr result (λ e. ByAnswers H.log host.old host.new
-            (LacksRanlib self.now e)) }
+        ensures outcome { ByPart H.log host.old host.new
+            (RanlibEnds self.now.config self.now.env result) }
     {
-        ranlib(rt, self.alloc, host, &self.caches, &self.config, &self.env)
+        told_ranlib(rt, &self.task(), &self.caches, host)
     }
 
     /// Compiles the sources alone, and answers the paths of their objects, in the order in which the sources were added. Nothing is

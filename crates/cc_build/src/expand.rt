@@ -1,27 +1,30 @@
 // A source that is expanded.
-ghost use Rattle.std.specs.Prelude.{◌≡◌, ◌++◌, ◌⊎◌, Some, None, false, IfOk, IfErr, OnOk};
+ghost use Rattle.std.specs.Prelude.{◌≡◌, ◌++◌, ◌⊎◌, [], Some, None, false, IfOk, IfErr, OnOk};
 ghost use Rattle.std.specs.List.{list_any};
 ghost use Rattle.std.specs.Option.{option_copied};
 ghost use Rattle.cc_host.specs.Call.{part};
+ghost use Rattle.cc_host.specs.Question.{answers};
 ghost use Rattle.cc_plan.specs.Asking.{is_of_children};
-ghost use Rattle.cc_build.specs.Build.{AsksByPlan};
+ghost use Rattle.cc_build.specs.Build.{AsksByPlan, build_in};
 ghost use Rattle.cc_build.specs.Course.{ByPart};
 ghost use Rattle.cc_build.specs.Error.{no_memory};
 ghost use Rattle.cc_build.specs.Expand as spec;
 ghost use Rattle.cc_build.specs.Kept.{Aside};
+ghost use Rattle.cc_build.specs.Shows.{shows_of};
 
 use crate::compiler::compiler;
 use crate::message::or_no_memory;
 use crate::refusal::{disabled, invalid, source_at};
 use crate::reporting::Reporting;
-use crate::shows::shows_of;
+use crate::reruns::tell;
+use crate::task::Task;
 use crate::{Build, Error};
 use cc_env::BuildEnv;
 use cc_host::{Host, Role, World};
-use cc_plan::{BuildConfig, expand_command, is_disabled};
+use cc_plan::{BuildConfig, Reads, expand_command, is_disabled};
 use cc_run::{Planned, run_output};
 use cc_text::{Bytes, Mem, ToolFamily, file_name, is_cl};
-use cc_tool::Tool;
+use cc_tool::{Answers, Caches, Tool};
 use std::alloc::Global;
 use std::slice;
 use std::sync::Wait;
@@ -111,11 +114,69 @@ fn expand_by<W: World, H: Host<W>>(
     }
 }
 
+// Checks the build, finds its compiler by the first questions of the call, prints the warnings of its plan, and expands the source.
+#[tactic(auto, using(cc_host::proofs::Parts::since_append))]
+fn expand_source<W: World, H: Host<W>>(
+    rt: &impl Wait,
+    task: &Task<'_>,
+    caches: &Caches<W>,
+    host: &mut H,
+    known: &mut Answers,
+) -> Result<Bytes, Error>
+    requires fresh { known.old ≡ [] }
+    requires shows { task.now.reporting.shows ≡ shows_of task.now.set.now task.now.env.now }
+    ensures answered { known.new ≡ answers (part H.log host.old host.new) }
+    ensures patient { H.patience host.new ≡ H.patience host.old }
+    ensures extends { H.log host.new ≡ H.log host.old ++ part H.log host.old host.new }
+    ensures asked { AsksByPlan W.steady W.answer
+        (build_in task.now.set.now task.now.env.now) (part H.log host.old host.new) }
+    ensures childless { list_any is_of_children (part H.log host.old host.new) ≡ false }
+    ensures outcome { ByPart H.log host.old host.new
+        (spec.ExpandEnds (build_in task.now.set.now task.now.env.now) result) }
+{
+    check_expand(task.reporting.alloc, task.set, task.env)?;
+    let tool = compiler(rt, task, caches, host, known)?;
+    expand_by(task.reporting, host, task.set, &tool)
+}
+
+// The same, and then the lines of the variables that were read.
+#[tactic(auto, using(cc_host::proofs::Parts::since_append))]
+fn told_expand<W: World, H: Host<W>>(
+    rt: &impl Wait,
+    task: &Task<'_>,
+    caches: &Caches<W>,
+    host: &mut H,
+) -> Result<Bytes, Error>
+    requires shows { task.now.reporting.shows ≡ shows_of task.now.set.now task.now.env.now }
+    ensures patient { H.patience host.new ≡ H.patience host.old }
+    ensures extends { H.log host.new ≡ H.log host.old ++ part H.log host.old host.new }
+    ensures asked { AsksByPlan W.steady W.answer
+        (build_in task.now.set.now task.now.env.now) (part H.log host.old host.new) }
+    ensures childless { list_any is_of_children (part H.log host.old host.new) ≡ false }
+    ensures outcome { ByPart H.log host.old host.new
+        (spec.ExpandedEnds (build_in task.now.set.now task.now.env.now) result) }
+{
+    let mut known = Answers::new(task.reporting.alloc);
+    let reads = Reads {
+        disabled: true,
+        debug: true,
+        compiler: true,
+        flag: false,
+        archiver: false,
+        ranlib: false,
+        links: false,
+    };
+    let output = expand_source(rt, task, caches, host, &mut known)?;
+    tell(rt, task, caches, reads, host, &mut known)?;
+    Ok(output)
+}
+
 impl<W: World> Build<W> {
     /// Expands the source: runs the compiler with `-E` on it, and answers the bytes of its standard output, as they are. The build has one
     /// source alone. To find the compiler it is asked as `try_get_compiler` does, and the warnings of its plan are printed; then the command
     /// is run to its end, and the lines of its standard error are printed as warnings, however it ended, where they are on. The line in which
-    /// Visual Studio's compiler names the source is left out.
+    /// Visual Studio's compiler names the source is left out. Last are the lines of the variables that were read for it, where they are
+    /// wanted.
     ///
     /// Refused, in this order, where there is no source or more than one (InvalidArgument), and where no command may run (Disabled): nothing
     /// is asked or run then. Then as `try_get_compiler` is; where the compiler is missing (ToolNotFound), couldn't be run or ended with
@@ -127,12 +188,8 @@ impl<W: World> Build<W> {
         ensures extends { H.log host.new ≡ H.log host.old ++ part H.log host.old host.new }
         ensures asked { AsksByPlan W.steady W.answer self.now (part H.log host.old host.new) }
         ensures childless { list_any is_of_children (part H.log host.old host.new) ≡ false }
-        ensures outcome { ByPart H.log host.old host.new (spec.ExpandEnds self.now result) }
+        ensures outcome { ByPart H.log host.old host.new (spec.ExpandedEnds self.now result) }
     {
-        let (alloc, set, env) = (self.alloc, &self.config, &self.env);
-        check_expand(alloc, set, env)?;
-        let tool = compiler(rt, alloc, host, &self.caches, set, env)?;
-        let shows = shows_of(set, env);
-        expand_by(Reporting { alloc, shows }, host, set, &tool)
+        told_expand(rt, &self.task(), &self.caches, host)
     }
 }

@@ -1,13 +1,16 @@
 // The lines of the variables that a call read, which it prints as its last act.
 ghost use Rattle.std.specs.Prelude.{◌≡◌, ◌+◌, ◌<◌, ◌^◌, false, IfOk};
+ghost use Rattle.std.specs.List.{list_any};
 ghost use Rattle.cc_host.specs.Call.{part};
-ghost use Rattle.cc_host.specs.Question.{Settles};
+ghost use Rattle.cc_host.specs.Question.{Holds, Settles};
+ghost use Rattle.cc_plan.specs.Asking.{is_of_children};
 ghost use Rattle.cc_plan.specs.Given.{probe_folder};
 ghost use Rattle.cc_plan.specs.Reruns.{rerun_names};
 ghost use Rattle.cc_run.specs.Keeping.{IsIdle};
 ghost use Rattle.cc_build.specs.Kept.{AsksFor, AsksForNames};
 ghost use Rattle.cc_build.specs.Phases.{ByKnown, NamesEnd};
 ghost use Rattle.cc_build.specs.Questions.{AsksOnly};
+ghost use Rattle.cc_build.specs.Told.{NamesTold};
 
 use crate::Error;
 use crate::directives::{Lines, first_stages};
@@ -15,7 +18,7 @@ use crate::phases::plan_names;
 use crate::stage::do_stages;
 use crate::task::{Shared, Task};
 use cc_host::{Host, World};
-use cc_jobs::Jobs;
+use cc_jobs::{Jobs, OneCaller};
 use cc_plan::{Reads, Sight, probe_folder, rerun_names};
 use cc_run::Turns;
 use cc_text::{Mem, Words};
@@ -52,6 +55,32 @@ pub(crate) fn read_names<W: World, H: Host<W>>(
         task.env,
         &mut sight,
     )
+}
+
+/// The same, and prints their lines, as the last act of a call that runs no command beside others.
+#[tactic(auto, using(cc_host::proofs::Parts::since_append))]
+pub(crate) fn tell<W: World, H: Host<W>>(
+    rt: &impl Wait,
+    task: &Task<'_>,
+    caches: &Caches<W>,
+    reads: Reads,
+    host: &mut H,
+    answers: &mut Answers,
+) -> Result<(), Error>
+    ensures asks { AsksForNames W.steady W.answer task.now reads H.log H.patience
+        host.old host.new answers.old answers.new }
+    ensures childless { list_any is_of_children (part H.log host.old host.new) ≡ false }
+    ensures told { Holds answers.new (λ look. NamesTold reads task.now.set.now task.now.env.now
+        result look (part H.log host.old host.new)) }
+{
+    let (alloc, reporting) = (task.reporting.alloc, task.reporting);
+    let names = read_names(rt, task, caches, reads, host, answers)?;
+    let links = Vec::new(alloc);
+    let lines = Lines { links, names };
+    let stages = first_stages(rt, alloc, caches, task.set, &lines)?;
+    let (jobs, mut seat) = OneCaller::new(1);
+    let mut turns = Turns { left: 0, used: 0 };
+    do_stages(reporting, host, &jobs, &mut seat, &mut turns, &stages)
 }
 
 /// Asks what the names of the variables that the call read are planned by, and prints their lines, and no link line.

@@ -51,5 +51,6 @@ pub(crate) fn shows_of(set: &BuildConfig, env: &BuildEnv) -> Shows
         warnings: set.cargo_warnings,
         debug: is_debug_on(set, env),
         out: output_kind(set.cargo_output),
+        listens: false,
     }
 }

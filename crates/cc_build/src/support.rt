@@ -7,15 +7,17 @@ ghost use Rattle.cc_build.specs.Error.{no_memory};
 ghost use Rattle.cc_build.specs.FlagSupport as spec;
 ghost use Rattle.cc_host.specs.Call.{part, ByAnswers};
 ghost use Rattle.cc_host.specs.Question.{answers, is_yes as yes};
-ghost use Rattle.cc_build.specs.Build.{AsksByFlag};
+ghost use Rattle.cc_build.specs.Build.{AsksByFlag, build_in};
 
 use crate::message::or_no_memory;
 use crate::refusal::plan_error;
+use crate::reruns::tell;
+use crate::task::Task;
 use crate::{Build, Error, ErrorKind};
 use cc_host::{Host, Verdict, World, is_yes};
-use cc_plan::{FlagSupport, Sight, flag_support, probe_folder};
+use cc_plan::{FlagSupport, Reads, Sight, flag_support, probe_folder};
 use cc_text::{Mem, Text, quoted};
-use cc_tool::Answers;
+use cc_tool::{Answers, Caches};
 use std::alloc::Global;
 use std::sync::Wait;
 
@@ -52,13 +54,83 @@ fn verdict_answer(alloc: Global, support: &FlagSupport) -> Result<bool, Error>
     Ok(is_yes(&support.verdict))
 }
 
+// The verdict on a flag, by the first questions of the call. Prints the warnings of how the compiler was found.
+#[tactic(auto, using(cc_host::proofs::Parts::since_append))]
+fn support<W: World, H: Host<W>>(
+    rt: &impl Wait,
+    task: &Task<'_>,
+    caches: &Caches<W>,
+    host: &mut H,
+    flag: &str,
+    known: &mut Answers,
+) -> Result<bool, Error>
+    requires fresh { known.old ≡ [] }
+    ensures answered { known.new ≡ answers (part H.log host.old host.new) }
+    ensures patient { H.patience host.new ≡ H.patience host.old }
+    ensures extends { H.log host.new ≡ H.log host.old ++ part H.log host.old host.new }
+    ensures asked { AsksByFlag W.steady W.answer
+        (build_in task.now.set.now task.now.env.now) flag.now (part H.log host.old host.new) }
+    ensures childless { list_any is_of_children (part H.log host.old host.new) ≡ false }
+    ensures supported { IfOk result (λ b. ByAnswers H.log host.old host.new
+        (spec.IsVerdict task.now.set.now task.now.env.now flag.now b)) }
+    ensures outcome { ByPart H.log host.old host.new
+        (spec.SupportEnds task.now.set.now task.now.env.now flag.now result) }
+{
+    let (alloc, set, env) = (task.reporting.alloc, task.set, task.env);
+    let mut sight = Sight {
+        host,
+        caches,
+        answers: known,
+        dir: probe_folder(set, env),
+    };
+    match flag_support(rt, alloc, set, env, flag, &mut sight) {
+        Ok(support) => verdict_answer(alloc, &support),
+        Err(error) => Err(or_no_memory(plan_error(alloc, set, env, "", error))),
+    }
+}
+
+// The same, and then the lines of the variables that were read.
+#[tactic(auto, using(cc_host::proofs::Parts::since_append))]
+fn told_support<W: World, H: Host<W>>(
+    rt: &impl Wait,
+    task: &Task<'_>,
+    caches: &Caches<W>,
+    host: &mut H,
+    flag: &str,
+) -> Result<bool, Error>
+    ensures patient { H.patience host.new ≡ H.patience host.old }
+    ensures extends { H.log host.new ≡ H.log host.old ++ part H.log host.old host.new }
+    ensures asked { AsksByFlag W.steady W.answer
+        (build_in task.now.set.now task.now.env.now) flag.now (part H.log host.old host.new) }
+    ensures childless { list_any is_of_children (part H.log host.old host.new) ≡ false }
+    ensures supported { IfOk result (λ b. ByAnswers H.log host.old host.new
+        (spec.IsVerdict task.now.set.now task.now.env.now flag.now b)) }
+    ensures outcome { ByPart H.log host.old host.new
+        (spec.TrialEnds task.now.set.now task.now.env.now flag.now result) }
+{
+    let mut known = Answers::new(task.reporting.alloc);
+    let reads = Reads {
+        disabled: false,
+        debug: false,
+        compiler: false,
+        flag: true,
+        archiver: false,
+        ranlib: false,
+        links: false,
+    };
+    let answer = support(rt, task, caches, host, flag, &mut known)?;
+    tell(rt, task, caches, reads, host, &mut known)?;
+    Ok(answer)
+}
+
 impl<W: World> Build<W> {
     /// Whether the compiler of this build takes a flag, by compiling a source of one line with it and no other flag of the build, in the
     /// out dir or, where none is set, the folder for temporary files; in a relative folder no flag is taken. False also where the flag is
     /// `/link` and the compiler Visual Studio's, since it is for the linker. Prints the warnings of how the compiler was found, where
-    /// they are on. The verdict is kept, and serves later calls of this build and its clones.
+    /// they are on, and then the lines of the variables that were read, where those are wanted. The verdict is kept, and serves later calls
+    /// of this build and its clones.
     ///
-    /// Refused with IOError where the compiler is missing, could not be asked, or a warning could not be printed; with the error of the
+    /// Refused with IOError where the compiler is missing, could not be asked, or a line could not be printed; with the error of the
     /// settings where the target or the host is set nowhere, the target isn't known, or the command that tries the flag would be refused;
     /// and for memory. The build is as before; what was asked until then is kept, and no file stays.
     #[tactic(auto, using(cc_host::proofs::Parts::since_append))]
@@ -75,19 +147,8 @@ impl<W: World> Build<W> {
         ensures supported { IfOk result (λ b. ByAnswers H.log host.old host.new
             (spec.IsVerdict self.now.config self.now.env flag.now b)) }
         ensures outcome { ByPart H.log host.old host.new
-            (spec.SupportEnds self.now.config self.now.env flag.now result) }
+            (spec.TrialEnds self.now.config self.now.env flag.now result) }
     {
-        let (alloc, set, env) = (self.alloc, &self.config, &self.env);
-        let mut answers = Answers::new(alloc);
-        let mut sight = Sight {
-            host,
-            caches: &self.caches,
-            answers: &mut answers,
-            dir: probe_folder(set, env),
-        };
-        match flag_support(rt, alloc, set, env, flag, &mut sight) {
-            Ok(support) => verdict_answer(alloc, &support),
-            Err(error) => Err(or_no_memory(plan_error(alloc, set, env, "", error))),
-        }
+        told_support(rt, &self.task(), &self.caches, host, flag)
     }
 }

@@ -1,5 +1,5 @@
 // Lines that a build and its clones print once.
-use crate::same::same;
+use crate::same::{holds, same};
 use crate::setup::{set_all, with_both};
 use cc_build::{Build, Error};
 use cc_host::{Bench, BenchHost, Event, Host, LineKind};
@@ -158,4 +158,44 @@ fn check_parts(
 #[test]
 fn each_part_of_a_run_tells_cargo_of_what_it_reads_and_of_nothing_twice(rt: HostRuntime) {
     with_both(&rt, |build, host| check_parts(&rt, build, host));
+}
+
+const TRIAL: &str = "cargo:rerun-if-env-changed=CFLAGS
+cargo:rerun-if-env-changed=CFLAGS_x86_64-unknown-linux-gnu
+cargo:rerun-if-env-changed=CFLAGS_x86_64_unknown_linux_gnu
+cargo:rerun-if-env-changed=COMPILER_PATH
+cargo:rerun-if-env-changed=CPATH
+cargo:rerun-if-env-changed=CPLUS_INCLUDE_PATH
+cargo:rerun-if-env-changed=CRATE_CC_NO_DEFAULTS
+cargo:rerun-if-env-changed=C_INCLUDE_PATH
+cargo:rerun-if-env-changed=GCC_EXEC_PREFIX
+cargo:rerun-if-env-changed=HOST_CFLAGS
+cargo:rerun-if-env-changed=OBJCPLUS_INCLUDE_PATH
+cargo:rerun-if-env-changed=OBJC_INCLUDE_PATH
+cargo:rerun-if-env-changed=SOURCE_DATE_EPOCH
+";
+
+// The defaults that the build is to leave out are among the words of the question all the same, so that their variable is read.
+fn check_trial(
+    rt: &(impl Wait + AllocGlobal + Abort),
+    build: &mut Build<Bench>,
+    host: &mut BenchHost,
+) {
+    set_all(rt, build, "/o", "cc");
+    build.emit_rerun_if_env_changed(true);
+    build.no_default_flags(true);
+    let first = build
+        .is_flag_supported(rt, host, "-fx")
+        .expect(rt, "an answer");
+    let second = build
+        .is_flag_supported(rt, host, "-fx")
+        .expect(rt, "an answer");
+    holds(rt, "both answers are alike", first == second);
+    let variables = lines(rt.alloc(), host, LineKind::Rerun).expect(rt, "memory");
+    same(rt, variables.as_str(), TRIAL);
+}
+
+#[test]
+fn a_question_on_a_flag_tells_cargo_of_what_it_reads_and_of_nothing_twice(rt: HostRuntime) {
+    with_both(&rt, |build, host| check_trial(&rt, build, host));
 }

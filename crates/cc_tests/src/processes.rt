@@ -240,6 +240,7 @@ const HEARD: Shows = Shows {
     warnings: true,
     debug: false,
     out: OutputKind::Discard,
+    listens: false,
 };
 
 // Whether both commands end well over a pool of two.

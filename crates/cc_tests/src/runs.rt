@@ -42,6 +42,7 @@ const QUIET: Shows = Shows {
     warnings: false,
     debug: false,
     out: OutputKind::Discard,
+    listens: false,
 };
 
 // Whether the commands all end well over a pool of two.

@@ -1,68 +1,11 @@
-use Rattle.std.proofs.Common.{Err, ap, subst}
-use Rattle.std.proofs.lemmas.Result.{err_from_is_err_and}
-use Rattle.cc_host.specs.Part.{since}
-use Rattle.cc_host.specs.Question.{answers}
 use Rattle.cc_plan.specs.Questions.{PlanAsks}
-use Rattle.cc_plan.proofs.LineLemmas.{since_none}
-use Rattle.cc_run.specs.declared.planned.Shows.{Shows}
-use Rattle.cc_tool.specs.Asked.{question_events}
-use Rattle.cc_tool.proofs.Asides.{asked_none, asked_before}
 use Rattle.cc_build.specs.Build.{BuildSeen}
-use Rattle.cc_build.specs.Expand.{source_of, expansion, ignored_line, Gives, ExpandEnds}
-use Rattle.cc_build.proofs.Asking.{asked_seen, ends_seen}
-use Rattle.cc_build.proofs.ExpandLaws.{unexpanded, no_tool, ran_tool, gives_shape, shape_childless, childless_since}
+use Rattle.cc_build.specs.Expand.{ExpandedEnds}
+use Rattle.cc_build.proofs.Asking.{asked_seen, ends_seen, build_is}
 use Rattle.cc_build.proofs.build.Build.try_expand.Goals as goal
 
-pub returns-in_err-check_expand-clause-outcome : goal.returns-in_err-check_expand-clause-outcome
-returns-in_err-check_expand-clause-outcome g c =
-    let old = g.H.Host.log c.args.host.now in
-    let p = err_from_is_err_and c.from_residual.result c.from_residual.ensures.1 in
-    let b : BuildSeen = record { config = c.self.inside.config; env = c.self.inside.env } in
-    let e = c.in_err-check_expand.field-0.0 in
-    rw (p.1, p.2)
-    (ends_seen (answers (since old old)) (since old old) (λ (v : BuildSeen) look part. ExpandEnds v (Err e) look part) b c.args.self.now c.self.view_is
-    (unexpanded b (answers (since old old)) (since old old) e (since_none old) c.in_err-check_expand.ensures.refused))
-
-pub returns-in_err-check_expand-clause-asked : goal.returns-in_err-check_expand-clause-asked
-returns-in_err-check_expand-clause-asked g c =
-    let old = g.H.Host.log c.args.host.now in
-    asked_none _ _ _ _ (since old old) (ap question_events (since_none old))
-
-pub returns-in_err-tool-clause-outcome : goal.returns-in_err-tool-clause-outcome
-returns-in_err-tool-clause-outcome g c =
-    let part = since (g.H.Host.log c.args.host.now) (g.H.Host.log c.compiler.new.host) in
-    let p = err_from_is_err_and c.from_residual-in_err-tool.result c.from_residual-in_err-tool.ensures.1 in
-    let b : BuildSeen = record { config = c.self.inside.config; env = c.self.inside.env } in
-    let e = c.in_err-tool.field-0.0 in
-    rw (p.1, p.2)
-    (ends_seen (answers part) part (λ (v : BuildSeen) look part. ExpandEnds v (Err e) look part) b c.args.self.now c.self.view_is
-    (no_tool b c.in_ok-check_expand.ensures.allowed part e c.in_err-tool.ensures.outcome))
-
-pub returns-in_err-tool-clause-asked : goal.returns-in_err-tool-clause-asked
-returns-in_err-tool-clause-asked g c = asked_seen _ _ (λ (b : BuildSeen). PlanAsks b.config b.env) _ _ c.args.self.now c.self.view_is c.compiler.ensures.asked
+pub returns-clause-asked : goal.returns-clause-asked
+returns-clause-asked g c = asked_seen _ _ (λ (b : BuildSeen). PlanAsks b.config b.env) _ _ c.args.self.now (build_is c.args.self.now _ _ c.task.ensures.set c.task.ensures.env) c.told_expand.ensures.asked
 
 pub returns-clause-outcome : goal.returns-clause-outcome
-returns-clause-outcome g c =
-    let old = g.H.Host.log c.args.host.now in
-    let mid = g.H.Host.log c.compiler.new.host in
-    let new = g.H.Host.log c.expand_by.new.host in
-    let b : BuildSeen = record { config = c.self.inside.config; env = c.self.inside.env } in
-    let tool = c.in_ok-tool.tool in
-    ends_seen (answers (since old new)) (since old new) (λ (v : BuildSeen) look part. ExpandEnds v c.expand_by.result look part) b c.args.self.now c.self.view_is
-    (ran_tool b c.in_ok-check_expand.ensures.allowed old mid new tool c.expand_by.result c.compiler.ensures.extends c.expand_by.ensures.aside.extends c.in_ok-tool.ensures.tool c.in_ok-tool.ensures.outcome
-    (subst (λ (s : Shows). Gives s (expansion b.config tool) (ignored_line tool.family (source_of b.config)) c.expand_by.result (since mid new)) c.shows_of-shows.ensures c.expand_by.ensures.outcome))
-
-pub returns-clause-asked : goal.returns-clause-asked
-returns-clause-asked g c =
-    asked_seen _ _ (λ (b : BuildSeen). PlanAsks b.config b.env) _ _ c.args.self.now c.self.view_is
-    (asked_before _ _ _ _ (g.H.Host.log c.args.host.now) (g.H.Host.log c.compiler.new.host) (g.H.Host.log c.expand_by.new.host) c.compiler.ensures.extends c.expand_by.ensures.aside.extends c.compiler.ensures.asked c.expand_by.ensures.aside.asks_none)
-
-pub returns-clause-childless : goal.returns-clause-childless
-returns-clause-childless g c =
-    let old = g.H.Host.log c.args.host.now in
-    let mid = g.H.Host.log c.compiler.new.host in
-    let new = g.H.Host.log c.expand_by.new.host in
-    let tool = c.in_ok-tool.tool in
-    childless_since old mid new c.compiler.ensures.extends c.expand_by.ensures.aside.extends c.compiler.ensures.childless
-    (shape_childless (expansion c.self.inside.config tool) (since mid new)
-    (gives_shape c.shows_of-shows.result (expansion c.self.inside.config tool) (ignored_line tool.family (source_of c.self.inside.config)) (since mid new) c.expand_by.result c.expand_by.ensures.outcome))
+returns-clause-outcome g c = ends_seen _ _ (λ (b : BuildSeen) look part. ExpandedEnds b c.told_expand.result look part) _ c.args.self.now (build_is c.args.self.now _ _ c.task.ensures.set c.task.ensures.env) c.told_expand.ensures.outcome

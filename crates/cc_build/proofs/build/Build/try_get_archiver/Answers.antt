@@ -1,16 +1,15 @@
 use Rattle.cc_plan.specs.Questions.{ArchiverAsks}
-use Rattle.cc_plan.proofs.ResultLemmas.{ok_so}
 use Rattle.cc_build.specs.Build.{BuildSeen}
-use Rattle.cc_build.specs.Tools.{IsArchiver, LacksArchiver}
-use Rattle.cc_build.proofs.Asking.{asked_seen, holds_seen}
-use Rattle.cc_build.proofs.Finding.{err_with}
+use Rattle.cc_plan.proofs.ResultLemmas.{ok_so}
+use Rattle.cc_build.specs.Tools.{IsArchiver, ArchiverEnds}
+use Rattle.cc_build.proofs.Asking.{asked_seen, holds_seen, ends_seen, build_is}
 use Rattle.cc_build.proofs.build.Build.try_get_archiver.Goals as goal
 
 pub returns-clause-asked : goal.returns-clause-asked
-returns-clause-asked g c = asked_seen _ _ (λ (b : BuildSeen). ArchiverAsks b.config b.env) _ _ c.args.self.now c.self.view_is c.archiver.ensures.asked
+returns-clause-asked g c = asked_seen _ _ (λ (b : BuildSeen). ArchiverAsks b.config b.env) _ _ c.args.self.now (build_is c.args.self.now _ _ c.task.ensures.set c.task.ensures.env) c.told_archiver.ensures.asked
+
+pub returns-clause-outcome : goal.returns-clause-outcome
+returns-clause-outcome g c = ends_seen _ _ (λ (b : BuildSeen) look part. ArchiverEnds b.config b.env c.told_archiver.result look part) _ c.args.self.now (build_is c.args.self.now _ _ c.task.ensures.set c.task.ensures.env) c.told_archiver.ensures.outcome
 
 pub returns-clause-archiver : goal.returns-clause-archiver
-returns-clause-archiver g c = ok_so c.archiver.result c.archiver.ensures.archiver (λ cmd h. holds_seen _ (λ (b : BuildSeen). IsArchiver b.config b.env cmd) _ c.args.self.now c.self.view_is h)
-
-pub returns-clause-refused : goal.returns-clause-refused
-returns-clause-refused g c = err_with c.archiver.result c.archiver.ensures.refused (λ e h. holds_seen _ (λ (b : BuildSeen). LacksArchiver b e) _ c.args.self.now c.self.view_is h)
+returns-clause-archiver g c = ok_so c.told_archiver.result c.told_archiver.ensures.archiver (λ v h. holds_seen _ (λ (b : BuildSeen). IsArchiver b.config b.env v) _ c.args.self.now (build_is c.args.self.now _ _ c.task.ensures.set c.task.ensures.env) h)

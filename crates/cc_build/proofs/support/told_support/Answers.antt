@@ -1,0 +1,98 @@
+use Rattle.std.proofs.Common.{◌≡◌, inl, inr, ap, Bool, List, Ok, Err}
+use Rattle.std.proofs.lemmas.Result.{err_from_is_err_and}
+use Rattle.cc_host.specs.Part.{since}
+use Rattle.cc_host.specs.Question.{answers}
+use Rattle.cc_host.proofs.Parts.{since_extends}
+use Rattle.cc_plan.specs.Given.{probe_folder}
+use Rattle.cc_plan.specs.Questions.{NameAsks, SupportAsks}
+use Rattle.cc_build.specs.Told.{flag_reads}
+use Rattle.cc_build.proofs.ExpandLaws.{childless_since}
+use Rattle.cc_build.proofs.PrintedLaws.{asked_whole, asked_refused}
+use Rattle.cc_build.proofs.ToldLaws.{names_in_support, told_asked, told_holds, does_told, refused_told}
+use Rattle.cc_build.specs.FlagSupport.{support_error, support_steps}
+use Rattle.cc_build.proofs.support.told_support.Goals as goal
+
+pub returns-in_err-answer-clause-outcome : goal.returns-in_err-answer-clause-outcome
+returns-in_err-answer-clause-outcome g c =
+    let p = err_from_is_err_and c.from_residual.result c.from_residual.ensures.1 in
+    let part = since (g.H.Host.log c.args.host.now) (g.H.Host.log c.support.new.host) in
+    let set = c.args.task.now.set.now in
+    let env = c.args.task.now.env.now in
+    let e = c.in_err-answer.field-0.0 in
+    rw (p.1, p.2) (record { under = λ look agree. refused_told flag_reads set env look (support_error set env c.args.flag.now look) (support_steps set env look) Bool e part (c.in_err-answer.ensures.outcome.under look agree) })
+
+pub returns-in_err-tell-clause-extends : goal.returns-in_err-tell-clause-extends
+returns-in_err-tell-clause-extends g c = since_extends (g.H.Host.log c.args.host.now) (g.H.Host.log c.support.new.host) (g.H.Host.log c.tell.new.host) c.support.ensures.extends c.tell.ensures.asks.extends
+
+pub returns-in_err-tell-clause-asked : goal.returns-in_err-tell-clause-asked
+returns-in_err-tell-clause-asked g c =
+    let old = g.H.Host.log c.args.host.now in
+    let mid = g.H.Host.log c.support.new.host in
+    let new = g.H.Host.log c.tell.new.host in
+    let set = c.args.task.now.set.now in
+    let env = c.args.task.now.env.now in
+    told_asked _ _ (probe_folder set env) (SupportAsks set env c.args.flag.now) (NameAsks flag_reads set env) (names_in_support set env c.args.flag.now) old mid new c.support.new.known c.tell.new.answers c.support.ensures.extends c.tell.ensures.asks.extends c.support.ensures.asked c.support.ensures.answered c.tell.ensures.asks.asks
+
+pub returns-in_err-tell-clause-childless : goal.returns-in_err-tell-clause-childless
+returns-in_err-tell-clause-childless g c =
+    let old = g.H.Host.log c.args.host.now in
+    let mid = g.H.Host.log c.support.new.host in
+    let new = g.H.Host.log c.tell.new.host in
+    let set = c.args.task.now.set.now in
+    let env = c.args.task.now.env.now in
+    childless_since old mid new c.support.ensures.extends c.tell.ensures.asks.extends c.support.ensures.childless c.tell.ensures.childless
+
+pub returns-in_err-tell-clause-outcome : goal.returns-in_err-tell-clause-outcome
+returns-in_err-tell-clause-outcome g c =
+    let p = err_from_is_err_and c.from_residual-in_err-tell.result c.from_residual-in_err-tell.ensures.1 in
+    let old = g.H.Host.log c.args.host.now in
+    let mid = g.H.Host.log c.support.new.host in
+    let new = g.H.Host.log c.tell.new.host in
+    let set = c.args.task.now.set.now in
+    let env = c.args.task.now.env.now in
+    rw (p.1, p.2)
+    (told_holds _ _ (probe_folder set env) (SupportAsks set env c.args.flag.now) (NameAsks flag_reads set env) (names_in_support set env c.args.flag.now) old mid new c.support.new.known c.tell.new.answers c.support.ensures.extends c.tell.ensures.asks.extends c.support.ensures.asked c.support.ensures.answered c.tell.ensures.asks.asks
+    c.in_ok-answer.ensures.outcome c.in_err-tell.ensures.told
+    (λ look f h. does_told flag_reads set env look (support_error set env c.args.flag.now look) (support_steps set env look) {T = Bool} c.in_ok-answer.answer (Err c.in_err-tell.field-0.0) old mid new c.support.ensures.extends c.tell.ensures.asks.extends f h))
+
+pub returns-clause-extends : goal.returns-clause-extends
+returns-clause-extends g c = since_extends (g.H.Host.log c.args.host.now) (g.H.Host.log c.support.new.host) (g.H.Host.log c.tell.new.host) c.support.ensures.extends c.tell.ensures.asks.extends
+
+pub returns-clause-asked : goal.returns-clause-asked
+returns-clause-asked g c =
+    let old = g.H.Host.log c.args.host.now in
+    let mid = g.H.Host.log c.support.new.host in
+    let new = g.H.Host.log c.tell.new.host in
+    let set = c.args.task.now.set.now in
+    let env = c.args.task.now.env.now in
+    told_asked _ _ (probe_folder set env) (SupportAsks set env c.args.flag.now) (NameAsks flag_reads set env) (names_in_support set env c.args.flag.now) old mid new c.support.new.known c.tell.new.answers c.support.ensures.extends c.tell.ensures.asks.extends c.support.ensures.asked c.support.ensures.answered c.tell.ensures.asks.asks
+
+pub returns-clause-childless : goal.returns-clause-childless
+returns-clause-childless g c =
+    let old = g.H.Host.log c.args.host.now in
+    let mid = g.H.Host.log c.support.new.host in
+    let new = g.H.Host.log c.tell.new.host in
+    let set = c.args.task.now.set.now in
+    let env = c.args.task.now.env.now in
+    childless_since old mid new c.support.ensures.extends c.tell.ensures.asks.extends c.support.ensures.childless c.tell.ensures.childless
+
+pub returns-clause-outcome : goal.returns-clause-outcome
+returns-clause-outcome g c =
+    let old = g.H.Host.log c.args.host.now in
+    let mid = g.H.Host.log c.support.new.host in
+    let new = g.H.Host.log c.tell.new.host in
+    let set = c.args.task.now.set.now in
+    let env = c.args.task.now.env.now in
+    told_holds _ _ (probe_folder set env) (SupportAsks set env c.args.flag.now) (NameAsks flag_reads set env) (names_in_support set env c.args.flag.now) old mid new c.support.new.known c.tell.new.answers c.support.ensures.extends c.tell.ensures.asks.extends c.support.ensures.asked c.support.ensures.answered c.tell.ensures.asks.asks
+    c.in_ok-answer.ensures.outcome c.in_ok-tell.ensures.told
+    (λ look f h. does_told flag_reads set env look (support_error set env c.args.flag.now look) (support_steps set env look) c.in_ok-answer.answer (Ok c.in_ok-answer.answer) old mid new c.support.ensures.extends c.tell.ensures.asks.extends f h)
+
+pub returns-clause-supported : goal.returns-clause-supported
+returns-clause-supported g c =
+    let old = g.H.Host.log c.args.host.now in
+    let mid = g.H.Host.log c.support.new.host in
+    let new = g.H.Host.log c.tell.new.host in
+    let set = c.args.task.now.set.now in
+    let env = c.args.task.now.env.now in
+    told_holds _ _ (probe_folder set env) (SupportAsks set env c.args.flag.now) (NameAsks flag_reads set env) (names_in_support set env c.args.flag.now) old mid new c.support.new.known c.tell.new.answers c.support.ensures.extends c.tell.ensures.asks.extends c.support.ensures.asked c.support.ensures.answered c.tell.ensures.asks.asks
+    c.in_ok-answer.ensures.supported c.in_ok-tell.ensures.told (λ look f h. f)
