@@ -1,5 +1,5 @@
 -- What the answers of the program say.
-use Rattle.std.proofs.Common.{◌≡◌, ◌⊎◌, inl, inr, ℕ, List, [], ◌∷◌, ◌++◌, Bool, true, false, Option, Some, Result, Ok, Err, refl, sym, ◌∙◌, ap, subst, append-nil}
+use Rattle.std.proofs.Common.{◌≡◌, ◌⊎◌, inl, inr, ℕ, List, [], ◌∷◌, ◌++◌, Bool, true, false, Option, None, Some, Result, Ok, Err, refl, sym, ◌∙◌, ap, subst, append-nil}
 use Rattle.cc_host.specs.Question.{Look}
 use Rattle.cc_host.specs.Part.{since}
 use Rattle.cc_host.specs.Part.Step.{Lists}
@@ -25,10 +25,10 @@ use Rattle.cc_tool.proofs.Asides.{asked_around}
 use Rattle.cc_plan.specs.Given.{probe_folder}
 use Rattle.cc_plan.specs.Questions.{RunAsks}
 use Rattle.cc_command.specs.Asks.{AsksFor}
-use Rattle.cc_command.specs.Answer.{IsHalted, Answers, AnswersError, AnswersWords, env_in, terms_in, error_of, repeating, stages_of, ended_well, ended_wanting}
+use Rattle.cc_command.specs.Answer.{IsHalted, Answers, AnswersError, AnswersWords, Unbegun, env_in, terms_in, error_of, repeating, stages_of, ended_well, ended_wanting}
 use Rattle.cc_command.proofs.RepeatLaws.{went_same, halted_same}
 use Rattle.cc_command.specs.Read.{Request, Wish, refusal_of}
-use Rattle.cc_command.specs.Read.Wish.{Compiles, Archives, Generates, Expands, Shows}
+use Rattle.cc_command.specs.Read.Wish.{Compiles, Records, Archives, Generates, Expands, Shows}
 use Rattle.cc_command.specs.declared.ended.Ended.{Ended}
 use Rattle.cc_command.specs.declared.words.BadWord.{BadWord}
 use Rattle.cc_command.specs.declared.words.ReadError.{ReadError}
@@ -115,8 +115,21 @@ bad_read words e bad is (inl wants) = let clash : Bad bad ≡ WantsMemory = sym 
 bad_read (Ok wish) e bad is (inr refused) = absurd (cc)
 bad_read (Err found) e bad is (inr refused) = let same : Some (Bad found) ≡ Some (Bad bad) = refused ∙ ap Some is in let one : found ≡ bad = cc in ap Err one
 
+-- memory was wanted before a run that is to be recorded was begun
+wanting_unbegun : (log : List Event) (ended : Ended) (c : Course) → ended ≡ ended_wanting → c.after ≡ c.before → Unbegun (since log log) ended c
+wanting_unbegun log ended c is same = record {
+  error = no_memory;
+  front = since log log;
+  line = [];
+  cut = sym (append-nil (since log log));
+  cause = inl (inl (λ t x. halted_none t None (Calls Lists ∷ []) (since log log) no_memory x (part_is log log [] (sym (append-nil log))) refl (λ empty. absurd (cc))));
+  says = inr (is, refl);
+  idle = same;
+}
+
 -- memory was wanted before anything was done
 pub answers_wanting : (look : Look) (words : Result Wish BadWord) (log : List Event) (ended : Ended) (c : Course) → ended ≡ ended_wanting → c.after ≡ c.before → AnswersWords look words (since log log) ended c
+answers_wanting look (Ok (Records path q)) log ended c is same = inl (wanting_unbegun log ended c is same)
 answers_wanting look (Ok (Archives q)) log ended c is same = tt
 answers_wanting look (Ok (Generates n)) log ended c is same = same
 answers_wanting look (Ok (Expands b)) log ended c is same = same

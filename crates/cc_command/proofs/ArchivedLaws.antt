@@ -55,10 +55,10 @@ use Rattle.cc_command.specs.Archived.{alone, library_at, directed_stages, behind
 use Rattle.cc_command.specs.Promises.{PrintsLast, IsLine, FaultsLast, EndsSpent}
 use Rattle.cc_command.specs.Asks.{AsksAlone, AsksWish, AsksWords}
 use Rattle.cc_command.specs.Shown.{AsksTools, listed_build}
-use Rattle.cc_command.specs.Read.{Request, Wish, name_of, wish_of}
+use Rattle.cc_command.specs.Read.{Request, Wish, name_of, compile_wish, wish_of}
 use Rattle.cc_command.specs.declared.words.Job.{Job}
 use Rattle.cc_command.specs.declared.words.Job.TheVariants.{Compile, Archive, Generate, Expand, Show}
-use Rattle.cc_command.specs.Read.Wish.{Compiles, Archives, Generates, Expands, Shows}
+use Rattle.cc_command.specs.Read.Wish.{Compiles, Records, Archives, Generates, Expands, Shows}
 use Rattle.cc_command.specs.declared.words.BadWord.{BadWord}
 use Rattle.cc_command.specs.declared.ended.Ended.{Ended}
 use Rattle.cc_command.proofs.EnoughLaws.{count, unless_few, ended_count, mapped, disabled_or, first_never, NeverSpent}
@@ -164,6 +164,7 @@ module _ (steady : Bool) (world : Question → Outcome) (patience : Option ℕ) 
 -- words that were not read for want of memory
 pub archived_wanting : (steady : Bool) (world : Question → Outcome) (patience : Option ℕ) (turns : ℕ) (log : List Event) (words : Result Wish BadWord) (ended : Ended) → ended ≡ ended_wanting → IfArchives words (λ q. Archived steady world q patience turns (since log log) ended)
 archived_wanting steady world patience turns log (Ok (Compiles q)) ended is = tt
+archived_wanting steady world patience turns log (Ok (Records path q)) ended is = tt
 archived_wanting steady world patience turns log (Ok (Archives q)) ended is = unread steady world patience turns q (since log log) ended (part_is log log [] (sym (append-nil log))) is
 archived_wanting steady world patience turns log (Ok (Generates n)) ended is = tt
 archived_wanting steady world patience turns log (Ok (Expands b)) ended is = tt
@@ -487,6 +488,7 @@ module _ (steady : Bool) (world : Question → Outcome) (q : Request) (patience 
 -- the same of words
 pub archive_promises : (steady : Bool) (world : Question → Outcome) (patience : Option ℕ) (turned : ℕ) (part : List Event) (ended : Ended) (words : Result Wish BadWord) → IfArchives words (λ q. Archived steady world q patience turned part ended) → IfArchives words (λ q. ArchivePromises steady world q patience turned part ended)
 archive_promises steady world patience turned part ended (Ok (Compiles q)) h = tt
+archive_promises steady world patience turned part ended (Ok (Records path q)) h = tt
 archive_promises steady world patience turned part ended (Ok (Archives q)) h = archive_promised steady world q patience turned part ended h
 archive_promises steady world patience turned part ended (Ok (Generates n)) h = tt
 archive_promises steady world patience turned part ended (Ok (Expands b)) h = tt
@@ -496,20 +498,20 @@ archive_promises steady world patience turned part ended (Err bad) h = tt
 -- ---- by the job
 
 -- a job that compiles answers its wish so
-pub of_compile : (job : Job) (name : List ℕ) (build : BuildSeen) (ended : Ended) (look : Look) (part : List Event) (c : Course) → job ≡ Compile name → IsAnswer (name_of job, build) ended look part c → IsAnswerOf (wish_of job build) ended look part c
-of_compile (Compile n) name build ended look part c is h = h
-of_compile (Archive n) name build ended look part c is h = absurd (cc)
-of_compile (Generate n) name build ended look part c is h = absurd (cc)
-of_compile Expand name build ended look part c is h = absurd (cc)
-of_compile Show name build ended look part c is h = absurd (cc)
+pub of_compile : (job : Job) (name : List ℕ) (build : BuildSeen) (database : Option (List ℕ)) (ended : Ended) (look : Look) (part : List Event) (c : Course) → job ≡ Compile name → IsAnswerOf (compile_wish database (name_of job, build)) ended look part c → IsAnswerOf (wish_of job database build) ended look part c
+of_compile (Compile n) name build database ended look part c is h = h
+of_compile (Archive n) name build database ended look part c is h = absurd (cc)
+of_compile (Generate n) name build database ended look part c is h = absurd (cc)
+of_compile Expand name build database ended look part c is h = absurd (cc)
+of_compile Show name build database ended look part c is h = absurd (cc)
 
 -- a job that archives asks what its wish does
-pub of_archive : (job : Job) (name : List ℕ) (build : BuildSeen) (steady : Bool) (world : Question → Outcome) (patience : Option ℕ) (turned : ℕ) (part : List Event) (ended : Ended) → job ≡ Archive name → Archived steady world (name_of job, build) patience turned part ended → AsksWish steady world (wish_of job build) part
-of_archive (Compile n) name build steady world patience turned part ended is h = absurd (cc)
-of_archive (Generate n) name build steady world patience turned part ended is h = absurd (cc)
-of_archive Expand name build steady world patience turned part ended is h = absurd (cc)
-of_archive Show name build steady world patience turned part ended is h = absurd (cc)
-of_archive (Archive n) name build steady world patience turned part ended is h = archived_asks steady world (n, build) patience turned part ended h
+pub of_archive : (job : Job) (name : List ℕ) (build : BuildSeen) (database : Option (List ℕ)) (steady : Bool) (world : Question → Outcome) (patience : Option ℕ) (turned : ℕ) (part : List Event) (ended : Ended) → job ≡ Archive name → Archived steady world (name_of job, build) patience turned part ended → AsksWish steady world (wish_of job database build) part
+of_archive (Compile n) name build database steady world patience turned part ended is h = absurd (cc)
+of_archive (Generate n) name build database steady world patience turned part ended is h = absurd (cc)
+of_archive Expand name build database steady world patience turned part ended is h = absurd (cc)
+of_archive Show name build database steady world patience turned part ended is h = absurd (cc)
+of_archive (Archive n) name build database steady world patience turned part ended is h = archived_asks steady world (n, build) patience turned part ended h
 
 -- ---- nothing was asked
 
@@ -529,6 +531,9 @@ no_tools_asked steady world b part none = record {
 
 pub asked_wanting : (steady : Bool) (world : Question → Outcome) (log : List Event) (words : Result Wish BadWord) → AsksWords steady world words (since log log)
 asked_wanting steady world log (Ok (Compiles q)) =
+    let none : since log log ≡ [] = part_is log log [] (sym (append-nil log)) in
+    asked_none steady world (probe_folder q.1.config (env_in q (since log log))) (RunAsks q.1.config (env_in q (since log log))) (since log log) (ap question_events none)
+asked_wanting steady world log (Ok (Records path q)) =
     let none : since log log ≡ [] = part_is log log [] (sym (append-nil log)) in
     asked_none steady world (probe_folder q.1.config (env_in q (since log log))) (RunAsks q.1.config (env_in q (since log log))) (since log log) (ap question_events none)
 asked_wanting steady world log (Ok (Archives q)) =

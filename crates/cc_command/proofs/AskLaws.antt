@@ -8,7 +8,7 @@ use Rattle.cc_tool.proofs.Asides.{aside_answers}
 use Rattle.cc_tool.proofs.SomeLemmas.{some_agree}
 use Rattle.cc_build.specs.Course.{Course}
 use Rattle.cc_build.specs.Promises.{NothingRuns}
-use Rattle.cc_command.specs.Answer.{Answers, AnswersBad, AnswersWords, IfArchives, IfExpands, IfGenerates, IfShows}
+use Rattle.cc_command.specs.Answer.{Answers, AnswersRecord, AnswersBad, AnswersWords, IfArchives, IfExpands, IfGenerates, IfShows}
 use Rattle.cc_command.specs.Archived.{Archived}
 use Rattle.cc_command.specs.Asks.{AsksWords}
 use Rattle.cc_command.specs.Expanded.{Expanded}
@@ -16,12 +16,13 @@ use Rattle.cc_command.specs.Promises.{PrintsLast, FaultsLast}
 use Rattle.cc_command.specs.Read.{Wish}
 use Rattle.cc_command.specs.Shown.{Shown}
 use Rattle.cc_command.specs.Summary.{Sums}
-use Rattle.cc_command.specs.Read.Wish.{Compiles, Archives, Generates, Expands, Shows}
+use Rattle.cc_command.specs.Read.Wish.{Compiles, Records, Archives, Generates, Expands, Shows}
 use Rattle.cc_command.specs.declared.ended.Ended.{Ended}
 use Rattle.cc_command.specs.declared.words.BadWord.{BadWord}
 use Rattle.cc_command.proofs.ArchivedLaws.{archived_last, archived_faults, archived_settled}
 use Rattle.cc_command.proofs.ExpandedLaws.{expanded_last, expanded_faults, expanded_settled}
 use Rattle.cc_command.proofs.PromiseLaws.{begun_of, request_last, word_last, request_faults, word_faults}
+use Rattle.cc_command.proofs.RecordedLaws.{record_last, record_faults, record_settled}
 use Rattle.cc_command.proofs.SettledPromises.{request_settled, word_settled}
 use Rattle.cc_command.proofs.ShownLaws.{shown_last, shown_faults, shown_settled}
 use Rattle.cc_command.proofs.SummedLaws.{summed_last, summed_faults, summed_settled}
@@ -29,6 +30,7 @@ use Rattle.cc_command.proofs.SummedLaws.{summed_last, summed_faults, summed_sett
 -- a compile run by some verdicts and on some course, an archive alone, a large run, or bad words
 abbrev pub Said : Bool → (Question → Outcome) → Option ℕ → ℕ → Result Wish BadWord → List Event → Ended → Type 0
 Said steady world patience turns (Ok (Compiles q)) part ended = (look : Look) × (c : Course) × Answers look q part ended c
+Said steady world patience turns (Ok (Records path q)) part ended = (look : Look) × (c : Course) × AnswersRecord look path q part ended c
 Said steady world patience turns (Ok (Archives q)) part ended = Archived steady world q patience turns part ended
 Said steady world patience turns (Ok (Generates count)) part ended = Sums count turns part ended
 Said steady world patience turns (Ok (Expands b)) part ended = Expanded steady world b part ended
@@ -38,6 +40,10 @@ Said steady world patience turns (Err bad) part ended = AnswersBad bad part ende
 module _ (steady : Bool) (world : Question → Outcome) (patience : Option ℕ) (turns : ℕ) (part : List Event) (ended : Ended) where
   pub said : (words : Result Wish BadWord) (on : ℕ → Course) → AsksWords steady world words part → Holds (answers part) (λ look. (left : ℕ) × AnswersWords look words part ended (on left)) → IfArchives words (λ q. Archived steady world q patience turns part ended) → IfGenerates words (λ count. Sums count turns part ended) → IfExpands words (λ b. Expanded steady world b part ended) → IfShows words (λ b. Shown steady world b part ended) → Said steady world patience turns words part ended
   said (Ok (Compiles q)) on asked run archived generated expanded shown =
+      let some = some_agree (answers part) asked.once in
+      let answer = run.under some.0 some.1 in
+      (some.0, on answer.0, answer.1)
+  said (Ok (Records path q)) on asked run archived generated expanded shown =
       let some = some_agree (answers part) asked.once in
       let answer = run.under some.0 some.1 in
       (some.0, on answer.0, answer.1)
@@ -51,6 +57,7 @@ module _ (steady : Bool) (world : Question → Outcome) (patience : Option ℕ) 
 
   pub prints_last : (words : Result Wish BadWord) → Said steady world patience turns words part ended → PrintsLast part ended
   prints_last (Ok (Compiles q)) s = request_last s.0 q part ended s.1 s.2
+  prints_last (Ok (Records path q)) s = record_last s.0 path q part ended s.1 s.2
   prints_last (Ok (Archives q)) s = archived_last steady world q patience turns part ended s
   prints_last (Ok (Generates count)) s = summed_last count turns part ended s
   prints_last (Ok (Expands b)) s = expanded_last steady world b part ended s
@@ -59,6 +66,7 @@ module _ (steady : Bool) (world : Question → Outcome) (patience : Option ℕ) 
 
   pub faults_last : (words : Result Wish BadWord) → Said steady world patience turns words part ended → FaultsLast part
   faults_last (Ok (Compiles q)) s = request_faults s.0 q part s.1 (begun_of s.0 q part ended s.1 s.2)
+  faults_last (Ok (Records path q)) s = record_faults s.0 path q part ended s.1 s.2
   faults_last (Ok (Archives q)) s = archived_faults steady world q patience turns part ended s
   faults_last (Ok (Generates count)) s = summed_faults count turns part ended s
   faults_last (Ok (Expands b)) s = expanded_faults steady world b part ended s
@@ -67,6 +75,7 @@ module _ (steady : Bool) (world : Question → Outcome) (patience : Option ℕ) 
 
   pub settled : (words : Result Wish BadWord) → Said steady world patience turns words part ended → NothingRuns part
   settled (Ok (Compiles q)) s = request_settled s.0 q part s.1 (begun_of s.0 q part ended s.1 s.2)
+  settled (Ok (Records path q)) s = record_settled s.0 path q part ended s.1 s.2
   settled (Ok (Archives q)) s = archived_settled steady world q patience turns part ended s
   settled (Ok (Generates count)) s = summed_settled count turns part ended s
   settled (Ok (Expands b)) s = expanded_settled steady world b part ended s

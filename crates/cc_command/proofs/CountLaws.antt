@@ -18,14 +18,16 @@ use Rattle.cc_host.specs.declared.event.Role.{Role}
 use Rattle.cc_host.specs.declared.event.Role.TheVariants.{Compile, Archive, Index}
 use Rattle.cc_hosts.specs.Plain.{IsPlainLog}
 use Rattle.cc_run.specs.Lines.{warnings}
+use Rattle.cc_run.specs.Messages.{warned_of}
 use Rattle.cc_run.specs.Output.{behind, map_warnings, IsSilentRun}
-use Rattle.cc_run.specs.Own.{is_run_line, is_of_run, AreRunLines}
+use Rattle.cc_run.specs.Own.{is_run_line, is_run_notice, is_of_run, AreRunLines}
 use Rattle.cc_run.specs.Prints.{print_of, prints}
 use Rattle.cc_run.specs.Texts.{announced, cargo_line, debug_line, ended_text}
 use Rattle.cc_run.specs.declared.error.RunError.{RunError}
 use Rattle.cc_run.specs.declared.error.RunError.TheVariants.{ToolNotFound, Failed as Fails, StartFault, WaitFault, HostFault, JobFault, TurnsSpent, NoMemory}
 use Rattle.cc_run.specs.declared.planned.Planned.{Planned}
-use Rattle.cc_run.specs.declared.print.Line.{Line}
+use Rattle.cc_run.specs.declared.print.Notice.{Notice}
+use Rattle.cc_run.specs.declared.print.Notice.TheVariants.{Shown as Line, Told}
 use Rattle.cc_text.specs.Words.{when}
 use Rattle.cc_tool.specs.Probing.{is_asked}
 use Rattle.cc_build.specs.Attempts.{attempts, to_attempt}
@@ -138,7 +140,7 @@ own_links (Printed Expanded bytes ∷ part) h = absurd (cc)
 own_links (Printed Shown bytes ∷ part) h = absurd (cc)
 own_links (event ∷ part) h = own_links part (and_parts (is_of_run event) (list_all is_of_run part) h).1
 
-lines_when : (wanted : Bool) (ls : List Line) → AreRunLines ls → AreRunLines (when wanted ls)
+lines_when : (wanted : Bool) (ls : List Notice) → AreRunLines ls → AreRunLines (when wanted ls)
 lines_when true ls h = h
 lines_when false ls h = refl
 
@@ -149,14 +151,19 @@ lines_warned (text ∷ texts) = lines_warned texts
 lines_before : (debug : Bool) (text : List ℕ) → AreRunLines (when debug (debug_line text ∷ []))
 lines_before debug text = lines_when debug (debug_line text ∷ []) refl
 
-lines_both : (a b : List Line) → AreRunLines a → AreRunLines b → AreRunLines (a ++ b)
-lines_both a b p q = list_all-append (λ l. is_run_line l.kind) a b ∙ and_from _ _ p q
+lines_both : (a b : List Notice) → AreRunLines a → AreRunLines b → AreRunLines (a ++ b)
+lines_both a b p q = list_all-append is_run_notice a b ∙ and_from _ _ p q
+
+own_notices : (ls : List Notice) → AreRunLines ls → list_all is_of_run (prints ls) ≡ true
+own_notices [] h = refl
+own_notices (Line kind bytes ∷ ls) h = let k = and_parts (is_run_line kind) (list_all is_run_notice ls) h in and_from _ _ k.0 (own_notices ls k.1)
+own_notices (Told message ∷ ls) h = own_notices ls h
 
 -- an event between lines of a run is none of them
-between : (front rest : List Line) (event : Event) (part : List Event) → AreRunLines front → AreRunLines rest → links event ≡ false → part ≡ prints front ++ event ∷ prints rest → number links part ≡ 0
+between : (front rest : List Notice) (event : Event) (part : List Event) → AreRunLines front → AreRunLines rest → links event ≡ false → part ≡ prints front ++ event ∷ prints rest → number links part ≡ 0
 between front rest event part before after other cut =
-    let a : number links (prints front) ≡ 0 = own_links (prints front) (list_all-map is_of_run print_of front ∙ before) in
-    let b : number links (prints rest) ≡ 0 = own_links (prints rest) (list_all-map is_of_run print_of rest ∙ after) in
+    let a : number links (prints front) ≡ 0 = own_links (prints front) (own_notices front before) in
+    let b : number links (prints rest) ≡ 0 = own_links (prints rest) (own_notices rest after) in
     ap (number links) cut ∙ number_both links (prints front) (event ∷ prints rest)
     ∙ ap₂ (λ m n. m + n) a (number_cons links event (prints rest) ∙ ap₂ (λ c n. cond c 1 0 + n) other b)
 
@@ -165,17 +172,28 @@ module _ (t : Terms) (p : Planned) (part : List Event) where
   unfolding announced
   announces = lines_before t.shows.debug (codes "running: " ++ command_line p.cmd)
 
-  lines_behind : (status : Status) (stderr : List ℕ) → AreRunLines (behind t.shows false None status stderr)
+  lines_behind : (status : Status) (stderr : List ℕ) → AreRunLines (behind t.shows p.cmd false None status stderr)
   unfolding behind
   lines_behind status stderr =
-      lines_both (when (t.shows.warnings && (false || is_success status)) (map_warnings None stderr)) (when t.shows.debug (debug_line (ended_text status) ∷ []))
-      (lines_when (t.shows.warnings && (false || is_success status)) (map_warnings None stderr) (lines_warned (warnings None stderr))) (lines_before t.shows.debug (ended_text status))
+      let succeeded = false || is_success status in
+      let warned : List Notice = when (t.shows.warnings && succeeded) (map_warnings None stderr) in
+      let said : List Notice = when (t.shows.listens && succeeded) (map (warned_of p.cmd) (warnings None stderr)) in
+      let debug : List Notice = when t.shows.debug (debug_line (ended_text status) ∷ []) in
+      lines_both ((warned ++ said) ++ debug) []
+      (lines_both (warned ++ said) debug
+      (lines_both warned said (lines_when (t.shows.warnings && succeeded) (map_warnings None stderr) (lines_warned (warnings None stderr))) (lines_when (t.shows.listens && succeeded) _ (lines_said (warnings None stderr))))
+      (lines_before t.shows.debug (ended_text status)))
+      refl
+    where
+      lines_said : (texts : List (List ℕ)) → AreRunLines (map (warned_of p.cmd) texts)
+      lines_said [] = refl
+      lines_said (text ∷ texts) = lines_said texts
 
   refused_links : (error : RunError) → is_refusal error ≡ true → IsSilentRun t.shows p (Err error) part → number links part ≡ 0
   unfolding behind
   refused_links (ToolNotFound place) r h = between (announced t.shows p.cmd) [] (Missing p.role p.cmd) part announces refl refl h.1
   refused_links (Fails place status) r h =
-      between (announced t.shows p.cmd) (behind t.shows false None status h.2.1.stderr) _ part announces
+      between (announced t.shows p.cmd) (behind t.shows p.cmd false None status h.2.1.stderr) _ part announces
       (lines_behind status h.2.1.stderr) refl h.2.1.is
   refused_links (StartFault place) r h = absurd (cc)
   refused_links WaitFault r h = absurd (cc)
@@ -187,6 +205,6 @@ module _ (t : Terms) (p : Planned) (part : List Event) where
   pub tried_links : (refused : Bool) → Tried t p refused part → number links part ≡ 0
   unfolding behind
   tried_links false d =
-      between (announced t.shows p.cmd) (behind t.shows false None d.1.0 d.1.1.1.stderr) _ part announces
+      between (announced t.shows p.cmd) (behind t.shows p.cmd false None d.1.0 d.1.1.1.stderr) _ part announces
       (lines_behind d.1.0 d.1.1.1.stderr) refl d.1.1.1.is
   tried_links true d = refused_links d.0 d.1.0 d.1.1

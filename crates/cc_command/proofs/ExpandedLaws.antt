@@ -10,7 +10,7 @@ use Rattle.cc_host.specs.Question.{Look, Agrees, answers, Holds}
 use Rattle.cc_host.specs.declared.event.Event.{Event}
 use Rattle.cc_host.specs.declared.event.Event.TheVariants.{Started, Missing, Ran, Fault, Printed, Removed, Wrote, Copied, Here, Said, Made, Listed}
 use Rattle.cc_host.specs.declared.event.LineKind.{LineKind}
-use Rattle.cc_host.specs.declared.event.LineKind.TheVariants.{Warning, Expanded as ExpandedLine}
+use Rattle.cc_host.specs.declared.event.LineKind.TheVariants.{Warning, Rerun, Expanded as ExpandedLine}
 use Rattle.cc_host.specs.declared.event.Scope.TheVariants.{Build as Building, Probe as ForProbes}
 use Rattle.cc_host.specs.Status.{is_success}
 use Rattle.cc_host.specs.declared.question.Outcome.{Outcome as Verdicts}
@@ -20,6 +20,7 @@ use Rattle.cc_plan.specs.Asking.{is_of_children}
 use Rattle.cc_plan.specs.Plan.{tool_lines as warned_lines}
 use Rattle.cc_plan.specs.Questions.{PlanAsks}
 use Rattle.cc_plan.specs.Refusal.{first_of}
+use Rattle.cc_plan.specs.Reruns.{rerun_names}
 use Rattle.cc_run.specs.Part.{missing, missing_of}
 use Rattle.cc_run.specs.Run.{Run, nothing}
 use Rattle.cc_run.specs.declared.planned.Planned.{Planned}
@@ -32,12 +33,14 @@ use Rattle.cc_build.specs.Captured.{with_vars, Captures, CaptureEnds}
 use Rattle.cc_build.specs.Compiler.{tool_error, tool_steps}
 use Rattle.cc_build.specs.Course.{Course, CallsEnd}
 use Rattle.cc_build.specs.Error.{ErrorSeen, no_memory}
-use Rattle.cc_build.specs.Expand.{unexpanded_error, RunsTool, ExpandEnds}
+use Rattle.cc_build.specs.Expand.{unexpanded_error, RunsTool, ExpandEnds, ExpandsAndTells, ExpandedEnds}
 use Rattle.cc_build.specs.Failed.{HasFault, is_fault, ran_badly}
 use Rattle.cc_build.specs.Outcome.{Outcome, IsCausedBy}
 use Rattle.cc_build.specs.Promises.{NothingRuns, FaultsEnd}
 use Rattle.cc_build.specs.Shows.{shows_of}
-use Rattle.cc_build.specs.Stage.{calls}
+use Rattle.cc_build.specs.Stage.{calls, rerun_lines}
+use Rattle.cc_build.specs.Told.{expand_reads, name_steps}
+use Rattle.cc_build.specs.Way.{Firsts, chosen}
 use Rattle.cc_build.specs.Went.{terms, means}
 use Rattle.cc_build.proofs.ExpandLaws.{Shape, gives_shape, given_faultless, given_attempts, gives_none, shape_faults, shape_first}
 use Rattle.cc_build.proofs.Going.{halted_none, part_is}
@@ -49,7 +52,7 @@ use Rattle.cc_command.specs.Asks.{AsksWish}
 use Rattle.cc_command.specs.Expanded.{PrintsOutput, ExpandsSource, Expanding, ListsThenExpands, ExpandJobEnds, Expanded, expand_error, expansion_in, ignored_in, IsExpanded, IsFailed, IsSole, ExpandPromises}
 use Rattle.cc_command.specs.Promises.{PrintsLast, FaultsLast, IsLine}
 use Rattle.cc_command.specs.Read.{Wish, wish_of}
-use Rattle.cc_command.specs.Read.Wish.{Compiles, Archives, Generates, Expands, Shows}
+use Rattle.cc_command.specs.Read.Wish.{Compiles, Records, Archives, Generates, Expands, Shows}
 use Rattle.cc_command.specs.Shown.{listed_build}
 use Rattle.cc_command.specs.declared.ended.Ended.{Ended}
 use Rattle.cc_command.specs.declared.words.BadWord.{BadWord}
@@ -57,7 +60,8 @@ use Rattle.cc_command.specs.declared.words.Job.{Job}
 use Rattle.cc_command.specs.declared.words.Job.TheVariants.{Compile, Archive, Generate, Expand, Show}
 use Rattle.cc_command.proofs.ArchivedLaws.{says_last, says_line}
 use Rattle.cc_command.proofs.PromiseLaws.{faults_behind, known_memory}
-use Rattle.cc_command.proofs.ShownLaws.{IsChildless, is_told, told_printed, told_refused, or_false, neither, childless_then, childless_line, childless_run, calls_outcome, outcome_partly, partly_faults, stopped_fault}
+use Rattle.cc_build.proofs.PrintedLaws.{IsChildless, is_told, told_printed, told_refused, or_false, neither, childless_then, calls_outcome}
+use Rattle.cc_command.proofs.ShownLaws.{childless_line, childless_run, outcome_partly, partly_faults, stopped_fault}
 
 -- ---- parts in which no command is attempted
 
@@ -234,6 +238,55 @@ module _ (b : BuildSeen) (look : Look) where
         by_cause (inr (inr stopped)) = inr (inl (stopped_fault (tool_error b.config b.env look) (tool_steps b.config b.env lacks.0 look) part e (told_tool lacks.0) lacks.1.0 stopped))
     expand_known e part (inr (fine, inr ran)) = subst (IsKnown e) (sym ran.cut) (known_behind e ran.asking ran.run (gives_none (shows_of b.config b.env) p (ignored_in b look) ran.run e ran.gives))
 
+  -- ---- and the variables told of that were read for it
+
+  abbrev told_steps : Firsts → List Step
+  told_steps firsts = name_steps expand_reads b.config b.env firsts look
+
+  told_names : (firsts : Firsts) → list_all is_told (told_steps firsts) ≡ true
+  told_names firsts = told_printed Rerun (rerun_lines (chosen firsts.names (rerun_names expand_reads b.config b.env look)))
+
+  module _ (output : List ℕ) (r : Result (List ℕ) ErrorSeen) (part : List Event) (h : ExpandsAndTells b output r look part) where
+    telling_partly : IsPartly (told_steps h.told.0) h.telling
+    telling_partly = by_end r h.told.1.1
+      where
+        by_end : (r : Result (List ℕ) ErrorSeen) → Outcome None (told_steps h.told.0) h.telling r → IsPartly (told_steps h.told.0) h.telling
+        by_end (Ok v) o = partly_whole (told_steps h.told.0) h.telling o.1
+        by_end (Err e) o = o.0
+
+    telling_untried : IsChildless part → attempts h.telling ≡ []
+    telling_untried none = partly_untried (told_steps h.told.0) (told_names h.told.0) h.telling telling_partly (both_childless h.expanding h.telling part h.cut none).1
+
+    telling_faults : FaultsEnd part
+    telling_faults = subst FaultsEnd (sym h.cut) (then_faults h.expanding h.telling (expanded_faultless output h.expanding h.expands) (partly_faults (told_steps h.told.0) h.telling telling_partly))
+
+    telling_sole : IsChildless part → IsSole p part
+    telling_sole none = subst (IsSole p) (sym h.cut) (sole_then p h.expanding h.telling (expand_sole (Ok output) h.expanding h.expands (both_childless h.expanding h.telling part h.cut none).0) (telling_untried none))
+
+  tells_faults : (r : Result (List ℕ) ErrorSeen) (part : List Event) → ExpandedEnds b r look part → FaultsEnd part
+  tells_faults (Ok output) part h = telling_faults output (Ok output) part h
+  tells_faults (Err e) part (inl h) = expand_faults (Err e) part h
+  tells_faults (Err e) part (inr h) = telling_faults h.0 (Err e) part h.1
+
+  tells_sole : (r : Result (List ℕ) ErrorSeen) (part : List Event) → ExpandedEnds b r look part → IsChildless part → IsSole p part
+  tells_sole (Ok output) part h none = telling_sole output (Ok output) part h none
+  tells_sole (Err e) part (inl h) none = expand_sole (Err e) part h none
+  tells_sole (Err e) part (inr h) none = telling_sole h.0 (Err e) part h.1 none
+
+  tells_faultless : (output : List ℕ) (part : List Event) → ExpandedEnds b (Ok output) look part → list_any is_fault part ≡ false
+  tells_faultless output part h =
+      ap (list_any is_fault) h.cut ∙ list_any-append is_fault h.expanding h.telling
+      ∙ or_false (list_any is_fault h.expanding) (list_any is_fault h.telling) (expanded_faultless output h.expanding h.expands) (unstopped h.telling h.told.1.1.1.unstopped)
+
+  tells_known : expand_error b look ≡ None → (e : ErrorSeen) (part : List Event) → ExpandedEnds b (Err e) look part → IsKnown e part
+  tells_known accepted e part (inl h) = expand_known accepted e part h
+  tells_known accepted e part (inr h) = subst (IsKnown e) (sym h.1.cut) (known_behind e h.1.expanding h.1.telling (by_cause h.1.told.1.1.1))
+    where
+      by_cause : IsCausedBy None (told_steps h.1.told.0) h.1.telling e → IsKnown e h.1.telling
+      by_cause (inl memory) = inl memory
+      by_cause (inr (inl refused)) = absurd (let two : None ≡ Some e = refused in cc)
+      by_cause (inr (inr stopped)) = inr (inl (stopped_fault None (told_steps h.1.told.0) h.1.telling e (told_names h.1.told.0) h.1.told.1.1.0 stopped))
+
   -- ---- and its output printed
 
   abbrev line_steps : List ℕ → List Step
@@ -247,23 +300,23 @@ module _ (b : BuildSeen) (look : Look) where
     line_partly = outcome_partly None (line_steps k.output) k.printed r line_ends.0
 
     printed_faults : FaultsEnd part
-    printed_faults = subst FaultsEnd (sym k.cut) (then_faults k.run k.printed (expanded_faultless k.output k.run k.expands) (partly_faults (line_steps k.output) k.printed line_partly))
+    printed_faults = subst FaultsEnd (sym k.cut) (then_faults k.run k.printed (tells_faultless k.output k.run k.expands) (partly_faults (line_steps k.output) k.printed line_partly))
 
     printed_sole : IsChildless part → IsSole p part
-    printed_sole none = subst (IsSole p) (sym k.cut) (sole_then p k.run k.printed (expand_sole (Ok k.output) k.run k.expands (both_childless k.run k.printed part k.cut none).0) (partly_untried (line_steps k.output) refl k.printed line_partly line_ends.1))
+    printed_sole none = subst (IsSole p) (sym k.cut) (sole_then p k.run k.printed (tells_sole (Ok k.output) k.run k.expands (both_childless k.run k.printed part k.cut none).0) (partly_untried (line_steps k.output) refl k.printed line_partly line_ends.1))
 
   source_faults : (r : Result (Unit {0}) ErrorSeen) (part : List Event) → ExpandsSource b r look part → FaultsEnd part
   source_faults (Ok v) part k = printed_faults (Ok v) part k
-  source_faults (Err e) part (inl h) = expand_faults (Err e) part h
+  source_faults (Err e) part (inl h) = tells_faults (Err e) part h
   source_faults (Err e) part (inr k) = printed_faults (Err e) part k
 
   source_sole : (r : Result (Unit {0}) ErrorSeen) (part : List Event) → ExpandsSource b r look part → IsChildless part → IsSole p part
   source_sole (Ok v) part k none = printed_sole (Ok v) part k none
-  source_sole (Err e) part (inl h) none = expand_sole (Err e) part h none
+  source_sole (Err e) part (inl h) none = tells_sole (Err e) part h none
   source_sole (Err e) part (inr k) none = printed_sole (Err e) part k none
 
   source_known : expand_error b look ≡ None → (e : ErrorSeen) (part : List Event) → ExpandsSource b (Err e) look part → IsKnown e part
-  source_known accepted e part (inl h) = expand_known accepted e part h
+  source_known accepted e part (inl h) = tells_known accepted e part h
   source_known accepted e part (inr k) = subst (IsKnown e) (sym k.cut) (known_behind e k.run k.printed (by_cause (line_ends (Err e) part k).0.1))
     where
       by_cause : IsCausedBy None (line_steps k.output) k.printed e → IsKnown e k.printed
@@ -275,21 +328,23 @@ module _ (b : BuildSeen) (look : Look) where
 
 module _ (steady : Bool) (world : Question → Verdicts) (b : BuildSeen) where
   -- the source couldn't be expanded
-  pub unexpanding : (part : List Event) (e : ErrorSeen) → AsksByPlan steady world b part → IsChildless part → Holds (answers part) (λ look. ExpandEnds b (Err e) look part) → Expanding steady world b part (Err e)
+  pub unexpanding : (part : List Event) (e : ErrorSeen) → AsksByPlan steady world b part → IsChildless part → Holds (answers part) (λ look. ExpandedEnds b (Err e) look part) → Expanding steady world b part (Err e)
   unexpanding part e asks none h = record { asks = asks; childless = none; ends = λ look agree. inl (h.under look agree) }
 
   -- it was, and its output was printed so
-  pub expanding : (output : List ℕ) (run printed part : List Event) (r : Result (Unit {0}) ErrorSeen) → part ≡ run ++ printed → AsksByPlan steady world b run → IsChildless run → Holds (answers run) (λ look. ExpandEnds b (Ok output) look run) → question_events printed ≡ [] → CallsEnd (Prints ExpandedLine output ∷ []) printed r → Expanding steady world b part r
-  expanding output run printed part r cut asks none h silent prints = record {
+  pub expanding : b.config.repeat_lines ≡ true → (output : List ℕ) (run printed part : List Event) (r : Result (Unit {0}) ErrorSeen) → part ≡ run ++ printed → AsksByPlan steady world b run → IsChildless run → Holds (answers run) (λ look. ExpandedEnds b (Ok output) look run) → question_events printed ≡ [] → CallsEnd (Prints ExpandedLine output ∷ []) printed r → Expanding steady world b part r
+  expanding repeats output run printed part r cut asks none h silent prints = record {
     asks = subst (AsksByPlan steady world b) (sym cut) (asked_around steady world (probes b) (PlanAsks b.config b.env) [] run printed refl silent asks);
     childless = ap (list_any is_of_children) cut ∙ childless_then run printed none (calls_outcome b None (Prints ExpandedLine output ∷ []) printed r refl refl prints).1;
     ends = λ look agree.
+        let expands = h.under look (agrees_parts look run printed (subst (λ (l : List Event). Agrees look (answers l)) cut agree)).0 in
         source r look (record {
           output = output;
           run = run;
           printed = printed;
           cut = cut;
-          expands = h.under look (agrees_parts look run printed (subst (λ (l : List Event). Agrees look (answers l)) cut agree)).0;
+          expands = expands;
+          all = expands.told.1.0 repeats;
           prints = prints;
         });
   }
@@ -471,6 +526,7 @@ module _ (steady : Bool) (world : Question → Verdicts) (b : BuildSeen) where
             vars = h.vars;
             asking = tool.asking;
             run = tool.run;
+            telling = x.expands.telling;
             output = x.output;
             cut = whole_cut;
             warns_of_link = tool.found.0;
@@ -478,6 +534,7 @@ module _ (steady : Bool) (world : Question → Verdicts) (b : BuildSeen) where
             status = tool.gives.0;
             success = tool.gives.1.0;
             ran = tool.gives.1.1;
+            told = subst (λ (f : Firsts). IsWhole (name_steps expand_reads (heard_by h.vars).config (heard_by h.vars).env f look) x.expands.telling) x.all x.expands.told.1.1.1;
             alone = one;
           })
         where
@@ -488,10 +545,10 @@ module _ (steady : Bool) (world : Question → Verdicts) (b : BuildSeen) where
           x = h.expands
 
           fine : unexpanded_error (heard_by h.vars).config (heard_by h.vars).env ≡ None
-          fine = x.expands.0
+          fine = x.expands.expands.0
 
-          tool : RunsTool (heard_by h.vars) (Ok x.output) look x.run
-          tool = x.expands.1
+          tool : RunsTool (heard_by h.vars) (Ok x.output) look x.expands.expanding
+          tool = x.expands.expands.1
 
           line_event : List Event
           line_event = Printed ExpandedLine x.output ∷ []
@@ -501,10 +558,17 @@ module _ (steady : Bool) (world : Question → Verdicts) (b : BuildSeen) where
               let w = (x.prints (terms (shows_of b.config b.env) None None) (means 0 0 0 0)).1 in
               w.3.0 ∙ ap (λ l. w.0 ++ l) w.3.2.0 ∙ append-nil w.0 ∙ w.3.1.1.0 ∙ ap (λ e. e ∷ []) (printed_is w.3.1.0 ExpandedLine x.output w.3.1.1.1)
 
-          whole_cut : part ≡ Listed h.vars ∷ (tool.asking ++ (tool.run ++ Printed ExpandedLine x.output ∷ []))
-          whole_cut =
-              s.cut ∙ ap (λ l. s.run ++ l) says.1 ∙ append-nil s.run ∙ h.cut
-              ∙ ap (λ l. Listed h.vars ∷ l) (x.cut ∙ ap (λ l. l ++ x.printed) tool.cut ∙ append_assoc tool.asking tool.run x.printed ∙ ap (λ l. tool.asking ++ (tool.run ++ l)) printed_so)
+          behind : List Event
+          behind = x.expands.telling ++ Printed ExpandedLine x.output ∷ []
+
+          rest_cut : h.rest ≡ tool.asking ++ (tool.run ++ behind)
+          rest_cut =
+              x.cut ∙ ap (λ l. l ++ x.printed) x.expands.cut ∙ append_assoc x.expands.expanding x.expands.telling x.printed
+              ∙ ap (λ l. l ++ (x.expands.telling ++ x.printed)) tool.cut ∙ append_assoc tool.asking tool.run (x.expands.telling ++ x.printed)
+              ∙ ap (λ l. tool.asking ++ (tool.run ++ (x.expands.telling ++ l))) printed_so
+
+          whole_cut : part ≡ Listed h.vars ∷ (tool.asking ++ (tool.run ++ behind))
+          whole_cut = s.cut ∙ ap (λ l. s.run ++ l) says.1 ∙ append-nil s.run ∙ h.cut ∙ ap (λ l. Listed h.vars ∷ l) rest_cut
 
           childless_rest : IsChildless h.rest
           childless_rest = (both_childless (Listed h.vars ∷ []) h.rest s.run h.cut s.childless).1
@@ -512,11 +576,19 @@ module _ (steady : Bool) (world : Question → Verdicts) (b : BuildSeen) where
           childless_run_of : IsChildless x.run
           childless_run_of = (both_childless x.run x.printed h.rest x.cut childless_rest).0
 
+          childless_expanding : IsChildless x.expands.expanding
+          childless_expanding = (both_childless x.expands.expanding x.expands.telling x.run x.expands.cut childless_run_of).0
+
+          behind_untried : attempts behind ≡ []
+          behind_untried =
+              flat_map-append attempt_of x.expands.telling (Printed ExpandedLine x.output ∷ []) ∙ append-nil (attempts x.expands.telling)
+              ∙ telling_untried (heard_by h.vars) look x.output (Ok x.output) x.run x.expands childless_run_of
+
           one : attempts part ≡ to_attempt (expansion_in (heard_by h.vars) look) ∷ []
           one =
-              ap attempts whole_cut ∙ flat_map-append attempt_of tool.asking (tool.run ++ Printed ExpandedLine x.output ∷ [])
-              ∙ ap (λ l. l ++ attempts (tool.run ++ Printed ExpandedLine x.output ∷ [])) (asking_untried (heard_by h.vars) look (Ok x.output) x.run tool childless_run_of)
-              ∙ flat_map-append attempt_of tool.run (Printed ExpandedLine x.output ∷ []) ∙ append-nil (attempts tool.run)
+              ap attempts whole_cut ∙ flat_map-append attempt_of tool.asking (tool.run ++ behind)
+              ∙ ap (λ l. l ++ attempts (tool.run ++ behind)) (asking_untried (heard_by h.vars) look (Ok x.output) x.expands.expanding tool childless_expanding)
+              ∙ flat_map-append attempt_of tool.run behind ∙ ap (λ l. attempts tool.run ++ l) behind_untried ∙ append-nil (attempts tool.run)
               ∙ given_attempts (shows_of (heard_by h.vars).config (heard_by h.vars).env) (expansion_in (heard_by h.vars) look) (ignored_in (heard_by h.vars) look) tool.run x.output tool.gives
 
     promises : ExpandPromises steady world b part ended
@@ -530,6 +602,7 @@ module _ (steady : Bool) (world : Question → Verdicts) (b : BuildSeen) where
 -- the same of words
 pub expand_promises : (steady : Bool) (world : Question → Verdicts) (part : List Event) (ended : Ended) (words : Result Wish BadWord) → IfExpands words (λ b. Expanded steady world b part ended) → IfExpands words (λ b. ExpandPromises steady world b part ended)
 expand_promises steady world part ended (Ok (Compiles q)) s = tt
+expand_promises steady world part ended (Ok (Records path q)) s = tt
 expand_promises steady world part ended (Ok (Archives q)) s = tt
 expand_promises steady world part ended (Ok (Generates count)) s = tt
 expand_promises steady world part ended (Ok (Expands b)) s = promises steady world b part ended s
@@ -541,6 +614,7 @@ expand_promises steady world part ended (Err bad) s = tt
 -- words that were not read for want of memory
 pub expanded_wanting : (steady : Bool) (world : Question → Verdicts) (log : List Event) (words : Result Wish BadWord) (ended : Ended) → ended ≡ ended_wanting → IfExpands words (λ b. Expanded steady world b (since log log) ended)
 expanded_wanting steady world log (Ok (Compiles q)) ended is = tt
+expanded_wanting steady world log (Ok (Records path q)) ended is = tt
 expanded_wanting steady world log (Ok (Archives q)) ended is = tt
 expanded_wanting steady world log (Ok (Generates count)) ended is = tt
 expanded_wanting steady world log (Ok (Expands b)) ended is = unread steady world b (since log log) ended (part_is log log [] (sym (append-nil log))) is
@@ -548,23 +622,23 @@ expanded_wanting steady world log (Ok (Shows b)) ended is = tt
 expanded_wanting steady world log (Err bad) ended is = tt
 
 -- a job that expands a source leaves the course as it was
-pub of_expand : (job : Job) (build : BuildSeen) (ended : Ended) (look : Look) (part : List Event) (c : Course) → job ≡ Expand → c.after ≡ c.before → IsAnswerOf (wish_of job build) ended look part c
-of_expand (Compile name) build ended look part c is same = absurd (cc)
-of_expand (Archive name) build ended look part c is same = absurd (cc)
-of_expand (Generate count) build ended look part c is same = absurd (cc)
-of_expand Expand build ended look part c is same = same
-of_expand Show build ended look part c is same = absurd (cc)
+pub of_expand : (job : Job) (build : BuildSeen) (database : Option (List ℕ)) (ended : Ended) (look : Look) (part : List Event) (c : Course) → job ≡ Expand → c.after ≡ c.before → IsAnswerOf (wish_of job database build) ended look part c
+of_expand (Compile name) build database ended look part c is same = absurd (cc)
+of_expand (Archive name) build database ended look part c is same = absurd (cc)
+of_expand (Generate count) build database ended look part c is same = absurd (cc)
+of_expand Expand build database ended look part c is same = same
+of_expand Show build database ended look part c is same = absurd (cc)
 
-pub asks_expand : (job : Job) (build : BuildSeen) (steady : Bool) (world : Question → Verdicts) (part : List Event) (ended : Ended) → job ≡ Expand → Expanded steady world build part ended → AsksWish steady world (wish_of job build) part
-asks_expand (Compile name) build steady world part ended is s = absurd (cc)
-asks_expand (Archive name) build steady world part ended is s = absurd (cc)
-asks_expand (Generate count) build steady world part ended is s = absurd (cc)
-asks_expand Expand build steady world part ended is s = s.asks
-asks_expand Show build steady world part ended is s = absurd (cc)
+pub asks_expand : (job : Job) (build : BuildSeen) (database : Option (List ℕ)) (steady : Bool) (world : Question → Verdicts) (part : List Event) (ended : Ended) → job ≡ Expand → Expanded steady world build part ended → AsksWish steady world (wish_of job database build) part
+asks_expand (Compile name) build database steady world part ended is s = absurd (cc)
+asks_expand (Archive name) build database steady world part ended is s = absurd (cc)
+asks_expand (Generate count) build database steady world part ended is s = absurd (cc)
+asks_expand Expand build database steady world part ended is s = s.asks
+asks_expand Show build database steady world part ended is s = absurd (cc)
 
-pub expanded_expand : (job : Job) (build : BuildSeen) (steady : Bool) (world : Question → Verdicts) (part : List Event) (ended : Ended) → job ≡ Expand → Expanded steady world build part ended → IfExpands (Ok (wish_of job build)) (λ b. Expanded steady world b part ended)
-expanded_expand (Compile name) build steady world part ended is s = tt
-expanded_expand (Archive name) build steady world part ended is s = tt
-expanded_expand (Generate count) build steady world part ended is s = tt
-expanded_expand Expand build steady world part ended is s = s
-expanded_expand Show build steady world part ended is s = tt
+pub expanded_expand : (job : Job) (build : BuildSeen) (database : Option (List ℕ)) (steady : Bool) (world : Question → Verdicts) (part : List Event) (ended : Ended) → job ≡ Expand → Expanded steady world build part ended → IfExpands (Ok (wish_of job database build)) (λ b. Expanded steady world b part ended)
+expanded_expand (Compile name) build database steady world part ended is s = absurd (cc)
+expanded_expand (Archive name) build database steady world part ended is s = tt
+expanded_expand (Generate count) build database steady world part ended is s = tt
+expanded_expand Expand build database steady world part ended is s = s
+expanded_expand Show build database steady world part ended is s = tt

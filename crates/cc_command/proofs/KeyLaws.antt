@@ -1,5 +1,5 @@
 -- What the setter of a key does to the settings.
-use Rattle.std.proofs.Common.{◌≡◌, ◌⊎◌, inl, inr, ℕ, suc, ◌+◌, List, [], ◌∷◌, ◌++◌, length, Option, Some, None, Result, Ok, Err, MatchResult, IsErr, IfOk, OnOk, codes, Bool, true, false, not, ◌||◌, ◌==◌, nat_lt, if◌then◌else◌, unwrap_or, refl, sym, ap, subst, arith}
+use Rattle.std.proofs.Common.{◌≡◌, ◌⊎◌, inl, inr, ℕ, suc, ◌+◌, List, [], ◌∷◌, ◌++◌, length, Option, Some, None, Result, Ok, Err, MatchResult, IsErr, IfOk, OnOk, codes, Bool, true, false, not, ◌&&◌, ◌||◌, ◌==◌, nat_lt, if◌then◌else◌, unwrap_or, refl, sym, ◌∙◌, ap, subst, arith}
 use Rattle.std.specs.List.{list_any, before_first, after_first, position_or_len, prefix_len}
 use Rattle.cc_text.specs.Cuts.{key_and_value}
 use Rattle.cc_build.specs.Build.{BuildSeen}
@@ -7,7 +7,7 @@ use Rattle.cc_build.specs.Values.{lacks_equals, truth_text}
 use Prim.Native.String.{String}
 use Rattle.std.proofs.lemmas.Slice.Eq.{bytes_eq-Decides}
 use Rattle.cc_command.specs.Read.{is, cause_unless, is_number, is_truth, key_cause, is_text_key, is_item_key, is_choice_key, is_switch_key}
-use Rattle.cc_command.specs.SetsKey.{SetsKey}
+use Rattle.cc_command.specs.SetsKey.{SetsKey, SetsAmong}
 use Rattle.cc_command.specs.Step.{with_key}
 use Rattle.cc_command.specs.declared.words.WordCause.{WordCause}
 use Rattle.cc_command.specs.declared.words.WordCause.TheVariants.{UnknownKey, BadValue}
@@ -139,3 +139,20 @@ set_debug old new value on answer result truth is m done =
 pub no_debug : (old : BuildSeen) (value : List ℕ) → is_truth value ≡ false → SetsKey old old (codes "debug") value (Some BadValue)
 unfolding key_cause is_text_key is_item_key is_choice_key is_switch_key
 no_debug old value e = (rw e refl, λ h. absurd (cc))
+
+-- ---- the key of a database
+
+-- it sets nothing
+pub database_set : (recorded : Bool) (old : BuildSeen) (key value : List ℕ) → (recorded && is key "database") ≡ true → SetsAmong recorded old old key value None
+database_set recorded old key value asks =
+    let named : key ≡ codes "database" = (bytes_eq-Decides key (codes "database")).0 (both_true recorded (is key "database") asks) in
+    (rw asks refl, λ _. subst (λ (k : List ℕ). old ≡ with_key old k value) (sym named) refl)
+  where
+    both_true : (a b : Bool) → (a && b) ≡ true → b ≡ true
+    both_true true b h = h
+    both_true false b h = absurd (cc)
+
+-- another key is set as ever
+pub sets_among : {F : Type 0} (recorded : Bool) (old new : BuildSeen) (key value : List ℕ) (result : Result (Option WordCause) F) → (recorded && is key "database") ≡ false → IfOk result (SetsKey old new key value) → IfOk result (SetsAmong recorded old new key value)
+sets_among recorded old new key value (Ok cause) other s = (s.0 ∙ sym (ap (λ (b : Bool). if b then None else key_cause key value) other), s.1)
+sets_among recorded old new key value (Err e) other s = tt

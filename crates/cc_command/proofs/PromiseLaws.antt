@@ -40,20 +40,21 @@ use Rattle.cc_build.proofs.TurnLaws.{halted_turns, halted_bound}
 use Rattle.cc_command.specs.Answer.{Answers, AnswersBad, AnswersWords, IfCompiles, BuiltBy, Refused, PrintsLine, first_listing, heard, env_in, terms_of, terms_in, repeating, stages_of, error_of, error_line, word_line, is_wanting, told, ended_well, ended_refused, ended_wanting}
 use Rattle.cc_command.specs.Promises.{PrintsLast, IsLine, Begun, IsBegun, ArchivesBehind, CompilesFirst, EndsAlone, FaultsLast, EndsSpent, IsComplete, IsEnough}
 use Rattle.cc_command.specs.Read.{Request, Wish}
-use Rattle.cc_command.specs.Read.Wish.{Compiles, Archives, Generates, Expands, Shows}
+use Rattle.cc_command.specs.Read.Wish.{Compiles, Records, Archives, Generates, Expands, Shows}
 use Rattle.cc_command.specs.declared.ended.Ended.{Ended}
 use Rattle.cc_command.specs.declared.words.BadWord.{BadWord}
 use Rattle.cc_command.proofs.EnoughLaws.{planned_count, never_spent}
 
 -- ---- the headline
 
-built_of : (look : Look) (q : Request) (part : List Event) (ended : Ended) (c : Course) → Answers look q part ended c → ended.status ≡ 0 → BuiltBy look q part c
+pub built_of : (look : Look) (q : Request) (part : List Event) (ended : Ended) (c : Course) → Answers look q part ended c → ended.status ≡ 0 → BuiltBy look q part c
 built_of look q part ended c (inl well) zero_is = well.1.0
 built_of look q part ended c (inr (inl r)) zero_is = let s : ended.status ≡ 1 = ap (λ (x : Ended). x.status) r.is in absurd (cc)
 built_of look q part ended c (inr (inr wanting)) zero_is = let s : ended.status ≡ 3 = ap (λ (x : Ended). x.status) wanting.0 in absurd (cc)
 
 pub headline : (look : Look) (words : Result Wish BadWord) (part : List Event) (ended : Ended) (c : Course) → AnswersWords look words part ended c → IfCompiles words (λ request. ended.status ≡ 0 → BuiltBy look request part c)
 headline look (Ok (Compiles q)) part ended c a = built_of look q part ended c a
+headline look (Ok (Records path q)) part ended c a = tt
 headline look (Ok (Archives q)) part ended c a = tt
 headline look (Ok (Generates n)) part ended c a = tt
 headline look (Ok (Expands b)) part ended c a = tt
@@ -98,6 +99,7 @@ begun_of look q part ended c (inr (inr wanting)) = record {
 
 pub is_begun : (look : Look) (words : Result Wish BadWord) (part : List Event) (ended : Ended) (c : Course) → AnswersWords look words part ended c → IsBegun look words part c
 is_begun look (Ok (Compiles q)) part ended c a = begun_of look q part ended c a
+is_begun look (Ok (Records path q)) part ended c a = tt
 is_begun look (Ok (Archives q)) part ended c a = tt
 is_begun look (Ok (Generates n)) part ended c a = tt
 is_begun look (Ok (Expands b)) part ended c a = tt
@@ -205,6 +207,7 @@ order_of look q part c b before after event is archive =
 
 pub compiles_first : (look : Look) (words : Result Wish BadWord) (part : List Event) (ended : Ended) (c : Course) → AnswersWords look words part ended c → CompilesFirst look words part c
 compiles_first look (Ok (Compiles q)) part ended c a = order_of look q part c (begun_of look q part ended c a)
+compiles_first look (Ok (Records path q)) part ended c a = tt
 compiles_first look (Ok (Archives q)) part ended c a = tt
 compiles_first look (Ok (Generates n)) part ended c a = tt
 compiles_first look (Ok (Expands b)) part ended c a = tt
@@ -353,6 +356,7 @@ complete_of look q part ended c (inr (inr wanting)) valid failed fault rose = in
 
 pub complete : (look : Look) (words : Result Wish BadWord) (part : List Event) (ended : Ended) (c : Course) → AnswersWords look words part ended c → IsComplete look words part ended c
 complete look (Ok (Compiles q)) part ended c a = λ valid failed fault rose. complete_of look q part ended c a valid failed fault rose
+complete look (Ok (Records path q)) part ended c a = tt
 complete look (Ok (Archives q)) part ended c a = tt
 complete look (Ok (Generates n)) part ended c a = tt
 complete look (Ok (Expands b)) part ended c a = tt
@@ -389,6 +393,7 @@ enough_of look q part ended c (inr (inl r)) total p one patient enough spent =
 
 pub enough : (look : Look) (words : Result Wish BadWord) (part : List Event) (ended : Ended) (c : Course) → AnswersWords look words part ended c → IsEnough look words part ended c
 enough look (Ok (Compiles q)) part ended c a = enough_of look q part ended c a
+enough look (Ok (Records path q)) part ended c a = tt
 enough look (Ok (Archives q)) part ended c a = tt
 enough look (Ok (Generates n)) part ended c a = tt
 enough look (Ok (Expands b)) part ended c a = tt

@@ -1,13 +1,13 @@
 -- One word more for the settings.
-use Rattle.std.proofs.Common.{◌≡◌, ℕ, List, [], ◌∷◌, ◌++◌, Option, Some, None, Bool, true, false, map, refl, sym, ◌∙◌, ap, append-nil}
-use Rattle.std.proofs.lemmas.Grind.{fold-append}
+use Rattle.std.proofs.Common.{◌≡◌, ℕ, ◌+◌, ◌<◌, List, [], ◌∷◌, ◌++◌, length, take, get_or, Option, Some, None, Bool, true, false, if◌then◌else◌, map, refl, sym, ◌∙◌, ap, append-nil}
+use Rattle.std.proofs.lemmas.Grind.{fold-append, take_at_read}
 use Rattle.std.proofs.lemmas.List.{map-append}
 use Rattle.cc_text.specs.Cuts.{key_and_value}
 use Rattle.cc_plan.specs.declared.flags.BuildFlag.{BuildFlag}
 use Rattle.cc_plan.specs.declared.flags.Definition.{Definition}
 use Rattle.cc_plan.specs.declared.settings.BuildConfig.{BuildConfig}
 use Rattle.cc_build.specs.Build.{BuildSeen}
-use Rattle.cc_command.specs.Read.{is, by, by_either, values, pair_value, latest, latest_truth, latest_choice, latest_nonempty, latest_library, unless_empty, definition_of, variable_of, settings_of}
+use Rattle.cc_command.specs.Read.{is, by, by_either, values, pair_value, latest, latest_truth, latest_choice, latest_nonempty, latest_library, unless_empty, definition_of, variable_of, settings_of, database_in, database_of}
 use Rattle.cc_command.specs.Step.{added, with_pair, with_word}
 use Rattle.cc_command.proofs.FlagLaws.{flags_with, more_values, flags_more}
 
@@ -151,3 +151,34 @@ next_settings words word =
     (switch_more false (by "prefer_clang_cl_over_msvc") words word))
     (made_more variable_of (by "env") words word)
     ∙ values_of_pair (settings_of words) (key_and_value word)
+
+-- ---- the database
+
+-- the first of two, else the second
+abbrev pub or_before : Option (List ℕ) → Option (List ℕ) → Option (List ℕ)
+or_before (Some path) before = Some path
+or_before None before = before
+
+-- the path so far, with one word more
+pub database_more : (words : List (List ℕ)) (word : List ℕ) → database_of (words ++ word ∷ []) ≡ latest (database_of words) (pair_value (by "database") (key_and_value word))
+database_more words word = text_more (by "database") words word
+
+-- the path that a word asks for counts before what was
+pub last_asked : (before : Option (List ℕ)) (word : List ℕ) → latest before (pair_value (by "database") (key_and_value word)) ≡ or_before (database_in word) before
+last_asked before word = by_pair (key_and_value word)
+  where
+    by_value : (values : Bool) (value : List ℕ) → latest before (if values then value ∷ [] else []) ≡ or_before (latest None (if values then value ∷ [] else [])) before
+    by_value true value = refl
+    by_value false value = refl
+
+    by_pair : (pair : Option (List ℕ × List ℕ)) → latest before (pair_value (by "database") pair) ≡ or_before (latest None (pair_value (by "database") pair)) before
+    by_pair None = refl
+    by_pair (Some pair) = by_value (by "database" pair.0) pair.1
+
+module _ {A : Type 0} (text : A → List ℕ) (words : List A) (i : ℕ) (word : A) where
+  -- the path is that of the word, where it asks for one
+  pub path_here : (old new : Option (List ℕ)) → i < length words → word ≡ get_or words i word → old ≡ database_of (map text (take i words)) → new ≡ or_before (database_in (text word)) old → new ≡ database_of (map text (take (i + 1) words))
+  path_here old new within is before set =
+      let more : take (i + 1) words ≡ take i words ++ word ∷ [] = (take_at_read words i word within).1 ∙ ap (λ w. take i words ++ w ∷ []) (sym is) in
+      set ∙ sym (last_asked old (text word)) ∙ ap (λ p. latest p (pair_value (by "database") (key_and_value (text word)))) before
+      ∙ sym (database_more (map text (take i words)) (text word)) ∙ ap database_of (sym (ap (map text) more ∙ map-append text (take i words) (word ∷ [])))

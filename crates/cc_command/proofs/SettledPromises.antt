@@ -18,7 +18,7 @@ use Rattle.cc_build.specs.Promises.{NothingRuns}
 use Rattle.cc_command.specs.Answer.{AnswersBad, AnswersWords, asked_for, env_in, terms_in, repeating, stages_of, word_line}
 use Rattle.cc_command.specs.Promises.{Begun, IsLine, IsPrefix, Promises}
 use Rattle.cc_command.specs.Read.{Request, Wish}
-use Rattle.cc_command.specs.Read.Wish.{Compiles, Archives, Generates, Expands, Shows}
+use Rattle.cc_command.specs.Read.Wish.{Compiles, Records, Archives, Generates, Expands, Shows}
 use Rattle.cc_command.specs.declared.ended.Ended.{Ended}
 use Rattle.cc_command.specs.declared.words.BadWord.{BadWord}
 use Rattle.cc_command.proofs.PromiseLaws.{is_begun, compiles_first, complete, enough, line_of, heard_same, run_same, no_child}
@@ -48,6 +48,7 @@ attempts_same part run line cut printed =
     ap attempts cut ∙ flat_map-append attempt_of run line ∙ ap (λ l. attempts run ++ l) (no_attempt line printed) ∙ append-nil (attempts run)
 
 pub first : (look : Look) (words : Result Wish BadWord) (part : List Event) (ended : Ended) (c : Course) → AnswersWords look words part ended c → IsPrefix look words part
+first look (Ok (Records path q)) part ended c a = tt
 first look (Ok (Archives q)) part ended c a = tt
 first look (Ok (Generates n)) part ended c a = tt
 first look (Ok (Expands b)) part ended c a = tt
@@ -69,14 +70,14 @@ first look (Err bad) part ended c a = tt
 -- ---- all of it
 
 -- what an answer promises
-pub promised : {Z : Type 0} (words : List (String Z)) (ended : Ended) (look : Look) (part : List Event) (c : Course) → AnswersWords look (asked_for words) part ended c → Promises words ended look part c
+pub promised : (words : Result Wish BadWord) (ended : Ended) (look : Look) (part : List Event) (c : Course) → AnswersWords look words part ended c → Promises words ended look part c
 promised words ended look part c a = record {
   answer = a;
-  begun = is_begun look (asked_for words) part ended c a;
-  order = compiles_first look (asked_for words) part ended c a;
-  prefix = first look (asked_for words) part ended c a;
-  beside = beside look (asked_for words) part ended c a;
-  failed = failed look (asked_for words) part ended c a;
-  complete = complete look (asked_for words) part ended c a;
-  enough = enough look (asked_for words) part ended c a;
+  begun = is_begun look words part ended c a;
+  order = compiles_first look words part ended c a;
+  prefix = first look words part ended c a;
+  beside = beside look words part ended c a;
+  failed = failed look words part ended c a;
+  complete = complete look words part ended c a;
+  enough = enough look words part ended c a;
 }

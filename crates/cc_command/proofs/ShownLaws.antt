@@ -6,13 +6,13 @@ use Rattle.std.proofs.lemmas.List.{append_cancel_left}
 use Rattle.std.proofs.lemmas.List.Folds.{list_all-append, list_any-append}
 use Rattle.cc_host.specs.Command.{CommandSeen}
 use Rattle.cc_host.specs.Part.{Step, since, step_of, stop_of, calm_of, stops, calm, done, left, is_probing, Refuses, StopsAt, IsPartly, IsWhole}
-use Rattle.cc_host.specs.Part.Step.{Runs, Makes, Removes, Writes, Copies, Finds, Says as SaysMessage, Prints, Lists}
-use Rattle.cc_host.specs.Question.{Look, answers, Holds}
+use Rattle.cc_host.specs.Part.Step.{Runs, Makes, Removes, Writes, Copies, Finds, Prints, Lists}
+use Rattle.cc_host.specs.Question.{Look, Agrees, answers, Holds}
 use Rattle.cc_host.specs.declared.event.Event.{Event}
 use Rattle.cc_host.specs.declared.event.Event.TheVariants.{Started, Missing, Ended as EndedChild, Abandoned, Ran, Heard, Unread, Turn, Fault, Printed, Removed, Wrote, Copied, Here, Said, Made, Listed}
 use Rattle.cc_host.specs.declared.event.HostCall.{HostCall}
 use Rattle.cc_host.specs.declared.event.LineKind.{LineKind}
-use Rattle.cc_host.specs.declared.event.LineKind.TheVariants.{Warning, Shown as ShownLine}
+use Rattle.cc_host.specs.declared.event.LineKind.TheVariants.{Warning, Rerun, Shown as ShownLine}
 use Rattle.cc_host.specs.declared.event.Scope.TheVariants.{Build as Building, Probe as ForProbes}
 use Rattle.cc_host.specs.declared.event.Why.{Why}
 use Rattle.cc_host.specs.declared.question.Outcome.{Outcome as Verdicts}
@@ -24,6 +24,8 @@ use Rattle.cc_plan.specs.Plan.{prints, tool_lines as warned_lines}
 use Rattle.cc_plan.specs.Planned.{tool_of}
 use Rattle.cc_plan.specs.Questions.{PlanAsks, ArchiverAsks, RanlibAsks}
 use Rattle.cc_plan.specs.Refusal.{archiver_refusal, ranlib_refusal}
+use Rattle.cc_plan.specs.Reruns.{rerun_names}
+use Rattle.cc_plan.specs.declared.variables.Reads.{Reads}
 use Rattle.cc_run.specs.Run.{Run, run_after, run_from, nothing}
 use Rattle.cc_tool.proofs.Asides.{asked_around, asked_none, none_then}
 use Rattle.cc_tool.proofs.SomeLemmas.{some_agree}
@@ -32,7 +34,7 @@ use Rattle.cc_tool.specs.Probing.{is_asked}
 use Rattle.cc_tool.specs.Tool.{ToolSeen}
 use Rattle.cc_build.specs.Build.{BuildSeen, AsksByPlan, probes}
 use Rattle.cc_build.specs.Captured.{with_vars, Captures, CaptureEnds}
-use Rattle.cc_build.specs.Compiler.{tool_error, tool_steps, IsTool, ToolEnds}
+use Rattle.cc_build.specs.Compiler.{tool_error, tool_steps, IsTool, CompilerEnds}
 use Rattle.cc_build.specs.Course.{Course, CallsEnd}
 use Rattle.cc_build.specs.Error.{ErrorSeen, no_memory}
 use Rattle.cc_build.specs.Failed.{HasFault, is_fault}
@@ -41,21 +43,24 @@ use Rattle.cc_build.specs.Promises.{NothingRuns, FaultsEnd}
 use Rattle.cc_build.specs.Questions.{AsksOnly}
 use Rattle.cc_build.specs.Refusal.{plan_error}
 use Rattle.cc_build.specs.Shows.{shows_of}
-use Rattle.cc_build.specs.Stage.{Stage, calls}
+use Rattle.cc_build.specs.Stage.{Stage, calls, rerun_lines}
 use Rattle.cc_build.specs.Stage.Stage.{Calls}
 use Rattle.cc_build.specs.Stop.{stop_error, stopped_by}
-use Rattle.cc_build.specs.Tools.{IsArchiver, IsRanlib, LacksArchiver, LacksRanlib, AsksForArchiver, AsksForRanlib}
+use Rattle.cc_build.specs.Told.{compiler_reads, archiver_reads, ranlib_reads, name_steps, unless_refused, DoesAndTells}
+use Rattle.cc_build.specs.Tools.{IsArchiver, IsRanlib, archiver_error, ranlib_error, ArchiverEnds, RanlibEnds, AsksForArchiver, AsksForRanlib}
+use Rattle.cc_build.specs.Way.{Firsts}
 use Rattle.cc_build.specs.Went.{Terms, Means, terms, means, Went, Halted, Halts, IsOf}
 use Rattle.cc_build.proofs.Going.{part_is}
 use Rattle.cc_build.proofs.Outcomes.{outcome_then}
+use Rattle.cc_build.proofs.PrintedLaws.{is_told, told_prints, told_printed, IsRealFault, told_refused, fault_stops, fault_childless, fault_is, or_false, neither, IsChildless, childless_then, calls_outcome, asked_whole, refused_more, asked_refused}
 use Rattle.cc_command.specs.Answer.{AnswersError, IfShows, IsAnswerOf, ended_well, ended_wanting}
 use Rattle.cc_command.specs.Archived.{Says}
 use Rattle.cc_command.specs.Asks.{AsksWish}
 use Rattle.cc_command.specs.Lines.{shows}
 use Rattle.cc_command.specs.Promises.{PrintsLast, FaultsLast, IsLine}
 use Rattle.cc_command.specs.Read.{Wish, wish_of}
-use Rattle.cc_command.specs.Read.Wish.{Compiles, Archives, Generates, Expands, Shows}
-use Rattle.cc_command.specs.Shown.{tool_lines, Looks, lines_of, tools_steps, show_steps, show_error, AsksTools, Agree, Showing, listed_build, Shown, ShowPromises}
+use Rattle.cc_command.specs.Read.Wish.{Compiles, Records, Archives, Generates, Expands, Shows}
+use Rattle.cc_command.specs.Shown.{tool_lines, Looks, lines_of, read_steps, compiler_steps, tools_steps, show_steps, show_error, AsksTools, Agree, Showing, listed_build, Shown, ShowPromises}
 use Rattle.cc_command.specs.declared.ended.Ended.{Ended}
 use Rattle.cc_command.specs.declared.words.BadWord.{BadWord}
 use Rattle.cc_command.specs.declared.words.Job.{Job}
@@ -63,221 +68,32 @@ use Rattle.cc_command.specs.declared.words.Job.TheVariants.{Compile, Archive, Ge
 use Rattle.cc_command.proofs.ArchivedLaws.{no_tools_asked, says_last, says_line}
 use Rattle.cc_command.proofs.PromiseLaws.{any_before, faults_behind, known_memory}
 
--- ---- lines and listings
+-- ---- calls that tell of the variables that they read
 
--- a line is printed, or the variables are listed
-abbrev pub is_told : Step → Bool
-is_told (Prints kind bytes) = true
-is_told Lists = true
-is_told _ = false
+unless_is : (refusal : Option ErrorSeen) (names : List Step) → refusal ≡ None → unless_refused refusal names ≡ names
+unless_is None names h = refl
+unless_is (Some e) names h = absurd (cc)
 
-pub told_prints : (kind : LineKind) (lines : List (List ℕ)) → list_all is_told (map (Prints kind) lines) ≡ true
-told_prints kind [] = refl
-told_prints kind (line ∷ lines) = told_prints kind lines
+more_refused : (refusal wider : Option ErrorSeen) (steps names more : List Step) (part : List Event) (e : ErrorSeen) → (refusal ≡ Some e → wider ≡ Some e) → IsRefused refusal (steps ++ unless_refused refusal names) part e → IsRefused wider ((steps ++ names) ++ more) part e
+more_refused None wider steps names more part e carries h = refused_more None wider (steps ++ names) more part e carries h
+more_refused (Some x) wider steps names more part e carries h =
+    subst (λ (l : List Step). IsRefused wider l part e) (append_assoc steps [] (names ++ more) ∙ sym (append_assoc steps names more))
+    (refused_more (Some x) wider (steps ++ []) (names ++ more) part e carries h)
 
--- what refuses such a step is a fault, and no question's
-abbrev pub IsRealFault : Event → Type 0
-IsRealFault event = (call : HostCall) × (why : Why) × ((event ≡ Fault call why) × (is_probing call ≡ false))
-
-pub told_refused : (step : Step) (event : Event) → is_told step ≡ true → Refuses step event → IsRealFault event
-told_refused (Prints kind bytes) (Fault call why) told refuses = (call, why, (refl, ap is_probing refuses))
-told_refused Lists (Fault call why) told refuses = (call, why, (refl, ap is_probing refuses))
-told_refused (Prints kind bytes) event told refuses = absurd refuses
-told_refused Lists event told refuses = absurd refuses
-told_refused (Runs role cmd) event told refuses = absurd (cc)
-told_refused (Makes scope path) event told refuses = absurd (cc)
-told_refused (Removes path) event told refuses = absurd (cc)
-told_refused (Writes path bytes) event told refuses = absurd (cc)
-told_refused (Copies from to) event told refuses = absurd (cc)
-told_refused (Finds path) event told refuses = absurd (cc)
-told_refused (SaysMessage message) event told refuses = absurd (cc)
-
-fault_stops : (event : Event) → IsRealFault event → stop_of event ≡ event ∷ []
-fault_stops event f = ap stop_of f.2.0 ∙ by_test (is_probing f.0) f.2.1 ∙ ap (λ e. e ∷ []) (sym f.2.0)
-  where
-    by_test : (b : Bool) → b ≡ false → (if b then [] else Fault f.0 f.1 ∷ []) ≡ Fault f.0 f.1 ∷ []
-    by_test true h = absurd (cc)
-    by_test false h = refl
-
-fault_childless : (event : Event) → IsRealFault event → is_of_children event ≡ false
-fault_childless event f = ap is_of_children f.2.0
-
-fault_is : (event : Event) → IsRealFault event → is_fault event ≡ true
-fault_is event f = ap is_fault f.2.0 ∙ rw f.2.1 refl
-
--- an event that did a step ended no run, and is of no child
-stepped_calm : (event : Event) (step : Step) → step_of event ≡ step ∷ [] → IsKind event → stop_of event ≡ []
-stepped_calm event step did (inl k) = k.0
-stepped_calm event step did (inr (inl k)) = k.0
-stepped_calm event step did (inr (inr k)) = absurd (cc)
-
-stepped_childless : (event : Event) (step : Step) → step_of event ≡ step ∷ [] → is_of_children event ≡ false
-stepped_childless (Started id role cmd pipes held) step did = absurd (cc)
-stepped_childless (EndedChild id status) step did = absurd (cc)
-stepped_childless (Abandoned id) step did = absurd (cc)
-stepped_childless (Heard id bytes) step did = absurd (cc)
-stepped_childless (Unread id) step did = absurd (cc)
-stepped_childless (Turn count) step did = absurd (cc)
-stepped_childless event step did = refl
-
-pub or_false : (a b : Bool) → a ≡ false → b ≡ false → (a || b) ≡ false
-or_false true b p q = absurd (cc)
-or_false false b p q = q
-
-pub neither : (a b : Bool) → (a || b) ≡ false → (a ≡ false) × (b ≡ false)
-neither true b h = absurd (cc)
-neither false b h = (refl, h)
-
-abbrev pub IsChildless : List Event → Type 0
-IsChildless part = list_any is_of_children part ≡ false
-
-pub childless_then : (a b : List Event) → IsChildless a → IsChildless b → IsChildless (a ++ b)
-childless_then a b p q = list_any-append is_of_children a b ∙ or_false (list_any is_of_children a) (list_any is_of_children b) p q
-
--- ---- calls of the host that list and print
-
--- calls that are cut in two are the calls of their steps
-record Cut (steps : List Step) (before after : List Stage) : Type 0 where
-  front : List Step
-  back : List Step
-  whole : steps ≡ front ++ back
-  first : before ≡ calls front
-  second : after ≡ calls back
-
-cut_calls : (steps : List Step) (before after : List Stage) → calls steps ≡ before ++ after → Cut steps before after
-cut_calls steps [] after e = record { front = []; back = steps; whole = refl; first = refl; second = sym e }
-cut_calls [] (s ∷ before) after e = absurd (cc)
-cut_calls (step ∷ steps) (s ∷ before) after e =
-    let rest : calls steps ≡ before ++ after = cc in
-    let same : Calls step ≡ s = cc in
-    let k = cut_calls steps before after rest in
-    record { front = step ∷ k.front; back = k.back; whole = ap (λ l. step ∷ l) k.whole; first = ap (λ l. s ∷ l) k.first ∙ ap (λ v. v ∷ calls k.front) (sym same); second = k.second }
-
-module _ (t : Terms) where
-  went_whole : (steps : List Step) (part : List Event) (x y : Means) → Went t (calls steps) part x y → IsWhole steps part × IsChildless part
-  went_whole [] part x y w = (subst (λ (l : List Event). IsWhole [] l) (sym w.0) (record { done_all = refl; unstopped = refl }), ap (list_any is_of_children) w.0)
-  went_whole (step ∷ steps) part x y w =
-      let event = w.3.1.0 in
-      let calm_so : stop_of event ≡ [] = stepped_calm event step w.3.1.1.1 (kind_is event) in
-      let rest = went_whole steps w.1 w.2 y w.3.2 in
-      let one : IsWhole (step ∷ []) w.0 = subst (λ (l : List Event). IsWhole (step ∷ []) l) (sym w.3.1.1.0) (whole_step step event w.3.1.1.1 calm_so) in
-      let alone : IsChildless w.0 = ap (list_any is_of_children) w.3.1.1.0 ∙ or_false (is_of_children event) false (stepped_childless event step w.3.1.1.1) refl in (
-        subst (λ (l : List Event). IsWhole (step ∷ steps) l) (sym w.3.0) (whole_then (step ∷ []) steps w.0 w.1 one rest.0),
-        ap (list_any is_of_children) w.3.0 ∙ childless_then w.0 w.1 alone rest.1,
+module _ (reads : Reads) (b : BuildSeen) (repeats : b.config.repeat_lines ≡ true) (look : Look) (refusal : Option ErrorSeen) (steps : List Step) (part : List Event) where
+  -- it did its steps, and told of them all
+  told_whole : {T : Type 0} (x : T) → DoesAndTells reads b.config b.env refusal steps (Ok x) look part → (refusal ≡ None) × IsWhole (steps ++ read_steps reads b look) part
+  told_whole x h =
+      let names : List Step = name_steps reads b.config b.env h.0 look in (
+        h.1.1.0,
+        subst (λ (n : List Step). IsWhole (steps ++ n) part) (unless_is refusal names h.1.1.0 ∙ ap (λ (f : Firsts). name_steps reads b.config b.env f look) (h.1.0 repeats)) h.1.1.1,
       )
 
-  -- they were not all made, and the error has its cause
-  module _ (refusal : Option ErrorSeen) (steps : List Step) (told : list_all is_told steps ≡ true) (part : List Event) (e : ErrorSeen) (x y : Means) (h : Halted t None (calls steps) part e x y) where
-    abbrev k : Cut steps h.before h.after
-    k = cut_calls steps h.before h.after h.stages_are
-
-    front_done : IsWhole k.front h.front × IsChildless h.front
-    front_done = went_whole k.front h.front x h.y (subst (λ (s : List Stage). Went t s h.front x h.y) k.first h.went)
-
-    told_back : list_all is_told k.back ≡ true
-    told_back = (and_parts (list_all is_told k.front) (list_all is_told k.back) (sym (list_all-append is_told k.front k.back) ∙ sym (ap (list_all is_told) k.whole) ∙ told)).1
-
-    back_refused : (back : List Step) → list_all is_told back ≡ true → Halts t None (calls back) h.rest e h.y y → IsRefused refusal back h.rest e × IsChildless h.rest
-    back_refused [] all halts = absurd (let clash : false ≡ true = halts.3 in cc)
-    back_refused (step ∷ back) all (inl memory) =
-        (subst (λ (l : List Event). IsRefused refusal (step ∷ back) l e) (sym memory.1) (partly_none (step ∷ back), inl memory.0), ap (list_any is_of_children) memory.1)
-    back_refused (step ∷ back) all (inr stop) =
-        let event = stop.0 in
-        let fault = told_refused step event (and_parts (is_told step) (list_all is_told back) all).0 stop.1.1 in
-        let stops_so : stop_of event ≡ event ∷ [] = fault_stops event fault in
-        let cause : IsCausedBy refusal (step ∷ back) (event ∷ []) e = by_cause step back event stops_so stop.1.2 in (
-          subst (λ (l : List Event). IsRefused refusal (step ∷ back) l e) (sym stop.1.0) (partly_stop step back event stops_so stop.1.1, cause),
-          ap (list_any is_of_children) stop.1.0 ∙ or_false (is_of_children event) false (fault_childless event fault) refl,
-        )
-      where
-        by_cause : (step : Step) (back : List Step) (event : Event) → stop_of event ≡ event ∷ [] → IsOf (stop_error step event) e → IsCausedBy refusal (step ∷ back) (event ∷ []) e
-        by_cause step back event stops_so (inl memory) = inl memory
-        by_cause step back event stops_so (inr is) =
-            inr (inr (ap (λ l. stopped_by l (stops (event ∷ []))) (left_stop step back event stops_so) ∙ ap (λ s. stopped_by (step ∷ back) s) (stops_stop event stops_so) ∙ ap Some (sym is)))
-
-    halted_refused : IsRefused refusal steps part e × IsChildless part
-    halted_refused =
-        let rest = back_refused k.back told_back (subst (λ (s : List Stage). Halts t None s h.rest e h.y y) k.second h.halts) in
-        let both : IsRefused refusal (k.front ++ k.back) (h.front ++ h.rest) e = outcome_then {T = Unit {0}} refusal k.front k.back h.front h.rest (Err e) front_done.0 rest.0 in (
-          subst (λ (l : List Event). IsRefused refusal steps l e) (sym h.cut) (subst (λ (s : List Step). IsRefused refusal s (h.front ++ h.rest) e) (sym k.whole) both),
-          ap (list_any is_of_children) h.cut ∙ childless_then h.front h.rest front_done.1 rest.1,
-        )
-
--- calls that list and print have their outcome
-pub calls_outcome : {T : Type 0} (b : BuildSeen) (refusal : Option ErrorSeen) (steps : List Step) (part : List Event) (r : Result T ErrorSeen) → refusal ≡ None → list_all is_told steps ≡ true → CallsEnd steps part r → Outcome refusal steps part r × IsChildless part
-calls_outcome b refusal steps part (Ok v) none told ends =
-    let w = went_whole (terms (shows_of b.config b.env) None None) steps part (means 0 0 0 0) (means 0 0 0 0) (ends (terms (shows_of b.config b.env) None None) (means 0 0 0 0)).1 in
-    ((none, w.0), w.1)
-calls_outcome b refusal steps part (Err e) none told ends =
-    halted_refused (terms (shows_of b.config b.env) None None) refusal steps told part e (means 0 0 0 0) (means 0 0 0 0) (ends (terms (shows_of b.config b.env) None None) (means 0 0 0 0))
-
--- ---- questions
-
-asked_step : (event : Event) → is_asked event ≡ true → step_of event ≡ []
-asked_step (Ran role cmd pipes status out err) h = absurd (cc)
-asked_step (Removed path how) h = absurd (cc)
-asked_step (Wrote path bytes) h = absurd (cc)
-asked_step (Copied a_file to_file) h = absurd (cc)
-asked_step (Here here) h = absurd (cc)
-asked_step (Said message) h = absurd (cc)
-asked_step (Made Building path) h = absurd (cc)
-asked_step (Made ForProbes path) h = refl
-asked_step (Printed kind bytes) h = absurd (cc)
-asked_step (Listed vars) h = absurd (cc)
-asked_step event h = refl
-
-asked_stop : (event : Event) → is_asked event ≡ true → stop_of event ≡ []
-asked_stop (Ran role cmd pipes status out err) h = absurd (cc)
-asked_stop (Missing role cmd) h = absurd (cc)
-asked_stop (Fault call why) h = rw h refl
-asked_stop event h = refl
-
-asked_childless : (event : Event) → is_asked event ≡ true → is_of_children event ≡ false
-asked_childless (Started id role cmd pipes held) h = absurd (cc)
-asked_childless (EndedChild id status) h = absurd (cc)
-asked_childless (Abandoned id) h = absurd (cc)
-asked_childless (Heard id bytes) h = absurd (cc)
-asked_childless (Unread id) h = absurd (cc)
-asked_childless (Turn count) h = absurd (cc)
-asked_childless event h = refl
-
--- questions do no step, end no run, and start no child
-asked_whole : (part : List Event) → AsksOnly part → IsWhole [] part × IsChildless part
-asked_whole [] h = (record { done_all = refl; unstopped = refl }, refl)
-asked_whole (event ∷ part) h =
-    let k = and_parts (is_asked event) (list_all is_asked part) h in
-    let rest = asked_whole part k.1 in (
-      record {
-        done_all = ap (λ l. l ++ done part) (asked_step event k.0) ∙ rest.0.done_all;
-        unstopped = ap (λ l. l ++ stops part) (asked_stop event k.0) ∙ rest.0.unstopped;
-      },
-      or_false (is_of_children event) (list_any is_of_children part) (asked_childless event k.0) rest.1,
-    )
-
--- ---- outcomes of more steps
-
-stopped_more : (steps more : List Step) (events : List Event) (e : ErrorSeen) → stopped_by steps events ≡ Some e → stopped_by (steps ++ more) events ≡ Some e
-stopped_more [] more events e h = absurd (cc)
-stopped_more (step ∷ steps) more [] e h = absurd (cc)
-stopped_more (step ∷ steps) more (event ∷ []) e h = h
-stopped_more (step ∷ steps) more (event ∷ other ∷ events) e h = absurd (cc)
-
--- a run that was refused among these steps is refused among more, for a cause that has its refusal
-refused_more : (refusal wider : Option ErrorSeen) (steps more : List Step) (part : List Event) (e : ErrorSeen) → (refusal ≡ Some e → wider ≡ Some e) → IsRefused refusal steps part e → IsRefused wider (steps ++ more) part e
-refused_more refusal wider steps more part e carries r = (partly_more steps more part r.0, by_cause r.1)
-  where
-    by_cause : IsCausedBy refusal steps part e → IsCausedBy wider (steps ++ more) part e
-    by_cause (inl memory) = inl memory
-    by_cause (inr (inl refused)) = inr (inl (carries refused))
-    by_cause (inr (inr stopped)) = inr (inr (ap (λ l. stopped_by l (stops part)) (left_more steps more part r.0) ∙ stopped_more (left steps part) more (stops part) e stopped))
-
--- questions alone, and then a refusal by their answers
-asked_refused : (refusal : Option ErrorSeen) (steps : List Step) (part : List Event) (e : ErrorSeen) → AsksOnly part → (e ≡ no_memory) ⊎ (refusal ≡ Some e) → IsRefused refusal steps part e
-asked_refused refusal steps part e quiet cause = (partly_more [] steps part (partly_whole [] part (asked_whole part quiet).0), by_cause cause)
-  where
-    by_cause : (e ≡ no_memory) ⊎ (refusal ≡ Some e) → IsCausedBy refusal steps part e
-    by_cause (inl memory) = inl memory
-    by_cause (inr refused) = inr (inl refused)
+  -- it was refused, among more steps, for a cause that has its refusal
+  told_refused_so : (e : ErrorSeen) (wider : Option ErrorSeen) (more : List Step) → (refusal ≡ Some e → wider ≡ Some e) → DoesAndTells {T = Unit {0}} reads b.config b.env refusal steps (Err e) look part → IsRefused wider ((steps ++ read_steps reads b look) ++ more) part e
+  told_refused_so e wider more carries h =
+      subst (λ (f : Firsts). IsRefused wider ((steps ++ name_steps reads b.config b.env f look) ++ more) part e) (h.1.0 repeats)
+      (more_refused refusal wider steps (name_steps reads b.config b.env h.0 look) more part e carries h.1.1)
 
 -- ---- the tools, found one after another
 
@@ -303,124 +119,129 @@ module _ (steady : Bool) (world : Question → Verdicts) (b : BuildSeen) where
   all_found : (looks : Looks) → tool_error b.config b.env looks.compiler ≡ None → archiver_refusal b.config b.env looks.archiver ≡ None → ranlib_refusal b.config b.env looks.ranlib ≡ None → show_error b looks ≡ None
   all_found looks first second third = rw (first, second, third) refl
 
-  -- no compiler is found
-  pub no_compiler : (part : List Event) (e : ErrorSeen) → AsksByPlan steady world b part → IsChildless part → Holds (answers part) (λ look. ToolEnds {T = ToolSeen} b.config b.env (Err e) look part) → Showing steady world b part (Err e)
-  no_compiler part e asks childless ends = record {
-    asks = record {
-      compiler = part;
-      archiver = [];
-      ranlib = [];
-      rest = [];
-      cut = sym (append-nil part);
-      compiler_asks = asks;
-      archiver_asks = none_archiver;
-      ranlib_asks = none_ranlib;
-      quiet = refl;
-    };
-    childless = childless;
-    ends = λ looks agree.
-        let o = ends.under looks.compiler agree.0 in
-        (o.0, refused_more (tool_error b.config b.env looks.compiler) (show_error b looks) (tool_steps b.config b.env o.0 looks.compiler) (shows (lines_of b looks)) part e (first_refused looks e) o.1);
-  }
+  module _ (repeats : b.config.repeat_lines ≡ true) where
+    abbrev archiver_in : Looks → Option ErrorSeen
+    archiver_in looks = archiver_error b.config b.env looks.archiver
 
-  module _ (tool : ToolSeen) (compiler : List Event) (compiler_asks : AsksByPlan steady world b compiler) (no_child : IsChildless compiler) (is_tool : Holds (answers compiler) (λ look. IsTool b.config b.env tool look)) (found : Holds (answers compiler) (λ look. ToolEnds b.config b.env (Ok tool) look compiler)) where
-    -- no archiver is found
-    pub no_archiver : (archiver part : List Event) (e : ErrorSeen) → part ≡ compiler ++ archiver → AsksForArchiver steady world b archiver → AsksOnly archiver → Holds (answers archiver) (λ look. LacksArchiver b e look) → Showing steady world b part (Err e)
-    no_archiver archiver part e cut archiver_asks quiet lacks = record {
+    abbrev behind_ranlib : Looks → List Step
+    behind_ranlib looks = shows (lines_of b looks)
+
+    abbrev behind_archiver : Looks → List Step
+    behind_archiver looks = read_steps ranlib_reads b looks.ranlib ++ behind_ranlib looks
+
+    abbrev behind_compiler : Looks → List Step
+    behind_compiler looks = read_steps archiver_reads b looks.archiver ++ behind_archiver looks
+
+    -- no compiler is found, or a line of what was read for it couldn't be printed
+    pub no_compiler : (part : List Event) (e : ErrorSeen) → AsksByPlan steady world b part → IsChildless part → Holds (answers part) (λ look. CompilerEnds {T = ToolSeen} b.config b.env (Err e) look part) → Showing steady world b part (Err e)
+    no_compiler part e asks childless ends = record {
       asks = record {
-        compiler = compiler;
-        archiver = archiver;
+        compiler = part;
+        archiver = [];
         ranlib = [];
         rest = [];
-        cut = cut ∙ ap (λ l. compiler ++ l) (sym (append-nil archiver));
-        compiler_asks = compiler_asks;
-        archiver_asks = archiver_asks;
+        cut = sym (append-nil part);
+        compiler_asks = asks;
+        archiver_asks = none_archiver;
         ranlib_asks = none_ranlib;
         quiet = refl;
       };
-      childless = ap (list_any is_of_children) cut ∙ childless_then compiler archiver no_child (asked_whole archiver quiet).1;
+      childless = childless;
       ends = λ looks agree.
-          let o = found.under looks.compiler agree.0 in (
-            o.0,
-            subst (λ (l : List Event). Outcome {T = Unit {0}} (show_error b looks) (tools_steps b o.0 looks) l (Err e)) (sym cut)
-                (outcome_then {T = Unit {0}} (show_error b looks) (tool_steps b.config b.env o.0 looks.compiler) (shows (lines_of b looks)) compiler archiver (Err e) o.1.1
-                (asked_refused (show_error b looks) (shows (lines_of b looks)) archiver e quiet (by_cause looks o.1.0 (lacks.under looks.archiver agree.1)))),
-          );
+          let o = ends.under looks.compiler agree.0 in
+          (o.0, told_refused_so compiler_reads b repeats looks.compiler (tool_error b.config b.env looks.compiler) (tool_steps b.config b.env o.0 looks.compiler) part e (show_error b looks) (behind_compiler looks) (first_refused looks e) o.1);
     }
-      where
-        by_cause : (looks : Looks) → tool_error b.config b.env looks.compiler ≡ None → LacksArchiver b e looks.archiver → (e ≡ no_memory) ⊎ (show_error b looks ≡ Some e)
-        by_cause looks first (inl memory) = inl memory
-        by_cause looks first (inr refused) = inr (second_refused looks e first refused)
 
-    module _ (archiver_cmd : CommandSeen) (archiver : List Event) (archiver_asks : AsksForArchiver steady world b archiver) (quiet : AsksOnly archiver) (is_archiver : Holds (answers archiver) (λ look. IsArchiver b.config b.env archiver_cmd look)) where
-      -- no tool is found that writes an index
-      pub no_ranlib : (ranlib part : List Event) (e : ErrorSeen) → part ≡ compiler ++ (archiver ++ ranlib) → AsksForRanlib steady world b ranlib → AsksOnly ranlib → Holds (answers ranlib) (λ look. LacksRanlib b e look) → Showing steady world b part (Err e)
-      no_ranlib ranlib part e cut ranlib_asks quiet' lacks = record {
+    module _ (tool : ToolSeen) (compiler : List Event) (compiler_asks : AsksByPlan steady world b compiler) (no_child : IsChildless compiler) (is_tool : Holds (answers compiler) (λ look. IsTool b.config b.env tool look)) (found : Holds (answers compiler) (λ look. CompilerEnds b.config b.env (Ok tool) look compiler)) where
+      -- the compiler was found, and a part behind it comes so
+      behind_first : (looks : Looks) (rest part : List Event) (r : Result (Unit {0}) ErrorSeen) → part ≡ compiler ++ rest → Agrees looks.compiler (answers compiler) → ((tool_error b.config b.env looks.compiler ≡ None) → Outcome (show_error b looks) (behind_compiler looks) rest r) → (warns_of_link : Bool) × Outcome (show_error b looks) (tools_steps b warns_of_link looks) part r
+      behind_first looks rest part r cut agree so =
+          let o = found.under looks.compiler agree in
+          let whole = told_whole compiler_reads b repeats looks.compiler (tool_error b.config b.env looks.compiler) (tool_steps b.config b.env o.0 looks.compiler) compiler tool o.1 in (
+            o.0,
+            subst (λ (l : List Event). Outcome (show_error b looks) (tools_steps b o.0 looks) l r) (sym cut)
+                (outcome_then (show_error b looks) (compiler_steps b o.0 looks.compiler) (behind_compiler looks) compiler rest r whole.1 (so whole.0)),
+          )
+
+      -- no archiver is found
+      pub no_archiver : (archiver part : List Event) (e : ErrorSeen) → part ≡ compiler ++ archiver → AsksForArchiver steady world b archiver → IsChildless archiver → Holds (answers archiver) (λ look. ArchiverEnds {T = CommandSeen} b.config b.env (Err e) look archiver) → Showing steady world b part (Err e)
+      no_archiver archiver part e cut archiver_asks childless lacks = record {
         asks = record {
           compiler = compiler;
           archiver = archiver;
-          ranlib = ranlib;
+          ranlib = [];
           rest = [];
-          cut = cut ∙ ap (λ l. compiler ++ (archiver ++ l)) (sym (append-nil ranlib));
+          cut = cut ∙ ap (λ l. compiler ++ l) (sym (append-nil archiver));
           compiler_asks = compiler_asks;
           archiver_asks = archiver_asks;
-          ranlib_asks = ranlib_asks;
+          ranlib_asks = none_ranlib;
           quiet = refl;
         };
-        childless = ap (list_any is_of_children) cut ∙ childless_then compiler (archiver ++ ranlib) no_child (childless_then archiver ranlib (asked_whole archiver quiet).1 (asked_whole ranlib quiet').1);
+        childless = ap (list_any is_of_children) cut ∙ childless_then compiler archiver no_child childless;
         ends = λ looks agree.
-            let o = found.under looks.compiler agree.0 in
-            let found_archiver = is_archiver.under looks.archiver agree.1 in
-            let refusal = show_error b looks in
-            let lines = shows (lines_of b looks) in (
-              o.0,
-              subst (λ (l : List Event). Outcome {T = Unit {0}} refusal (tools_steps b o.0 looks) l (Err e)) (sym cut)
-                  (outcome_then {T = Unit {0}} refusal (tool_steps b.config b.env o.0 looks.compiler) lines compiler (archiver ++ ranlib) (Err e) o.1.1
-                  (outcome_then {T = Unit {0}} refusal [] lines archiver ranlib (Err e) (asked_whole archiver quiet).0
-                  (asked_refused refusal lines ranlib e quiet' (by_cause looks o.1.0 found_archiver.allowed (lacks.under looks.ranlib agree.2))))),
-            );
+            behind_first looks archiver part (Err e) cut agree.0
+            (λ first. told_refused_so archiver_reads b repeats looks.archiver (archiver_in looks) [] archiver e (show_error b looks) (behind_archiver looks) (second_refused looks e first) (lacks.under looks.archiver agree.1));
       }
-        where
-          by_cause : (looks : Looks) → tool_error b.config b.env looks.compiler ≡ None → archiver_refusal b.config b.env looks.archiver ≡ None → LacksRanlib b e looks.ranlib → (e ≡ no_memory) ⊎ (show_error b looks ≡ Some e)
-          by_cause looks first second (inl memory) = inl memory
-          by_cause looks first second (inr refused) = inr (third_refused looks e first second refused)
 
-      -- all are found, and their lines are printed
-      pub tools_shown : (ranlib_cmd : CommandSeen) (ranlib shown part : List Event) (r : Result (Unit {0}) ErrorSeen) → part ≡ compiler ++ (archiver ++ (ranlib ++ shown)) → AsksForRanlib steady world b ranlib → AsksOnly ranlib → Holds (answers ranlib) (λ look. IsRanlib b.config b.env ranlib_cmd look) → question_events shown ≡ [] → CallsEnd (shows (tool_lines tool archiver_cmd ranlib_cmd)) shown r → Showing steady world b part r
-      tools_shown ranlib_cmd ranlib shown part r cut ranlib_asks quiet' is_ranlib none printed = record {
-        asks = record {
-          compiler = compiler;
-          archiver = archiver;
-          ranlib = ranlib;
-          rest = shown;
-          cut = cut;
-          compiler_asks = compiler_asks;
-          archiver_asks = archiver_asks;
-          ranlib_asks = ranlib_asks;
-          quiet = none;
-        };
-        childless = ap (list_any is_of_children) cut ∙ childless_then compiler (archiver ++ (ranlib ++ shown)) no_child (childless_then archiver (ranlib ++ shown) (asked_whole archiver quiet).1 (childless_then ranlib shown (asked_whole ranlib quiet').1 (calls_outcome b None (shows (tool_lines tool archiver_cmd ranlib_cmd)) shown r refl (told_prints ShownLine (tool_lines tool archiver_cmd ranlib_cmd)) printed).1));
-        ends = λ looks agree.
-            let o = found.under looks.compiler agree.0 in
-            let found_tool : tool ≡ tool_of b.config b.env looks.compiler = is_tool.under looks.compiler agree.0 in
-            let found_archiver = is_archiver.under looks.archiver agree.1 in
-            let found_ranlib = is_ranlib.under looks.ranlib agree.2 in
-            let refusal = show_error b looks in
-            let lines = shows (lines_of b looks) in
-            let same : tool_lines tool archiver_cmd ranlib_cmd ≡ lines_of b looks =
-            ap (λ (v : ToolSeen). tool_lines v archiver_cmd ranlib_cmd) found_tool
-            ∙ ap (λ (v : CommandSeen). tool_lines (tool_of b.config b.env looks.compiler) v ranlib_cmd) found_archiver.is
-            ∙ ap (λ (v : CommandSeen). tool_lines (tool_of b.config b.env looks.compiler) (archiver_of b.config b.env looks.archiver).cmd v) found_ranlib.is in
-            let printed_so : CallsEnd lines shown r = subst (λ (l : List (List ℕ)). CallsEnd (shows l) shown r) same printed in
-            let allowed = all_found looks o.1.0 found_archiver.allowed found_ranlib.allowed in (
-              o.0,
-              subst (λ (l : List Event). Outcome refusal (tools_steps b o.0 looks) l r) (sym cut)
-                  (outcome_then refusal (tool_steps b.config b.env o.0 looks.compiler) lines compiler (archiver ++ (ranlib ++ shown)) r o.1.1
-                  (outcome_then refusal [] lines archiver (ranlib ++ shown) r (asked_whole archiver quiet).0
-                  (outcome_then refusal [] lines ranlib shown r (asked_whole ranlib quiet').0
-                  (calls_outcome b refusal lines shown r allowed (told_prints ShownLine (lines_of b looks)) printed_so).0))),
-            );
-      }
+      module _ (archiver_cmd : CommandSeen) (archiver : List Event) (archiver_asks : AsksForArchiver steady world b archiver) (no_child_of : IsChildless archiver) (is_archiver : Holds (answers archiver) (λ look. IsArchiver b.config b.env archiver_cmd look)) (found_archiver : Holds (answers archiver) (λ look. ArchiverEnds b.config b.env (Ok archiver_cmd) look archiver)) where
+        -- so was the archiver
+        behind_second : (looks : Looks) (rest part : List Event) (r : Result (Unit {0}) ErrorSeen) → part ≡ compiler ++ (archiver ++ rest) → Agrees looks.compiler (answers compiler) → Agrees looks.archiver (answers archiver) → ((tool_error b.config b.env looks.compiler ≡ None) → Outcome (show_error b looks) (behind_archiver looks) rest r) → (warns_of_link : Bool) × Outcome (show_error b looks) (tools_steps b warns_of_link looks) part r
+        behind_second looks rest part r cut agree agree_of so =
+            let whole = told_whole archiver_reads b repeats looks.archiver (archiver_in looks) [] archiver archiver_cmd (found_archiver.under looks.archiver agree_of) in
+            behind_first looks (archiver ++ rest) part r cut agree
+            (λ first. outcome_then (show_error b looks) (read_steps archiver_reads b looks.archiver) (behind_archiver looks) archiver rest r whole.1 (so first))
+
+        -- no tool is found that writes an index
+        pub no_ranlib : (ranlib part : List Event) (e : ErrorSeen) → part ≡ compiler ++ (archiver ++ ranlib) → AsksForRanlib steady world b ranlib → IsChildless ranlib → Holds (answers ranlib) (λ look. RanlibEnds {T = CommandSeen} b.config b.env (Err e) look ranlib) → Showing steady world b part (Err e)
+        no_ranlib ranlib part e cut ranlib_asks childless lacks = record {
+          asks = record {
+            compiler = compiler;
+            archiver = archiver;
+            ranlib = ranlib;
+            rest = [];
+            cut = cut ∙ ap (λ l. compiler ++ (archiver ++ l)) (sym (append-nil ranlib));
+            compiler_asks = compiler_asks;
+            archiver_asks = archiver_asks;
+            ranlib_asks = ranlib_asks;
+            quiet = refl;
+          };
+          childless = ap (list_any is_of_children) cut ∙ childless_then compiler (archiver ++ ranlib) no_child (childless_then archiver ranlib no_child_of childless);
+          ends = λ looks agree.
+              behind_second looks ranlib part (Err e) cut agree.0 agree.1
+              (λ first. told_refused_so ranlib_reads b repeats looks.ranlib (ranlib_error b.config b.env looks.ranlib) [] ranlib e (show_error b looks) (behind_ranlib looks) (third_refused looks e first (is_archiver.under looks.archiver agree.1).allowed) (lacks.under looks.ranlib agree.2));
+        }
+
+        -- all are found, and their lines are printed
+        pub tools_shown : (ranlib_cmd : CommandSeen) (ranlib shown part : List Event) (r : Result (Unit {0}) ErrorSeen) → part ≡ compiler ++ (archiver ++ (ranlib ++ shown)) → AsksForRanlib steady world b ranlib → IsChildless ranlib → Holds (answers ranlib) (λ look. IsRanlib b.config b.env ranlib_cmd look) → Holds (answers ranlib) (λ look. RanlibEnds b.config b.env (Ok ranlib_cmd) look ranlib) → question_events shown ≡ [] → CallsEnd (shows (tool_lines tool archiver_cmd ranlib_cmd)) shown r → Showing steady world b part r
+        tools_shown ranlib_cmd ranlib shown part r cut ranlib_asks childless is_ranlib found_ranlib none printed = record {
+          asks = record {
+            compiler = compiler;
+            archiver = archiver;
+            ranlib = ranlib;
+            rest = shown;
+            cut = cut;
+            compiler_asks = compiler_asks;
+            archiver_asks = archiver_asks;
+            ranlib_asks = ranlib_asks;
+            quiet = none;
+          };
+          childless = ap (list_any is_of_children) cut ∙ childless_then compiler (archiver ++ (ranlib ++ shown)) no_child (childless_then archiver (ranlib ++ shown) no_child_of (childless_then ranlib shown childless (calls_outcome b None (shows (tool_lines tool archiver_cmd ranlib_cmd)) shown r refl (told_prints ShownLine (tool_lines tool archiver_cmd ranlib_cmd)) printed).1));
+          ends = λ looks agree.
+              let found_tool : tool ≡ tool_of b.config b.env looks.compiler = is_tool.under looks.compiler agree.0 in
+              let the_archiver = is_archiver.under looks.archiver agree.1 in
+              let the_ranlib = is_ranlib.under looks.ranlib agree.2 in
+              let refusal = show_error b looks in
+              let lines = shows (lines_of b looks) in
+              let same : tool_lines tool archiver_cmd ranlib_cmd ≡ lines_of b looks =
+              ap (λ (v : ToolSeen). tool_lines v archiver_cmd ranlib_cmd) found_tool
+              ∙ ap (λ (v : CommandSeen). tool_lines (tool_of b.config b.env looks.compiler) v ranlib_cmd) the_archiver.is
+              ∙ ap (λ (v : CommandSeen). tool_lines (tool_of b.config b.env looks.compiler) (archiver_of b.config b.env looks.archiver).cmd v) the_ranlib.is in
+              let printed_so : CallsEnd lines shown r = subst (λ (l : List (List ℕ)). CallsEnd (shows l) shown r) same printed in
+              let whole = told_whole ranlib_reads b repeats looks.ranlib (ranlib_error b.config b.env looks.ranlib) [] ranlib ranlib_cmd (found_ranlib.under looks.ranlib agree.2) in
+              behind_second looks (ranlib ++ shown) part r cut agree.0 agree.1
+              (λ first. outcome_then refusal (read_steps ranlib_reads b looks.ranlib) lines ranlib shown r whole.1
+              (calls_outcome b refusal lines shown r (all_found looks first the_archiver.allowed the_ranlib.allowed) (told_prints ShownLine (lines_of b looks)) printed_so).0);
+        }
 
   -- ---- behind the listing of the variables
 
@@ -436,18 +257,15 @@ module _ (steady : Bool) (world : Question → Verdicts) (b : BuildSeen) where
     run = listing;
     line = line;
     cut = cut;
-    childless = (refused_so None h).1;
+    childless = (refused_so h).1;
     result = Err e;
-    ends = λ looks agree. (true, refused_more None (show_error (listed_build b part) looks) (Lists ∷ []) (tools_steps (listed_build b part) true looks) listing e (λ no. absurd (let clash : None ≡ Some e = no in cc)) (refused_so None h).0);
+    ends = λ looks agree. (true, refused_more None (show_error (listed_build b part) looks) (Lists ∷ []) (tools_steps (listed_build b part) true looks) listing e (λ no. absurd (let clash : None ≡ Some e = no in cc)) (refused_so h).0);
     says = says;
   }
     where
-      refused_so : (refusal : Option ErrorSeen) → CaptureEnds listing (Err e) → IsRefused refusal (Lists ∷ []) listing e × IsChildless listing
-      refused_so refusal (inl k) =
-          halted_refused (terms (shows_of b.config b.env) None None) refusal (Lists ∷ []) refl listing e (means 0 0 0 0) (means 0 0 0 0) (k (terms (shows_of b.config b.env) None None) (means 0 0 0 0))
-      refused_so refusal (inr k) =
-          let w = went_whole (terms (shows_of b.config b.env) None None) (Lists ∷ []) listing (means 0 0 0 0) (means 0 0 0 0) (k.1 (terms (shows_of b.config b.env) None None) (means 0 0 0 0)).1 in
-          ((partly_whole (Lists ∷ []) listing w.0, inl k.0), w.1)
+      refused_so : CaptureEnds listing (Err e) → IsRefused None (Lists ∷ []) listing e × IsChildless listing
+      refused_so (inl k) = calls_outcome {T = Unit {0}} b None (Lists ∷ []) listing (Err e) refl refl k
+      refused_so (inr k) = let o = calls_outcome {T = Unit {0}} b None (Lists ∷ []) listing (Ok tt) refl refl k.1 in ((partly_whole (Lists ∷ []) listing o.0.1, inl k.0), o.1)
 
   -- memory for the words was wanted, and nothing was done
   unread : (part : List Event) (ended : Ended) → part ≡ [] → ended ≡ ended_wanting → Shown steady world b part ended
@@ -581,16 +399,16 @@ pub outcome_partly : (refusal : Option ErrorSeen) (steps : List Step) (part : Li
 outcome_partly refusal steps part (Ok done) o = partly_whole steps part o.1
 outcome_partly refusal steps part (Err e) o = o.0
 
-pub told_printed : (kind : LineKind) (lines : List (List ℕ)) → list_all is_told (prints kind lines) ≡ true
-unfolding prints
-told_printed kind [] = refl
-told_printed kind (line ∷ lines) = told_printed kind lines
+told_both : (a b : List Step) → list_all is_told a ≡ true → list_all is_told b ≡ true → list_all is_told (a ++ b) ≡ true
+told_both a b p q = list_all-append is_told a b ∙ ap (λ v. v && list_all is_told b) p ∙ q
 
 -- all that is shown are lines and a listing
 told_all : (b : BuildSeen) (warns_of_link : Bool) (looks : Looks) → list_all is_told (show_steps b warns_of_link looks) ≡ true
 told_all b warns_of_link looks =
-    list_all-append is_told (tool_steps b.config b.env warns_of_link looks.compiler) (shows (lines_of b looks))
-    ∙ ap (λ v. v && list_all is_told (shows (lines_of b looks))) (told_printed Warning (warned_lines b.config b.env warns_of_link looks.compiler)) ∙ told_prints ShownLine (lines_of b looks)
+    told_both (compiler_steps b warns_of_link looks.compiler) (read_steps archiver_reads b looks.archiver ++ (read_steps ranlib_reads b looks.ranlib ++ shows (lines_of b looks)))
+    (told_both (tool_steps b.config b.env warns_of_link looks.compiler) (read_steps compiler_reads b looks.compiler) (told_printed Warning (warned_lines b.config b.env warns_of_link looks.compiler)) (told_printed Rerun (rerun_lines (rerun_names compiler_reads b.config b.env looks.compiler))))
+    (told_both (read_steps archiver_reads b looks.archiver) (read_steps ranlib_reads b looks.ranlib ++ shows (lines_of b looks)) (told_printed Rerun (rerun_lines (rerun_names archiver_reads b.config b.env looks.archiver)))
+    (told_both (read_steps ranlib_reads b looks.ranlib) (shows (lines_of b looks)) (told_printed Rerun (rerun_lines (rerun_names ranlib_reads b.config b.env looks.ranlib))) (told_prints ShownLine (lines_of b looks))))
 
 -- a step that was refused faulted
 pub stopped_fault : (refusal : Option ErrorSeen) (steps : List Step) (part : List Event) (e : ErrorSeen) → list_all is_told steps ≡ true → IsPartly steps part → stopped_by (left steps part) (stops part) ≡ Some e → HasFault part
@@ -671,6 +489,7 @@ module _ (steady : Bool) (world : Question → Verdicts) (b : BuildSeen) (part :
 -- the same of words
 pub show_promises : (steady : Bool) (world : Question → Verdicts) (part : List Event) (ended : Ended) (words : Result Wish BadWord) → IfShows words (λ b. Shown steady world b part ended) → IfShows words (λ b. ShowPromises steady world b part ended)
 show_promises steady world part ended (Ok (Compiles q)) s = tt
+show_promises steady world part ended (Ok (Records path q)) s = tt
 show_promises steady world part ended (Ok (Archives q)) s = tt
 show_promises steady world part ended (Ok (Generates count)) s = tt
 show_promises steady world part ended (Ok (Expands b)) s = tt
@@ -682,6 +501,7 @@ show_promises steady world part ended (Err bad) s = tt
 -- words that were not read for want of memory
 pub shown_wanting : (steady : Bool) (world : Question → Verdicts) (log : List Event) (words : Result Wish BadWord) (ended : Ended) → ended ≡ ended_wanting → IfShows words (λ b. Shown steady world b (since log log) ended)
 shown_wanting steady world log (Ok (Compiles q)) ended is = tt
+shown_wanting steady world log (Ok (Records path q)) ended is = tt
 shown_wanting steady world log (Ok (Archives q)) ended is = tt
 shown_wanting steady world log (Ok (Generates count)) ended is = tt
 shown_wanting steady world log (Ok (Expands b)) ended is = tt
@@ -689,23 +509,23 @@ shown_wanting steady world log (Ok (Shows b)) ended is = unread steady world b (
 shown_wanting steady world log (Err bad) ended is = tt
 
 -- a job that shows tools leaves the course as it was
-pub of_show : (job : Job) (build : BuildSeen) (ended : Ended) (look : Look) (part : List Event) (c : Course) → job ≡ Show → c.after ≡ c.before → IsAnswerOf (wish_of job build) ended look part c
-of_show (Compile name) build ended look part c is same = absurd (cc)
-of_show (Archive name) build ended look part c is same = absurd (cc)
-of_show (Generate count) build ended look part c is same = absurd (cc)
-of_show Expand build ended look part c is same = absurd (cc)
-of_show Show build ended look part c is same = same
+pub of_show : (job : Job) (build : BuildSeen) (database : Option (List ℕ)) (ended : Ended) (look : Look) (part : List Event) (c : Course) → job ≡ Show → c.after ≡ c.before → IsAnswerOf (wish_of job database build) ended look part c
+of_show (Compile name) build database ended look part c is same = absurd (cc)
+of_show (Archive name) build database ended look part c is same = absurd (cc)
+of_show (Generate count) build database ended look part c is same = absurd (cc)
+of_show Expand build database ended look part c is same = absurd (cc)
+of_show Show build database ended look part c is same = same
 
-pub asks_show : (job : Job) (build : BuildSeen) (steady : Bool) (world : Question → Verdicts) (part : List Event) (ended : Ended) → job ≡ Show → Shown steady world build part ended → AsksWish steady world (wish_of job build) part
-asks_show (Compile name) build steady world part ended is s = absurd (cc)
-asks_show (Archive name) build steady world part ended is s = absurd (cc)
-asks_show (Generate count) build steady world part ended is s = absurd (cc)
-asks_show Expand build steady world part ended is s = absurd (cc)
-asks_show Show build steady world part ended is s = s.asks
+pub asks_show : (job : Job) (build : BuildSeen) (database : Option (List ℕ)) (steady : Bool) (world : Question → Verdicts) (part : List Event) (ended : Ended) → job ≡ Show → Shown steady world build part ended → AsksWish steady world (wish_of job database build) part
+asks_show (Compile name) build database steady world part ended is s = absurd (cc)
+asks_show (Archive name) build database steady world part ended is s = absurd (cc)
+asks_show (Generate count) build database steady world part ended is s = absurd (cc)
+asks_show Expand build database steady world part ended is s = absurd (cc)
+asks_show Show build database steady world part ended is s = s.asks
 
-pub shown_show : (job : Job) (build : BuildSeen) (steady : Bool) (world : Question → Verdicts) (part : List Event) (ended : Ended) → job ≡ Show → Shown steady world build part ended → IfShows (Ok (wish_of job build)) (λ b. Shown steady world b part ended)
-shown_show (Compile name) build steady world part ended is s = tt
-shown_show (Archive name) build steady world part ended is s = tt
-shown_show (Generate count) build steady world part ended is s = tt
-shown_show Expand build steady world part ended is s = tt
-shown_show Show build steady world part ended is s = s
+pub shown_show : (job : Job) (build : BuildSeen) (database : Option (List ℕ)) (steady : Bool) (world : Question → Verdicts) (part : List Event) (ended : Ended) → job ≡ Show → Shown steady world build part ended → IfShows (Ok (wish_of job database build)) (λ b. Shown steady world b part ended)
+shown_show (Compile name) build database steady world part ended is s = absurd (cc)
+shown_show (Archive name) build database steady world part ended is s = tt
+shown_show (Generate count) build database steady world part ended is s = tt
+shown_show Expand build database steady world part ended is s = tt
+shown_show Show build database steady world part ended is s = s

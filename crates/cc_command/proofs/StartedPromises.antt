@@ -24,7 +24,7 @@ use Rattle.cc_build.proofs.StopLaws.{planned_plain}
 use Rattle.cc_command.specs.Answer.{AnswersWords, Refused, env_in, terms_in, repeating, stages_of, error_of, error_line}
 use Rattle.cc_command.specs.Promises.{Begun, IsLine, IsBeside, StartsAll}
 use Rattle.cc_command.specs.Read.{Request, Wish}
-use Rattle.cc_command.specs.Read.Wish.{Compiles, Archives, Generates, Expands, Shows}
+use Rattle.cc_command.specs.Read.Wish.{Compiles, Records, Archives, Generates, Expands, Shows}
 use Rattle.cc_command.specs.declared.ended.Ended.{Ended}
 use Rattle.cc_command.specs.declared.words.BadWord.{BadWord}
 use Rattle.cc_command.proofs.PromiseLaws.{is_begun, line_of, heard_same, any_before, same_error}
@@ -61,6 +61,7 @@ beside_of look q part c b many =
 
 pub beside : (look : Look) (words : Result Wish BadWord) (part : List Event) (ended : Ended) (c : Course) → AnswersWords look words part ended c → IsBeside words part c
 beside look (Ok (Compiles q)) part ended c a = beside_of look q part c (is_begun look (Ok (Compiles q)) part ended c a)
+beside look (Ok (Records path q)) part ended c a = tt
 beside look (Ok (Archives q)) part ended c a = tt
 beside look (Ok (Generates n)) part ended c a = tt
 beside look (Ok (Expands b)) part ended c a = tt
@@ -106,6 +107,7 @@ failed look (Ok (Compiles q)) part ended c (inr (inr wanting)) = λ e many is ba
     let s : ended.status ≡ 3 = ap (λ (x : Ended). x.status) wanting.0 in
     let r : ended.status ≡ 1 = ap (λ (x : Ended). x.status) is in
     absurd (cc)
+failed look (Ok (Records path q)) part ended c a = tt
 failed look (Ok (Archives q)) part ended c a = tt
 failed look (Ok (Generates n)) part ended c a = tt
 failed look (Ok (Expands b)) part ended c a = tt

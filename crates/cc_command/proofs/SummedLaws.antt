@@ -1,5 +1,5 @@
 -- What the program answers to a large run from a number, and what follows from it.
-use Rattle.std.proofs.Common.{◌≡◌, ◌⊎◌, inl, inr, ◌∙◌, refl, sym, ap, subst, ℕ, ◌+◌, ◌≤◌, List, [], ◌∷◌, ◌++◌, map, Bool, true, false, ◌||◌, Some, None, Result, Ok, Err, append-nil, if◌then◌else◌}
+use Rattle.std.proofs.Common.{◌≡◌, ◌⊎◌, inl, inr, ◌∙◌, refl, sym, ap, subst, ℕ, ◌+◌, ◌≤◌, List, [], ◌∷◌, ◌++◌, map, Bool, true, false, ◌||◌, Option, Some, None, Result, Ok, Err, append-nil, if◌then◌else◌}
 use Rattle.std.specs.Prelude.{◌*◌}
 use Rattle.std.specs.List.{list_any, flat_map}
 use Rattle.std.proofs.lemmas.List.Folds.{list_any-append}
@@ -37,7 +37,7 @@ use Rattle.cc_command.specs.Generated.{gen_build, gen_course, GeneratedRun, summ
 use Rattle.cc_command.specs.Promises.{PrintsLast, FaultsLast, IsLine}
 use Rattle.cc_command.specs.Asks.{AsksWish}
 use Rattle.cc_command.specs.Read.{Wish, wish_of}
-use Rattle.cc_command.specs.Read.Wish.{Compiles, Archives, Generates, Expands, Shows}
+use Rattle.cc_command.specs.Read.Wish.{Compiles, Records, Archives, Generates, Expands, Shows}
 use Rattle.cc_command.specs.Lines.{shows}
 use Rattle.cc_command.specs.Summary.{log_lines, SumsUp, Concludes, Summed, Sums, BuiltAlone, SpentAlone, GeneratePromises}
 use Rattle.cc_command.specs.declared.ended.Ended.{Ended}
@@ -272,6 +272,7 @@ module _ (count turned : ℕ) (part : List Event) (ended : Ended) where
 -- the same of words
 pub generate_promises : (turned : ℕ) (part : List Event) (ended : Ended) (words : Result Wish BadWord) → IfGenerates words (λ count. Sums count turned part ended) → IfGenerates words (λ count. GeneratePromises count turned part ended)
 generate_promises turned part ended (Ok (Compiles q)) s = tt
+generate_promises turned part ended (Ok (Records path q)) s = tt
 generate_promises turned part ended (Ok (Archives q)) s = tt
 generate_promises turned part ended (Ok (Generates count)) s = sums_promise count turned part ended s
 generate_promises turned part ended (Ok (Expands b)) s = tt
@@ -283,6 +284,7 @@ generate_promises turned part ended (Err bad) s = tt
 -- words that were not read for want of memory
 pub sums_wanting : (turned : ℕ) (log : List Event) (words : Result Wish BadWord) (ended : Ended) → ended ≡ ended_wanting → IfGenerates words (λ count. Sums count turned (since log log) ended)
 sums_wanting turned log (Ok (Compiles q)) ended is = tt
+sums_wanting turned log (Ok (Records path q)) ended is = tt
 sums_wanting turned log (Ok (Archives q)) ended is = tt
 sums_wanting turned log (Ok (Generates count)) ended is = inr (is, part_is log log [] (sym (append-nil log)))
 sums_wanting turned log (Ok (Expands b)) ended is = tt
@@ -290,23 +292,23 @@ sums_wanting turned log (Ok (Shows b)) ended is = tt
 sums_wanting turned log (Err bad) ended is = tt
 
 -- a job that generates leaves the course as it was
-pub of_generate : (job : Job) (count : ℕ) (build : BuildSeen) (ended : Ended) (look : Look) (part : List Event) (c : Course) → job ≡ Generate count → c.after ≡ c.before → IsAnswerOf (wish_of job build) ended look part c
-of_generate (Compile name) count build ended look part c is same = absurd (cc)
-of_generate (Archive name) count build ended look part c is same = absurd (cc)
-of_generate (Generate n) count build ended look part c is same = same
-of_generate Expand count build ended look part c is same = same
-of_generate Show count build ended look part c is same = same
+pub of_generate : (job : Job) (count : ℕ) (build : BuildSeen) (database : Option (List ℕ)) (ended : Ended) (look : Look) (part : List Event) (c : Course) → job ≡ Generate count → c.after ≡ c.before → IsAnswerOf (wish_of job database build) ended look part c
+of_generate (Compile name) count build database ended look part c is same = absurd (cc)
+of_generate (Archive name) count build database ended look part c is same = absurd (cc)
+of_generate (Generate n) count build database ended look part c is same = same
+of_generate Expand count build database ended look part c is same = same
+of_generate Show count build database ended look part c is same = same
 
-pub asks_generate : (job : Job) (count : ℕ) (build : BuildSeen) (steady : Bool) (world : Question → Outcome) (part : List Event) → job ≡ Generate count → question_events part ≡ [] → AsksWish steady world (wish_of job build) part
-asks_generate (Compile name) count build steady world part is none = absurd (cc)
-asks_generate (Archive name) count build steady world part is none = absurd (cc)
-asks_generate (Generate n) count build steady world part is none = none
-asks_generate Expand count build steady world part is none = absurd (cc)
-asks_generate Show count build steady world part is none = absurd (cc)
+pub asks_generate : (job : Job) (count : ℕ) (build : BuildSeen) (database : Option (List ℕ)) (steady : Bool) (world : Question → Outcome) (part : List Event) → job ≡ Generate count → question_events part ≡ [] → AsksWish steady world (wish_of job database build) part
+asks_generate (Compile name) count build database steady world part is none = absurd (cc)
+asks_generate (Archive name) count build database steady world part is none = absurd (cc)
+asks_generate (Generate n) count build database steady world part is none = none
+asks_generate Expand count build database steady world part is none = absurd (cc)
+asks_generate Show count build database steady world part is none = absurd (cc)
 
-pub sums_generate : (job : Job) (count turned : ℕ) (build : BuildSeen) (part : List Event) (ended : Ended) → job ≡ Generate count → Sums count turned part ended → IfGenerates (Ok (wish_of job build)) (λ n. Sums n turned part ended)
-sums_generate (Compile name) count turned build part ended is s = tt
-sums_generate Expand count turned build part ended is s = tt
-sums_generate Show count turned build part ended is s = tt
-sums_generate (Archive name) count turned build part ended is s = tt
-sums_generate (Generate n) count turned build part ended is s = let same : count ≡ n = cc in subst (λ (m : ℕ). Sums m turned part ended) same s
+pub sums_generate : (job : Job) (count turned : ℕ) (build : BuildSeen) (database : Option (List ℕ)) (part : List Event) (ended : Ended) → job ≡ Generate count → Sums count turned part ended → IfGenerates (Ok (wish_of job database build)) (λ n. Sums n turned part ended)
+sums_generate (Compile name) count turned build database part ended is s = absurd (cc)
+sums_generate Expand count turned build database part ended is s = tt
+sums_generate Show count turned build database part ended is s = tt
+sums_generate (Archive name) count turned build database part ended is s = tt
+sums_generate (Generate n) count turned build database part ended is s = let same : count ≡ n = cc in subst (λ (m : ℕ). Sums m turned part ended) same s

@@ -7,7 +7,7 @@ use Rattle.std.proofs.lemmas.Grind.{take_at_read}
 use Rattle.std.proofs.lemmas.List.{map-append}
 use Rattle.cc_plan.specs.Settings.{unset_settings}
 use Rattle.cc_build.specs.Build.{BuildSeen}
-use Rattle.cc_command.specs.Read.{bad_at, bad_or, bad_word, first_bad, word_cause, values, settings_of, IsJobOf, wish_by, wish_of, is_count, IsCountOf, IsNumberOf, taken, further, read_named, read_count, read_build, refusal_of}
+use Rattle.cc_command.specs.Read.{bad_at, bad_or, bad_word, first_bad, word_cause, values, settings_of, IsJobOf, is, database_of, wish_by, wish_of, is_count, IsCountOf, IsNumberOf, taken, further, read_named, read_count, read_build, refusal_of}
 use Rattle.cc_command.specs.SetsKey.{ReadsSettings}
 use Rattle.cc_command.specs.Step.{with_word}
 use Rattle.cc_command.specs.declared.words.BadWord.{BadWord}
@@ -24,22 +24,22 @@ pub fresh_settings : (old new : BuildSeen) → old ≡ record { config = unset_s
 unfolding values
 fresh_settings old new fresh set = set ∙ rw fresh refl
 
-module _ {A : Type 0} (text : A → List ℕ) (words : List A) (from i : ℕ) (word : A) where
-  next_bad : (n : ℕ) → i < length words → word ≡ get_or words i word → first_bad n (map text (drop i words)) ≡ bad_or n (word_cause (text word)) (first_bad (n + 1) (map text (drop (i + 1) words)))
+module _ {A : Type 0} (text : A → List ℕ) (recorded : Bool) (words : List A) (from i : ℕ) (word : A) where
+  next_bad : (n : ℕ) → i < length words → word ≡ get_or words i word → first_bad recorded n (map text (drop i words)) ≡ bad_or n (word_cause recorded (text word)) (first_bad recorded (n + 1) (map text (drop (i + 1) words)))
   next_bad n within is =
       let d : drop i words ≡ word ∷ drop (i + 1) words = drop-cons words i word within ∙ ap (λ w. w ∷ drop (suc i) words) (sym is) ∙ ap (λ k. word ∷ drop k words) (sym (add-one i)) in
-      ap (λ l. first_bad n (map text l)) d
+      ap (λ l. first_bad recorded n (map text l)) d
 
   -- something is wrong with the word, and with none before it
-  pub bad_here : (all : Option BadWord) (cause : WordCause) (e : ReadError) → i < length words → word ≡ get_or words i word → first_bad (from + i) (map text (drop i words)) ≡ all → word_cause (text word) ≡ Some cause → e ≡ Bad (bad_at (i + from) cause) → bad_word all ≡ Some e
+  pub bad_here : (all : Option BadWord) (cause : WordCause) (e : ReadError) → i < length words → word ≡ get_or words i word → first_bad recorded (from + i) (map text (drop i words)) ≡ all → word_cause recorded (text word) ≡ Some cause → e ≡ Bad (bad_at (i + from) cause) → bad_word all ≡ Some e
   bad_here all cause e within is rest wrong made =
-      ap bad_word (sym rest ∙ next_bad (from + i) within is ∙ ap (λ c. bad_or (from + i) c (first_bad (from + i + 1) (map text (drop (i + 1) words)))) wrong ∙ ap (λ n. Some (bad_at n cause)) (omega arith)) ∙ ap Some (sym made)
+      ap bad_word (sym rest ∙ next_bad (from + i) within is ∙ ap (λ c. bad_or (from + i) c (first_bad recorded (from + i + 1) (map text (drop (i + 1) words)))) wrong ∙ ap (λ n. Some (bad_at n cause)) (omega arith)) ∙ ap Some (sym made)
 
   -- nothing is wrong with it
-  pub good_here : (all : Option BadWord) → i < length words → word ≡ get_or words i word → first_bad (from + i) (map text (drop i words)) ≡ all → word_cause (text word) ≡ None → first_bad (from + (i + 1)) (map text (drop (i + 1) words)) ≡ all
+  pub good_here : (all : Option BadWord) → i < length words → word ≡ get_or words i word → first_bad recorded (from + i) (map text (drop i words)) ≡ all → word_cause recorded (text word) ≡ None → first_bad recorded (from + (i + 1)) (map text (drop (i + 1) words)) ≡ all
   good_here all within is rest fine =
-      ap (λ n. first_bad n (map text (drop (i + 1) words))) (omega arith)
-      ∙ ap (λ c. bad_or (from + i) c (first_bad (from + i + 1) (map text (drop (i + 1) words)))) (sym fine) ∙ sym (next_bad (from + i) within is) ∙ rest
+      ap (λ n. first_bad recorded n (map text (drop (i + 1) words))) (omega arith)
+      ∙ ap (λ c. bad_or (from + i) c (first_bad recorded (from + i + 1) (map text (drop (i + 1) words)))) (sym fine) ∙ sym (next_bad (from + i) within is) ∙ rest
 
   pub set_here : (old new : BuildSeen) → i < length words → word ≡ get_or words i word → old ≡ settings_of (map text (take i words)) → new ≡ with_word old (text word) → new ≡ settings_of (map text (take (i + 1) words))
   set_here old new within is before set =
@@ -47,12 +47,13 @@ module _ {A : Type 0} (text : A → List ℕ) (words : List A) (from i : ℕ) (w
       set ∙ ap (λ s. with_word s (text word)) before ∙ sym (next_settings (map text (take i words)) (text word)) ∙ ap settings_of (sym (ap (map text) more ∙ map-append text (take i words) (word ∷ [])))
 
 -- words with such a job, which are good
-pub reads_so : (command name : List ℕ) (words : List (List ℕ)) (job : Job) (build : BuildSeen) → IsJobOf command name job → ReadsSettings 2 words build → read_named command name words ≡ Ok (wish_of job build)
-reads_so command name words job build k r = rw (k.0, r.0) (ap Ok (ap (λ (b : BuildSeen). wish_by command (name, b)) (sym r.1) ∙ sym (k.1 build)))
+pub reads_so : (command name : List ℕ) (words : List (List ℕ)) (job : Job) (build : BuildSeen) (database : Option (List ℕ)) → IsJobOf command name job → ReadsSettings (is command "compile") 2 words build → database ≡ database_of words → read_named command name words ≡ Ok (wish_of job database build)
+reads_so command name words job build database k r d =
+    rw (k.0, r.0) (ap Ok (ap (λ (b : BuildSeen). wish_by command (database_of words) (name, b)) (sym r.1) ∙ ap (λ (p : Option (List ℕ)). wish_by command p (name, build)) (sym d) ∙ sym (k.1 database build)))
 
 -- the settings of words repeat their lines
-pub repeats_so : (from : ℕ) (words : List (List ℕ)) (build : BuildSeen) → ReadsSettings from words build → build.config.repeat_lines ≡ true
-repeats_so from words build r = ap (λ (b : BuildSeen). b.config.repeat_lines) r.1
+pub repeats_so : (recorded : Bool) (from : ℕ) (words : List (List ℕ)) (build : BuildSeen) → ReadsSettings recorded from words build → build.config.repeat_lines ≡ true
+repeats_so recorded from words build r = ap (λ (b : BuildSeen). b.config.repeat_lines) r.1
 
 -- ---- a large run
 
@@ -87,8 +88,8 @@ counts_none number words e k is = rw k (ap Some (sym is))
 -- ---- the tools of a build
 
 -- words of settings that are good
-pub shows_so : (words : List (List ℕ)) (build : BuildSeen) → ReadsSettings 1 words build → read_build Shows words ≡ Ok (Shows build)
+pub shows_so : (words : List (List ℕ)) (build : BuildSeen) → ReadsSettings false 1 words build → read_build Shows words ≡ Ok (Shows build)
 shows_so words build r = rw r.0 (ap (λ b. Ok (Shows b)) (sym r.1))
 
-pub expands_so : (words : List (List ℕ)) (build : BuildSeen) → ReadsSettings 1 words build → read_build Expands words ≡ Ok (Expands build)
+pub expands_so : (words : List (List ℕ)) (build : BuildSeen) → ReadsSettings false 1 words build → read_build Expands words ≡ Ok (Expands build)
 expands_so words build r = rw r.0 (ap (λ b. Ok (Expands b)) (sym r.1))

@@ -1,19 +1,20 @@
 -- What the program answers to its words, and what it did for them.
-use Rattle.std.specs.Prelude.{◌≡◌, ◌⊎◌, ℕ, List, [], ◌∷◌, ◌++◌, map, Bool, true, false, Option, Some, None, Result, Ok, Err, String, string_bytes, codes}
+use Rattle.std.specs.Prelude.{◌≡◌, ◌≢◌, ◌⊎◌, ℕ, List, [], ◌∷◌, ◌++◌, map, Bool, true, false, Option, Some, None, Result, Ok, Err, String, string_bytes, codes}
 use Rattle.std.specs.Fmt.{decimal}
+use Rattle.cc_db.specs.Database.{database}
 use Rattle.cc_env.specs.Env.{EnvSeen}
 use Rattle.cc_host.specs.Question.{Look}
 use Rattle.cc_host.specs.Part.{listings}
 use Rattle.cc_host.specs.Part.Step.{Lists}
 use Rattle.cc_host.specs.declared.event.Event.{Event}
-use Rattle.cc_host.specs.declared.event.Event.TheVariants.{Printed, Fault, Listed}
-use Rattle.cc_host.specs.declared.event.HostCall.TheVariants.{Print}
+use Rattle.cc_host.specs.declared.event.Event.TheVariants.{Printed, Fault, Listed, Here, Wrote}
+use Rattle.cc_host.specs.declared.event.HostCall.TheVariants.{Print, CurrentDir, Write}
 use Rattle.cc_host.specs.declared.event.LineKind.TheVariants.{Fault as FaultLine}
 use Rattle.cc_host.specs.declared.event.Why.{Why}
 use Rattle.cc_plan.specs.declared.settings.BuildConfig.{BuildConfig}
 use Rattle.cc_build.specs.Build.{BuildSeen}
 use Rattle.cc_build.specs.Built.{Built}
-use Rattle.cc_build.specs.Captured.{with_vars}
+use Rattle.cc_build.specs.Captured.{with_vars, CaptureEnds}
 use Rattle.cc_build.specs.Course.{Course}
 use Rattle.cc_build.specs.Error.{ErrorSeen}
 use Rattle.cc_build.specs.Shows.{shows_of}
@@ -24,8 +25,9 @@ use Rattle.cc_build.specs.Went.{Terms, Means, terms, Went, Halted}
 use Rattle.cc_build.specs.declared.error.ErrorKind.{ErrorKind}
 use Rattle.cc_build.specs.declared.error.ErrorKind.TheVariants.{NoMemory}
 use Rattle.cc_build.specs.Refusal.{refusal_error}
+use Rattle.cc_command.specs.Database.{entries_of, Faults}
 use Rattle.cc_command.specs.Read.{Request, Wish, read}
-use Rattle.cc_command.specs.Read.Wish.{Compiles, Archives, Generates, Expands, Shows}
+use Rattle.cc_command.specs.Read.Wish.{Compiles, Records, Archives, Generates, Expands, Shows}
 use Rattle.cc_command.specs.declared.words.BadWord.{BadWord}
 use Rattle.cc_command.specs.declared.words.WordCause.{WordCause}
 use Rattle.cc_command.specs.declared.words.WordCause.TheVariants.{NoCommand, UnknownCommand, NoName, NoValue, UnknownKey, BadValue}
@@ -144,6 +146,58 @@ Answers look request part ended c =
     ⊎ (Refused look request part ended c
     ⊎ ((ended ≡ ended_wanting) × ((is_plain : Bool) × IsHalted (terms_in request part c) (error_of look request part) (stages_of look request is_plain part) part c.before c.after)))
 
+-- the host listed its variables, and couldn't tell its folder, or memory was wanted
+abbrev pub Untold : List Event → ErrorSeen → Type 0
+Untold part e = (vars : List (List ℕ × List ℕ)) × (rest : List Event) × ((part ≡ Listed vars ∷ rest) × Faults CurrentDir [] rest e)
+
+-- A run that is to be recorded wasn't begun: its variables weren't listed, or its folder wasn't told. The line of the error was printed last.
+pub record Unbegun (part : List Event) (ended : Ended) (c : Course) : Type 0 where
+  pub error : ErrorSeen
+  pub front : List Event
+  pub line : List Event
+  pub cut : part ≡ front ++ line
+  pub cause : CaptureEnds front (Err error) ⊎ Untold front error
+  pub says : AnswersError error line ended
+  pub idle : c.after ≡ c.before
+
+-- the file of these bytes was written last
+abbrev pub WritesLast : List ℕ → List ℕ → List Event → Ended → Type 0
+WritesLast path bytes rest ended = (ended ≡ ended_well) × (rest ≡ Wrote path bytes ∷ [])
+
+-- the file couldn't be written, or memory was wanted, and the line of the error was printed last
+pub record Unwritten (path : List ℕ) (rest : List Event) (ended : Ended) : Type 0 where
+  pub error : ErrorSeen
+  pub front : List Event
+  pub line : List Event
+  pub cut : rest ≡ front ++ line
+  pub cause : Faults Write path front error
+  pub says : AnswersError error line ended
+
+-- Behind a run that was done the file of these bytes is written, or couldn't be. Behind a refused one stands nothing.
+abbrev pub Behind : List ℕ → List ℕ → Ended → List Event → Ended → Type 0
+Behind path bytes ran rest ended =
+    ((ran ≡ ended_well) × (WritesLast path bytes rest ended ⊎ Unwritten path rest ended)) ⊎ ((ended ≡ ran) × (rest ≡ []) × (ended ≢ ended_well))
+
+-- the database of the sources of a request, with the variables that were listed and the folder that was told
+abbrev pub database_in : Look → Request → List (List ℕ × List ℕ) → List ℕ → List ℕ
+database_in look request vars here = database (entries_of request.1.config (with_vars request.1.env vars) look here)
+
+-- A run that is recorded: the host listed its variables and told its folder. The rest answers the request as a run does that isn't recorded, and then
+-- comes the file of the database.
+pub record Recorded (look : Look) (path : List ℕ) (request : Request) (part : List Event) (ended : Ended) (c : Course) : Type 0 where
+  pub vars : List (List ℕ × List ℕ)
+  pub here : List ℕ
+  pub run : List Event
+  pub rest : List Event
+  pub cut : part ≡ Listed vars ∷ Here here ∷ (run ++ rest)
+  pub ran : Ended
+  pub answer : Answers look request (Listed vars ∷ run) ran c
+  pub behind : Behind path (database_in look request vars here) ran rest ended
+
+-- a request that is to be recorded: its run wasn't begun, or is recorded
+abbrev pub AnswersRecord : Look → List ℕ → Request → List Event → Ended → Course → Type 0
+AnswersRecord look path request part ended c = Unbegun part ended c ⊎ Recorded look path request part ended c
+
 -- bad words: their line alone was printed, or memory for it was wanted
 abbrev pub AnswersBad : BadWord → List Event → Ended → Type 0
 AnswersBad bad part ended = ((ended ≡ ended_bad bad) × PrintsLine (word_line bad) part) ⊎ ((ended ≡ ended_wanting) × (part ≡ []))
@@ -151,15 +205,27 @@ AnswersBad bad part ended = ((ended ≡ ended_bad bad) × PrintsLine (word_line 
 -- a fact of a compile run, where the words wish one
 abbrev pub IfCompiles : Result Wish BadWord → (Request → Type 0) → Type 0
 IfCompiles (Ok (Compiles request)) fact = fact request
+IfCompiles (Ok (Records path request)) fact = Unit {0}
 IfCompiles (Ok (Archives request)) fact = Unit {0}
 IfCompiles (Ok (Generates count)) fact = Unit {0}
 IfCompiles (Ok (Expands build)) fact = Unit {0}
 IfCompiles (Ok (Shows build)) fact = Unit {0}
 IfCompiles (Err bad) fact = Unit {0}
 
+-- a fact of a compile run that is recorded, with the path of its database, where they wish that
+abbrev pub IfRecords : Result Wish BadWord → (List ℕ → Request → Type 0) → Type 0
+IfRecords (Ok (Compiles request)) fact = Unit {0}
+IfRecords (Ok (Records path request)) fact = fact path request
+IfRecords (Ok (Archives request)) fact = Unit {0}
+IfRecords (Ok (Generates count)) fact = Unit {0}
+IfRecords (Ok (Expands build)) fact = Unit {0}
+IfRecords (Ok (Shows build)) fact = Unit {0}
+IfRecords (Err bad) fact = Unit {0}
+
 -- a fact of an archive alone, where they wish that
 abbrev pub IfArchives : Result Wish BadWord → (Request → Type 0) → Type 0
 IfArchives (Ok (Compiles request)) fact = Unit {0}
+IfArchives (Ok (Records path request)) fact = Unit {0}
 IfArchives (Ok (Archives request)) fact = fact request
 IfArchives (Ok (Generates count)) fact = Unit {0}
 IfArchives (Ok (Expands build)) fact = Unit {0}
@@ -169,6 +235,7 @@ IfArchives (Err bad) fact = Unit {0}
 -- a fact of a large run, where they wish one of so many sources
 abbrev pub IfGenerates : Result Wish BadWord → (ℕ → Type 0) → Type 0
 IfGenerates (Ok (Compiles request)) fact = Unit {0}
+IfGenerates (Ok (Records path request)) fact = Unit {0}
 IfGenerates (Ok (Archives request)) fact = Unit {0}
 IfGenerates (Ok (Generates count)) fact = fact count
 IfGenerates (Ok (Expands build)) fact = Unit {0}
@@ -178,6 +245,7 @@ IfGenerates (Err bad) fact = Unit {0}
 -- a fact of a build whose source is expanded, where they wish that
 abbrev pub IfExpands : Result Wish BadWord → (BuildSeen → Type 0) → Type 0
 IfExpands (Ok (Compiles request)) fact = Unit {0}
+IfExpands (Ok (Records path request)) fact = Unit {0}
 IfExpands (Ok (Archives request)) fact = Unit {0}
 IfExpands (Ok (Generates count)) fact = Unit {0}
 IfExpands (Ok (Expands build)) fact = fact build
@@ -187,6 +255,7 @@ IfExpands (Err bad) fact = Unit {0}
 -- a fact of a build whose tools are shown, where they wish that
 abbrev pub IfShows : Result Wish BadWord → (BuildSeen → Type 0) → Type 0
 IfShows (Ok (Compiles request)) fact = Unit {0}
+IfShows (Ok (Records path request)) fact = Unit {0}
 IfShows (Ok (Archives request)) fact = Unit {0}
 IfShows (Ok (Generates count)) fact = Unit {0}
 IfShows (Ok (Expands build)) fact = Unit {0}
@@ -197,6 +266,7 @@ IfShows (Err bad) fact = Unit {0}
 -- makes no turn but its own; nor does what expands a source or shows tools.
 abbrev pub AnswersWords : Look → Result Wish BadWord → List Event → Ended → Course → Type 0
 AnswersWords look (Ok (Compiles request)) part ended c = Answers look request part ended c
+AnswersWords look (Ok (Records path request)) part ended c = AnswersRecord look path request part ended c
 AnswersWords look (Ok (Archives request)) part ended c = Unit {0}
 AnswersWords look (Ok (Generates count)) part ended c = c.after ≡ c.before
 AnswersWords look (Ok (Expands build)) part ended c = c.after ≡ c.before
@@ -210,6 +280,10 @@ asked_for words = read (map string_bytes words)
 -- this answers a compile run
 abbrev pub IsAnswer : Request → Ended → Look → List Event → Course → Type 0
 IsAnswer request ended look part c = Answers look request part ended c
+
+-- this answers a compile run that is recorded
+abbrev pub IsRecorded : List ℕ → Request → Ended → Look → List Event → Course → Type 0
+IsRecorded path request ended look part c = AnswersRecord look path request part ended c
 
 -- this answers a wish
 abbrev pub IsAnswerOf : Wish → Ended → Look → List Event → Course → Type 0

@@ -10,7 +10,7 @@ use Rattle.cc_command.specs.Answer.{env_in}
 use Rattle.cc_build.specs.Build.{AsksByRun, AsksByPlan}
 use Rattle.cc_command.specs.Archived.{alone, build_in}
 use Rattle.cc_command.specs.Read.{Request, Wish}
-use Rattle.cc_command.specs.Read.Wish.{Compiles, Archives, Generates, Expands, Shows}
+use Rattle.cc_command.specs.Read.Wish.{Compiles, Records, Archives, Generates, Expands, Shows}
 use Rattle.cc_command.specs.Shown.{AsksTools, listed_build}
 use Rattle.cc_command.specs.declared.words.BadWord.{BadWord}
 
@@ -27,6 +27,7 @@ AsksAlone steady world request part =
 -- a large run asks on a host of its own
 abbrev pub AsksWish : Bool → (Question → Outcome) → Wish → List Event → Type 0
 AsksWish steady world (Compiles request) part = AsksFor steady world request part
+AsksWish steady world (Records path request) part = AsksFor steady world request part
 AsksWish steady world (Archives request) part = AsksAlone steady world request part
 AsksWish steady world (Generates count) part = question_events part ≡ []
 AsksWish steady world (Expands build) part = AsksByPlan steady world (listed_build build part) part

@@ -26,27 +26,31 @@ use Rattle.cc_build.specs.Captured.{with_vars, CaptureEnds}
 use Rattle.cc_build.specs.Compiler.{tool_error, tool_steps}
 use Rattle.cc_build.specs.Course.{CallsEnd}
 use Rattle.cc_build.specs.Error.{ErrorSeen}
-use Rattle.cc_build.specs.Expand.{unexpanded_error, source_of, expansion, ignored_line, ExpandEnds}
+use Rattle.cc_build.specs.Expand.{unexpanded_error, source_of, expansion, ignored_line, ExpandedEnds}
 use Rattle.cc_build.specs.Failed.{HasFault, ran_badly}
 use Rattle.cc_build.specs.Shows.{shows_of}
+use Rattle.cc_build.specs.Told.{expand_reads, name_steps}
+use Rattle.cc_build.specs.Way.{all_firsts}
 use Rattle.cc_command.specs.Answer.{ended_well, ended_wanting}
 use Rattle.cc_command.specs.Archived.{Says}
 use Rattle.cc_command.specs.Shown.{listed_build}
 use Rattle.cc_command.specs.declared.ended.Ended.{Ended}
 
--- the source was expanded, and then the output of its command was printed, as it is
+-- the source was expanded, the lines of the variables that were read for it were printed, and then the output of its command, as it is
 pub record PrintsOutput (b : BuildSeen) (result : Result (Unit {0}) ErrorSeen) (look : Look) (part : List Event) : Type 0 where
   pub output : List ℕ
   pub run : List Event
   pub printed : List Event
   pub cut : part ≡ run ++ printed
-  pub expands : ExpandEnds b (Ok output) look run
+  pub expands : ExpandedEnds b (Ok output) look run
+  -- each variable has its line
+  pub all : expands.told.0 ≡ all_firsts
   pub prints : CallsEnd (Prints ExpandedLine output ∷ []) printed result
 
 -- so it was; or the source couldn't be expanded, and the error has its cause
 abbrev pub ExpandsSource : BuildSeen → Result (Unit {0}) ErrorSeen → Look → List Event → Type 0
 ExpandsSource b (Ok done) look part = PrintsOutput b (Ok done) look part
-ExpandsSource b (Err e) look part = ExpandEnds b (Err e) look part ⊎ PrintsOutput b (Err e) look part
+ExpandsSource b (Err e) look part = ExpandedEnds b (Err e) look part ⊎ PrintsOutput b (Err e) look part
 
 -- that, with the questions of the part; no child was started
 pub record Expanding (steady : Bool) (world : Question → Verdicts) (b : BuildSeen) (part : List Event) (result : Result (Unit {0}) ErrorSeen) : Type 0 where
@@ -90,19 +94,22 @@ abbrev pub ignored_in : BuildSeen → Look → Option (List ℕ)
 ignored_in b look = ignored_line (tool_of b.config b.env look).family (source_of b.config)
 
 -- Nothing is refused. The host listed its variables, questions were asked and the warnings of the compiler's plan were printed; then the planned command
--- ended with 0, among the lines of its run; and then its output was printed, as it is. No other command was run.
+-- ended with 0, among the lines of its run; then a line was printed for each variable that was read; and then the command's output, as it is. No other
+-- command was run.
 pub record IsExpanded (b : BuildSeen) (look : Look) (part : List Event) : Type 0 where
   pub accepted : expand_error b look ≡ None
   pub vars : List (List ℕ × List ℕ)
   pub asking : List Event
   pub run : List Event
+  pub telling : List Event
   pub output : List ℕ
-  pub cut : part ≡ Listed vars ∷ (asking ++ (run ++ Printed ExpandedLine output ∷ []))
+  pub cut : part ≡ Listed vars ∷ (asking ++ (run ++ (telling ++ Printed ExpandedLine output ∷ [])))
   pub warns_of_link : Bool
   pub warned : IsWhole (tool_steps b.config b.env warns_of_link look) asking
   pub status : Status
   pub success : is_success status ≡ true
   pub ran : IsRanTo (shows_of b.config b.env) (expansion_in b look) Capture true (ignored_in b look) status output run
+  pub told : IsWhole (name_steps expand_reads b.config b.env all_firsts look) telling
   pub alone : attempts part ≡ to_attempt (expansion_in b look) ∷ []
 
 -- a command of the part is missing, or it ended with another status than 0
@@ -117,7 +124,7 @@ IsSole p part = (rest : List (Role × CommandSeen)) × (to_attempt p ∷ [] ≡ 
 pub record ExpandPromises (steady : Bool) (world : Question → Verdicts) (b : BuildSeen) (part : List Event) (ended : Ended) : Type 0 where
   -- the whole answer: each status with its cause
   pub answer : Expanded steady world b part ended
-  -- status 0: the source was expanded, and what its command made of it was printed
+  -- status 0: the source was expanded, and what its command made of it was printed, behind the lines of the variables
   pub expanded : ended.status ≡ 0 → (look : Look) → Agrees look (answers part) → IsExpanded (listed_build b part) look part
   -- no command but the planned one, and that at most once
   pub sole : (look : Look) → Agrees look (answers part) → IsSole (expansion_in (listed_build b part) look) part

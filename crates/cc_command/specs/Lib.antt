@@ -1,11 +1,13 @@
 pub mod Answer
 pub mod Archived
 pub mod Asks
+pub mod Database
 pub mod Expanded
 pub mod Generated
 pub mod Lines
 pub mod Promises
 pub mod Read
+pub mod Recording
 pub mod SetsKey
 pub mod Shown
 pub mod Step

@@ -1,10 +1,10 @@
 -- What follows from an answer, each in one sentence.
-use Rattle.std.specs.Prelude.{◌≡◌, ◌⊎◌, ◌≤◌, ◌*◌, ◌+◌, ℕ, List, [], ◌∷◌, ◌++◌, length, map, Some, Bool, true, false, Result, String}
+use Rattle.std.specs.Prelude.{◌≡◌, ◌⊎◌, ◌≤◌, ◌*◌, ◌+◌, ℕ, List, [], ◌∷◌, ◌++◌, length, map, Some, Bool, true, false, Result, Ok, String}
 use Rattle.cc_host.specs.Question.{Look}
 use Rattle.cc_host.specs.Part.{is_probing}
 use Rattle.cc_host.specs.Part.Step.{Lists}
 use Rattle.cc_host.specs.declared.event.Event.{Event}
-use Rattle.cc_host.specs.declared.event.Event.TheVariants.{Printed, Fault, Abandoned}
+use Rattle.cc_host.specs.declared.event.Event.TheVariants.{Printed, Fault, Abandoned, Listed, Here, Wrote}
 use Rattle.cc_host.specs.declared.event.HostCall.{HostCall}
 use Rattle.cc_host.specs.declared.event.HostCall.TheVariants.{Print}
 use Rattle.cc_host.specs.declared.event.LineKind.TheVariants.{Fault as FaultLine}
@@ -23,8 +23,9 @@ use Rattle.cc_build.specs.Stage.{folder_stages, compile_stages, has_libtool}
 use Rattle.cc_build.specs.Stage.Stage.{Asks, Calls}
 use Rattle.cc_build.specs.Went.{Goes, Partly}
 use Rattle.cc_build.specs.declared.error.ErrorKind.TheVariants.{TurnsSpent, ToolExecError}
-use Rattle.cc_command.specs.Answer.{PrintsLine, IfCompiles, AnswersWords, BuiltBy, asked_for, env_in, terms_in, stages_of, error_line, word_line, told, ended_well, ended_refused, ended_bad, ended_wanting}
+use Rattle.cc_command.specs.Answer.{PrintsLine, IfCompiles, IfRecords, AnswersRecord, AnswersWords, Recorded, database_in, BuiltBy, asked_for, env_in, terms_in, stages_of, error_line, word_line, told, ended_well, ended_refused, ended_bad, ended_wanting}
 use Rattle.cc_command.specs.Read.{Request, Wish}
+use Rattle.cc_command.specs.Read.Wish.{Compiles}
 use Rattle.cc_command.specs.declared.ended.Ended.{Ended}
 use Rattle.cc_command.specs.declared.words.BadWord.{BadWord}
 
@@ -115,21 +116,51 @@ abbrev pub IsEnough : Look → Result Wish BadWord → List Event → Ended → 
 IsEnough look words part ended c = IfCompiles words (λ request. (total p : ℕ) → c.total ≡ Some total → c.patience ≡ Some p → p * (2 * length request.1.config.files + length request.1.config.objects + 2) ≤ c.before.left → EndsSpent c.before.left part ended → ⊥)
 
 -- What a run of the words promises of its answer, its part and its course.
-pub record Promises {Z : Type 0} (words : List (String Z)) (ended : Ended) (look : Look) (part : List Event) (c : Course) : Type 0 where
+pub record Promises (words : Result Wish BadWord) (ended : Ended) (look : Look) (part : List Event) (c : Course) : Type 0 where
   -- the whole answer: each status with its cause
-  pub answer : AnswersWords look (asked_for words) part ended c
+  pub answer : AnswersWords look words part ended c
   -- on every exit the first stages were done, each once and in order
-  pub begun : IsBegun look (asked_for words) part c
+  pub begun : IsBegun look words part c
   -- no archive command stands in the part unless every source was compiled before it
-  pub order : CompilesFirst look (asked_for words) part c
+  pub order : CompilesFirst look words part c
   -- one attempt for each of the first planned commands, and no other
-  pub prefix : IsPrefix look (asked_for words) part
+  pub prefix : IsPrefix look words part
   -- two sources or more are compiled beside each other, each under a token, and as many at once as there are tokens
-  pub beside : IsBeside (asked_for words) part c
+  pub beside : IsBeside words part c
   -- a failed child stops no later start
-  pub failed : StartsAll look (asked_for words) part ended
+  pub failed : StartsAll look words part ended
   -- valid settings, no failed command but the first form of the archive, no fault of the host and none of the pool: it is done, the turns are spent, or
   -- memory was wanted
-  pub complete : IsComplete look (asked_for words) part ended c
+  pub complete : IsComplete look words part ended c
   -- where one caller owns the pool and the host tells its patience, so many turns are enough
-  pub enough : IsEnough look (asked_for words) part ended c
+  pub enough : IsEnough look words part ended c
+
+-- the same of the words of the program
+abbrev pub IsPromised : {Z : Type 0} → List (String Z) → Ended → Look → List Event → Course → Type 0
+IsPromised words ended look part c = Promises (asked_for words) ended look part c
+
+-- The host listed its variables and told its folder; the rest, but for the last event, built the library; and that wrote the database, with an entry for
+-- each source.
+pub record RecordedBy (look : Look) (path : List ℕ) (request : Request) (part : List Event) (c : Course) : Type 0 where
+  pub vars : List (List ℕ × List ℕ)
+  pub here : List ℕ
+  pub run : List Event
+  pub cut : part ≡ Listed vars ∷ Here here ∷ (run ++ Wrote path (database_in look request vars here) ∷ [])
+  pub built : BuiltBy look request (Listed vars ∷ run) c
+
+-- What a compile run promises that is recorded in a database.
+pub record RecordPromises (look : Look) (path : List ℕ) (request : Request) (part : List Event) (ended : Ended) (c : Course) : Type 0 where
+  -- the whole answer: each status with its cause
+  pub answer : AnswersRecord look path request part ended c
+  -- status 0: the library was built, and the database was written last
+  pub recorded : ended.status ≡ 0 → RecordedBy look path request part c
+  -- the run, without the folder and the file of the database, promises all that one does which isn't recorded
+  pub promises : (r : Recorded look path request part ended c) → Promises (Ok (Compiles request)) r.ran look (Listed r.vars ∷ r.run) c
+  -- all of it is complete as a run is that isn't recorded: where nothing keeps it from that it is done, the turns are spent, or memory was wanted
+  pub complete : IsComplete look (Ok (Compiles request)) part ended c
+  -- and as many turns are enough for it
+  pub enough : IsEnough look (Ok (Compiles request)) part ended c
+
+-- the same of words that wish such a run
+abbrev pub IsRecordedSo : {Z : Type 0} → List (String Z) → Ended → Look → List Event → Course → Type 0
+IsRecordedSo words ended look part c = IfRecords (asked_for words) (λ path request. RecordPromises look path request part ended c)

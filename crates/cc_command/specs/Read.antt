@@ -76,13 +76,17 @@ key_cause key value =
     else (if is key "env" || is key "remap_source_path" then cause_unless (is_some (key_and_value value))
     else Some UnknownKey))))
 
-abbrev pub pair_cause : Option (List ℕ × List ℕ) → Option WordCause
-pair_cause None = Some NoValue
-pair_cause (Some pair) = key_cause pair.0 pair.1
+-- the same; the key of a database is known where one may be asked for
+abbrev pub cause_among : Bool → List ℕ → List ℕ → Option WordCause
+cause_among recorded key value = if recorded && is key "database" then None else key_cause key value
+
+abbrev pub pair_cause : Bool → Option (List ℕ × List ℕ) → Option WordCause
+pair_cause recorded None = Some NoValue
+pair_cause recorded (Some pair) = cause_among recorded pair.0 pair.1
 
 -- what is wrong with a word behind the name
-abbrev pub word_cause : List ℕ → Option WordCause
-word_cause word = pair_cause (key_and_value word)
+abbrev pub word_cause : Bool → List ℕ → Option WordCause
+word_cause recorded word = pair_cause recorded (key_and_value word)
 
 abbrev pub bad_at : ℕ → WordCause → BadWord
 bad_at place cause = record { place = place; cause = cause }
@@ -91,10 +95,10 @@ abbrev pub bad_or : ℕ → Option WordCause → Option BadWord → Option BadWo
 bad_or n None rest = rest
 bad_or n (Some cause) rest = Some (bad_at n cause)
 
--- the first bad word, where the first of these words counts as n
-abbrev pub first_bad : ℕ → List (List ℕ) → Option BadWord
-first_bad n [] = None
-first_bad n (word ∷ words) = bad_or n (word_cause word) (first_bad (n + 1) words)
+-- the first bad word, where the first of these words counts as n, and where a database may be asked for or not
+abbrev pub first_bad : Bool → ℕ → List (List ℕ) → Option BadWord
+first_bad recorded n [] = None
+first_bad recorded n (word ∷ words) = bad_or n (word_cause recorded word) (first_bad recorded (n + 1) words)
 
 -- the value of a pair, where its key passes the test
 abbrev pub value_of : (List ℕ → Bool) → List ℕ → List ℕ → List (List ℕ)
@@ -224,9 +228,11 @@ settings_of words = record {
 abbrev pub Request : Type 0
 Request = List ℕ × BuildSeen
 
--- what is wished: a compile run, an archive alone, a large run of so many sources, that the source of a build is expanded, or that its tools are shown
+-- what is wished: a compile run, one that is recorded in a database at a path, an archive alone, a large run of so many sources, that the source of a
+-- build is expanded, or that its tools are shown
 pub data Wish : Type 0 where
   Compiles : Request → Wish
+  Records : List ℕ → Request → Wish
   Archives : Request → Wish
   Generates : ℕ → Wish
   Expands : BuildSeen → Wish
@@ -243,13 +249,28 @@ takes_name command = is command "compile" || is command "archive"
 abbrev pub is_command : List ℕ → Bool
 is_command command = takes_name command || is command "generate"
 
+-- the path of the database that a word asks for, if it does
+abbrev pub database_in : List ℕ → Option (List ℕ)
+database_in word = latest None (pair_value (by "database") (key_and_value word))
+
+-- the path of the database that was asked for last, if one was
+abbrev pub database_of : List (List ℕ) → Option (List ℕ)
+database_of words = latest None (values (by "database") words)
+
+-- a compile run, recorded where a database is asked for
+abbrev pub compile_wish : Option (List ℕ) → Request → Wish
+compile_wish None request = Wish.Compiles request
+compile_wish (Some path) request = Wish.Records path request
+
 -- what a command wishes
-abbrev pub wish_by : List ℕ → Request → Wish
-wish_by command request = if is command "compile" then Wish.Compiles request else Wish.Archives request
+abbrev pub wish_by : List ℕ → Option (List ℕ) → Request → Wish
+wish_by command database request = if is command "compile" then compile_wish database request else Wish.Archives request
 
 -- the wish of a command with its name and settings, or the first bad word
 abbrev pub read_named : List ℕ → List ℕ → List (List ℕ) → Result Wish BadWord
-read_named command name words = if takes_name command then read_settings (wish_by command) name words (first_bad 2 words) else Err (bad_at 0 UnknownCommand)
+read_named command name words =
+    if takes_name command then read_settings (wish_by command (database_of words)) name words (first_bad (is command "compile") 2 words)
+    else Err (bad_at 0 UnknownCommand)
 
 -- the decimal form of a number from 1 to 10000
 abbrev pub is_count : List ℕ → Bool
@@ -300,7 +321,7 @@ build_unless wish words None = Ok (wish (settings_of words))
 
 -- what is wished of settings that take no name before them, or the first bad word
 abbrev pub read_build : (BuildSeen → Wish) → List (List ℕ) → Result Wish BadWord
-read_build wish words = build_unless wish words (first_bad 1 words)
+read_build wish words = build_unless wish words (first_bad false 1 words)
 
 -- a command that takes settings alone, or one that takes a word before them
 abbrev pub read_command : List ℕ → List (List ℕ) → Result Wish BadWord
@@ -324,17 +345,18 @@ name_of (Generate count) = gen_name
 name_of Expand = []
 name_of Show = []
 
--- what a job with these settings wishes
-abbrev pub wish_of : Job → BuildSeen → Wish
-wish_of (Compile name) build = Wish.Compiles (name, build)
-wish_of (Archive name) build = Wish.Archives (name, build)
-wish_of (Generate count) build = Wish.Generates count
-wish_of Expand build = Wish.Expands build
-wish_of Show build = Wish.Shows build
+-- what a job with this database and these settings wishes
+abbrev pub wish_of : Job → Option (List ℕ) → BuildSeen → Wish
+wish_of (Compile name) database build = compile_wish database (name, build)
+wish_of (Archive name) database build = Wish.Archives (name, build)
+wish_of (Generate count) database build = Wish.Generates count
+wish_of Expand database build = Wish.Expands build
+wish_of Show database build = Wish.Shows build
 
 -- the command takes a name, and a job for the library of this name does what it wishes
 abbrev pub IsJobOf : List ℕ → List ℕ → Job → Type 0
-IsJobOf command name job = (takes_name command ≡ true) × ((build : BuildSeen) → wish_of job build ≡ wish_by command (name, build))
+IsJobOf command name job =
+    (takes_name command ≡ true) × ((database : Option (List ℕ)) (build : BuildSeen) → wish_of job database build ≡ wish_by command database (name, build))
 
 abbrev pub refusal_of : Result Wish BadWord → Option ReadError
 refusal_of (Ok wish) = None

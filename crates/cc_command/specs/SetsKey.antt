@@ -1,7 +1,7 @@
 -- What the setter of a key, and of a word, has done.
 use Rattle.std.specs.Prelude.{◌≡◌, ℕ, List, Bool, Option, Some, None}
 use Rattle.cc_build.specs.Build.{BuildSeen, Sets}
-use Rattle.cc_command.specs.Read.{is, is_number, cause_unless, key_cause, word_cause, first_bad, settings_of}
+use Rattle.cc_command.specs.Read.{is, is_number, cause_unless, key_cause, cause_among, word_cause, first_bad, settings_of}
 use Rattle.cc_command.specs.Step.{with_key, with_word}
 use Rattle.cc_command.specs.declared.words.WordCause.{WordCause}
 
@@ -17,10 +17,14 @@ SetsTruth old new key on = (value : List ℕ) → is value "true" ≡ on → new
 abbrev pub SetsLevel : BuildSeen → BuildSeen → List ℕ → Option WordCause → Type 0
 SetsLevel old new value cause = (cause ≡ cause_unless (is_number value)) × (cause ≡ None → Sets old new (λ c. record c { opt_level = Some value }))
 
+-- the same, where a database may be asked for or not; its key sets nothing
+abbrev pub SetsAmong : Bool → BuildSeen → BuildSeen → List ℕ → List ℕ → Option WordCause → Type 0
+SetsAmong recorded old new key value cause = (cause ≡ cause_among recorded key value) × (cause ≡ None → new ≡ with_key old key value)
+
 -- This is wrong with the word, or nothing is, and it is set.
-abbrev pub SetsWord : BuildSeen → BuildSeen → List ℕ → Option WordCause → Type 0
-SetsWord old new word cause = (cause ≡ word_cause word) × (cause ≡ None → new ≡ with_word old word)
+abbrev pub SetsWord : Bool → BuildSeen → BuildSeen → List ℕ → Option WordCause → Type 0
+SetsWord recorded old new word cause = (cause ≡ word_cause recorded word) × (cause ≡ None → new ≡ with_word old word)
 
 -- none of these words is bad, of which the first has this place, and this is what they set
-abbrev pub ReadsSettings : ℕ → List (List ℕ) → BuildSeen → Type 0
-ReadsSettings from words build = (first_bad from words ≡ None) × (build ≡ settings_of words)
+abbrev pub ReadsSettings : Bool → ℕ → List (List ℕ) → BuildSeen → Type 0
+ReadsSettings recorded from words build = (first_bad recorded from words ≡ None) × (build ≡ settings_of words)

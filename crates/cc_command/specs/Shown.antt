@@ -16,6 +16,7 @@ use Rattle.cc_plan.specs.Archive.{archiver_of, ranlib_cmd_of}
 use Rattle.cc_plan.specs.Asking.{is_of_children}
 use Rattle.cc_plan.specs.Planned.{tool_of}
 use Rattle.cc_plan.specs.Refusal.{first_of, archiver_refusal, ranlib_refusal}
+use Rattle.cc_plan.specs.declared.variables.Reads.{Reads}
 use Rattle.cc_tool.specs.Asked.{question_events}
 use Rattle.cc_tool.specs.Tool.{ToolSeen, tool_command}
 use Rattle.cc_build.specs.Build.{BuildSeen, AsksByPlan}
@@ -25,7 +26,9 @@ use Rattle.cc_build.specs.Error.{ErrorSeen}
 use Rattle.cc_build.specs.Failed.{HasFault}
 use Rattle.cc_build.specs.Outcome.{Outcome}
 use Rattle.cc_build.specs.Refusal.{plan_error}
+use Rattle.cc_build.specs.Told.{compiler_reads, archiver_reads, ranlib_reads, name_steps}
 use Rattle.cc_build.specs.Tools.{AsksForArchiver, AsksForRanlib}
+use Rattle.cc_build.specs.Way.{all_firsts}
 use Rattle.cc_command.specs.Answer.{heard, ended_well, ended_wanting}
 use Rattle.cc_command.specs.Archived.{Says}
 use Rattle.cc_command.specs.Lines.{shows}
@@ -57,9 +60,19 @@ abbrev pub lines_of : BuildSeen → Looks → List (List ℕ)
 lines_of b looks =
     tool_lines (tool_of b.config b.env looks.compiler) (archiver_of b.config b.env looks.archiver).cmd (ranlib_cmd_of b.config b.env looks.ranlib)
 
--- the warnings of how the compiler was found are printed, and then those lines
+-- a line is printed for each variable that such a call reads
+abbrev pub read_steps : Reads → BuildSeen → Look → List Step
+read_steps reads b look = name_steps reads b.config b.env all_firsts look
+
+-- the warnings of how the compiler was found are printed, and the lines of the variables that were read for it
+abbrev pub compiler_steps : BuildSeen → Bool → Look → List Step
+compiler_steps b warns_of_link look = tool_steps b.config b.env warns_of_link look ++ read_steps compiler_reads b look
+
+-- so they are, then those that were read for the archiver and for the tool that writes an index, and then the lines that show the tools
 abbrev pub tools_steps : BuildSeen → Bool → Looks → List Step
-tools_steps b warns_of_link looks = tool_steps b.config b.env warns_of_link looks.compiler ++ shows (lines_of b looks)
+tools_steps b warns_of_link looks =
+    compiler_steps b warns_of_link looks.compiler
+    ++ (read_steps archiver_reads b looks.archiver ++ (read_steps ranlib_reads b looks.ranlib ++ shows (lines_of b looks)))
 
 -- the host lists its variables before
 abbrev pub show_steps : BuildSeen → Bool → Looks → List Step
@@ -112,7 +125,7 @@ pub record Shown (steady : Bool) (world : Question → Verdicts) (b : BuildSeen)
 pub record ShowPromises (steady : Bool) (world : Question → Verdicts) (b : BuildSeen) (part : List Event) (ended : Ended) : Type 0 where
   -- the whole answer: each status with its cause
   pub answer : Shown steady world b part ended
-  -- status 0: nothing is refused, and exactly the variables were listed, the warnings printed, and the tools shown
+  -- status 0: nothing is refused, and exactly the variables were listed, the warnings and the lines of the variables printed, and the tools shown
   pub shown : ended.status ≡ 0 → (looks : Looks) → Agree answer.asks.compiler answer.asks.archiver answer.asks.ranlib looks → (warns_of_link : Bool) × ((show_error (listed_build b part) looks ≡ None) × IsWhole (show_steps (listed_build b part) warns_of_link looks) part)
   -- where nothing is refused, and no call of the host failed: it is done, or memory was wanted
   pub complete : (looks : Looks) → Agree answer.asks.compiler answer.asks.archiver answer.asks.ranlib looks → show_error (listed_build b part) looks ≡ None → (HasFault part → ⊥) → (ended ≡ ended_well) ⊎ (ended ≡ ended_wanting)

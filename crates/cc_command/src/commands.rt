@@ -6,7 +6,8 @@ ghost use Rattle.cc_command.specs.Read.Wish.{Expands, Shows};
 ghost use Rattle.cc_command.specs.declared.words.ReadError.TheVariants.{Bad, NoMemory as WantsMemory};
 ghost use Rattle.cc_command.specs.declared.words.WordCause.TheVariants.{UnknownCommand as NoSuchCommand};
 
-use crate::reading::{bad, number_of, read_settings};
+use crate::reading::number_of;
+use crate::settings::{bad, database_of, read_settings};
 use crate::words::{Job, ReadError, Request, WordCause};
 use cc_host::World;
 use cc_text::{Mem, Text, key_and_value};
@@ -25,6 +26,13 @@ fn job_of(alloc: Global, command: &str, name: &str) -> Result<Job, ReadError>
     }
 }
 
+// Whether the command compiles, so that a database may be asked for.
+fn compiles(command: &str) -> bool
+    ensures { result ≡ is command.now "compile" }
+{
+    command == "compile"
+}
+
 // Whether there is such a command.
 fn is_command(command: &str) -> bool
     ensures { result ≡ is_command command.now }
@@ -40,14 +48,20 @@ fn read_named<W: World>(
     words: &[String],
 ) -> Result<Request<W>, ReadError>
     ensures ok { IfOk result (λ request. read_named command.now name.now
-        (map string_bytes words.now) ≡ Ok (wish_of request.job request.build)) }
+        (map string_bytes words.now) ≡ Ok (wish_of request.job request.database request.build)) }
     ensures repeats { IfOk result (λ request. request.build.config.repeat_lines ≡ true) }
     ensures refused { IfErr result (λ e. (e ≡ WantsMemory) ⊎ (refusal_of
         (read_named command.now name.now (map string_bytes words.now)) ≡ Some e)) }
 {
     let job = job_of(alloc, command, name)?;
-    let build = read_settings(alloc, words, 2)?;
-    Ok(Request { job, build, alloc })
+    let build = read_settings(alloc, words, 2, compiles(command))?;
+    let database = database_of(alloc, words)?;
+    Ok(Request {
+        job,
+        build,
+        database,
+        alloc,
+    })
 }
 
 // A number that a large run takes.
@@ -96,7 +110,7 @@ fn read_count<W: World>(
     words: &[String],
 ) -> Result<Request<W>, ReadError>
     ensures ok { IfOk result (λ request. read_count number.now
-        (map string_bytes words.now) ≡ Ok (wish_of request.job request.build)) }
+        (map string_bytes words.now) ≡ Ok (wish_of request.job request.database request.build)) }
     ensures repeats { IfOk result (λ request. request.build.config.repeat_lines ≡ true) }
     ensures refused { IfErr result (λ e. (e ≡ WantsMemory) ⊎ (refusal_of
         (read_count number.now (map string_bytes words.now)) ≡ Some e)) }
@@ -104,9 +118,13 @@ fn read_count<W: World>(
     match count_of(alloc, number)? {
         Some(count) => {
             check_further(words)?;
-            let build = read_settings(alloc, words, 2)?;
-            let job = Job::Generate(count);
-            Ok(Request { job, build, alloc })
+            let build = read_settings(alloc, words, 2, false)?;
+            Ok(Request {
+                job: Job::Generate(count),
+                build,
+                database: None,
+                alloc,
+            })
         }
         None => Err(bad(1, WordCause::BadValue)),
     }
@@ -127,7 +145,7 @@ fn read_argued<W: World>(
     words: &[String],
 ) -> Result<Request<W>, ReadError>
     ensures ok { IfOk result (λ request. read_argued command.now name.now
-        (map string_bytes words.now) ≡ Ok (wish_of request.job request.build)) }
+        (map string_bytes words.now) ≡ Ok (wish_of request.job request.database request.build)) }
     ensures repeats { IfOk result (λ request. request.build.config.repeat_lines ≡ true) }
     ensures refused { IfErr result (λ e. (e ≡ WantsMemory) ⊎ (refusal_of
         (read_argued command.now name.now (map string_bytes words.now)) ≡ Some e)) }
@@ -146,7 +164,7 @@ fn read_further<W: World>(
     words: &[String],
 ) -> Result<Request<W>, ReadError>
     ensures ok { IfOk result (λ request. read_further command.now
-        (map string_bytes words.now) ≡ Ok (wish_of request.job request.build)) }
+        (map string_bytes words.now) ≡ Ok (wish_of request.job request.database request.build)) }
     ensures repeats { IfOk result (λ request. request.build.config.repeat_lines ≡ true) }
     ensures refused { IfErr result (λ e. (e ≡ WantsMemory) ⊎ (refusal_of
         (read_further command.now (map string_bytes words.now)) ≡ Some e)) }
@@ -161,28 +179,33 @@ fn read_further<W: World>(
 // Reads the words behind `show`: settings, and no name.
 fn read_shown<W: World>(alloc: Global, words: &[String]) -> Result<Request<W>, ReadError>
     ensures ok { IfOk result (λ request. read_build Shows
-        (map string_bytes words.now) ≡ Ok (wish_of request.job request.build)) }
+        (map string_bytes words.now) ≡ Ok (wish_of request.job request.database request.build)) }
     ensures repeats { IfOk result (λ request. request.build.config.repeat_lines ≡ true) }
     ensures refused { IfErr result (λ e. (e ≡ WantsMemory) ⊎ (refusal_of
         (read_build Shows (map string_bytes words.now)) ≡ Some e)) }
 {
-    let build = read_settings(alloc, words, 1)?;
-    let job = Job::Show;
-    Ok(Request { job, build, alloc })
+    let build = read_settings(alloc, words, 1, false)?;
+    Ok(Request {
+        job: Job::Show,
+        build,
+        database: None,
+        alloc,
+    })
 }
 
 // Reads the words behind `expand`, which are such as those behind `show`.
 fn read_expanded<W: World>(alloc: Global, words: &[String]) -> Result<Request<W>, ReadError>
     ensures ok { IfOk result (λ request. read_build Expands
-        (map string_bytes words.now) ≡ Ok (wish_of request.job request.build)) }
+        (map string_bytes words.now) ≡ Ok (wish_of request.job request.database request.build)) }
     ensures repeats { IfOk result (λ request. request.build.config.repeat_lines ≡ true) }
     ensures refused { IfErr result (λ e. (e ≡ WantsMemory) ⊎ (refusal_of
         (read_build Expands (map string_bytes words.now)) ≡ Some e)) }
 {
-    let set = read_settings(alloc, words, 1)?;
+    let set = read_settings(alloc, words, 1, false)?;
     Ok(Request {
         job: Job::Expand,
         build: set,
+        database: None,
         alloc,
     })
 }
@@ -208,7 +231,7 @@ fn read_command<W: World>(
     words: &[String],
 ) -> Result<Request<W>, ReadError>
     ensures ok { IfOk result (λ request. read (command.now ∷ map string_bytes words.now)
-        ≡ Ok (wish_of request.job request.build)) }
+        ≡ Ok (wish_of request.job request.database request.build)) }
     ensures repeats { IfOk result (λ request. request.build.config.repeat_lines ≡ true) }
     ensures refused { IfErr result (λ e. (e ≡ WantsMemory) ⊎ (refusal_of
         (read (command.now ∷ map string_bytes words.now)) ≡ Some e)) }
@@ -224,13 +247,13 @@ fn read_command<W: World>(
 
 /// Reads the words behind the program's own name: `compile NAME key=value ...` or `archive NAME key=value ...`, where a word ends its key at
 /// its first `=`, `generate N`, or `expand` or `show` with `key=value ...`. A list setting takes the values of its key in order, a single one the last; a large
-/// run takes a number from 1 to 10000 and no setting.
+/// run takes a number from 1 to 10000 and no setting. The key `database`, which `compile` alone takes, is the path of a compilation database.
 ///
 /// Refused at the first bad word, with its place from 0 and the first cause that holds; and for memory. Nothing is left then, and no host
 /// was asked anything.
 pub fn read_words<W: World>(alloc: Global, words: &[String]) -> Result<Request<W>, ReadError>
     ensures ok { IfOk result
-        (λ request. asked_for words.now ≡ Ok (wish_of request.job request.build)) }
+        (λ request. asked_for words.now ≡ Ok (wish_of request.job request.database request.build)) }
     ensures repeats { IfOk result (λ request. request.build.config.repeat_lines ≡ true) }
     ensures refused { IfErr result
         (λ e. (e ≡ WantsMemory) ⊎ (refusal_of (asked_for words.now) ≡ Some e)) }

@@ -8,11 +8,14 @@
 
 mod archive;
 mod commands;
+mod database;
 mod ended;
 mod expand;
 mod large_run;
 mod lines;
 mod reading;
+mod recorded;
+mod settings;
 mod show;
 mod summary;
 mod top;

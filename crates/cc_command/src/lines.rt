@@ -15,7 +15,7 @@ use cc_host::{Host, HostError, LineKind, Why, World};
 use cc_text::{Mem, NoMemory, Text};
 use std::alloc::Global;
 
-fn why_name(why: Why) -> &'static str
+pub(crate) fn why_name(why: Why) -> &'static str
     ensures { result.now ≡ name_of_why why }
 {
     match why {

@@ -1,13 +1,12 @@
-// Reads the settings that words ask for.
-ghost use Rattle.std.specs.Prelude.{◌≡◌, ◌⊎◌, ◌≤◌, ◌++◌, [], ◌∷◌, Ok, Err, Some, None, map, true, false, IfOk, IfErr, OnOk, MatchResult, IsErr, string_bytes, codes};
+// The setters of the keys that words have.
+ghost use Rattle.std.specs.Prelude.{◌≡◌, ◌⊎◌, ◌≤◌, ◌++◌, [], ◌∷◌, Ok, Err, Some, None, true, false, IfOk, OnOk, MatchResult, IsErr, codes};
 ghost use Rattle.std.specs.Option.{option_copied};
 ghost use Rattle.cc_build.specs.Build.{Sets};
-ghost use Rattle.cc_command.specs.Read.{bad_at, IsNumberOf, IsTruthOf, is_truth, is_text_key, is_item_key, is_choice_key, is_switch_key, cause_unless, definition_of, unless_empty, first_bad, bad_word};
-ghost use Rattle.cc_command.specs.SetsKey.{SetsKey, SetsTruth, SetsLevel, SetsWord, ReadsSettings};
+ghost use Rattle.cc_command.specs.Read.{IsNumberOf, IsTruthOf, is_truth, is_text_key, is_item_key, is_choice_key, is_switch_key, cause_unless, definition_of, unless_empty};
+ghost use Rattle.cc_command.specs.SetsKey.{SetsKey, SetsTruth, SetsLevel};
 ghost use Rattle.cc_command.specs.Step.{with_key};
-ghost use Rattle.cc_command.specs.declared.words.ReadError.TheVariants.{Bad, NoMemory as WantsMemory};
 
-use crate::words::{BadWord, ReadError, WordCause};
+use crate::words::WordCause;
 use cc_build::{Build, Error};
 use cc_host::World;
 use cc_text::{Mem, NoMemory, key_and_value};
@@ -59,8 +58,8 @@ fn unless_empty(text: &str) -> Option<&str>
     }
 }
 
-// Calls the setter of a key whose value is one text, or of another key.
-fn set_key<W: World>(
+/// Calls the setter of a key: here of one whose value is one text, else of another kind.
+pub(crate) fn set_key<W: World>(
     alloc: Global,
     build: &mut Build<W>,
     key: &str,
@@ -350,44 +349,4 @@ fn set_truth<W: World>(build: &mut Build<W>, key: &str, value: &str) -> Option<W
         }
         None => Some(WordCause::BadValue),
     }
-}
-
-// Calls the setter of a word behind the name.
-fn set_word<W: World>(alloc: Global, build: &mut Build<W>, word: &str) -> Mem<Option<WordCause>>
-    ensures { IfOk result (SetsWord build.old build.new word.now) }
-{
-    match key_and_value(word) {
-        Some((key, value)) => set_key(alloc, build, key, value),
-        None => Ok(Some(WordCause::NoValue)),
-    }
-}
-
-pub(crate) fn bad(place: u64, cause: WordCause) -> ReadError
-    ensures { result ≡ Bad (bad_at place cause) }
-{
-    ReadError::Bad(BadWord { place, cause })
-}
-
-/// Calls the setters of words, of which the first has this place, in their order, up to the first bad word.
-pub(crate) fn read_settings<W: World>(
-    alloc: Global,
-    words: &[String],
-    from: u64,
-) -> Result<Build<W>, ReadError>
-    requires { from ≤ 2 }
-    ensures ok { IfOk result (ReadsSettings from (map string_bytes words.now)) }
-    ensures refused { IfErr result (λ e. (e ≡ WantsMemory)
-        ⊎ (bad_word (first_bad from (map string_bytes words.now)) ≡ Some e)) }
-{
-    let mut build = match Build::new(alloc) {
-        Ok(build) => build,
-        Err(_) => return Err(ReadError::NoMemory),
-    };
-    build.repeat_lines(true);
-    for (place, word) in words.iter().enumerate() {
-        if let Some(cause) = set_word(alloc, &mut build, word.as_str())? {
-            return Err(bad(place as u64 + from, cause));
-        }
-    }
-    Ok(build)
 }

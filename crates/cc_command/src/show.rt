@@ -1,5 +1,5 @@
 // The job that shows the tools of a build.
-ghost use Rattle.std.specs.Prelude.{◌≡◌, ◌++◌, [], ◌∷◌, IfOk, OnOk};
+ghost use Rattle.std.specs.Prelude.{◌≡◌, ◌++◌, [], ◌∷◌, true, IfOk, OnOk};
 ghost use Rattle.cc_host.specs.Call.{part};
 ghost use Rattle.cc_host.specs.CommandLine.{command_line as line_of_command};
 ghost use Rattle.cc_build.specs.Course.{CallsEnd};
@@ -75,7 +75,7 @@ fn print_tools<W: World, H: Host<W>>(
     }
 }
 
-/// Finds the tools of a build, and prints a line for the family of its compiler, and one for each of compiler, archiver and the tool that
+/// Finds the tools of a build, each with the lines of the variables that were read for it, and prints a line for the family of its compiler, and one for each of compiler, archiver and the tool that
 /// writes an index, with its command.
 #[tactic(auto, using(cc_host::proofs::Parts::since_append))]
 pub(crate) fn show<W: World, H: Host<W>>(
@@ -84,6 +84,7 @@ pub(crate) fn show<W: World, H: Host<W>>(
     build: &Build<W>,
     host: &mut H,
 ) -> Result<(), Error>
+    requires repeats { build.now.config.repeat_lines ≡ true }
     ensures extends { H.log host.new ≡ H.log host.old ++ part H.log host.old host.new }
     ensures showing { Showing W.steady W.answer build.now
         (part H.log host.old host.new) result }

@@ -7,8 +7,8 @@ ghost use Rattle.cc_command.specs.Answer.{asked_for, IfArchives, IfExpands, IfGe
 ghost use Rattle.cc_command.specs.Archived.{Archived, ArchivePromises};
 ghost use Rattle.cc_command.specs.Asks.{AsksFor, AsksWish, AsksWords};
 ghost use Rattle.cc_command.specs.Expanded.{Expanded, ExpandPromises};
-ghost use Rattle.cc_command.specs.Promises.{Headline, Promises, PrintsLast, FaultsLast};
-ghost use Rattle.cc_command.specs.Read.{name_of, wish_of};
+ghost use Rattle.cc_command.specs.Promises.{Headline, IsPromised, IsRecordedSo, PrintsLast, FaultsLast};
+ghost use Rattle.cc_command.specs.Read.{compile_wish, name_of, wish_of};
 ghost use Rattle.cc_command.specs.Shown.{Shown, ShowPromises};
 ghost use Rattle.cc_command.specs.Summary.{Sums, GeneratePromises};
 
@@ -16,6 +16,7 @@ use crate::archive::archive;
 use crate::commands::read_words;
 use crate::ended::{Ended, ended_done, ended_wanting, refuse, refuse_word};
 use crate::expand::expand;
+use crate::recorded::{Record, compile_recorded};
 use crate::show::show;
 use crate::summary::generate_alone;
 use crate::words::{Invocation, Job, ReadError, Request};
@@ -58,6 +59,45 @@ fn compile<W: World, H: Host<W>, J: Jobs>(
     }
 }
 
+// Compiles, and records that where a database is asked for.
+#[tactic(auto, using(cc_host::proofs::Parts::since_append))]
+fn compile_job<W: World, H: Host<W>, J: Jobs>(
+    rt: &impl Wait,
+    request: &mut Request<W>,
+    turns: u64,
+    host: &mut H,
+    jobs: &J,
+    seat: &mut J::Seat,
+) -> Ended
+    requires fits { J.fits jobs.now seat.old }
+    requires empty { J.held seat.old ≡ 0 }
+    requires repeats { request.old.build.config.repeat_lines ≡ true }
+    ensures fits { J.fits jobs.now seat.new }
+    ensures empty { J.held seat.new ≡ 0 }
+    ensures extends { H.log host.new ≡ H.log host.old ++ part H.log host.old host.new }
+    ensures asked { AsksWish W.steady W.answer (compile_wish request.old.database
+        (name_of request.old.job, request.old.build)) (part H.log host.old host.new) }
+    ensures answer { ByRun H.log H.patience J.total J.faults J.taken J.load turns
+        host.old host.new seat.old seat.new (IsAnswerOf (compile_wish request.old.database
+        (name_of request.old.job, request.old.build)) result) }
+{
+    match &request.database {
+        Some(path) => {
+            let alloc = request.alloc;
+            let name = request.job.name();
+            let path = path.as_str();
+            let to = Record {
+                alloc,
+                name,
+                path,
+                turns,
+            };
+            compile_recorded(rt, to, &mut request.build, host, jobs, seat)
+        }
+        None => compile(rt, request, turns, host, jobs, seat),
+    }
+}
+
 // Takes the host's variables, and archives the added objects alone.
 #[tactic(auto, using(cc_host::proofs::Parts::since_append))]
 fn archive_alone<W: World, H: Host<W>>(
@@ -88,6 +128,7 @@ fn expand_alone<W: World, H: Host<W>>(
     request: &mut Request<W>,
     host: &mut H,
 ) -> Ended
+    requires repeats { request.old.build.config.repeat_lines ≡ true }
     ensures extends { H.log host.new ≡ H.log host.old ++ part H.log host.old host.new }
     ensures expanded { Expanded W.steady W.answer request.old.build
         (part H.log host.old host.new) result }
@@ -105,6 +146,7 @@ fn expand_alone<W: World, H: Host<W>>(
 // Takes the host's variables, and shows the tools of the build.
 #[tactic(auto, using(cc_host::proofs::Parts::since_append))]
 fn show_tools<W: World, H: Host<W>>(rt: &impl Wait, request: &mut Request<W>, host: &mut H) -> Ended
+    requires repeats { request.old.build.config.repeat_lines ≡ true }
     ensures extends { H.log host.new ≡ H.log host.old ++ part H.log host.old host.new }
     ensures shown { Shown W.steady W.answer request.old.build
         (part H.log host.old host.new) result }
@@ -135,23 +177,28 @@ fn serve<W: World, H: Host<W>, J: Jobs>(
     ensures fits { J.fits jobs.now seat.new }
     ensures empty { J.held seat.new ≡ 0 }
     ensures extends { H.log host.new ≡ H.log host.old ++ part H.log host.old host.new }
-    ensures asked { AsksWish W.steady W.answer (wish_of request.old.job request.old.build)
+    ensures asked { AsksWish W.steady W.answer
+        (wish_of request.old.job request.old.database request.old.build)
         (part H.log host.old host.new) }
     ensures answer { ByRun H.log H.patience J.total J.faults J.taken J.load turns
         host.old host.new seat.old seat.new
-        (IsAnswerOf (wish_of request.old.job request.old.build) result) }
-    ensures archived { IfArchives (Ok (wish_of request.old.job request.old.build))
+        (IsAnswerOf (wish_of request.old.job request.old.database request.old.build) result) }
+    ensures archived { IfArchives
+        (Ok (wish_of request.old.job request.old.database request.old.build))
         (λ q. Archived W.steady W.answer q (H.patience host.old) turns
         (part H.log host.old host.new) result) }
-    ensures generated { IfGenerates (Ok (wish_of request.old.job request.old.build))
+    ensures generated { IfGenerates
+        (Ok (wish_of request.old.job request.old.database request.old.build))
         (λ count. Sums count turns (part H.log host.old host.new) result) }
-    ensures expanded { IfExpands (Ok (wish_of request.old.job request.old.build))
+    ensures expanded { IfExpands
+        (Ok (wish_of request.old.job request.old.database request.old.build))
         (λ b. Expanded W.steady W.answer b (part H.log host.old host.new) result) }
-    ensures shown { IfShows (Ok (wish_of request.old.job request.old.build))
+    ensures shown { IfShows
+        (Ok (wish_of request.old.job request.old.database request.old.build))
         (λ b. Shown W.steady W.answer b (part H.log host.old host.new) result) }
 {
     match request.job {
-        Job::Compile(_) => compile(rt, request, turns, host, jobs, seat),
+        Job::Compile(_) => compile_job(rt, request, turns, host, jobs, seat),
         Job::Archive(_) => archive_alone(rt, request, turns, host),
         Job::Generate(count) => generate_alone(rt, request.alloc, count, turns, host),
         Job::Expand => expand_alone(rt, request, host),
@@ -209,18 +256,23 @@ fn run<W: World, H: Host<W>, J: Jobs>(
 /// exactly the link lines were printed, and then the lines of the variables that the run read. That of `archive NAME ..` means: the old
 /// library is removed, those commands archived the added objects alone, and then its link lines were printed; it takes no token.
 ///
+/// `compile NAME database=PATH ..` does so too, and tells of it: status 0 means that between the listing and the run the host told the folder
+/// that relative paths count from, and that the last event wrote the file of that path: the compilation database with one entry for each
+/// source, in order, of that folder, the source, its object, and the words of the command that compiled it.
+///
 /// `generate N` leaves the host's variables, the pool and the seat alone: its run has a host in memory and four tokens of its own, and as many
 /// turns, of which two for each source and two more are enough. Status 0 of it means: over the whole log of that host, which is handed back
 /// as `bench` and was empty before, the library `gen` of N sources is built; and exactly five lines were printed on the host that was
 /// handed in, of kind Shown: `sources`, `compiles`, `archives`, `indexes` and `links`, each with its number.
 ///
 /// `expand key=value ..` takes no token and makes no turn. Status 0 of it means: the host listed its variables, the warnings of how the
-/// compiler was found were printed; then exactly one command ran, the planned one that expands the one source, and ended with 0; and then its
-/// standard output was printed as it is, of kind Expanded.
+/// compiler was found were printed; then exactly one command ran, the planned one that expands the one source, and ended with 0; then exactly
+/// the lines of the variables that were read for it were printed; and then its standard output as it is, of kind Expanded.
 ///
 /// `show key=value ..` starts no command but those of questions. Status 0 of it means: the host listed its variables, the warnings of how
-/// the compiler was found were printed, and then exactly four lines of kind Shown, `family`, `compiler`, `archiver` and `ranlib`, as the
-/// plan has them by the answers to its questions.
+/// the compiler was found were printed, then exactly the lines of the variables that were read for the compiler, for the archiver and for the
+/// tool that writes an index, and then exactly four lines of kind Shown, `family`, `compiler`, `archiver` and `ranlib`, as the plan has them
+/// by the answers to its questions.
 ///
 /// Another status leaves what the first stages did. Its line, `error occurred in cc-rs: <message>` or `word <place>: <cause>`, is the
 /// last event, of kind Fault, or else the fault of its print; want of memory prints none. Each command that was started has ended or was
@@ -247,7 +299,11 @@ pub fn drive<W: World, H: Host<W>, J: Jobs>(
 
     // The whole answer, each status with its cause, and what follows from it, sentence by sentence.
     ensures promises { ByRun H.log H.patience J.total J.faults J.taken J.load turns
-        host.old host.new seat.old seat.new (Promises words.now result) }
+        host.old host.new seat.old seat.new (IsPromised words.now result) }
+
+    // The same of a compile run that is recorded in a database.
+    ensures recorded { ByRun H.log H.patience J.total J.faults J.taken J.load turns
+        host.old host.new seat.old seat.new (IsRecordedSo words.now result) }
 
     // The same of an archive alone.
     ensures archived { IfArchives (asked_for words.now) (λ q. ArchivePromises W.steady W.answer q

@@ -19,7 +19,8 @@ pub enum WordCause {
     NoName,
     /// The word has no `=`, so it is no `key=value`.
     NoValue,
-    /// What stands before the first `=` is no key; behind the number of `generate` there is none.
+    /// What stands before the first `=` is no key, or `database` behind another command than `compile`; behind the number of `generate` there is
+    /// none.
     UnknownKey,
     /// The key doesn't take this value: a truth value that isn't `true` or `false`, a number that isn't its decimal form, or a value
     /// without a second `=` where one is wanted. Or `generate` doesn't take this number: its place is 1.
@@ -72,6 +73,8 @@ pub struct Request<W: World> {
     pub job: Job,
     /// The settings that the words behind the name set; it has inherited no variable yet.
     pub build: Build<W>,
+    /// The path of the compilation database that a compile run writes last, if one is asked for.
+    pub database: Option<Text>,
     /// Where the lines that are printed for it take their memory.
     pub alloc: Global,
 }

@@ -66,6 +66,7 @@ keys of which the last counts:
   std=NAME                 the standard of the language
   cpp_set_stdlib=NAME      the C++ library that the compiler is told of, and that Cargo links
   cpp_link_stdlib=NAME     the C++ library that Cargo links alone; none where NAME is empty
+  database=PATH            the compilation database that compile writes last, one entry for each source
 
 keys of true or false:
   cpp  cpp_link_stdlib_static  pic  use_plt  static_crt  static_flag  shared_flag

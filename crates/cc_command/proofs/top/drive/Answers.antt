@@ -7,6 +7,7 @@ use Rattle.cc_command.proofs.AskLaws.{said, prints_last, faults_last, settled}
 use Rattle.cc_command.proofs.ArchivedLaws.{archive_promises}
 use Rattle.cc_command.proofs.ExpandedLaws.{expand_promises}
 use Rattle.cc_command.proofs.PromiseLaws.{headline}
+use Rattle.cc_command.proofs.RecordPromises.{record_promises}
 use Rattle.cc_command.proofs.SettledPromises.{promised}
 use Rattle.cc_command.proofs.ShownLaws.{show_promises}
 use Rattle.cc_command.proofs.SummedLaws.{generate_promises}
@@ -31,7 +32,18 @@ returns-clause-promises g c =
       under = λ look agree.
           let run = c.run.ensures.answer.under look agree in
           let after = means run.0 (g.J.Jobs.faults c.run.new.seat) (g.J.Jobs.taken c.run.new.seat) (g.J.Jobs.load c.run.new.seat) in
-          (run.0, promised c.args.words.now c.run.result look part (course (g.J.Jobs.total c.args.seat.now) (g.H.Host.patience c.args.host.now) before after) run.1);
+          (run.0, promised (asked_for c.args.words.now) c.run.result look part (course (g.J.Jobs.total c.args.seat.now) (g.H.Host.patience c.args.host.now) before after) run.1);
+    }
+
+pub returns-clause-recorded : goal.returns-clause-recorded
+returns-clause-recorded g c =
+    let part = since (g.H.Host.log c.args.host.now) (g.H.Host.log c.run.new.host) in
+    let before = means c.args.turns (g.J.Jobs.faults c.args.seat.now) (g.J.Jobs.taken c.args.seat.now) (g.J.Jobs.load c.args.seat.now) in
+    record {
+      under = λ look agree.
+          let run = c.run.ensures.answer.under look agree in
+          let after = means run.0 (g.J.Jobs.faults c.run.new.seat) (g.J.Jobs.taken c.run.new.seat) (g.J.Jobs.load c.run.new.seat) in
+          (run.0, record_promises look (asked_for c.args.words.now) part c.run.result (course (g.J.Jobs.total c.args.seat.now) (g.H.Host.patience c.args.host.now) before after) run.1);
     }
 
 pub returns-clause-archived : goal.returns-clause-archived

@@ -24,7 +24,7 @@ returns-in-Ok-clause-answer g c =
           let served = c.serve.ensures.answer.under look agree in
           let after = means served.0 (g.J.Jobs.faults c.serve.new.seat) (g.J.Jobs.taken c.serve.new.seat) (g.J.Jobs.load c.serve.new.seat) in (
             served.0,
-            answers_read look (asked_for c.args.invocation.words.now) (Ok (wish_of c.in-Ok.request.job c.in-Ok.request.build)) (since (g.H.Host.log c.args.host.now) (g.H.Host.log c.serve.new.host)) c.serve.result
+            answers_read look (asked_for c.args.invocation.words.now) (Ok (wish_of c.in-Ok.request.job c.in-Ok.request.database c.in-Ok.request.build)) (since (g.H.Host.log c.args.host.now) (g.H.Host.log c.serve.new.host)) c.serve.result
                 (course (g.J.Jobs.total c.args.seat.now) (g.H.Host.patience c.args.host.now) before after) c.in-Ok.ensures.ok served.1,
           );
     }

@@ -1,0 +1,62 @@
+-- What an answer to a compile run that is recorded promises.
+use Rattle.std.proofs.Common.{◌≡◌, ◌⊎◌, inl, inr, ℕ, List, [], ◌∷◌, ◌++◌, Bool, true, false, Option, None, Result, Ok, Err, refl, sym, ◌∙◌, ap, subst, append-nil}
+use Rattle.std.specs.Prelude.{◌≢◌}
+use Rattle.cc_host.specs.Question.{Look}
+use Rattle.cc_host.specs.declared.event.Event.{Event}
+use Rattle.cc_host.specs.declared.event.Event.TheVariants.{Listed, Here, Wrote}
+use Rattle.cc_build.specs.Course.{Course}
+use Rattle.cc_build.specs.Error.{ErrorSeen}
+use Rattle.cc_command.specs.Answer.{Answers, AnswersError, AnswersRecord, AnswersWords, Behind, BuiltBy, IfRecords, Recorded, Unbegun, database_in, ended_well}
+use Rattle.cc_command.specs.Promises.{RecordedBy, RecordPromises}
+use Rattle.cc_command.specs.Read.{Request, Wish}
+use Rattle.cc_command.specs.Read.Wish.{Compiles, Records, Archives, Generates, Expands, Shows}
+use Rattle.cc_command.specs.declared.ended.Ended.{Ended}
+use Rattle.cc_command.specs.declared.words.BadWord.{BadWord}
+use Rattle.cc_command.proofs.PromiseLaws.{built_of}
+use Rattle.cc_command.proofs.RecordEnds.{record_complete, record_enough}
+use Rattle.cc_command.proofs.SettledPromises.{promised}
+
+error_status : (e : ErrorSeen) (line : List Event) (ended : Ended) → AnswersError e line ended → ended.status ≡ 0 → ⊥
+error_status e line ended (inl printed) zero_is = let s : ended.status ≡ 1 = ap (λ (x : Ended). x.status) printed.0 in cc
+error_status e line ended (inr wanting) zero_is = let s : ended.status ≡ 3 = ap (λ (x : Ended). x.status) wanting.0 in cc
+
+answered_well : (look : Look) (q : Request) (part : List Event) (ended : Ended) (c : Course) → Answers look q part ended c → ended.status ≡ 0 → ended ≡ ended_well
+answered_well look q part ended c (inl well) zero_is = well.0
+answered_well look q part ended c (inr (inl r)) zero_is = let s : ended.status ≡ 1 = ap (λ (x : Ended). x.status) r.is in absurd (cc)
+answered_well look q part ended c (inr (inr wanting)) zero_is = let s : ended.status ≡ 3 = ap (λ (x : Ended). x.status) wanting.0 in absurd (cc)
+
+module _ (look : Look) (path : List ℕ) (q : Request) (part : List Event) (ended : Ended) (c : Course) where
+  recorded_by : AnswersRecord look path q part ended c → ended.status ≡ 0 → RecordedBy look path q part c
+  recorded_by (inl u) zero_is = absurd (error_status u.error u.line ended u.says zero_is)
+  recorded_by (inr r) zero_is = by_rest r.behind
+    where
+      by_rest : Behind path (database_in look q r.vars r.here) r.ran r.rest ended → RecordedBy look path q part c
+      by_rest (inl (well, inl written)) = record {
+        vars = r.vars;
+        here = r.here;
+        run = r.run;
+        cut = r.cut ∙ ap (λ l. Listed r.vars ∷ Here r.here ∷ (r.run ++ l)) written.1;
+        built = built_of look q (Listed r.vars ∷ r.run) r.ran c r.answer (ap (λ (x : Ended). x.status) well);
+      }
+      by_rest (inl (well, inr u)) = absurd (error_status u.error u.line ended u.says zero_is)
+      by_rest (inr refused) =
+          let ran : r.ran.status ≡ 0 = ap (λ (x : Ended). x.status) (sym refused.0) ∙ zero_is in
+          absurd (refused.2 (refused.0 ∙ answered_well look q (Listed r.vars ∷ r.run) r.ran c r.answer ran))
+
+  promises : AnswersRecord look path q part ended c → RecordPromises look path q part ended c
+  promises a = record {
+    answer = a;
+    recorded = recorded_by a;
+    promises = λ r. promised (Ok (Compiles q)) r.ran look (Listed r.vars ∷ r.run) c r.answer;
+    complete = record_complete look path q part ended c a;
+    enough = record_enough look path q part ended c a;
+  }
+
+pub record_promises : (look : Look) (words : Result Wish BadWord) (part : List Event) (ended : Ended) (c : Course) → AnswersWords look words part ended c → IfRecords words (λ path q. RecordPromises look path q part ended c)
+record_promises look (Ok (Compiles q)) part ended c a = tt
+record_promises look (Ok (Records path q)) part ended c a = promises look path q part ended c a
+record_promises look (Ok (Archives q)) part ended c a = tt
+record_promises look (Ok (Generates n)) part ended c a = tt
+record_promises look (Ok (Expands b)) part ended c a = tt
+record_promises look (Ok (Shows b)) part ended c a = tt
+record_promises look (Err bad) part ended c a = tt
