@@ -60,20 +60,20 @@ given_part P call event part (Err (Flag flag)) none one fault h = absurd h
 pub warned_then : {X : Type 0} (first second : List Step) (a b : List Event) (r : Result X PlanError) → RefusedByPrint r → IsWhole first a → Warned second b r → Warned (first ++ second) (a ++ b) r
 warned_then first second a b (Ok x) refused whole h = whole_then first second a b whole h
 warned_then first second a b (Err e) refused whole h = (partly_then first second a b whole h.0, ends e refused h.1)
-    where
-      ends : (e : PlanError) → (e ≡ NoMemory) ⊎ IsPrintFault e → EndsWarning b e → EndsWarning (a ++ b) e
-      ends (Host call why) r k = (k.0, stops_then first a b whole ∙ k.1)
-      ends NoMemory r k = stops_then first a b whole ∙ k
-      ends (Argument cause) (inl r) k = absurd (cc)
-      ends (Argument cause) (inr r) k = let same = r.2.1 in absurd (cc)
-      ends (NotSet name) (inl r) k = absurd (cc)
-      ends (NotSet name) (inr r) k = let same = r.2.1 in absurd (cc)
-      ends (UnknownTarget name) (inl r) k = absurd (cc)
-      ends (UnknownTarget name) (inr r) k = let same = r.2.1 in absurd (cc)
-      ends (QnxArch name) (inl r) k = absurd (cc)
-      ends (QnxArch name) (inr r) k = let same = r.2.1 in absurd (cc)
-      ends (Flag flag) (inl r) k = absurd (cc)
-      ends (Flag flag) (inr r) k = let same = r.2.1 in absurd (cc)
+  where
+    ends : (e : PlanError) → (e ≡ NoMemory) ⊎ IsPrintFault e → EndsWarning b e → EndsWarning (a ++ b) e
+    ends (Host call why) r k = (k.0, stops_then first a b whole ∙ k.1)
+    ends NoMemory r k = stops_then first a b whole ∙ k
+    ends (Argument cause) (inl r) k = absurd (cc)
+    ends (Argument cause) (inr r) k = let same = r.2.1 in absurd (cc)
+    ends (NotSet name) (inl r) k = absurd (cc)
+    ends (NotSet name) (inr r) k = let same = r.2.1 in absurd (cc)
+    ends (UnknownTarget name) (inl r) k = absurd (cc)
+    ends (UnknownTarget name) (inr r) k = let same = r.2.1 in absurd (cc)
+    ends (QnxArch name) (inl r) k = absurd (cc)
+    ends (QnxArch name) (inr r) k = let same = r.2.1 in absurd (cc)
+    ends (Flag flag) (inl r) k = absurd (cc)
+    ends (Flag flag) (inr r) k = let same = r.2.1 in absurd (cc)
 
 -- a refused warning, and others that would come behind it
 pub warned_more : (X : Type 0) (steps more : List Step) (part : List Event) (e : PlanError) → Warned {X = X} steps part (Err e) → Warned {X = X} (steps ++ more) part (Err e)
