@@ -8,7 +8,6 @@
 mod archiving;
 mod build;
 mod compiler;
-mod compiles;
 mod compiling;
 mod directives;
 mod environment;

@@ -18,13 +18,12 @@ ghost use Rattle.cc_build.specs.Refusal.{plan_error as error_of_plan};
 ghost use Rattle.cc_build.specs.Stage.{folder_in};
 
 use crate::Error;
-use crate::compiles::do_plan;
 use crate::directives::{Lines, first_stages};
 use crate::library::{Library, write_library};
 use crate::message::or_no_memory;
 use crate::refusal::plan_error;
 use crate::reruns::read_names;
-use crate::stage::do_stages;
+use crate::stage::{do_stages, stages_of};
 use crate::task::{Shared, Task};
 use cc_host::{Host, World};
 use cc_jobs::Jobs;
@@ -210,14 +209,14 @@ pub(crate) fn compile_sources<W: World, H: Host<W>, J: Jobs>(
         Ok(plan) => plan,
         Err(error) => return Err(error),
     };
-    do_plan(
-        &shared.task,
+    let stages = stages_of(shared.task.reporting.alloc, plan)?;
+    do_stages(
+        shared.task.reporting,
         host,
         shared.jobs,
         seat,
         turns,
-        &plan,
-        shared.sources.objects.as_slice(),
+        &stages,
     )
 }
 
