@@ -67,7 +67,7 @@ module _ (set : BuildConfig) (env : EnvSeen) (part : List Event) (steady : Bool)
   pub agreed : (look : Look) × Agrees look (answers part)
   agreed = some_agree (answers part) asked_all.0.once
 
-module _ (set : BuildConfig) (env : EnvSeen) (patience : Option ℕ) (turns : ℕ) (output : List ℕ) (part : List Event) where
+module _ (set : BuildConfig) (env : EnvSeen) (listens : Bool) (patience : Option ℕ) (turns : ℕ) (output : List ℕ) (part : List Event) where
   abbrev pub seen : BuildSeen
   seen = record { config = set; env = env }
 
@@ -75,12 +75,12 @@ module _ (set : BuildConfig) (env : EnvSeen) (patience : Option ℕ) (turns : �
   told_with look is_plain firsts = asked_then (archive_refusal set env look) (told_library set env archive_reads is_plain look firsts output)
 
   -- nothing was asked: the checks refused it, or memory was wanted
-  pub uncreated : (T : Type 0) (look : Look) (e : ErrorSeen) → part ≡ [] → (e ≡ no_memory) ⊎ (unarchived_error set env output ≡ Some e) → Creates {T = T} seen patience turns output (Err e) look part
+  pub uncreated : (T : Type 0) (look : Look) (e : ErrorSeen) → part ≡ [] → (e ≡ no_memory) ⊎ (unarchived_error set env output ≡ Some e) → Creates {T = T} seen listens patience turns output (Err e) look part
   uncreated T look e none cause =
       let run : List Stage = if is_some (archive_refusal set env look) then [] else told_library set env archive_reads false look all_firsts output in
-      (turns, (false, all_firsts, ((λ _. refl), never_created (terms (shows_of set env) (Some 1) patience) (unarchived_error set env output) (archive_error set env look output) run part e (means turns 0 0 0) none cause)))
+      (turns, (false, all_firsts, ((λ _. refl), never_created (terms (shows_of set env listens) (Some 1) patience) (unarchived_error set env output) (archive_error set env look output) run part e (means turns 0 0 0) none cause)))
 
-  module _ (shows : Shows) (c : Course) (reads : Reads) (same : shows ≡ shows_of set env) (patient : c.patience ≡ patience) (given : c.before.left ≡ turns) (those : reads ≡ archive_reads) (passed : unarchived_error set env output ≡ None) where
+  module _ (shows : Shows) (c : Course) (reads : Reads) (same : shows ≡ shows_of set env listens) (patient : c.patience ≡ patience) (given : c.before.left ≡ turns) (those : reads ≡ archive_reads) (passed : unarchived_error set env output ≡ None) where
     -- the terms of a run that takes no token of a pool
     abbrev in_run : Shows → Option ℕ → Terms
     in_run shown p = terms shown (Some 1) p
@@ -93,7 +93,7 @@ module _ (set : BuildConfig) (env : EnvSeen) (patience : Option ℕ) (turns : �
     )
 
     -- the library was written and the lines were printed, or it ended before
-    created : {T : Type 0} (r : Result T ErrorSeen) (look : Look) → (is_plain : Bool) × (firsts : Firsts) × (Repeats set firsts × Ends (terms shows c.total c.patience) (archive_error set env look output) (asked_then (archive_refusal set env look) (told_library set env reads is_plain look firsts output)) part r c.before c.after) → Creates seen patience turns output r look part
+    created : {T : Type 0} (r : Result T ErrorSeen) (look : Look) → (is_plain : Bool) × (firsts : Firsts) × (Repeats set firsts × Ends (terms shows c.total c.patience) (archive_error set env look output) (asked_then (archive_refusal set env look) (told_library set env reads is_plain look firsts output)) part r c.before c.after) → Creates seen listens patience turns output r look part
     created r look h =
         let error = archive_error set env look output in
         let stages = told_with look h.0 h.1 in
@@ -107,7 +107,7 @@ module _ (set : BuildConfig) (env : EnvSeen) (patience : Option ℕ) (turns : �
             h.1,
             (
               h.2.0,
-              behind_checks (in_run (shows_of set env) patience) (unarchived_error set env output) error stages part r (means turns 0 0 0) (means c.after.left 0 0 0) passed
+              behind_checks (in_run (shows_of set env listens) patience) (unarchived_error set env output) error stages part r (means turns 0 0 0) (means c.after.left 0 0 0) passed
                   (subst (λ (s : Shows). Ends (in_run s patience) error stages part r (means turns 0 0 0) (means c.after.left 0 0 0)) same
                   (subst (λ (p : Option ℕ). Ends (in_run shows p) error stages part r (means turns 0 0 0) (means c.after.left 0 0 0)) patient
                   (subst (λ (n : ℕ). Ends (in_run shows c.patience) error stages part r (means n 0 0 0) (means c.after.left 0 0 0)) given alone))),
@@ -117,7 +117,7 @@ module _ (set : BuildConfig) (env : EnvSeen) (patience : Option ℕ) (turns : �
 
     -- the same of a call that began with no answers
     module _ (steady : Bool) (world : Question → Outcome) (fresh known : List Answer) (none : fresh ≡ []) (on : AsksOn steady world (probe_folder set env) (RunAsks set env) part fresh known) where
-      pub created_by : {T : Type 0} (r : Result T ErrorSeen) → Holds known (λ look. (is_plain : Bool) × (firsts : Firsts) × (Repeats set firsts × Ends (terms shows c.total c.patience) (archive_error set env look output) (asked_then (archive_refusal set env look) (told_library set env reads is_plain look firsts output)) part r c.before c.after)) → Holds (answers part) (λ look. Creates seen patience turns output r look part)
+      pub created_by : {T : Type 0} (r : Result T ErrorSeen) → Holds known (λ look. (is_plain : Bool) × (firsts : Firsts) × (Repeats set firsts × Ends (terms shows c.total c.patience) (archive_error set env look output) (asked_then (archive_refusal set env look) (told_library set env reads is_plain look firsts output)) part r c.before c.after)) → Holds (answers part) (λ look. Creates seen listens patience turns output r look part)
       created_by r h = record { under = λ look agree. created r look (h.under look (subst (Agrees look) (sym (asked_all set env part steady world fresh known none on).1) agree)) }
 
 -- ---- what follows from how it ends
@@ -125,18 +125,18 @@ module _ (set : BuildConfig) (env : EnvSeen) (patience : Option ℕ) (turns : �
 pub no_faults : (part : List Event) → part ≡ [] → FaultsEnd part
 no_faults part none before after call why real is = absurd (none_inside before after (Fault call why) (sym none ∙ is))
 
-module _ {T : Type 0} (b : BuildSeen) (patience : Option ℕ) (turns : ℕ) (output : List ℕ) (look : Look) (part : List Event) (result : Result T ErrorSeen) (h : Creates b patience turns output result look part) where
+module _ {T : Type 0} (b : BuildSeen) (listens : Bool) (patience : Option ℕ) (turns : ℕ) (output : List ℕ) (look : Look) (part : List Event) (result : Result T ErrorSeen) (h : Creates b listens patience turns output result look part) where
   abbrev its_course : Course
   its_course = course_alone patience turns h.0
 
   abbrev its_stages : List Stage
   its_stages = creation_stages b.config b.env h.1.0 look h.1.1 output
 
-  partly_created : Partly (terms_for b its_course) its_stages part its_course.before its_course.after
-  partly_created = ended_partly (terms_for b its_course) (creation_error b.config b.env look output) its_stages part result its_course.before its_course.after h.1.2.1
+  partly_created : Partly (terms_for b listens its_course) its_stages part its_course.before its_course.after
+  partly_created = ended_partly (terms_for b listens its_course) (creation_error b.config b.env look output) its_stages part result its_course.before its_course.after h.1.2.1
 
   pub creates_settled : NothingRuns part
-  creates_settled = partly_settled (terms_for b its_course) its_stages part its_course.before its_course.after 0 partly_created
+  creates_settled = partly_settled (terms_for b listens its_course) its_stages part its_course.before its_course.after 0 partly_created
 
   pub creates_faults : FaultsEnd part
-  creates_faults before after call why real is = fault_ends (terms_for b its_course) its_stages part its_course.before its_course.after before after call why real is partly_created
+  creates_faults before after call why real is = fault_ends (terms_for b listens its_course) its_stages part its_course.before its_course.after before after call why real is partly_created

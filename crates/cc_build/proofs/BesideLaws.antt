@@ -15,7 +15,7 @@ use Rattle.cc_host.specs.declared.event.Role.{Role}
 use Rattle.cc_host.specs.declared.event.Role.TheVariants.{Compile, Archive, Index}
 use Rattle.cc_host.proofs.Parts.{since_append}
 use Rattle.cc_plan.specs.Given.{is_disabled}
-use Rattle.cc_plan.specs.Plan.{prints, compiles_of, archives_of, indexes_of, lists_of_run, archive_refusal, warning_lines, objects_of, folder_steps, removal_steps, link_lines}
+use Rattle.cc_plan.specs.Plan.{compiles_of, archives_of, indexes_of, lists_of_run, archive_refusal, objects_of, folder_steps, removal_steps, link_lines}
 use Rattle.cc_plan.specs.Refusal.{early_refusal, late_refusal, link_refusal}
 use Rattle.cc_plan.specs.declared.settings.BuildConfig.{BuildConfig}
 use Rattle.cc_host.specs.declared.event.LineKind.TheVariants.{Warning}
@@ -27,8 +27,9 @@ use Rattle.cc_run.specs.declared.planned.Planned.{Planned}
 use Rattle.cc_build.specs.Attempts.{attempt_of, attempts, to_attempt}
 use Rattle.cc_build.specs.Error.{ErrorSeen}
 use Rattle.cc_build.specs.Promises.{is_compiling, RunBeside}
-use Rattle.cc_build.specs.Stage.{Stage, commands_in, calls, planned, beside, writings, has_libtool, folder_stages, compile_stages, removal_stages, library_commands, list_stages, archive_stages, link_stages, library_stages, ending_stages, later_stages, late_stages, planned_stages, run_reads, cargo_steps}
+use Rattle.cc_build.specs.Stage.{Stage, commands_in, calls, planned, beside, compiles_planned, opening_steps, writings, has_libtool, folder_stages, compile_stages, removal_stages, library_commands, list_stages, archive_stages, link_stages, library_stages, ending_stages, later_stages, late_stages, planned_stages, run_reads, cargo_steps}
 use Rattle.cc_build.specs.Way.{Way}
+use Rattle.cc_build.proofs.SourceLaws.{planned_count}
 use Rattle.cc_build.specs.Stage.Stage.{Calls, Asks, Tries, RunsOne, RunsAll}
 use Rattle.cc_build.specs.Went.{Terms, Means, RanAll, Did, Stops, Partly}
 use Rattle.cc_build.proofs.RunLaws.{commands_then, commands_calls, commands_written}
@@ -274,24 +275,24 @@ quiet_folder set env = quiet_calls (folder_steps set env)
 
 module _ (set : BuildConfig) (env : EnvSeen) (way : Way) (look : Look) (output : List ℕ) where
   abbrev pub sources : List Planned
-  sources = planned Compile (compiles_of set env look)
+  sources = compiles_planned set env way.found.here look
 
   -- one command a source
   pub source_count : length sources ≡ length set.files
-  source_count = length-map (compiles_of set env look) _ ∙ length-map (objects_of set env) _ ∙ length-map set.files _
+  source_count = planned_count set env way.found.here look ∙ length-map (objects_of set env) _ ∙ length-map set.files _
 
-  compiled : 2 ≤ length set.files → compile_stages set env way.warns_of_link look ≡ calls (prints Warning (warning_lines set env way.warns_of_link look)) ++ RunsAll sources ∷ []
+  compiled : 2 ≤ length set.files → compile_stages set env way.found look ≡ calls (opening_steps set env way.found look) ++ RunsAll sources ∷ []
   unfolding compile_stages
-  compiled many = ap (λ l. calls (prints Warning (warning_lines set env way.warns_of_link look)) ++ l) (two_beside sources (subst (λ (n : ℕ). 2 ≤ n) (sym source_count) many))
+  compiled many = ap (λ l. calls (opening_steps set env way.found look) ++ l) (two_beside sources (subst (λ (n : ℕ). 2 ≤ n) (sym source_count) many))
 
   pub shape_of : 2 ≤ length set.files → AreQuiet (planned_stages set env way look output) ⊎ Shape sources (planned_stages set env way look output)
   unfolding planned_stages late_stages
   shape_of many =
       let same = compiled many in
       rw same
-      (by_checks (is_some (early_refusal set env output)) (is_disabled env) (is_some (late_refusal set env look)) (folder_stages set env) (calls (prints Warning (warning_lines set env way.warns_of_link look))) sources
+      (by_checks (is_some (early_refusal set env output)) (is_disabled env) (is_some (late_refusal set env look)) (folder_stages set env) (calls (opening_steps set env way.found look)) sources
       (later_stages set env way look output)
-      (quiet_folder set env) (quiet_calls (prints Warning (warning_lines set env way.warns_of_link look))) (none_behind set env way look output))
+      (quiet_folder set env) (quiet_calls (opening_steps set env way.found look)) (none_behind set env way look output))
 
 -- commands of such stages run in one stretch of the part
 pub shaped_beside : (t : Terms) (ps : List Planned) (stages : List Stage) (part : List Event) (x z : Means) → ArePlain stages → AreQuiet stages ⊎ Shape ps stages → Partly t stages part x z → RunBeside t.total (length ps) part

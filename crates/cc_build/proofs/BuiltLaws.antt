@@ -11,13 +11,12 @@ use Rattle.cc_host.specs.Question.{Look}
 use Rattle.cc_host.specs.Status.{is_success}
 use Rattle.cc_host.specs.declared.event.Event.{Event}
 use Rattle.cc_host.specs.declared.event.Event.TheVariants.{Started, Missing, Ran, Made, Removed, Wrote, Copied, Here, Said, Printed, Listed}
-use Rattle.cc_host.specs.declared.event.LineKind.TheVariants.{Warning}
 use Rattle.cc_host.specs.declared.event.Removal.{Removal}
 use Rattle.cc_host.specs.declared.event.Role.{Role}
 use Rattle.cc_host.specs.declared.event.Role.TheVariants.{Compile}
 use Rattle.cc_host.specs.declared.event.Scope.TheVariants.{Build, Probe as ForProbes}
 use Rattle.cc_plan.specs.Given.{is_disabled}
-use Rattle.cc_plan.specs.Plan.{library_of, compiles_of, archive_refusal, lists_of_run, warning_lines, prints, folder_steps, removal_steps}
+use Rattle.cc_plan.specs.Plan.{library_of, compiles_of, archive_refusal, lists_of_run, folder_steps, removal_steps}
 use Rattle.cc_plan.specs.Refusal.{early_refusal, late_refusal, link_refusal, first_of}
 use Rattle.cc_plan.specs.declared.settings.BuildConfig.{BuildConfig}
 use Rattle.cc_run.specs.Part.{started}
@@ -27,8 +26,9 @@ use Rattle.cc_run.specs.declared.planned.Planned.{Planned}
 use Rattle.cc_build.specs.Built.{Accepted, Built, ended_well}
 use Rattle.cc_build.specs.Error.{ErrorSeen}
 use Rattle.cc_build.specs.Refusal.{early_error, late_error, archive_error, link_error, refusal_error, plan_error, disabled_error}
-use Rattle.cc_build.specs.Stage.{Stage, commands_in, children_in, calls, planned, beside, tried, written, written_children, writings, has_libtool, folder_stages, compile_stages, removal_stages, library_commands, list_stages, archive_stages, link_stages, later_stages, late_stages, planned_stages}
-use Rattle.cc_build.specs.Way.{Way, Repeats}
+use Rattle.cc_build.specs.Stage.{Stage, commands_in, children_in, calls, planned, beside, compiles_planned, opening_steps, tried, written, written_children, writings, has_libtool, folder_stages, compile_stages, removal_stages, library_commands, list_stages, archive_stages, link_stages, later_stages, late_stages, planned_stages}
+use Rattle.cc_build.specs.Way.{Way, Found, Hears, Repeats}
+use Rattle.cc_build.proofs.SourceLaws.{asked_planned, planned_count}
 use Rattle.cc_build.specs.Stage.Stage.{Asks}
 use Rattle.cc_build.specs.Went.{Terms, Means, Went, Ends}
 use Rattle.cc_build.specs.Attempts.{attempts, to_attempt, tried_of, all_tried, first_tried, form_tried}
@@ -67,7 +67,7 @@ no_error set env look output h =
 module _ (set : BuildConfig) (env : EnvSeen) (way : Way) (look : Look) (output : List ℕ) where
   -- the sources with the questions on both sides, the library, and the lines with the questions before them
   abbrev first_part : List Stage
-  first_part = folder_stages set env ++ (Asks ∷ (compile_stages set env way.warns_of_link look ++ (Asks ∷ [])))
+  first_part = folder_stages set env ++ (Asks ∷ (compile_stages set env way.found look ++ (Asks ∷ [])))
 
   abbrev last_part : List Stage
   last_part = Asks ∷ link_stages set env look way.firsts output
@@ -85,7 +85,7 @@ module _ (set : BuildConfig) (env : EnvSeen) (way : Way) (look : Look) (output :
       let late : late_refusal set env look ≡ None = a.late in
       let refused : archive_refusal set env look ≡ None = a.archive in
       let links : link_refusal set env look ≡ None = a.links in
-      let compiles = compile_stages set env way.warns_of_link look in
+      let compiles = compile_stages set env way.found look in
       let removal = removal_stages set env output in
       let archive = middle_part in
       let joined : planned_stages set env way look output ≡ folder_stages set env ++ (Asks ∷ (compiles ++ (Asks ∷ ((removal ++ archive) ++ last_part)))) = rw (early, enabled, late, refused, links) refl in
@@ -100,20 +100,20 @@ pub folder_children : (set : BuildConfig) (env : EnvSeen) → children_in (folde
 unfolding folder_stages
 folder_children set env = children_calls (folder_steps set env)
 
-pub compile_children : (set : BuildConfig) (env : EnvSeen) (warns_of_link : Bool) (look : Look) → children_in (compile_stages set env warns_of_link look) ≡ planned Compile (compiles_of set env look)
+pub compile_children : (set : BuildConfig) (env : EnvSeen) (found : Found) (look : Look) → children_in (compile_stages set env found look) ≡ compiles_planned set env found.here look
 unfolding compile_stages
-compile_children set env warns_of_link look =
-    let lines = prints Warning (warning_lines set env warns_of_link look) in
-    let cmds = planned Compile (compiles_of set env look) in
-    children_then (calls lines) (beside cmds) ∙ ap₂ (λ u v. u ++ v) (children_calls lines) (children_beside cmds)
+compile_children set env found look =
+    let steps = opening_steps set env found look in
+    let cmds = compiles_planned set env found.here look in
+    children_then (calls steps) (beside cmds) ∙ ap₂ (λ u v. u ++ v) (children_calls steps) (children_beside cmds)
 
-source_children : (set : BuildConfig) (env : EnvSeen) (way : Way) (look : Look) (output : List ℕ) → children_in (first_part set env way look output) ≡ planned Compile (compiles_of set env look)
+source_children : (set : BuildConfig) (env : EnvSeen) (way : Way) (look : Look) (output : List ℕ) → children_in (first_part set env way look output) ≡ compiles_planned set env way.found.here look
 source_children set env way look output =
-    children_then (folder_stages set env) (Asks ∷ (compile_stages set env way.warns_of_link look ++ (Asks ∷ [])))
-    ∙ ap (λ l. l ++ children_in (compile_stages set env way.warns_of_link look ++ (Asks ∷ []))) (folder_children set env)
-    ∙ children_then (compile_stages set env way.warns_of_link look) (Asks ∷ [])
-    ∙ append-nil (children_in (compile_stages set env way.warns_of_link look))
-    ∙ compile_children set env way.warns_of_link look
+    children_then (folder_stages set env) (Asks ∷ (compile_stages set env way.found look ++ (Asks ∷ [])))
+    ∙ ap (λ l. l ++ children_in (compile_stages set env way.found look ++ (Asks ∷ []))) (folder_children set env)
+    ∙ children_then (compile_stages set env way.found look) (Asks ∷ [])
+    ∙ append-nil (children_in (compile_stages set env way.found look))
+    ∙ compile_children set env way.found look
 
 pub planned_length : (role : Role) (cmds : List CommandSeen) → length (planned role cmds) ≡ length cmds
 planned_length role cmds = length-map cmds (λ cmd. record { role = role; cmd = cmd; message = None })
@@ -224,13 +224,13 @@ removal_is t set env output part x y w =
 glued : (part runs back removal rest archives lines : List Event) (x : Event) → part ≡ runs ++ back → back ≡ removal ++ rest → removal ≡ x ∷ [] → rest ≡ archives ++ lines → part ≡ runs ++ x ∷ archives ++ lines
 glued part runs back removal rest archives lines x e1 e2 e3 e4 = e1 ∙ ap (λ l. runs ++ l) (e2 ∙ ap₂ (λ u v. u ++ v) e3 e4) ∙ sym (append_assoc runs (x ∷ archives) lines)
 
-pub built : (t : Terms) (set : BuildConfig) (env : EnvSeen) (way : Way) (look : Look) (output : List ℕ) (part : List Event) (x y : Means) → Repeats set way.firsts → refusal_error set env look output ≡ None → Went t (planned_stages set env way look output) part x y → Built t set env look output part
-built t set env way look output part x y repeats h w =
+pub built : (t : Terms) (set : BuildConfig) (env : EnvSeen) (way : Way) (look : Look) (output : List ℕ) (part : List Event) (x y : Means) → Repeats set way.firsts → Hears t.shows.listens way.found → refusal_error set env look output ≡ None → Went t (planned_stages set env way look output) part x y → Built t set env look output part
+built t set env way look output part x y repeats hears h w =
     let accepted : Accepted set env look output = no_error set env look output h in
     let sources = first_part set env way look output in
     let archive = middle_part set env way look output in
     let link = last_part set env way look output in
-    let compiles = planned Compile (compiles_of set env look) in
+    let compiles = compiles_planned set env way.found.here look in
     let all : Went t (sources ++ (removal_stages set env output ++ (archive ++ link))) part x y = subst (λ (stages : List Stage). Went t stages part x y) (accepted_stages set env way look output accepted) w in
     let c1 = went_split t sources (removal_stages set env output ++ (archive ++ link)) part x y all in
     let c2 = went_split t (removal_stages set env output) (archive ++ link) c1.1 c1.2 y c1.3.2 in
@@ -240,14 +240,15 @@ built t set env way look output part x y repeats h w =
       accepted = accepted;
       way = way;
       repeats = repeats;
+      hears = hears;
       runs = c1.0;
       how = removal.0;
       archives = c3.0;
       lines = c3.1;
       cut = glued part c1.0 c1.1 c2.0 c2.1 c3.0 c3.1 (Removed (library_of set env output) removal.0) c1.3.0 c2.3.0 removal.1 c3.3.0;
       compiled = (x, c1.2, c1.3.1);
-      compiles = started_from t sources c1.0 x c1.2 compiles c1.3.1 (source_children set env way look output);
-      ended = ended_from t sources c1.0 x c1.2 compiles (length (compiles_of set env look)) c1.3.1 (source_children set env way look output) (planned_length Compile (compiles_of set env look));
+      compiles = started_from t sources c1.0 x c1.2 compiles c1.3.1 (source_children set env way look output) ∙ asked_planned t.shows set env way.found.here look;
+      ended = ended_from t sources c1.0 x c1.2 compiles (length (compiles_of set env look)) c1.3.1 (source_children set env way look output) (planned_count set env way.found.here look);
       archived = (c2.2, c3.2, c3.3.1);
       writes = archive_writes t set env look way.is_plain output c3.0 c2.2 c3.2 c3.3.1;
       first = archive_first t set env look way.is_plain output c3.0 c2.2 c3.2 c3.3.1;
@@ -257,6 +258,6 @@ built t set env way look output part x y repeats h w =
     }
 
 -- a run that answers Ok is built
-pub built_on_ok : {T : Type 0} (t : Terms) (set : BuildConfig) (env : EnvSeen) (way : Way) (look : Look) (output : List ℕ) (part : List Event) (r : Result T ErrorSeen) (x y : Means) → Repeats set way.firsts → Ends t (refusal_error set env look output) (planned_stages set env way look output) part r x y → OnOk r (Built t set env look output part)
-built_on_ok t set env way look output part (Ok v) x y repeats o = built t set env way look output part x y repeats o.0 o.1
-built_on_ok t set env way look output part (Err e) x y repeats o = tt
+pub built_on_ok : {T : Type 0} (t : Terms) (set : BuildConfig) (env : EnvSeen) (way : Way) (look : Look) (output : List ℕ) (part : List Event) (r : Result T ErrorSeen) (x y : Means) → Repeats set way.firsts → Hears t.shows.listens way.found → Ends t (refusal_error set env look output) (planned_stages set env way look output) part r x y → OnOk r (Built t set env look output part)
+built_on_ok t set env way look output part (Ok v) x y repeats hears o = built t set env way look output part x y repeats hears o.0 o.1
+built_on_ok t set env way look output part (Err e) x y repeats hears o = tt

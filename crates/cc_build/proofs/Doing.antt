@@ -1,11 +1,11 @@
 -- Stages done one after another.
 use Rattle.std.proofs.Common.{◌≡◌, ℕ, List, [], ◌∷◌, ◌++◌, length, take, drop, get_or, ◌<◌, ◌+◌, suc, add-one, None, map, refl, sym, ◌∙◌, ap, subst, append-nil, append_assoc}
-use Rattle.std.specs.List.{All}
-use Rattle.std.proofs.lemmas.Grind.{take_at_read}
+use Rattle.std.specs.List.{All, flat_map}
+use Rattle.std.proofs.lemmas.Grind.{flat_map-append, take_at_read}
 use Rattle.std.proofs.lemmas.List.{map-append, length-map, take-append-drop}
 use Rattle.std.proofs.lemmas.List.Elements.{All-map}
 use Rattle.std.proofs.Math.Seq.{drop-cons}
-use Rattle.cc_host.specs.Part.{since}
+use Rattle.cc_host.specs.Part.{Step, since}
 use Rattle.cc_host.specs.Command.{CommandSeen}
 use Rattle.cc_host.specs.Part.Step.{Prints}
 use Rattle.cc_host.specs.declared.event.Event.{Event}
@@ -77,3 +77,20 @@ have_role role cmds ps is = subst (λ (l : List Planned). All (λ (p : Planned).
 
 pub as_many : (role : Role) (cmds : List CommandSeen) (ps : List Planned) → ps ≡ planned role cmds → length ps ≡ length cmds
 as_many role cmds ps is = ap length is ∙ length-map cmds (λ (cmd : CommandSeen). record { role = role; cmd = cmd; message = None })
+
+-- the warnings so far were added, and one more
+pub notes_more : (f : List ℕ → List Step) (now new : List Coded) (texts : List (List ℕ)) (i : ℕ) (text same : List ℕ) → i < length texts → text ≡ get_or texts i text → same ≡ text → stages_seen now ≡ calls (flat_map f (take i texts)) → stages_seen new ≡ stages_seen now ++ calls (f same) → stages_seen new ≡ calls (flat_map f (take (i + 1) texts))
+notes_more f now new texts i text same within is as_text so_far added =
+    let more : take (i + 1) texts ≡ take i texts ++ text ∷ [] = (take_at_read texts i text within).1 ∙ ap (λ s. take i texts ++ s ∷ []) (sym is) in
+    let both : flat_map f (take (i + 1) texts) ≡ flat_map f (take i texts) ++ f text = ap (flat_map f) more ∙ flat_map-append f (take i texts) (text ∷ []) ∙ ap (λ l. flat_map f (take i texts) ++ l) (append-nil (f text)) in
+    added ∙ ap (λ l. l ++ calls (f same)) so_far ∙ ap (λ s. calls (flat_map f (take i texts)) ++ calls (f s)) as_text
+    ∙ sym (map-append Calls (flat_map f (take i texts)) (f text)) ∙ ap calls (sym both)
+
+-- no warning was added
+pub notes_none : (f : List ℕ → List Step) (texts : List (List ℕ)) (ss : List Coded) → ss ≡ [] → stages_seen ss ≡ calls (flat_map f (take 0 texts))
+notes_none f texts ss none = ap stages_seen none
+
+-- the stages of some steps were added, and then those of more
+pub adds_both : (a b c : List Coded) (k l : List Step) → stages_seen b ≡ stages_seen a ++ calls k → stages_seen c ≡ stages_seen b ++ calls l → stages_seen c ≡ stages_seen a ++ calls (k ++ l)
+adds_both a b c k l first second =
+    second ∙ ap (λ s. s ++ calls l) first ∙ append_assoc (stages_seen a) (calls k) (calls l) ∙ ap (λ s. stages_seen a ++ s) (sym (map-append Calls k l))

@@ -206,22 +206,22 @@ answers_behind old mid new first last none known is =
     is ∙ sym (ap answers (since_since old mid new first last) ∙ flat_map-append answer_of (since old mid) (since mid new)
     ∙ ap (λ l. answers (since old mid) ++ l) (aside_answers (since mid new) none) ∙ append-nil (answers (since old mid)))
 
-module _ (b : BuildSeen) where
+module _ (b : BuildSeen) (listens : Bool) where
   -- the checks refused it
-  pub unexpanded : (known : List Answer) (part : List Event) (e : ErrorSeen) → part ≡ [] → (e ≡ no_memory) ⊎ (unexpanded_error b.config b.env ≡ Some e) → Holds known (λ look. ExpandEnds b (Err e) look part)
+  pub unexpanded : (known : List Answer) (part : List Event) (e : ErrorSeen) → part ≡ [] → (e ≡ no_memory) ⊎ (unexpanded_error b.config b.env ≡ Some e) → Holds known (λ look. ExpandEnds b listens (Err e) look part)
   unexpanded known part e none cause = record { under = λ look agree. inl (none, cause) }
 
   module _ (fine : unexpanded_error b.config b.env ≡ None) where
     -- no compiler was found
-    pub no_tool : (part : List Event) (e : ErrorSeen) → Holds (answers part) (λ look. ToolEnds {T = ToolSeen} b.config b.env (Err e) look part) → Holds (answers part) (λ look. ExpandEnds b (Err e) look part)
+    pub no_tool : (part : List Event) (e : ErrorSeen) → Holds (answers part) (λ look. ToolEnds {T = ToolSeen} b.config b.env listens (Err e) look part) → Holds (answers part) (λ look. ExpandEnds b listens (Err e) look part)
     no_tool part e h = record { under = λ look agree. inr (fine, inl (h.under look agree)) }
 
-    ends : (r : Result (List ℕ) ErrorSeen) (look : Look) (part : List Event) → RunsTool b r look part → ExpandEnds b r look part
+    ends : (r : Result (List ℕ) ErrorSeen) (look : Look) (part : List Event) → RunsTool b listens r look part → ExpandEnds b listens r look part
     ends (Ok output) look part h = (fine, h)
     ends (Err e) look part h = inr (fine, inr h)
 
     -- the command of the tool was run
-    pub ran_tool : (old mid new : List Event) (tool : ToolSeen) (r : Result (List ℕ) ErrorSeen) → mid ≡ old ++ since old mid → new ≡ mid ++ since mid new → Holds (answers (since old mid)) (λ look. IsTool b.config b.env tool look) → Holds (answers (since old mid)) (λ look. ToolEnds b.config b.env (Ok tool) look (since old mid)) → GivesBy b tool r (since mid new) → Holds (answers (since old new)) (λ look. ExpandEnds b r look (since old new))
+    pub ran_tool : (old mid new : List Event) (tool : ToolSeen) (r : Result (List ℕ) ErrorSeen) → mid ≡ old ++ since old mid → new ≡ mid ++ since mid new → Holds (answers (since old mid)) (λ look. IsTool b.config b.env tool look) → Holds (answers (since old mid)) (λ look. ToolEnds b.config b.env listens (Ok tool) look (since old mid)) → GivesBy b listens tool r (since mid new) → Holds (answers (since old new)) (λ look. ExpandEnds b listens r look (since old new))
     ran_tool old mid new tool r first last is found gives = record {
       under = λ look agree.
           let known = (agrees_since look old mid new first last agree).0 in
@@ -230,6 +230,6 @@ module _ (b : BuildSeen) where
             run = since mid new;
             cut = since_since old mid new first last;
             found = found.under look known;
-            gives = subst (λ (t : ToolSeen). GivesBy b t r (since mid new)) (is.under look known) gives;
+            gives = subst (λ (t : ToolSeen). GivesBy b listens t r (since mid new)) (is.under look known) gives;
           });
     }

@@ -155,8 +155,8 @@ module _ (set : BuildConfig) (env : EnvSeen) (way : Way) (look : Look) (output :
       formed_unless (is_disabled env) (asked_stages set env way look output)
       (inr (
         refl,
-        formed_unless (is_some (late_refusal set env look)) (compile_stages set env way.warns_of_link look ++ later_stages set env way look output)
-            (formed_then (compile_stages set env way.warns_of_link look) (later_stages set env way look output) (no_compile_archives set env way.warns_of_link look) (later_first other)),
+        formed_unless (is_some (late_refusal set env look)) (compile_stages set env way.found look ++ later_stages set env way look output)
+            (formed_then (compile_stages set env way.found look) (later_stages set env way look output) (no_compile_archives set env way.found look) (later_first other)),
       ))
 
   -- the first command of the archive is tried, where the archiver is another than libtool

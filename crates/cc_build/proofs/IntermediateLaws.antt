@@ -21,11 +21,12 @@ use Rattle.cc_build.specs.Intermediates.{source_reads, intermediate_stages, inte
 use Rattle.cc_build.specs.Promises.{terms_for, NothingRuns, FaultsEnd}
 use Rattle.cc_build.specs.Refusal.{plan_error, disabled_error}
 use Rattle.cc_build.specs.Shows.{shows_of}
-use Rattle.cc_build.specs.Stage.{Stage, calls, planned, asked_then, folder_stages, compile_stages, name_stages, told_sources, children_in}
+use Rattle.cc_build.specs.Stage.{Stage, calls, compiles_planned, asked_then, folder_stages, compile_stages, name_stages, told_sources, children_in}
 use Rattle.cc_build.specs.Stage.Stage.{Asks}
-use Rattle.cc_build.specs.Way.{Firsts, Repeats, all_firsts}
+use Rattle.cc_build.specs.Way.{Found, Firsts, Hears, Repeats, all_firsts}
 use Rattle.cc_build.specs.Went.{Terms, Means, terms, Went, Halted, Ends}
-use Rattle.cc_build.proofs.BuiltLaws.{folder_children, compile_children, started_from, ended_from, planned_length}
+use Rattle.cc_build.proofs.BuiltLaws.{folder_children, compile_children, started_from, ended_from}
+use Rattle.cc_build.proofs.SourceLaws.{asked_planned, planned_count, unfound, unfound_hears}
 use Rattle.cc_build.proofs.Going.{IsOpen, went_none, halted_none, halted_more, halted_end, halted_from, ends_from}
 use Rattle.cc_build.proofs.OrderLaws.{ended_partly}
 use Rattle.cc_build.proofs.PromiseLaws.{fault_ends}
@@ -89,53 +90,53 @@ module _ (t : Terms) (f : PlanError → ErrorSeen) (late : Option ErrorSeen) (fo
 
 -- ---- the run of some settings
 
-module _ (set : BuildConfig) (env : EnvSeen) (look : Look) (total patience : Option ℕ) where
+module _ (set : BuildConfig) (env : EnvSeen) (listens : Bool) (look : Look) (total patience : Option ℕ) where
   abbrev seen : BuildSeen
   seen = record { config = set; env = env }
 
   abbrev in_run : Terms
-  in_run = terms (shows_of set env) total patience
+  in_run = terms (shows_of set env listens) total patience
 
   abbrev late_in : Option ErrorSeen
   late_in = option_map (plan_error set env []) (late_refusal set env look)
 
-  abbrev run_with : Bool → Firsts → List Stage
-  run_with warns_of_link firsts = if is_some (late_refusal set env look) then [] else told_sources set env (source_reads set) warns_of_link look firsts
+  abbrev run_with : Found → Firsts → List Stage
+  run_with found firsts = if is_some (late_refusal set env look) then [] else told_sources set env (source_reads set) found look firsts
 
   -- the settings were refused before the folder was made, or memory was wanted
-  pub alone_unchecked : (part : List Event) (e : ErrorSeen) (x : Means) (error : PlanError) → part ≡ [] → (e ≡ no_memory) ⊎ (e ≡ plan_error set env [] error) → (error ≡ WantsMemory) ⊎ (intermediate_refusal set env ≡ Some error) → IntermediateEnds {T = Unit {0}} seen (Err e) look part (course total patience x x)
+  pub alone_unchecked : (part : List Event) (e : ErrorSeen) (x : Means) (error : PlanError) → part ≡ [] → (e ≡ no_memory) ⊎ (e ≡ plan_error set env [] error) → (error ≡ WantsMemory) ⊎ (intermediate_refusal set env ≡ Some error) → IntermediateEnds {T = Unit {0}} seen listens (Err e) look part (course total patience x x)
   alone_unchecked part e x error none made cause =
-      (false, all_firsts, ((λ _. refl), never_begun in_run (plan_error set env []) late_in (folder_stages set env) (run_with false all_firsts) (intermediate_refusal set env) (is_disabled env) part e x none (plan_cause set env [] error e (intermediate_refusal set env) made cause)))
+      (unfound listens, all_firsts, (unfound_hears listens, (λ _. refl), never_begun in_run (plan_error set env []) late_in (folder_stages set env) (run_with (unfound listens) all_firsts) (intermediate_refusal set env) (is_disabled env) part e x none (plan_cause set env [] error e (intermediate_refusal set env) made cause)))
 
   -- the folder wasn't made
-  pub alone_unfoldered : (part : List Event) (e : ErrorSeen) (x : Means) → intermediate_refusal set env ≡ None → Halted in_run None (calls (folder_steps set env)) part e x x → IntermediateEnds {T = Unit {0}} seen (Err e) look part (course total patience x x)
+  pub alone_unfoldered : (part : List Event) (e : ErrorSeen) (x : Means) → intermediate_refusal set env ≡ None → Halted in_run None (calls (folder_steps set env)) part e x x → IntermediateEnds {T = Unit {0}} seen listens (Err e) look part (course total patience x x)
   alone_unfoldered part e x early h =
-      (false, all_firsts, ((λ _. refl), unfoldered in_run (plan_error set env []) late_in (folder_stages set env) (run_with false all_firsts) (intermediate_refusal set env) (is_disabled env) part e x early (subst (λ (s : List Stage). Halted in_run None s part e x x) (sym (folder_is set env)) h)))
+      (unfound listens, all_firsts, (unfound_hears listens, (λ _. refl), unfoldered in_run (plan_error set env []) late_in (folder_stages set env) (run_with (unfound listens) all_firsts) (intermediate_refusal set env) (is_disabled env) part e x early (subst (λ (s : List Stage). Halted in_run None s part e x x) (sym (folder_is set env)) h)))
 
   module _ (early : intermediate_refusal set env ≡ None) (old made : List Event) (x : Means) (first : made ≡ old ++ since old made) (folder : Went in_run (calls (folder_steps set env)) (since old made) x x) where
     made_so : Went in_run (folder_stages set env) (since old made) x x
     made_so = subst (λ (s : List Stage). Went in_run s (since old made) x x) (sym (folder_is set env)) folder
 
     -- no command may run
-    pub alone_disabled : (e : ErrorSeen) → is_disabled env ≡ true → (e ≡ no_memory) ⊎ (e ≡ disabled_error) → IntermediateEnds {T = Unit {0}} seen (Err e) look (since old made) (course total patience x x)
-    alone_disabled e disabled of = (false, all_firsts, ((λ _. refl), stopped in_run (plan_error set env []) late_in (folder_stages set env) (run_with false all_firsts) old made x first made_so (intermediate_refusal set env) (is_disabled env) e early disabled of))
+    pub alone_disabled : (e : ErrorSeen) → is_disabled env ≡ true → (e ≡ no_memory) ⊎ (e ≡ disabled_error) → IntermediateEnds {T = Unit {0}} seen listens (Err e) look (since old made) (course total patience x x)
+    alone_disabled e disabled of = (unfound listens, all_firsts, (unfound_hears listens, (λ _. refl), stopped in_run (plan_error set env []) late_in (folder_stages set env) (run_with (unfound listens) all_firsts) old made x first made_so (intermediate_refusal set env) (is_disabled env) e early disabled of))
 
     -- memory was wanted before a question
-    pub alone_wanting : (e : ErrorSeen) → e ≡ no_memory → IntermediateEnds {T = Unit {0}} seen (Err e) look (since old made) (course total patience x x)
-    alone_wanting e memory = (false, all_firsts, ((λ _. refl), wanting in_run (plan_error set env []) late_in (folder_stages set env) (run_with false all_firsts) old made x first made_so (intermediate_refusal set env) (is_disabled env) e early memory))
+    pub alone_wanting : (e : ErrorSeen) → e ≡ no_memory → IntermediateEnds {T = Unit {0}} seen listens (Err e) look (since old made) (course total patience x x)
+    alone_wanting e memory = (unfound listens, all_firsts, (unfound_hears listens, (λ _. refl), wanting in_run (plan_error set env []) late_in (folder_stages set env) (run_with (unfound listens) all_firsts) old made x first made_so (intermediate_refusal set env) (is_disabled env) e early memory))
 
     -- the sources were compiled, and the lines of the variables were printed so
-    pub alone_behind : {T : Type 0} (shows : Shows) (t' p' : Option ℕ) (reads : Reads) (new : List Event) (r : Result T ErrorSeen) (z : Means) → shows ≡ shows_of set env → t' ≡ total → p' ≡ patience → reads ≡ source_reads set → is_disabled env ≡ false → new ≡ made ++ since made new
-        → (warns_of_link : Bool) × (firsts : Firsts) × (Repeats set firsts × Ends (terms shows t' p') late_in (asked_then (late_refusal set env look) (told_sources set env reads warns_of_link look firsts)) (since made new) r x z)
-        → IntermediateEnds seen r look (since old new) (course total patience x z)
+    pub alone_behind : {T : Type 0} (shows : Shows) (t' p' : Option ℕ) (reads : Reads) (new : List Event) (r : Result T ErrorSeen) (z : Means) → shows ≡ shows_of set env listens → t' ≡ total → p' ≡ patience → reads ≡ source_reads set → is_disabled env ≡ false → new ≡ made ++ since made new
+        → (found : Found) × (firsts : Firsts) × (Hears shows.listens found × Repeats set firsts × Ends (terms shows t' p') late_in (asked_then (late_refusal set env look) (told_sources set env reads found look firsts)) (since made new) r x z)
+        → IntermediateEnds seen listens r look (since old new) (course total patience x z)
     alone_behind shows t' p' reads new r z is a b those enabled last h =
         let stages = asked_then (late_refusal set env look) (told_sources set env (source_reads set) h.0 look h.1) in
         let ends : Ends in_run late_in stages (since made new) r x z =
         subst (λ (s : Shows). Ends (terms s total patience) late_in stages (since made new) r x z) is
         (subst (λ (n : Option ℕ). Ends (terms shows n patience) late_in stages (since made new) r x z) a
         (subst (λ (n : Option ℕ). Ends (terms shows t' n) late_in stages (since made new) r x z) b
-        (subst (λ (rd : Reads). Ends (terms shows t' p') late_in (asked_then (late_refusal set env look) (told_sources set env rd h.0 look h.1)) (since made new) r x z) those h.2.1))) in
-        (h.0, h.1, (h.2.0, behind in_run (plan_error set env []) late_in (folder_stages set env) (run_with h.0 h.1) old made x first made_so (intermediate_refusal set env) (is_disabled env) new r z early enabled last ends))
+        (subst (λ (rd : Reads). Ends (terms shows t' p') late_in (asked_then (late_refusal set env look) (told_sources set env rd h.0 look h.1)) (since made new) r x z) those h.2.2))) in
+        (h.0, h.1, (subst (λ (s : Shows). Hears s.listens h.0) is h.2.0, h.2.1, behind in_run (plan_error set env []) late_in (folder_stages set env) (run_with h.0 h.1) old made x first made_so (intermediate_refusal set env) (is_disabled env) new r z early enabled last ends))
 
 -- ---- what follows from how it ends
 
@@ -145,25 +146,25 @@ checked_all f None false (Some error) folder stages h = absurd (cc)
 checked_all f None true late folder stages h = absurd (cc)
 checked_all f (Some error) disabled late folder stages h = absurd (cc)
 
-compiled_by : (t : Terms) (b : BuildSeen) (look : Look) (part : List Event) (x y : Means) (warns_of_link : Bool) (firsts : Firsts) → Repeats b.config firsts → intermediate_error b.config b.env look ≡ None → Went t (intermediate_stages b.config b.env warns_of_link look firsts) part x y → Compiled t b look part
-compiled_by t b look part x y warns_of_link firsts repeats h w =
-    let cmds = planned Compile (compiles_of b.config b.env look) in
+compiled_by : (t : Terms) (b : BuildSeen) (look : Look) (part : List Event) (x y : Means) (found : Found) (firsts : Firsts) → Repeats b.config firsts → intermediate_error b.config b.env look ≡ None → Went t (intermediate_stages b.config b.env found look firsts) part x y → Compiled t b look part
+compiled_by t b look part x y found firsts repeats h w =
+    let cmds = compiles_planned b.config b.env found.here look in
     let folder = folder_stages b.config b.env in
-    let compiles = compile_stages b.config b.env warns_of_link look in
+    let compiles = compile_stages b.config b.env found look in
     let sources : List Stage = folder ++ Asks ∷ compiles in
     let told : List Stage = Asks ∷ name_stages b.config b.env (source_reads b.config) look firsts in
-    let stages_are : intermediate_stages b.config b.env warns_of_link look firsts ≡ sources ++ told =
+    let stages_are : intermediate_stages b.config b.env found look firsts ≡ sources ++ told =
     checked_all (plan_error b.config b.env []) (intermediate_refusal b.config b.env) (is_disabled b.env) (late_refusal b.config b.env look) folder (compiles ++ told) h
     ∙ sym (append_assoc folder (Asks ∷ compiles) told) in
     let all : Went t (sources ++ told) part x y = subst (λ (stages : List Stage). Went t stages part x y) stages_are w in
     let own : children_in (sources ++ told) ≡ cmds =
     children_then sources told
-    ∙ ap₂ (λ u v. u ++ v) (children_then folder (Asks ∷ compiles) ∙ ap₂ (λ u v. u ++ v) (folder_children b.config b.env) (compile_children b.config b.env warns_of_link look)) (name_children b.config b.env (source_reads b.config) look firsts)
+    ∙ ap₂ (λ u v. u ++ v) (children_then folder (Asks ∷ compiles) ∙ ap₂ (λ u v. u ++ v) (folder_children b.config b.env) (compile_children b.config b.env found look)) (name_children b.config b.env (source_reads b.config) look firsts)
     ∙ append-nil cmds in
     let halves = went_split t sources told part x y all in
     record {
-      compiles = started_from t (sources ++ told) part x y cmds all own;
-      ended = ended_from t (sources ++ told) part x y cmds (length (compiles_of b.config b.env look)) all own (planned_length Compile (compiles_of b.config b.env look));
+      compiles = started_from t (sources ++ told) part x y cmds all own ∙ asked_planned t.shows b.config b.env found.here look;
+      ended = ended_from t (sources ++ told) part x y cmds (length (compiles_of b.config b.env look)) all own (planned_count b.config b.env found.here look);
       runs = halves.0;
       lines = halves.1;
       cut = halves.3.0;
@@ -172,17 +173,17 @@ compiled_by t b look part x y warns_of_link firsts repeats h w =
       told = (halves.2, y, halves.3.2);
     }
 
-module _ {T : Type 0} (b : BuildSeen) (look : Look) (part : List Event) (c : Course) where
-  pub alone_compiled : (result : Result T ErrorSeen) → IntermediateEnds b result look part c → AreCompiled b result look part c
-  alone_compiled (Ok v) h = compiled_by (terms_for b c) b look part c.before c.after h.0 h.1 h.2.0 h.2.1.0 h.2.1.1
+module _ {T : Type 0} (b : BuildSeen) (listens : Bool) (look : Look) (part : List Event) (c : Course) where
+  pub alone_compiled : (result : Result T ErrorSeen) → IntermediateEnds b listens result look part c → AreCompiled b listens result look part c
+  alone_compiled (Ok v) h = compiled_by (terms_for b listens c) b look part c.before c.after h.0 h.1 h.2.1 h.2.2.0 h.2.2.1
   alone_compiled (Err e) h = tt
 
-  pub alone_settled : (result : Result T ErrorSeen) → IntermediateEnds b result look part c → NothingRuns part
+  pub alone_settled : (result : Result T ErrorSeen) → IntermediateEnds b listens result look part c → NothingRuns part
   alone_settled result h =
       let stages = intermediate_stages b.config b.env h.0 look h.1 in
-      partly_settled (terms_for b c) stages part c.before c.after 0 (ended_partly (terms_for b c) (intermediate_error b.config b.env look) stages part result c.before c.after h.2.1)
+      partly_settled (terms_for b listens c) stages part c.before c.after 0 (ended_partly (terms_for b listens c) (intermediate_error b.config b.env look) stages part result c.before c.after h.2.2)
 
-  pub alone_faults : (result : Result T ErrorSeen) → IntermediateEnds b result look part c → FaultsEnd part
+  pub alone_faults : (result : Result T ErrorSeen) → IntermediateEnds b listens result look part c → FaultsEnd part
   alone_faults result h before after call why real is =
       let stages = intermediate_stages b.config b.env h.0 look h.1 in
-      fault_ends (terms_for b c) stages part c.before c.after before after call why real is (ended_partly (terms_for b c) (intermediate_error b.config b.env look) stages part result c.before c.after h.2.1)
+      fault_ends (terms_for b listens c) stages part c.before c.after before after call why real is (ended_partly (terms_for b listens c) (intermediate_error b.config b.env look) stages part result c.before c.after h.2.2)

@@ -19,8 +19,9 @@ use Rattle.cc_host.specs.declared.event.Role.TheVariants.{Compile}
 use Rattle.cc_host.specs.declared.event.Scope.TheVariants.{Build}
 use Rattle.cc_host.proofs.Parts.{since_append}
 use Rattle.cc_plan.specs.Given.{is_disabled}
-use Rattle.cc_plan.specs.Plan.{dir_of, warning_lines, prints, compiles_of, folder_steps}
+use Rattle.cc_plan.specs.Plan.{dir_of, objects_of, prints, folder_steps}
 use Rattle.cc_plan.specs.Refusal.{early_refusal, late_refusal, is_empty}
+use Rattle.cc_plan.specs.declared.object.Object.{Object}
 use Rattle.cc_plan.specs.declared.settings.BuildConfig.{BuildConfig}
 use Rattle.cc_run.specs.Outcome.{missing_in, missing_by}
 use Rattle.cc_run.specs.Own.{is_of_run}
@@ -35,8 +36,9 @@ use Rattle.cc_tool.specs.Probing.{is_asked}
 use Rattle.cc_build.specs.Error.{ErrorSeen}
 use Rattle.cc_build.specs.Order.{is_archive_role, is_archive_event, ArchivesLast}
 use Rattle.cc_build.specs.Refusal.{refusal_error}
-use Rattle.cc_build.specs.Stage.{Stage, calls, planned as planned_in, beside, folder_stages, compile_stages, later_stages, late_stages, planned_stages}
-use Rattle.cc_build.specs.Way.{Way}
+use Rattle.cc_build.specs.Stage.{Stage, calls, beside, compile_in, compile_planned, compiles_planned, opening_steps, folder_stages, compile_stages, later_stages, late_stages, planned_stages}
+use Rattle.cc_build.specs.Way.{Way, Found}
+use Rattle.cc_build.proofs.SourceLaws.{AreNotes, opening_notes}
 use Rattle.cc_build.specs.Stage.Stage.{Calls, Asks, Tries, RunsOne, RunsAll}
 use Rattle.cc_build.specs.Went.{Terms, Means, RanAll, RanOne, Did, Went, Stops, Halts, Halted, Ends, Partly, Goes}
 use Rattle.cc_build.proofs.Trying.{done_of, done_silent, broken_of, broken_silent}
@@ -321,22 +323,37 @@ unfolding prints
 no_lines_archives kind other [] more = no_line_archives other more
 no_lines_archives kind other (line ∷ lines) more = no_lines_archives kind other lines more
 
-compiles_alone : (cmds : List CommandSeen) → list_any is_archive_command (planned_in Compile cmds) ≡ false
-compiles_alone [] = refl
-compiles_alone (cmd ∷ cmds) = compiles_alone cmds
+-- nor does a step that prints, says or asks for the folder
+pub no_note_archives : (steps : List Step) → AreNotes steps → NoArchive (calls steps)
+no_note_archives [] h = refl
+no_note_archives (Runs role cmd ∷ steps) h = absurd (cc)
+no_note_archives (Makes scope path ∷ steps) h = absurd (cc)
+no_note_archives (Removes path ∷ steps) h = absurd (cc)
+no_note_archives (Writes path bytes ∷ steps) h = absurd (cc)
+no_note_archives (Copies from to ∷ steps) h = absurd (cc)
+no_note_archives (Finds path ∷ steps) h = no_note_archives steps h
+no_note_archives (Says message ∷ steps) h = no_note_archives steps h
+no_note_archives (Prints kind bytes ∷ steps) h = no_note_archives steps h
+no_note_archives (Lists ∷ steps) h = absurd (cc)
 
-no_source_command : (cmds : List CommandSeen) → NoArchive (beside (planned_in Compile cmds))
-no_source_command [] = refl
-no_source_command (cmd ∷ []) = refl
-no_source_command (cmd ∷ next ∷ cmds) = or_from (list_any is_archive_command (planned_in Compile cmds)) false (compiles_alone cmds) refl
+compiles_alone : (here : Option (List ℕ)) (f : Object → CommandSeen) (objects : List Object) → list_any is_archive_command (map (λ object. compile_planned here object (f object)) objects) ≡ false
+compiles_alone here f [] = refl
+compiles_alone here f (object ∷ objects) = compiles_alone here f objects
 
-pub no_compile_archives : (set : BuildConfig) (env : EnvSeen) (warns_of_link : Bool) (look : Look) → NoArchive (compile_stages set env warns_of_link look)
-unfolding compile_stages
-no_compile_archives set env warns_of_link look = no_archive_then (calls (prints Warning (warning_lines set env warns_of_link look))) (beside (planned_in Compile (compiles_of set env look))) (no_line_archives Warning (warning_lines set env warns_of_link look)) (no_source_command (compiles_of set env look))
+no_beside_archives : (ps : List Planned) → list_any is_archive_command ps ≡ false → NoArchive (beside ps)
+no_beside_archives [] h = refl
+no_beside_archives (p ∷ []) h = h
+no_beside_archives (p ∷ q ∷ ps) h = or_from (list_any is_archive_command (p ∷ q ∷ ps)) false h refl
+
+pub no_compile_archives : (set : BuildConfig) (env : EnvSeen) (found : Found) (look : Look) → NoArchive (compile_stages set env found look)
+unfolding compile_stages compiles_planned
+no_compile_archives set env found look =
+    no_archive_then (calls (opening_steps set env found look)) (beside (compiles_planned set env found.here look)) (no_note_archives (opening_steps set env found look) (opening_notes set env found look))
+    (no_beside_archives (compiles_planned set env found.here look) (compiles_alone found.here (compile_in set env look) (objects_of set env)))
 
 -- neither the folder nor the questions nor the sources archive
-pub no_source_archives : (set : BuildConfig) (env : EnvSeen) (warns_of_link : Bool) (look : Look) → NoArchive (folder_stages set env ++ Asks ∷ compile_stages set env warns_of_link look)
-no_source_archives set env warns_of_link look = no_archive_then (folder_stages set env) (Asks ∷ compile_stages set env warns_of_link look) (no_folder_archives set env) (no_compile_archives set env warns_of_link look)
+pub no_source_archives : (set : BuildConfig) (env : EnvSeen) (found : Found) (look : Look) → NoArchive (folder_stages set env ++ Asks ∷ compile_stages set env found look)
+no_source_archives set env found look = no_archive_then (folder_stages set env) (Asks ∷ compile_stages set env found look) (no_folder_archives set env) (no_compile_archives set env found look)
 
 -- these stages begin with those of the folder, the questions and the sources, or none of them archives
 abbrev pub IsOrdered : (folder compile stages : List Stage) → Type 0
@@ -348,16 +365,16 @@ by_checks false true late folder compile more none = inr (no_archive_then folder
 by_checks false false true folder compile more none = inr (no_archive_then folder (Asks ∷ []) none refl)
 by_checks false false false folder compile more none = inl (more, sym (append_assoc folder (Asks ∷ compile) more))
 
-pub planned : (set : BuildConfig) (env : EnvSeen) (way : Way) (look : Look) (output : List ℕ) → IsOrdered (folder_stages set env) (compile_stages set env way.warns_of_link look) (planned_stages set env way look output)
+pub planned : (set : BuildConfig) (env : EnvSeen) (way : Way) (look : Look) (output : List ℕ) → IsOrdered (folder_stages set env) (compile_stages set env way.found look) (planned_stages set env way look output)
 unfolding planned_stages late_stages
 planned set env way look output =
-    by_checks (is_some (early_refusal set env output)) (is_disabled env) (is_some (late_refusal set env look)) (folder_stages set env) (compile_stages set env way.warns_of_link look)
+    by_checks (is_some (early_refusal set env output)) (is_disabled env) (is_some (late_refusal set env look)) (folder_stages set env) (compile_stages set env way.found look)
     (later_stages set env way look output) (no_folder_archives set env)
 
 -- a compile run archives behind the folder, the questions and all sources
 pub ordered : {T : Type 0} (t : Terms) (set : BuildConfig) (env : EnvSeen) (way : Way) (look : Look) (output : List ℕ) (part : List Event) (r : Result T ErrorSeen) (x y : Means) → Ends t (refusal_error set env look output) (planned_stages set env way look output) part r x y → ArchivesLast t set env look part
 ordered t set env way look output part r x y o = λ before after event is archives.
     let stages = planned_stages set env way look output in
-    let first = folder_stages set env ++ Asks ∷ compile_stages set env way.warns_of_link look in
-    let found = archives_behind t first stages part x y (no_source_archives set env way.warns_of_link look) (ended_partly t (refusal_error set env look output) stages part r x y o) (planned set env way look output) before after event is archives in
-    (way.warns_of_link, record { runs = found.0; rest = found.1; cut = found.2.0; compiled = found.2.1 })
+    let first = folder_stages set env ++ Asks ∷ compile_stages set env way.found look in
+    let found = archives_behind t first stages part x y (no_source_archives set env way.found look) (ended_partly t (refusal_error set env look output) stages part r x y o) (planned set env way look output) before after event is archives in
+    (way.found, record { runs = found.0; rest = found.1; cut = found.2.0; compiled = found.2.1 })

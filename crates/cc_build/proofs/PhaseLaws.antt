@@ -1,7 +1,7 @@
 -- How a part of a run ends, by what it asked and by the stages that it did.
 use Rattle.cc_build.specs.declared.directives.Lines.{Lines}
 use Rattle.cc_plan.specs.declared.variables.Reads.{Reads}
-use Rattle.std.proofs.Common.{◌≡◌, ◌⊎◌, inl, inr, ℕ, List, [], ◌∷◌, ◌++◌, Bool, true, false, Option, Some, None, Result, Ok, Err, map, slice_get, if◌then◌else◌, refl, sym, ◌∙◌, ap, ap₂, subst, append_assoc, option_map}
+use Rattle.std.proofs.Common.{◌≡◌, ◌⊎◌, inl, inr, ℕ, List, [], ◌∷◌, ◌++◌, Bool, true, false, Option, Some, None, is_some, Result, Ok, Err, map, slice_get, if◌then◌else◌, refl, sym, ◌∙◌, ap, ap₂, subst, append_assoc, option_map}
 use Rattle.std.specs.List.{list_all}
 use Rattle.cc_host.specs.Part.{Step, since}
 use Rattle.cc_host.specs.Question.{Look}
@@ -17,12 +17,14 @@ use Rattle.cc_plan.specs.Link.{link_lines as lines_of}
 use Rattle.cc_plan.specs.Names.{library_name}
 use Rattle.cc_plan.specs.declared.settings.BuildConfig.{BuildConfig}
 use Rattle.cc_env.specs.Env.{EnvSeen}
-use Rattle.cc_plan.specs.Plan.{library_of, archived_of, archive_refusal, archives_of, indexes_of, lists_of_run, link_lines, removal_steps}
+use Rattle.cc_plan.specs.Plan.{library_of, objects_of, compiles_of, plan_warnings, archived_of, archive_refusal, archives_of, indexes_of, lists_of_run, link_lines, removal_steps}
 use Rattle.cc_plan.specs.Refusal.{first_of, late_refusal, archiver_refusal, link_refusal}
 use Rattle.cc_plan.specs.declared.archive.Archiver.{Archiver}
 use Rattle.cc_plan.specs.declared.error.PlanError.{PlanError}
 use Rattle.cc_plan.specs.declared.link.LinkLine.{LinkLine}
+use Rattle.cc_plan.specs.declared.object.Object.{Object}
 use Rattle.cc_plan.specs.declared.plan.Plan.{Plan}
+use Rattle.cc_host.specs.Command.{CommandSeen}
 use Rattle.cc_plan.proofs.BatchLaws.{joined}
 use Rattle.cc_run.specs.declared.planned.Planned.{Planned}
 use Rattle.cc_run.specs.declared.planned.Shows.{Shows}
@@ -32,9 +34,10 @@ use Rattle.cc_build.specs.Course.{Course, course, CallsEnd}
 use Rattle.cc_build.specs.Phases.{error_in, Begins, BeginStops, WriteEnds, LibraryEnds, LinkEnds, LinkedEnds, cargo_stages}
 use Rattle.cc_build.specs.Questions.{Plans, Archives, IsRefusedBy, AreLines}
 use Rattle.cc_build.specs.Refusal.{plan_error}
-use Rattle.cc_build.specs.Seen.{stages_seen, stages_of, commands_for, ready_steps, form_stages, library_seen}
-use Rattle.cc_build.specs.Stage.{Stage, calls, planned, in_turn, tried, behind_first, asked_then, compile_stages, removal_stages, list_stages, archive_stages, link_stages, folder_in, links_of, library_stages, ending_stages, later_stages, asked_stages, run_reads, printed_stages}
-use Rattle.cc_build.specs.Way.{Way, Firsts, all_firsts}
+use Rattle.cc_build.specs.Seen.{stages_seen, opening_of, compiles_by, stages_of, commands_for, ready_steps, form_stages, library_seen}
+use Rattle.cc_build.specs.Stage.{Stage, calls, planned, beside, in_turn, tried, behind_first, asked_then, compile_stages, removal_stages, list_stages, archive_stages, link_stages, folder_in, links_of, library_stages, ending_stages, later_stages, asked_stages, run_reads, printed_stages}
+use Rattle.cc_build.specs.Way.{Way, Found, Firsts, all_firsts}
+use Rattle.cc_build.proofs.SourceLaws.{compiles_are}
 use Rattle.cc_build.specs.Stage.Stage.{Asks, Tries}
 use Rattle.cc_build.specs.Went.{Terms, Means, terms, Went, Halted, Ends}
 use Rattle.cc_build.specs.declared.library.Library.{Library}
@@ -60,12 +63,15 @@ module _ (t : Terms) (f : PlanError → ErrorSeen) (p : Option PlanError) (stage
 
 -- ---- the stages of the parts
 
-sources_are : (task : Task) (plan : Plan) (look : Look) → Plans task plan look → stages_of plan ≡ compile_stages task.set.now task.env.now plan.warns_of_link look
-unfolding compile_stages
-sources_are task plan look h = rw (h.warnings, h.compiles) refl
+abbrev pub found_of : Bool → Option (List ℕ) → Found
+found_of warns_of_link here = record { warns_of_link = warns_of_link; here = here }
 
-pub plan_stages : (task : Task) (plan : Plan) (look : Look) (these : List Stage) → these ≡ stages_of plan → Plans task plan look → these ≡ compile_stages task.set.now task.env.now plan.warns_of_link look
-plan_stages task plan look these is h = is ∙ sources_are task plan look h
+pub plan_stages : (task : Task) (plan : Plan) (objects : List Object) (look : Look) (here : Option (List ℕ)) → objects ≡ objects_of task.set.now task.env.now → Plans task plan look → stages_of task.set.now plan objects here ≡ compile_stages task.set.now task.env.now (found_of plan.warns_of_link here) look
+unfolding compile_stages
+plan_stages task plan objects look here same h =
+    ap₂ (λ (texts : List (List ℕ)) (cmds : List CommandSeen). calls (opening_of task.set.now (is_some here) texts here) ++ beside (compiles_by here objects cmds)) h.warnings h.compiles
+    ∙ ap (λ (os : List Object). calls (opening_of task.set.now (is_some here) (plan_warnings task.set.now task.env.now plan.warns_of_link look) here) ++ beside (compiles_by here os (compiles_of task.set.now task.env.now look))) same
+    ∙ ap (λ ps. calls (opening_of task.set.now (is_some here) (plan_warnings task.set.now task.env.now plan.warns_of_link look) here) ++ beside ps) (compiles_are task.set.now task.env.now here look)
 
 pub line_stages : (task : Task) (reads : Reads) (name library : List ℕ) (lines : Lines) (firsts : Firsts) (look : Look) (these : List Stage) → these ≡ printed_stages firsts lines.links.items lines.names → AreLines task reads name library lines look → these ≡ cargo_stages task reads name library firsts look
 line_stages task reads name library lines firsts look these is h =
@@ -278,8 +284,8 @@ module _ (t : Terms) (f : PlanError → ErrorSeen) where
 
 -- ---- the whole of the parts
 
-abbrev pub way_of : Bool → Bool → Firsts → Way
-way_of warns_of_link is_plain firsts = record { warns_of_link = warns_of_link; is_plain = is_plain; firsts = firsts }
+abbrev pub way_of : Found → Bool → Firsts → Way
+way_of found is_plain firsts = record { found = found; is_plain = is_plain; firsts = firsts }
 
 module _ (t : Terms) (task : Task) (look : Look) where
   abbrev late : Option PlanError
@@ -294,8 +300,8 @@ module _ (t : Terms) (task : Task) (look : Look) where
   abbrev behind_sources : Option ErrorSeen
   behind_sources = first_of (error_in task archive_stop) (error_in task links)
 
-  abbrev compiles : Bool → List Stage
-  compiles warns_of_link = compile_stages task.set.now task.env.now warns_of_link look
+  abbrev compiles : Found → List Stage
+  compiles found = compile_stages task.set.now task.env.now found look
 
   abbrev writes : Bool → List Stage
   writes is_plain = library_stages task.set.now task.env.now is_plain look task.output.now
@@ -308,27 +314,27 @@ module _ (t : Terms) (task : Task) (look : Look) where
   later_is way = refl
 
   -- the run ended among the sources
-  pub sources_halted : (warns_of_link : Bool) (part : List Event) (e : ErrorSeen) (x z : Means) → Halted t (error_in task late) (asked_then late (compiles warns_of_link)) part e x z → Halted t (first_of (error_in task late) behind_sources) (stages_in (way_of warns_of_link false all_firsts)) part e x z
-  sources_halted warns_of_link part e x z h =
-      halted_join t (plan_error task.set.now task.env.now task.output.now) late behind_sources (compiles warns_of_link) (later_stages task.set.now task.env.now (way_of warns_of_link false all_firsts) look task.output.now) part e x z h
+  pub sources_halted : (found : Found) (part : List Event) (e : ErrorSeen) (x z : Means) → Halted t (error_in task late) (asked_then late (compiles found)) part e x z → Halted t (first_of (error_in task late) behind_sources) (stages_in (way_of found false all_firsts)) part e x z
+  sources_halted found part e x z h =
+      halted_join t (plan_error task.set.now task.env.now task.output.now) late behind_sources (compiles found) (later_stages task.set.now task.env.now (way_of found false all_firsts) look task.output.now) part e x z h
 
   -- what stands behind the sources ended so
-  pub sources_then : {T : Type 0} (way : Way) (old mid new : List Event) (r : Result T ErrorSeen) (x y z : Means) → mid ≡ old ++ since old mid → new ≡ mid ++ since mid new → late ≡ None → Went t (Asks ∷ compiles way.warns_of_link) (since old mid) x y → Ends t behind_sources (asked_then archive_stop (writes way.is_plain ++ ending_stages task.set.now task.env.now way look task.output.now)) (since mid new) r y z → Ends t (first_of (error_in task late) behind_sources) (stages_in way) (since old new) r x z
+  pub sources_then : {T : Type 0} (way : Way) (old mid new : List Event) (r : Result T ErrorSeen) (x y z : Means) → mid ≡ old ++ since old mid → new ≡ mid ++ since mid new → late ≡ None → Went t (Asks ∷ compiles way.found) (since old mid) x y → Ends t behind_sources (asked_then archive_stop (writes way.is_plain ++ ending_stages task.set.now task.env.now way look task.output.now)) (since mid new) r y z → Ends t (first_of (error_in task late) behind_sources) (stages_in way) (since old new) r x z
   sources_then way old mid new r x y z first last allowed w o =
-      part_then t (plan_error task.set.now task.env.now task.output.now) late behind_sources (compiles way.warns_of_link) (later_stages task.set.now task.env.now way look task.output.now) old mid new r x y z first last allowed w
+      part_then t (plan_error task.set.now task.env.now task.output.now) late behind_sources (compiles way.found) (later_stages task.set.now task.env.now way look task.output.now) old mid new r x y z first last allowed w
       (subst (λ (l : List Stage). Ends t behind_sources l (since mid new) r y z) (later_is way) o)
 
   -- the run ended at the library
-  pub library_halted : (warns_of_link is_plain : Bool) (old mid new : List Event) (e : ErrorSeen) (x y z : Means) → mid ≡ old ++ since old mid → new ≡ mid ++ since mid new → late ≡ None → Went t (Asks ∷ compiles warns_of_link) (since old mid) x y → Halted t (error_in task archive_stop) (asked_then archive_stop (writes is_plain ++ Asks ∷ [])) (since mid new) e y z → Halted t (first_of (error_in task late) behind_sources) (stages_in (way_of warns_of_link is_plain all_firsts)) (since old new) e x z
-  library_halted warns_of_link is_plain old mid new e x y z first last allowed w h =
-      sources_then {T = Unit {0}} (way_of warns_of_link is_plain all_firsts) old mid new (Err e) x y z first last allowed w
+  pub library_halted : (found : Found) (is_plain : Bool) (old mid new : List Event) (e : ErrorSeen) (x y z : Means) → mid ≡ old ++ since old mid → new ≡ mid ++ since mid new → late ≡ None → Went t (Asks ∷ compiles found) (since old mid) x y → Halted t (error_in task archive_stop) (asked_then archive_stop (writes is_plain ++ Asks ∷ [])) (since mid new) e y z → Halted t (first_of (error_in task late) behind_sources) (stages_in (way_of found is_plain all_firsts)) (since old new) e x z
+  library_halted found is_plain old mid new e x y z first last allowed w h =
+      sources_then {T = Unit {0}} (way_of found is_plain all_firsts) old mid new (Err e) x y z first last allowed w
       (part_before t (plan_error task.set.now task.env.now task.output.now) archive_stop links (error_in task links) (writes is_plain) (link_stages task.set.now task.env.now look all_firsts task.output.now) (since mid new) e y z h)
 
   -- all of it, to the link lines
-  pub links_end : {T : Type 0} (warns_of_link is_plain : Bool) (firsts : Firsts) (old mid made new : List Event) (r : Result T ErrorSeen) (x y z u : Means) → mid ≡ old ++ since old mid → made ≡ mid ++ since mid made → new ≡ made ++ since made new → late ≡ None → Went t (Asks ∷ compiles warns_of_link) (since old mid) x y → archive_stop ≡ None → Went t (Asks ∷ writes is_plain) (since mid made) y z → Ends t (error_in task links) (asked_then links (link_stages task.set.now task.env.now look firsts task.output.now)) (since made new) r z u → Ends t (first_of (error_in task late) behind_sources) (stages_in (way_of warns_of_link is_plain firsts)) (since old new) r x u
-  links_end warns_of_link is_plain firsts old mid made new r x y z u first next last allowed w allowed' w' o =
-      sources_then (way_of warns_of_link is_plain firsts) old mid new r x y u first (since_extends mid made new next last) allowed w
-      (part_then t (plan_error task.set.now task.env.now task.output.now) archive_stop (error_in task links) (writes is_plain) (ending_stages task.set.now task.env.now (way_of warns_of_link is_plain firsts) look task.output.now) mid made new r y z u next last allowed' w' o)
+  pub links_end : {T : Type 0} (found : Found) (is_plain : Bool) (firsts : Firsts) (old mid made new : List Event) (r : Result T ErrorSeen) (x y z u : Means) → mid ≡ old ++ since old mid → made ≡ mid ++ since mid made → new ≡ made ++ since made new → late ≡ None → Went t (Asks ∷ compiles found) (since old mid) x y → archive_stop ≡ None → Went t (Asks ∷ writes is_plain) (since mid made) y z → Ends t (error_in task links) (asked_then links (link_stages task.set.now task.env.now look firsts task.output.now)) (since made new) r z u → Ends t (first_of (error_in task late) behind_sources) (stages_in (way_of found is_plain firsts)) (since old new) r x u
+  links_end found is_plain firsts old mid made new r x y z u first next last allowed w allowed' w' o =
+      sources_then (way_of found is_plain firsts) old mid new r x y u first (since_extends mid made new next last) allowed w
+      (part_then t (plan_error task.set.now task.env.now task.output.now) archive_stop (error_in task links) (writes is_plain) (ending_stages task.set.now task.env.now (way_of found is_plain firsts) look task.output.now) mid made new r y z u next last allowed' w' o)
 
 -- ---- the library of a part
 

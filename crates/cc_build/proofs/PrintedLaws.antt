@@ -180,7 +180,7 @@ ends_outcome t refusal steps part (Err e) x y none told ends = halted_refused t 
 
 pub calls_outcome : {T : Type 0} (b : BuildSeen) (refusal : Option ErrorSeen) (steps : List Step) (part : List Event) (r : Result T ErrorSeen) → refusal ≡ None → list_all is_told steps ≡ true → CallsEnd steps part r → Outcome refusal steps part r × IsChildless part
 calls_outcome b refusal steps part r none told ends =
-    ends_outcome (terms (shows_of b.config b.env) None None) refusal steps part r (means 0 0 0 0) (means 0 0 0 0) none told (ends (terms (shows_of b.config b.env) None None) (means 0 0 0 0))
+    ends_outcome (terms (shows_of b.config b.env false) None None) refusal steps part r (means 0 0 0 0) (means 0 0 0 0) none told (ends (terms (shows_of b.config b.env false) None None) (means 0 0 0 0))
 
 -- ---- questions
 

@@ -77,7 +77,7 @@ module _ (task : Task) (reads : Reads) (look : Look) where
   -- the run ended among the sources
   pub compiling_stopped : (total patience : Option ℕ) (part : List Event) (e : ErrorSeen) (x z : Means) → CompileEnds {T = Unit {0}} task (Err e) look part (course total patience x z) → CompiledEnds {T = Unit {0}} task reads (Err e) look part (course total patience x z)
   compiling_stopped total patience part e x z h =
-      (h.0, all_firsts, ((λ _. refl), told_none (shown total patience) error_of late (compile_stages task.set.now task.env.now h.0 look) (names all_firsts) part e x z h.1))
+      (h.0, all_firsts, (h.1.0, (λ _. refl), told_none (shown total patience) error_of late (compile_stages task.set.now task.env.now h.0 look) (names all_firsts) part e x z h.1.1))
 
   -- the run ended at the library
   pub writing_stopped : (total patience : Option ℕ) (part : List Event) (e : ErrorSeen) (x z : Means) → LibraryEnds {T = Unit {0}} task (Err e) look part (course total patience x z) → WrittenEnds {T = Unit {0}} task reads (Err e) look part (course total patience x z)
@@ -95,8 +95,8 @@ module _ (task : Task) (reads : Reads) (look : Look) where
     compiling_told h =
         let t = shown total patience in
         let stages = compile_stages task.set.now task.env.now h.0 look in
-        let done = phase_went t error_of late stages (since old mid) v x y h.1 in
-        (h.0, told.0, (told.1.0, told_then t error_of late stages (names told.0) old mid new r x y z first last done.0 done.1 told.1.1))
+        let done = phase_went t error_of late stages (since old mid) v x y h.1.1 in
+        (h.0, told.0, (h.1.0, told.1.0, told_then t error_of late stages (names told.0) old mid new r x y z first last done.0 done.1 told.1.1))
 
     -- the library was written, and the lines ended so
     pub writing_told : LibraryEnds task (Ok v) look (since old mid) (course total patience x y) → WrittenEnds task reads r look (since old new) (course total patience x z)

@@ -26,7 +26,7 @@ use Rattle.cc_host.proofs.Parts.{since_append}
 use Rattle.cc_jobs.specs.Seats.{Rose}
 use Rattle.cc_plan.specs.Given.{is_disabled}
 use Rattle.cc_plan.specs.Link.{printed_links}
-use Rattle.cc_plan.specs.Plan.{dir_of, link_lines, warning_lines, compiles_of, lists_of_run, archive_refusal, prints, folder_steps, removal_steps}
+use Rattle.cc_plan.specs.Plan.{dir_of, link_lines, lists_of_run, archive_refusal, prints, folder_steps, removal_steps}
 use Rattle.cc_plan.specs.Refusal.{early_refusal, late_refusal, link_refusal, is_empty}
 use Rattle.cc_plan.specs.declared.settings.BuildConfig.{BuildConfig}
 use Rattle.cc_run.specs.Outcome.{missing_by, faults_by, IsDone, IsRunError, EndsAt}
@@ -44,9 +44,10 @@ use Rattle.cc_build.specs.Error.{ErrorSeen, no_memory}
 use Rattle.cc_build.specs.Failed.{Failed, is_fault, is_form, form_aside, unforgiven, HasFault}
 use Rattle.cc_build.specs.Order.{is_archive_role, is_archive_event}
 use Rattle.cc_build.specs.RunErrors.{run_error}
-use Rattle.cc_build.specs.Stage.{Stage, children_in, calls, planned, beside, in_turn, tried, written, writings, has_libtool, folder_stages, compile_stages, removal_stages, library_commands, list_stages, archive_stages, link_stages, library_stages, ending_stages, later_stages, asked_stages, late_stages, planned_stages, run_reads, rerun_lines}
+use Rattle.cc_build.specs.Stage.{Stage, children_in, calls, beside, compiles_planned, opening_steps, in_turn, tried, written, writings, has_libtool, folder_stages, compile_stages, removal_stages, library_commands, list_stages, archive_stages, link_stages, library_stages, ending_stages, later_stages, asked_stages, late_stages, planned_stages, run_reads, rerun_lines}
 use Rattle.cc_build.specs.Stage.Stage.{Calls, Asks, Tries, RunsOne, RunsAll}
-use Rattle.cc_build.specs.Way.{Way, chosen, Firsts}
+use Rattle.cc_build.specs.Way.{Way, Found, chosen, Firsts}
+use Rattle.cc_build.proofs.SourceLaws.{AreNotes, opening_notes}
 use Rattle.cc_build.specs.Went.{Terms, Means, RanAll, RanOne, Did, Went, IsOf, Stops, Halts}
 use Rattle.cc_build.specs.declared.error.ErrorKind.TheVariants.{TurnsSpent as SpendsTurns}
 use Rattle.cc_build.proofs.RunLaws.{shift, shifted, went_run}
@@ -395,6 +396,18 @@ unfolding prints
 plain_both kind other [] more = plain_lines other more
 plain_both kind other (line ∷ lines) more = (tt, plain_both kind other lines more)
 
+pub plain_notes : (steps : List Step) → AreNotes steps → ArePlain (calls steps)
+plain_notes [] h = tt
+plain_notes (Runs role cmd ∷ steps) h = absurd (cc)
+plain_notes (Makes scope path ∷ steps) h = absurd (cc)
+plain_notes (Removes path ∷ steps) h = absurd (cc)
+plain_notes (Writes path bytes ∷ steps) h = absurd (cc)
+plain_notes (Copies from to ∷ steps) h = absurd (cc)
+plain_notes (Finds path ∷ steps) h = (tt, plain_notes steps h)
+plain_notes (Says message ∷ steps) h = (tt, plain_notes steps h)
+plain_notes (Prints kind bytes ∷ steps) h = (tt, plain_notes steps h)
+plain_notes (Lists ∷ steps) h = absurd (cc)
+
 plain_beside : (ps : List Planned) → ArePlain (beside ps)
 plain_beside [] = tt
 plain_beside (p ∷ []) = (tt, tt)
@@ -429,11 +442,11 @@ module _ (set : BuildConfig) (env : EnvSeen) where
       by_files true = tt
       by_files false = (tt, tt)
 
-  plain_compile : (warns_of_link : Bool) (look : Look) → ArePlain (compile_stages set env warns_of_link look)
+  plain_compile : (found : Found) (look : Look) → ArePlain (compile_stages set env found look)
   unfolding compile_stages
-  plain_compile warns_of_link look =
-      plain_then (calls (prints Warning (warning_lines set env warns_of_link look))) (beside (planned Compile (compiles_of set env look)))
-      (plain_lines Warning (warning_lines set env warns_of_link look)) (plain_beside (planned Compile (compiles_of set env look)))
+  plain_compile found look =
+      plain_then (calls (opening_steps set env found look)) (beside (compiles_planned set env found.here look))
+      (plain_notes (opening_steps set env found look) (opening_notes set env found look)) (plain_beside (compiles_planned set env found.here look))
 
   plain_removal : (output : List ℕ) → ArePlain (removal_stages set env output)
   unfolding removal_stages removal_steps
@@ -469,8 +482,8 @@ module _ (set : BuildConfig) (env : EnvSeen) where
   plain_asked : (way : Way) (look : Look) (output : List ℕ) → ArePlain (asked_stages set env way look output)
   plain_asked way look output = (
     tt,
-    plain_unless (is_some (late_refusal set env look)) (compile_stages set env way.warns_of_link look ++ later_stages set env way look output)
-        (plain_then (compile_stages set env way.warns_of_link look) (later_stages set env way look output) (plain_compile way.warns_of_link look) (plain_later way look output)),
+    plain_unless (is_some (late_refusal set env look)) (compile_stages set env way.found look ++ later_stages set env way look output)
+        (plain_then (compile_stages set env way.found look) (later_stages set env way look output) (plain_compile way.found look) (plain_later way look output)),
   )
 
   plain_late : (way : Way) (look : Look) (output : List ℕ) → ArePlain (late_stages set env way look output)

@@ -5,10 +5,8 @@ use Rattle.cc_env.specs.Env.{EnvSeen}
 use Rattle.cc_host.specs.Part.{Step}
 use Rattle.cc_host.specs.Question.{Look, Answer, Agrees, Settles}
 use Rattle.cc_host.specs.declared.event.Event.{Event}
-use Rattle.cc_host.specs.declared.event.LineKind.TheVariants.{Warning}
 use Rattle.cc_host.proofs.Parts.{partly_whole}
 use Rattle.cc_plan.specs.Asking.{Warns}
-use Rattle.cc_plan.specs.Plan.{prints}
 use Rattle.cc_plan.specs.Refusal.{first_of}
 use Rattle.cc_plan.specs.declared.error.PlanError.{PlanError}
 use Rattle.cc_plan.specs.declared.settings.BuildConfig.{BuildConfig}
@@ -31,9 +29,9 @@ unanswered T refusal error steps part e (partly, inl memory) = (partly, inl memo
 unanswered T refusal error steps part e (partly, inr (inl refused)) = (partly, inr (inl (ap (λ x. first_of x error) refused)))
 unanswered T refusal error steps part e (partly, inr (inr stopped)) = (partly, inr (inr stopped))
 
-pub answered_outcome : {X : Type 0} (known : List Answer) (warnings : Bool → Look → List (List ℕ)) (refusal : Look → Option PlanError) (set : BuildConfig) (env : EnvSeen) (part : List Event) (result : Result X PlanError) (x : X) (error : Option ErrorSeen) (r : Result Bool ErrorSeen) (look : Look) → Agrees look known → result ≡ Ok x → (w : Warns known warnings result part) → Settles known refusal None → OnOk r (error ≡ None) → IfErr r (λ e. (e ≡ no_memory) ⊎ (error ≡ Some e)) → Outcome (first_of (option_map (plan_error set env []) (refusal look)) error) (prints Warning (warnings w.warns_of_link look)) part r
+pub answered_outcome : {X : Type 0} (known : List Answer) (warnings : Bool → Look → List Step) (refusal : Look → Option PlanError) (set : BuildConfig) (env : EnvSeen) (part : List Event) (result : Result X PlanError) (x : X) (error : Option ErrorSeen) (r : Result Bool ErrorSeen) (look : Look) → Agrees look known → result ≡ Ok x → (w : Warns known warnings result part) → Settles known refusal None → OnOk r (error ≡ None) → IfErr r (λ e. (e ≡ no_memory) ⊎ (error ≡ Some e)) → Outcome (first_of (option_map (plan_error set env []) (refusal look)) error) (warnings w.warns_of_link look) part r
 answered_outcome {X} known warnings refusal set env part result x error r look agree is w allowed tried untried =
-    answered (option_map (plan_error set env []) (refusal look)) error (prints Warning (warnings w.warns_of_link look)) part r
+    answered (option_map (plan_error set env []) (refusal look)) error (warnings w.warns_of_link look) part r
     (planned_outcome {T = Unit {0}} known warnings refusal set env part result x tt look agree is w allowed) tried untried
 
 -- the error of a verdict by its other name

@@ -8,8 +8,8 @@ use Rattle.std.proofs.lemmas.List.Folds.{list_any-append}
 use Rattle.cc_env.specs.Env.{EnvSeen}
 use Rattle.cc_host.specs.declared.event.Event.{Event}
 use Rattle.cc_host.specs.declared.event.Event.TheVariants.{Started, Ended, Abandoned, Heard, Unread, Turn, Fault}
-use Rattle.cc_host.specs.declared.event.HostCall.TheVariants.{Print}
-use Rattle.cc_host.specs.declared.event.LineKind.TheVariants.{Warning}
+use Rattle.cc_host.specs.declared.event.HostCall.{HostCall}
+use Rattle.cc_host.specs.declared.event.HostCall.TheVariants.{Print, Say}
 use Rattle.cc_host.specs.declared.event.Why.{Why}
 use Rattle.cc_host.specs.declared.question.Outcome.{Outcome as WorldOutcome}
 use Rattle.cc_host.specs.declared.question.Question.{Question}
@@ -21,8 +21,7 @@ use Rattle.cc_tool.specs.Asked.{question_events, Asked}
 use Rattle.cc_tool.specs.Asks.{Asks}
 use Rattle.cc_tool.specs.Probing.{is_asked}
 use Rattle.cc_tool.proofs.Asides.{aside_answers, asked_by, asked_before, asks_quiet, asks_extends}
-use Rattle.cc_plan.specs.Asking.{AsksThen, Warns, AreLines, Printed, EndsPrinting, is_of_children}
-use Rattle.cc_plan.specs.Plan.{prints}
+use Rattle.cc_plan.specs.Asking.{AsksThen, Warns, AreSteps, Warned, EndsWarning, IsNotice, IsPrintFault, is_of_children}
 use Rattle.cc_plan.specs.declared.error.PlanError.{PlanError}
 use Rattle.cc_plan.specs.declared.error.PlanError.TheVariants.{Host, NoMemory as WantsMemory}
 use Rattle.cc_plan.specs.declared.settings.BuildConfig.{BuildConfig}
@@ -67,32 +66,48 @@ printing_stop (Finds path ∷ steps) why h = absurd (cc)
 printing_stop (Says message ∷ steps) why h = absurd (cc)
 printing_stop (Lists ∷ steps) why h = absurd (cc)
 
-print_error : (set : BuildConfig) (env : EnvSeen) (why : Why) → plan_error set env [] (Host Print why) ≡ fault_error Print why []
+saying_stop : (steps : List Step) (why : Why) → StopsAt steps (Fault Say why ∷ []) → stopped_by steps (Fault Say why ∷ []) ≡ Some (fault_error Say why [])
+saying_stop [] why h = absurd h
+saying_stop (Says message ∷ steps) why h = refl
+saying_stop (Runs role cmd ∷ steps) why h = absurd (cc)
+saying_stop (Makes scope path ∷ steps) why h = absurd (cc)
+saying_stop (Removes path ∷ steps) why h = absurd (cc)
+saying_stop (Writes path bytes ∷ steps) why h = absurd (cc)
+saying_stop (Copies from to ∷ steps) why h = absurd (cc)
+saying_stop (Finds path ∷ steps) why h = absurd (cc)
+saying_stop (Prints kind bytes ∷ steps) why h = absurd (cc)
+saying_stop (Lists ∷ steps) why h = absurd (cc)
+
+notice_stop : (steps : List Step) (call : HostCall) (why : Why) → IsNotice call → StopsAt steps (Fault call why ∷ []) → stopped_by steps (Fault call why ∷ []) ≡ Some (fault_error call why [])
+notice_stop steps call why (inl is) = subst (λ (k : HostCall). StopsAt steps (Fault k why ∷ []) → stopped_by steps (Fault k why ∷ []) ≡ Some (fault_error k why [])) (sym is) (printing_stop steps why)
+notice_stop steps call why (inr is) = subst (λ (k : HostCall). StopsAt steps (Fault k why ∷ []) → stopped_by steps (Fault k why ∷ []) ≡ Some (fault_error k why [])) (sym is) (saying_stop steps why)
+
+notice_error : (set : BuildConfig) (env : EnvSeen) (call : HostCall) (why : Why) → plan_error set env [] (Host call why) ≡ fault_error call why []
 unfolding plan_error
-print_error set env why = refl
+notice_error set env call why = refl
 
--- the line that a host refused is the cause
-line_cause : (refusal : Option ErrorSeen) (steps : List Step) (part : List Event) (e : ErrorSeen) (why : Why) → IsPartly steps part → stops part ≡ Fault Print why ∷ [] → e ≡ fault_error Print why [] → IsCausedBy refusal steps part e
-line_cause refusal steps part e why p ends is =
-    let at : StopsAt (left steps part) (Fault Print why ∷ []) = subst (λ (l : List Event). StopsAt (left steps part) l) ends p.stop in
-    inr (inr (ap (λ l. stopped_by (left steps part) l) ends ∙ printing_stop (left steps part) why at ∙ ap Some (sym is)))
+-- the warning that a host refused is the cause
+notice_cause : (refusal : Option ErrorSeen) (steps : List Step) (part : List Event) (e : ErrorSeen) (call : HostCall) (why : Why) → IsNotice call → IsPartly steps part → stops part ≡ Fault call why ∷ [] → e ≡ fault_error call why [] → IsCausedBy refusal steps part e
+notice_cause refusal steps part e call why notice p ends is =
+    let at : StopsAt (left steps part) (Fault call why ∷ []) = subst (λ (l : List Event). StopsAt (left steps part) l) ends p.stop in
+    inr (inr (ap (λ l. stopped_by (left steps part) l) ends ∙ notice_stop (left steps part) call why notice at ∙ ap Some (sym is)))
 
-printed_cause : (set : BuildConfig) (env : EnvSeen) (steps : List Step) (part : List Event) (error : PlanError) (e : ErrorSeen) (r : Option PlanError) → IsPartly steps part → EndsPrinting part error → (e ≡ no_memory) ⊎ (e ≡ plan_error set env [] error) → (error ≡ WantsMemory) ⊎ (((why : Why) × (error ≡ Host Print why)) ⊎ (r ≡ Some error)) → IsCausedBy (option_map (plan_error set env []) r) steps part e
-printed_cause set env steps part error e r p ends (inl memory) cause = inl memory
-printed_cause set env steps part error e r p ends (inr is) (inl wants) = own (plan_cause set env [] error e r (inr is) (inl wants))
+warned_cause : (set : BuildConfig) (env : EnvSeen) (steps : List Step) (part : List Event) (error : PlanError) (e : ErrorSeen) (r : Option PlanError) → IsPartly steps part → EndsWarning part error → (e ≡ no_memory) ⊎ (e ≡ plan_error set env [] error) → (error ≡ WantsMemory) ⊎ (IsPrintFault error ⊎ (r ≡ Some error)) → IsCausedBy (option_map (plan_error set env []) r) steps part e
+warned_cause set env steps part error e r p ends (inl memory) cause = inl memory
+warned_cause set env steps part error e r p ends (inr is) (inl wants) = own (plan_cause set env [] error e r (inr is) (inl wants))
   where
     own : (e ≡ no_memory) ⊎ (option_map (plan_error set env []) r ≡ Some e) → IsCausedBy (option_map (plan_error set env []) r) steps part e
     own (inl memory) = inl memory
     own (inr refused) = inr (inl refused)
-printed_cause set env steps part error e r p ends (inr is) (inr (inl fault)) =
-    let stop : stops part ≡ Fault Print fault.0 ∷ [] = (subst (λ (x : PlanError). EndsPrinting part x) fault.1 ends).1 in
-    line_cause (option_map (plan_error set env []) r) steps part e fault.0 p stop (is ∙ ap (plan_error set env []) fault.1 ∙ print_error set env fault.0)
-printed_cause set env steps part error e r p ends (inr is) (inr (inr refused)) = inr (inl (ap (option_map (plan_error set env [])) refused ∙ ap Some (sym is)))
+warned_cause set env steps part error e r p ends (inr is) (inr (inl fault)) =
+    let stop : stops part ≡ Fault fault.0 fault.1 ∷ [] = (subst (λ (x : PlanError). EndsWarning part x) fault.2.1 ends).1 in
+    notice_cause (option_map (plan_error set env []) r) steps part e fault.0 fault.1 fault.2.0 p stop (is ∙ ap (plan_error set env []) fault.2.1 ∙ notice_error set env fault.0 fault.1)
+warned_cause set env steps part error e r p ends (inr is) (inr (inr refused)) = inr (inl (ap (option_map (plan_error set env [])) refused ∙ ap Some (sym is)))
 
--- the lines that are left to print where the answers settle them
-settled_lines : (known : List Answer) (warnings : Look → List (List ℕ)) (lines : List (List ℕ)) (part : List Event) (look : Look) → Agrees look known → (part ≡ []) ⊎ Settles known warnings lines → IsPartly (prints Warning lines) part → IsPartly (prints Warning (warnings look)) part
-settled_lines known warnings lines part look agree (inl none) p = subst (λ (l : List Event). IsPartly (prints Warning (warnings look)) l) (sym none) (partly_none (prints Warning (warnings look)))
-settled_lines known warnings lines part look agree (inr s) p = subst (λ (l : List (List ℕ)). IsPartly (prints Warning l) part) (sym (s.is look agree)) p
+-- the warnings that are left to give where the answers settle them
+settled_steps : (known : List Answer) (warnings : Look → List Step) (steps : List Step) (part : List Event) (look : Look) → Agrees look known → (part ≡ []) ⊎ Settles known warnings steps → IsPartly steps part → IsPartly (warnings look) part
+settled_steps known warnings steps part look agree (inl none) p = subst (λ (l : List Event). IsPartly (warnings look) l) (sym none) (partly_none (warnings look))
+settled_steps known warnings steps part look agree (inr s) p = subst (λ (l : List Step). IsPartly l part) (sym (s.is look agree)) p
 
 module _ (steady : Bool) (world : Question → WorldOutcome) (dir : List ℕ) (questions : Look → Question → Type 0) (old end new : List Event) (none known : List Answer) (P : List Event → Type 0) (asked : AsksThen steady world dir questions old end none known P) (is : new ≡ end) (empty : none ≡ []) (quiet : question_events asked.rest ≡ []) where
   asks : Asks steady world dir old asked.mid [] known
@@ -146,21 +161,21 @@ module _ (steady : Bool) (world : Question → WorldOutcome) (dir : List ℕ) (q
       (subst (λ (p : List Event). Outcome refusal steps p r) (sym rest_is) o)
 
 -- the outcome of a compiler that was planned
-pub planned_outcome : {X T : Type 0} (known : List Answer) (warnings : Bool → Look → List (List ℕ)) (refusal : Look → Option PlanError) (set : BuildConfig) (env : EnvSeen) (part : List Event) (result : Result X PlanError) (x : X) (t : T) (look : Look) → Agrees look known → result ≡ Ok x → (w : Warns known warnings result part) → Settles known refusal None → Outcome {T = T} (option_map (plan_error set env []) (refusal look)) (prints Warning (warnings w.warns_of_link look)) part (Ok t)
+pub planned_outcome : {X T : Type 0} (known : List Answer) (warnings : Bool → Look → List Step) (refusal : Look → Option PlanError) (set : BuildConfig) (env : EnvSeen) (part : List Event) (result : Result X PlanError) (x : X) (t : T) (look : Look) → Agrees look known → result ≡ Ok x → (w : Warns known warnings result part) → Settles known refusal None → Outcome {T = T} (option_map (plan_error set env []) (refusal look)) (warnings w.warns_of_link look) part (Ok t)
 planned_outcome {X} known warnings refusal set env part result x t look agree is w allowed =
-    let settled : Settles known (warnings w.warns_of_link) w.lines = subst (λ (r : Result X PlanError). AreLines known (warnings w.warns_of_link) w.lines part r) is w.settled in
-    let printed : IsWhole (prints Warning w.lines) part = subst (λ (r : Result X PlanError). Printed w.lines part r) is w.printed in
-    (ap (option_map (plan_error set env [])) (allowed.is look agree), subst (λ (l : List (List ℕ)). IsWhole (prints Warning l) part) (sym (settled.is look agree)) printed)
+    let settled : Settles known (warnings w.warns_of_link) w.steps = subst (λ (r : Result X PlanError). AreSteps known (warnings w.warns_of_link) w.steps part r) is w.settled in
+    let warned : IsWhole w.steps part = subst (λ (r : Result X PlanError). Warned w.steps part r) is w.warned in
+    (ap (option_map (plan_error set env [])) (allowed.is look agree), subst (λ (l : List Step). IsWhole l part) (sym (settled.is look agree)) warned)
 
 -- the outcome of a compiler that was refused
-pub unplanned_outcome : {X : Type 0} (T : Type 0) (known : List Answer) (warnings : Bool → Look → List (List ℕ)) (refusal : Look → Option PlanError) (set : BuildConfig) (env : EnvSeen) (part : List Event) (result : Result X PlanError) (error : PlanError) (e : ErrorSeen) (look : Look) → Agrees look known → result ≡ Err error → (w : Warns known warnings result part) → (error ≡ WantsMemory) ⊎ (((why : Why) × (error ≡ Host Print why)) ⊎ Settles known refusal (Some error)) → (e ≡ no_memory) ⊎ (e ≡ plan_error set env [] error) → Outcome {T = T} (option_map (plan_error set env []) (refusal look)) (prints Warning (warnings w.warns_of_link look)) part (Err e)
+pub unplanned_outcome : {X : Type 0} (T : Type 0) (known : List Answer) (warnings : Bool → Look → List Step) (refusal : Look → Option PlanError) (set : BuildConfig) (env : EnvSeen) (part : List Event) (result : Result X PlanError) (error : PlanError) (e : ErrorSeen) (look : Look) → Agrees look known → result ≡ Err error → (w : Warns known warnings result part) → (error ≡ WantsMemory) ⊎ (IsPrintFault error ⊎ Settles known refusal (Some error)) → (e ≡ no_memory) ⊎ (e ≡ plan_error set env [] error) → Outcome {T = T} (option_map (plan_error set env []) (refusal look)) (warnings w.warns_of_link look) part (Err e)
 unplanned_outcome {X} T known warnings refusal set env part result error e look agree is w cause made =
-    let settled : (part ≡ []) ⊎ Settles known (warnings w.warns_of_link) w.lines = subst (λ (r : Result X PlanError). AreLines known (warnings w.warns_of_link) w.lines part r) is w.settled in
-    let printed : IsPartly (prints Warning w.lines) part × EndsPrinting part error = subst (λ (r : Result X PlanError). Printed w.lines part r) is w.printed in
-    let partly : IsPartly (prints Warning (warnings w.warns_of_link look)) part = settled_lines known (warnings w.warns_of_link) w.lines part look agree settled printed.0 in
-    (partly, printed_cause set env (prints Warning (warnings w.warns_of_link look)) part error e (refusal look) partly printed.1 made (at cause))
+    let settled : (part ≡ []) ⊎ Settles known (warnings w.warns_of_link) w.steps = subst (λ (r : Result X PlanError). AreSteps known (warnings w.warns_of_link) w.steps part r) is w.settled in
+    let warned : IsPartly w.steps part × EndsWarning part error = subst (λ (r : Result X PlanError). Warned w.steps part r) is w.warned in
+    let partly : IsPartly (warnings w.warns_of_link look) part = settled_steps known (warnings w.warns_of_link) w.steps part look agree settled warned.0 in
+    (partly, warned_cause set env (warnings w.warns_of_link look) part error e (refusal look) partly warned.1 made (at cause))
   where
-    at : (error ≡ WantsMemory) ⊎ (((why : Why) × (error ≡ Host Print why)) ⊎ Settles known refusal (Some error)) → (error ≡ WantsMemory) ⊎ (((why : Why) × (error ≡ Host Print why)) ⊎ (refusal look ≡ Some error))
+    at : (error ≡ WantsMemory) ⊎ (IsPrintFault error ⊎ Settles known refusal (Some error)) → (error ≡ WantsMemory) ⊎ (IsPrintFault error ⊎ (refusal look ≡ Some error))
     at (inl wants) = inl wants
     at (inr (inl fault)) = inr (inl fault)
     at (inr (inr s)) = inr (inr (s.is look agree))

@@ -45,10 +45,10 @@ creation_stages set env is_plain look firsts output =
 
 -- Ok: nothing is refused, the library was written, and behind it exactly those lines were printed. Else the first stages were done, and the error has its
 -- cause.
-abbrev pub CreationEnds : {T : Type 0} → BuildSeen → List ℕ → Result T ErrorSeen → Look → List Event → Course → Type 0
-CreationEnds b output result look part c =
-    (is_plain : Bool) × (firsts : Firsts) × (Repeats b.config firsts × Ends (terms_for b c) (creation_error b.config b.env look output) (creation_stages b.config b.env is_plain look firsts output) part result c.before c.after)
+abbrev pub CreationEnds : {T : Type 0} → BuildSeen → Bool → List ℕ → Result T ErrorSeen → Look → List Event → Course → Type 0
+CreationEnds b listens output result look part c =
+    (is_plain : Bool) × (firsts : Firsts) × (Repeats b.config firsts × Ends (terms_for b listens c) (creation_error b.config b.env look output) (creation_stages b.config b.env is_plain look firsts output) part result c.before c.after)
 
 -- so it ended, with this patience of its host, and with some left of these turns
-abbrev pub Creates : {T : Type 0} → BuildSeen → Option ℕ → ℕ → List ℕ → Result T ErrorSeen → Look → List Event → Type 0
-Creates b patience turns output result look part = (left : ℕ) × CreationEnds b output result look part (course_alone patience turns left)
+abbrev pub Creates : {T : Type 0} → BuildSeen → Bool → Option ℕ → ℕ → List ℕ → Result T ErrorSeen → Look → List Event → Type 0
+Creates b listens patience turns output result look part = (left : ℕ) × CreationEnds b listens output result look part (course_alone patience turns left)

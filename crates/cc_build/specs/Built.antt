@@ -16,7 +16,7 @@ use Rattle.cc_run.specs.Run.{Run, run_from, nothing}
 use Rattle.cc_build.specs.Attempts.{attempts, to_attempt, all_tried, form_tried}
 use Rattle.cc_build.specs.Stage.{planned, written_children, has_libtool, folder_stages, compile_stages, library_commands, list_stages, archive_stages, link_stages}
 use Rattle.cc_build.specs.Stage.Stage.{Asks}
-use Rattle.cc_build.specs.Way.{Way, Repeats}
+use Rattle.cc_build.specs.Way.{Way, Hears, Repeats}
 use Rattle.cc_build.specs.Went.{Terms, Goes}
 
 -- Nothing refuses these settings.
@@ -35,15 +35,16 @@ ended_well count = record { live = []; begun = count; failed = None }
 pub record Built (t : Terms) (set : BuildConfig) (env : EnvSeen) (look : Look) (output : List ℕ) (part : List Event) : Type 0 where
   pub accepted : Accepted set env look output
   pub way : Way
-  -- where lines are repeated, all of them were printed
+  -- where lines are repeated, all of them were printed; a host that listens was asked for the current folder
   pub repeats : Repeats set way.firsts
+  pub hears : Hears t.shows.listens way.found
   pub runs : List Event
   pub how : Removal
   pub archives : List Event
   pub lines : List Event
   pub cut : part ≡ runs ++ Removed (library_of set env output) how ∷ archives ++ lines
   -- the folder was made, questions were asked, the warnings were printed, the compile commands were run, and questions were asked
-  pub compiled : Goes t (folder_stages set env ++ (Asks ∷ (compile_stages set env way.warns_of_link look ++ (Asks ∷ [])))) runs
+  pub compiled : Goes t (folder_stages set env ++ (Asks ∷ (compile_stages set env way.found look ++ (Asks ∷ [])))) runs
   -- one planned compile command per source was started, in the order added, and nothing else
   pub compiles : started runs ≡ asked t.shows (planned Compile (compiles_of set env look))
   -- and each of them has ended with 0

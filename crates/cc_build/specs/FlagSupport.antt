@@ -5,12 +5,11 @@ use Rattle.cc_env.specs.Env.{EnvSeen}
 use Rattle.cc_host.specs.Part.{Step}
 use Rattle.cc_host.specs.Question.{Look, is_yes}
 use Rattle.cc_host.specs.declared.event.Event.{Event}
-use Rattle.cc_host.specs.declared.event.LineKind.TheVariants.{Warning}
 use Rattle.cc_host.specs.declared.question.Verdict.{Verdict}
 use Rattle.cc_host.specs.declared.question.Verdict.TheVariants.{Unanswered, Missing}
 use Rattle.cc_text.specs.Quoted.{quoted}
-use Rattle.cc_plan.specs.FlagSupport.{path_of, flag_verdict, support_refusal, support_lines}
-use Rattle.cc_plan.specs.Plan.{prints}
+use Rattle.cc_plan.specs.FlagSupport.{path_of, flag_verdict, support_refusal, support_warnings}
+use Rattle.cc_plan.specs.Plan.{warned_steps}
 use Rattle.cc_plan.specs.Refusal.{first_of}
 use Rattle.cc_plan.specs.declared.settings.BuildConfig.{BuildConfig}
 use Rattle.cc_build.specs.Error.{ErrorSeen}
@@ -37,18 +36,18 @@ abbrev pub support_error : BuildConfig → EnvSeen → List ℕ → Look → Opt
 support_error set env flag look =
     first_of (option_map (plan_error set env []) (support_refusal set env flag look)) (verdict_error (path_of set env look) (flag_verdict set env flag look))
 
--- the warnings of how the compiler was found are printed, where they are wanted
-abbrev pub support_steps : BuildConfig → EnvSeen → Look → List Step
-support_steps set env look = prints Warning (support_lines set env look)
+-- the warnings of how the compiler was found are given to the host
+abbrev pub support_steps : BuildConfig → EnvSeen → Bool → Look → List Step
+support_steps set env listens look = warned_steps set listens (support_warnings set env look)
 
 -- the answer is the verdict on the flag
 abbrev pub IsVerdict : BuildConfig → EnvSeen → List ℕ → Bool → Look → Type 0
 IsVerdict set env flag answer look = answer ≡ is_yes (flag_verdict set env flag look)
 
--- the question was answered and the warnings were printed, or the error has its cause
-abbrev pub SupportEnds : {T : Type 0} → BuildConfig → EnvSeen → List ℕ → Result T ErrorSeen → Look → List Event → Type 0
-SupportEnds set env flag result look part = Outcome (support_error set env flag look) (support_steps set env look) part result
+-- the question was answered and the warnings were given to the host, or the error has its cause
+abbrev pub SupportEnds : {T : Type 0} → BuildConfig → EnvSeen → Bool → List ℕ → Result T ErrorSeen → Look → List Event → Type 0
+SupportEnds set env listens flag result look part = Outcome (support_error set env flag look) (support_steps set env listens look) part result
 
 -- the same, and behind the warnings the lines of the variables that were read were printed
-abbrev pub TrialEnds : {T : Type 0} → BuildConfig → EnvSeen → List ℕ → Result T ErrorSeen → Look → List Event → Type 0
-TrialEnds set env flag result look part = DoesAndTells flag_reads set env (support_error set env flag look) (support_steps set env look) result look part
+abbrev pub TrialEnds : {T : Type 0} → BuildConfig → EnvSeen → Bool → List ℕ → Result T ErrorSeen → Look → List Event → Type 0
+TrialEnds set env listens flag result look part = DoesAndTells flag_reads set env (support_error set env flag look) (support_steps set env listens look) result look part

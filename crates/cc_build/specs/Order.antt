@@ -9,6 +9,7 @@ use Rattle.cc_host.specs.Question.{Look}
 use Rattle.cc_plan.specs.declared.settings.BuildConfig.{BuildConfig}
 use Rattle.cc_build.specs.Stage.{folder_stages, compile_stages}
 use Rattle.cc_build.specs.Stage.Stage.{Asks}
+use Rattle.cc_build.specs.Way.{Found}
 use Rattle.cc_build.specs.Went.{Terms, Goes}
 
 -- the roles of commands that write the library and its index
@@ -25,12 +26,12 @@ is_archive_event (Missing role cmd) = is_archive_role role
 is_archive_event _ = false
 
 -- before a command of the archive the folder was made, and the compile command of every source ended with 0
-pub record CompiledBefore (t : Terms) (set : BuildConfig) (env : EnvSeen) (warns_of_link : Bool) (look : Look) (before : List Event) : Type 0 where
+pub record CompiledBefore (t : Terms) (set : BuildConfig) (env : EnvSeen) (found : Found) (look : Look) (before : List Event) : Type 0 where
   pub runs : List Event
   pub rest : List Event
   pub cut : before ≡ runs ++ rest
-  pub compiled : Goes t (folder_stages set env ++ Asks ∷ compile_stages set env warns_of_link look) runs
+  pub compiled : Goes t (folder_stages set env ++ Asks ∷ compile_stages set env found look) runs
 
 -- No command of the archive or its index stands in the part unless that stands before it.
 abbrev pub ArchivesLast : Terms → BuildConfig → EnvSeen → Look → List Event → Type 0
-ArchivesLast t set env look part = (before after : List Event) (event : Event) → part ≡ before ++ event ∷ after → is_archive_event event ≡ true → (warns_of_link : Bool) × CompiledBefore t set env warns_of_link look before
+ArchivesLast t set env look part = (before after : List Event) (event : Event) → part ≡ before ++ event ∷ after → is_archive_event event ≡ true → (found : Found) × CompiledBefore t set env found look before

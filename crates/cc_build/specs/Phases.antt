@@ -1,5 +1,5 @@
 -- How the parts of a run end: each asks what it wants to know, and then does its stages.
-use Rattle.std.specs.Prelude.{◌≡◌, ℕ, Bool, List, ◌∷◌, [], ◌++◌, Option, None, Result, Ok, Err}
+use Rattle.std.specs.Prelude.{◌≡◌, ℕ, Bool, List, ◌∷◌, [], ◌++◌, Option, None, is_some, Result, Ok, Err}
 use Rattle.std.specs.Option.{option_map}
 use Rattle.cc_host.specs.Question.{Look, Answer, Holds}
 use Rattle.cc_host.specs.declared.event.Event.{Event}
@@ -7,16 +7,18 @@ use Rattle.cc_plan.specs.Plan.{archive_refusal}
 use Rattle.cc_plan.specs.Refusal.{first_of, late_refusal, link_refusal}
 use Rattle.cc_plan.specs.Reruns.{rerun_names}
 use Rattle.cc_plan.specs.declared.error.PlanError.{PlanError}
+use Rattle.cc_plan.specs.declared.object.Object.{Object}
+use Rattle.cc_plan.specs.declared.plan.Plan.{Plan}
 use Rattle.cc_plan.specs.declared.variables.Reads.{Reads}
 use Rattle.cc_run.specs.declared.planned.Planned.{Planned}
 use Rattle.cc_run.specs.declared.planned.Shows.{Shows}
-use Rattle.cc_build.specs.Course.{Course, OnCourse}
+use Rattle.cc_build.specs.Course.{Course, OnCourse, CallsEnd}
 use Rattle.cc_build.specs.Error.{ErrorSeen}
 use Rattle.cc_build.specs.Refusal.{plan_error}
-use Rattle.cc_build.specs.Seen.{stages_seen, form_stages, library_seen}
-use Rattle.cc_build.specs.Stage.{Stage, asked_then, compile_stages, library_stages, link_stages, links_of, name_stages, printed_stages, asked_stages, told_sources, told_library}
+use Rattle.cc_build.specs.Seen.{stages_seen, opening_of, stages_of, form_stages, library_seen}
+use Rattle.cc_build.specs.Stage.{Stage, calls, finding_steps, asked_then, compile_stages, library_stages, link_stages, links_of, name_stages, printed_stages, asked_stages, told_sources, told_library}
 use Rattle.cc_build.specs.Stage.Stage.{Asks, Tries}
-use Rattle.cc_build.specs.Way.{Way, Firsts, Repeats}
+use Rattle.cc_build.specs.Way.{Way, Found, Firsts, Hears, Repeats}
 use Rattle.cc_build.specs.Went.{Terms, Means, terms, Went, Halted, Ends}
 use Rattle.cc_build.specs.declared.library.Library.{Library}
 use Rattle.cc_build.specs.declared.stage.Stage.{Stage as Coded}
@@ -32,9 +34,26 @@ error_in task refusal = option_map (plan_error task.set.now task.env.now task.ou
 abbrev pub PhaseEnds : {T : Type 0} → Task → Option PlanError → List Stage → Result T ErrorSeen → List Event → Course → Type 0
 PhaseEnds task refusal stages result part c = Ends (task_terms task c) (error_in task refusal) (asked_then refusal stages) part result c.before c.after
 
+-- the folder was told, where the host listens; or the error has its cause
+abbrev pub HereEnds : Bool → Result (Option (List ℕ)) ErrorSeen → List Event → Type 0
+HereEnds listens (Ok here) part = (is_some here ≡ listens) × CallsEnd {T = Unit {0}} (finding_steps here) part (Ok tt)
+HereEnds listens (Err e) part = (here : Option (List ℕ)) → is_some here ≡ listens → CallsEnd {T = Unit {0}} (finding_steps here) part (Err e)
+
+-- the warnings were given to the host, and the folder was told, where the host listens; or the error has its cause
+abbrev pub OpensEnd : Task → List (List ℕ) → Result (Option (List ℕ)) ErrorSeen → List Event → Course → Type 0
+OpensEnd task texts (Ok here) part c =
+    (is_some here ≡ task.reporting.shows.listens) × Went (task_terms task c) (calls (opening_of task.set.now task.reporting.shows.listens texts here)) part c.before c.after
+OpensEnd task texts (Err e) part c =
+    (here : Option (List ℕ)) → is_some here ≡ task.reporting.shows.listens → Halted (task_terms task c) None (calls (opening_of task.set.now task.reporting.shows.listens texts here)) part e c.before c.after
+
+-- what is planned for these objects was done
+abbrev pub PlanEnds : {T : Type 0} → Task → Plan → List Object → Result T ErrorSeen → List Event → Course → Type 0
+PlanEnds task plan objects result part c =
+    (here : Option (List ℕ)) × ((is_some here ≡ task.reporting.shows.listens) × Ends (task_terms task c) None (stages_of task.set.now plan objects here) part result c.before c.after)
+
 -- the sources were compiled
 abbrev pub CompileEnds : {T : Type 0} → Task → Result T ErrorSeen → Look → List Event → Course → Type 0
-CompileEnds task result look part c = (warns_of_link : Bool) × PhaseEnds task (late_refusal task.set.now task.env.now look) (compile_stages task.set.now task.env.now warns_of_link look) result part c
+CompileEnds task result look part c = (found : Found) × (Hears task.reporting.shows.listens found × PhaseEnds task (late_refusal task.set.now task.env.now look) (compile_stages task.set.now task.env.now found look) result part c)
 
 -- the library was written; or the run ended before the questions behind it
 abbrev pub LibraryEnds : {T : Type 0} → Task → Result T ErrorSeen → Look → List Event → Course → Type 0
@@ -65,7 +84,7 @@ NamesEnd task reads result look part c =
 -- the sources were compiled, and then those lines were printed
 abbrev pub CompiledEnds : {T : Type 0} → Task → Reads → Result T ErrorSeen → Look → List Event → Course → Type 0
 CompiledEnds task reads result look part c =
-    (warns_of_link : Bool) × (firsts : Firsts) × (Repeats task.set.now firsts × PhaseEnds task (late_refusal task.set.now task.env.now look) (told_sources task.set.now task.env.now reads warns_of_link look firsts) result part c)
+    (found : Found) × (firsts : Firsts) × (Hears task.reporting.shows.listens found × Repeats task.set.now firsts × PhaseEnds task (late_refusal task.set.now task.env.now look) (told_sources task.set.now task.env.now reads found look firsts) result part c)
 
 -- the library was written, and then those lines were printed
 abbrev pub WrittenEnds : {T : Type 0} → Task → Reads → Result T ErrorSeen → Look → List Event → Course → Type 0
@@ -75,7 +94,7 @@ WrittenEnds task reads result look part c =
 -- all of this, one after another
 abbrev pub AskedEnds : {T : Type 0} → Task → Result T ErrorSeen → Look → List Event → Course → Type 0
 AskedEnds task result look part c =
-    (way : Way) × (Repeats task.set.now way.firsts × Ends (task_terms task c) (first_of (error_in task (late_refusal task.set.now task.env.now look)) (first_of (error_in task (archive_refusal task.set.now task.env.now look)) (error_in task (link_refusal task.set.now task.env.now look)))) (asked_stages task.set.now task.env.now way look task.output.now) part result c.before c.after)
+    (way : Way) × (Hears task.reporting.shows.listens way.found × Repeats task.set.now way.firsts × Ends (task_terms task c) (first_of (error_in task (late_refusal task.set.now task.env.now look)) (first_of (error_in task (archive_refusal task.set.now task.env.now look)) (error_in task (link_refusal task.set.now task.env.now look)))) (asked_stages task.set.now task.env.now way look task.output.now) part result c.before c.after)
 
 -- a fact of the part and the course of a call, whichever verdicts agree with the answers so far
 abbrev pub ByKnown : {X S : Type 0} → List Answer → (X → List Event) → (X → Option ℕ) → (S → Option ℕ) → (S → ℕ) → (S → ℕ) → (S → ℕ) → ℕ → ℕ → X → X → S → S → (Look → List Event → Course → Type 0) → Type 0

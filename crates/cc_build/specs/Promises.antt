@@ -25,25 +25,25 @@ use Rattle.cc_build.specs.Order.{ArchivesLast}
 use Rattle.cc_build.specs.Refusal.{refusal_error}
 use Rattle.cc_build.specs.Shows.{shows_of}
 use Rattle.cc_build.specs.Stage.{Stage, planned, planned_stages, commands_in}
-use Rattle.cc_build.specs.Way.{Way, Repeats}
+use Rattle.cc_build.specs.Way.{Way, Hears, Repeats}
 use Rattle.cc_build.specs.Went.{Terms, terms, Ends}
 use Rattle.cc_build.specs.declared.error.ErrorKind.TheVariants.{ToolExecError}
 
--- the terms of a build's run with this course
-abbrev pub terms_for : BuildSeen → Course → Terms
-terms_for b c = terms (shows_of b.config b.env) c.total c.patience
+-- the terms of a build's run with this course, on a host that listens or not
+abbrev pub terms_for : BuildSeen → Bool → Course → Terms
+terms_for b listens c = terms (shows_of b.config b.env listens) c.total c.patience
 
 -- the stages of a build's run
 abbrev pub stages_for : BuildSeen → Way → Look → List ℕ → List Stage
 stages_for b way look output = planned_stages b.config b.env way look output
 
 -- Ok: nothing is refused, and all stages were done. Else the first ones were, and the error has its cause.
-abbrev pub RunEnds : {T : Type 0} → BuildSeen → List ℕ → Result T ErrorSeen → Look → List Event → Course → Type 0
-RunEnds b output result look part c = (way : Way) × (Repeats b.config way.firsts × Ends (terms_for b c) (refusal_error b.config b.env look output) (stages_for b way look output) part result c.before c.after)
+abbrev pub RunEnds : {T : Type 0} → BuildSeen → Bool → List ℕ → Result T ErrorSeen → Look → List Event → Course → Type 0
+RunEnds b listens output result look part c = (way : Way) × (Hears listens way.found × Repeats b.config way.firsts × Ends (terms_for b listens c) (refusal_error b.config b.env look output) (stages_for b way look output) part result c.before c.after)
 
 -- Ok: the library is built.
-abbrev pub IsBuilt : {T : Type 0} → BuildSeen → List ℕ → Result T ErrorSeen → Look → List Event → Course → Type 0
-IsBuilt b output result look part c = OnOk result (Built (terms_for b c) b.config b.env look output part)
+abbrev pub IsBuilt : {T : Type 0} → BuildSeen → Bool → List ℕ → Result T ErrorSeen → Look → List Event → Course → Type 0
+IsBuilt b listens output result look part c = OnOk result (Built (terms_for b listens c) b.config b.env look output part)
 
 -- The commands of the part, those that are missing among them, are the first of these: one attempt for each, and no other command.
 abbrev pub AreFirst : List Stage → List Event → Type 0
@@ -85,17 +85,18 @@ abbrev pub FaultsEnd : List Event → Type 0
 FaultsEnd part = (before after : List Event) (call : HostCall) (why : Why) → is_probing call ≡ false → part ≡ before ++ Fault call why ∷ after → (ids : List ℕ) × (after ≡ map Abandoned ids)
 
 -- What a compile run promises of its answer, its part and its course.
-pub record Promises {T : Type 0} (b : BuildSeen) (output : List ℕ) (result : Result T ErrorSeen) (look : Look) (part : List Event) (c : Course) : Type 0 where
-  -- what the run finds out as it goes; where lines are repeated, all of them are printed
+pub record Promises {T : Type 0} (b : BuildSeen) (listens : Bool) (output : List ℕ) (result : Result T ErrorSeen) (look : Look) (part : List Event) (c : Course) : Type 0 where
+  -- what the run finds out as it goes; where lines are repeated, all of them are printed, and a host that listens is asked for the current folder
   pub way : Way
   pub repeats : Repeats b.config way.firsts
+  pub hears : Hears listens way.found
   -- Ok: nothing is refused, and all stages were done. Else the first ones were, and the error has its cause.
-  pub outcome : Ends (terms_for b c) (refusal_error b.config b.env look output) (stages_for b way look output) part result c.before c.after
+  pub outcome : Ends (terms_for b listens c) (refusal_error b.config b.env look output) (stages_for b way look output) part result c.before c.after
   -- no command of the archive stands in the part unless every source was compiled before it
-  pub order : ArchivesLast (terms_for b c) b.config b.env look part
+  pub order : ArchivesLast (terms_for b listens c) b.config b.env look part
   -- one attempt for each of the first planned commands, and no other
   pub prefix : AreFirst (stages_for b way look output) part
   -- two sources or more are compiled beside each other, each under a token, and as many at once as there are tokens
   pub beside : 2 ≤ length b.config.files → RunBeside c.total (length b.config.files) part
   -- a failed child stops no later start: where a command ended badly and the host is sound, every source's command was started and has ended
-  pub failed : (e : ErrorSeen) → 2 ≤ length b.config.files → result ≡ Err e → e.kind ≡ ToolExecError → (HasFault part → ⊥) → AllStarted (shows_of b.config b.env) (compiles_of b.config b.env look) part
+  pub failed : (e : ErrorSeen) → 2 ≤ length b.config.files → result ≡ Err e → e.kind ≡ ToolExecError → (HasFault part → ⊥) → AllStarted (shows_of b.config b.env listens) (compiles_of b.config b.env look) part

@@ -5,7 +5,7 @@ use Rattle.std.specs.Option.{option_map}
 use Rattle.cc_host.specs.Question.{Look}
 use Rattle.cc_host.specs.declared.event.Event.{Event}
 use Rattle.cc_plan.specs.Archive.{archiver_of}
-use Rattle.cc_plan.specs.Plan.{warning_lines, compiles_of}
+use Rattle.cc_plan.specs.Plan.{plan_warnings, compiles_of}
 use Rattle.cc_plan.specs.Refusal.{late_refusal, archiver_refusal, link_refusal}
 use Rattle.cc_plan.specs.declared.archive.Archiver.{Archiver}
 use Rattle.cc_plan.specs.Reruns.{rerun_names}
@@ -25,7 +25,7 @@ use Rattle.cc_build.specs.declared.task.Task.{Task}
 -- nothing is refused behind the folder, and these are the warnings and the compile commands
 pub record Plans (task : Task) (plan : Plan) (look : Look) : Type 0 where
   pub allowed : late_refusal task.set.now task.env.now look ≡ None
-  pub warnings : plan.warnings ≡ warning_lines task.set.now task.env.now plan.warns_of_link look
+  pub warnings : plan.warnings ≡ plan_warnings task.set.now task.env.now plan.warns_of_link look
   pub compiles : plan.compiles.items ≡ compiles_of task.set.now task.env.now look
 
 -- no archiver is refused behind the sources, and this is the one

@@ -1,32 +1,44 @@
 -- What a stage of the code is seen as.
-use Rattle.std.specs.Prelude.{◌≡◌, Bool, List, ◌∷◌, ◌++◌, map}
+use Rattle.std.specs.Prelude.{◌≡◌, ℕ, Bool, List, [], ◌∷◌, ◌++◌, map, Option, is_some}
+use Rattle.cc_host.specs.Command.{CommandSeen}
 use Rattle.cc_host.specs.Part.{Step}
-use Rattle.cc_host.specs.Part.Step.{Removes, Prints}
-use Rattle.cc_host.specs.declared.event.LineKind.TheVariants.{Warning}
-use Rattle.cc_host.specs.declared.event.Role.TheVariants.{Compile, Archive, Index}
+use Rattle.cc_host.specs.Part.Step.{Removes, Prints, Says}
+use Rattle.cc_host.specs.declared.event.Role.TheVariants.{Archive, Index}
 use Rattle.cc_plan.specs.Archive as archive
 use Rattle.cc_plan.specs.Libtool.{is_libtool, lists_of}
 use Rattle.cc_plan.specs.Link.{printed_line}
-use Rattle.cc_plan.specs.Plan.{prints}
+use Rattle.cc_plan.specs.Plan.{warned_steps}
+use Rattle.cc_plan.specs.declared.object.Object.{Object}
 use Rattle.cc_plan.specs.declared.plan.Plan.{Plan}
+use Rattle.cc_plan.specs.declared.settings.BuildConfig.{BuildConfig}
 use Rattle.cc_run.specs.declared.planned.Planned.{Planned}
-use Rattle.cc_build.specs.Stage.{Stage, calls, planned, beside, written, writings}
+use Rattle.cc_build.specs.Stage.{Stage, calls, planned, beside, compile_planned, finding_steps, written, writings}
 use Rattle.cc_build.specs.Stage.Stage.{Calls, RunsOne, RunsAll}
 use Rattle.cc_build.specs.declared.library.Library.{Library}
 use Rattle.cc_build.specs.declared.stage.Stage.{Stage as Coded}
-use Rattle.cc_build.specs.declared.stage.Stage.TheVariants.{Print, RunOne, RunAll}
+use Rattle.cc_build.specs.declared.stage.Stage.TheVariants.{Print, Say, RunOne, RunAll}
 
 abbrev pub stage_seen : Coded → Stage
 stage_seen (Print kind line) = Calls (Prints kind (printed_line line))
+stage_seen (Say message) = Calls (Says message)
 stage_seen (RunOne cmd) = RunsOne cmd
 stage_seen (RunAll several) = RunsAll several.cmds.items
 
 abbrev pub stages_seen : List Coded → List Stage
 stages_seen = map stage_seen
 
--- the stages of a plan
-abbrev pub stages_of : Plan → List Stage
-stages_of plan = calls (prints Warning plan.warnings) ++ beside (planned Compile plan.compiles.items)
+-- warnings are given to the host, as lines where they are wanted, and one that listens is asked for the current folder
+abbrev pub opening_of : BuildConfig → Bool → List (List ℕ) → Option (List ℕ) → List Step
+opening_of set listens texts here = warned_steps set listens texts ++ finding_steps here
+
+-- the commands that compile objects, each with the one at its place
+abbrev pub compiles_by : Option (List ℕ) → List Object → List CommandSeen → List Planned
+compiles_by here (object ∷ objects) (cmd ∷ cmds) = compile_planned here object cmd ∷ compiles_by here objects cmds
+compiles_by here _ _ = []
+
+-- the stages of a plan for these objects
+abbrev pub stages_of : BuildConfig → Plan → List Object → Option (List ℕ) → List Stage
+stages_of set plan objects here = calls (opening_of set (is_some here) plan.warnings here) ++ beside (compiles_by here objects plan.compiles.items)
 
 -- these stages were added to the others
 abbrev pub Adds : List Coded → List Coded → List Stage → Type 0

@@ -16,11 +16,20 @@ asks_for_debug value = not (bytes_eq value [] || bytes_eq value (codes "0") || b
 abbrev pub is_debug_wanted : EnvSeen → Bool
 is_debug_wanted env = option_map_or asks_for_debug (last_value env.inherited (codes "CC_ENABLE_DEBUG_OUTPUT")) false
 
+-- the settings ask for them, or the variable does where they are silent
+abbrev pub is_debug_on : BuildConfig → EnvSeen → Bool
+is_debug_on set env = unwrap_or set.cargo_debug (is_debug_wanted env)
+
 -- what becomes of the standard output of the commands
 abbrev pub output_kind : Bool → OutputKind
 output_kind true = Forward
 output_kind false = Discard
 
--- what of a run the settings show, and the environment where they are silent
-abbrev pub shows_of : BuildConfig → EnvSeen → Shows
-shows_of set env = record { warnings = set.cargo_warnings; debug = unwrap_or set.cargo_debug (is_debug_wanted env); out = output_kind set.cargo_output; listens = false }
+-- what of a run the settings show, and the environment where they are silent, on a host that listens or not
+abbrev pub shows_of : BuildConfig → EnvSeen → Bool → Shows
+shows_of set env listens = record {
+  warnings = set.cargo_warnings;
+  debug = is_debug_on set env;
+  out = output_kind set.cargo_output;
+  listens = listens;
+}

@@ -1,28 +1,34 @@
 -- The stages of a compile run: what it asks of its host, one after another.
-use Rattle.std.specs.Prelude.{ℕ, Bool, true, false, not, List, [], ◌∷◌, ◌++◌, map, Option, None, is_some, unwrap_or, if◌then◌else◌}
+use Rattle.std.specs.Prelude.{ℕ, Bool, true, false, not, List, [], ◌∷◌, ◌++◌, map, Option, None, is_some, option_to_list, unwrap_or, if◌then◌else◌}
 use Rattle.std.specs.List.{flat_map}
+use Rattle.std.specs.Option.{option_map}
 use Rattle.std.specs.Path.{path_parent}
 use Rattle.cc_env.specs.Env.{EnvSeen}
 use Rattle.cc_host.specs.Command.{CommandSeen}
+use Rattle.cc_host.specs.CompileCommand.{compile_command}
 use Rattle.cc_host.specs.Part.{Step}
-use Rattle.cc_host.specs.Part.Step.{Writes}
+use Rattle.cc_host.specs.Part.Step.{Finds, Writes}
 use Rattle.cc_host.specs.Question.{Look}
-use Rattle.cc_host.specs.declared.event.LineKind.TheVariants.{Warning, Link, Rerun}
+use Rattle.cc_host.specs.declared.event.LineKind.TheVariants.{Link, Rerun}
 use Rattle.cc_host.specs.declared.event.Role.{Role}
 use Rattle.cc_host.specs.declared.event.Role.TheVariants.{Compile, Archive, Index}
 use Rattle.cc_plan.specs.Archive.{archiver_of}
+use Rattle.cc_plan.specs.Compile.{compile_of}
 use Rattle.cc_plan.specs.Given.{is_disabled}
 use Rattle.cc_plan.specs.Libtool.{is_libtool}
 use Rattle.cc_plan.specs.Link.{printed_links, link_lines as lines_of}
-use Rattle.cc_plan.specs.Plan.{compiles_of, archives_of, indexes_of, lists_of_run, archive_refusal, link_lines, warning_lines, prints, folder_steps, removal_steps}
+use Rattle.cc_plan.specs.Plan.{compiles_of, archives_of, indexes_of, lists_of_run, archive_refusal, link_lines, plan_warnings, warned_steps, objects_of, prints, folder_steps, removal_steps}
+use Rattle.cc_plan.specs.Planned.{tool_of}
 use Rattle.cc_plan.specs.Refusal.{is_empty, early_refusal, late_refusal, link_refusal}
 use Rattle.cc_plan.specs.Reruns.{rerun_line, rerun_names}
 use Rattle.cc_plan.specs.declared.error.PlanError.{PlanError}
+use Rattle.cc_plan.specs.Target.{target_info}
 use Rattle.cc_plan.specs.declared.link.LinkLine.{LinkLine}
+use Rattle.cc_plan.specs.declared.object.Object.{Object}
 use Rattle.cc_plan.specs.declared.variables.Reads.{Reads}
 use Rattle.cc_plan.specs.declared.settings.BuildConfig.{BuildConfig}
 use Rattle.cc_run.specs.declared.planned.Planned.{Planned}
-use Rattle.cc_build.specs.Way.{Way, Firsts, chosen}
+use Rattle.cc_build.specs.Way.{Way, Found, Firsts, chosen}
 
 -- A call of the host, questions, a command that is tried, a command that runs alone, or commands that run beside each other. One that is tried
 -- runs to its end, and says whether it was refused: the run goes on either way.
@@ -104,9 +110,29 @@ asked_then refusal stages = Asks ∷ (if is_some refusal then [] else stages)
 unfoldable pub folder_stages : BuildConfig → EnvSeen → List Stage
 folder_stages set env = calls (folder_steps set env)
 
--- the warnings of the plan are printed, then the sources are compiled
-unfoldable pub compile_stages : BuildConfig → EnvSeen → Bool → Look → List Stage
-compile_stages set env warns_of_link look = calls (prints Warning (warning_lines set env warns_of_link look)) ++ beside (planned Compile (compiles_of set env look))
+-- the current folder, which is asked for where it is wanted
+abbrev pub finding_steps : Option (List ℕ) → List Step
+finding_steps here = map Finds (option_to_list here)
+
+-- the warnings of the plan are given to the host, and one that listens is asked for the current folder
+abbrev pub opening_steps : BuildConfig → EnvSeen → Found → Look → List Step
+opening_steps set env found look = warned_steps set (is_some found.here) (plan_warnings set env found.warns_of_link look) ++ finding_steps found.here
+
+-- the planned command that compiles a source to its object
+abbrev pub compile_in : BuildConfig → EnvSeen → Look → Object → CommandSeen
+compile_in set env look object = compile_of set (target_info set env) (tool_of set env look) None object
+
+-- such a command, with its message where the current folder is known
+abbrev pub compile_planned : Option (List ℕ) → Object → CommandSeen → Planned
+compile_planned here object cmd = record { role = Compile; cmd = cmd; message = option_map (compile_command cmd object.src object.dst) here }
+
+-- one for each source, in order
+unfoldable pub compiles_planned : BuildConfig → EnvSeen → Option (List ℕ) → Look → List Planned
+compiles_planned set env here look = map (λ object. compile_planned here object (compile_in set env look object)) (objects_of set env)
+
+-- the warnings of the plan are given to the host, and then the sources are compiled
+unfoldable pub compile_stages : BuildConfig → EnvSeen → Found → Look → List Stage
+compile_stages set env found look = calls (opening_steps set env found look) ++ beside (compiles_planned set env found.here look)
 
 -- the old library is removed
 unfoldable pub removal_stages : BuildConfig → EnvSeen → List ℕ → List Stage
@@ -168,8 +194,8 @@ abbrev pub library_stages : BuildConfig → EnvSeen → Bool → Look → List �
 library_stages set env is_plain look output = removal_stages set env output ++ (list_stages set env look output ++ archive_stages set env look is_plain output)
 
 -- the sources are compiled, and by questions the lines of the variables that the call reads are printed
-abbrev pub told_sources : BuildConfig → EnvSeen → Reads → Bool → Look → Firsts → List Stage
-told_sources set env reads warns_of_link look firsts = compile_stages set env warns_of_link look ++ Asks ∷ name_stages set env reads look firsts
+abbrev pub told_sources : BuildConfig → EnvSeen → Reads → Found → Look → Firsts → List Stage
+told_sources set env reads found look firsts = compile_stages set env found look ++ Asks ∷ name_stages set env reads look firsts
 
 -- the same of the library, which is written
 abbrev pub told_library : BuildConfig → EnvSeen → Reads → Bool → Look → Firsts → List ℕ → List Stage
@@ -181,7 +207,7 @@ later_stages set env way look output = asked_then (archive_refusal set env look)
 
 -- The stages where commands may run. The questions of each part come right before it, and behind what the answers refuse comes nothing.
 abbrev pub asked_stages : BuildConfig → EnvSeen → Way → Look → List ℕ → List Stage
-asked_stages set env way look output = asked_then (late_refusal set env look) (compile_stages set env way.warns_of_link look ++ later_stages set env way look output)
+asked_stages set env way look output = asked_then (late_refusal set env look) (compile_stages set env way.found look ++ later_stages set env way look output)
 
 -- the stages behind the folder: none where no command may run
 unfoldable pub late_stages : BuildConfig → EnvSeen → Way → Look → List ℕ → List Stage

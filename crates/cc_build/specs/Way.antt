@@ -1,5 +1,5 @@
 -- What a run finds out as it goes, beside the answers to its questions.
-use Rattle.std.specs.Prelude.{◌≡◌, ℕ, Bool, true, List, [], ◌∷◌, ◌++◌}
+use Rattle.std.specs.Prelude.{◌≡◌, ℕ, Bool, true, List, [], ◌∷◌, ◌++◌, Option, is_some}
 use Rattle.cc_text.specs.Words.{when}
 use Rattle.cc_plan.specs.declared.settings.BuildConfig.{BuildConfig}
 
@@ -14,9 +14,19 @@ pub record Firsts : Type 0 where
 abbrev pub all_firsts : Firsts
 all_firsts = record { links = true; names = [] }
 
-pub record Way : Type 0 where
+-- what a run finds out before its first command
+pub record Found : Type 0 where
   -- whether it is the run that warns of flags for the linker
   pub warns_of_link : Bool
+  -- the current folder, which a host that listens is asked for
+  pub here : Option (List ℕ)
+
+-- the folder is known of a host that listens, and of no other
+abbrev pub Hears : Bool → Found → Type 0
+Hears listens found = is_some found.here ≡ listens
+
+pub record Way : Type 0 where
+  pub found : Found
   -- whether the first form of its archive was refused, so that the plain form took its place
   pub is_plain : Bool
   -- which of the lines that are printed once it prints

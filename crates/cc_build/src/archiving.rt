@@ -134,8 +134,8 @@ impl<W: World> Build<W> {
         ensures library { IfOk result (λ path. path ≡ library_of
             (with_objects self.now objects.now).config self.now.env output.now) }
         ensures outcome { ByPart H.log host.old host.new
-            (Creates (with_objects self.now objects.now) (H.patience host.old) turns output.now
-            result) }
+            (Creates (with_objects self.now objects.now) (H.listens host.old)
+            (H.patience host.old) turns output.now result) }
         ensures settled { NothingRuns (part H.log host.old host.new) }
         ensures faults_last { FaultsEnd (part H.log host.old host.new) }
     {
@@ -144,7 +144,7 @@ impl<W: World> Build<W> {
         let sources = check_archive(alloc, &set, env, output)?;
         let path = sources.library.try_clone()?;
         let (jobs, mut seat) = OneCaller::new(1);
-        let shows = shows_of(&set, env);
+        let shows = shows_of(&set, env, host.listens());
         let shared = Shared {
             task: Task {
                 reporting: Reporting { alloc, shows },

@@ -108,17 +108,18 @@ impl<W: World> Build<W> {
         &self.env
     }
 
-    // What a call of this build is given that names no library.
-    pub(crate) fn task(&self) -> Task<'_>
+    // What a call of this build is given that names no library, on a host that listens or not.
+    pub(crate) fn task(&self, listens: bool) -> Task<'_>
         ensures set { result.set.now ≡ self.now.config }
         ensures env { result.env.now ≡ self.now.env }
-        ensures shows { result.reporting.shows ≡ shows_of result.set.now result.env.now }
+        ensures shows { result.reporting.shows
+            ≡ shows_of result.set.now result.env.now listens }
     {
         let (set, env) = (&self.config, &self.env);
         Task {
             reporting: Reporting {
                 alloc: self.alloc,
-                shows: shows_of(set, env),
+                shows: shows_of(set, env, listens),
             },
             set,
             env,
@@ -150,6 +151,7 @@ impl<W: World> Build<W> {
         ensures captured { OnOk result (Captures self.old self.new (part H.log host.old host.new)) }
         ensures err { OnErr result (self.new ≡ self.old) }
         ensures patient { H.patience host.new ≡ H.patience host.old }
+        ensures ear { H.listens host.new ≡ H.listens host.old }
         ensures outcome { CaptureEnds (part H.log host.old host.new) result }
     {
         let vars = list_vars(self.alloc, host)?;
@@ -200,9 +202,9 @@ impl<W: World> Build<W> {
         ensures tool { IfOk result (λ tool. ByAnswers H.log host.old host.new
             (IsTool self.now.config self.now.env tool)) }
         ensures outcome { ByPart H.log host.old host.new
-            (CompilerEnds self.now.config self.now.env result) }
+            (CompilerEnds self.now.config self.now.env (H.listens host.old) result) }
     {
-        told_compiler(rt, &self.task(), &self.caches, host)
+        told_compiler(rt, &self.task(host.listens()), &self.caches, host)
     }
 
     /// The command of the archiver of this build, with the words that it is given before those of a form: the set one, else that of
@@ -225,7 +227,7 @@ impl<W: World> Build<W> {
         ensures outcome { ByPart H.log host.old host.new
             (ArchiverEnds self.now.config self.now.env result) }
     {
-        told_archiver(rt, &self.task(), &self.caches, host)
+        told_archiver(rt, &self.task(host.listens()), &self.caches, host)
     }
 
     /// The command of the tool that writes the index of an archive alone: the set one, else that of `RANLIB`, else the one that the
@@ -239,7 +241,7 @@ impl<W: World> Build<W> {
         ensures outcome { ByPart H.log host.old host.new
             (RanlibEnds self.now.config self.now.env result) }
     {
-        told_ranlib(rt, &self.task(), &self.caches, host)
+        told_ranlib(rt, &self.task(host.listens()), &self.caches, host)
     }
 
     /// Compiles the sources alone, and answers the paths of their objects, in the order in which the sources were added. Nothing is
@@ -270,11 +272,11 @@ impl<W: World> Build<W> {
 
         // Ok: one planned command per source was started, and has ended with 0; the lines of the variables that were read are last.
         ensures compiled { ByRun H.log H.patience J.total J.faults J.taken J.load turns
-            host.old host.new seat.old seat.new (AreCompiled self.now result) }
+            host.old host.new seat.old seat.new (AreCompiled self.now (H.listens host.old) result) }
 
         // Each answer has its cause.
         ensures outcome { ByRun H.log H.patience J.total J.faults J.taken J.load turns
-            host.old host.new seat.old seat.new (IntermediateEnds self.now result) }
+            host.old host.new seat.old seat.new (IntermediateEnds self.now (H.listens host.old) result) }
         ensures settled { NothingRuns (part H.log host.old host.new) }
         ensures faults_last { FaultsEnd (part H.log host.old host.new) }
     {
@@ -316,11 +318,11 @@ impl<W: World> Build<W> {
 
         // Ok: the library is built.
         ensures built { ByRun H.log H.patience J.total J.faults J.taken J.load turns
-            host.old host.new seat.old seat.new (IsBuilt self.now output.now result) }
+            host.old host.new seat.old seat.new (IsBuilt self.now (H.listens host.old) output.now result) }
 
         // Each answer has its cause, and what follows from it, sentence by sentence.
         ensures promises { ByRun H.log H.patience J.total J.faults J.taken J.load turns
-            host.old host.new seat.old seat.new (Promises self.now output.now result) }
+            host.old host.new seat.old seat.new (Promises self.now (H.listens host.old) output.now result) }
         ensures settled { NothingRuns (part H.log host.old host.new) }
         ensures faults_last { FaultsEnd (part H.log host.old host.new) }
     {

@@ -39,7 +39,7 @@ pub(crate) fn compiler<W: World, H: Host<W>>(
     ensures tool { IfOk result (λ tool. ByAnswers H.log host.old host.new
         (IsTool task.now.set.now task.now.env.now tool)) }
     ensures outcome { ByPart H.log host.old host.new
-        (ToolEnds task.now.set.now task.now.env.now result) }
+        (ToolEnds task.now.set.now task.now.env.now (H.listens host.old) result) }
 {
     let (alloc, set, env) = (task.reporting.alloc, task.set, task.env);
     let mut sight = Sight {
@@ -70,7 +70,7 @@ pub(crate) fn told_compiler<W: World, H: Host<W>>(
     ensures tool { IfOk result (λ tool. ByAnswers H.log host.old host.new
         (IsTool task.now.set.now task.now.env.now tool)) }
     ensures outcome { ByPart H.log host.old host.new
-        (CompilerEnds task.now.set.now task.now.env.now result) }
+        (CompilerEnds task.now.set.now task.now.env.now (H.listens host.old) result) }
 {
     let mut known = Answers::new(task.reporting.alloc);
     let reads = Reads {

@@ -126,9 +126,10 @@ impl<W: World> Build<W> {
         ensures asked { AsksByRun W.steady W.answer self.now (part H.log host.old host.new) }
         ensures outcome { ByRun H.log H.patience J.total J.faults J.taken J.load goal.entry.turns
             host.old host.new seat.old seat.new
-            (RunEnds self.now goal.entry.output.now result) }
+            (RunEnds self.now (H.listens host.old) goal.entry.output.now result) }
     {
         let (alloc, set, env, output) = (self.alloc, &self.config, &self.env, goal.output);
+        let shows = shows_of(set, env, host.listens());
         let sources = match plan_sources(alloc, set, env, output) {
             Ok(sources) => sources,
             Err(error) => return Err(or_no_memory(plan_error(alloc, set, env, output, error))),
@@ -142,7 +143,6 @@ impl<W: World> Build<W> {
             left: goal.turns,
             used: 0,
         };
-        let shows = shows_of(set, env);
         let reporting = Reporting { alloc, shows };
         let task = Task {
             reporting,

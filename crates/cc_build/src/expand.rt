@@ -124,7 +124,8 @@ fn expand_source<W: World, H: Host<W>>(
     known: &mut Answers,
 ) -> Result<Bytes, Error>
     requires fresh { known.old ≡ [] }
-    requires shows { task.now.reporting.shows ≡ shows_of task.now.set.now task.now.env.now }
+    requires shows { task.now.reporting.shows
+        ≡ shows_of task.now.set.now task.now.env.now (H.listens host.old) }
     ensures answered { known.new ≡ answers (part H.log host.old host.new) }
     ensures patient { H.patience host.new ≡ H.patience host.old }
     ensures extends { H.log host.new ≡ H.log host.old ++ part H.log host.old host.new }
@@ -132,7 +133,8 @@ fn expand_source<W: World, H: Host<W>>(
         (build_in task.now.set.now task.now.env.now) (part H.log host.old host.new) }
     ensures childless { list_any is_of_children (part H.log host.old host.new) ≡ false }
     ensures outcome { ByPart H.log host.old host.new
-        (spec.ExpandEnds (build_in task.now.set.now task.now.env.now) result) }
+        (spec.ExpandEnds (build_in task.now.set.now task.now.env.now)
+        (H.listens host.old) result) }
 {
     check_expand(task.reporting.alloc, task.set, task.env)?;
     let tool = compiler(rt, task, caches, host, known)?;
@@ -147,14 +149,16 @@ fn told_expand<W: World, H: Host<W>>(
     caches: &Caches<W>,
     host: &mut H,
 ) -> Result<Bytes, Error>
-    requires shows { task.now.reporting.shows ≡ shows_of task.now.set.now task.now.env.now }
+    requires shows { task.now.reporting.shows
+        ≡ shows_of task.now.set.now task.now.env.now (H.listens host.old) }
     ensures patient { H.patience host.new ≡ H.patience host.old }
     ensures extends { H.log host.new ≡ H.log host.old ++ part H.log host.old host.new }
     ensures asked { AsksByPlan W.steady W.answer
         (build_in task.now.set.now task.now.env.now) (part H.log host.old host.new) }
     ensures childless { list_any is_of_children (part H.log host.old host.new) ≡ false }
     ensures outcome { ByPart H.log host.old host.new
-        (spec.ExpandedEnds (build_in task.now.set.now task.now.env.now) result) }
+        (spec.ExpandedEnds (build_in task.now.set.now task.now.env.now)
+        (H.listens host.old) result) }
 {
     let mut known = Answers::new(task.reporting.alloc);
     let reads = Reads {
@@ -188,8 +192,9 @@ impl<W: World> Build<W> {
         ensures extends { H.log host.new ≡ H.log host.old ++ part H.log host.old host.new }
         ensures asked { AsksByPlan W.steady W.answer self.now (part H.log host.old host.new) }
         ensures childless { list_any is_of_children (part H.log host.old host.new) ≡ false }
-        ensures outcome { ByPart H.log host.old host.new (spec.ExpandedEnds self.now result) }
+        ensures outcome { ByPart H.log host.old host.new
+            (spec.ExpandedEnds self.now (H.listens host.old) result) }
     {
-        told_expand(rt, &self.task(), &self.caches, host)
+        told_expand(rt, &self.task(host.listens()), &self.caches, host)
     }
 }

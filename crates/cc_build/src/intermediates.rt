@@ -108,9 +108,10 @@ impl<W: World> Build<W> {
         ensures objects { IfOk result (λ paths.
             paths ≡ paths_of (objects_of self.now.config self.now.env)) }
         ensures outcome { ByRun H.log H.patience J.total J.faults J.taken J.load turns
-            host.old host.new seat.old seat.new (IntermediateEnds self.now result) }
+            host.old host.new seat.old seat.new (IntermediateEnds self.now (H.listens host.old) result) }
     {
         let (alloc, set, env) = (self.alloc, &self.config, &self.env);
+        let shows = shows_of(set, env, host.listens());
         let (dir, objects) = match plan_objects(alloc, set, env) {
             Ok(placed) => placed,
             Err(error) => return Err(or_no_memory(plan_error(alloc, set, env, "", error))),
@@ -126,7 +127,6 @@ impl<W: World> Build<W> {
             library: Text::new(alloc),
             objects,
         };
-        let shows = shows_of(set, env);
         let shared = Shared {
             task: Task {
                 reporting: Reporting { alloc, shows },

@@ -8,6 +8,7 @@
 mod archiving;
 mod build;
 mod compiler;
+mod compiles;
 mod compiling;
 mod directives;
 mod environment;

@@ -71,7 +71,7 @@ pub fn try_emit_link_directives<W: World, H: Host<W>>(
         task: Task {
             reporting: Reporting {
                 alloc,
-                shows: shows_of(set, env),
+                shows: shows_of(set, env, host.listens()),
             },
             set,
             env,

@@ -18,12 +18,13 @@ ghost use Rattle.cc_build.specs.Refusal.{plan_error as error_of_plan};
 ghost use Rattle.cc_build.specs.Stage.{folder_in};
 
 use crate::Error;
+use crate::compiles::do_plan;
 use crate::directives::{Lines, first_stages};
 use crate::library::{Library, write_library};
 use crate::message::or_no_memory;
 use crate::refusal::plan_error;
 use crate::reruns::read_names;
-use crate::stage::{do_stages, stages_of};
+use crate::stage::do_stages;
 use crate::task::{Shared, Task};
 use cc_host::{Host, World};
 use cc_jobs::Jobs;
@@ -209,14 +210,14 @@ pub(crate) fn compile_sources<W: World, H: Host<W>, J: Jobs>(
         Ok(plan) => plan,
         Err(error) => return Err(error),
     };
-    let stages = stages_of(shared.task.reporting.alloc, plan)?;
-    do_stages(
-        shared.task.reporting,
+    do_plan(
+        &shared.task,
         host,
         shared.jobs,
         seat,
         turns,
-        &stages,
+        &plan,
+        shared.sources.objects.as_slice(),
     )
 }
 

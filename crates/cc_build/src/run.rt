@@ -2,7 +2,7 @@
 ghost use Rattle.std.specs.Prelude.{◌≡◌, ◌+◌, ◌<◌, ◌≤◌, ◌^◌, [], ◌∷◌, length, IfOk};
 ghost use Rattle.std.specs.List.{All};
 ghost use Rattle.cc_host.specs.Call.{part};
-ghost use Rattle.cc_host.specs.Part.Step.{Makes, Removes, Writes, Prints, Lists};
+ghost use Rattle.cc_host.specs.Part.Step.{Makes, Removes, Writes, Prints, Says, Lists};
 ghost use Rattle.cc_host.specs.declared.event.Event.TheVariants.{Listed};
 ghost use Rattle.cc_host.specs.declared.event.Role.TheVariants.{Compile};
 ghost use Rattle.cc_host.specs.declared.event.Scope.TheVariants.{Build};
@@ -18,7 +18,7 @@ ghost use Rattle.cc_build.specs.Went.{is_refusal as is_refusal_of};
 use crate::Error;
 use crate::message::{host_error, or_no_memory};
 use crate::reporting::Reporting;
-use cc_host::{Command, Host, LineKind, Role, Scope, World};
+use cc_host::{Command, Host, LineKind, Message, Role, Scope, World};
 use cc_jobs::Jobs;
 use cc_plan::printed_line;
 use cc_run::{Planned, RunError, Turns, run_all, run_one, run_silent};
@@ -174,11 +174,28 @@ pub(crate) fn write_list<W: World, H: Host<W>>(
 #[tactic(auto, using(cc_host::proofs::Parts::since_append))]
 pub(crate) fn list_vars<W: World, H: Host<W>>(alloc: Global, host: &mut H) -> Result<Vars, Error>
     ensures aside { Aside H.log H.patience host.old host.new }
+    ensures ear { H.listens host.new ≡ H.listens host.old }
     ensures listed { IfOk result (λ vars. part H.log host.old host.new ≡ Listed vars ∷ []) }
     ensures outcome { CallsEnd (Lists ∷ []) (part H.log host.old host.new) result }
 {
     match host.vars() {
         Ok(vars) => Ok(vars),
+        Err(error) => Err(or_no_memory(host_error(alloc, error, ""))),
+    }
+}
+
+/// Says a message.
+#[tactic(auto, using(cc_host::proofs::Parts::since_append))]
+pub(crate) fn say<W: World, H: Host<W>>(
+    alloc: Global,
+    host: &mut H,
+    message: &Message,
+) -> Result<(), Error>
+    ensures aside { Aside H.log H.patience host.old host.new }
+    ensures outcome { CallsEnd (Says message.now ∷ []) (part H.log host.old host.new) result }
+{
+    match host.say(message) {
+        Ok(()) => Ok(()),
         Err(error) => Err(or_no_memory(host_error(alloc, error, ""))),
     }
 }

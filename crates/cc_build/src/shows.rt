@@ -1,6 +1,6 @@
 // What of a run is shown.
 ghost use Rattle.std.specs.Prelude.{◌≡◌};
-ghost use Rattle.cc_build.specs.Shows.{asks_for_debug, is_debug_wanted, output_kind, shows_of};
+ghost use Rattle.cc_build.specs.Shows.{asks_for_debug, is_debug_wanted, is_debug_on, output_kind, shows_of};
 
 use cc_env::BuildEnv;
 use cc_host::OutputKind;
@@ -25,7 +25,7 @@ fn is_debug_wanted(env: &BuildEnv) -> bool
 }
 
 fn is_debug_on(set: &BuildConfig, env: &BuildEnv) -> bool
-    ensures { result ≡ (shows_of set.now env.now).debug }
+    ensures { result ≡ is_debug_on set.now env.now }
 {
     match set.cargo_debug {
         Some(on) => on,
@@ -43,14 +43,14 @@ fn output_kind(on: bool) -> OutputKind
     }
 }
 
-// What of a run the settings show, and the environment where they are silent.
-pub(crate) fn shows_of(set: &BuildConfig, env: &BuildEnv) -> Shows
-    ensures { result ≡ shows_of set.now env.now }
+// What of a run the settings show, and the environment where they are silent, on a host that listens or not.
+pub(crate) fn shows_of(set: &BuildConfig, env: &BuildEnv, listens: bool) -> Shows
+    ensures { result ≡ shows_of set.now env.now listens }
 {
     Shows {
         warnings: set.cargo_warnings,
         debug: is_debug_on(set, env),
         out: output_kind(set.cargo_output),
-        listens: false,
+        listens,
     }
 }

@@ -74,7 +74,8 @@ fn support<W: World, H: Host<W>>(
     ensures supported { IfOk result (λ b. ByAnswers H.log host.old host.new
         (spec.IsVerdict task.now.set.now task.now.env.now flag.now b)) }
     ensures outcome { ByPart H.log host.old host.new
-        (spec.SupportEnds task.now.set.now task.now.env.now flag.now result) }
+        (spec.SupportEnds task.now.set.now task.now.env.now (H.listens host.old)
+        flag.now result) }
 {
     let (alloc, set, env) = (task.reporting.alloc, task.set, task.env);
     let mut sight = Sight {
@@ -106,7 +107,8 @@ fn told_support<W: World, H: Host<W>>(
     ensures supported { IfOk result (λ b. ByAnswers H.log host.old host.new
         (spec.IsVerdict task.now.set.now task.now.env.now flag.now b)) }
     ensures outcome { ByPart H.log host.old host.new
-        (spec.TrialEnds task.now.set.now task.now.env.now flag.now result) }
+        (spec.TrialEnds task.now.set.now task.now.env.now (H.listens host.old)
+        flag.now result) }
 {
     let mut known = Answers::new(task.reporting.alloc);
     let reads = Reads {
@@ -147,8 +149,8 @@ impl<W: World> Build<W> {
         ensures supported { IfOk result (λ b. ByAnswers H.log host.old host.new
             (spec.IsVerdict self.now.config self.now.env flag.now b)) }
         ensures outcome { ByPart H.log host.old host.new
-            (spec.TrialEnds self.now.config self.now.env flag.now result) }
+            (spec.TrialEnds self.now.config self.now.env (H.listens host.old) flag.now result) }
     {
-        told_support(rt, &self.task(), &self.caches, host, flag)
+        told_support(rt, &self.task(host.listens()), &self.caches, host, flag)
     }
 }

@@ -21,3 +21,4 @@ pub mod ValidLaws
 pub mod VariableLemmas
 pub mod VerdictLemmas
 pub mod WarnLemmas
+pub mod WarnedLemmas

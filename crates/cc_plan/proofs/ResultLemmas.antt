@@ -5,7 +5,8 @@ use Rattle.cc_host.specs.Question.{Answer, Settles}
 use Rattle.cc_tool.proofs.SettleLemmas.{settles_so}
 use Rattle.cc_env.specs.Env.{EnvSeen}
 use Rattle.cc_plan.specs.Compiler.{compiler_of}
-use Rattle.cc_plan.specs.Plan.{compiles_of, tool_lines, warning_lines}
+use Rattle.cc_plan.specs.Plan.{compiles_of, plan_warnings}
+use Rattle.cc_plan.specs.Planned.{warnings_of}
 use Rattle.cc_plan.specs.Refusal.{given_refusal, refusal_by, tool_refusal, platform_refusal, late_refusal, is_empty}
 use Rattle.cc_plan.specs.declared.compiler.Compiler.{Compiler}
 use Rattle.cc_plan.specs.declared.error.PlanError.{PlanError}
@@ -42,7 +43,7 @@ allowed_by set env given settled allowed = settles_so settled (λ look is. rw gi
 
 -- ---- plans without sources, and with some
 
-pub no_warnings : {known : List Answer} {lines : List (List ℕ)} (set : BuildConfig) (env : EnvSeen) (warns_of_link : Bool) → set.files ≡ [] → lines ≡ [] → Settles known (warning_lines set env warns_of_link) lines
+pub no_warnings : {known : List Answer} {lines : List (List ℕ)} (set : BuildConfig) (env : EnvSeen) (warns_of_link : Bool) → set.files ≡ [] → lines ≡ [] → Settles known (plan_warnings set env warns_of_link) lines
 no_warnings set env warns_of_link none is = record { is = λ look a. let e : is_empty set.files ≡ true = ap is_empty none in rw e (sym is) }
 
 pub no_compiles : {known : List Answer} {cmds : List CommandSeen} (set : BuildConfig) (env : EnvSeen) → set.files ≡ [] → cmds ≡ [] → Settles known (compiles_of set env) cmds
@@ -56,7 +57,7 @@ pub no_refused : {known : List Answer} (set : BuildConfig) (env : EnvSeen) (e : 
 no_refused set env e none (inl memory) = inl memory
 no_refused set env e none (inr refused) = inr (no_refusal set env none refused)
 
-pub some_warnings : {known : List Answer} {lines : List (List ℕ)} (set : BuildConfig) (env : EnvSeen) (warns_of_link : Bool) → is_empty set.files ≡ false → Settles known (tool_lines set env warns_of_link) lines → Settles known (warning_lines set env warns_of_link) lines
+pub some_warnings : {known : List Answer} {lines : List (List ℕ)} (set : BuildConfig) (env : EnvSeen) (warns_of_link : Bool) → is_empty set.files ≡ false → Settles known (warnings_of set env warns_of_link) lines → Settles known (plan_warnings set env warns_of_link) lines
 some_warnings set env warns_of_link some settled = settles_so settled (λ look is. rw some is)
 
 pub some_refusal : {known : List Answer} {refusal : Option PlanError} (set : BuildConfig) (env : EnvSeen) → is_empty set.files ≡ false → Settles known (tool_refusal set env) refusal → Settles known (late_refusal set env) refusal

@@ -2,13 +2,13 @@
 use Rattle.std.specs.Prelude.{◌≡◌, ◌⊎◌, ◌++◌, ℕ, Bool, true, false, List, [], ◌∷◌, Option, Some, None, Result, Ok, Err, IfOk, IfErr, OnOk}
 use Rattle.std.specs.List.{list_any}
 use Rattle.cc_env.specs.Env.{EnvSeen}
-use Rattle.cc_host.specs.Part.{IsPartly, IsWhole, since, stops}
+use Rattle.cc_host.specs.Part.{Step, IsPartly, IsWhole, since, stops}
 use Rattle.cc_host.specs.Question.{Look, Answer, Settles, Holds}
 use Rattle.cc_host.specs.declared.event.Event.{Event}
-use Rattle.cc_host.specs.declared.event.Event.TheVariants.{Started, Ended, Abandoned, Heard, Unread, Turn, Fault, Printed as Line}
-use Rattle.cc_host.specs.declared.event.HostCall.TheVariants.{Print}
+use Rattle.cc_host.specs.declared.event.Event.TheVariants.{Started, Ended, Abandoned, Heard, Unread, Turn, Fault}
+use Rattle.cc_host.specs.declared.event.HostCall.{HostCall}
+use Rattle.cc_host.specs.declared.event.HostCall.TheVariants.{Print, Say}
 use Rattle.cc_host.specs.declared.event.Why.{Why}
-use Rattle.cc_host.specs.declared.event.LineKind.TheVariants.{Warning}
 use Rattle.cc_host.specs.declared.host.World.{Ghosts}
 use Rattle.cc_host.specs.declared.question.Outcome.{Outcome}
 use Rattle.cc_host.specs.declared.question.Question.{Question}
@@ -16,8 +16,6 @@ use Rattle.cc_tool.specs.Asked.{question_events}
 use Rattle.cc_tool.specs.Asks.{Asks}
 use Rattle.cc_tool.specs.Own.{AnswersAmong}
 use Rattle.cc_plan.specs.Choice.{choice_of, cross_prefix}
-use Rattle.cc_plan.specs.Link.{printed_line}
-use Rattle.cc_plan.specs.Plan.{prints}
 use Rattle.cc_plan.specs.Questions.{ToolAsks, PlanAsks, ArchiveToolAsks, ArchiverAsks, RanlibAsks, NameAsks, LinkAsks, SupportAsks}
 use Rattle.cc_plan.specs.declared.archive_tool.ArchiveTool.{ArchiveTool}
 use Rattle.cc_plan.specs.declared.choice.Choice.{Choice}
@@ -114,15 +112,19 @@ AllowedIn sight refusal result = OnOk result (Settles sight.answers.now refusal 
 abbrev pub RefusedIn : {W H X : Type 0} → {ghosts : Ghosts W} → Sight W H ghosts → (Look → Option PlanError) → Result X PlanError → Type 0
 RefusedIn sight refusal result = IfErr result (λ e. (e ≡ NoMemory) ⊎ Settles sight.answers.now refusal (Some e))
 
--- a fault of the call that prints
-abbrev pub IsPrintFault : PlanError → Type 0
-IsPrintFault e = (why : Why) × (e ≡ Host Print why)
+-- the calls by which a host is given a warning: one prints, one says
+abbrev pub IsNotice : HostCall → Type 0
+IsNotice call = (call ≡ Print) ⊎ (call ≡ Say)
 
--- an error is want of memory, or a fault of the call that prints
+-- a fault of the call that prints, or of the one that says
+abbrev pub IsPrintFault : PlanError → Type 0
+IsPrintFault e = (call : HostCall) × (why : Why) × (IsNotice call × (e ≡ Host call why))
+
+-- an error is want of memory, or such a fault
 abbrev pub RefusedByPrint : {X : Type 0} → Result X PlanError → Type 0
 RefusedByPrint result = IfErr result (λ e. (e ≡ NoMemory) ⊎ IsPrintFault e)
 
--- an error is want of memory, a fault of the call that prints, or the refusal that the answers settle
+-- an error is want of memory, such a fault, or the refusal that the answers settle
 abbrev pub RefusedInOrByPrint : {W H X : Type 0} → {ghosts : Ghosts W} → Sight W H ghosts → (Look → Option PlanError) → Result X PlanError → Type 0
 RefusedInOrByPrint sight refusal result = IfErr result (λ e. (e ≡ NoMemory) ⊎ (IsPrintFault e ⊎ Settles sight.answers.now refusal (Some e)))
 
@@ -135,33 +137,33 @@ pub record AsksThen (steady : Bool) (world : Question → Outcome) (dir : List �
   pub extends : after ≡ mid ++ rest
   pub holds : P rest
 
--- why the printing of lines ended early: a fault of the host, which is the last event, or want of memory. A refusal comes before it.
-abbrev pub EndsPrinting : List Event → PlanError → Type 0
-EndsPrinting part (Host call why) = (call ≡ Print) × (stops part ≡ Fault Print why ∷ [])
-EndsPrinting part NoMemory = stops part ≡ []
-EndsPrinting part e = part ≡ []
+-- why warnings ended early: a fault of the host, which is the last event, or want of memory. A refusal comes before them.
+abbrev pub EndsWarning : List Event → PlanError → Type 0
+EndsWarning part (Host call why) = IsNotice call × (stops part ≡ Fault call why ∷ [])
+EndsWarning part NoMemory = stops part ≡ []
+EndsWarning part e = part ≡ []
 
--- a line was printed, or what ended the call refused it
-abbrev pub PrintsLine : {X : Type 0} → List ℕ → List Event → Result X PlanError → Type 0
-PrintsLine line part (Ok x) = part ≡ Line Warning (printed_line line) ∷ []
-PrintsLine line part (Err (Host call why)) = (call ≡ Print) × (part ≡ Fault Print why ∷ [])
-PrintsLine line part (Err NoMemory) = part ≡ []
-PrintsLine line part (Err e) = ⊥
+-- the host was given one thing by this call, or what ended the call refused it
+abbrev pub Gives : {X : Type 0} → HostCall → Event → List Event → Result X PlanError → Type 0
+Gives given event part (Ok x) = part ≡ event ∷ []
+Gives given event part (Err (Host call why)) = (call ≡ given) × (part ≡ Fault given why ∷ [])
+Gives given event part (Err NoMemory) = part ≡ []
+Gives given event part (Err e) = ⊥
 
 -- the refusal is no fault of a host
 abbrev pub IsOwn : PlanError → Type 0
 IsOwn (Host call why) = ⊥
 IsOwn e = Unit {0}
 
--- the warnings were printed: all of them, or the first up to what ended the call
-abbrev pub Printed : {X : Type 0} → List (List ℕ) → List Event → Result X PlanError → Type 0
-Printed lines part (Ok x) = IsWhole (prints Warning lines) part
-Printed lines part (Err e) = IsPartly (prints Warning lines) part × EndsPrinting part e
+-- the warnings were given to the host: all of them, or the first up to what ended the call
+abbrev pub Warned : {X : Type 0} → List Step → List Event → Result X PlanError → Type 0
+Warned steps part (Ok x) = IsWhole steps part
+Warned steps part (Err e) = IsPartly steps part × EndsWarning part e
 
--- the lines of a call are settled; one that was refused and printed nothing may have none
-abbrev pub AreLines : {X : Type 0} → List Answer → (Look → List (List ℕ)) → List (List ℕ) → List Event → Result X PlanError → Type 0
-AreLines known warnings lines part (Ok x) = Settles known warnings lines
-AreLines known warnings lines part (Err e) = (part ≡ []) ⊎ Settles known warnings lines
+-- the warnings of a call are settled; one that was refused and gave none may have none
+abbrev pub AreSteps : {X : Type 0} → List Answer → (Look → List Step) → List Step → List Event → Result X PlanError → Type 0
+AreSteps known warnings steps part (Ok x) = Settles known warnings steps
+AreSteps known warnings steps part (Err e) = (part ≡ []) ⊎ Settles known warnings steps
 
 -- a child was started, ended, was left alone or gave its standard error, or turns were made
 abbrev pub is_of_children : Event → Bool
@@ -173,17 +175,17 @@ is_of_children (Unread id) = true
 is_of_children (Turn count) = true
 is_of_children _ = false
 
--- The lines are what the answers settle, where it is given whether the call is the one that warns of flags for the linker. Meanwhile nothing is asked,
--- no child is started, heard or left alone, and no turn is made. A call that is refused for another cause prints none.
-pub record Warns {X : Type 0} (known : List Answer) (warnings : Bool → Look → List (List ℕ)) (result : Result X PlanError) (part : List Event) : Type 0 where
+-- The warnings are what the answers settle, where it is given whether the call is the one that warns of flags for the linker. Meanwhile nothing is
+-- asked, no child is started, heard or left alone, and no turn is made. A call that is refused for another cause gives none.
+pub record Warns {X : Type 0} (known : List Answer) (warnings : Bool → Look → List Step) (result : Result X PlanError) (part : List Event) : Type 0 where
   pub warns_of_link : Bool
-  pub lines : List (List ℕ)
-  pub settled : AreLines known (warnings warns_of_link) lines part result
-  pub printed : Printed lines part result
+  pub steps : List Step
+  pub settled : AreSteps known (warnings warns_of_link) steps part result
+  pub warned : Warned steps part result
   pub silent : question_events part ≡ []
   pub childless : list_any is_of_children part ≡ false
 
--- a call asks such questions, and then prints the lines of its warnings
-abbrev pub AsksThenWarns : {W H X : Type 0} → {ghosts : Ghosts W} → Bool → (Question → Outcome) → (H → List Event) → (Look → Question → Type 0) → Sight W H ghosts → Sight W H ghosts → (Bool → Look → List (List ℕ)) → Result X PlanError → Type 0
+-- a call asks such questions, and then gives the host its warnings
+abbrev pub AsksThenWarns : {W H X : Type 0} → {ghosts : Ghosts W} → Bool → (Question → Outcome) → (H → List Event) → (Look → Question → Type 0) → Sight W H ghosts → Sight W H ghosts → (Bool → Look → List Step) → Result X PlanError → Type 0
 AsksThenWarns steady world log questions old new warnings result =
     AsksThen steady world old.dir.now questions (log old.host.now) (log new.host.now) old.answers.now new.answers.now (Warns new.answers.now warnings result)

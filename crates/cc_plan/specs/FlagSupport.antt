@@ -7,7 +7,6 @@ use Rattle.cc_host.specs.declared.question.Verdict.TheVariants.{No}
 use Rattle.cc_plan.specs.Compilation.{CompilationSeen}
 use Rattle.cc_plan.specs.Compiler.{compiler_of}
 use Rattle.cc_plan.specs.Given.{target_of}
-use Rattle.cc_plan.specs.Plan.{wanted_lines}
 use Rattle.cc_plan.specs.Planned.{planned}
 use Rattle.cc_plan.specs.Refusal.{first_of, target_refusal}
 use Rattle.cc_plan.specs.Support.{bare_compiler, bare_of, compiler_refusal, flag_question, is_for_linker, plain_of}
@@ -48,7 +47,3 @@ support_refusal set env flag look =
 -- the warnings of how the compiler was found
 abbrev pub support_warnings : BuildConfig → EnvSeen → Look → List (List ℕ)
 support_warnings set env look = found_warnings (planned set env look)
-
--- the lines of these warnings, where they are wanted
-abbrev pub support_lines : BuildConfig → EnvSeen → Look → List (List ℕ)
-support_lines set env look = wanted_lines set (support_warnings set env look)

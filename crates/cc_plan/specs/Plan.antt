@@ -1,13 +1,17 @@
 -- The steps of a compile run, as a function of the settings, the environment and the output.
 use Rattle.std.specs.Prelude.{ℕ, Bool, List, [], ◌∷◌, ◌++◌, map, Option, unwrap_or, codes, if◌then◌else◌}
+use Rattle.std.specs.List.{flat_map}
 use Rattle.std.specs.Path.{path_parent}
 use Rattle.cc_env.specs.Env.{EnvSeen}
+use Rattle.cc_text.specs.Words.{when}
 use Rattle.cc_host.specs.Command.{CommandSeen}
 use Rattle.cc_host.specs.Part.{Step}
 use Rattle.cc_host.specs.Question.{Look}
-use Rattle.cc_host.specs.Part.Step.{Makes, Removes, Prints}
+use Rattle.cc_host.specs.Part.Step.{Makes, Removes, Prints, Says}
 use Rattle.cc_host.specs.declared.event.Scope.TheVariants.{Build}
 use Rattle.cc_host.specs.declared.event.LineKind.{LineKind}
+use Rattle.cc_host.specs.declared.event.LineKind.TheVariants.{Warning}
+use Rattle.cc_host.specs.declared.event.Message.TheVariants.{GeneralWarning}
 use Rattle.cc_plan.specs.declared.error.PlanError.{PlanError}
 use Rattle.cc_plan.specs.declared.object.Object.{Object}
 use Rattle.cc_plan.specs.declared.settings.BuildConfig.{BuildConfig}
@@ -65,17 +69,21 @@ link_lines set env look output = lines_of set env (library_name output) (unwrap_
 abbrev pub warning_line : List ℕ → List ℕ
 warning_line text = codes "cargo:warning=" ++ text
 
--- the warnings as lines, where they are wanted
-abbrev pub wanted_lines : BuildConfig → List (List ℕ) → List (List ℕ)
-wanted_lines set warnings = if set.cargo_warnings then map warning_line warnings else []
+-- a warning is printed where that is wanted, and said where the host listens
+abbrev pub warning_steps : Bool → Bool → List ℕ → List Step
+warning_steps prints listens text = when prints (Prints Warning (printed_line (warning_line text)) ∷ []) ++ when listens (Says (GeneralWarning text) ∷ [])
 
--- the warnings of the tool, where they are wanted; `warns_of_link` says whether the call is the one that warns of flags for the linker
-abbrev pub tool_lines : BuildConfig → EnvSeen → Bool → Look → List (List ℕ)
-tool_lines set env warns_of_link look = wanted_lines set (warnings_of set env warns_of_link look)
+-- each of these warnings, in order
+unfoldable pub warned_steps : BuildConfig → Bool → List (List ℕ) → List Step
+warned_steps set listens texts = flat_map (warning_steps set.cargo_warnings listens) texts
+
+-- the warnings of the tool; `warns_of_link` says whether the call is the one that warns of flags for the linker
+abbrev pub tool_warnings : BuildConfig → EnvSeen → Bool → Bool → Look → List Step
+tool_warnings set env listens warns_of_link look = warned_steps set listens (warnings_of set env warns_of_link look)
 
 -- the warnings of the plan, where there is a source
-abbrev pub warning_lines : BuildConfig → EnvSeen → Bool → Look → List (List ℕ)
-warning_lines set env warns_of_link look = if is_empty set.files then [] else tool_lines set env warns_of_link look
+abbrev pub plan_warnings : BuildConfig → EnvSeen → Bool → Look → List (List ℕ)
+plan_warnings set env warns_of_link look = if is_empty set.files then [] else warnings_of set env warns_of_link look
 
 -- the folder is made where there is a source
 unfoldable pub folder_steps : BuildConfig → EnvSeen → List Step

@@ -5,6 +5,7 @@ ghost use Rattle.cc_plan.specs.Asking.{IsOwn, OnlyAsks, AsksBy, AsksOnFlag, Asks
 ghost use Rattle.cc_plan.specs.Compilation.{seen};
 ghost use Rattle.cc_plan.specs.Compiler.{compiler_of};
 ghost use Rattle.cc_plan.specs.FlagSupport as spec;
+ghost use Rattle.cc_plan.specs.Plan.{warned_steps};
 ghost use Rattle.cc_plan.specs.Questions.{SupportAsks};
 ghost use Rattle.cc_plan.specs.Support.{flag_question as question_on};
 ghost use Rattle.cc_plan.specs.Refusal.{AllowedBy, RefusedBy};
@@ -12,7 +13,7 @@ ghost use Rattle.cc_plan.specs.Refusal.{AllowedBy, RefusedBy};
 use crate::compilation::{Compilation, Inputs};
 use crate::compiler::{Compiler, compiler_of};
 use crate::inherited::read_handed;
-use crate::printing::{print_warnings, wanted_lines};
+use crate::printing::warn_of;
 use crate::support::{bare_compiler, flag_settings, is_for_linker, plain_question};
 use crate::tool::{check_compiler, found_warnings, known_target};
 use crate::{BuildConfig, PlanError, Sight};
@@ -180,7 +181,8 @@ pub fn flag_support<W: World, H: Host<W>>(
     ensures same_answers { sight.new.answers.ghost_name ≡ sight.old.answers.ghost_name }
     ensures asks { AsksThenWarns W.steady W.answer H.log
         (SupportAsks set.now env.now flag.now) sight.old sight.new
-        (λ warns_of_link. spec.support_lines set.now env.now) result }
+        (λ _ look. warned_steps set.now (H.listens sight.old.host.now)
+        (spec.support_warnings set.now env.now look)) result }
     ensures compiler { IfOk result (λ found. Settles sight.new.answers.now
         (compiler_of set.now env.now) found.compiler) }
     ensures verdict { IfOk result (λ found. Settles sight.new.answers.now
@@ -190,8 +192,8 @@ pub fn flag_support<W: World, H: Host<W>>(
         (spec.support_refusal set.now env.now flag.now) result }
     ensures patient { H.patience sight.new.host.now ≡ H.patience sight.old.host.now }
 {
+    let listens = sight.host.listens();
     let support = plan_support(rt, alloc, set, env, flag, sight)?;
-    let lines = wanted_lines(alloc, set, &support.warnings)?;
-    print_warnings(alloc, sight.host, &lines)?;
+    warn_of(alloc, sight.host, set, listens, &support.warnings)?;
     Ok(support.found)
 }

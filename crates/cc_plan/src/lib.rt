@@ -62,7 +62,7 @@ pub use link::{LinkLine, link_lines};
 pub use names::{lib_and_archive_names, library_and_dir};
 pub use object::{Object, object_path, objects_from_files};
 pub use plan::{Plan, Sources, plan_commands, plan_objects, plan_sources};
-pub use printing::printed_line;
+pub use printing::{printed_line, warning_line};
 pub use reruns::rerun_names;
 pub use settings::{BuildConfig, archive_settings};
 pub use sight::Sight;

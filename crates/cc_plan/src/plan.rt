@@ -5,13 +5,13 @@ ghost use Rattle.std.specs.Option.{option_copied};
 ghost use Rattle.cc_plan.specs.Asking.{AsksToPlan, AllowedIn, RefusedIn};
 ghost use Rattle.cc_plan.specs.Names.{library_name};
 ghost use Rattle.cc_plan.specs.Given.{out_dir_of, probe_folder};
-ghost use Rattle.cc_plan.specs.Plan.{dir_of, objects_of, library_of, compiles_of, tool_lines, warning_lines as lines_of_warnings};
+ghost use Rattle.cc_plan.specs.Planned.{warnings_of};
+ghost use Rattle.cc_plan.specs.Plan.{dir_of, objects_of, library_of, compiles_of, plan_warnings};
 ghost use Rattle.cc_plan.specs.Refusal.{intermediate_refusal, early_refusal, late_refusal, tool_refusal, platform_refusal, out_dir_refusal, AllowedBy, RefusedBy};
 
 use crate::added::check_added;
 use crate::compile::compile_commands;
 use crate::given::out_dir_of;
-use crate::printing::wanted_lines;
 use crate::tool::{check_platform, plan_tool};
 use crate::{
     ArgumentCause, BuildConfig, Object, PlanError, Sight, lib_and_archive_names, objects_from_files,
@@ -40,7 +40,7 @@ pub struct Sources {
 pub struct Plan {
     /// Whether this run, of those that share its caches, is the one that warns of flags for the linker.
     pub warns_of_link: bool,
-    /// The warnings as lines for Cargo, without line feeds, which are printed first.
+    /// The warnings, as texts without line feeds, which the host is given first.
     pub warnings: Words,
     /// One command a source, in their order. They share one environment.
     pub compiles: Vec<Command>,
@@ -155,18 +155,17 @@ fn tool_compiles<W: World, H: Host<W>>(
     ensures asks { AsksToPlan W.steady W.answer H.log H.patience set.now env.now
         sight.old sight.new }
     ensures warnings { IfOk result (λ plan.
-        Settles sight.new.answers.now (tool_lines set.now env.now plan.warns_of_link) plan.warnings) }
+        Settles sight.new.answers.now (warnings_of set.now env.now plan.warns_of_link) plan.warnings) }
     ensures compiles { IfOk result (λ plan.
         Settles sight.new.answers.now (compiles_of set.now env.now) plan.compiles.items) }
     ensures allowed { AllowedIn sight.new (tool_refusal set.now env.now) result }
     ensures refused { RefusedIn sight.new (tool_refusal set.now env.now) result }
 {
     let plan = plan_tool(rt, alloc, set, env, sight)?;
-    let warnings = wanted_lines(alloc, set, &plan.warned.warnings)?;
     let compiles = compile_commands(alloc, set, &plan.target, &plan.tool, objects)?;
     Ok(Plan {
         warns_of_link: plan.warned.is_first,
-        warnings,
+        warnings: plan.warned.warnings,
         compiles,
     })
 }
@@ -188,7 +187,7 @@ pub fn plan_commands<W: World, H: Host<W>>(
     ensures asks { AsksToPlan W.steady W.answer H.log H.patience set.now env.now
         sight.old sight.new }
     ensures warnings { IfOk result (λ plan.
-        Settles sight.new.answers.now (lines_of_warnings set.now env.now plan.warns_of_link) plan.warnings) }
+        Settles sight.new.answers.now (plan_warnings set.now env.now plan.warns_of_link) plan.warnings) }
     ensures compiles { IfOk result (λ plan.
         Settles sight.new.answers.now (compiles_of set.now env.now) plan.compiles.items) }
     ensures allowed { AllowedIn sight.new (late_refusal set.now env.now) result }

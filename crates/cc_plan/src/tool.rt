@@ -6,7 +6,7 @@ ghost use Rattle.cc_target.specs.Targets.{info_seen};
 ghost use Rattle.cc_plan.specs.Compilation.{seen};
 ghost use Rattle.cc_plan.specs.Asking.{IsOwn, AsksToPlan, AsksThenWarns, SettledIn, AllowedIn, RefusedIn, RefusedInOrByPrint};
 ghost use Rattle.cc_plan.specs.Given.{target_of};
-ghost use Rattle.cc_plan.specs.Plan.{tool_lines};
+ghost use Rattle.cc_plan.specs.Plan.{tool_warnings};
 ghost use Rattle.cc_plan.specs.Questions.{PlanAsks};
 ghost use Rattle.cc_plan.specs.Refusal.{AllowedBy, RefusedBy, unset, target_refusal, platform_refusal, given_refusal, tool_refusal};
 ghost use Rattle.cc_plan.specs.Target.{target_info};
@@ -20,7 +20,7 @@ use crate::compiler::{Compiler, compiler_of};
 use crate::given::{host_of, level_of, target_of};
 use crate::inherited::{check_rustflags, push_lost, read_handed};
 use crate::link_warning::{is_first_warning, leaves_off};
-use crate::printing::{print_warnings, wanted_lines};
+use crate::printing::warn_of;
 use crate::support::supported_words;
 use crate::supported::Supported;
 use crate::words::{check_defaults, remapped, rust_words, tool_warnings, tool_words, trimmed};
@@ -441,14 +441,15 @@ pub fn tool_of<W: World, H: Host<W>>(
     ensures same_host { sight.new.host.ghost_name ≡ sight.old.host.ghost_name }
     ensures same_answers { sight.new.answers.ghost_name ≡ sight.old.answers.ghost_name }
     ensures asks { AsksThenWarns W.steady W.answer H.log
-        (PlanAsks set.now env.now) sight.old sight.new (tool_lines set.now env.now) result }
+        (PlanAsks set.now env.now) sight.old sight.new
+        (tool_warnings set.now env.now (H.listens sight.old.host.now)) result }
     ensures tool { SettledIn sight.new (tool_of set.now env.now) result }
     ensures allowed { AllowedIn sight.new (tool_refusal set.now env.now) result }
     ensures refused { RefusedInOrByPrint sight.new (tool_refusal set.now env.now) result }
     ensures patient { H.patience sight.new.host.now ≡ H.patience sight.old.host.now }
 {
+    let listens = sight.host.listens();
     let plan = plan_tool(rt, alloc, set, env, sight)?;
-    let lines = wanted_lines(alloc, set, &plan.warned.warnings)?;
-    print_warnings(alloc, sight.host, &lines)?;
+    warn_of(alloc, sight.host, set, listens, &plan.warned.warnings)?;
     Ok(plan.tool)
 }

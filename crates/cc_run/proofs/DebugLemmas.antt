@@ -117,7 +117,7 @@ debug_due shows warns cmds k (Fault call why) h = refl
 
 -- those that were printed
 pub debug_all : {T : Type 0} (shows : Shows) (warns : Bool) (cmds : List Planned) (part : List Event) (result : Result T RunError) → IsPrinted shows warns cmds nothing_kept result part → 0 + length (started part) ≤ length cmds → OnOk result (debug_printed part ≡ debug_from shows nothing part)
-debug_all shows warns cmds part (Ok x) q few = ap (filter is_debug) q ∙ along_due is_debug (debug_of shows) shows warns cmds (debug_due shows warns cmds) nothing_kept part tt few
+debug_all shows warns cmds part (Ok x) q few = ap (filter is_debug) q.0 ∙ along_due is_debug (debug_of shows) shows warns cmds (debug_due shows warns cmds) nothing_kept part tt few
 debug_all shows warns cmds part (Err e) q few = tt
 
 none_both : {X : Type 0} (xs ys : List X) → xs ++ ys ≡ [] → (xs ≡ []) × (ys ≡ [])

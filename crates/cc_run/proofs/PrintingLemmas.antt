@@ -1,16 +1,20 @@
 -- Laws on the lines that a run prints.
-use Rattle.std.proofs.Common.{◌≡◌, ℕ, ◌+◌, ◌<◌, ◌≤◌, zero, suc, inl, inr, Bool, true, false, List, [], ◌∷◌, ◌++◌, ◌==◌, length, map, take, drop, get_or, refl, sym, ◌∙◌, ap, subst, append_assoc, arith, if◌then◌else◌}
+use Rattle.std.proofs.Common.{◌≡◌, ◌⊎◌, ℕ, ◌+◌, ◌<◌, ◌≤◌, zero, suc, inl, inr, Bool, true, false, List, [], ◌∷◌, ◌++◌, ◌==◌, length, map, take, drop, get_or, refl, sym, ◌∙◌, ap, subst, append_assoc, arith, if◌then◌else◌}
 use Rattle.std.specs.Prelude.{Result, Ok, Err, Option, None, Some}
 use Rattle.std.specs.List.{flat_map}
 use Rattle.std.proofs.Math.Seq.{take-append-add}
 use Rattle.std.proofs.lemmas.List.{append-nil, map-append, take-append-le}
+use Rattle.std.proofs.lemmas.List.Sums.{sum_by-append}
 use Rattle.std.proofs.lemmas.Grind.{flat_map-append}
+use Rattle.cc_host.specs.Command.{CommandSeen}
 use Rattle.cc_host.specs.Event.{reported, heard, unread, ended}
 use Rattle.cc_host.specs.Part.{since}
 use Rattle.cc_host.proofs.Parts.{since_append, since_since}
 use Rattle.cc_host.specs.declared.event.Event.{Event}
 use Rattle.cc_host.specs.declared.event.Event.TheVariants.{Started, Ended, Abandoned, Heard, Unread, Turn, Answered, Reused, Unasked, Drawn, Opened, Taken, Dropped, Ran, Missing, Made, Removed, Wrote, Copied, Here, Said, Printed, Listed, Fault}
 use Rattle.cc_host.specs.declared.event.News.{News}
+use Rattle.cc_host.specs.declared.event.Pipes.{Pipes}
+use Rattle.cc_host.specs.declared.event.Role.{Role}
 use Rattle.cc_host.specs.declared.event.Status.{Status}
 use Rattle.cc_host.specs.declared.event.HostCall.TheVariants.{Start}
 use Rattle.cc_run.specs.Children.{Kept, run_of, seat}
@@ -18,7 +22,8 @@ use Rattle.cc_run.specs.Forwarded.{fed, emptied}
 use Rattle.cc_run.specs.Hearing.{at_child, children_from, owed_from}
 use Rattle.cc_run.specs.Outcome.{IsOutcome, IsUnturned}
 use Rattle.cc_run.specs.Planned.{pipes_of}
-use Rattle.cc_run.specs.Printing.{printed, printed_of, kept_after, kept_from, due, due_from, due_next, next_lines, IsPrinted}
+use Rattle.cc_run.specs.Paid.{starts, starts_of}
+use Rattle.cc_run.specs.Printing.{printed, printed_of, kept_after, kept_from, due, due_from, due_next, next_lines, IsPrinted, PrintsAll, PrintsInTime}
 use Rattle.cc_run.specs.Run.{Run, run_after, run_from, gone, failed_at, place_of}
 use Rattle.cc_run.specs.Prints.{ArePrinted, IsPrintError, prints, print_fault}
 use Rattle.cc_run.specs.Started.{IsStart}
@@ -33,7 +38,9 @@ use Rattle.cc_run.specs.declared.print.Notice.TheVariants.{Shown, Told}
 use Rattle.cc_run.specs.declared.running.Child.{Child}
 use Rattle.cc_run.proofs.ChildLemmas.{seats_without}
 use Rattle.cc_run.proofs.HearingLemmas.{children_both, owed_both}
-use Rattle.cc_run.proofs.Runs.{news_printed}
+use Rattle.cc_run.proofs.Quiet.{prints_starts, behind_starts}
+use Rattle.cc_run.proofs.Runs.{news_printed, news_starts}
+use Rattle.cc_run.proofs.StartLemmas.{unstarted_counts}
 
 pub kept_both : (k : Kept) (a b : List Event) → kept_from k (a ++ b) ≡ kept_from (kept_from k a) b
 kept_both k [] b = refl
@@ -148,6 +155,56 @@ prints_printed [] = refl
 prints_printed (Shown kind bytes ∷ ls) = ap (λ k. Shown kind bytes ∷ k) (prints_printed ls)
 prints_printed (Told message ∷ ls) = ap (λ k. Told message ∷ k) (prints_printed ls)
 
+-- a place in two lists
+cut_in : {X : Type 0} (a b front back : List X) (x : X) → a ++ b ≡ front ++ x ∷ back → ((more : List X) × (a ≡ front ++ x ∷ more)) ⊎ ((more : List X) × ((front ≡ a ++ more) × (b ≡ more ++ x ∷ back)))
+cut_in [] b front back x e = inr (front, (refl, e))
+cut_in (y ∷ a) b [] back x e = let k : y ≡ x = cc in inl (a, ap (λ z. z ∷ a) k)
+cut_in (y ∷ a) b (z ∷ front) back x e =
+    let k : y ≡ z = cc in
+    let l : a ++ b ≡ front ++ x ∷ back = cc in
+    elim (cut_in a b front back x l) [ inl m ↦ inl (m.0, ap (λ w. w ∷ a) k ∙ ap (λ w. z ∷ w) m.1) | inr m ↦ inr (m.0, (ap (λ w. z ∷ w) m.1.0 ∙ ap (λ w. w ∷ (a ++ m.0)) (sym k), m.1.1)) ]
+
+-- no place in a part is a start
+not_there : (part front back : List Event) (id : ℕ) (role : Role) (cmd : CommandSeen) (pipes : Pipes) (held : ℕ) → starts part ≡ 0 → part ≡ front ++ Started id role cmd pipes held ∷ back → ⊥
+not_there part front back id role cmd pipes held z e =
+    let st = Started id role cmd pipes held in
+    let one : starts part ≡ starts front + starts (st ∷ back) = ap starts e ∙ sum_by-append starts_of front (st ∷ back) in
+    let two : starts (st ∷ back) ≡ 1 + starts back = sum_by-append starts_of (st ∷ []) back in
+    absurd (omega (arith, z, one, two))
+
+gone_starts : (cs : List (ℕ × ℕ)) → starts (gone cs) ≡ 0
+gone_starts [] = refl
+gone_starts (c ∷ cs) = gone_starts cs
+
+-- Parts without starts, and one part after another.
+module _ (shows : Shows) (warns : Bool) (cmds : List Planned) where
+  pub unstarted_in_time : (k : Kept) (part : List Event) → starts part ≡ 0 → PrintsInTime shows warns cmds k part
+  unfolding PrintsInTime
+  unstarted_in_time k part z = λ front back id role cmd pipes held e. absurd (not_there part front back id role cmd pipes held z e)
+
+  -- a part without starts behind one
+  quiet_in_time : (k : Kept) (a b : List Event) → PrintsInTime shows warns cmds k a → starts b ≡ 0 → PrintsInTime shows warns cmds k (a ++ b)
+  unfolding PrintsInTime
+  quiet_in_time k a b s z = λ front back id role cmd pipes held e. at front back id role cmd pipes held (cut_in a b front back (Started id role cmd pipes held) e)
+    where
+      at : (front back : List Event) (id : ℕ) (role : Role) (cmd : CommandSeen) (pipes : Pipes) (held : ℕ) → ((more : List Event) × (a ≡ front ++ Started id role cmd pipes held ∷ more)) ⊎ ((more : List Event) × ((front ≡ a ++ more) × (b ≡ more ++ Started id role cmd pipes held ∷ back))) → printed front ≡ due_from shows warns cmds k (front ++ Started id role cmd pipes held ∷ [])
+      at front back id role cmd pipes held (inl (more, h)) = s front more id role cmd pipes held h
+      at front back id role cmd pipes held (inr (more, h)) = absurd (not_there b more back id role cmd pipes held z h.1)
+
+  both_in_time : (k k' : Kept) (a b : List Event) → kept_from k a ≡ k' → printed a ≡ due_from shows warns cmds k a → PrintsInTime shows warns cmds k a → PrintsInTime shows warns cmds k' b → PrintsInTime shows warns cmds k (a ++ b)
+  unfolding PrintsInTime
+  both_in_time k k' a b e p s t = λ front back id role cmd pipes held x. at front back id role cmd pipes held (cut_in a b front back (Started id role cmd pipes held) x)
+    where
+      at : (front back : List Event) (id : ℕ) (role : Role) (cmd : CommandSeen) (pipes : Pipes) (held : ℕ) → ((more : List Event) × (a ≡ front ++ Started id role cmd pipes held ∷ more)) ⊎ ((more : List Event) × ((front ≡ a ++ more) × (b ≡ more ++ Started id role cmd pipes held ∷ back))) → printed front ≡ due_from shows warns cmds k (front ++ Started id role cmd pipes held ∷ [])
+      at front back id role cmd pipes held (inl (more, h)) = s front more id role cmd pipes held h
+      at front back id role cmd pipes held (inr (more, h)) =
+          let st = Started id role cmd pipes held ∷ [] in
+          ap printed h.0 ∙ flat_map-append printed_of a more ∙ ap (λ l. l ++ printed more) p
+          ∙ ap (λ l. due_from shows warns cmds k a ++ l) (t more back id role cmd pipes held h.1)
+          ∙ ap (λ q. due_from shows warns cmds k a ++ due_from shows warns cmds q (more ++ st)) (sym e)
+          ∙ sym (due_both shows warns cmds k a (more ++ st))
+          ∙ ap (due_from shows warns cmds k) (sym (append_assoc a more st) ∙ ap (λ l. l ++ st) (sym h.0))
+
 -- A part after which this is kept, and then another.
 module _ (shows : Shows) (warns : Bool) (cmds : List Planned) (k k' : Kept) (a b : List Event) where
   whole_then : kept_from k a ≡ k' → printed a ≡ due_from shows warns cmds k a → printed b ≡ due_from shows warns cmds k' b → printed (a ++ b) ≡ due_from shows warns cmds k (a ++ b)
@@ -178,24 +235,37 @@ module _ (shows : Shows) (warns : Bool) (cmds : List Planned) (k k' : Kept) (a b
         ∙ ap (take (length (due_from shows warns cmds k a) + n)) (sym (next_both e)),
   )
 
+  all_on : {T : Type 0} (result : Result T RunError) → kept_from k a ≡ k' → printed a ≡ due_from shows warns cmds k a → PrintsAll shows warns cmds k' result b → PrintsAll shows warns cmds k result (a ++ b)
+  all_on (Ok x) e p q = whole_then e p q
+  all_on (Err (ToolNotFound n)) e p q = next_then e p q
+  all_on (Err (StartFault n)) e p q = next_then e p q
+  all_on (Err (HostFault call why)) e p q = some_then e p q
+  all_on (Err NoMemory) e p q = some_then e p q
+  all_on (Err (Failed n s)) e p q = whole_then e p q
+  all_on (Err WaitFault) e p q = whole_then e p q
+  all_on (Err JobFault) e p q = whole_then e p q
+  all_on (Err TurnsSpent) e p q = whole_then e p q
+
   -- what the second one printed by its answer
-  pub printed_on : {T : Type 0} (result : Result T RunError) → kept_from k a ≡ k' → printed a ≡ due_from shows warns cmds k a → IsPrinted shows warns cmds k' result b → IsPrinted shows warns cmds k result (a ++ b)
-  printed_on (Ok x) e p q = whole_then e p q
-  printed_on (Err (ToolNotFound n)) e p q = next_then e p q
-  printed_on (Err (StartFault n)) e p q = next_then e p q
-  printed_on (Err (HostFault call why)) e p q = some_then e p q
-  printed_on (Err NoMemory) e p q = some_then e p q
-  printed_on (Err (Failed n s)) e p q = whole_then e p q
-  printed_on (Err WaitFault) e p q = whole_then e p q
-  printed_on (Err JobFault) e p q = whole_then e p q
-  printed_on (Err TurnsSpent) e p q = whole_then e p q
+  pub printed_on : {T : Type 0} (result : Result T RunError) → kept_from k a ≡ k' → (printed a ≡ due_from shows warns cmds k a) × PrintsInTime shows warns cmds k a → IsPrinted shows warns cmds k' result b → IsPrinted shows warns cmds k result (a ++ b)
+  printed_on result e p q = (all_on result e p.0 q.0, both_in_time shows warns cmds k k' a b e p.0 p.1 q.1)
 
 -- one call after another
-pub printed_then : {T : Type 0} (shows : Shows) (warns : Bool) (cmds : List Planned) (k k' : Kept) (old mid new : List Event) (result : Result T RunError) → mid ≡ old ++ since old mid → new ≡ mid ++ since mid new → kept_from k (since old mid) ≡ k' → printed (since old mid) ≡ due_from shows warns cmds k (since old mid) → IsPrinted shows warns cmds k' result (since mid new) → IsPrinted shows warns cmds k result (since old new)
+pub printed_then : {T : Type 0} (shows : Shows) (warns : Bool) (cmds : List Planned) (k k' : Kept) (old mid new : List Event) (result : Result T RunError) → mid ≡ old ++ since old mid → new ≡ mid ++ since mid new → kept_from k (since old mid) ≡ k' → (printed (since old mid) ≡ due_from shows warns cmds k (since old mid)) × PrintsInTime shows warns cmds k (since old mid) → IsPrinted shows warns cmds k' result (since mid new) → IsPrinted shows warns cmds k result (since old new)
 printed_then shows warns cmds k k' old mid new result x y e p q = subst (IsPrinted shows warns cmds k result) (sym (since_since old mid new x y)) (printed_on shows warns cmds k k' (since old mid) (since mid new) result e p q)
 
 pub kept_then : (k k' k'' : Kept) (old mid new : List Event) → mid ≡ old ++ since old mid → new ≡ mid ++ since mid new → kept_from k (since old mid) ≡ k' → kept_from k' (since mid new) ≡ k'' → kept_from k (since old new) ≡ k''
 kept_then k k' k'' old mid new x y e f = ap (kept_from k) (since_since old mid new x y) ∙ kept_both k (since old mid) (since mid new) ∙ ap (λ q. kept_from q (since mid new)) e ∙ f
+
+fault_starts : (e : RunError) → starts (print_fault e) ≡ 0
+fault_starts (HostFault call why) = refl
+fault_starts (ToolNotFound n) = refl
+fault_starts (Failed n s) = refl
+fault_starts (StartFault n) = refl
+fault_starts WaitFault = refl
+fault_starts JobFault = refl
+fault_starts TurnsSpent = refl
+fault_starts NoMemory = refl
 
 -- A turn, and lines that were printed behind it.
 module _ (shows : Shows) (warns : Bool) (cmds : List Planned) (k : Kept) (ns : List News) where
@@ -220,32 +290,39 @@ module _ (shows : Shows) (warns : Bool) (cmds : List Planned) (k : Kept) (ns : L
             ∙ flat_map-append printed_of (prints ls) q ∙ ap (λ l. l ++ printed q) (prints_printed ls) ∙ ap (λ l. ls ++ l) (h k).2 ∙ append-nil ls,
       )
 
+  turn_starts : (ls : List Notice) (q : List Event) → starts q ≡ 0 → starts ((Turn 1 ∷ flat_map reported ns) ++ (prints ls ++ q)) ≡ 0
+  turn_starts ls q z =
+      let a : starts ((Turn 1 ∷ flat_map reported ns) ++ (prints ls ++ q)) ≡ starts (flat_map reported ns) + starts (prints ls ++ q) = sum_by-append starts_of (Turn 1 ∷ flat_map reported ns) (prints ls ++ q) in
+      let b : starts (flat_map reported ns) ≡ 0 = news_starts ns in
+      let c : starts (prints ls ++ q) ≡ starts q = behind_starts ls q in
+      omega (arith, a, b, c, z)
+
   turn_cut : (old mid new : List Event) → mid ≡ old ++ Turn 1 ∷ flat_map reported ns → new ≡ mid ++ since mid new → since old new ≡ (Turn 1 ∷ flat_map reported ns) ++ since mid new
   turn_cut old mid new a b = ap (since old) (b ∙ ap (λ m. m ++ since mid new) a ∙ append_assoc old _ _) ∙ since_append old _
 
   -- all of them were printed
-  pub turn_kept : {T : Type 0} (x : T) (k' : Kept) (old mid new : List Event) → mid ≡ old ++ Turn 1 ∷ flat_map reported ns → new ≡ mid ++ since mid new → ArePrinted {T = T} (owed_from shows warns cmds k.children (flat_map reported ns)) (Ok x) (since mid new) → k'.children ≡ children_from k.children (flat_map reported ns) → run_of k' ≡ run_from (run_of k) (flat_map reported ns) → (kept_from k (since old new) ≡ k') × (printed (since old new) ≡ due_from shows warns cmds k (since old new))
+  pub turn_kept : {T : Type 0} (x : T) (k' : Kept) (old mid new : List Event) → mid ≡ old ++ Turn 1 ∷ flat_map reported ns → new ≡ mid ++ since mid new → ArePrinted {T = T} (owed_from shows warns cmds k.children (flat_map reported ns)) (Ok x) (since mid new) → k'.children ≡ children_from k.children (flat_map reported ns) → run_of k' ≡ run_from (run_of k) (flat_map reported ns) → (kept_from k (since old new) ≡ k') × ((printed (since old new) ≡ due_from shows warns cmds k (since old new)) × PrintsInTime shows warns cmds k (since old new))
   unfolding given IsIdle
   turn_kept x k' old mid new a b s cs r =
       let cut : since old new ≡ (Turn 1 ∷ flat_map reported ns) ++ (prints given ++ []) = turn_cut old mid new a b ∙ ap (λ l. (Turn 1 ∷ flat_map reported ns) ++ l) (s ∙ sym (append-nil (prints given))) in
       let t = turn_lines given [] (λ x. (refl, refl, refl)) in
       let same : k' ≡ kept_from k (flat_map reported ns) = kept_same k' (kept_from k (flat_map reported ns)) (cs ∙ sym (news_due shows warns cmds k ns).0) (r ∙ sym (kept_run k (flat_map reported ns))) in (
         ap (kept_from k) cut ∙ t.0 ∙ sym same,
-        ap printed cut ∙ t.2 ∙ sym t.1 ∙ sym (ap (due_from shows warns cmds k) cut),
+        (ap printed cut ∙ t.2 ∙ sym t.1 ∙ sym (ap (due_from shows warns cmds k) cut), unstarted_in_time shows warns cmds k (since old new) (ap starts cut ∙ turn_starts given [] refl)),
       )
 
-  some_shown : (n : ℕ) (e : RunError) (old mid new : List Event) → mid ≡ old ++ Turn 1 ∷ flat_map reported ns → new ≡ mid ++ since mid new → n ≤ length given → since mid new ≡ prints (take n given) ++ print_fault e → printed (since old new) ≡ take n (due_next shows warns cmds k (since old new))
+  some_shown : (n : ℕ) (e : RunError) (old mid new : List Event) → mid ≡ old ++ Turn 1 ∷ flat_map reported ns → new ≡ mid ++ since mid new → n ≤ length given → since mid new ≡ prints (take n given) ++ print_fault e → (printed (since old new) ≡ take n (due_next shows warns cmds k (since old new))) × PrintsInTime shows warns cmds k (since old new)
   unfolding given IsIdle
   some_shown n e old mid new a b le s =
       let cut : since old new ≡ (Turn 1 ∷ flat_map reported ns) ++ (prints (take n given) ++ print_fault e) = turn_cut old mid new a b ∙ ap (λ l. (Turn 1 ∷ flat_map reported ns) ++ l) s in
       let t = turn_lines (take n given) (print_fault e) (λ x. fault_due shows warns cmds x e) in
-      ap printed cut ∙ t.2 ∙ sym (take-append-le n given (next_lines shows cmds (kept_from k (since old new)).begun) le) ∙ ap (λ l. take n (l ++ next_lines shows cmds (kept_from k (since old new)).begun)) (sym t.1 ∙ sym (ap (due_from shows warns cmds k) cut))
+      (ap printed cut ∙ t.2 ∙ sym (take-append-le n given (next_lines shows cmds (kept_from k (since old new)).begun) le) ∙ ap (λ l. take n (l ++ next_lines shows cmds (kept_from k (since old new)).begun)) (sym t.1 ∙ sym (ap (due_from shows warns cmds k) cut)), unstarted_in_time shows warns cmds k (since old new) (ap starts cut ∙ turn_starts (take n given) (print_fault e) (fault_starts e)))
 
   -- the first of them
   pub turn_some : (U : Type 0) (e : RunError) (old mid new : List Event) → mid ≡ old ++ Turn 1 ∷ flat_map reported ns → new ≡ mid ++ since mid new → ArePrinted {T = Unit {0}} (owed_from shows warns cmds k.children (flat_map reported ns)) (Err e) (since mid new) → IsPrintError e → IsPrinted {T = U} shows warns cmds k (Err e) (since old new)
   unfolding given
-  turn_some U (HostFault call why) old mid new a b (n, (le, m, s)) h = (n, some_shown n (HostFault call why) old mid new a b le s)
-  turn_some U NoMemory old mid new a b (n, (le, m, s)) h = (n, some_shown n NoMemory old mid new a b le s)
+  turn_some U (HostFault call why) old mid new a b (n, (le, m, s)) h = let q = some_shown n (HostFault call why) old mid new a b le s in ((n, q.0), q.1)
+  turn_some U NoMemory old mid new a b (n, (le, m, s)) h = let q = some_shown n NoMemory old mid new a b le s in ((n, q.0), q.1)
   turn_some U (ToolNotFound n) old mid new a b s h = absurd h
   turn_some U (Failed n s') old mid new a b s h = absurd h
   turn_some U (StartFault n) old mid new a b s h = absurd h
@@ -258,14 +335,21 @@ nothing_since log log' e = ap (since log) (e ∙ sym (append-nil log)) ∙ since
 
 -- no turn was made
 pub unturned_printed : (U : Type 0) (shows : Shows) (warns : Bool) (cmds : List Planned) (k : Kept) (old new : List Event) (e : RunError) → IsUnturned old new e → IsPrinted {T = U} shows warns cmds k (Err e) (since old new)
-unturned_printed U shows warns cmds k old new TurnsSpent h = subst (λ p. printed p ≡ due_from shows warns cmds k p) (sym (nothing_since old new h)) refl
-unturned_printed U shows warns cmds k old new WaitFault (why, h) = subst (λ p. printed p ≡ due_from shows warns cmds k p) (sym (ap (since old) h ∙ since_append old _)) refl
-unturned_printed U shows warns cmds k old new NoMemory h = (0, ap printed (nothing_since old new h))
+unturned_printed U shows warns cmds k old new TurnsSpent h = subst (λ p. (printed p ≡ due_from shows warns cmds k p) × PrintsInTime shows warns cmds k p) (sym (nothing_since old new h)) (refl, unstarted_in_time shows warns cmds k [] refl)
+unturned_printed U shows warns cmds k old new WaitFault (why, h) = subst (λ p. (printed p ≡ due_from shows warns cmds k p) × PrintsInTime shows warns cmds k p) (sym (ap (since old) h ∙ since_append old _)) (refl, unstarted_in_time shows warns cmds k _ refl)
+unturned_printed U shows warns cmds k old new NoMemory h = ((0, ap printed (nothing_since old new h)), unstarted_in_time shows warns cmds k (since old new) (ap starts (nothing_since old new h)))
 unturned_printed U shows warns cmds k old new (HostFault call why) h = absurd h
 unturned_printed U shows warns cmds k old new (ToolNotFound n) h = absurd h
 unturned_printed U shows warns cmds k old new (Failed n s') h = absurd h
 unturned_printed U shows warns cmds k old new (StartFault n) h = absurd h
 unturned_printed U shows warns cmds k old new JobFault h = absurd h
+
+-- nothing was done
+pub nothing_in_time : (shows : Shows) (warns : Bool) (cmds : List Planned) (k : Kept) (log : List Event) → PrintsInTime shows warns cmds k (since log log)
+nothing_in_time shows warns cmds k log = unstarted_in_time shows warns cmds k (since log log) (ap starts (nothing_since log log refl))
+
+pub nothing_printed : (shows : Shows) (warns : Bool) (cmds : List Planned) (k : Kept) (old new : List Event) → new ≡ old → (printed (since old new) ≡ due_from shows warns cmds k (since old new)) × PrintsInTime shows warns cmds k (since old new)
+nothing_printed shows warns cmds k old new e = subst (λ p. (printed p ≡ due_from shows warns cmds k p) × PrintsInTime shows warns cmds k p) (sym (nothing_since old new e)) (refl, unstarted_in_time shows warns cmds k [] refl)
 
 -- the line before the command at a place
 next_at : (shows : Shows) (cmds : List Planned) (i : ℕ) (p : Planned) → i < length cmds → p ≡ get_or cmds i p → next_lines shows cmds i ≡ before shows p
@@ -292,16 +376,32 @@ module _ (shows : Shows) (warns : Bool) (cmds : List Planned) (p : Planned) (hel
       let pr : printed part ≡ begun = ap printed x ∙ flat_map-append printed_of (prints begun) (e ∷ []) ∙ ap (λ l. l ++ printed (e ∷ [])) (prints_printed begun) ∙ ap (λ l. begun ++ (l ++ [])) n ∙ append-nil begun in
       pr ∙ sym (ap (λ l. l ++ next_lines shows cmds (kept_from old part).begun) du ∙ ap (λ q. next_lines shows cmds q.begun) ke ∙ next_at shows cmds old.begun p lt at)
 
-  -- all that it gives
-  pub start_kept : (id : ℕ) → IsStart shows p held old (Ok id) new part → old.begun < length cmds → p ≡ get_or cmds old.begun p → (kept_from old part ≡ new) × (printed part ≡ due_from shows warns cmds old part)
+  start_all : (id : ℕ) → IsStart shows p held old (Ok id) new part → old.begun < length cmds → p ≡ get_or cmds old.begun p → (kept_from old part ≡ new) × (printed part ≡ due_from shows warns cmds old part)
   unfolding begun
-  start_kept id s lt at =
+  start_all id s lt at =
       let e = Started id p.role p.cmd (pipes_of shows) held in (
         ap (kept_from old) s.0 ∙ kept_both old (prints begun) (e ∷ []) ∙ ap (λ q. kept_after q e) (prints_due shows warns cmds old begun).0 ∙ sym s.1,
         ap printed s.0 ∙ flat_map-append printed_of (prints begun) (e ∷ []) ∙ append-nil (printed (prints begun)) ∙ prints_printed begun
             ∙ ap (λ l. announced shows p.cmd ++ l) (sym (compiled_at shows cmds old.begun p lt at))
             ∙ sym (ap (due_from shows warns cmds old) s.0 ∙ due_both shows warns cmds old (prints begun) (e ∷ []) ∙ ap (λ l. l ++ due_from shows warns cmds (kept_from old (prints begun)) (e ∷ [])) (prints_due shows warns cmds old begun).1 ∙ ap (λ q. due_from shows warns cmds q (e ∷ [])) (prints_due shows warns cmds old begun).0 ∙ append-nil (due shows warns cmds old e)),
       )
+
+  -- all that it gives, in time
+  pub start_kept : (id : ℕ) → IsStart shows p held old (Ok id) new part → old.begun < length cmds → p ≡ get_or cmds old.begun p → (kept_from old part ≡ new) × ((printed part ≡ due_from shows warns cmds old part) × PrintsInTime shows warns cmds old part)
+  unfolding begun PrintsInTime
+  start_kept id s lt at = let k = start_all id s lt at in (k.0, (k.1, λ front back id' role cmd pipes held' e. here front back id' role cmd pipes held' k.1 e (cut_in (prints begun) (Started id p.role p.cmd (pipes_of shows) held ∷ []) front back (Started id' role cmd pipes held') (sym s.0 ∙ e))))
+    where
+      only : (x y : Event) (front back : List Event) → x ∷ [] ≡ front ++ y ∷ back → back ≡ []
+      only x y [] back e = cc
+      only x y (z ∷ []) back e = absurd (cc)
+      only x y (z ∷ w ∷ front) back e = absurd (cc)
+
+      here : (front back : List Event) (id' : ℕ) (role : Role) (cmd : CommandSeen) (pipes : Pipes) (held' : ℕ) → printed part ≡ due_from shows warns cmds old part → part ≡ front ++ Started id' role cmd pipes held' ∷ back → ((more : List Event) × (prints begun ≡ front ++ Started id' role cmd pipes held' ∷ more)) ⊎ ((more : List Event) × ((front ≡ prints begun ++ more) × (Started id p.role p.cmd (pipes_of shows) held ∷ [] ≡ more ++ Started id' role cmd pipes held' ∷ back))) → printed front ≡ due_from shows warns cmds old (front ++ Started id' role cmd pipes held' ∷ [])
+      here front back id' role cmd pipes held' d e (inl (more, h)) = absurd (not_there (prints begun) front more id' role cmd pipes held' (prints_starts begun) h)
+      here front back id' role cmd pipes held' d e (inr (more, h)) =
+          let st = Started id' role cmd pipes held' in
+          let last : part ≡ front ++ st ∷ [] = e ∙ ap (λ l. front ++ st ∷ l) (only _ st more back h.1) in
+          sym (flat_map-append printed_of front (st ∷ []) ∙ append-nil (printed front)) ∙ ap printed (sym last) ∙ d ∙ ap (due_from shows warns cmds old) last
 
   -- the first of what comes before it, and then events that give nothing
   first_printed : (n : ℕ) (q : List Event) → printed q ≡ [] → ((k : Kept) → (kept_from k q ≡ k) × (due_from shows warns cmds k q ≡ [])) → part ≡ prints (take n begun) ++ q → old.begun < length cmds → p ≡ get_or cmds old.begun p → printed part ≡ take n (due_next shows warns cmds old part)
@@ -313,17 +413,20 @@ module _ (shows : Shows) (warns : Bool) (cmds : List Planned) (p : Planned) (hel
       let du_next : due_next shows warns cmds old part ≡ begun = ap (λ l. l ++ next_lines shows cmds (kept_from old part).begun) du ∙ ap (λ k. next_lines shows cmds k.begun) ke ∙ next_at shows cmds old.begun p lt at in
       ap printed x ∙ flat_map-append printed_of (prints ls) q ∙ ap (λ l. l ++ printed q) (prints_printed ls) ∙ ap (λ l. ls ++ l) z ∙ append-nil ls ∙ ap (take n) (sym du_next)
 
+  unstarted_all : (U : Type 0) (e : RunError) → IsStart shows p held old (Err e) new part → old.begun < length cmds → p ≡ get_or cmds old.begun p → PrintsAll {T = U} shows warns cmds old (Err e) part
+  unfolding begun
+  unstarted_all U (ToolNotFound n) s lt at = start_lines (Missing p.role p.cmd) refl refl refl s.0 lt at
+  unstarted_all U (StartFault n) (why, s) lt at = start_lines (Fault Start why) refl refl refl s.0 lt at
+  unstarted_all U (HostFault call why) (n, s) lt at = (n, first_printed n (Fault call why ∷ []) refl (λ k. (refl, refl)) s.0 lt at)
+  unstarted_all U NoMemory (n, s) lt at = (n, first_printed n [] refl (λ k. (refl, refl)) (s.0 ∙ sym (append-nil (prints (take n begun)))) lt at)
+  unstarted_all U (Failed n s') s lt at = absurd s
+  unstarted_all U WaitFault s lt at = absurd s
+  unstarted_all U JobFault s lt at = absurd s
+  unstarted_all U TurnsSpent s lt at = absurd s
+
   -- or what comes before it, where it couldn't be started
   pub unstarted_printed : (U : Type 0) (e : RunError) → IsStart shows p held old (Err e) new part → old.begun < length cmds → p ≡ get_or cmds old.begun p → IsPrinted {T = U} shows warns cmds old (Err e) part
-  unfolding begun
-  unstarted_printed U (ToolNotFound n) s lt at = start_lines (Missing p.role p.cmd) refl refl refl s.0 lt at
-  unstarted_printed U (StartFault n) (why, s) lt at = start_lines (Fault Start why) refl refl refl s.0 lt at
-  unstarted_printed U (HostFault call why) (n, s) lt at = (n, first_printed n (Fault call why ∷ []) refl (λ k. (refl, refl)) s.0 lt at)
-  unstarted_printed U NoMemory (n, s) lt at = (n, first_printed n [] refl (λ k. (refl, refl)) (s.0 ∙ sym (append-nil (prints (take n begun)))) lt at)
-  unstarted_printed U (Failed n s') s lt at = absurd s
-  unstarted_printed U WaitFault s lt at = absurd s
-  unstarted_printed U JobFault s lt at = absurd s
-  unstarted_printed U TurnsSpent s lt at = absurd s
+  unstarted_printed U e s lt at = (unstarted_all U e s lt at, unstarted_in_time shows warns cmds old part (unstarted_counts shows p held old new part e s).0)
 
 -- Children that are abandoned give no line.
 module _ (shows : Shows) (warns : Bool) (cmds : List Planned) (k : Kept) (part : List Event) (cs : List (ℕ × ℕ)) where
@@ -336,16 +439,19 @@ module _ (shows : Shows) (warns : Bool) (cmds : List Planned) (k : Kept) (part :
   gone_next : due_next shows warns cmds k (part ++ gone cs) ≡ due_next shows warns cmds k part
   gone_next = ap (λ l. l ++ next_lines shows cmds (kept_from k (part ++ gone cs)).begun) gone_from ∙ ap (λ n. due_from shows warns cmds k part ++ next_lines shows cmds n) (ap (λ q. q.begun) (kept_both k part (gone cs)) ∙ (gone_due shows warns cmds (kept_from k part) cs).0)
 
+  all_gone : {T : Type 0} (result : Result T RunError) → PrintsAll shows warns cmds k result part → PrintsAll shows warns cmds k result (part ++ gone cs)
+  all_gone (Ok x) q = gone_printed ∙ q ∙ sym gone_from
+  all_gone (Err (ToolNotFound n)) q = gone_printed ∙ q ∙ sym gone_next
+  all_gone (Err (StartFault n)) q = gone_printed ∙ q ∙ sym gone_next
+  all_gone (Err (HostFault call why)) (n, q) = (n, gone_printed ∙ q ∙ ap (take n) (sym gone_next))
+  all_gone (Err NoMemory) (n, q) = (n, gone_printed ∙ q ∙ ap (take n) (sym gone_next))
+  all_gone (Err (Failed n s)) q = gone_printed ∙ q ∙ sym gone_from
+  all_gone (Err WaitFault) q = gone_printed ∙ q ∙ sym gone_from
+  all_gone (Err JobFault) q = gone_printed ∙ q ∙ sym gone_from
+  all_gone (Err TurnsSpent) q = gone_printed ∙ q ∙ sym gone_from
+
   pub printed_gone : {T : Type 0} (result : Result T RunError) → IsPrinted shows warns cmds k result part → IsPrinted shows warns cmds k result (part ++ gone cs)
-  printed_gone (Ok x) q = gone_printed ∙ q ∙ sym gone_from
-  printed_gone (Err (ToolNotFound n)) q = gone_printed ∙ q ∙ sym gone_next
-  printed_gone (Err (StartFault n)) q = gone_printed ∙ q ∙ sym gone_next
-  printed_gone (Err (HostFault call why)) (n, q) = (n, gone_printed ∙ q ∙ ap (take n) (sym gone_next))
-  printed_gone (Err NoMemory) (n, q) = (n, gone_printed ∙ q ∙ ap (take n) (sym gone_next))
-  printed_gone (Err (Failed n s)) q = gone_printed ∙ q ∙ sym gone_from
-  printed_gone (Err WaitFault) q = gone_printed ∙ q ∙ sym gone_from
-  printed_gone (Err JobFault) q = gone_printed ∙ q ∙ sym gone_from
-  printed_gone (Err TurnsSpent) q = gone_printed ∙ q ∙ sym gone_from
+  printed_gone result q = (all_gone result q.0, quiet_in_time shows warns cmds k part (gone cs) q.1 (gone_starts cs))
 
 -- behind a part, children were abandoned
 pub printed_dropped : {T : Type 0} (shows : Shows) (warns : Bool) (cmds : List Planned) (k : Kept) (old mid new : List Event) (cs : List (ℕ × ℕ)) (result : Result T RunError) → mid ≡ old ++ since old mid → new ≡ mid ++ gone cs → IsPrinted shows warns cmds k result (since old mid) → IsPrinted shows warns cmds k result (since old new)
@@ -354,7 +460,7 @@ printed_dropped shows warns cmds k old mid new cs result x y q =
     subst (IsPrinted shows warns cmds k result) (sym cut) (printed_gone shows warns cmds k (since old mid) cs result q)
 
 -- an answer by the last failure leaves nothing unprinted
-pub printed_outcome : {T : Type 0} (shows : Shows) (warns : Bool) (cmds : List Planned) (k : Kept) (part : List Event) (failed : Option (ℕ × Status)) (result : Result T RunError) → IsOutcome failed result → printed part ≡ due_from shows warns cmds k part → IsPrinted shows warns cmds k result part
+pub printed_outcome : {T : Type 0} (shows : Shows) (warns : Bool) (cmds : List Planned) (k : Kept) (part : List Event) (failed : Option (ℕ × Status)) (result : Result T RunError) → IsOutcome failed result → (printed part ≡ due_from shows warns cmds k part) × PrintsInTime shows warns cmds k part → IsPrinted shows warns cmds k result part
 printed_outcome shows warns cmds k part failed (Ok x) o q = q
 printed_outcome shows warns cmds k part None (Err e) o q = absurd o
 printed_outcome {T} shows warns cmds k part (Some f) (Err e) o q = subst (λ x. IsPrinted {T = T} shows warns cmds k (Err x) part) (sym o) q

@@ -17,7 +17,7 @@ use Rattle.cc_run.specs.Forwarded.{given_lines, unread_lines, ended_lines, rest_
 use Rattle.cc_run.specs.Hearing.{of_child, heard_at, unread_at, end_lines}
 use Rattle.cc_run.specs.Lines.{whole_lines, last_line}
 use Rattle.cc_run.specs.Messages.{before, compiles, told_lines, failed_told, unread_told}
-use Rattle.cc_run.specs.Printing.{printed, printed_of, kept_after, kept_from, due, due_from, due_next, next_lines, IsPrinted}
+use Rattle.cc_run.specs.Printing.{printed, printed_of, kept_after, kept_from, due, due_from, due_next, next_lines, IsPrinted, PrintsAll}
 use Rattle.cc_run.specs.Said.{said, said_of, told, told_of, SaysNone}
 use Rattle.cc_run.specs.Texts.{announced, cargo_line, stderr_line, debug_line, ended_text, failed_line, unread_text}
 use Rattle.cc_run.specs.declared.error.RunError.{RunError}
@@ -170,7 +170,7 @@ module _ (shows : Shows) (off : shows.listens ≡ false) where
   mute_next : (warns : Bool) (cmds : List Planned) (k : Kept) (es : List Event) → told (due_next shows warns cmds k es) ≡ []
   mute_next warns cmds k es = mute_both (due_from shows warns cmds k es) (next_lines shows cmds (kept_from k es).begun) (mute_from warns cmds k es) (mute_flat (before shows) mute_before (take 1 (drop (kept_from k es).begun cmds)))
 
-  mute_answer : {T : Type 0} (warns : Bool) (cmds : List Planned) (k : Kept) (part : List Event) (result : Result T RunError) → IsPrinted shows warns cmds k result part → told (printed part) ≡ []
+  mute_answer : {T : Type 0} (warns : Bool) (cmds : List Planned) (k : Kept) (part : List Event) (result : Result T RunError) → PrintsAll shows warns cmds k result part → told (printed part) ≡ []
   mute_answer warns cmds k part (Ok x) q = ap told q ∙ mute_from warns cmds k part
   mute_answer warns cmds k part (Err (ToolNotFound n)) q = ap told q ∙ mute_next warns cmds k part
   mute_answer warns cmds k part (Err (StartFault n)) q = ap told q ∙ mute_next warns cmds k part
@@ -183,4 +183,4 @@ module _ (shows : Shows) (off : shows.listens ≡ false) where
 
 -- nothing is said to a host that doesn't listen
 pub says_none : {T : Type 0} (shows : Shows) (warns : Bool) (cmds : List Planned) (k : Kept) (part : List Event) (result : Result T RunError) → IsPrinted shows warns cmds k result part → SaysNone shows part
-says_none shows warns cmds k part result q = λ off. sym (said_is_told part) ∙ mute_answer shows off warns cmds k part result q
+says_none shows warns cmds k part result q = λ off. sym (said_is_told part) ∙ mute_answer shows off warns cmds k part result q.0

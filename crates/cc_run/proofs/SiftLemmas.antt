@@ -17,7 +17,7 @@ use Rattle.cc_host.specs.declared.event.Event.TheVariants.{Started, Ended, Aband
 use Rattle.cc_run.specs.Children.{Kept, run_of, seat, AreBelow}
 use Rattle.cc_run.specs.Lines.{last_line}
 use Rattle.cc_run.specs.Part.{started}
-use Rattle.cc_run.specs.Printing.{printed, kept_after, due, due_from, due_next, lines_along, IsPrinted}
+use Rattle.cc_run.specs.Printing.{printed, kept_after, due, due_from, due_next, lines_along, PrintsAll}
 use Rattle.cc_run.specs.Run.{Run}
 use Rattle.cc_run.specs.Stderr.{IsForwarded}
 use Rattle.cc_run.specs.Forwarded.{given_lines, rest_lines, unread_lines, ended_lines}
@@ -162,7 +162,7 @@ along_due p f shows warns cmds one k (e ∷ es) h lt =
 
 -- What was printed of a kind that no line before a command has, by the answer.
 module _ (p : Notice → Bool) (shows : Shows) (warns : Bool) (cmds : List Planned) (k : Kept) (part : List Event) (wanted : List Notice) where
-  pub sifted : {T : Type 0} → ((m : Message) → p (Told m) ≡ false) → ((cmd : CommandSeen) → filter p (announced shows cmd) ≡ []) → filter p (due_from shows warns cmds k part) ≡ wanted → (result : Result T RunError) → IsPrinted shows warns cmds k result part → IsForwarded result (filter p (printed part)) wanted
+  pub sifted : {T : Type 0} → ((m : Message) → p (Told m) ≡ false) → ((cmd : CommandSeen) → filter p (announced shows cmd) ≡ []) → filter p (due_from shows warns cmds k part) ≡ wanted → (result : Result T RunError) → PrintsAll shows warns cmds k result part → IsForwarded result (filter p (printed part)) wanted
   sifted silent none all result q = by result q
     where
       next : filter p (due_next shows warns cmds k part) ≡ wanted
@@ -171,7 +171,7 @@ module _ (p : Notice → Bool) (shows : Shows) (warns : Bool) (cmds : List Plann
       some : (n : ℕ) → printed part ≡ take n (due_next shows warns cmds k part) → (m : ℕ) × (filter p (printed part) ≡ take m wanted)
       some n e = let f = filter_first p n (due_next shows warns cmds k part) in (f.0, ap (filter p) e ∙ f.1 ∙ ap (take f.0) next)
 
-      by : {T : Type 0} (result : Result T RunError) → IsPrinted shows warns cmds k result part → IsForwarded result (filter p (printed part)) wanted
+      by : {T : Type 0} (result : Result T RunError) → PrintsAll shows warns cmds k result part → IsForwarded result (filter p (printed part)) wanted
       by (Ok x) q = ap (filter p) q ∙ all
       by (Err (ToolNotFound n)) q = ap (filter p) q ∙ next
       by (Err (StartFault n)) q = ap (filter p) q ∙ next

@@ -421,7 +421,7 @@ module _ (shows : Shows) (warns : Bool) (cmds : List Planned) (id : ℕ) where
 -- What was printed of a child that was started, by the answer.
 pub child_printed : {T : Type 0} (shows : Shows) (warns : Bool) (cmds : List Planned) (id : ℕ) (old new : List Event) (result : Result T RunError) → LivesOn old new → Contains (started_ids (since old new)) id → IsPrinted shows warns cmds nothing_kept result (since old new) → 0 + length (started (since old new)) ≤ length cmds → IsForwarded result (stderr_printed id (since old new)) (stderr_given shows id (since old new))
 child_printed shows warns cmds id old new result lives has q few =
-    sifted (is_stderr id) shows warns cmds nothing_kept (since old new) (stderr_given shows id (since old new)) (λ m. refl) (announced_other id shows) (child_given shows warns cmds id nothing_kept (since old new) (part_sound id old new lives has) refl few) result q
+    sifted (is_stderr id) shows warns cmds nothing_kept (since old new) (stderr_given shows id (since old new)) (λ m. refl) (announced_other id shows) (child_given shows warns cmds id nothing_kept (since old new) (part_sound id old new lives has) refl few) result q.0
 
 take_short : {X : Type 0} (n : ℕ) (xs : List X) → length (take n xs) ≤ length xs
 take_short zero xs = omega arith

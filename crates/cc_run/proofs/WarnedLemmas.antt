@@ -120,4 +120,4 @@ warned_due shows warns cmds k (Fault call why) h = refl
 -- those that were printed, by the answer
 pub warned_all : {T : Type 0} (shows : Shows) (warns : Bool) (cmds : List Planned) (part : List Event) (result : Result T RunError) → IsPrinted shows warns cmds nothing_kept result part → 0 + length (started part) ≤ length cmds → IsForwarded result (warnings_printed part) (warnings_from shows warns cmds nothing part)
 warned_all shows warns cmds part result q few =
-    sifted is_warning shows warns cmds nothing_kept part (warnings_from shows warns cmds nothing part) (λ m. refl) (announced_none shows) (along_due is_warning (warning_of shows warns cmds) shows warns cmds (warned_due shows warns cmds) nothing_kept part tt few) result q
+    sifted is_warning shows warns cmds nothing_kept part (warnings_from shows warns cmds nothing part) (λ m. refl) (announced_none shows) (along_due is_warning (warning_of shows warns cmds) shows warns cmds (warned_due shows warns cmds) nothing_kept part tt few) result q.0

@@ -1,8 +1,11 @@
 -- The lines that a run prints and the messages that it says, read from its part.
 use Rattle.std.specs.Prelude.{◌≡◌, ℕ, Bool, List, [], ◌∷◌, ◌++◌, drop, take, map, Result, Ok, Err}
 use Rattle.std.specs.List.{flat_map}
+use Rattle.cc_host.specs.Command.{CommandSeen}
 use Rattle.cc_host.specs.declared.event.Event.{Event}
 use Rattle.cc_host.specs.declared.event.Event.TheVariants.{Started, Heard, Unread, Ended, Abandoned, Printed, Said}
+use Rattle.cc_host.specs.declared.event.Pipes.{Pipes}
+use Rattle.cc_host.specs.declared.event.Role.{Role}
 use Rattle.cc_run.specs.Children.{Kept, seat, without_child}
 use Rattle.cc_run.specs.Forwarded.{fed, emptied}
 use Rattle.cc_run.specs.Hearing.{at_child, owed}
@@ -70,15 +73,28 @@ due_next shows warns cmds kept part = due_from shows warns cmds kept part
 
 -- What was printed and said, by the answer: all that the events give, with what comes before a command that couldn't be
 -- started. Where a line, a message or memory was refused, the first of these.
+abbrev pub PrintsAll : {T : Type 0} → Shows → Bool → List Planned → Kept → Result T RunError → List Event → Type 0
+PrintsAll shows warns cmds kept (Ok _) part = printed part ≡ due_from shows warns cmds kept part
+PrintsAll shows warns cmds kept (Err (ToolNotFound place)) part = printed part ≡ due_next shows warns cmds kept part
+PrintsAll shows warns cmds kept (Err (StartFault place)) part = printed part ≡ due_next shows warns cmds kept part
+PrintsAll shows warns cmds kept (Err (HostFault call why)) part = (count : ℕ)
+    × (printed part ≡ take count (due_next shows warns cmds kept part))
+PrintsAll shows warns cmds kept (Err NoMemory) part = (count : ℕ)
+    × (printed part ≡ take count (due_next shows warns cmds kept part))
+PrintsAll shows warns cmds kept (Err _) part = printed part ≡ due_from shows warns cmds kept part
+
+-- At each start of the part, all that the events before it give was printed and said, and what comes before its command:
+-- so between two starts stands the message that the second one's command compiles, once.
+unfoldable pub PrintsInTime : Shows → Bool → List Planned → Kept → List Event → Type 0
+PrintsInTime shows warns cmds kept part =
+    (front back : List Event) (id : ℕ) (role : Role) (cmd : CommandSeen) (pipes : Pipes) (held : ℕ)
+    → part ≡ front ++ Started id role cmd pipes held ∷ back
+    → printed front ≡ due_from shows warns cmds kept (front ++ Started id role cmd pipes held ∷ [])
+
+-- both: what was printed and said, and when
 abbrev pub IsPrinted : {T : Type 0} → Shows → Bool → List Planned → Kept → Result T RunError → List Event → Type 0
-IsPrinted shows warns cmds kept (Ok _) part = printed part ≡ due_from shows warns cmds kept part
-IsPrinted shows warns cmds kept (Err (ToolNotFound place)) part = printed part ≡ due_next shows warns cmds kept part
-IsPrinted shows warns cmds kept (Err (StartFault place)) part = printed part ≡ due_next shows warns cmds kept part
-IsPrinted shows warns cmds kept (Err (HostFault call why)) part = (count : ℕ)
-    × (printed part ≡ take count (due_next shows warns cmds kept part))
-IsPrinted shows warns cmds kept (Err NoMemory) part = (count : ℕ)
-    × (printed part ≡ take count (due_next shows warns cmds kept part))
-IsPrinted shows warns cmds kept (Err _) part = printed part ≡ due_from shows warns cmds kept part
+IsPrinted shows warns cmds kept result part =
+    PrintsAll shows warns cmds kept result part × PrintsInTime shows warns cmds kept part
 
 -- the same of starts, whether or not a failure is warned of
 abbrev pub PrintsStarts : {T : Type 0} → Shows → List Planned → Kept → Result T RunError → List Event → Type 0

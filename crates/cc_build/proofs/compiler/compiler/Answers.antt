@@ -1,6 +1,6 @@
 use Rattle.std.proofs.Common.{Ok, Err, sym, arith}
 use Rattle.cc_tool.specs.Tool.{ToolSeen}
-use Rattle.cc_plan.specs.Plan.{tool_lines}
+use Rattle.cc_plan.specs.Plan.{tool_warnings}
 use Rattle.cc_plan.specs.Refusal.{tool_refusal}
 use Rattle.cc_build.specs.Compiler.{tool_error, tool_steps}
 use Rattle.cc_build.proofs.Outcomes.{made_or_memory}
@@ -24,8 +24,8 @@ returns-in-Ok-clause-outcome g c =
     (λ look agree. (
       c.tool_of.ensures.asks.holds.warns_of_link,
       then_outcome _ _ _ _ _ _ _ _ _ _ c.tool_of.ensures.asks (grind arith) c.requires.fresh c.tool_of.ensures.asks.holds.silent
-          (tool_error c.args.task.now.set.now c.args.task.now.env.now look) (tool_steps c.args.task.now.set.now c.args.task.now.env.now c.tool_of.ensures.asks.holds.warns_of_link look) (Ok c.in-Ok.tool)
-          (planned_outcome c.tool_of.new.sight.answers.now (tool_lines c.args.task.now.set.now c.args.task.now.env.now) (tool_refusal c.args.task.now.set.now c.args.task.now.env.now) c.args.task.now.set.now c.args.task.now.env.now c.tool_of.ensures.asks.rest c.tool_of.result c.in-Ok.tool c.in-Ok.tool look agree c.in-Ok.is c.tool_of.ensures.asks.holds c.in-Ok.ensures.allowed),
+          (tool_error c.args.task.now.set.now c.args.task.now.env.now look) (tool_steps c.args.task.now.set.now c.args.task.now.env.now (g.H.Host.listens c.args.host.now) c.tool_of.ensures.asks.holds.warns_of_link look) (Ok c.in-Ok.tool)
+          (planned_outcome c.tool_of.new.sight.answers.now (tool_warnings c.args.task.now.set.now c.args.task.now.env.now (g.H.Host.listens c.args.host.now)) (tool_refusal c.args.task.now.set.now c.args.task.now.env.now) c.args.task.now.set.now c.args.task.now.env.now c.tool_of.ensures.asks.rest c.tool_of.result c.in-Ok.tool c.in-Ok.tool look agree c.in-Ok.is c.tool_of.ensures.asks.holds c.in-Ok.ensures.allowed),
     ))
 
 pub returns-in-Err-clause-extends : goal.returns-in-Err-clause-extends
@@ -43,8 +43,8 @@ returns-in-Err-clause-outcome g c =
     (λ look agree. (
       c.tool_of.ensures.asks.holds.warns_of_link,
       then_outcome _ _ _ _ _ _ _ _ _ _ c.tool_of.ensures.asks (grind arith) c.requires.fresh c.tool_of.ensures.asks.holds.silent {T = ToolSeen}
-          (tool_error c.args.task.now.set.now c.args.task.now.env.now look) (tool_steps c.args.task.now.set.now c.args.task.now.env.now c.tool_of.ensures.asks.holds.warns_of_link look) (Err c.or_no_memory.result)
-          (unplanned_outcome ToolSeen c.tool_of.new.sight.answers.now (tool_lines c.args.task.now.set.now c.args.task.now.env.now) (tool_refusal c.args.task.now.set.now c.args.task.now.env.now) c.args.task.now.set.now c.args.task.now.env.now c.tool_of.ensures.asks.rest c.tool_of.result c.in-Err.error c.or_no_memory.result look agree c.in-Err.is c.tool_of.ensures.asks.holds c.in-Err.ensures.refused
+          (tool_error c.args.task.now.set.now c.args.task.now.env.now look) (tool_steps c.args.task.now.set.now c.args.task.now.env.now (g.H.Host.listens c.args.host.now) c.tool_of.ensures.asks.holds.warns_of_link look) (Err c.or_no_memory.result)
+          (unplanned_outcome ToolSeen c.tool_of.new.sight.answers.now (tool_warnings c.args.task.now.set.now c.args.task.now.env.now (g.H.Host.listens c.args.host.now)) (tool_refusal c.args.task.now.set.now c.args.task.now.env.now) c.args.task.now.set.now c.args.task.now.env.now c.tool_of.ensures.asks.rest c.tool_of.result c.in-Err.error c.or_no_memory.result look agree c.in-Err.is c.tool_of.ensures.asks.holds c.in-Err.ensures.refused
           (made_or_memory c.plan_error.result c.or_no_memory.result _ c.or_no_memory.ensures c.plan_error.ensures)),
     ))
 

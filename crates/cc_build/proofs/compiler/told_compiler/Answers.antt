@@ -20,7 +20,7 @@ returns-in_err-tool-clause-outcome g c =
     let set = c.args.task.now.set.now in
     let env = c.args.task.now.env.now in
     let e = c.in_err-tool.field-0.0 in
-    rw (p.1, p.2) (record { under = λ look agree. let f = c.in_err-tool.ensures.outcome.under look agree in (f.0, refused_told compiler_reads set env look (tool_error set env look) (tool_steps set env f.0 look) ToolSeen e part f.1) })
+    rw (p.1, p.2) (record { under = λ look agree. let f = c.in_err-tool.ensures.outcome.under look agree in (f.0, refused_told compiler_reads set env look (tool_error set env look) (tool_steps set env (g.H.Host.listens c.args.host.now) f.0 look) ToolSeen e part f.1) })
 
 pub returns-in_err-tell-clause-extends : goal.returns-in_err-tell-clause-extends
 returns-in_err-tell-clause-extends g c = since_extends (g.H.Host.log c.args.host.now) (g.H.Host.log c.compiler.new.host) (g.H.Host.log c.tell.new.host) c.compiler.ensures.extends c.tell.ensures.asks.extends
@@ -54,7 +54,7 @@ returns-in_err-tell-clause-outcome g c =
     rw (p.1, p.2)
     (told_holds _ _ (probe_folder set env) (PlanAsks set env) (NameAsks compiler_reads set env) (names_in_plan set env) old mid new c.compiler.new.known c.tell.new.answers c.compiler.ensures.extends c.tell.ensures.asks.extends c.compiler.ensures.asked c.compiler.ensures.answered c.tell.ensures.asks.asks
     c.in_ok-tool.ensures.outcome c.in_err-tell.ensures.told
-    (λ look f h. (f.0, does_told compiler_reads set env look (tool_error set env look) (tool_steps set env f.0 look) {T = ToolSeen} c.in_ok-tool.tool (Err c.in_err-tell.field-0.0) old mid new c.compiler.ensures.extends c.tell.ensures.asks.extends f.1 h)))
+    (λ look f h. (f.0, does_told compiler_reads set env look (tool_error set env look) (tool_steps set env (g.H.Host.listens c.args.host.now) f.0 look) {T = ToolSeen} c.in_ok-tool.tool (Err c.in_err-tell.field-0.0) old mid new c.compiler.ensures.extends c.tell.ensures.asks.extends f.1 h)))
 
 pub returns-clause-extends : goal.returns-clause-extends
 returns-clause-extends g c = since_extends (g.H.Host.log c.args.host.now) (g.H.Host.log c.compiler.new.host) (g.H.Host.log c.tell.new.host) c.compiler.ensures.extends c.tell.ensures.asks.extends
@@ -86,7 +86,7 @@ returns-clause-outcome g c =
     let env = c.args.task.now.env.now in
     told_holds _ _ (probe_folder set env) (PlanAsks set env) (NameAsks compiler_reads set env) (names_in_plan set env) old mid new c.compiler.new.known c.tell.new.answers c.compiler.ensures.extends c.tell.ensures.asks.extends c.compiler.ensures.asked c.compiler.ensures.answered c.tell.ensures.asks.asks
     c.in_ok-tool.ensures.outcome c.in_ok-tell.ensures.told
-    (λ look f h. (f.0, does_told compiler_reads set env look (tool_error set env look) (tool_steps set env f.0 look) c.in_ok-tool.tool (Ok c.in_ok-tool.tool) old mid new c.compiler.ensures.extends c.tell.ensures.asks.extends f.1 h))
+    (λ look f h. (f.0, does_told compiler_reads set env look (tool_error set env look) (tool_steps set env (g.H.Host.listens c.args.host.now) f.0 look) c.in_ok-tool.tool (Ok c.in_ok-tool.tool) old mid new c.compiler.ensures.extends c.tell.ensures.asks.extends f.1 h))
 
 pub returns-clause-tool : goal.returns-clause-tool
 returns-clause-tool g c =

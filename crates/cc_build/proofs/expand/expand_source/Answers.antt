@@ -17,7 +17,7 @@ returns-in_err-check_expand-clause-outcome g c =
     let p = err_from_is_err_and c.from_residual.result c.from_residual.ensures.1 in
     let b = build_in c.args.task.now.set.now c.args.task.now.env.now in
     let e = c.in_err-check_expand.field-0.0 in
-    rw (p.1, p.2) (unexpanded b (answers (since old old)) (since old old) e (since_none old) c.in_err-check_expand.ensures.refused)
+    rw (p.1, p.2) (unexpanded b (g.H.Host.listens c.args.host.now) (answers (since old old)) (since old old) e (since_none old) c.in_err-check_expand.ensures.refused)
 
 pub returns-in_err-check_expand-clause-asked : goal.returns-in_err-check_expand-clause-asked
 returns-in_err-check_expand-clause-asked g c =
@@ -33,7 +33,7 @@ returns-in_err-tool-clause-outcome g c =
     let p = err_from_is_err_and c.from_residual-in_err-tool.result c.from_residual-in_err-tool.ensures.1 in
     let b = build_in c.args.task.now.set.now c.args.task.now.env.now in
     let e = c.in_err-tool.field-0.0 in
-    rw (p.1, p.2) (no_tool b c.in_ok-check_expand.ensures.allowed part e c.in_err-tool.ensures.outcome)
+    rw (p.1, p.2) (no_tool b (g.H.Host.listens c.args.host.now) c.in_ok-check_expand.ensures.allowed part e c.in_err-tool.ensures.outcome)
 
 pub returns-clause-answered : goal.returns-clause-answered
 returns-clause-answered g c =
@@ -46,7 +46,7 @@ returns-clause-outcome g c =
     let new = g.H.Host.log c.expand_by.new.host in
     let b = build_in c.args.task.now.set.now c.args.task.now.env.now in
     let tool = c.in_ok-tool.tool in
-    ran_tool b c.in_ok-check_expand.ensures.allowed old mid new tool c.expand_by.result c.compiler.ensures.extends c.expand_by.ensures.aside.extends c.in_ok-tool.ensures.tool c.in_ok-tool.ensures.outcome
+    ran_tool b (g.H.Host.listens c.args.host.now) c.in_ok-check_expand.ensures.allowed old mid new tool c.expand_by.result c.compiler.ensures.extends c.expand_by.ensures.aside.extends c.in_ok-tool.ensures.tool c.in_ok-tool.ensures.outcome
     (subst (λ (s : Shows). Gives s (expansion b.config tool) (ignored_line tool.family (source_of b.config)) c.expand_by.result (since mid new)) c.requires.shows c.expand_by.ensures.outcome)
 
 pub returns-clause-asked : goal.returns-clause-asked

@@ -1,7 +1,8 @@
 use Rattle.std.proofs.Common.{Bool, [], Err, sym, ap, ◌∙◌, arith}
 use Rattle.std.specs.Option.{option_map}
 use Rattle.cc_host.specs.Question.{is_yes}
-use Rattle.cc_plan.specs.FlagSupport.{support_lines, support_refusal, flag_verdict, path_of}
+use Rattle.cc_plan.specs.Plan.{warned_steps}
+use Rattle.cc_plan.specs.FlagSupport.{support_warnings, support_refusal, flag_verdict, path_of}
 use Rattle.cc_plan.proofs.ResultLemmas.{ok_so}
 use Rattle.cc_build.specs.FlagSupport.{support_error, support_steps, verdict_error}
 use Rattle.cc_build.specs.Refusal.{plan_error}
@@ -35,8 +36,8 @@ returns-in-Ok-clause-outcome g c =
     let same_path = ap (λ k. k.choice.path) (c.in-Ok.ensures.compiler.is look agree) in
     let same = c.in-Ok.ensures.verdict.is look agree in
     then_outcome _ _ _ _ _ _ _ _ _ _ c.flag_support.ensures.asks (grind arith) c.requires.fresh c.flag_support.ensures.asks.holds.silent
-    (support_error c.args.task.now.set.now c.args.task.now.env.now c.args.flag.now look) (support_steps c.args.task.now.set.now c.args.task.now.env.now look) c.verdict_answer.result
-    (answered_outcome c.flag_support.new.sight.answers.now (λ _. support_lines c.args.task.now.set.now c.args.task.now.env.now) (support_refusal c.args.task.now.set.now c.args.task.now.env.now c.args.flag.now) c.args.task.now.set.now c.args.task.now.env.now c.flag_support.ensures.asks.rest c.flag_support.result c.in-Ok.support (verdict_error path verdict) c.verdict_answer.result look agree c.in-Ok.is c.flag_support.ensures.asks.holds c.in-Ok.ensures.allowed
+    (support_error c.args.task.now.set.now c.args.task.now.env.now c.args.flag.now look) (support_steps c.args.task.now.set.now c.args.task.now.env.now (g.H.Host.listens c.args.host.now) look) c.verdict_answer.result
+    (answered_outcome c.flag_support.new.sight.answers.now (λ _ look'. warned_steps c.args.task.now.set.now (g.H.Host.listens c.args.host.now) (support_warnings c.args.task.now.set.now c.args.task.now.env.now look')) (support_refusal c.args.task.now.set.now c.args.task.now.env.now c.args.flag.now) c.args.task.now.set.now c.args.task.now.env.now c.flag_support.ensures.asks.rest c.flag_support.result c.in-Ok.support (verdict_error path verdict) c.verdict_answer.result look agree c.in-Ok.is c.flag_support.ensures.asks.holds c.in-Ok.ensures.allowed
     (tried_so c.in-Ok.support.compiler.choice.path path c.in-Ok.support.verdict verdict c.verdict_answer.result same_path same c.verdict_answer.ensures.tried)
     (untried_so c.in-Ok.support.compiler.choice.path path c.in-Ok.support.verdict verdict c.verdict_answer.result same_path same c.verdict_answer.ensures.untried))))
 
@@ -55,9 +56,9 @@ returns-in-Err-clause-outcome g c =
     (λ look agree.
     let error = verdict_error (path_of c.args.task.now.set.now c.args.task.now.env.now look) (flag_verdict c.args.task.now.set.now c.args.task.now.env.now c.args.flag.now look) in
     then_outcome _ _ _ _ _ _ _ _ _ _ c.flag_support.ensures.asks (grind arith) c.requires.fresh c.flag_support.ensures.asks.holds.silent {T = Bool}
-    (support_error c.args.task.now.set.now c.args.task.now.env.now c.args.flag.now look) (support_steps c.args.task.now.set.now c.args.task.now.env.now look) (Err c.or_no_memory.result)
-    (unanswered Bool (option_map (plan_error c.args.task.now.set.now c.args.task.now.env.now []) (support_refusal c.args.task.now.set.now c.args.task.now.env.now c.args.flag.now look)) error (support_steps c.args.task.now.set.now c.args.task.now.env.now look) c.flag_support.ensures.asks.rest c.or_no_memory.result
-    (unplanned_outcome Bool c.flag_support.new.sight.answers.now (λ _. support_lines c.args.task.now.set.now c.args.task.now.env.now) (support_refusal c.args.task.now.set.now c.args.task.now.env.now c.args.flag.now) c.args.task.now.set.now c.args.task.now.env.now c.flag_support.ensures.asks.rest c.flag_support.result c.in-Err.error c.or_no_memory.result look agree c.in-Err.is c.flag_support.ensures.asks.holds c.in-Err.ensures.refused
+    (support_error c.args.task.now.set.now c.args.task.now.env.now c.args.flag.now look) (support_steps c.args.task.now.set.now c.args.task.now.env.now (g.H.Host.listens c.args.host.now) look) (Err c.or_no_memory.result)
+    (unanswered Bool (option_map (plan_error c.args.task.now.set.now c.args.task.now.env.now []) (support_refusal c.args.task.now.set.now c.args.task.now.env.now c.args.flag.now look)) error (support_steps c.args.task.now.set.now c.args.task.now.env.now (g.H.Host.listens c.args.host.now) look) c.flag_support.ensures.asks.rest c.or_no_memory.result
+    (unplanned_outcome Bool c.flag_support.new.sight.answers.now (λ _ look'. warned_steps c.args.task.now.set.now (g.H.Host.listens c.args.host.now) (support_warnings c.args.task.now.set.now c.args.task.now.env.now look')) (support_refusal c.args.task.now.set.now c.args.task.now.env.now c.args.flag.now) c.args.task.now.set.now c.args.task.now.env.now c.flag_support.ensures.asks.rest c.flag_support.result c.in-Err.error c.or_no_memory.result look agree c.in-Err.is c.flag_support.ensures.asks.holds c.in-Err.ensures.refused
     (made_or_memory c.plan_error.result c.or_no_memory.result _ c.or_no_memory.ensures c.plan_error.ensures)))))
 
 pub returns-in-Ok-clause-answered : goal.returns-in-Ok-clause-answered

@@ -19,7 +19,7 @@ returns-in_err-answer-clause-outcome g c =
     let set = c.args.task.now.set.now in
     let env = c.args.task.now.env.now in
     let e = c.in_err-answer.field-0.0 in
-    rw (p.1, p.2) (record { under = λ look agree. refused_told flag_reads set env look (support_error set env c.args.flag.now look) (support_steps set env look) Bool e part (c.in_err-answer.ensures.outcome.under look agree) })
+    rw (p.1, p.2) (record { under = λ look agree. refused_told flag_reads set env look (support_error set env c.args.flag.now look) (support_steps set env (g.H.Host.listens c.args.host.now) look) Bool e part (c.in_err-answer.ensures.outcome.under look agree) })
 
 pub returns-in_err-tell-clause-extends : goal.returns-in_err-tell-clause-extends
 returns-in_err-tell-clause-extends g c = since_extends (g.H.Host.log c.args.host.now) (g.H.Host.log c.support.new.host) (g.H.Host.log c.tell.new.host) c.support.ensures.extends c.tell.ensures.asks.extends
@@ -53,7 +53,7 @@ returns-in_err-tell-clause-outcome g c =
     rw (p.1, p.2)
     (told_holds _ _ (probe_folder set env) (SupportAsks set env c.args.flag.now) (NameAsks flag_reads set env) (names_in_support set env c.args.flag.now) old mid new c.support.new.known c.tell.new.answers c.support.ensures.extends c.tell.ensures.asks.extends c.support.ensures.asked c.support.ensures.answered c.tell.ensures.asks.asks
     c.in_ok-answer.ensures.outcome c.in_err-tell.ensures.told
-    (λ look f h. does_told flag_reads set env look (support_error set env c.args.flag.now look) (support_steps set env look) {T = Bool} c.in_ok-answer.answer (Err c.in_err-tell.field-0.0) old mid new c.support.ensures.extends c.tell.ensures.asks.extends f h))
+    (λ look f h. does_told flag_reads set env look (support_error set env c.args.flag.now look) (support_steps set env (g.H.Host.listens c.args.host.now) look) {T = Bool} c.in_ok-answer.answer (Err c.in_err-tell.field-0.0) old mid new c.support.ensures.extends c.tell.ensures.asks.extends f h))
 
 pub returns-clause-extends : goal.returns-clause-extends
 returns-clause-extends g c = since_extends (g.H.Host.log c.args.host.now) (g.H.Host.log c.support.new.host) (g.H.Host.log c.tell.new.host) c.support.ensures.extends c.tell.ensures.asks.extends
@@ -85,7 +85,7 @@ returns-clause-outcome g c =
     let env = c.args.task.now.env.now in
     told_holds _ _ (probe_folder set env) (SupportAsks set env c.args.flag.now) (NameAsks flag_reads set env) (names_in_support set env c.args.flag.now) old mid new c.support.new.known c.tell.new.answers c.support.ensures.extends c.tell.ensures.asks.extends c.support.ensures.asked c.support.ensures.answered c.tell.ensures.asks.asks
     c.in_ok-answer.ensures.outcome c.in_ok-tell.ensures.told
-    (λ look f h. does_told flag_reads set env look (support_error set env c.args.flag.now look) (support_steps set env look) c.in_ok-answer.answer (Ok c.in_ok-answer.answer) old mid new c.support.ensures.extends c.tell.ensures.asks.extends f h)
+    (λ look f h. does_told flag_reads set env look (support_error set env c.args.flag.now look) (support_steps set env (g.H.Host.listens c.args.host.now) look) c.in_ok-answer.answer (Ok c.in_ok-answer.answer) old mid new c.support.ensures.extends c.tell.ensures.asks.extends f h)
 
 pub returns-clause-supported : goal.returns-clause-supported
 returns-clause-supported g c =

@@ -1,7 +1,6 @@
-use Rattle.std.proofs.Common.{rules, ◌≡◌, ◌∙◌, Err, false, sym, ap}
+use Rattle.std.proofs.Common.{rules, ◌≡◌, ◌∙◌, Err, false, sym, ap₂}
 use Rattle.cc_tool.proofs.SettleLemmas.{settles_so}
-use Rattle.cc_plan.specs.Plan.{wanted_lines}
-use Rattle.cc_plan.specs.declared.error.PlanError.TheVariants.{NoMemory as WantsMemory}
+use Rattle.cc_plan.specs.Plan.{warned_steps}
 use Rattle.cc_plan.proofs.WarnLemmas.{warns_refused, warns_printed}
 use Rattle.cc_plan.proofs.flag_verdict.flag_support.Goals as goal
 
@@ -10,13 +9,8 @@ returns-in_err-support-clause-asks g c =
     let r : c.from_residual.result ≡ Err c.in_err-support.field-0.0 = search rules in
     warns_refused c.from_residual.result c.in_err-support.field-0.0 r c.in_err-support.ensures.own c.plan_support.ensures.asks.asks c.plan_support.ensures.asks.own
 
-pub returns-in_err-lines-clause-asks : goal.returns-in_err-lines-clause-asks
-returns-in_err-lines-clause-asks g c =
-    let r : c.from_residual-in_err-lines.result ≡ Err WantsMemory = search rules in
-    warns_refused c.from_residual-in_err-lines.result WantsMemory r tt c.plan_support.ensures.asks.asks c.plan_support.ensures.asks.own
-
-pub returns-in_err-print_warnings-clause-asks : goal.returns-in_err-print_warnings-clause-asks
-returns-in_err-print_warnings-clause-asks g c =
-    let r : c.from_residual-in_err-print_warnings.result ≡ Err c.in_err-print_warnings.field-0.0 = search rules in
-    rw r (warns_printed false c.in_ok-lines.lines _ c.plan_support.ensures.asks.asks c.plan_support.ensures.asks.own c.print_warnings.ensures.extends
-    (settles_so c.in_ok-support.ensures.warnings (λ look a. ap (wanted_lines c.args.set.now) a ∙ sym c.in_ok-lines.ensures)) c.in_err-print_warnings.ensures.prints c.print_warnings.ensures.silent c.print_warnings.ensures.childless)
+pub returns-in_err-warn_of-clause-asks : goal.returns-in_err-warn_of-clause-asks
+returns-in_err-warn_of-clause-asks g c =
+    let r : c.from_residual-in_err-warn_of.result ≡ Err c.in_err-warn_of.field-0.0 = search rules in
+    rw r (warns_printed false _ _ c.plan_support.ensures.asks.asks c.plan_support.ensures.asks.own c.warn_of.ensures.extends
+    (settles_so c.in_ok-support.ensures.warnings (λ look a. ap₂ (warned_steps c.args.set.now) (sym c.listens-listens.ensures) a)) c.in_err-warn_of.ensures.warned c.warn_of.ensures.silent c.warn_of.ensures.childless)

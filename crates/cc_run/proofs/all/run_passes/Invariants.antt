@@ -10,7 +10,7 @@ use Rattle.cc_run.specs.Part.{Goes}
 use Rattle.cc_run.specs.Paid.{PaidAnd}
 use Rattle.cc_run.specs.Patience.{Lasts}
 use Rattle.cc_run.specs.Planned.{asked}
-use Rattle.cc_run.specs.Printing.{printed, kept_from, due_from}
+use Rattle.cc_run.specs.Printing.{printed, kept_from, due_from, PrintsInTime}
 use Rattle.cc_run.proofs.all.run_passes.Given as goal
 
 abbrev pub invariant-passes : goal.invariant-passes
@@ -30,7 +30,7 @@ invariant-passes g l =
       turns : TurnsMade l.fn.turns l.turns part;
       own : list_all is_of_run part ≡ true;
       kept : kept_from l.fn.running part ≡ l.running;
-      lines : printed part ≡ due_from l.batch.shows.now l.batch.warns l.batch.cmds.now l.fn.running part;
+      lines : (printed part ≡ due_from l.batch.shows.now l.batch.warns l.batch.cmds.now l.fn.running part) × PrintsInTime l.batch.shows.now l.batch.warns l.batch.cmds.now l.fn.running part;
     }
 
 abbrev pub decreases-passes : goal.decreases-passes

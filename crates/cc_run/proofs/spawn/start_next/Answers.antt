@@ -1,9 +1,9 @@
-use Rattle.std.proofs.Common.{◌≡◌, ◌+◌, get_or, length, arith, Ok, Err, ap, sym, ◌∙◌, inr, true}
+use Rattle.std.proofs.Common.{◌≡◌, ◌+◌, get_or, length, arith, Ok, Err, ap, sym, ◌∙◌, inr, refl, true}
 use Rattle.std.proofs.lemmas.Grind.{common_steps}
 use Rattle.cc_jobs.specs.Seats.{stands}
 use Rattle.cc_host.specs.Part.{since}
 use Rattle.cc_run.proofs.Payments.{paid_start, paid_idle}
-use Rattle.cc_run.proofs.PrintingLemmas.{start_kept, unstarted_printed}
+use Rattle.cc_run.proofs.PrintingLemmas.{nothing_printed, start_kept, unstarted_printed}
 use Rattle.cc_run.specs.declared.error.Step.{Step}
 use Rattle.cc_run.proofs.StartLemmas.{start_goes, unstarted_goes, start_named, unstarted_named, start_turns, start_counts, unstarted_counts, unstarted_ends, unstarted_same, unstarted_error, most_of}
 use Rattle.cc_run.proofs.OwnLemmas.{own_start}
@@ -59,6 +59,12 @@ pub returns-in-Ok-clause-kept : goal.returns-in-Ok-clause-kept
 returns-in-Ok-clause-kept g c =
     let at : c.index-cmds-running.result ≡ get_or c.args.cmds.now c.args.running.now.begun c.index-cmds-running.result = grind (arith, common_steps) in
     (start_kept c.args.shows.now true c.args.cmds.now c.index-cmds-running.result c.held-held.result c.args.running.now c.start.new.running (since (g.H.Host.log c.args.host.now) (g.H.Host.log c.start.new.host)) c.in-Ok.field-0 c.in-Ok.ensures.part c.requires.next at).0
+
+pub returns-in-Ok-Pending-clause-lines : goal.returns-in-Ok-Pending-clause-lines
+returns-in-Ok-Pending-clause-lines g c = λ warns. nothing_printed c.args.shows.now warns c.args.cmds.now c.args.running.now (g.H.Host.log c.args.host.now) (g.H.Host.log c.args.host.now) refl
+
+pub returns-in-Err-clause-lines : goal.returns-in-Err-clause-lines
+returns-in-Err-clause-lines g c = λ warns. nothing_printed c.args.shows.now warns c.args.cmds.now c.args.running.now (g.H.Host.log c.args.host.now) (g.H.Host.log c.args.host.now) refl
 
 pub returns-in-Ok-clause-lines : goal.returns-in-Ok-clause-lines
 returns-in-Ok-clause-lines g c =

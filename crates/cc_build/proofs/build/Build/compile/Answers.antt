@@ -1,4 +1,4 @@
-use Rattle.std.proofs.Common.{◌≡◌, ℕ, List, [], Err, refl, sym, ap, subst}
+use Rattle.std.proofs.Common.{◌∙◌, ◌≡◌, ℕ, List, [], Err, refl, sym, ap, subst}
 use Rattle.std.proofs.lemmas.Result.{err_from_is_err_and}
 use Rattle.cc_host.specs.Part.{since}
 use Rattle.cc_host.specs.Question.{Answer, Agrees, answers, Holds}
@@ -28,11 +28,11 @@ returns-in-Err-clause-outcome g c =
     let taken = g.J.Jobs.taken c.args.seat.now in
     let load = g.J.Jobs.load c.args.seat.now in
     let x = means c.args.goal.turns faults taken load in
-    subst (λ (b : BuildSeen). Holds (answers (since old old)) (λ look. (left : ℕ) × RunEnds {T = Unit {0}} b c.args.goal.output.now (Err c.or_no_memory.result) look (since old old) (course total patience x (means left faults taken load)))) c.self.view_is
+    subst (λ (b : BuildSeen). Holds (answers (since old old)) (λ look. (left : ℕ) × RunEnds {T = Unit {0}} b (g.H.Host.listens c.args.host.now) c.args.goal.output.now (Err c.or_no_memory.result) look (since old old) (course total patience x (means left faults taken load)))) c.self.view_is
     (record {
       under = λ look agree. (
         c.args.goal.turns,
-        run_unchecked c.self.inside.config c.self.inside.env look c.args.goal.output.now total patience (since old old) c.or_no_memory.result x c.in-Err.error (since_none old)
+        run_unchecked c.self.inside.config c.self.inside.env (g.H.Host.listens c.args.host.now) look c.args.goal.output.now total patience (since old old) c.or_no_memory.result x c.in-Err.error (since_none old)
             (made_or_memory c.plan_error.result c.or_no_memory.result _ c.or_no_memory.ensures c.plan_error.ensures) c.in-Err.ensures.refused,
       );
     })
@@ -52,12 +52,12 @@ returns-in_err-prepare_folder-clause-outcome g c =
     let x = means c.args.goal.turns faults taken load in
     let e = c.in_err-prepare_folder.field-0.0 in
     rw (p.1, p.2)
-    (subst (λ (b : BuildSeen). Holds (answers part) (λ look. (left : ℕ) × RunEnds {T = Unit {0}} b c.args.goal.output.now (Err e) look part (course total patience x (means left faults taken load)))) c.self.view_is
+    (subst (λ (b : BuildSeen). Holds (answers part) (λ look. (left : ℕ) × RunEnds {T = Unit {0}} b (g.H.Host.listens c.args.host.now) c.args.goal.output.now (Err e) look part (course total patience x (means left faults taken load)))) c.self.view_is
     (record {
       under = λ look agree. (
         c.args.goal.turns,
-        run_unfoldered c.self.inside.config c.self.inside.env look c.args.goal.output.now total patience part e x c.in-Ok.ensures.allowed
-            (c.in_err-prepare_folder.ensures.outcome (terms (shows_of c.self.inside.config c.self.inside.env) total patience) x),
+        run_unfoldered c.self.inside.config c.self.inside.env (g.H.Host.listens c.args.host.now) look c.args.goal.output.now total patience part e x c.in-Ok.ensures.allowed
+            (c.in_err-prepare_folder.ensures.outcome (terms (shows_of c.self.inside.config c.self.inside.env (g.H.Host.listens c.args.host.now)) total patience) x),
       );
     }))
 
@@ -75,12 +75,12 @@ returns-then-is_disabled-clause-outcome g c =
     let load = g.J.Jobs.load c.args.seat.now in
     let x = means c.args.goal.turns faults taken load in
     let e = c.or_no_memory-then-is_disabled.result in
-    subst (λ (b : BuildSeen). Holds (answers (since old made)) (λ look. (left : ℕ) × RunEnds {T = Unit {0}} b c.args.goal.output.now (Err e) look (since old made) (course total patience x (means left faults taken load)))) c.self.view_is
+    subst (λ (b : BuildSeen). Holds (answers (since old made)) (λ look. (left : ℕ) × RunEnds {T = Unit {0}} b (g.H.Host.listens c.args.host.now) c.args.goal.output.now (Err e) look (since old made) (course total patience x (means left faults taken load)))) c.self.view_is
     (record {
       under = λ look agree. (
         c.args.goal.turns,
-        run_disabled c.self.inside.config c.self.inside.env look c.args.goal.output.now total patience c.in-Ok.ensures.allowed old made x c.prepare_folder.ensures.aside.extends
-            (c.in_ok-prepare_folder.ensures.outcome (terms (shows_of c.self.inside.config c.self.inside.env) total patience) x).1
+        run_disabled c.self.inside.config c.self.inside.env (g.H.Host.listens c.args.host.now) look c.args.goal.output.now total patience c.in-Ok.ensures.allowed old made x c.prepare_folder.ensures.aside.extends
+            (c.in_ok-prepare_folder.ensures.outcome (terms (shows_of c.self.inside.config c.self.inside.env (g.H.Host.listens c.args.host.now)) total patience) x).1
             e (sym c.if-is_disabled.ensures) (made_or_memory c.disabled.result e _ c.or_no_memory-then-is_disabled.ensures c.disabled.ensures),
       );
     })
@@ -105,15 +105,15 @@ returns-clause-outcome g c =
     let on : AsksOn g.W.World.steady g.W.World.answer (probe_folder set env) (RunAsks set env) (since made new) [] c.run_parts.new.answers =
     subst (λ (l : List Answer). AsksOn g.W.World.steady g.W.World.answer (probe_folder set env) (RunAsks set env) (since made new) l c.run_parts.new.answers) c.new-answers.ensures c.run_parts.ensures.asks.asks in
     let same : c.run_parts.new.answers ≡ answers (since made new) = (on_asked g.W.World.steady g.W.World.answer (probe_folder set env) (RunAsks set env) (since made new) c.run_parts.new.answers on).1 in
-    subst (λ (b : BuildSeen). Holds (answers (since old new)) (λ look. (left : ℕ) × RunEnds b c.args.goal.output.now c.run_parts.result look (since old new) (course total patience x (means left faults taken load)))) c.self.view_is
+    subst (λ (b : BuildSeen). Holds (answers (since old new)) (λ look. (left : ℕ) × RunEnds b (g.H.Host.listens c.args.host.now) c.args.goal.output.now c.run_parts.result look (since old new) (course total patience x (means left faults taken load)))) c.self.view_is
     (record {
       under = λ look agree.
           let behind = (agrees_since look old made new c.prepare_folder.ensures.aside.extends c.run_parts.ensures.asks.extends agree).1 in
           let known : Agrees look c.run_parts.new.answers = subst (Agrees look) (sym same) behind in (
             left,
-            run_enabled set env look c.args.goal.output.now total patience c.in-Ok.ensures.allowed old made x c.prepare_folder.ensures.aside.extends
-                (c.in_ok-prepare_folder.ensures.outcome (terms (shows_of set env) total patience) x).1
-                c.shows_of-shows.result total (g.H.Host.patience c.prepare_folder.new.host) new c.run_parts.result (means left faults taken load) c.shows_of-shows.ensures refl c.prepare_folder.ensures.aside.patient (sym c.if-is_disabled.ensures) c.run_parts.ensures.asks.extends
+            run_enabled set env (g.H.Host.listens c.args.host.now) look c.args.goal.output.now total patience c.in-Ok.ensures.allowed old made x c.prepare_folder.ensures.aside.extends
+                (c.in_ok-prepare_folder.ensures.outcome (terms (shows_of set env (g.H.Host.listens c.args.host.now)) total patience) x).1
+                c.shows_of-shows.result total (g.H.Host.patience c.prepare_folder.new.host) new c.run_parts.result (means left faults taken load) (c.shows_of-shows.ensures ∙ ap (shows_of c.self.inside.config c.self.inside.env) c.listens.ensures) refl c.prepare_folder.ensures.aside.patient (sym c.if-is_disabled.ensures) c.run_parts.ensures.asks.extends
                 (c.run_parts.ensures.outcome.under look known),
           );
     })

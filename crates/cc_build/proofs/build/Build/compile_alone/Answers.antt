@@ -1,4 +1,4 @@
-use Rattle.std.proofs.Common.{◌≡◌, ℕ, List, [], Ok, Err, refl, sym, ap, subst}
+use Rattle.std.proofs.Common.{◌∙◌, ◌≡◌, ℕ, List, [], Ok, Err, refl, sym, ap, subst}
 use Rattle.std.proofs.lemmas.Result.{err_from_is_err_and}
 use Rattle.cc_host.specs.Part.{since}
 use Rattle.cc_host.specs.Question.{Answer, Agrees, answers, Holds}
@@ -28,11 +28,11 @@ returns-in-Err-clause-outcome g c =
     let taken = g.J.Jobs.taken c.args.seat.now in
     let load = g.J.Jobs.load c.args.seat.now in
     let x = means c.args.turns faults taken load in
-    subst (λ (b : BuildSeen). Holds (answers (since old old)) (λ look. (left : ℕ) × IntermediateEnds {T = List (List ℕ)} b (Err c.or_no_memory.result) look (since old old) (course total patience x (means left faults taken load)))) c.self.view_is
+    subst (λ (b : BuildSeen). Holds (answers (since old old)) (λ look. (left : ℕ) × IntermediateEnds {T = List (List ℕ)} b (g.H.Host.listens c.args.host.now) (Err c.or_no_memory.result) look (since old old) (course total patience x (means left faults taken load)))) c.self.view_is
     (record {
       under = λ look agree. (
         c.args.turns,
-        alone_unchecked c.self.inside.config c.self.inside.env look total patience (since old old) c.or_no_memory.result x c.in-Err.error (since_none old)
+        alone_unchecked c.self.inside.config c.self.inside.env (g.H.Host.listens c.args.host.now) look total patience (since old old) c.or_no_memory.result x c.in-Err.error (since_none old)
             (made_or_memory c.plan_error.result c.or_no_memory.result _ c.or_no_memory.ensures c.plan_error.ensures) c.in-Err.ensures.refused,
       );
     })
@@ -52,12 +52,12 @@ returns-in_err-prepare_folder-clause-outcome g c =
     let x = means c.args.turns faults taken load in
     let e = c.in_err-prepare_folder.field-0.0 in
     rw (p.1, p.2)
-    (subst (λ (b : BuildSeen). Holds (answers (part)) (λ look. (left : ℕ) × IntermediateEnds {T = List (List ℕ)} b (Err e) look (part) (course total patience x (means left faults taken load)))) c.self.view_is
+    (subst (λ (b : BuildSeen). Holds (answers (part)) (λ look. (left : ℕ) × IntermediateEnds {T = List (List ℕ)} b (g.H.Host.listens c.args.host.now) (Err e) look (part) (course total patience x (means left faults taken load)))) c.self.view_is
     (record {
       under = λ look agree. (
         c.args.turns,
-        alone_unfoldered c.self.inside.config c.self.inside.env look total patience part e x c.in-Ok.ensures.allowed
-            (c.in_err-prepare_folder.ensures.outcome (terms (shows_of c.self.inside.config c.self.inside.env) total patience) x),
+        alone_unfoldered c.self.inside.config c.self.inside.env (g.H.Host.listens c.args.host.now) look total patience part e x c.in-Ok.ensures.allowed
+            (c.in_err-prepare_folder.ensures.outcome (terms (shows_of c.self.inside.config c.self.inside.env (g.H.Host.listens c.args.host.now)) total patience) x),
       );
     }))
 
@@ -75,12 +75,12 @@ returns-then-is_disabled-clause-outcome g c =
     let load = g.J.Jobs.load c.args.seat.now in
     let x = means c.args.turns faults taken load in
     let e = c.or_no_memory-then-is_disabled.result in
-    subst (λ (b : BuildSeen). Holds (answers (since old made)) (λ look. (left : ℕ) × IntermediateEnds {T = List (List ℕ)} b (Err e) look (since old made) (course total patience x (means left faults taken load)))) c.self.view_is
+    subst (λ (b : BuildSeen). Holds (answers (since old made)) (λ look. (left : ℕ) × IntermediateEnds {T = List (List ℕ)} b (g.H.Host.listens c.args.host.now) (Err e) look (since old made) (course total patience x (means left faults taken load)))) c.self.view_is
     (record {
       under = λ look agree. (
         c.args.turns,
-        alone_disabled c.self.inside.config c.self.inside.env look total patience c.in-Ok.ensures.allowed old made x c.prepare_folder.ensures.aside.extends
-            (c.in_ok-prepare_folder.ensures.outcome (terms (shows_of c.self.inside.config c.self.inside.env) total patience) x).1
+        alone_disabled c.self.inside.config c.self.inside.env (g.H.Host.listens c.args.host.now) look total patience c.in-Ok.ensures.allowed old made x c.prepare_folder.ensures.aside.extends
+            (c.in_ok-prepare_folder.ensures.outcome (terms (shows_of c.self.inside.config c.self.inside.env (g.H.Host.listens c.args.host.now)) total patience) x).1
             e (sym c.if-is_disabled.ensures) (made_or_memory c.disabled.result e _ c.or_no_memory-then-is_disabled.ensures c.disabled.ensures),
       );
     })
@@ -100,12 +100,12 @@ returns-in_err-paths-clause-outcome g c =
     let load = g.J.Jobs.load c.args.seat.now in
     let x = means c.args.turns faults taken load in
     rw (p.1, p.2)
-    (subst (λ (b : BuildSeen). Holds (answers (since old made)) (λ look. (left : ℕ) × IntermediateEnds {T = List (List ℕ)} b (Err _) look (since old made) (course total patience x (means left faults taken load)))) c.self.view_is
+    (subst (λ (b : BuildSeen). Holds (answers (since old made)) (λ look. (left : ℕ) × IntermediateEnds {T = List (List ℕ)} b (g.H.Host.listens c.args.host.now) (Err _) look (since old made) (course total patience x (means left faults taken load)))) c.self.view_is
     (record {
       under = λ look agree. (
         c.args.turns,
-        alone_wanting c.self.inside.config c.self.inside.env look total patience c.in-Ok.ensures.allowed old made x c.prepare_folder.ensures.aside.extends
-            (c.in_ok-prepare_folder.ensures.outcome (terms (shows_of c.self.inside.config c.self.inside.env) total patience) x).1
+        alone_wanting c.self.inside.config c.self.inside.env (g.H.Host.listens c.args.host.now) look total patience c.in-Ok.ensures.allowed old made x c.prepare_folder.ensures.aside.extends
+            (c.in_ok-prepare_folder.ensures.outcome (terms (shows_of c.self.inside.config c.self.inside.env (g.H.Host.listens c.args.host.now)) total patience) x).1
             _ refl,
       );
     }))
@@ -130,15 +130,15 @@ returns-in-Err-compile_and_tell-clause-outcome g c =
     let on : AsksOn g.W.World.steady g.W.World.answer (probe_folder set env) (RunAsks set env) (since made new) [] c.compile_and_tell.new.answers =
     subst (λ (l : List Answer). AsksOn g.W.World.steady g.W.World.answer (probe_folder set env) (RunAsks set env) (since made new) l c.compile_and_tell.new.answers) c.new-answers.ensures c.compile_and_tell.ensures.asks.asks in
     let same : c.compile_and_tell.new.answers ≡ answers (since made new) = (on_asked g.W.World.steady g.W.World.answer (probe_folder set env) (RunAsks set env) (since made new) c.compile_and_tell.new.answers on).1 in
-    subst (λ (b : BuildSeen). Holds (answers (since old new)) (λ look. (left : ℕ) × IntermediateEnds {T = List (List ℕ)} b (Err c.in-Err-compile_and_tell.error) look (since old new) (course total patience x (means left faults taken load)))) c.self.view_is
+    subst (λ (b : BuildSeen). Holds (answers (since old new)) (λ look. (left : ℕ) × IntermediateEnds {T = List (List ℕ)} b (g.H.Host.listens c.args.host.now) (Err c.in-Err-compile_and_tell.error) look (since old new) (course total patience x (means left faults taken load)))) c.self.view_is
     (record {
       under = λ look agree.
           let later = (agrees_since look old made new c.prepare_folder.ensures.aside.extends c.compile_and_tell.ensures.asks.extends agree).1 in
           let known : Agrees look c.compile_and_tell.new.answers = subst (Agrees look) (sym same) later in (
             left,
-            alone_behind set env look total patience c.in-Ok.ensures.allowed old made x c.prepare_folder.ensures.aside.extends
-                (c.in_ok-prepare_folder.ensures.outcome (terms (shows_of set env) total patience) x).1 {T = Unit {0}}
-                c.shows_of-shows.result total (g.H.Host.patience c.prepare_folder.new.host) c.source_reads.result new (Err c.in-Err-compile_and_tell.error) (means left faults taken load) c.shows_of-shows.ensures refl c.prepare_folder.ensures.aside.patient c.source_reads.ensures (sym c.if-is_disabled.ensures) c.compile_and_tell.ensures.asks.extends
+            alone_behind set env (g.H.Host.listens c.args.host.now) look total patience c.in-Ok.ensures.allowed old made x c.prepare_folder.ensures.aside.extends
+                (c.in_ok-prepare_folder.ensures.outcome (terms (shows_of set env (g.H.Host.listens c.args.host.now)) total patience) x).1 {T = Unit {0}}
+                c.shows_of-shows.result total (g.H.Host.patience c.prepare_folder.new.host) c.source_reads.result new (Err c.in-Err-compile_and_tell.error) (means left faults taken load) (c.shows_of-shows.ensures ∙ ap (shows_of c.self.inside.config c.self.inside.env) c.listens.ensures) refl c.prepare_folder.ensures.aside.patient c.source_reads.ensures (sym c.if-is_disabled.ensures) c.compile_and_tell.ensures.asks.extends
                 (c.in-Err-compile_and_tell.ensures.outcome.under look known),
           );
     })
@@ -172,15 +172,15 @@ returns-in-Ok-compile_and_tell-clause-outcome g c =
     let on : AsksOn g.W.World.steady g.W.World.answer (probe_folder set env) (RunAsks set env) (since made new) [] c.compile_and_tell.new.answers =
     subst (λ (l : List Answer). AsksOn g.W.World.steady g.W.World.answer (probe_folder set env) (RunAsks set env) (since made new) l c.compile_and_tell.new.answers) c.new-answers.ensures c.compile_and_tell.ensures.asks.asks in
     let same : c.compile_and_tell.new.answers ≡ answers (since made new) = (on_asked g.W.World.steady g.W.World.answer (probe_folder set env) (RunAsks set env) (since made new) c.compile_and_tell.new.answers on).1 in
-    subst (λ (b : BuildSeen). Holds (answers (since old new)) (λ look. (left : ℕ) × IntermediateEnds {T = List (List ℕ)} b (Ok c.in_ok-paths.paths) look (since old new) (course total patience x (means left faults taken load)))) c.self.view_is
+    subst (λ (b : BuildSeen). Holds (answers (since old new)) (λ look. (left : ℕ) × IntermediateEnds {T = List (List ℕ)} b (g.H.Host.listens c.args.host.now) (Ok c.in_ok-paths.paths) look (since old new) (course total patience x (means left faults taken load)))) c.self.view_is
     (record {
       under = λ look agree.
           let later = (agrees_since look old made new c.prepare_folder.ensures.aside.extends c.compile_and_tell.ensures.asks.extends agree).1 in
           let known : Agrees look c.compile_and_tell.new.answers = subst (Agrees look) (sym same) later in (
             left,
-            alone_behind set env look total patience c.in-Ok.ensures.allowed old made x c.prepare_folder.ensures.aside.extends
-                (c.in_ok-prepare_folder.ensures.outcome (terms (shows_of set env) total patience) x).1 {T = Unit {0}}
-                c.shows_of-shows.result total (g.H.Host.patience c.prepare_folder.new.host) c.source_reads.result new (Ok (tt {0})) (means left faults taken load) c.shows_of-shows.ensures refl c.prepare_folder.ensures.aside.patient c.source_reads.ensures (sym c.if-is_disabled.ensures) c.compile_and_tell.ensures.asks.extends
+            alone_behind set env (g.H.Host.listens c.args.host.now) look total patience c.in-Ok.ensures.allowed old made x c.prepare_folder.ensures.aside.extends
+                (c.in_ok-prepare_folder.ensures.outcome (terms (shows_of set env (g.H.Host.listens c.args.host.now)) total patience) x).1 {T = Unit {0}}
+                c.shows_of-shows.result total (g.H.Host.patience c.prepare_folder.new.host) c.source_reads.result new (Ok (tt {0})) (means left faults taken load) (c.shows_of-shows.ensures ∙ ap (shows_of c.self.inside.config c.self.inside.env) c.listens.ensures) refl c.prepare_folder.ensures.aside.patient c.source_reads.ensures (sym c.if-is_disabled.ensures) c.compile_and_tell.ensures.asks.extends
                 (c.in-Ok-compile_and_tell.ensures.outcome.under look known),
           );
     })

@@ -14,7 +14,7 @@ returns-clause-built g c =
       under = λ look agree.
           let run = c.compile.ensures.outcome.under look agree in
           let after = means run.0 (g.J.Jobs.faults c.compile.new.seat) (g.J.Jobs.taken c.compile.new.seat) (g.J.Jobs.load c.compile.new.seat) in
-          (run.0, built_so c.args.self.now c.args.output.now c.compile.result look part (course (g.J.Jobs.total c.args.seat.now) (g.H.Host.patience c.args.host.now) before after) run.1);
+          (run.0, built_so c.args.self.now (g.H.Host.listens c.args.host.now) c.args.output.now c.compile.result look part (course (g.J.Jobs.total c.args.seat.now) (g.H.Host.patience c.args.host.now) before after) run.1);
     }
 
 pub returns-clause-promises : goal.returns-clause-promises
@@ -25,7 +25,7 @@ returns-clause-promises g c =
       under = λ look agree.
           let run = c.compile.ensures.outcome.under look agree in
           let after = means run.0 (g.J.Jobs.faults c.compile.new.seat) (g.J.Jobs.taken c.compile.new.seat) (g.J.Jobs.load c.compile.new.seat) in
-          (run.0, promised c.args.self.now c.args.output.now c.compile.result look part (course (g.J.Jobs.total c.args.seat.now) (g.H.Host.patience c.args.host.now) before after) run.1);
+          (run.0, promised c.args.self.now (g.H.Host.listens c.args.host.now) c.args.output.now c.compile.result look part (course (g.J.Jobs.total c.args.seat.now) (g.H.Host.patience c.args.host.now) before after) run.1);
     }
 
 pub returns-clause-settled : goal.returns-clause-settled
@@ -35,7 +35,7 @@ returns-clause-settled g c =
     let some = some_agree (answers part) c.compile.ensures.asked.once in
     let run = c.compile.ensures.outcome.under some.0 some.1 in
     let after = means run.0 (g.J.Jobs.faults c.compile.new.seat) (g.J.Jobs.taken c.compile.new.seat) (g.J.Jobs.load c.compile.new.seat) in
-    nothing_runs c.args.self.now c.args.output.now c.compile.result some.0 part (course (g.J.Jobs.total c.args.seat.now) (g.H.Host.patience c.args.host.now) before after) run.1
+    nothing_runs c.args.self.now (g.H.Host.listens c.args.host.now) c.args.output.now c.compile.result some.0 part (course (g.J.Jobs.total c.args.seat.now) (g.H.Host.patience c.args.host.now) before after) run.1
 
 pub returns-clause-faults_last : goal.returns-clause-faults_last
 returns-clause-faults_last g c =
@@ -44,4 +44,4 @@ returns-clause-faults_last g c =
     let some = some_agree (answers part) c.compile.ensures.asked.once in
     let run = c.compile.ensures.outcome.under some.0 some.1 in
     let after = means run.0 (g.J.Jobs.faults c.compile.new.seat) (g.J.Jobs.taken c.compile.new.seat) (g.J.Jobs.load c.compile.new.seat) in
-    faults_end c.args.self.now c.args.output.now c.compile.result some.0 part (course (g.J.Jobs.total c.args.seat.now) (g.H.Host.patience c.args.host.now) before after) run.1
+    faults_end c.args.self.now (g.H.Host.listens c.args.host.now) c.args.output.now c.compile.result some.0 part (course (g.J.Jobs.total c.args.seat.now) (g.H.Host.patience c.args.host.now) before after) run.1

@@ -14,7 +14,7 @@ returns-clause-compiled g c =
       under = λ look agree.
           let run = c.compile_alone.ensures.outcome.under look agree in
           let after = means run.0 (g.J.Jobs.faults c.compile_alone.new.seat) (g.J.Jobs.taken c.compile_alone.new.seat) (g.J.Jobs.load c.compile_alone.new.seat) in
-          (run.0, alone_compiled c.args.self.now look part (course (g.J.Jobs.total c.args.seat.now) (g.H.Host.patience c.args.host.now) before after) c.compile_alone.result run.1);
+          (run.0, alone_compiled c.args.self.now (g.H.Host.listens c.args.host.now) look part (course (g.J.Jobs.total c.args.seat.now) (g.H.Host.patience c.args.host.now) before after) c.compile_alone.result run.1);
     }
 
 pub returns-clause-settled : goal.returns-clause-settled
@@ -24,7 +24,7 @@ returns-clause-settled g c =
     let some = some_agree (answers part) c.compile_alone.ensures.asked.once in
     let run = c.compile_alone.ensures.outcome.under some.0 some.1 in
     let after = means run.0 (g.J.Jobs.faults c.compile_alone.new.seat) (g.J.Jobs.taken c.compile_alone.new.seat) (g.J.Jobs.load c.compile_alone.new.seat) in
-    alone_settled c.args.self.now some.0 part (course (g.J.Jobs.total c.args.seat.now) (g.H.Host.patience c.args.host.now) before after) c.compile_alone.result run.1
+    alone_settled c.args.self.now (g.H.Host.listens c.args.host.now) some.0 part (course (g.J.Jobs.total c.args.seat.now) (g.H.Host.patience c.args.host.now) before after) c.compile_alone.result run.1
 
 pub returns-clause-faults_last : goal.returns-clause-faults_last
 returns-clause-faults_last g c =
@@ -33,4 +33,4 @@ returns-clause-faults_last g c =
     let some = some_agree (answers part) c.compile_alone.ensures.asked.once in
     let run = c.compile_alone.ensures.outcome.under some.0 some.1 in
     let after = means run.0 (g.J.Jobs.faults c.compile_alone.new.seat) (g.J.Jobs.taken c.compile_alone.new.seat) (g.J.Jobs.load c.compile_alone.new.seat) in
-    alone_faults c.args.self.now some.0 part (course (g.J.Jobs.total c.args.seat.now) (g.H.Host.patience c.args.host.now) before after) c.compile_alone.result run.1
+    alone_faults c.args.self.now (g.H.Host.listens c.args.host.now) some.0 part (course (g.J.Jobs.total c.args.seat.now) (g.H.Host.patience c.args.host.now) before after) c.compile_alone.result run.1

@@ -9,6 +9,7 @@ use Rattle.cc_build.specs.Archiving.{with_objects, unarchived_error, Creates}
 use Rattle.cc_build.specs.Build.{BuildSeen}
 use Rattle.cc_build.specs.Error.{no_memory}
 use Rattle.cc_build.proofs.ArchivingLaws.{uncreated, agreed, created_by, no_faults, creates_settled, creates_faults}
+use Rattle.cc_build.specs.Shows.{shows_of}
 use Rattle.cc_build.proofs.build.Build.try_create_archive.Goals as goal
 
 pub returns-in_err-set-clause-outcome : goal.returns-in_err-set-clause-outcome
@@ -16,9 +17,9 @@ returns-in_err-set-clause-outcome g c =
     let old = g.H.Host.log c.args.host.now in
     let p = err_from_is_err_and c.from_residual.result c.from_residual.ensures.1 in
     rw (p.1, p.2)
-    (subst (λ (b : BuildSeen). Holds (answers (since old old)) (λ look. Creates {T = List ℕ} (with_objects b c.args.objects.now) (g.H.Host.patience c.args.host.now) c.args.turns c.args.output.now (Err _) look (since old old))) c.self.view_is
+    (subst (λ (b : BuildSeen). Holds (answers (since old old)) (λ look. Creates {T = List ℕ} (with_objects b c.args.objects.now) (g.H.Host.listens c.args.host.now) (g.H.Host.patience c.args.host.now) c.args.turns c.args.output.now (Err _) look (since old old))) c.self.view_is
     (record {
-      under = λ look agree. uncreated (archive_settings c.self.inside.config c.args.objects.now) c.self.inside.env (g.H.Host.patience c.args.host.now) c.args.turns c.args.output.now (since old old) (List ℕ) look _ (since_none old) (inl refl);
+      under = λ look agree. uncreated (archive_settings c.self.inside.config c.args.objects.now) c.self.inside.env (g.H.Host.listens c.args.host.now) (g.H.Host.patience c.args.host.now) c.args.turns c.args.output.now (since old old) (List ℕ) look _ (since_none old) (inl refl);
     }))
 
 pub returns-in_err-set-clause-faults_last : goal.returns-in_err-set-clause-faults_last
@@ -29,10 +30,10 @@ returns-in_err-sources-clause-outcome g c =
     let old = g.H.Host.log c.args.host.now in
     let p = err_from_is_err_and c.from_residual-in_err-sources.result c.from_residual-in_err-sources.ensures.1 in
     rw (p.1, p.2)
-    (subst (λ (b : BuildSeen). Holds (answers (since old old)) (λ look. Creates {T = List ℕ} (with_objects b c.args.objects.now) (g.H.Host.patience c.args.host.now) c.args.turns c.args.output.now (Err c.in_err-sources.field-0.0) look (since old old))) c.self.view_is
+    (subst (λ (b : BuildSeen). Holds (answers (since old old)) (λ look. Creates {T = List ℕ} (with_objects b c.args.objects.now) (g.H.Host.listens c.args.host.now) (g.H.Host.patience c.args.host.now) c.args.turns c.args.output.now (Err c.in_err-sources.field-0.0) look (since old old))) c.self.view_is
     (record {
       under = λ look agree.
-          uncreated (archive_settings c.self.inside.config c.args.objects.now) c.self.inside.env (g.H.Host.patience c.args.host.now) c.args.turns c.args.output.now (since old old) (List ℕ) look c.in_err-sources.field-0.0 (since_none old)
+          uncreated (archive_settings c.self.inside.config c.args.objects.now) c.self.inside.env (g.H.Host.listens c.args.host.now) (g.H.Host.patience c.args.host.now) c.args.turns c.args.output.now (since old old) (List ℕ) look c.in_err-sources.field-0.0 (since_none old)
           (subst (λ (s : BuildConfig). (c.in_err-sources.field-0.0 ≡ no_memory) ⊎ (unarchived_error s c.self.inside.env c.args.output.now ≡ Some c.in_err-sources.field-0.0)) c.in_ok-set.ensures c.in_err-sources.ensures.refused);
     }))
 
@@ -44,9 +45,9 @@ returns-in_err-path-clause-outcome g c =
     let old = g.H.Host.log c.args.host.now in
     let p = err_from_is_err_and c.from_residual-in_err-path.result c.from_residual-in_err-path.ensures.1 in
     rw (p.1, p.2)
-    (subst (λ (b : BuildSeen). Holds (answers (since old old)) (λ look. Creates {T = List ℕ} (with_objects b c.args.objects.now) (g.H.Host.patience c.args.host.now) c.args.turns c.args.output.now (Err _) look (since old old))) c.self.view_is
+    (subst (λ (b : BuildSeen). Holds (answers (since old old)) (λ look. Creates {T = List ℕ} (with_objects b c.args.objects.now) (g.H.Host.listens c.args.host.now) (g.H.Host.patience c.args.host.now) c.args.turns c.args.output.now (Err _) look (since old old))) c.self.view_is
     (record {
-      under = λ look agree. uncreated (archive_settings c.self.inside.config c.args.objects.now) c.self.inside.env (g.H.Host.patience c.args.host.now) c.args.turns c.args.output.now (since old old) (List ℕ) look _ (since_none old) (inl refl);
+      under = λ look agree. uncreated (archive_settings c.self.inside.config c.args.objects.now) c.self.inside.env (g.H.Host.listens c.args.host.now) (g.H.Host.patience c.args.host.now) c.args.turns c.args.output.now (since old old) (List ℕ) look _ (since_none old) (inl refl);
     }))
 
 pub returns-in_err-path-clause-faults_last : goal.returns-in_err-path-clause-faults_last
@@ -59,10 +60,10 @@ returns-in-Ok-clause-outcome g c =
     let set = c.in_ok-set.set in
     let env = c.self.inside.env in
     let inside : BuildSeen = record { config = set; env = env } in
-    let ran : Holds (answers part) (λ look. Creates {T = List ℕ} inside patience c.args.turns c.args.output.now (Ok c.in_ok-path.path) look part) =
-    created_by set env patience c.args.turns c.args.output.now part c.shows_of-shows.result _ c.archive_reads.result c.shows_of-shows.ensures refl refl c.archive_reads.ensures c.in_ok-sources.ensures.allowed g.W.World.steady g.W.World.answer _ _ c.new-answers.ensures c.archive_and_tell.ensures.asks.asks {T = List ℕ} (Ok c.in_ok-path.path) c.in-Ok.ensures.outcome in
+    let ran : Holds (answers part) (λ look. Creates {T = List ℕ} inside (g.H.Host.listens c.args.host.now) patience c.args.turns c.args.output.now (Ok c.in_ok-path.path) look part) =
+    created_by set env (g.H.Host.listens c.args.host.now) patience c.args.turns c.args.output.now part c.shows_of-shows.result _ c.archive_reads.result (c.shows_of-shows.ensures ∙ ap (shows_of set env) c.listens.ensures) refl refl c.archive_reads.ensures c.in_ok-sources.ensures.allowed g.W.World.steady g.W.World.answer _ _ c.new-answers.ensures c.archive_and_tell.ensures.asks.asks {T = List ℕ} (Ok c.in_ok-path.path) c.in-Ok.ensures.outcome in
     let same : inside ≡ with_objects c.args.self.now c.args.objects.now = ap (λ (s : BuildConfig). record { config = s; env = env }) c.in_ok-set.ensures ∙ ap (λ (b : BuildSeen). with_objects b c.args.objects.now) c.self.view_is in
-    subst (λ (b : BuildSeen). Holds (answers part) (λ look. Creates {T = List ℕ} b patience c.args.turns c.args.output.now (Ok c.in_ok-path.path) look part)) same ran
+    subst (λ (b : BuildSeen). Holds (answers part) (λ look. Creates {T = List ℕ} b (g.H.Host.listens c.args.host.now) patience c.args.turns c.args.output.now (Ok c.in_ok-path.path) look part)) same ran
 
 pub returns-in-Ok-clause-settled : goal.returns-in-Ok-clause-settled
 returns-in-Ok-clause-settled g c =
@@ -71,10 +72,10 @@ returns-in-Ok-clause-settled g c =
     let set = c.in_ok-set.set in
     let env = c.self.inside.env in
     let inside : BuildSeen = record { config = set; env = env } in
-    let ran : Holds (answers part) (λ look. Creates {T = List ℕ} inside patience c.args.turns c.args.output.now (Ok c.in_ok-path.path) look part) =
-    created_by set env patience c.args.turns c.args.output.now part c.shows_of-shows.result _ c.archive_reads.result c.shows_of-shows.ensures refl refl c.archive_reads.ensures c.in_ok-sources.ensures.allowed g.W.World.steady g.W.World.answer _ _ c.new-answers.ensures c.archive_and_tell.ensures.asks.asks {T = List ℕ} (Ok c.in_ok-path.path) c.in-Ok.ensures.outcome in
+    let ran : Holds (answers part) (λ look. Creates {T = List ℕ} inside (g.H.Host.listens c.args.host.now) patience c.args.turns c.args.output.now (Ok c.in_ok-path.path) look part) =
+    created_by set env (g.H.Host.listens c.args.host.now) patience c.args.turns c.args.output.now part c.shows_of-shows.result _ c.archive_reads.result (c.shows_of-shows.ensures ∙ ap (shows_of set env) c.listens.ensures) refl refl c.archive_reads.ensures c.in_ok-sources.ensures.allowed g.W.World.steady g.W.World.answer _ _ c.new-answers.ensures c.archive_and_tell.ensures.asks.asks {T = List ℕ} (Ok c.in_ok-path.path) c.in-Ok.ensures.outcome in
     let some = agreed set env part g.W.World.steady g.W.World.answer _ _ c.new-answers.ensures c.archive_and_tell.ensures.asks.asks in
-    creates_settled {T = List ℕ} inside patience c.args.turns c.args.output.now some.0 part (Ok c.in_ok-path.path) (ran.under some.0 some.1)
+    creates_settled {T = List ℕ} inside (g.H.Host.listens c.args.host.now) patience c.args.turns c.args.output.now some.0 part (Ok c.in_ok-path.path) (ran.under some.0 some.1)
 
 pub returns-in-Ok-clause-faults_last : goal.returns-in-Ok-clause-faults_last
 returns-in-Ok-clause-faults_last g c =
@@ -83,10 +84,10 @@ returns-in-Ok-clause-faults_last g c =
     let set = c.in_ok-set.set in
     let env = c.self.inside.env in
     let inside : BuildSeen = record { config = set; env = env } in
-    let ran : Holds (answers part) (λ look. Creates {T = List ℕ} inside patience c.args.turns c.args.output.now (Ok c.in_ok-path.path) look part) =
-    created_by set env patience c.args.turns c.args.output.now part c.shows_of-shows.result _ c.archive_reads.result c.shows_of-shows.ensures refl refl c.archive_reads.ensures c.in_ok-sources.ensures.allowed g.W.World.steady g.W.World.answer _ _ c.new-answers.ensures c.archive_and_tell.ensures.asks.asks {T = List ℕ} (Ok c.in_ok-path.path) c.in-Ok.ensures.outcome in
+    let ran : Holds (answers part) (λ look. Creates {T = List ℕ} inside (g.H.Host.listens c.args.host.now) patience c.args.turns c.args.output.now (Ok c.in_ok-path.path) look part) =
+    created_by set env (g.H.Host.listens c.args.host.now) patience c.args.turns c.args.output.now part c.shows_of-shows.result _ c.archive_reads.result (c.shows_of-shows.ensures ∙ ap (shows_of set env) c.listens.ensures) refl refl c.archive_reads.ensures c.in_ok-sources.ensures.allowed g.W.World.steady g.W.World.answer _ _ c.new-answers.ensures c.archive_and_tell.ensures.asks.asks {T = List ℕ} (Ok c.in_ok-path.path) c.in-Ok.ensures.outcome in
     let some = agreed set env part g.W.World.steady g.W.World.answer _ _ c.new-answers.ensures c.archive_and_tell.ensures.asks.asks in
-    creates_faults {T = List ℕ} inside patience c.args.turns c.args.output.now some.0 part (Ok c.in_ok-path.path) (ran.under some.0 some.1)
+    creates_faults {T = List ℕ} inside (g.H.Host.listens c.args.host.now) patience c.args.turns c.args.output.now some.0 part (Ok c.in_ok-path.path) (ran.under some.0 some.1)
 
 pub returns-clause-outcome : goal.returns-clause-outcome
 returns-clause-outcome g c =
@@ -95,10 +96,10 @@ returns-clause-outcome g c =
     let set = c.in_ok-set.set in
     let env = c.self.inside.env in
     let inside : BuildSeen = record { config = set; env = env } in
-    let ran : Holds (answers part) (λ look. Creates {T = List ℕ} inside patience c.args.turns c.args.output.now (Err c.in-Err.error) look part) =
-    created_by set env patience c.args.turns c.args.output.now part c.shows_of-shows.result _ c.archive_reads.result c.shows_of-shows.ensures refl refl c.archive_reads.ensures c.in_ok-sources.ensures.allowed g.W.World.steady g.W.World.answer _ _ c.new-answers.ensures c.archive_and_tell.ensures.asks.asks {T = List ℕ} (Err c.in-Err.error) c.in-Err.ensures.outcome in
+    let ran : Holds (answers part) (λ look. Creates {T = List ℕ} inside (g.H.Host.listens c.args.host.now) patience c.args.turns c.args.output.now (Err c.in-Err.error) look part) =
+    created_by set env (g.H.Host.listens c.args.host.now) patience c.args.turns c.args.output.now part c.shows_of-shows.result _ c.archive_reads.result (c.shows_of-shows.ensures ∙ ap (shows_of set env) c.listens.ensures) refl refl c.archive_reads.ensures c.in_ok-sources.ensures.allowed g.W.World.steady g.W.World.answer _ _ c.new-answers.ensures c.archive_and_tell.ensures.asks.asks {T = List ℕ} (Err c.in-Err.error) c.in-Err.ensures.outcome in
     let same : inside ≡ with_objects c.args.self.now c.args.objects.now = ap (λ (s : BuildConfig). record { config = s; env = env }) c.in_ok-set.ensures ∙ ap (λ (b : BuildSeen). with_objects b c.args.objects.now) c.self.view_is in
-    subst (λ (b : BuildSeen). Holds (answers part) (λ look. Creates {T = List ℕ} b patience c.args.turns c.args.output.now (Err c.in-Err.error) look part)) same ran
+    subst (λ (b : BuildSeen). Holds (answers part) (λ look. Creates {T = List ℕ} b (g.H.Host.listens c.args.host.now) patience c.args.turns c.args.output.now (Err c.in-Err.error) look part)) same ran
 
 pub returns-clause-settled : goal.returns-clause-settled
 returns-clause-settled g c =
@@ -107,10 +108,10 @@ returns-clause-settled g c =
     let set = c.in_ok-set.set in
     let env = c.self.inside.env in
     let inside : BuildSeen = record { config = set; env = env } in
-    let ran : Holds (answers part) (λ look. Creates {T = List ℕ} inside patience c.args.turns c.args.output.now (Err c.in-Err.error) look part) =
-    created_by set env patience c.args.turns c.args.output.now part c.shows_of-shows.result _ c.archive_reads.result c.shows_of-shows.ensures refl refl c.archive_reads.ensures c.in_ok-sources.ensures.allowed g.W.World.steady g.W.World.answer _ _ c.new-answers.ensures c.archive_and_tell.ensures.asks.asks {T = List ℕ} (Err c.in-Err.error) c.in-Err.ensures.outcome in
+    let ran : Holds (answers part) (λ look. Creates {T = List ℕ} inside (g.H.Host.listens c.args.host.now) patience c.args.turns c.args.output.now (Err c.in-Err.error) look part) =
+    created_by set env (g.H.Host.listens c.args.host.now) patience c.args.turns c.args.output.now part c.shows_of-shows.result _ c.archive_reads.result (c.shows_of-shows.ensures ∙ ap (shows_of set env) c.listens.ensures) refl refl c.archive_reads.ensures c.in_ok-sources.ensures.allowed g.W.World.steady g.W.World.answer _ _ c.new-answers.ensures c.archive_and_tell.ensures.asks.asks {T = List ℕ} (Err c.in-Err.error) c.in-Err.ensures.outcome in
     let some = agreed set env part g.W.World.steady g.W.World.answer _ _ c.new-answers.ensures c.archive_and_tell.ensures.asks.asks in
-    creates_settled {T = List ℕ} inside patience c.args.turns c.args.output.now some.0 part (Err c.in-Err.error) (ran.under some.0 some.1)
+    creates_settled {T = List ℕ} inside (g.H.Host.listens c.args.host.now) patience c.args.turns c.args.output.now some.0 part (Err c.in-Err.error) (ran.under some.0 some.1)
 
 pub returns-clause-faults_last : goal.returns-clause-faults_last
 returns-clause-faults_last g c =
@@ -119,7 +120,7 @@ returns-clause-faults_last g c =
     let set = c.in_ok-set.set in
     let env = c.self.inside.env in
     let inside : BuildSeen = record { config = set; env = env } in
-    let ran : Holds (answers part) (λ look. Creates {T = List ℕ} inside patience c.args.turns c.args.output.now (Err c.in-Err.error) look part) =
-    created_by set env patience c.args.turns c.args.output.now part c.shows_of-shows.result _ c.archive_reads.result c.shows_of-shows.ensures refl refl c.archive_reads.ensures c.in_ok-sources.ensures.allowed g.W.World.steady g.W.World.answer _ _ c.new-answers.ensures c.archive_and_tell.ensures.asks.asks {T = List ℕ} (Err c.in-Err.error) c.in-Err.ensures.outcome in
+    let ran : Holds (answers part) (λ look. Creates {T = List ℕ} inside (g.H.Host.listens c.args.host.now) patience c.args.turns c.args.output.now (Err c.in-Err.error) look part) =
+    created_by set env (g.H.Host.listens c.args.host.now) patience c.args.turns c.args.output.now part c.shows_of-shows.result _ c.archive_reads.result (c.shows_of-shows.ensures ∙ ap (shows_of set env) c.listens.ensures) refl refl c.archive_reads.ensures c.in_ok-sources.ensures.allowed g.W.World.steady g.W.World.answer _ _ c.new-answers.ensures c.archive_and_tell.ensures.asks.asks {T = List ℕ} (Err c.in-Err.error) c.in-Err.ensures.outcome in
     let some = agreed set env part g.W.World.steady g.W.World.answer _ _ c.new-answers.ensures c.archive_and_tell.ensures.asks.asks in
-    creates_faults {T = List ℕ} inside patience c.args.turns c.args.output.now some.0 part (Err c.in-Err.error) (ran.under some.0 some.1)
+    creates_faults {T = List ℕ} inside (g.H.Host.listens c.args.host.now) patience c.args.turns c.args.output.now some.0 part (Err c.in-Err.error) (ran.under some.0 some.1)

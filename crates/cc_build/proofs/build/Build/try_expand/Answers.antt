@@ -8,4 +8,4 @@ pub returns-clause-asked : goal.returns-clause-asked
 returns-clause-asked g c = asked_seen _ _ (λ (b : BuildSeen). PlanAsks b.config b.env) _ _ c.args.self.now (build_is c.args.self.now _ _ c.task.ensures.set c.task.ensures.env) c.told_expand.ensures.asked
 
 pub returns-clause-outcome : goal.returns-clause-outcome
-returns-clause-outcome g c = ends_seen _ _ (λ (b : BuildSeen) look part. ExpandedEnds b c.told_expand.result look part) _ c.args.self.now (build_is c.args.self.now _ _ c.task.ensures.set c.task.ensures.env) c.told_expand.ensures.outcome
+returns-clause-outcome g c = ends_seen _ _ (λ (b : BuildSeen) look part. ExpandedEnds b (g.H.Host.listens c.args.host.now) c.told_expand.result look part) _ c.args.self.now (build_is c.args.self.now _ _ c.task.ensures.set c.task.ensures.env) c.told_expand.ensures.outcome

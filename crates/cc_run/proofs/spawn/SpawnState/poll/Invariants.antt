@@ -8,7 +8,7 @@ use Rattle.cc_run.specs.Own.{is_of_run}
 use Rattle.cc_run.specs.Paid.{PaidAnd}
 use Rattle.cc_run.specs.Part.{Goes, turns}
 use Rattle.cc_run.specs.Planned.{asked}
-use Rattle.cc_run.specs.Printing.{printed, kept_from, due_from}
+use Rattle.cc_run.specs.Printing.{printed, kept_from, due_from, PrintsInTime}
 use Rattle.cc_run.proofs.spawn.SpawnState.poll.Given as goal
 
 abbrev pub invariant-loop-running : goal.invariant-loop-running
@@ -28,7 +28,7 @@ invariant-loop-running g l =
       paid : PaidAnd 0 0 part (g.J.Jobs.taken l.fn.seat) (g.J.Jobs.load l.fn.seat) (g.J.Jobs.taken l.seat) (g.J.Jobs.load l.seat);
       own : list_all is_of_run part ≡ true;
       kept : kept_from l.fn.running part ≡ l.running;
-      lines : (warns : Bool) → printed part ≡ due_from l.shows warns l.cmds l.fn.running part;
+      lines : (warns : Bool) → (printed part ≡ due_from l.shows warns l.cmds l.fn.running part) × PrintsInTime l.shows warns l.cmds l.fn.running part;
     }
 
 abbrev pub decreases-loop-running : goal.decreases-loop-running

@@ -1,0 +1,250 @@
+// The sources of a run are compiled. Before it the host is given the warnings of the plan, and one that listens is asked for the current folder,
+// which the messages of the commands name.
+ghost use Rattle.std.specs.Prelude.{◌≡◌, ◌+◌, ◌<◌, ◌^◌, [], ◌∷◌, ◌++◌, map, option_to_list, IfOk, OnOk};
+ghost use Rattle.std.specs.List.{flat_map, slice_get};
+ghost use Rattle.std.specs.Option.{option_copied, option_map};
+ghost use Rattle.cc_host.specs.Call.{part};
+ghost use Rattle.cc_host.specs.CompileCommand.{compile_command};
+ghost use Rattle.cc_text.specs.Words.{when};
+ghost use Rattle.cc_host.specs.Part.Step.{Prints, Says};
+ghost use Rattle.cc_host.specs.declared.event.LineKind.TheVariants.{Warning};
+ghost use Rattle.cc_host.specs.declared.event.Message.TheVariants.{GeneralWarning};
+ghost use Rattle.cc_plan.specs.Link.{printed_line};
+ghost use Rattle.cc_plan.specs.Plan.{warning_line, warning_steps};
+ghost use Rattle.cc_run.specs.Keeping.{IsIdle};
+ghost use Rattle.cc_build.specs.Course.{OnCourse};
+ghost use Rattle.cc_build.specs.Kept.{Aside};
+ghost use Rattle.cc_build.specs.Phases.{HereEnds, OpensEnd, PlanEnds};
+ghost use Rattle.cc_build.specs.Seen.{stages_seen, compiles_by, Adds};
+ghost use Rattle.cc_build.specs.Stage.{calls, beside, compile_planned};
+
+use crate::Error;
+use crate::message::{host_error, or_no_memory};
+use crate::several::Several;
+use crate::stage::{Stage, alone, do_stages};
+use crate::task::Task;
+use cc_host::{Command, CompileCommand, Host, LineKind, Message, Role, World};
+use cc_jobs::Jobs;
+use cc_plan::{Object, Plan, warning_line};
+use cc_run::{Planned, Turns};
+use cc_text::{Mem, Text, Words};
+use std::alloc::Global;
+
+// Adds the line of a warning, where lines are wanted.
+#[tactic(auto, using(crate::proofs::Doing::seen_more))]
+fn push_printed(stages: &mut Vec<Stage>, prints: bool, text: &str) -> Mem<()>
+    ensures { OnOk result (Adds stages.old.items stages.new.items (calls
+        (when prints (Prints Warning (printed_line (warning_line text.now)) ∷ [])))) }
+{
+    if prints {
+        let line = warning_line(*stages.allocator(), text)?;
+        stages.push(Stage::Print {
+            kind: LineKind::Warning,
+            line,
+        })?;
+    }
+    Ok(())
+}
+
+// Adds the message of a warning, where the host listens.
+#[tactic(auto, using(crate::proofs::Doing::seen_more))]
+fn push_said(stages: &mut Vec<Stage>, listens: bool, text: &str) -> Mem<()>
+    ensures { OnOk result (Adds stages.old.items stages.new.items
+        (calls (when listens (Says (GeneralWarning text.now) ∷ [])))) }
+{
+    if listens {
+        let text = Text::of(*stages.allocator(), text)?;
+        stages.push(Stage::Say(Message::GeneralWarning(text)))?;
+    }
+    Ok(())
+}
+
+// Adds a warning: its line where lines are wanted, and its message where the host listens.
+#[tactic(auto, using(crate::proofs::Doing::adds_both))]
+fn push_warning(stages: &mut Vec<Stage>, prints: bool, listens: bool, text: &str) -> Mem<()>
+    ensures { OnOk result
+        (Adds stages.old.items stages.new.items (calls (warning_steps prints listens text.now))) }
+{
+    push_printed(stages, prints, text)?;
+    push_said(stages, listens, text)?;
+    Ok(())
+}
+
+// The stages in which a host is given these warnings.
+fn warnings_of(alloc: Global, prints: bool, listens: bool, texts: &Words) -> Mem<Vec<Stage>>
+    ensures { IfOk result (λ stages. stages_seen stages.items
+        ≡ calls (flat_map (warning_steps prints listens) texts.now)) }
+{
+    let mut stages = Vec::new(alloc);
+    for text in texts.as_slice() {
+        push_warning(&mut stages, prints, listens, text.as_str())?;
+    }
+    Ok(stages)
+}
+
+// The message of a command that compiles an object, where the current folder is known.
+fn message_of(
+    alloc: Global,
+    here: Option<&str>,
+    object: &Object,
+    cmd: &Command,
+) -> Mem<Option<CompileCommand>>
+    ensures { IfOk result (λ message. message ≡ option_map
+        (compile_command cmd.now object.now.src object.now.dst) (option_copied here.entry)) }
+{
+    match here {
+        Some(folder) => {
+            let (src, dst) = (object.src.as_str(), object.dst.as_str());
+            Ok(Some(CompileCommand::new(alloc, cmd, src, dst, folder)?))
+        },
+        None => Ok(None),
+    }
+}
+
+// The command at that place.
+fn command_at(cmds: &[Command], place: usize) -> Option<&Command>
+    ensures { option_copied result ≡ slice_get cmds.now place }
+{
+    cmds.get(place)
+}
+
+// Puts the command of an object behind others, where there is one.
+fn push_compile(
+    alloc: Global,
+    planned: &mut Vec<Planned>,
+    here: Option<&str>,
+    object: &Object,
+    cmd: Option<&Command>,
+) -> Mem<()>
+    ensures { OnOk result (planned.new.items ≡ planned.old.items
+        ++ map (compile_planned (option_copied here.entry) object.now)
+        (option_to_list (option_copied cmd.entry))) }
+{
+    match cmd {
+        Some(cmd) => {
+            let message = message_of(alloc, here, object, cmd)?;
+            planned.push(Planned {
+                role: Role::Compile,
+                cmd: cmd.try_clone()?,
+                message,
+            })?;
+            Ok(())
+        },
+        None => Ok(()),
+    }
+}
+
+// The commands that compile objects, each with the one at its place.
+#[tactic(auto, using(crate::proofs::SourceLaws::compiles_next))]
+fn compiles_by(
+    alloc: Global,
+    here: Option<&str>,
+    objects: &[Object],
+    cmds: &[Command],
+) -> Mem<Vec<Planned>>
+    ensures { IfOk result (λ ps.
+        ps.items ≡ compiles_by (option_copied here.entry) objects.now cmds.now) }
+{
+    let mut planned = Vec::new(alloc);
+    for (place, object) in objects.iter().enumerate() {
+        push_compile(alloc, &mut planned, here, object, command_at(cmds, place))?;
+    }
+    Ok(planned)
+}
+
+// The stages in which these objects are compiled, beside each other where there is more than one.
+fn compiling(
+    alloc: Global,
+    here: Option<&str>,
+    objects: &[Object],
+    cmds: &[Command],
+) -> Mem<Vec<Stage>>
+    ensures { IfOk result (λ stages. stages_seen stages.items
+        ≡ beside (compiles_by (option_copied here.entry) objects.now cmds.now)) }
+{
+    let cmds = compiles_by(alloc, here, objects, cmds)?;
+    if cmds.len() < 2 {
+        return alone(alloc, cmds);
+    }
+    let mut stages = Vec::new(alloc);
+    stages.push(Stage::RunAll(Several { cmds }))?;
+    Ok(stages)
+}
+
+// Asks for the current folder, where the host listens.
+#[tactic(auto, using(cc_host::proofs::Parts::since_append))]
+fn find_here<W: World, H: Host<W>>(
+    alloc: Global,
+    host: &mut H,
+    listens: bool,
+) -> Result<Option<Text>, Error>
+    ensures aside { Aside H.log H.patience host.old host.new }
+    ensures outcome { HereEnds listens result (part H.log host.old host.new) }
+{
+    if !listens {
+        return Ok(None);
+    }
+    match host.current_dir() {
+        Ok(folder) => Ok(Some(folder)),
+        Err(error) => Err(or_no_memory(host_error(alloc, error, ""))),
+    }
+}
+
+// Gives the host these warnings, and asks it for the current folder where it listens.
+fn open<W: World, H: Host<W>, J: Jobs>(
+    task: &Task<'_>,
+    host: &mut H,
+    jobs: &J,
+    seat: &mut J::Seat,
+    turns: &mut Turns,
+    texts: &Words,
+) -> Result<Option<Text>, Error>
+    requires idle { IsIdle J.fits J.held jobs.now seat.old }
+    requires few { turns.old.left + turns.old.used < 2 ^ 64 }
+    ensures idle { IsIdle J.fits J.held jobs.now seat.new }
+    ensures total { J.total seat.new ≡ J.total seat.old }
+    ensures aside { Aside H.log H.patience host.old host.new }
+    ensures sum { turns.new.left + turns.new.used ≡ turns.old.left + turns.old.used }
+    ensures outcome { OnCourse H.log H.patience J.total J.faults J.taken J.load
+        turns.old.left turns.new.left
+        host.old host.new seat.old seat.new (OpensEnd task.now texts.now result) }
+{
+    let (alloc, listens) = (task.reporting.alloc, task.reporting.shows.listens);
+    let stages = warnings_of(alloc, task.set.cargo_warnings, listens, texts)?;
+    do_stages(task.reporting, host, jobs, seat, turns, &stages)?;
+    find_here(alloc, host, listens)
+}
+
+/// Does what is planned for these objects.
+pub(crate) fn do_plan<W: World, H: Host<W>, J: Jobs>(
+    task: &Task<'_>,
+    host: &mut H,
+    jobs: &J,
+    seat: &mut J::Seat,
+    turns: &mut Turns,
+    plan: &Plan,
+    objects: &[Object],
+) -> Result<(), Error>
+    requires idle { IsIdle J.fits J.held jobs.now seat.old }
+    requires few { turns.old.left + turns.old.used < 2 ^ 64 }
+    ensures idle { IsIdle J.fits J.held jobs.now seat.new }
+    ensures total { J.total seat.new ≡ J.total seat.old }
+    ensures aside { Aside H.log H.patience host.old host.new }
+    ensures sum { turns.new.left + turns.new.used ≡ turns.old.left + turns.old.used }
+    ensures outcome { OnCourse H.log H.patience J.total J.faults J.taken J.load
+        turns.old.left turns.new.left
+        host.old host.new seat.old seat.new (PlanEnds task.now plan.now objects.now result) }
+{
+    let here = open(task, host, jobs, seat, turns, &plan.warnings)?;
+    let here = match &here {
+        Some(folder) => Some(folder.as_str()),
+        None => None,
+    };
+    let stages = compiling(
+        task.reporting.alloc,
+        here,
+        objects,
+        plan.compiles.as_slice(),
+    )?;
+    do_stages(task.reporting, host, jobs, seat, turns, &stages)
+}
