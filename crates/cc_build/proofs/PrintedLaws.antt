@@ -1,6 +1,7 @@
 -- Calls of the host that list and print, and questions: by which steps they are seen, and that they start no child.
 use Rattle.std.proofs.Common.{◌≡◌, ◌⊎◌, inl, inr, ◌∙◌, refl, sym, ap, subst, ℕ, List, [], ◌∷◌, ◌++◌, map, Bool, true, false, if◌then◌else◌, ◌||◌, Option, Some, None, Result, Ok, Err}
-use Rattle.std.specs.List.{list_all, list_any}
+use Rattle.std.specs.List.{list_all, list_any, flat_map}
+use Rattle.std.specs.Cmp.Derive.{both_true}
 use Rattle.std.proofs.lemmas.Bool.{and_parts}
 use Rattle.std.proofs.lemmas.List.Folds.{list_all-append, list_any-append}
 use Rattle.cc_host.specs.Part.{Step, step_of, stop_of, stops, done, left, is_probing, Refuses, IsWhole}
@@ -13,7 +14,8 @@ use Rattle.cc_host.specs.declared.event.Scope.TheVariants.{Build as Building, Pr
 use Rattle.cc_host.specs.declared.event.Why.{Why}
 use Rattle.cc_host.proofs.Parts.{kind_is, IsKind, stops_stop, left_more, left_stop, partly_more, partly_stop, partly_whole, partly_none, whole_step, whole_then}
 use Rattle.cc_plan.specs.Asking.{is_of_children}
-use Rattle.cc_plan.specs.Plan.{prints}
+use Rattle.cc_plan.specs.Plan.{prints, warning_steps, warned_steps}
+use Rattle.cc_plan.specs.declared.settings.BuildConfig.{BuildConfig}
 use Rattle.cc_tool.specs.Probing.{is_asked}
 use Rattle.cc_build.specs.Build.{BuildSeen}
 use Rattle.cc_build.specs.Course.{CallsEnd}
@@ -28,11 +30,12 @@ use Rattle.cc_build.specs.Stop.{stop_error, stopped_by}
 use Rattle.cc_build.specs.Went.{Terms, Means, terms, means, Went, Halted, Halts, Ends, IsOf}
 use Rattle.cc_build.proofs.Outcomes.{outcome_then}
 
--- ---- lines and listings
+-- ---- lines, messages and listings
 
--- a line is printed, or the variables are listed
+-- a line is printed, a message is said, or the variables are listed
 abbrev pub is_told : Step → Bool
 is_told (Prints kind bytes) = true
+is_told (Says message) = true
 is_told Lists = true
 is_told _ = false
 
@@ -45,14 +48,32 @@ unfolding prints
 told_printed kind [] = refl
 told_printed kind (line ∷ lines) = told_printed kind lines
 
+told_warning : (prints listens : Bool) (text : List ℕ) → list_all is_told (warning_steps prints listens text) ≡ true
+told_warning true true text = refl
+told_warning true false text = refl
+told_warning false true text = refl
+told_warning false false text = refl
+
+told_each : (prints listens : Bool) (texts : List (List ℕ)) → list_all is_told (flat_map (warning_steps prints listens) texts) ≡ true
+told_each prints listens [] = refl
+told_each prints listens (text ∷ texts) =
+    list_all-append is_told (warning_steps prints listens text) (flat_map (warning_steps prints listens) texts)
+    ∙ both_true (told_warning prints listens text) (told_each prints listens texts)
+
+pub told_warned : (set : BuildConfig) (listens : Bool) (texts : List (List ℕ)) → list_all is_told (warned_steps set listens texts) ≡ true
+unfolding warned_steps
+told_warned set listens texts = told_each set.cargo_warnings listens texts
+
 -- what refuses such a step is a fault, and no question's
 abbrev pub IsRealFault : Event → Type 0
 IsRealFault event = (call : HostCall) × (why : Why) × ((event ≡ Fault call why) × (is_probing call ≡ false))
 
 pub told_refused : (step : Step) (event : Event) → is_told step ≡ true → Refuses step event → IsRealFault event
 told_refused (Prints kind bytes) (Fault call why) told refuses = (call, why, (refl, ap is_probing refuses))
+told_refused (Says message) (Fault call why) told refuses = (call, why, (refl, ap is_probing refuses))
 told_refused Lists (Fault call why) told refuses = (call, why, (refl, ap is_probing refuses))
 told_refused (Prints kind bytes) event told refuses = absurd refuses
+told_refused (Says message) event told refuses = absurd refuses
 told_refused Lists event told refuses = absurd refuses
 told_refused (Runs role cmd) event told refuses = absurd (cc)
 told_refused (Makes scope path) event told refuses = absurd (cc)
@@ -60,7 +81,6 @@ told_refused (Removes path) event told refuses = absurd (cc)
 told_refused (Writes path bytes) event told refuses = absurd (cc)
 told_refused (Copies from to) event told refuses = absurd (cc)
 told_refused (Finds path) event told refuses = absurd (cc)
-told_refused (Says message) event told refuses = absurd (cc)
 
 pub fault_stops : (event : Event) → IsRealFault event → stop_of event ≡ event ∷ []
 fault_stops event f = ap stop_of f.2.0 ∙ by_test (is_probing f.0) f.2.1 ∙ ap (λ e. e ∷ []) (sym f.2.0)

@@ -25,8 +25,8 @@ use Rattle.cc_tool.proofs.Asides.{asked_around}
 use Rattle.cc_plan.specs.Given.{probe_folder}
 use Rattle.cc_plan.specs.Questions.{RunAsks}
 use Rattle.cc_command.specs.Asks.{AsksFor}
-use Rattle.cc_command.specs.Answer.{IsHalted, Answers, AnswersError, AnswersWords, Unbegun, env_in, terms_in, error_of, repeating, stages_of, ended_well, ended_wanting}
-use Rattle.cc_command.proofs.RepeatLaws.{went_same, halted_same}
+use Rattle.cc_command.specs.Answer.{IsHalted, Answers, AnswersError, AnswersWords, Unbegun, env_in, terms_in, error_of, repeating, Findings, stages_of, ended_well, ended_wanting}
+use Rattle.cc_command.proofs.RepeatLaws.{finds_of, unfound, went_same, halted_same}
 use Rattle.cc_command.specs.Read.{Request, Wish, refusal_of}
 use Rattle.cc_command.specs.Read.Wish.{Compiles, Records, Archives, Generates, Expands, Shows}
 use Rattle.cc_command.specs.declared.ended.Ended.{Ended}
@@ -35,29 +35,29 @@ use Rattle.cc_command.specs.declared.words.ReadError.{ReadError}
 use Rattle.cc_command.specs.declared.words.ReadError.TheVariants.{Bad, NoMemory as WantsMemory}
 
 -- a request that was refused, and the line behind it
-pub answers_refused : (look : Look) (q : Request) (run line part : List Event) (e : ErrorSeen) (ended : Ended) (c : Course) → part ≡ run ++ line → (is_plain : Bool) × Halted (terms_in q run c) (error_of look q run) (stages_of look q is_plain run) run e c.before c.after → AnswersError e line ended → Answers look q part ended c
-answers_refused look q run line part e ended c cut refused (inl printed) =
-    inr (inl (record { error = e; run = run; line = line; cut = cut; printed = printed.2; is_plain = refused.0; refused = refused.1; known = printed.1; is = printed.0 }))
-answers_refused look q run line part e ended c cut refused (inr wanting) =
+pub answers_refused : (listens : Bool) (look : Look) (q : Request) (run line part : List Event) (e : ErrorSeen) (ended : Ended) (c : Course) → part ≡ run ++ line → (finds : Findings listens) × Halted (terms_in listens q run c) (error_of look q run) (stages_of listens look q finds run) run e c.before c.after → AnswersError e line ended → Answers listens look q part ended c
+answers_refused listens look q run line part e ended c cut refused (inl printed) =
+    inr (inl (record { error = e; run = run; line = line; cut = cut; printed = printed.2; finds = refused.0; refused = refused.1; known = printed.1; is = printed.0 }))
+answers_refused listens look q run line part e ended c cut refused (inr wanting) =
     let same : part ≡ run = cut ∙ ap (λ l. run ++ l) wanting.1 ∙ append-nil run in
     inr (inr (
       wanting.0,
-      (refused.0, subst (λ (p : List Event). IsHalted (terms_in q p c) (error_of look q p) (stages_of look q refused.0 p) p c.before c.after) (sym same) (e, refused.1)),
+      (refused.0, subst (λ (p : List Event). IsHalted (terms_in listens q p c) (error_of look q p) (stages_of listens look q refused.0 p) p c.before c.after) (sym same) (e, refused.1)),
     ))
 
 -- the variables were not listed, or memory for their snapshot was wanted
-pub uncaptured : (look : Look) (q : Request) (run : List Event) (e : ErrorSeen) (t : Terms) (x : Means) → CaptureEnds run (Err e) → (is_plain : Bool) × Halted t (error_of look q run) (stages_of look q is_plain run) run e x x
-uncaptured look q run e t x (inl h) = (false, halted_more t (error_of look q run) (Calls Lists ∷ []) (planned_stages q.1.config (env_in q run) (repeating false) look q.0) run e x x (h t x))
-uncaptured look q run e t x (inr w) = (
-  false,
-  halted_among t (error_of look q run) (Calls Lists ∷ []) (planned_stages q.1.config (env_in q run) (repeating false) look q.0) run e x x (w.1 t x).1 w.0 (planned_open q.1.config (env_in q run) (repeating false) look q.0),
+pub uncaptured : (listens : Bool) (look : Look) (q : Request) (run : List Event) (e : ErrorSeen) (t : Terms) (x : Means) → CaptureEnds run (Err e) → (finds : Findings listens) × Halted t (error_of look q run) (stages_of listens look q finds run) run e x x
+uncaptured listens look q run e t x (inl h) = (unfound listens, halted_more t (error_of look q run) (Calls Lists ∷ []) (planned_stages q.1.config (env_in q run) (repeating (unfound listens).here (unfound listens).is_plain) look q.0) run e x x (h t x))
+uncaptured listens look q run e t x (inr w) = (
+  unfound listens,
+  halted_among t (error_of look q run) (Calls Lists ∷ []) (planned_stages q.1.config (env_in q run) (repeating (unfound listens).here (unfound listens).is_plain) look q.0) run e x x (w.1 t x).1 w.0 (planned_open q.1.config (env_in q run) (repeating (unfound listens).here (unfound listens).is_plain) look q.0),
 )
 
 -- the host listed its variables
 listing_done : (t : Terms) (vars : List (List ℕ × List ℕ)) (x : Means) → Did t (Calls Lists) (Listed vars ∷ []) x x
 listing_done t vars x = (Listed vars, (refl, refl, refl))
 
-module _ (look : Look) (name : List ℕ) (before after : BuildSeen) (old mid new : List Event) (first : mid ≡ old ++ since old mid) (last : new ≡ mid ++ since mid new) (k : Captures before after (since old mid)) (total p q : Option ℕ) (same : p ≡ q) (x y : Means) (repeats : before.config.repeat_lines ≡ true) where
+module _ (listens : Bool) (look : Look) (name : List ℕ) (before after : BuildSeen) (old mid new : List Event) (first : mid ≡ old ++ since old mid) (last : new ≡ mid ++ since mid new) (k : Captures before after (since old mid)) (total p q : Option ℕ) (same : p ≡ q) (x y : Means) (repeats : before.config.repeat_lines ≡ true) where
   -- the build with the variables that were listed
   abbrev taken : BuildSeen
   taken = record before { env = with_vars before.env k.vars }
@@ -66,48 +66,48 @@ module _ (look : Look) (name : List ℕ) (before after : BuildSeen) (old mid new
   listed = since_since old mid new first last ∙ ap (λ l. l ++ since mid new) k.listed
 
   abbrev t : Terms
-  t = terms_for taken (course total q x y)
+  t = terms_for taken listens (course total q x y)
 
   -- the run is that of the listed variables, with the patience that the host had before
-  as_taken : {T : Type 0} (r : Result T ErrorSeen) → Promises after name r look (since mid new) (course total p x y) → Promises taken name r look (since mid new) (course total q x y)
+  as_taken : {T : Type 0} (r : Result T ErrorSeen) → Promises after listens name r look (since mid new) (course total p x y) → Promises taken listens name r look (since mid new) (course total q x y)
   as_taken r h =
-      subst (λ (patience : Option ℕ). Promises taken name r look (since mid new) (course total patience x y)) same
-      (subst (λ (b : BuildSeen). Promises b name r look (since mid new) (course total p x y)) k.is h)
+      subst (λ (patience : Option ℕ). Promises taken listens name r look (since mid new) (course total patience x y)) same
+      (subst (λ (b : BuildSeen). Promises b listens name r look (since mid new) (course total p x y)) k.is h)
 
-  built_taken : Built (terms_for after (course total p x y)) after.config after.env look name (since mid new) → Built t taken.config taken.env look name (since mid new)
+  built_taken : Built (terms_for after listens (course total p x y)) after.config after.env look name (since mid new) → Built t taken.config taken.env look name (since mid new)
   built_taken h =
-      subst (λ (patience : Option ℕ). Built (terms_for taken (course total patience x y)) taken.config taken.env look name (since mid new)) same
-      (subst (λ (b : BuildSeen). Built (terms_for b (course total p x y)) b.config b.env look name (since mid new)) k.is h)
+      subst (λ (patience : Option ℕ). Built (terms_for taken listens (course total patience x y)) taken.config taken.env look name (since mid new)) same
+      (subst (λ (b : BuildSeen). Built (terms_for b listens (course total p x y)) b.config b.env look name (since mid new)) k.is h)
 
   -- the library was built
-  pub answers_built : (ended : Ended) → ended ≡ ended_well → Built (terms_for after (course total p x y)) after.config after.env look name (since mid new) → Promises {T = Unit {0}} after name (Ok tt) look (since mid new) (course total p x y) → Answers look (name, before) (since old new) ended (course total q x y)
+  pub answers_built : (ended : Ended) → ended ≡ ended_well → Built (terms_for after listens (course total p x y)) after.config after.env look name (since mid new) → Promises {T = Unit {0}} after listens name (Ok tt) look (since mid new) (course total p x y) → Answers listens look (name, before) (since old new) ended (course total q x y)
   answers_built ended is built h =
       let promises = as_taken {T = Unit {0}} (Ok tt) h in
       let way = promises.way in
-      let run : Went t (planned_stages before.config taken.env (repeating way.is_plain) look name) (since mid new) x y = went_same before.config taken.env way look name t (since mid new) x y repeats promises.repeats promises.outcome.1 in
-      let went : Went t (Calls Lists ∷ planned_stages before.config taken.env (repeating way.is_plain) look name) (Listed k.vars ∷ since mid new) x y = (Listed k.vars ∷ [], since mid new, x, (refl, listing_done t k.vars x, run)) in
-      subst (λ (part : List Event). Answers look (name, before) part ended (course total q x y)) (sym listed)
-      (inl (is, (record { vars = k.vars; run = since mid new; cut = refl; built = built_taken built }, (way.is_plain, went))))
+      let run : Went t (planned_stages before.config taken.env (repeating way.found.here way.is_plain) look name) (since mid new) x y = went_same before.config taken.env way look name t (since mid new) x y repeats promises.repeats promises.outcome.1 in
+      let went : Went t (Calls Lists ∷ planned_stages before.config taken.env (repeating way.found.here way.is_plain) look name) (Listed k.vars ∷ since mid new) x y = (Listed k.vars ∷ [], since mid new, x, (refl, listing_done t k.vars x, run)) in
+      subst (λ (part : List Event). Answers listens look (name, before) part ended (course total q x y)) (sym listed)
+      (inl (is, (record { vars = k.vars; run = since mid new; cut = refl; built = built_taken built }, (finds_of listens way promises.hears, went))))
 
   -- it was refused behind the listing
-  pub halted_listed : (e : ErrorSeen) → Promises {T = Unit {0}} after name (Err e) look (since mid new) (course total p x y) → (is_plain : Bool) × Halted (terms_in (name, before) (since old new) (course total q x y)) (error_of look (name, before) (since old new)) (stages_of look (name, before) is_plain (since old new)) (since old new) e x y
+  pub halted_listed : (e : ErrorSeen) → Promises {T = Unit {0}} after listens name (Err e) look (since mid new) (course total p x y) → (finds : Findings listens) × Halted (terms_in listens (name, before) (since old new) (course total q x y)) (error_of look (name, before) (since old new)) (stages_of listens look (name, before) is_plain (since old new)) (since old new) e x y
   halted_listed e h =
       let promises = as_taken {T = Unit {0}} (Err e) h in
       let way = promises.way in
       let refusal = refusal_error before.config taken.env look name in
-      let run : Halted t refusal (planned_stages before.config taken.env (repeating way.is_plain) look name) (since mid new) e x y = halted_same before.config taken.env way look name t refusal (since mid new) e x y repeats promises.repeats promises.outcome in (
-        way.is_plain,
-        subst (λ (part : List Event). Halted (terms_in (name, before) part (course total q x y)) (error_of look (name, before) part) (stages_of look (name, before) way.is_plain part) part e x y) (sym listed)
-            (halted_then t refusal (Calls Lists ∷ []) (planned_stages before.config taken.env (repeating way.is_plain) look name) (Listed k.vars ∷ []) (since mid new) e x x y (called t Lists (Listed k.vars) (Listed k.vars ∷ []) x refl refl) run),
+      let run : Halted t refusal (planned_stages before.config taken.env (repeating way.found.here way.is_plain) look name) (since mid new) e x y = halted_same before.config taken.env way look name t refusal (since mid new) e x y repeats promises.repeats promises.outcome in (
+        finds_of listens way promises.hears,
+        subst (λ (part : List Event). Halted (terms_in listens (name, before) part (course total q x y)) (error_of look (name, before) part) (stages_of listens look (name, before) (finds_of listens way promises.hears) part) part e x y) (sym listed)
+            (halted_then t refusal (Calls Lists ∷ []) (planned_stages before.config taken.env (repeating way.found.here way.is_plain) look name) (Listed k.vars ∷ []) (since mid new) e x x y (called t Lists (Listed k.vars) (Listed k.vars ∷ []) x refl refl) run),
       )
 
 -- the same request, by its name
-pub answers_named : (look : Look) (a b : List ℕ) (build : BuildSeen) (part : List Event) (ended : Ended) (c : Course) → a ≡ b → Answers look (a, build) part ended c → Answers look (b, build) part ended c
-answers_named look a b build part ended c same h = subst (λ (name : List ℕ). Answers look (name, build) part ended c) same h
+pub answers_named : (listens : Bool) (look : Look) (a b : List ℕ) (build : BuildSeen) (part : List Event) (ended : Ended) (c : Course) → a ≡ b → Answers listens look (a, build) part ended c → Answers listens look (b, build) part ended c
+answers_named listens look a b build part ended c same h = subst (λ (name : List ℕ). Answers listens look (name, build) part ended c) same h
 
 -- the same words, as they were read
-pub answers_read : (look : Look) (words known : Result Wish BadWord) (part : List Event) (ended : Ended) (c : Course) → words ≡ known → AnswersWords look known part ended c → AnswersWords look words part ended c
-answers_read look words known part ended c same a = subst (λ (w : Result Wish BadWord). AnswersWords look w part ended c) (sym same) a
+pub answers_read : (listens : Bool) (look : Look) (words known : Result Wish BadWord) (part : List Event) (ended : Ended) (c : Course) → words ≡ known → AnswersWords listens look known part ended c → AnswersWords listens look words part ended c
+answers_read listens look words known part ended c same a = subst (λ (w : Result Wish BadWord). AnswersWords listens look w part ended c) (sym same) a
 
 -- a bad word that was read is the first of the words
 pub bad_read : (words : Result Wish BadWord) (e : ReadError) (bad : BadWord) → e ≡ Bad bad → (e ≡ WantsMemory) ⊎ (refusal_of words ≡ Some e) → words ≡ Err bad
@@ -128,23 +128,23 @@ wanting_unbegun log ended c is same = record {
 }
 
 -- memory was wanted before anything was done
-pub answers_wanting : (look : Look) (words : Result Wish BadWord) (log : List Event) (ended : Ended) (c : Course) → ended ≡ ended_wanting → c.after ≡ c.before → AnswersWords look words (since log log) ended c
-answers_wanting look (Ok (Records path q)) log ended c is same = inl (wanting_unbegun log ended c is same)
-answers_wanting look (Ok (Archives q)) log ended c is same = tt
-answers_wanting look (Ok (Generates n)) log ended c is same = same
-answers_wanting look (Ok (Expands b)) log ended c is same = same
-answers_wanting look (Ok (Shows b)) log ended c is same = same
-answers_wanting look (Ok (Compiles q)) log ended c is same =
+pub answers_wanting : (listens : Bool) (look : Look) (words : Result Wish BadWord) (log : List Event) (ended : Ended) (c : Course) → ended ≡ ended_wanting → c.after ≡ c.before → AnswersWords listens look words (since log log) ended c
+answers_wanting listens look (Ok (Records path q)) log ended c is same = inl (wanting_unbegun log ended c is same)
+answers_wanting listens look (Ok (Archives q)) log ended c is same = tt
+answers_wanting listens look (Ok (Generates n)) log ended c is same = same
+answers_wanting listens look (Ok (Expands b)) log ended c is same = same
+answers_wanting listens look (Ok (Shows b)) log ended c is same = same
+answers_wanting listens look (Ok (Compiles q)) log ended c is same =
     let none : since log log ≡ [] = part_is log log [] (sym (append-nil log)) in
     inr (inr (
       is,
       (
-        false,
-        subst (λ (y : Means). IsHalted (terms_in q (since log log) c) (error_of look q (since log log)) (stages_of look q false (since log log)) (since log log) c.before y) (sym same)
-            (no_memory, halted_none (terms_in q (since log log) c) (error_of look q (since log log)) (stages_of look q false (since log log)) (since log log) no_memory c.before none refl (λ empty. absurd (cc))),
+        unfound listens,
+        subst (λ (y : Means). IsHalted (terms_in listens q (since log log) c) (error_of look q (since log log)) (stages_of listens look q (unfound listens) (since log log)) (since log log) c.before y) (sym same)
+            (no_memory, halted_none (terms_in listens q (since log log) c) (error_of look q (since log log)) (stages_of listens look q (unfound listens) (since log log)) (since log log) no_memory c.before none refl (λ empty. absurd (cc))),
       ),
     ))
-answers_wanting look (Err bad) log ended c is same = (inr (is, part_is log log [] (sym (append-nil log))), same)
+answers_wanting listens look (Err bad) log ended c is same = (inr (is, part_is log log [] (sym (append-nil log))), same)
 
 -- what a call asks behind the listing of the variables, it asks for the request
 pub asked_captured : (steady : Bool) (world : Question → Outcome) (name : List ℕ) (before after : BuildSeen) (old mid new : List Event) → mid ≡ old ++ since old mid → new ≡ mid ++ since mid new → Captures before after (since old mid) → Asked steady world (probe_folder after.config after.env) (RunAsks after.config after.env) (since mid new) → AsksFor steady world (name, before) (since old new)

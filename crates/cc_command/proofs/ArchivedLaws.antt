@@ -75,7 +75,7 @@ archive_open b look links output is_plain = by_early (unarchived_error (alone b)
     by_early None late run h = absurd (cc)
     by_early (Some e) late run h = refl
 
-module _ (steady : Bool) (world : Question → Outcome) (patience : Option ℕ) (turns : ℕ) where
+module _ (listens : Bool) (steady : Bool) (world : Question → Outcome) (patience : Option ℕ) (turns : ℕ) where
   none_asked : (b : BuildSeen) → AsksByRun steady world b []
   none_asked b = asked_none steady world (probes b) (RunAsks b.config b.env) [] refl
 
@@ -84,20 +84,20 @@ module _ (steady : Bool) (world : Question → Outcome) (patience : Option ℕ) 
     abbrev idle : Means
     idle = (course_alone patience turns turns).before
 
-    unlisted_ends : (look links : Look) → CaptureEnds run (Err e) → WishEnds request patience turns (Err e) look links run
+    unlisted_ends : (look links : Look) → CaptureEnds run (Err e) → WishEnds listens request patience turns (Err e) look links run
     unlisted_ends look links h = (turns, false, stopped h)
       where
         b : BuildSeen
         b = build_in request run
 
         t : Terms
-        t = terms_for (alone b) (course_alone patience turns turns)
+        t = terms_for (alone b) listens (course_alone patience turns turns)
 
         stopped : CaptureEnds run (Err e) → Ends {T = Unit {0}} t (archive_refused b look links request.0) (Calls Lists ∷ archive_stages b false look links request.0) run (Err e) idle idle
         stopped (inl k) = halted_more t (archive_refused b look links request.0) (Calls Lists ∷ []) (archive_stages b false look links request.0) run e idle idle (k t idle)
         stopped (inr k) = halted_among t (archive_refused b look links request.0) (Calls Lists ∷ []) (archive_stages b false look links request.0) run e idle idle (k.1 t idle).1 k.0 (archive_open b look links request.0 false)
 
-    pub unlisted : (line part : List Event) (ended : Ended) → part ≡ run ++ line → question_events run ≡ [] → CaptureEnds run (Err e) → AnswersError e line ended → Archived steady world request patience turns part ended
+    pub unlisted : (line part : List Event) (ended : Ended) → part ≡ run ++ line → question_events run ≡ [] → CaptureEnds run (Err e) → AnswersError e line ended → Archived listens steady world request patience turns part ended
     unlisted line part ended cut none h says = record {
       run = run;
       line = line;
@@ -113,7 +113,7 @@ module _ (steady : Bool) (world : Question → Outcome) (patience : Option ℕ) 
     }
 
   -- memory for the words was wanted, and nothing was done
-  pub unread : (request : Request) (part : List Event) (ended : Ended) → part ≡ [] → ended ≡ ended_wanting → Archived steady world request patience turns part ended
+  pub unread : (request : Request) (part : List Event) (ended : Ended) → part ≡ [] → ended ≡ ended_wanting → Archived listens steady world request patience turns part ended
   unread request part ended none is = record {
     run = [];
     line = [];
@@ -124,7 +124,7 @@ module _ (steady : Bool) (world : Question → Outcome) (patience : Option ℕ) 
     made_asks = none_asked (alone (build_in request []));
     linked_asks = none_asked (build_in request []);
     result = Err no_memory;
-    ends = λ look links agree. (turns, false, halted_none (terms_for (alone (build_in request [])) (course_alone patience turns turns)) (wished_refusal request look links []) (wished_stages request false look links []) [] no_memory (course_alone patience turns turns).before refl refl (λ empty. absurd (cc)));
+    ends = λ look links agree. (turns, false, halted_none (terms_for (alone (build_in request [])) listens (course_alone patience turns turns)) (wished_refusal request look links []) (wished_stages request false look links []) [] no_memory (course_alone patience turns turns).before refl refl (λ empty. absurd (cc)));
     says = inr (is, refl);
   }
 
@@ -136,17 +136,17 @@ module _ (steady : Bool) (world : Question → Outcome) (patience : Option ℕ) 
     abbrev taken : BuildSeen
     taken = record before { env = with_vars before.env k.vars }
 
-    listed_ends : (look links : Look) (left : ℕ) (is_plain : Bool) → Ends (terms_for (alone taken) (course_alone patience turns left)) (archive_refused taken look links name) (archive_stages taken is_plain look links name) part result (course_alone patience turns left).before (course_alone patience turns left).after → Ends (terms_for (alone taken) (course_alone patience turns left)) (archive_refused taken look links name) (Calls Lists ∷ archive_stages taken is_plain look links name) listed_run result (course_alone patience turns left).before (course_alone patience turns left).after
+    listed_ends : (look links : Look) (left : ℕ) (is_plain : Bool) → Ends (terms_for (alone taken) listens (course_alone patience turns left)) (archive_refused taken look links name) (archive_stages taken is_plain look links name) part result (course_alone patience turns left).before (course_alone patience turns left).after → Ends (terms_for (alone taken) listens (course_alone patience turns left)) (archive_refused taken look links name) (Calls Lists ∷ archive_stages taken is_plain look links name) listed_run result (course_alone patience turns left).before (course_alone patience turns left).after
     listed_ends look links left is_plain o =
         let c = course_alone patience turns left in
-        ends_then (terms_for (alone taken) c) (archive_refused taken look links name) (Calls Lists ∷ []) (archive_stages taken is_plain look links name) (Listed k.vars ∷ []) part result c.before c.before c.after (called (terms_for (alone taken) c) Lists (Listed k.vars) (Listed k.vars ∷ []) c.before refl refl) o
+        ends_then (terms_for (alone taken) listens c) (archive_refused taken look links name) (Calls Lists ∷ []) (archive_stages taken is_plain look links name) (Listed k.vars ∷ []) part result c.before c.before c.after (called (terms_for (alone taken) listens c) Lists (Listed k.vars) (Listed k.vars ∷ []) c.before refl refl) o
 
-    of_taken : Archiving steady world after patience turns name part result → Archiving steady world taken patience turns name part result
-    of_taken h = subst (λ (b : BuildSeen). Archiving steady world b patience turns name part result) k.is h
+    of_taken : Archiving listens steady world after patience turns name part result → Archiving listens steady world taken patience turns name part result
+    of_taken h = subst (λ (b : BuildSeen). Archiving listens steady world b patience turns name part result) k.is h
 
-    pub archived_so : (line whole : List Event) (ended : Ended) → whole ≡ (listing ++ part) ++ line → Archiving steady world after patience turns name part result → Says result line ended → Archived steady world (name, before) patience turns whole ended
+    pub archived_so : (line whole : List Event) (ended : Ended) → whole ≡ (listing ++ part) ++ line → Archiving listens steady world after patience turns name part result → Says result line ended → Archived listens steady world (name, before) patience turns whole ended
     archived_so line whole ended cut after_so says =
-        let h : Archiving steady world taken patience turns name part result = of_taken after_so in
+        let h : Archiving listens steady world taken patience turns name part result = of_taken after_so in
         record {
           run = listed_run;
           line = line;
@@ -162,14 +162,14 @@ module _ (steady : Bool) (world : Question → Outcome) (patience : Option ℕ) 
         }
 
 -- words that were not read for want of memory
-pub archived_wanting : (steady : Bool) (world : Question → Outcome) (patience : Option ℕ) (turns : ℕ) (log : List Event) (words : Result Wish BadWord) (ended : Ended) → ended ≡ ended_wanting → IfArchives words (λ q. Archived steady world q patience turns (since log log) ended)
-archived_wanting steady world patience turns log (Ok (Compiles q)) ended is = tt
-archived_wanting steady world patience turns log (Ok (Records path q)) ended is = tt
-archived_wanting steady world patience turns log (Ok (Archives q)) ended is = unread steady world patience turns q (since log log) ended (part_is log log [] (sym (append-nil log))) is
-archived_wanting steady world patience turns log (Ok (Generates n)) ended is = tt
-archived_wanting steady world patience turns log (Ok (Expands b)) ended is = tt
-archived_wanting steady world patience turns log (Ok (Shows b)) ended is = tt
-archived_wanting steady world patience turns log (Err bad) ended is = tt
+pub archived_wanting : (listens : Bool) (steady : Bool) (world : Question → Outcome) (patience : Option ℕ) (turns : ℕ) (log : List Event) (words : Result Wish BadWord) (ended : Ended) → ended ≡ ended_wanting → IfArchives words (λ q. Archived listens steady world q patience turns (since log log) ended)
+archived_wanting listens steady world patience turns log (Ok (Compiles q)) ended is = tt
+archived_wanting listens steady world patience turns log (Ok (Records path q)) ended is = tt
+archived_wanting listens steady world patience turns log (Ok (Archives q)) ended is = unread listens steady world patience turns q (since log log) ended (part_is log log [] (sym (append-nil log))) is
+archived_wanting listens steady world patience turns log (Ok (Generates n)) ended is = tt
+archived_wanting listens steady world patience turns log (Ok (Expands b)) ended is = tt
+archived_wanting listens steady world patience turns log (Ok (Shows b)) ended is = tt
+archived_wanting listens steady world patience turns log (Err bad) ended is = tt
 
 -- ---- the commands of a library
 
@@ -319,12 +319,12 @@ too_few p n objects most turned few counted enough same =
     let more : p * n ≤ p * (objects + 2) = mul-le-mul_left p (omega (arith, counted)) in
     omega arith
 
-module _ (q : Request) (patience : Option ℕ) (turned : ℕ) (part run line : List Event) (ended : Ended) (look links : Look) (left : ℕ) (is_plain : Bool) (cut : part ≡ run ++ line) where
+module _ (listens : Bool) (q : Request) (patience : Option ℕ) (turned : ℕ) (part run line : List Event) (ended : Ended) (look links : Look) (left : ℕ) (is_plain : Bool) (cut : part ≡ run ++ line) where
   abbrev b : BuildSeen
   b = build_in q run
 
   abbrev t : Terms
-  t = terms_for (alone b) (course_alone patience turned left)
+  t = terms_for (alone b) listens (course_alone patience turned left)
 
   abbrev x : Means
   x = (course_alone patience turned left).before
@@ -339,7 +339,7 @@ module _ (q : Request) (patience : Option ℕ) (turned : ℕ) (part run line : L
   stages = wished_stages q is_plain look links run
 
   -- status 0: nothing was refused, and the library was written
-  written_of : (result : Result (Unit {0}) ErrorSeen) → Says result line ended → ended.status ≡ 0 → Ends t refusal stages run result x y → (line ≡ []) × Written b patience turned look links q.0 run
+  written_of : (result : Result (Unit {0}) ErrorSeen) → Says result line ended → ended.status ≡ 0 → Ends t refusal stages run result x y → (line ≡ []) × Written listens b patience turned look links q.0 run
   written_of (Ok done) says zero_is o = (
     says.1,
     record {
@@ -348,7 +348,7 @@ module _ (q : Request) (patience : Option ℕ) (turned : ℕ) (part run line : L
       left = left;
       went = o.1;
       writes = went_attempts t stages run x y (alone_plain b is_plain look links q.0) o.1 ∙ ap (map to_attempt) (commands_are b is_plain look links q.0 o.0);
-      others = went_started t stages run x y o.1 ∙ ap (asked (shows_of (alone b).config (alone b).env)) (children_are b is_plain look links q.0 o.0);
+      others = went_started t stages run x y o.1 ∙ ap (asked (shows_of (alone b).config (alone b).env listens)) (children_are b is_plain look links q.0 o.0);
       ended = went_run t stages run x y 0 o.1 ∙ ap all_ended (zero-add (length (children_in stages))) ∙ ap (λ l. all_ended (length l)) (children_are b is_plain look links q.0 o.0);
     },
   )
@@ -381,7 +381,7 @@ module _ (q : Request) (patience : Option ℕ) (turned : ℕ) (part run line : L
 
 -- ---- what it promises
 
-module _ (steady : Bool) (world : Question → Outcome) (q : Request) (patience : Option ℕ) (turned : ℕ) (part : List Event) (ended : Ended) (h : Archived steady world q patience turned part ended) where
+module _ (listens : Bool) (steady : Bool) (world : Question → Outcome) (q : Request) (patience : Option ℕ) (turned : ℕ) (part : List Event) (ended : Ended) (h : Archived listens steady world q patience turned part ended) where
   its_line : IsLine h.line
   its_line = says_line h.result h.line ended h.says
 
@@ -396,7 +396,7 @@ module _ (steady : Bool) (world : Question → Outcome) (q : Request) (patience 
   begun look links agree =
       let o = h.ends look links agree in
       let c = course_alone patience turned o.0 in
-      ended_partly (terms_for (alone (build_in q h.run)) c) (wished_refusal q look links h.run) (wished_stages q o.1 look links h.run) h.run h.result c.before c.after o.2
+      ended_partly (terms_for (alone (build_in q h.run)) listens c) (wished_refusal q look links h.run) (wished_stages q o.1 look links h.run) h.run h.result c.before c.after o.2
 
   pub archived_last : PrintsLast part ended
   archived_last = says_last h.result part h.run h.line ended h.cut h.says
@@ -406,14 +406,14 @@ module _ (steady : Bool) (world : Question → Outcome) (q : Request) (patience 
       let some = some_looks in
       let o = h.ends some.0 some.1 some.2 in
       let c = course_alone patience turned o.0 in
-      stages_last (terms_for (alone (build_in q h.run)) c) (wished_stages q o.1 some.0 some.1 h.run) part h.run h.line c.before c.after h.cut (begun some.0 some.1 some.2) its_line
+      stages_last (terms_for (alone (build_in q h.run)) listens c) (wished_stages q o.1 some.0 some.1 h.run) part h.run h.line c.before c.after h.cut (begun some.0 some.1 some.2) its_line
 
   pub archived_settled : NothingRuns part
   archived_settled =
       let some = some_looks in
       let o = h.ends some.0 some.1 some.2 in
       let c = course_alone patience turned o.0 in
-      stages_settled (terms_for (alone (build_in q h.run)) c) (wished_stages q o.1 some.0 some.1 h.run) part h.run h.line c.before c.after h.cut (begun some.0 some.1 some.2) its_line
+      stages_settled (terms_for (alone (build_in q h.run)) listens c) (wished_stages q o.1 some.0 some.1 h.run) part h.run h.line c.before c.after h.cut (begun some.0 some.1 some.2) its_line
 
   -- the line lists no variables
   heard_too : heard part ≡ heard h.run
@@ -423,19 +423,19 @@ module _ (steady : Bool) (world : Question → Outcome) (q : Request) (patience 
   abbrev with_heard : List (List ℕ × List ℕ) → BuildSeen
   with_heard vars = record q.1 { env = with_vars q.1.env vars }
 
-  its_written : ended.status ≡ 0 → (look links : Look) → Agree h.made h.linked look links → Written (build_in q part) patience turned look links q.0 part
+  its_written : ended.status ≡ 0 → (look links : Look) → Agree h.made h.linked look links → Written listens (build_in q part) patience turned look links q.0 part
   its_written zero_is look links agree =
       let o = h.ends look links agree in
       let w = written_of q patience turned part h.run h.line ended look links o.0 o.1 h.cut h.result h.says zero_is o.2 in
       let same : part ≡ h.run = h.cut ∙ ap (λ l. h.run ++ l) w.0 ∙ append-nil h.run in
-      subst (λ (p : List Event). Written (build_in q p) patience turned look links q.0 p) (sym same) w.1
+      subst (λ (p : List Event). Written listens (build_in q p) patience turned look links q.0 p) (sym same) w.1
 
   its_prefix : (look links : Look) → Agree h.made h.linked look links → (is_plain : Bool) × AreFirst (wished_stages q is_plain look links part) part
   its_prefix look links agree =
       let o = h.ends look links agree in
       let c = course_alone patience turned o.0 in
       let b = build_in q h.run in
-      let p = partly_first (terms_for (alone b) c) (wished_stages q o.1 look links h.run) h.run c.before c.after (alone_plain b o.1 look links q.0) (begun look links agree) in
+      let p = partly_first (terms_for (alone b) listens c) (wished_stages q o.1 look links h.run) h.run c.before c.after (alone_plain b o.1 look links q.0) (begun look links agree) in
       let same = attempts_same part h.run h.line h.cut its_line in (
         o.1,
         (
@@ -476,7 +476,7 @@ module _ (steady : Bool) (world : Question → Outcome) (q : Request) (patience 
         ),
       )
 
-  pub archive_promised : ArchivePromises steady world q patience turned part ended
+  pub archive_promised : ArchivePromises listens steady world q patience turned part ended
   archive_promised = record {
     answer = h;
     written = its_written;
@@ -486,32 +486,32 @@ module _ (steady : Bool) (world : Question → Outcome) (q : Request) (patience 
   }
 
 -- the same of words
-pub archive_promises : (steady : Bool) (world : Question → Outcome) (patience : Option ℕ) (turned : ℕ) (part : List Event) (ended : Ended) (words : Result Wish BadWord) → IfArchives words (λ q. Archived steady world q patience turned part ended) → IfArchives words (λ q. ArchivePromises steady world q patience turned part ended)
-archive_promises steady world patience turned part ended (Ok (Compiles q)) h = tt
-archive_promises steady world patience turned part ended (Ok (Records path q)) h = tt
-archive_promises steady world patience turned part ended (Ok (Archives q)) h = archive_promised steady world q patience turned part ended h
-archive_promises steady world patience turned part ended (Ok (Generates n)) h = tt
-archive_promises steady world patience turned part ended (Ok (Expands b)) h = tt
-archive_promises steady world patience turned part ended (Ok (Shows b)) h = tt
-archive_promises steady world patience turned part ended (Err bad) h = tt
+pub archive_promises : (listens : Bool) (steady : Bool) (world : Question → Outcome) (patience : Option ℕ) (turned : ℕ) (part : List Event) (ended : Ended) (words : Result Wish BadWord) → IfArchives words (λ q. Archived listens steady world q patience turned part ended) → IfArchives words (λ q. ArchivePromises listens steady world q patience turned part ended)
+archive_promises listens steady world patience turned part ended (Ok (Compiles q)) h = tt
+archive_promises listens steady world patience turned part ended (Ok (Records path q)) h = tt
+archive_promises listens steady world patience turned part ended (Ok (Archives q)) h = archive_promised listens steady world q patience turned part ended h
+archive_promises listens steady world patience turned part ended (Ok (Generates n)) h = tt
+archive_promises listens steady world patience turned part ended (Ok (Expands b)) h = tt
+archive_promises listens steady world patience turned part ended (Ok (Shows b)) h = tt
+archive_promises listens steady world patience turned part ended (Err bad) h = tt
 
 -- ---- by the job
 
 -- a job that compiles answers its wish so
-pub of_compile : (job : Job) (name : List ℕ) (build : BuildSeen) (database : Option (List ℕ)) (ended : Ended) (look : Look) (part : List Event) (c : Course) → job ≡ Compile name → IsAnswerOf (compile_wish database (name_of job, build)) ended look part c → IsAnswerOf (wish_of job database build) ended look part c
-of_compile (Compile n) name build database ended look part c is h = h
-of_compile (Archive n) name build database ended look part c is h = absurd (cc)
-of_compile (Generate n) name build database ended look part c is h = absurd (cc)
-of_compile Expand name build database ended look part c is h = absurd (cc)
-of_compile Show name build database ended look part c is h = absurd (cc)
+pub of_compile : (listens : Bool) (job : Job) (name : List ℕ) (build : BuildSeen) (database : Option (List ℕ)) (ended : Ended) (look : Look) (part : List Event) (c : Course) → job ≡ Compile name → IsAnswerOf listens (compile_wish database (name_of job, build)) ended look part c → IsAnswerOf listens (wish_of job database build) ended look part c
+of_compile listens (Compile n) name build database ended look part c is h = h
+of_compile listens (Archive n) name build database ended look part c is h = absurd (cc)
+of_compile listens (Generate n) name build database ended look part c is h = absurd (cc)
+of_compile listens Expand name build database ended look part c is h = absurd (cc)
+of_compile listens Show name build database ended look part c is h = absurd (cc)
 
 -- a job that archives asks what its wish does
-pub of_archive : (job : Job) (name : List ℕ) (build : BuildSeen) (database : Option (List ℕ)) (steady : Bool) (world : Question → Outcome) (patience : Option ℕ) (turned : ℕ) (part : List Event) (ended : Ended) → job ≡ Archive name → Archived steady world (name_of job, build) patience turned part ended → AsksWish steady world (wish_of job database build) part
-of_archive (Compile n) name build database steady world patience turned part ended is h = absurd (cc)
-of_archive (Generate n) name build database steady world patience turned part ended is h = absurd (cc)
-of_archive Expand name build database steady world patience turned part ended is h = absurd (cc)
-of_archive Show name build database steady world patience turned part ended is h = absurd (cc)
-of_archive (Archive n) name build database steady world patience turned part ended is h = archived_asks steady world (n, build) patience turned part ended h
+pub of_archive : (listens : Bool) (job : Job) (name : List ℕ) (build : BuildSeen) (database : Option (List ℕ)) (steady : Bool) (world : Question → Outcome) (patience : Option ℕ) (turned : ℕ) (part : List Event) (ended : Ended) → job ≡ Archive name → Archived listens steady world (name_of job, build) patience turned part ended → AsksWish steady world (wish_of job database build) part
+of_archive listens (Compile n) name build database steady world patience turned part ended is h = absurd (cc)
+of_archive listens (Generate n) name build database steady world patience turned part ended is h = absurd (cc)
+of_archive listens Expand name build database steady world patience turned part ended is h = absurd (cc)
+of_archive listens Show name build database steady world patience turned part ended is h = absurd (cc)
+of_archive listens (Archive n) name build database steady world patience turned part ended is h = archived_asks listens steady world (n, build) patience turned part ended h
 
 -- ---- nothing was asked
 

@@ -96,7 +96,7 @@ linked_then t None f g library names lines None path link made linked v r x y z 
 
 -- ---- of a build
 
-module _ (steady : Bool) (world : Question → Outcome) (b : BuildSeen) (patience : Option ℕ) (turns : ℕ) (output : List ℕ) where
+module _ (listens : Bool) (steady : Bool) (world : Question → Outcome) (b : BuildSeen) (patience : Option ℕ) (turns : ℕ) (output : List ℕ) where
   abbrev first_error : PlanError → ErrorSeen
   first_error = plan_error (alone b).config (alone b).env output
 
@@ -110,9 +110,9 @@ module _ (steady : Bool) (world : Question → Outcome) (b : BuildSeen) (patienc
   names_by look = name_stages (alone b).config (alone b).env archive_reads look all_firsts
 
   -- all lines of the variables were printed
-  module _ {P : Type 0} (r : Result P ErrorSeen) (repeats : b.config.repeat_lines ≡ true) (look : Look) (part : List Event) (h : Creates (alone b) patience turns output r look part) where
+  module _ {P : Type 0} (r : Result P ErrorSeen) (repeats : b.config.repeat_lines ≡ true) (look : Look) (part : List Event) (h : Creates (alone b) listens patience turns output r look part) where
     abbrev its_terms : Terms
-    its_terms = terms_for (alone b) (course_alone patience turns h.0)
+    its_terms = terms_for (alone b) listens (course_alone patience turns h.0)
 
     made_so : Ends its_terms (first_of (unarchived_error (alone b).config (alone b).env output) (archive_error (alone b).config (alone b).env look output)) (creation_stages (alone b).config (alone b).env h.1.0 look all_firsts output) part r (course_alone patience turns h.0).before (course_alone patience turns h.0).after
     made_so =
@@ -120,7 +120,7 @@ module _ (steady : Bool) (world : Question → Outcome) (b : BuildSeen) (patienc
         subst (λ (firsts : Firsts). Ends its_terms (first_of (unarchived_error (alone b).config (alone b).env output) (archive_error (alone b).config (alone b).env look output)) (creation_stages (alone b).config (alone b).env h.1.0 look firsts output) part r (course_alone patience turns h.0).before (course_alone patience turns h.0).after) all h.1.2.1
 
   -- the archive ended
-  pub archive_ended : (part : List Event) (e : ErrorSeen) → b.config.repeat_lines ≡ true → AsksByRun steady world (alone b) part → AsksByRun steady world b [] → Holds (answers part) (λ look. Creates {T = List ℕ} (alone b) patience turns output (Err e) look part) → Archiving steady world b patience turns output part (Err e)
+  pub archive_ended : (part : List Event) (e : ErrorSeen) → b.config.repeat_lines ≡ true → AsksByRun steady world (alone b) part → AsksByRun steady world b [] → Holds (answers part) (λ look. Creates {T = List ℕ} (alone b) listens patience turns output (Err e) look part) → Archiving listens steady world b patience turns output part (Err e)
   archive_ended part e repeats asks none h = record {
     made = part;
     linked = [];
@@ -131,13 +131,13 @@ module _ (steady : Bool) (world : Question → Outcome) (b : BuildSeen) (patienc
         let k = h.under look agree.0 in (
           k.0,
           k.1.0,
-          halted_made (terms_for (alone b) (course_alone patience turns k.0)) (unarchived_error (alone b).config (alone b).env output) first_error link_error (library_stages (alone b).config (alone b).env k.1.0 look output) (names_by look) (lines_by links)
+          halted_made (terms_for (alone b) listens (course_alone patience turns k.0)) (unarchived_error (alone b).config (alone b).env output) first_error link_error (library_stages (alone b).config (alone b).env k.1.0 look output) (names_by look) (lines_by links)
               (archive_refusal (alone b).config (alone b).env look) (path_refusal (library_at b output)) (link_refusal b.config b.env links) part e (course_alone patience turns k.0).before (course_alone patience turns k.0).after (made_so {P = List ℕ} (Err e) repeats look part k),
         );
   }
 
   -- it was made, and the link lines ended so
-  pub directives_ended : {P : Type 0} (path : P) (made linked : List Event) (r : Result (Unit {0}) ErrorSeen) → b.config.repeat_lines ≡ true → AsksByRun steady world (alone b) made → AsksByRun steady world b linked → Holds (answers made) (λ look. Creates (alone b) patience turns output (Ok path) look made) → Holds (answers linked) (λ links. DirectivesEnd b (library_at b output) r links linked) → Archiving steady world b patience turns output (made ++ linked) r
+  pub directives_ended : {P : Type 0} (path : P) (made linked : List Event) (r : Result (Unit {0}) ErrorSeen) → b.config.repeat_lines ≡ true → AsksByRun steady world (alone b) made → AsksByRun steady world b linked → Holds (answers made) (λ look. Creates (alone b) listens patience turns output (Ok path) look made) → Holds (answers linked) (λ links. DirectivesEnd b (library_at b output) r links linked) → Archiving listens steady world b patience turns output (made ++ linked) r
   directives_ended path made linked r repeats made_asks linked_asks h k = record {
     made = made;
     linked = linked;
@@ -147,7 +147,7 @@ module _ (steady : Bool) (world : Question → Outcome) (b : BuildSeen) (patienc
     ends = λ look links agree.
         let c = h.under look agree.0 in
         let d = k.under links agree.1 in
-        let t = terms_for (alone b) (course_alone patience turns c.0) in
+        let t = terms_for (alone b) listens (course_alone patience turns c.0) in
         let y = (course_alone patience turns c.0).after in
         let all : d.0 ≡ all_firsts = d.1.0 repeats in (
           c.0,

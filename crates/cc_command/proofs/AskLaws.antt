@@ -28,17 +28,17 @@ use Rattle.cc_command.proofs.ShownLaws.{shown_last, shown_faults, shown_settled}
 use Rattle.cc_command.proofs.SummedLaws.{summed_last, summed_faults, summed_settled}
 
 -- a compile run by some verdicts and on some course, an archive alone, a large run, or bad words
-abbrev pub Said : Bool → (Question → Outcome) → Option ℕ → ℕ → Result Wish BadWord → List Event → Ended → Type 0
-Said steady world patience turns (Ok (Compiles q)) part ended = (look : Look) × (c : Course) × Answers look q part ended c
-Said steady world patience turns (Ok (Records path q)) part ended = (look : Look) × (c : Course) × AnswersRecord look path q part ended c
-Said steady world patience turns (Ok (Archives q)) part ended = Archived steady world q patience turns part ended
-Said steady world patience turns (Ok (Generates count)) part ended = Sums count turns part ended
-Said steady world patience turns (Ok (Expands b)) part ended = Expanded steady world b part ended
-Said steady world patience turns (Ok (Shows b)) part ended = Shown steady world b part ended
-Said steady world patience turns (Err bad) part ended = AnswersBad bad part ended
+abbrev pub Said : (listens : Bool) → Bool → (Question → Outcome) → Option ℕ → ℕ → Result Wish BadWord → List Event → Ended → Type 0
+Said listens steady world patience turns (Ok (Compiles q)) part ended = (look : Look) × (c : Course) × Answers listens look q part ended c
+Said listens steady world patience turns (Ok (Records path q)) part ended = (look : Look) × (c : Course) × AnswersRecord listens look path q part ended c
+Said listens steady world patience turns (Ok (Archives q)) part ended = Archived listens steady world q patience turns part ended
+Said listens steady world patience turns (Ok (Generates count)) part ended = Sums count turns part ended
+Said listens steady world patience turns (Ok (Expands b)) part ended = Expanded listens steady world b part ended
+Said listens steady world patience turns (Ok (Shows b)) part ended = Shown listens steady world b part ended
+Said listens steady world patience turns (Err bad) part ended = AnswersBad bad part ended
 
-module _ (steady : Bool) (world : Question → Outcome) (patience : Option ℕ) (turns : ℕ) (part : List Event) (ended : Ended) where
-  pub said : (words : Result Wish BadWord) (on : ℕ → Course) → AsksWords steady world words part → Holds (answers part) (λ look. (left : ℕ) × AnswersWords look words part ended (on left)) → IfArchives words (λ q. Archived steady world q patience turns part ended) → IfGenerates words (λ count. Sums count turns part ended) → IfExpands words (λ b. Expanded steady world b part ended) → IfShows words (λ b. Shown steady world b part ended) → Said steady world patience turns words part ended
+module _ (listens : Bool) (steady : Bool) (world : Question → Outcome) (patience : Option ℕ) (turns : ℕ) (part : List Event) (ended : Ended) where
+  pub said : (words : Result Wish BadWord) (on : ℕ → Course) → AsksWords steady world words part → Holds (answers part) (λ look. (left : ℕ) × AnswersWords listens look words part ended (on left)) → IfArchives words (λ q. Archived listens steady world q patience turns part ended) → IfGenerates words (λ count. Sums count turns part ended) → IfExpands words (λ b. Expanded listens steady world b part ended) → IfShows words (λ b. Shown listens steady world b part ended) → Said listens steady world patience turns words part ended
   said (Ok (Compiles q)) on asked run archived generated expanded shown =
       let some = some_agree (answers part) asked.once in
       let answer = run.under some.0 some.1 in
@@ -55,28 +55,28 @@ module _ (steady : Bool) (world : Question → Outcome) (patience : Option ℕ) 
       let some = some_agree (answers part) (subst NoTwice (sym (aside_answers part asked)) tt) in
       (run.under some.0 some.1).1.0
 
-  pub prints_last : (words : Result Wish BadWord) → Said steady world patience turns words part ended → PrintsLast part ended
-  prints_last (Ok (Compiles q)) s = request_last s.0 q part ended s.1 s.2
-  prints_last (Ok (Records path q)) s = record_last s.0 path q part ended s.1 s.2
-  prints_last (Ok (Archives q)) s = archived_last steady world q patience turns part ended s
+  pub prints_last : (words : Result Wish BadWord) → Said listens steady world patience turns words part ended → PrintsLast part ended
+  prints_last (Ok (Compiles q)) s = request_last listens s.0 q part ended s.1 s.2
+  prints_last (Ok (Records path q)) s = record_last listens s.0 path q part ended s.1 s.2
+  prints_last (Ok (Archives q)) s = archived_last listens steady world q patience turns part ended s
   prints_last (Ok (Generates count)) s = summed_last count turns part ended s
   prints_last (Ok (Expands b)) s = expanded_last steady world b part ended s
   prints_last (Ok (Shows b)) s = shown_last steady world b part ended s
   prints_last (Err bad) s = word_last bad part ended s
 
-  pub faults_last : (words : Result Wish BadWord) → Said steady world patience turns words part ended → FaultsLast part
-  faults_last (Ok (Compiles q)) s = request_faults s.0 q part s.1 (begun_of s.0 q part ended s.1 s.2)
-  faults_last (Ok (Records path q)) s = record_faults s.0 path q part ended s.1 s.2
-  faults_last (Ok (Archives q)) s = archived_faults steady world q patience turns part ended s
+  pub faults_last : (words : Result Wish BadWord) → Said listens steady world patience turns words part ended → FaultsLast part
+  faults_last (Ok (Compiles q)) s = request_faults listens s.0 q part s.1 (begun_of listens s.0 q part ended s.1 s.2)
+  faults_last (Ok (Records path q)) s = record_faults listens s.0 path q part ended s.1 s.2
+  faults_last (Ok (Archives q)) s = archived_faults listens steady world q patience turns part ended s
   faults_last (Ok (Generates count)) s = summed_faults count turns part ended s
   faults_last (Ok (Expands b)) s = expanded_faults steady world b part ended s
   faults_last (Ok (Shows b)) s = shown_faults steady world b part ended s
   faults_last (Err bad) s = word_faults bad part ended s
 
-  pub settled : (words : Result Wish BadWord) → Said steady world patience turns words part ended → NothingRuns part
-  settled (Ok (Compiles q)) s = request_settled s.0 q part s.1 (begun_of s.0 q part ended s.1 s.2)
-  settled (Ok (Records path q)) s = record_settled s.0 path q part ended s.1 s.2
-  settled (Ok (Archives q)) s = archived_settled steady world q patience turns part ended s
+  pub settled : (words : Result Wish BadWord) → Said listens steady world patience turns words part ended → NothingRuns part
+  settled (Ok (Compiles q)) s = request_settled listens s.0 q part s.1 (begun_of listens s.0 q part ended s.1 s.2)
+  settled (Ok (Records path q)) s = record_settled listens s.0 path q part ended s.1 s.2
+  settled (Ok (Archives q)) s = archived_settled listens steady world q patience turns part ended s
   settled (Ok (Generates count)) s = summed_settled count turns part ended s
   settled (Ok (Expands b)) s = expanded_settled steady world b part ended s
   settled (Ok (Shows b)) s = shown_settled steady world b part ended s

@@ -15,7 +15,7 @@ use Rattle.cc_plan.specs.Archive.{paths_of, archiver_of}
 use Rattle.cc_plan.specs.Batches.{batches_of}
 use Rattle.cc_plan.specs.Given.{is_disabled}
 use Rattle.cc_plan.specs.Libtool.{is_libtool}
-use Rattle.cc_plan.specs.Plan.{objects_of, library_of, compiles_of, archived_of, archive_refusal, archives_of, indexes_of, lists_of_run, warning_lines, prints, folder_steps, removal_steps, link_lines}
+use Rattle.cc_plan.specs.Plan.{objects_of, library_of, compiles_of, archived_of, archive_refusal, archives_of, indexes_of, lists_of_run, folder_steps, removal_steps, link_lines}
 use Rattle.cc_plan.specs.Refusal.{first_of, early_refusal, late_refusal, link_refusal}
 use Rattle.cc_plan.specs.declared.error.ArgumentCause.TheVariants.{Output, OutDir, NoFileName, SameObject, LibraryIsObject, LineFeed, Library}
 use Rattle.cc_plan.specs.declared.error.PlanError.{PlanError}
@@ -25,11 +25,12 @@ use Rattle.cc_plan.specs.declared.settings.BuildConfig.{BuildConfig}
 use Rattle.cc_plan.proofs.BatchLaws.{few}
 use Rattle.cc_build.specs.Error.{ErrorSeen}
 use Rattle.cc_build.specs.Refusal.{plan_error, disabled_error, early_error, late_error, archive_error, link_error, refusal_error}
-use Rattle.cc_build.specs.Stage.{Stage, commands_in, calls, planned, beside, written, writings, has_libtool, folder_stages, compile_stages, removal_stages, library_commands, list_stages, archive_stages, link_stages, library_stages, ending_stages, later_stages, late_stages, planned_stages, cargo_steps, run_reads}
-use Rattle.cc_build.specs.Way.{Way, Firsts}
+use Rattle.cc_build.specs.Stage.{Stage, commands_in, calls, planned, beside, compiles_planned, opening_steps, written, writings, has_libtool, folder_stages, compile_stages, removal_stages, library_commands, list_stages, archive_stages, link_stages, library_stages, ending_stages, later_stages, late_stages, planned_stages, cargo_steps, run_reads}
+use Rattle.cc_build.specs.Way.{Way, Found, Firsts}
 use Rattle.cc_build.specs.Stage.Stage.{Asks}
 use Rattle.cc_build.specs.Stop.{fault_error}
 use Rattle.cc_build.specs.declared.error.ErrorKind.TheVariants.{TurnsSpent}
+use Rattle.cc_build.proofs.SourceLaws.{planned_count as per_source}
 use Rattle.cc_build.proofs.RunLaws.{commands_then, commands_calls, commands_beside, commands_written}
 
 -- how many commands stages have
@@ -45,14 +46,15 @@ pub calls_none : (steps : List Step) → count (calls steps) ≡ 0
 calls_none steps = ap length (commands_calls steps)
 
 -- one compile command a source
-compile_count : (set : BuildConfig) (env : EnvSeen) (warns_of_link : Bool) (look : Look) → count (compile_stages set env warns_of_link look) ≡ length set.files
+compile_count : (set : BuildConfig) (env : EnvSeen) (found : Found) (look : Look) → count (compile_stages set env found look) ≡ length set.files
 unfolding compile_stages
-compile_count set env warns_of_link look =
-    let a = both (calls (prints Warning (warning_lines set env warns_of_link look))) (beside (planned Compile (compiles_of set env look))) in
-    let b : count (calls (prints Warning (warning_lines set env warns_of_link look))) ≡ 0 = calls_none (prints Warning (warning_lines set env warns_of_link look)) in
-    let d : count (beside (planned Compile (compiles_of set env look))) ≡ length (planned Compile (compiles_of set env look)) = ap length (commands_beside (planned Compile (compiles_of set env look))) in
-    let e : length (planned Compile (compiles_of set env look)) ≡ length set.files = length-map (compiles_of set env look) _ ∙ length-map (objects_of set env) _ ∙ length-map set.files _ in
-    a ∙ ap (λ n. n + count (beside (planned Compile (compiles_of set env look)))) b ∙ zero-add (count (beside (planned Compile (compiles_of set env look)))) ∙ d ∙ e
+compile_count set env found look =
+    let ps = compiles_planned set env found.here look in
+    let a = both (calls (opening_steps set env found look)) (beside ps) in
+    let b : count (calls (opening_steps set env found look)) ≡ 0 = calls_none (opening_steps set env found look) in
+    let d : count (beside ps) ≡ length ps = ap length (commands_beside ps) in
+    let e : length ps ≡ length set.files = per_source set env found.here look ∙ length-map (objects_of set env) _ ∙ length-map set.files _ in
+    a ∙ ap (λ n. n + count (beside ps)) b ∙ zero-add (count (beside ps)) ∙ d ∙ e
 
 -- as many objects as sources and added ones
 object_count : (set : BuildConfig) (env : EnvSeen) → length (archived_of set env) ≡ length set.files + length set.objects
@@ -151,8 +153,8 @@ later_count set env way look output =
 two : (a b : List Stage) (n m : ℕ) → count a ≡ n → count b ≤ n + m + 2 → count (a ++ b) ≤ 2 * n + m + 2
 two a b n m p q = let x : count (a ++ b) ≡ count a + count b = both a b in omega arith
 
-run_count : (set : BuildConfig) (env : EnvSeen) (way : Way) (look : Look) (output : List ℕ) → count (compile_stages set env way.warns_of_link look ++ later_stages set env way look output) ≤ 2 * length set.files + length set.objects + 2
-run_count set env way look output = two (compile_stages set env way.warns_of_link look) (later_stages set env way look output) (length set.files) (length set.objects) (compile_count set env way.warns_of_link look) (later_count set env way look output)
+run_count : (set : BuildConfig) (env : EnvSeen) (way : Way) (look : Look) (output : List ℕ) → count (compile_stages set env way.found look ++ later_stages set env way look output) ≤ 2 * length set.files + length set.objects + 2
+run_count set env way look output = two (compile_stages set env way.found look) (later_stages set env way look output) (length set.files) (length set.objects) (compile_count set env way.found look) (later_count set env way look output)
 
 by_checks : (early disabled late : Bool) (folder run : List Stage) (n : ℕ) → count folder ≡ 0 → count run ≤ n → count (if early then [] else folder ++ (if disabled then [] else Asks ∷ (if late then [] else run))) ≤ n
 by_checks true disabled late folder run n f r = omega arith
@@ -164,7 +166,7 @@ by_checks false false false folder run n f r = let x : count (folder ++ Asks ∷
 pub planned_count : (set : BuildConfig) (env : EnvSeen) (way : Way) (look : Look) (output : List ℕ) → count (planned_stages set env way look output) ≤ 2 * length set.files + length set.objects + 2
 unfolding planned_stages late_stages
 planned_count set env way look output =
-    by_checks (is_some (early_refusal set env output)) (is_disabled env) (is_some (late_refusal set env look)) (folder_stages set env) (compile_stages set env way.warns_of_link look ++ later_stages set env way look output) (2 * length set.files + length set.objects + 2)
+    by_checks (is_some (early_refusal set env output)) (is_disabled env) (is_some (late_refusal set env look)) (folder_stages set env) (compile_stages set env way.found look ++ later_stages set env way look output) (2 * length set.files + length set.objects + 2)
     (folder_count set env) (run_count set env way look output)
 
 -- ---- the error of refused settings

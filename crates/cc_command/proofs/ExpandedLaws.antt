@@ -17,8 +17,8 @@ use Rattle.cc_host.specs.declared.question.Outcome.{Outcome as Verdicts}
 use Rattle.cc_host.specs.declared.question.Question.{Question}
 use Rattle.cc_host.proofs.Parts.{partly_whole}
 use Rattle.cc_plan.specs.Asking.{is_of_children}
-use Rattle.cc_plan.specs.Plan.{tool_lines as warned_lines}
 use Rattle.cc_plan.specs.Questions.{PlanAsks}
+use Rattle.cc_plan.specs.Planned.{warnings_of}
 use Rattle.cc_plan.specs.Refusal.{first_of}
 use Rattle.cc_plan.specs.Reruns.{rerun_names}
 use Rattle.cc_run.specs.Part.{missing, missing_of}
@@ -60,7 +60,7 @@ use Rattle.cc_command.specs.declared.words.Job.{Job}
 use Rattle.cc_command.specs.declared.words.Job.TheVariants.{Compile, Archive, Generate, Expand, Show}
 use Rattle.cc_command.proofs.ArchivedLaws.{says_last, says_line}
 use Rattle.cc_command.proofs.PromiseLaws.{faults_behind, known_memory}
-use Rattle.cc_build.proofs.PrintedLaws.{IsChildless, is_told, told_printed, told_refused, or_false, neither, childless_then, calls_outcome}
+use Rattle.cc_build.proofs.PrintedLaws.{IsChildless, is_told, told_printed, told_warned, told_refused, or_false, neither, childless_then, calls_outcome}
 use Rattle.cc_command.proofs.ShownLaws.{childless_line, childless_run, outcome_partly, partly_faults, stopped_fault}
 
 -- ---- parts in which no command is attempted
@@ -170,45 +170,45 @@ printed_is event kind bytes h = absurd (cc)
 
 -- ---- a source that is expanded by some verdicts
 
-module _ (b : BuildSeen) (look : Look) where
+module _ (listens : Bool) (b : BuildSeen) (look : Look) where
   abbrev p : Planned
   p = expansion_in b look
 
-  told_tool : (warns_of_link : Bool) → list_all is_told (tool_steps b.config b.env warns_of_link look) ≡ true
-  told_tool warns_of_link = told_printed Warning (warned_lines b.config b.env warns_of_link look)
+  told_tool : (warns_of_link : Bool) → list_all is_told (tool_steps b.config b.env listens warns_of_link look) ≡ true
+  told_tool warns_of_link = told_warned b.config listens (warnings_of b.config b.env warns_of_link look)
 
-  module _ (r : Result (List ℕ) ErrorSeen) (part : List Event) (h : RunsTool b r look part) where
+  module _ (r : Result (List ℕ) ErrorSeen) (part : List Event) (h : RunsTool b listens r look part) where
     asking_faultless : list_any is_fault h.asking ≡ false
     asking_faultless = unstopped h.asking h.found.1.1.unstopped
 
     shape : Shape p h.run
-    shape = gives_shape (shows_of b.config b.env) p (ignored_in b look) h.run r h.gives
+    shape = gives_shape (shows_of b.config b.env listens) p (ignored_in b look) h.run r h.gives
 
     runs_faults : FaultsEnd part
     runs_faults = subst FaultsEnd (sym h.cut) (then_faults h.asking h.run asking_faultless (shape_faults p h.run shape))
 
     asking_untried : IsChildless part → attempts h.asking ≡ []
-    asking_untried none = whole_untried (tool_steps b.config b.env h.found.0 look) (told_tool h.found.0) h.asking h.found.1.1 (both_childless h.asking h.run part h.cut none).0
+    asking_untried none = whole_untried (tool_steps b.config b.env listens h.found.0 look) (told_tool h.found.0) h.asking h.found.1.1 (both_childless h.asking h.run part h.cut none).0
 
     runs_sole : IsChildless part → IsSole p part
     runs_sole none = subst (IsSole p) (sym h.cut) (sole_behind p h.asking h.run (asking_untried none) (shape_first p h.run shape))
 
-  expand_faults : (r : Result (List ℕ) ErrorSeen) (part : List Event) → ExpandEnds b r look part → FaultsEnd part
+  expand_faults : (r : Result (List ℕ) ErrorSeen) (part : List Event) → ExpandEnds b listens r look part → FaultsEnd part
   expand_faults (Ok output) part h = runs_faults (Ok output) part h.1
   expand_faults (Err e) part (inl unasked) = subst FaultsEnd (sym unasked.0) nothing_faults
-  expand_faults (Err e) part (inr (fine, inl lacks)) = partly_faults (tool_steps b.config b.env lacks.0 look) part lacks.1.0
+  expand_faults (Err e) part (inr (fine, inl lacks)) = partly_faults (tool_steps b.config b.env listens lacks.0 look) part lacks.1.0
   expand_faults (Err e) part (inr (fine, inr ran)) = runs_faults (Err e) part ran
 
-  expand_sole : (r : Result (List ℕ) ErrorSeen) (part : List Event) → ExpandEnds b r look part → IsChildless part → IsSole p part
+  expand_sole : (r : Result (List ℕ) ErrorSeen) (part : List Event) → ExpandEnds b listens r look part → IsChildless part → IsSole p part
   expand_sole (Ok output) part h none = runs_sole (Ok output) part h.1 none
   expand_sole (Err e) part (inl unasked) none = sole_none p part (ap attempts unasked.0)
-  expand_sole (Err e) part (inr (fine, inl lacks)) none = sole_none p part (partly_untried (tool_steps b.config b.env lacks.0 look) (told_tool lacks.0) part lacks.1.0 none)
+  expand_sole (Err e) part (inr (fine, inl lacks)) none = sole_none p part (partly_untried (tool_steps b.config b.env listens lacks.0 look) (told_tool lacks.0) part lacks.1.0 none)
   expand_sole (Err e) part (inr (fine, inr ran)) none = runs_sole (Err e) part ran none
 
-  expanded_faultless : (output : List ℕ) (part : List Event) → ExpandEnds b (Ok output) look part → list_any is_fault part ≡ false
+  expanded_faultless : (output : List ℕ) (part : List Event) → ExpandEnds b listens (Ok output) look part → list_any is_fault part ≡ false
   expanded_faultless output part h =
       ap (list_any is_fault) h.1.cut ∙ list_any-append is_fault h.1.asking h.1.run
-      ∙ or_false (list_any is_fault h.1.asking) (list_any is_fault h.1.run) (asking_faultless (Ok output) part h.1) (given_faultless (shows_of b.config b.env) p (ignored_in b look) h.1.run output h.1.gives)
+      ∙ or_false (list_any is_fault h.1.asking) (list_any is_fault h.1.run) (asking_faultless (Ok output) part h.1) (given_faultless (shows_of b.config b.env listens) p (ignored_in b look) h.1.run output h.1.gives)
 
   -- where nothing is refused: memory was wanted, or a call of the host failed, or the command did
   abbrev IsKnown : ErrorSeen → List Event → Type 0
@@ -227,16 +227,16 @@ module _ (b : BuildSeen) (look : Look) where
     clash : (refusal : Option ErrorSeen) (e : ErrorSeen) → refusal ≡ None → refusal ≡ Some e → ⊥
     clash refusal e none some = let two : None ≡ Some e = sym none ∙ some in cc
 
-    expand_known : (e : ErrorSeen) (part : List Event) → ExpandEnds b (Err e) look part → IsKnown e part
+    expand_known : (e : ErrorSeen) (part : List Event) → ExpandEnds b listens (Err e) look part → IsKnown e part
     expand_known e part (inl (none, inl memory)) = inl memory
     expand_known e part (inl (none, inr refused)) = absurd (clash (unexpanded_error b.config b.env) e neither_refuses.0 refused)
     expand_known e part (inr (fine, inl lacks)) = by_cause lacks.1.1
       where
-        by_cause : IsCausedBy (tool_error b.config b.env look) (tool_steps b.config b.env lacks.0 look) part e → IsKnown e part
+        by_cause : IsCausedBy (tool_error b.config b.env look) (tool_steps b.config b.env listens lacks.0 look) part e → IsKnown e part
         by_cause (inl memory) = inl memory
         by_cause (inr (inl refused)) = absurd (clash (tool_error b.config b.env look) e neither_refuses.1 refused)
-        by_cause (inr (inr stopped)) = inr (inl (stopped_fault (tool_error b.config b.env look) (tool_steps b.config b.env lacks.0 look) part e (told_tool lacks.0) lacks.1.0 stopped))
-    expand_known e part (inr (fine, inr ran)) = subst (IsKnown e) (sym ran.cut) (known_behind e ran.asking ran.run (gives_none (shows_of b.config b.env) p (ignored_in b look) ran.run e ran.gives))
+        by_cause (inr (inr stopped)) = inr (inl (stopped_fault (tool_error b.config b.env look) (tool_steps b.config b.env listens lacks.0 look) part e (told_tool lacks.0) lacks.1.0 stopped))
+    expand_known e part (inr (fine, inr ran)) = subst (IsKnown e) (sym ran.cut) (known_behind e ran.asking ran.run (gives_none (shows_of b.config b.env listens) p (ignored_in b look) ran.run e ran.gives))
 
   -- ---- and the variables told of that were read for it
 
@@ -246,7 +246,7 @@ module _ (b : BuildSeen) (look : Look) where
   told_names : (firsts : Firsts) → list_all is_told (told_steps firsts) ≡ true
   told_names firsts = told_printed Rerun (rerun_lines (chosen firsts.names (rerun_names expand_reads b.config b.env look)))
 
-  module _ (output : List ℕ) (r : Result (List ℕ) ErrorSeen) (part : List Event) (h : ExpandsAndTells b output r look part) where
+  module _ (output : List ℕ) (r : Result (List ℕ) ErrorSeen) (part : List Event) (h : ExpandsAndTells b listens output r look part) where
     telling_partly : IsPartly (told_steps h.told.0) h.telling
     telling_partly = by_end r h.told.1.1
       where
@@ -263,22 +263,22 @@ module _ (b : BuildSeen) (look : Look) where
     telling_sole : IsChildless part → IsSole p part
     telling_sole none = subst (IsSole p) (sym h.cut) (sole_then p h.expanding h.telling (expand_sole (Ok output) h.expanding h.expands (both_childless h.expanding h.telling part h.cut none).0) (telling_untried none))
 
-  tells_faults : (r : Result (List ℕ) ErrorSeen) (part : List Event) → ExpandedEnds b r look part → FaultsEnd part
+  tells_faults : (r : Result (List ℕ) ErrorSeen) (part : List Event) → ExpandedEnds b listens r look part → FaultsEnd part
   tells_faults (Ok output) part h = telling_faults output (Ok output) part h
   tells_faults (Err e) part (inl h) = expand_faults (Err e) part h
   tells_faults (Err e) part (inr h) = telling_faults h.0 (Err e) part h.1
 
-  tells_sole : (r : Result (List ℕ) ErrorSeen) (part : List Event) → ExpandedEnds b r look part → IsChildless part → IsSole p part
+  tells_sole : (r : Result (List ℕ) ErrorSeen) (part : List Event) → ExpandedEnds b listens r look part → IsChildless part → IsSole p part
   tells_sole (Ok output) part h none = telling_sole output (Ok output) part h none
   tells_sole (Err e) part (inl h) none = expand_sole (Err e) part h none
   tells_sole (Err e) part (inr h) none = telling_sole h.0 (Err e) part h.1 none
 
-  tells_faultless : (output : List ℕ) (part : List Event) → ExpandedEnds b (Ok output) look part → list_any is_fault part ≡ false
+  tells_faultless : (output : List ℕ) (part : List Event) → ExpandedEnds b listens (Ok output) look part → list_any is_fault part ≡ false
   tells_faultless output part h =
       ap (list_any is_fault) h.cut ∙ list_any-append is_fault h.expanding h.telling
       ∙ or_false (list_any is_fault h.expanding) (list_any is_fault h.telling) (expanded_faultless output h.expanding h.expands) (unstopped h.telling h.told.1.1.1.unstopped)
 
-  tells_known : expand_error b look ≡ None → (e : ErrorSeen) (part : List Event) → ExpandedEnds b (Err e) look part → IsKnown e part
+  tells_known : expand_error b look ≡ None → (e : ErrorSeen) (part : List Event) → ExpandedEnds b listens (Err e) look part → IsKnown e part
   tells_known accepted e part (inl h) = expand_known accepted e part h
   tells_known accepted e part (inr h) = subst (IsKnown e) (sym h.1.cut) (known_behind e h.1.expanding h.1.telling (by_cause h.1.told.1.1.1))
     where
@@ -292,7 +292,7 @@ module _ (b : BuildSeen) (look : Look) where
   abbrev line_steps : List ℕ → List Step
   line_steps output = Prints ExpandedLine output ∷ []
 
-  module _ (r : Result (Unit {0}) ErrorSeen) (part : List Event) (k : PrintsOutput b r look part) where
+  module _ (r : Result (Unit {0}) ErrorSeen) (part : List Event) (k : PrintsOutput listens b r look part) where
     line_ends : Outcome None (line_steps k.output) k.printed r × IsChildless k.printed
     line_ends = calls_outcome b None (line_steps k.output) k.printed r refl refl k.prints
 
@@ -305,17 +305,17 @@ module _ (b : BuildSeen) (look : Look) where
     printed_sole : IsChildless part → IsSole p part
     printed_sole none = subst (IsSole p) (sym k.cut) (sole_then p k.run k.printed (tells_sole (Ok k.output) k.run k.expands (both_childless k.run k.printed part k.cut none).0) (partly_untried (line_steps k.output) refl k.printed line_partly line_ends.1))
 
-  source_faults : (r : Result (Unit {0}) ErrorSeen) (part : List Event) → ExpandsSource b r look part → FaultsEnd part
+  source_faults : (r : Result (Unit {0}) ErrorSeen) (part : List Event) → ExpandsSource listens b r look part → FaultsEnd part
   source_faults (Ok v) part k = printed_faults (Ok v) part k
   source_faults (Err e) part (inl h) = tells_faults (Err e) part h
   source_faults (Err e) part (inr k) = printed_faults (Err e) part k
 
-  source_sole : (r : Result (Unit {0}) ErrorSeen) (part : List Event) → ExpandsSource b r look part → IsChildless part → IsSole p part
+  source_sole : (r : Result (Unit {0}) ErrorSeen) (part : List Event) → ExpandsSource listens b r look part → IsChildless part → IsSole p part
   source_sole (Ok v) part k none = printed_sole (Ok v) part k none
   source_sole (Err e) part (inl h) none = tells_sole (Err e) part h none
   source_sole (Err e) part (inr k) none = printed_sole (Err e) part k none
 
-  source_known : expand_error b look ≡ None → (e : ErrorSeen) (part : List Event) → ExpandsSource b (Err e) look part → IsKnown e part
+  source_known : expand_error b look ≡ None → (e : ErrorSeen) (part : List Event) → ExpandsSource listens b (Err e) look part → IsKnown e part
   source_known accepted e part (inl h) = tells_known accepted e part h
   source_known accepted e part (inr k) = subst (IsKnown e) (sym k.cut) (known_behind e k.run k.printed (by_cause (line_ends (Err e) part k).0.1))
     where
@@ -326,13 +326,13 @@ module _ (b : BuildSeen) (look : Look) where
 
 -- ---- the job
 
-module _ (steady : Bool) (world : Question → Verdicts) (b : BuildSeen) where
+module _ (listens : Bool) (steady : Bool) (world : Question → Verdicts) (b : BuildSeen) where
   -- the source couldn't be expanded
-  pub unexpanding : (part : List Event) (e : ErrorSeen) → AsksByPlan steady world b part → IsChildless part → Holds (answers part) (λ look. ExpandedEnds b (Err e) look part) → Expanding steady world b part (Err e)
+  pub unexpanding : (part : List Event) (e : ErrorSeen) → AsksByPlan steady world b part → IsChildless part → Holds (answers part) (λ look. ExpandedEnds b listens (Err e) look part) → Expanding listens steady world b part (Err e)
   unexpanding part e asks none h = record { asks = asks; childless = none; ends = λ look agree. inl (h.under look agree) }
 
   -- it was, and its output was printed so
-  pub expanding : b.config.repeat_lines ≡ true → (output : List ℕ) (run printed part : List Event) (r : Result (Unit {0}) ErrorSeen) → part ≡ run ++ printed → AsksByPlan steady world b run → IsChildless run → Holds (answers run) (λ look. ExpandedEnds b (Ok output) look run) → question_events printed ≡ [] → CallsEnd (Prints ExpandedLine output ∷ []) printed r → Expanding steady world b part r
+  pub expanding : b.config.repeat_lines ≡ true → (output : List ℕ) (run printed part : List Event) (r : Result (Unit {0}) ErrorSeen) → part ≡ run ++ printed → AsksByPlan steady world b run → IsChildless run → Holds (answers run) (λ look. ExpandedEnds b listens (Ok output) look run) → question_events printed ≡ [] → CallsEnd (Prints ExpandedLine output ∷ []) printed r → Expanding listens steady world b part r
   expanding repeats output run printed part r cut asks none h silent prints = record {
     asks = subst (AsksByPlan steady world b) (sym cut) (asked_around steady world (probes b) (PlanAsks b.config b.env) [] run printed refl silent asks);
     childless = ap (list_any is_of_children) cut ∙ childless_then run printed none (calls_outcome b None (Prints ExpandedLine output ∷ []) printed r refl refl prints).1;
@@ -349,7 +349,7 @@ module _ (steady : Bool) (world : Question → Verdicts) (b : BuildSeen) where
         });
   }
     where
-      source : (r : Result (Unit {0}) ErrorSeen) (look : Look) → PrintsOutput b r look part → ExpandsSource b r look part
+      source : (r : Result (Unit {0}) ErrorSeen) (look : Look) → PrintsOutput listens b r look part → ExpandsSource listens b r look part
       source (Ok v) look k = k
       source (Err e) look k = inr k
 
@@ -367,7 +367,7 @@ module _ (steady : Bool) (world : Question → Verdicts) (b : BuildSeen) where
   captured_ends e listing (inr h) = let o = calls_outcome {T = Unit {0}} b None (Lists ∷ []) listing (Ok tt) refl refl h.1 in (partly_whole (Lists ∷ []) listing o.0.1, o.1)
 
   -- the variables were not listed, or memory for their snapshot was wanted
-  pub unlisted : (listing line part : List Event) (e : ErrorSeen) (ended : Ended) → part ≡ listing ++ line → question_events listing ≡ [] → CaptureEnds listing (Err e) → AnswersError e line ended → Expanded steady world b part ended
+  pub unlisted : (listing line part : List Event) (e : ErrorSeen) (ended : Ended) → part ≡ listing ++ line → question_events listing ≡ [] → CaptureEnds listing (Err e) → AnswersError e line ended → Expanded listens steady world b part ended
   unlisted listing line part e ended cut none h says = record {
     asks = nothing_asked part (ap question_events cut ∙ none_then listing line none (no_question line (says_line (Err e) line ended says)));
     run = listing;
@@ -380,7 +380,7 @@ module _ (steady : Bool) (world : Question → Verdicts) (b : BuildSeen) where
   }
 
   -- memory for the words was wanted, and nothing was done
-  unread : (part : List Event) (ended : Ended) → part ≡ [] → ended ≡ ended_wanting → Expanded steady world b part ended
+  unread : (part : List Event) (ended : Ended) → part ≡ [] → ended ≡ ended_wanting → Expanded listens steady world b part ended
   unread part ended none is = record {
     asks = nothing_asked part (ap question_events none);
     run = [];
@@ -400,11 +400,11 @@ module _ (steady : Bool) (world : Question → Verdicts) (b : BuildSeen) where
     abbrev whole : List Event
     whole = Listed k.vars ∷ (run ++ line)
 
-    job_so : (r : Result (Unit {0}) ErrorSeen) (look : Look) → ExpandsSource taken r look run → ExpandJobEnds b r look (Listed k.vars ∷ run)
+    job_so : (r : Result (Unit {0}) ErrorSeen) (look : Look) → ExpandsSource listens taken r look run → ExpandJobEnds listens b r look (Listed k.vars ∷ run)
     job_so (Ok v) look h = record { vars = k.vars; rest = run; cut = refl; expands = h }
     job_so (Err e) look h = inr (record { vars = k.vars; rest = run; cut = refl; expands = h })
 
-    listed : Expanding steady world taken run result → Says result line ended → Expanded steady world b whole ended
+    listed : Expanding listens steady world taken run result → Says result line ended → Expanded listens steady world b whole ended
     listed s says = record {
       asks = asked_around steady world (probes taken) (PlanAsks taken.config taken.env) (Listed k.vars ∷ []) run line refl (no_question line (says_line result line ended says)) s.asks;
       run = Listed k.vars ∷ run;
@@ -416,10 +416,10 @@ module _ (steady : Bool) (world : Question → Verdicts) (b : BuildSeen) where
       says = says;
     }
 
-    pub expanded_so : (part : List Event) → part ≡ (listing ++ run) ++ line → Expanding steady world after run result → Says result line ended → Expanded steady world b part ended
+    pub expanded_so : (part : List Event) → part ≡ (listing ++ run) ++ line → Expanding listens steady world after run result → Says result line ended → Expanded listens steady world b part ended
     expanded_so part cut s says =
-        subst (λ (l : List Event). Expanded steady world b l ended) (sym (cut ∙ ap (λ l. (l ++ run) ++ line) k.listed))
-        (listed (subst (λ (v : BuildSeen). Expanding steady world v run result) k.is s) says)
+        subst (λ (l : List Event). Expanded listens steady world b l ended) (sym (cut ∙ ap (λ l. (l ++ run) ++ line) k.listed))
+        (listed (subst (λ (v : BuildSeen). Expanding listens steady world v run result) k.is s) says)
 
 -- ---- what follows from it
 
@@ -445,19 +445,19 @@ known_front b look e a rest (inr (inr (inl lacks))) = inr (inr (inl (λ none. la
     front_none (v ∷ x) y h = absurd (cc)
 known_front b look e a rest (inr (inr (inr badly))) = inr (inr (inr (any_front ran_badly a rest badly)))
 
-module _ (steady : Bool) (world : Question → Verdicts) (b : BuildSeen) where
+module _ (listens : Bool) (steady : Bool) (world : Question → Verdicts) (b : BuildSeen) where
   abbrev heard_by : List (List ℕ × List ℕ) → BuildSeen
   heard_by vars = record b { env = with_vars b.env vars }
 
   listed_is : (part run line rest : List Event) (vars : List (List ℕ × List ℕ)) → part ≡ run ++ line → run ≡ Listed vars ∷ rest → listed_build b part ≡ heard_by vars
   listed_is part run line rest vars cut is = ap (listed_build b) (cut ∙ ap (λ l. l ++ line) is)
 
-  job_faults : (r : Result (Unit {0}) ErrorSeen) (look : Look) (run : List Event) → ExpandJobEnds b r look run → FaultsEnd run
+  job_faults : (r : Result (Unit {0}) ErrorSeen) (look : Look) (run : List Event) → ExpandJobEnds listens b r look run → FaultsEnd run
   job_faults (Ok v) look run k = subst FaultsEnd (sym k.cut) (then_faults (Listed k.vars ∷ []) k.rest refl (source_faults (heard_by k.vars) look (Ok v) k.rest k.expands))
   job_faults (Err e) look run (inl h) = partly_faults (Lists ∷ []) run (captured_ends steady world b e run h).0
   job_faults (Err e) look run (inr k) = subst FaultsEnd (sym k.cut) (then_faults (Listed k.vars ∷ []) k.rest refl (source_faults (heard_by k.vars) look (Err e) k.rest k.expands))
 
-  module _ (part : List Event) (ended : Ended) (s : Expanded steady world b part ended) where
+  module _ (part : List Event) (ended : Ended) (s : Expanded listens steady world b part ended) where
     its_line : IsLine s.line
     its_line = says_line s.result s.line ended s.says
 
@@ -473,13 +473,13 @@ module _ (steady : Bool) (world : Question → Verdicts) (b : BuildSeen) where
     expanded_settled =
         ap (λ (r : Run). r.live) (childless_run part nothing (ap (list_any is_of_children) s.cut ∙ childless_then s.run s.line s.childless (childless_line s.line its_line)))
 
-    lists_sole : (r : Result (Unit {0}) ErrorSeen) (look : Look) → ListsThenExpands b r look s.run → IsSole (expansion_in (listed_build b part) look) s.run
+    lists_sole : (r : Result (Unit {0}) ErrorSeen) (look : Look) → ListsThenExpands listens b r look s.run → IsSole (expansion_in (listed_build b part) look) s.run
     lists_sole r look k =
         subst (λ (v : BuildSeen). IsSole (expansion_in v look) s.run) (sym (listed_is part s.run s.line k.rest k.vars s.cut k.cut))
         (subst (IsSole (expansion_in (heard_by k.vars) look)) (sym k.cut)
         (source_sole (heard_by k.vars) look r k.rest k.expands (both_childless (Listed k.vars ∷ []) k.rest s.run k.cut s.childless).1))
 
-    job_sole : (r : Result (Unit {0}) ErrorSeen) (look : Look) → ExpandJobEnds b r look s.run → IsSole (expansion_in (listed_build b part) look) s.run
+    job_sole : (r : Result (Unit {0}) ErrorSeen) (look : Look) → ExpandJobEnds listens b r look s.run → IsSole (expansion_in (listed_build b part) look) s.run
     job_sole (Ok v) look k = lists_sole (Ok v) look k
     job_sole (Err e) look (inl h) = sole_none (expansion_in (listed_build b part) look) s.run (partly_untried (Lists ∷ []) refl s.run (captured_ends steady world b e s.run h).0 s.childless)
     job_sole (Err e) look (inr k) = lists_sole (Err e) look k
@@ -490,7 +490,7 @@ module _ (steady : Bool) (world : Question → Verdicts) (b : BuildSeen) where
         (sole_then (expansion_in (listed_build b part) look) s.run s.line (job_sole s.result look (s.ends look agree)) (line_untried s.line its_line))
 
     module _ (look : Look) where
-      job_known : (e : ErrorSeen) → expand_error (listed_build b part) look ≡ None → ExpandJobEnds b (Err e) look s.run → IsKnown (listed_build b part) look e s.run
+      job_known : (e : ErrorSeen) → expand_error (listed_build b part) look ≡ None → ExpandJobEnds listens b (Err e) look s.run → IsKnown (listed_build b part) look e s.run
       job_known e accepted (inl (inl h)) = by_cause (o.0.1)
         where
           o : Outcome {T = Unit {0}} None (Lists ∷ []) s.run (Err e) × IsChildless s.run
@@ -507,7 +507,7 @@ module _ (steady : Bool) (world : Question → Verdicts) (b : BuildSeen) where
           (known_behind (listed_build b part) look e (Listed k.vars ∷ []) k.rest
           (source_known (heard_by k.vars) look (subst (λ (v : BuildSeen). expand_error v look ≡ None) same accepted) e k.rest k.expands))
 
-      complete_by : (r : Result (Unit {0}) ErrorSeen) → Says r s.line ended → ExpandJobEnds b r look s.run → expand_error (listed_build b part) look ≡ None → (IsFailed part → ⊥) → (HasFault part → ⊥) → (ended ≡ ended_well) ⊎ (ended ≡ ended_wanting)
+      complete_by : (r : Result (Unit {0}) ErrorSeen) → Says r s.line ended → ExpandJobEnds listens b r look s.run → expand_error (listed_build b part) look ≡ None → (IsFailed part → ⊥) → (HasFault part → ⊥) → (ended ≡ ended_well) ⊎ (ended ≡ ended_wanting)
       complete_by (Ok v) says h accepted failed fault = inl says.0
       complete_by (Err e) (inr wanting) h accepted failed fault = inr wanting.0
       complete_by (Err e) (inl printed) h accepted failed fault =
@@ -518,10 +518,10 @@ module _ (steady : Bool) (world : Question → Verdicts) (b : BuildSeen) where
           by_known (inr (inl some)) = fault some
           by_known (inr (inr some)) = failed some
 
-      done_by : (r : Result (Unit {0}) ErrorSeen) → Says r s.line ended → ExpandJobEnds b r look s.run → ended.status ≡ 0 → IsExpanded (listed_build b part) look part
+      done_by : (r : Result (Unit {0}) ErrorSeen) → Says r s.line ended → ExpandJobEnds listens b r look s.run → ended.status ≡ 0 → IsExpanded listens (listed_build b part) look part
       done_by (Err e) says h zero_is = absurd (not_done e s.line ended says zero_is)
       done_by (Ok v) says h zero_is =
-          subst (λ (w : BuildSeen). IsExpanded w look part) (sym (listed_is part s.run s.line h.rest h.vars s.cut h.cut)) (record {
+          subst (λ (w : BuildSeen). IsExpanded listens w look part) (sym (listed_is part s.run s.line h.rest h.vars s.cut h.cut)) (record {
             accepted = rw (fine, tool.found.1.0) refl;
             vars = h.vars;
             asking = tool.asking;
@@ -541,13 +541,13 @@ module _ (steady : Bool) (world : Question → Verdicts) (b : BuildSeen) where
           taken : BuildSeen
           taken = heard_by h.vars
 
-          x : PrintsOutput (heard_by h.vars) (Ok v) look h.rest
+          x : PrintsOutput listens (heard_by h.vars) (Ok v) look h.rest
           x = h.expands
 
           fine : unexpanded_error (heard_by h.vars).config (heard_by h.vars).env ≡ None
           fine = x.expands.expands.0
 
-          tool : RunsTool (heard_by h.vars) (Ok x.output) look x.expands.expanding
+          tool : RunsTool (heard_by h.vars) listens (Ok x.output) look x.expands.expanding
           tool = x.expands.expands.1
 
           line_event : List Event
@@ -555,7 +555,7 @@ module _ (steady : Bool) (world : Question → Verdicts) (b : BuildSeen) where
 
           printed_so : x.printed ≡ Printed ExpandedLine x.output ∷ []
           printed_so =
-              let w = (x.prints (terms (shows_of b.config b.env) None None) (means 0 0 0 0)).1 in
+              let w = (x.prints (terms (shows_of b.config b.env listens) None None) (means 0 0 0 0)).1 in
               w.3.0 ∙ ap (λ l. w.0 ++ l) w.3.2.0 ∙ append-nil w.0 ∙ w.3.1.1.0 ∙ ap (λ e. e ∷ []) (printed_is w.3.1.0 ExpandedLine x.output w.3.1.1.1)
 
           behind : List Event
@@ -589,9 +589,9 @@ module _ (steady : Bool) (world : Question → Verdicts) (b : BuildSeen) where
               ap attempts whole_cut ∙ flat_map-append attempt_of tool.asking (tool.run ++ behind)
               ∙ ap (λ l. l ++ attempts (tool.run ++ behind)) (asking_untried (heard_by h.vars) look (Ok x.output) x.expands.expanding tool childless_expanding)
               ∙ flat_map-append attempt_of tool.run behind ∙ ap (λ l. attempts tool.run ++ l) behind_untried ∙ append-nil (attempts tool.run)
-              ∙ given_attempts (shows_of (heard_by h.vars).config (heard_by h.vars).env) (expansion_in (heard_by h.vars) look) (ignored_in (heard_by h.vars) look) tool.run x.output tool.gives
+              ∙ given_attempts (shows_of (heard_by h.vars).config (heard_by h.vars).env listens) (expansion_in (heard_by h.vars) look) (ignored_in (heard_by h.vars) look) tool.run x.output tool.gives
 
-    promises : ExpandPromises steady world b part ended
+    promises : ExpandPromises listens steady world b part ended
     promises = record {
       answer = s;
       expanded = λ zero_is look agree. done_by look s.result s.says (s.ends look agree) zero_is;
@@ -600,45 +600,45 @@ module _ (steady : Bool) (world : Question → Verdicts) (b : BuildSeen) where
     }
 
 -- the same of words
-pub expand_promises : (steady : Bool) (world : Question → Verdicts) (part : List Event) (ended : Ended) (words : Result Wish BadWord) → IfExpands words (λ b. Expanded steady world b part ended) → IfExpands words (λ b. ExpandPromises steady world b part ended)
-expand_promises steady world part ended (Ok (Compiles q)) s = tt
-expand_promises steady world part ended (Ok (Records path q)) s = tt
-expand_promises steady world part ended (Ok (Archives q)) s = tt
-expand_promises steady world part ended (Ok (Generates count)) s = tt
-expand_promises steady world part ended (Ok (Expands b)) s = promises steady world b part ended s
-expand_promises steady world part ended (Ok (Shows b)) s = tt
-expand_promises steady world part ended (Err bad) s = tt
+pub expand_promises : (listens : Bool) (steady : Bool) (world : Question → Verdicts) (part : List Event) (ended : Ended) (words : Result Wish BadWord) → IfExpands words (λ b. Expanded listens steady world b part ended) → IfExpands words (λ b. ExpandPromises listens steady world b part ended)
+expand_promises listens steady world part ended (Ok (Compiles q)) s = tt
+expand_promises listens steady world part ended (Ok (Records path q)) s = tt
+expand_promises listens steady world part ended (Ok (Archives q)) s = tt
+expand_promises listens steady world part ended (Ok (Generates count)) s = tt
+expand_promises listens steady world part ended (Ok (Expands b)) s = promises steady world b part ended s
+expand_promises listens steady world part ended (Ok (Shows b)) s = tt
+expand_promises listens steady world part ended (Err bad) s = tt
 
 -- ---- by the job
 
 -- words that were not read for want of memory
-pub expanded_wanting : (steady : Bool) (world : Question → Verdicts) (log : List Event) (words : Result Wish BadWord) (ended : Ended) → ended ≡ ended_wanting → IfExpands words (λ b. Expanded steady world b (since log log) ended)
-expanded_wanting steady world log (Ok (Compiles q)) ended is = tt
-expanded_wanting steady world log (Ok (Records path q)) ended is = tt
-expanded_wanting steady world log (Ok (Archives q)) ended is = tt
-expanded_wanting steady world log (Ok (Generates count)) ended is = tt
-expanded_wanting steady world log (Ok (Expands b)) ended is = unread steady world b (since log log) ended (part_is log log [] (sym (append-nil log))) is
-expanded_wanting steady world log (Ok (Shows b)) ended is = tt
-expanded_wanting steady world log (Err bad) ended is = tt
+pub expanded_wanting : (listens : Bool) (steady : Bool) (world : Question → Verdicts) (log : List Event) (words : Result Wish BadWord) (ended : Ended) → ended ≡ ended_wanting → IfExpands words (λ b. Expanded listens steady world b (since log log) ended)
+expanded_wanting listens steady world log (Ok (Compiles q)) ended is = tt
+expanded_wanting listens steady world log (Ok (Records path q)) ended is = tt
+expanded_wanting listens steady world log (Ok (Archives q)) ended is = tt
+expanded_wanting listens steady world log (Ok (Generates count)) ended is = tt
+expanded_wanting listens steady world log (Ok (Expands b)) ended is = unread steady world b (since log log) ended (part_is log log [] (sym (append-nil log))) is
+expanded_wanting listens steady world log (Ok (Shows b)) ended is = tt
+expanded_wanting listens steady world log (Err bad) ended is = tt
 
 -- a job that expands a source leaves the course as it was
-pub of_expand : (job : Job) (build : BuildSeen) (database : Option (List ℕ)) (ended : Ended) (look : Look) (part : List Event) (c : Course) → job ≡ Expand → c.after ≡ c.before → IsAnswerOf (wish_of job database build) ended look part c
-of_expand (Compile name) build database ended look part c is same = absurd (cc)
-of_expand (Archive name) build database ended look part c is same = absurd (cc)
-of_expand (Generate count) build database ended look part c is same = absurd (cc)
-of_expand Expand build database ended look part c is same = same
-of_expand Show build database ended look part c is same = absurd (cc)
+pub of_expand : (listens : Bool) (job : Job) (build : BuildSeen) (database : Option (List ℕ)) (ended : Ended) (look : Look) (part : List Event) (c : Course) → job ≡ Expand → c.after ≡ c.before → IsAnswerOf listens (wish_of job database build) ended look part c
+of_expand listens (Compile name) build database ended look part c is same = absurd (cc)
+of_expand listens (Archive name) build database ended look part c is same = absurd (cc)
+of_expand listens (Generate count) build database ended look part c is same = absurd (cc)
+of_expand listens Expand build database ended look part c is same = same
+of_expand listens Show build database ended look part c is same = absurd (cc)
 
-pub asks_expand : (job : Job) (build : BuildSeen) (database : Option (List ℕ)) (steady : Bool) (world : Question → Verdicts) (part : List Event) (ended : Ended) → job ≡ Expand → Expanded steady world build part ended → AsksWish steady world (wish_of job database build) part
-asks_expand (Compile name) build database steady world part ended is s = absurd (cc)
-asks_expand (Archive name) build database steady world part ended is s = absurd (cc)
-asks_expand (Generate count) build database steady world part ended is s = absurd (cc)
-asks_expand Expand build database steady world part ended is s = s.asks
-asks_expand Show build database steady world part ended is s = absurd (cc)
+pub asks_expand : (listens : Bool) (job : Job) (build : BuildSeen) (database : Option (List ℕ)) (steady : Bool) (world : Question → Verdicts) (part : List Event) (ended : Ended) → job ≡ Expand → Expanded listens steady world build part ended → AsksWish steady world (wish_of job database build) part
+asks_expand listens (Compile name) build database steady world part ended is s = absurd (cc)
+asks_expand listens (Archive name) build database steady world part ended is s = absurd (cc)
+asks_expand listens (Generate count) build database steady world part ended is s = absurd (cc)
+asks_expand listens Expand build database steady world part ended is s = s.asks
+asks_expand listens Show build database steady world part ended is s = absurd (cc)
 
-pub expanded_expand : (job : Job) (build : BuildSeen) (database : Option (List ℕ)) (steady : Bool) (world : Question → Verdicts) (part : List Event) (ended : Ended) → job ≡ Expand → Expanded steady world build part ended → IfExpands (Ok (wish_of job database build)) (λ b. Expanded steady world b part ended)
-expanded_expand (Compile name) build database steady world part ended is s = absurd (cc)
-expanded_expand (Archive name) build database steady world part ended is s = tt
-expanded_expand (Generate count) build database steady world part ended is s = tt
-expanded_expand Expand build database steady world part ended is s = s
-expanded_expand Show build database steady world part ended is s = tt
+pub expanded_expand : (listens : Bool) (job : Job) (build : BuildSeen) (database : Option (List ℕ)) (steady : Bool) (world : Question → Verdicts) (part : List Event) (ended : Ended) → job ≡ Expand → Expanded listens steady world build part ended → IfExpands (Ok (wish_of job database build)) (λ b. Expanded listens steady world b part ended)
+expanded_expand listens (Compile name) build database steady world part ended is s = absurd (cc)
+expanded_expand listens (Archive name) build database steady world part ended is s = tt
+expanded_expand listens (Generate count) build database steady world part ended is s = tt
+expanded_expand listens Expand build database steady world part ended is s = s
+expanded_expand listens Show build database steady world part ended is s = tt

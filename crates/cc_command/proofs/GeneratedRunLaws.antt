@@ -1,5 +1,5 @@
 -- What a large run from a number comes to, over a host on which nothing is set.
-use Rattle.std.proofs.Common.{◌≡◌, ◌⊎◌, inl, inr, refl, sym, ◌∙◌, ap, subst, ℕ, ◌+◌, ◌^◌, ◌<◌, List, [], ◌∷◌, ◌++◌, append_assoc, append-nil, length, Bool, Option, Some, Result, Ok, Err, arith}
+use Rattle.std.proofs.Common.{◌≡◌, ◌⊎◌, inl, inr, refl, sym, ◌∙◌, ap, subst, ℕ, ◌+◌, ◌^◌, ◌<◌, List, [], ◌∷◌, ◌++◌, append_assoc, append-nil, length, Bool, Option, Some, Result, Ok, Err, arith, false}
 use Rattle.std.specs.Prelude.{◌≤◌, ◌*◌}
 use Rattle.cc_host.specs.Bench.{BenchSeen, fresh}
 use Rattle.cc_host.specs.Part.{since}
@@ -44,7 +44,7 @@ module _ (turned taken' load' : ℕ) (log : List Event) (fact : Look → List Ev
       let at_load = subst (λ n. On [] 4 0 n) no_load at_taken in
       record { under = λ look agree. let r = at_load.under look agree in (r.0, taken', load', r.1) }
 
-pub plain_run : (steady : Bool) (world : Question → Outcome) (b : BuildSeen) (turned taken' load' : ℕ) (bench old new : BenchSeen) (total taken load : ℕ) (result : Result (Unit {0}) ErrorSeen) → old ≡ fresh → total ≡ 4 → taken ≡ 0 → load ≡ 0 → bench ≡ new → IsPlainLog bench.log → AsksByRun steady world b (since old.log new.log) → On turned taken' load' new.log (Promises b gen_name result) old.log total taken load → On turned taken' load' new.log (IsBuilt b gen_name result) old.log total taken load → PlainRun b turned bench.log result
+pub plain_run : (steady : Bool) (world : Question → Outcome) (b : BuildSeen) (turned taken' load' : ℕ) (bench old new : BenchSeen) (total taken load : ℕ) (result : Result (Unit {0}) ErrorSeen) → old ≡ fresh → total ≡ 4 → taken ≡ 0 → load ≡ 0 → bench ≡ new → IsPlainLog bench.log → AsksByRun steady world b (since old.log new.log) → On turned taken' load' new.log (Promises b false gen_name result) old.log total taken load → On turned taken' load' new.log (IsBuilt b false gen_name result) old.log total taken load → PlainRun b turned bench.log result
 plain_run steady world b turned taken' load' bench old new total taken load result first four no_taken no_load same plain asked promised built =
     let no_log : old.log ≡ [] = ap (λ (h : BenchSeen). h.log) first in
     let once : NoTwice (answers new.log) = subst (λ l. NoTwice (answers (since l new.log))) no_log asked.once in
@@ -52,8 +52,8 @@ plain_run steady world b turned taken' load' bench old new total taken load resu
     record {
       plain = plain;
       once = subst (λ l. NoTwice (answers l)) log_same once;
-      promises = subst (λ l. OnGenerated turned l (Promises b gen_name result)) log_same (on_generated turned taken' load' new.log (Promises b gen_name result) old.log total taken load no_log four no_taken no_load promised);
-      built = subst (λ l. OnGenerated turned l (IsBuilt b gen_name result)) log_same (on_generated turned taken' load' new.log (IsBuilt b gen_name result) old.log total taken load no_log four no_taken no_load built);
+      promises = subst (λ l. OnGenerated turned l (Promises b false gen_name result)) log_same (on_generated turned taken' load' new.log (Promises b false gen_name result) old.log total taken load no_log four no_taken no_load promised);
+      built = subst (λ l. OnGenerated turned l (IsBuilt b false gen_name result)) log_same (on_generated turned taken' load' new.log (IsBuilt b false gen_name result) old.log total taken load no_log four no_taken no_load built);
     }
 
 -- ---- turns enough
@@ -64,7 +64,7 @@ module _ (count turned left taken load : ℕ) (log : List Event) (e : ErrorSeen)
   c = gen_course turned left taken load
 
   abbrev t : Terms
-  t = terms_for (gen_build count) c
+  t = terms_for (gen_build count) false c
 
   abbrev libtool : Bool
   libtool = has_libtool (gen_settings count) no_variables look
@@ -105,12 +105,12 @@ is_enough count turned log (Err e) small run enough =
 -- ---- turns spent
 
 -- a run for which the turns were too few made as many
-spent_of : (count turned left taken load : ℕ) (log : List Event) (e : ErrorSeen) (look : Look) (way : Way) → count < 2 ^ 64 → IsPlainLog log → e.kind ≡ TurnsSpent → Halted (terms_for (gen_build count) (gen_course turned left taken load)) (refusal_error (gen_settings count) no_variables look gen_name) (stages_for (gen_build count) way look gen_name) log e (gen_course turned left taken load).before (gen_course turned left taken load).after → turns log ≡ turned
+spent_of : (count turned left taken load : ℕ) (log : List Event) (e : ErrorSeen) (look : Look) (way : Way) → count < 2 ^ 64 → IsPlainLog log → e.kind ≡ TurnsSpent → Halted (terms_for (gen_build count) false (gen_course turned left taken load)) (refusal_error (gen_settings count) no_variables look gen_name) (stages_for (gen_build count) way look gen_name) log e (gen_course turned left taken load).before (gen_course turned left taken load).after → turns log ≡ turned
 spent_of count turned left taken load log e look way small plain kind halted =
     by_cause (halted_cause run_terms libtool refused_by run_stages log e x y (planned_plain (gen_settings count) no_variables way look gen_name) (λ other. planned_first (gen_settings count) no_variables way look gen_name other) halted)
   where
     run_terms : Terms
-    run_terms = terms_for (gen_build count) (gen_course turned left taken load)
+    run_terms = terms_for (gen_build count) false (gen_course turned left taken load)
 
     libtool : Bool
     libtool = has_libtool (gen_settings count) no_variables look

@@ -60,18 +60,18 @@ no_show Show name build database fact is = absurd (cc)
 -- ---- by its database
 
 -- with one the run is recorded
-pub recorded_job : (database : Option (List ℕ)) (asked path name named : List ℕ) (build : BuildSeen) (ended : Ended) (look : Look) (part : List Event) (c : Course) → database ≡ Some asked → path ≡ asked → name ≡ named → IsRecorded path (name, build) ended look part c → IsAnswerOf (compile_wish database (named, build)) ended look part c
-recorded_job database asked path name named build ended look part c is there same h =
-    subst (λ (d : Option (List ℕ)). IsAnswerOf (compile_wish d (named, build)) ended look part c) (sym is)
-    (subst (λ (n : List ℕ). AnswersRecord look asked (n, build) part ended c) same (subst (λ (p : List ℕ). AnswersRecord look p (name, build) part ended c) there h))
+pub recorded_job : (listens : Bool) (database : Option (List ℕ)) (asked path name named : List ℕ) (build : BuildSeen) (ended : Ended) (look : Look) (part : List Event) (c : Course) → database ≡ Some asked → path ≡ asked → name ≡ named → IsRecorded listens path (name, build) ended look part c → IsAnswerOf listens (compile_wish database (named, build)) ended look part c
+recorded_job listens database asked path name named build ended look part c is there same h =
+    subst (λ (d : Option (List ℕ)). IsAnswerOf listens (compile_wish d (named, build)) ended look part c) (sym is)
+    (subst (λ (n : List ℕ). AnswersRecord listens look asked (n, build) part ended c) same (subst (λ (p : List ℕ). AnswersRecord listens look p (name, build) part ended c) there h))
 
 pub asks_recorded : (database : Option (List ℕ)) (asked name named : List ℕ) (build : BuildSeen) (steady : Bool) (world : Question → Outcome) (part : List Event) → database ≡ Some asked → name ≡ named → AsksFor steady world (name, build) part → AsksWish steady world (compile_wish database (named, build)) part
 asks_recorded database asked name named build steady world part is same h =
     subst (λ (d : Option (List ℕ)). AsksWish steady world (compile_wish d (named, build)) part) (sym is) (subst (λ (n : List ℕ). AsksFor steady world (n, build) part) same h)
 
 -- without one it isn't
-pub plain_job : (database : Option (List ℕ)) (q : Request) (ended : Ended) (look : Look) (part : List Event) (c : Course) → database ≡ None → IsAnswer q ended look part c → IsAnswerOf (compile_wish database q) ended look part c
-plain_job database q ended look part c is h = subst (λ (d : Option (List ℕ)). IsAnswerOf (compile_wish d q) ended look part c) (sym is) h
+pub plain_job : (listens : Bool) (database : Option (List ℕ)) (q : Request) (ended : Ended) (look : Look) (part : List Event) (c : Course) → database ≡ None → IsAnswer listens q ended look part c → IsAnswerOf listens (compile_wish database q) ended look part c
+plain_job listens database q ended look part c is h = subst (λ (d : Option (List ℕ)). IsAnswerOf listens (compile_wish d q) ended look part c) (sym is) h
 
 pub asks_plain : (database : Option (List ℕ)) (q : Request) (steady : Bool) (world : Question → Outcome) (part : List Event) → database ≡ None → AsksFor steady world q part → AsksWish steady world (compile_wish database q) part
 asks_plain database q steady world part is h = subst (λ (d : Option (List ℕ)). AsksWish steady world (compile_wish d q) part) (sym is) h

@@ -37,7 +37,7 @@ use Rattle.cc_build.proofs.PromiseLaws.{none_inside, fault_ends}
 use Rattle.cc_build.proofs.FormLaws.{FormFirst, planned_first, halted_cause}
 use Rattle.cc_build.proofs.StopLaws.{ArePlain, HasCause, planned_plain}
 use Rattle.cc_build.proofs.TurnLaws.{halted_turns, halted_bound}
-use Rattle.cc_command.specs.Answer.{Answers, AnswersBad, AnswersWords, IfCompiles, BuiltBy, Refused, PrintsLine, first_listing, heard, env_in, terms_of, terms_in, repeating, stages_of, error_of, error_line, word_line, is_wanting, told, ended_well, ended_refused, ended_wanting}
+use Rattle.cc_command.specs.Answer.{Answers, AnswersBad, AnswersWords, IfCompiles, BuiltBy, Refused, PrintsLine, first_listing, heard, env_in, terms_of, terms_in, warning, repeating, Findings, stages_of, error_of, error_line, word_line, is_wanting, told, ended_well, ended_refused, ended_wanting}
 use Rattle.cc_command.specs.Promises.{PrintsLast, IsLine, Begun, IsBegun, ArchivesBehind, CompilesFirst, EndsAlone, FaultsLast, EndsSpent, IsComplete, IsEnough}
 use Rattle.cc_command.specs.Read.{Request, Wish}
 use Rattle.cc_command.specs.Read.Wish.{Compiles, Records, Archives, Generates, Expands, Shows}
@@ -47,26 +47,26 @@ use Rattle.cc_command.proofs.EnoughLaws.{planned_count, never_spent}
 
 -- ---- the headline
 
-pub built_of : (look : Look) (q : Request) (part : List Event) (ended : Ended) (c : Course) → Answers look q part ended c → ended.status ≡ 0 → BuiltBy look q part c
-built_of look q part ended c (inl well) zero_is = well.1.0
-built_of look q part ended c (inr (inl r)) zero_is = let s : ended.status ≡ 1 = ap (λ (x : Ended). x.status) r.is in absurd (cc)
-built_of look q part ended c (inr (inr wanting)) zero_is = let s : ended.status ≡ 3 = ap (λ (x : Ended). x.status) wanting.0 in absurd (cc)
+pub built_of : (listens : Bool) (look : Look) (q : Request) (part : List Event) (ended : Ended) (c : Course) → Answers listens look q part ended c → ended.status ≡ 0 → BuiltBy listens look q part c
+built_of listens look q part ended c (inl well) zero_is = well.1.0
+built_of listens look q part ended c (inr (inl r)) zero_is = let s : ended.status ≡ 1 = ap (λ (x : Ended). x.status) r.is in absurd (cc)
+built_of listens look q part ended c (inr (inr wanting)) zero_is = let s : ended.status ≡ 3 = ap (λ (x : Ended). x.status) wanting.0 in absurd (cc)
 
-pub headline : (look : Look) (words : Result Wish BadWord) (part : List Event) (ended : Ended) (c : Course) → AnswersWords look words part ended c → IfCompiles words (λ request. ended.status ≡ 0 → BuiltBy look request part c)
-headline look (Ok (Compiles q)) part ended c a = built_of look q part ended c a
-headline look (Ok (Records path q)) part ended c a = tt
-headline look (Ok (Archives q)) part ended c a = tt
-headline look (Ok (Generates n)) part ended c a = tt
-headline look (Ok (Expands b)) part ended c a = tt
-headline look (Ok (Shows b)) part ended c a = tt
-headline look (Err bad) part ended c a = tt
+pub headline : (listens : Bool) (look : Look) (words : Result Wish BadWord) (part : List Event) (ended : Ended) (c : Course) → AnswersWords listens look words part ended c → IfCompiles words (λ request. ended.status ≡ 0 → BuiltBy listens look request part c)
+headline listens look (Ok (Compiles q)) part ended c a = built_of listens look q part ended c a
+headline listens look (Ok (Records path q)) part ended c a = tt
+headline listens look (Ok (Archives q)) part ended c a = tt
+headline listens look (Ok (Generates n)) part ended c a = tt
+headline listens look (Ok (Expands b)) part ended c a = tt
+headline listens look (Ok (Shows b)) part ended c a = tt
+headline listens look (Err bad) part ended c a = tt
 
 -- ---- the line of it is last
 
-pub request_last : (look : Look) (q : Request) (part : List Event) (ended : Ended) (c : Course) → Answers look q part ended c → PrintsLast part ended
-request_last look q part ended c (inl well) = inl (ap told well.0)
-request_last look q part ended c (inr (inl r)) = inr (inl (r.error, (ap told r.is, record { before = r.run; end = r.line; cut = r.cut; printed = r.printed })))
-request_last look q part ended c (inr (inr wanting)) = inr (inr (inr (ap told wanting.0)))
+pub request_last : (listens : Bool) (look : Look) (q : Request) (part : List Event) (ended : Ended) (c : Course) → Answers listens look q part ended c → PrintsLast part ended
+request_last listens look q part ended c (inl well) = inl (ap told well.0)
+request_last listens look q part ended c (inr (inl r)) = inr (inl (r.error, (ap told r.is, record { before = r.run; end = r.line; cut = r.cut; printed = r.printed })))
+request_last listens look q part ended c (inr (inr wanting)) = inr (inr (inr (ap told wanting.0)))
 
 pub word_last : (bad : BadWord) (part : List Event) (ended : Ended) → AnswersBad bad part ended → PrintsLast part ended
 word_last bad part ended (inl printed) = inr (inr (inl (bad, (ap told printed.0, record { before = []; end = part; cut = refl; printed = printed.1 }))))
@@ -78,33 +78,33 @@ line_of line part (inr faulted) = inr (inr faulted)
 
 -- ---- the first stages were done
 
-pub begun_of : (look : Look) (q : Request) (part : List Event) (ended : Ended) (c : Course) → Answers look q part ended c → Begun look q part c
-begun_of look q part ended c (inl well) = record { run = part; line = []; cut = sym (append-nil part); is_plain = well.1.1.0; partly = went_partly (terms_in q part c) (stages_of look q well.1.1.0 part) part c.before c.after well.1.1.1; printed = inl refl }
-begun_of look q part ended c (inr (inl r)) = record {
+pub begun_of : (listens : Bool) (look : Look) (q : Request) (part : List Event) (ended : Ended) (c : Course) → Answers listens look q part ended c → Begun listens look q part c
+begun_of listens look q part ended c (inl well) = record { run = part; line = []; cut = sym (append-nil part); finds = well.1.1.0; partly = went_partly (terms_in listens q part c) (stages_of listens look q well.1.1.0 part) part c.before c.after well.1.1.1; printed = inl refl }
+begun_of listens look q part ended c (inr (inl r)) = record {
   run = r.run;
   line = r.line;
   cut = r.cut;
-  is_plain = r.is_plain;
-  partly = halted_partly (terms_in q r.run c) (error_of look q r.run) (stages_of look q r.is_plain r.run) r.run r.error c.before c.after r.refused;
+  finds = r.finds;
+  partly = halted_partly (terms_in listens q r.run c) (error_of look q r.run) (stages_of listens look q r.finds r.run) r.run r.error c.before c.after r.refused;
   printed = line_of (error_line r.error) r.line r.printed;
 }
-begun_of look q part ended c (inr (inr wanting)) = record {
+begun_of listens look q part ended c (inr (inr wanting)) = record {
   run = part;
   line = [];
   cut = sym (append-nil part);
-  is_plain = wanting.1.0;
-  partly = halted_partly (terms_in q part c) (error_of look q part) (stages_of look q wanting.1.0 part) part wanting.1.1.0 c.before c.after wanting.1.1.1;
+  finds = wanting.1.0;
+  partly = halted_partly (terms_in listens q part c) (error_of look q part) (stages_of listens look q wanting.1.0 part) part wanting.1.1.0 c.before c.after wanting.1.1.1;
   printed = inl refl;
 }
 
-pub is_begun : (look : Look) (words : Result Wish BadWord) (part : List Event) (ended : Ended) (c : Course) → AnswersWords look words part ended c → IsBegun look words part c
-is_begun look (Ok (Compiles q)) part ended c a = begun_of look q part ended c a
-is_begun look (Ok (Records path q)) part ended c a = tt
-is_begun look (Ok (Archives q)) part ended c a = tt
-is_begun look (Ok (Generates n)) part ended c a = tt
-is_begun look (Ok (Expands b)) part ended c a = tt
-is_begun look (Ok (Shows b)) part ended c a = tt
-is_begun look (Err bad) part ended c a = tt
+pub is_begun : (listens : Bool) (look : Look) (words : Result Wish BadWord) (part : List Event) (ended : Ended) (c : Course) → AnswersWords listens look words part ended c → IsBegun listens look words part c
+is_begun listens look (Ok (Compiles q)) part ended c a = begun_of listens look q part ended c a
+is_begun listens look (Ok (Records path q)) part ended c a = tt
+is_begun listens look (Ok (Archives q)) part ended c a = tt
+is_begun listens look (Ok (Generates n)) part ended c a = tt
+is_begun listens look (Ok (Expands b)) part ended c a = tt
+is_begun listens look (Ok (Shows b)) part ended c a = tt
+is_begun listens look (Err bad) part ended c a = tt
 
 -- ---- the line behind a run
 
@@ -184,35 +184,35 @@ still_behind t first part run line cut (inr (inr faulted)) order before after ev
     order before found.0 event found.1.0 archive
 
 -- the variables are listed, the folder is made and the sources are compiled
-abbrev first_stages : Look → Request → List (List ℕ × List ℕ) → List Stage
-first_stages look q vars = Calls Lists ∷ (folder_stages q.1.config (with_vars q.1.env vars) ++ Asks ∷ compile_stages q.1.config (with_vars q.1.env vars) true look)
+abbrev first_stages : Option (List ℕ) → Look → Request → List (List ℕ × List ℕ) → List Stage
+first_stages here look q vars = Calls Lists ∷ (folder_stages q.1.config (with_vars q.1.env vars) ++ Asks ∷ compile_stages q.1.config (with_vars q.1.env vars) (warning here) look)
 
 -- the stages of a request begin with these, or none of them archives
 listed_first : (first stages : List Stage) → ((rest : List Stage) × (stages ≡ first ++ rest)) ⊎ NoArchive stages → ((rest : List Stage) × (Calls Lists ∷ stages ≡ (Calls Lists ∷ first) ++ rest)) ⊎ NoArchive (Calls Lists ∷ stages)
 listed_first first stages (inl k) = inl (k.0, ap (λ l. Calls Lists ∷ l) k.1)
 listed_first first stages (inr none) = inr none
 
-order_in : (look : Look) (q : Request) (is_plain : Bool) (run : List Event) (c : Course) → Partly (terms_in q run c) (stages_of look q is_plain run) run c.before c.after → Behind (terms_in q run c) (first_stages look q (heard run)) run
-order_in look q is_plain run c p =
-    archives_behind (terms_in q run c) (first_stages look q (heard run)) (stages_of look q is_plain run) run c.before c.after (no_source_archives q.1.config (env_in q run) true look) p
-    (listed_first (folder_stages q.1.config (env_in q run) ++ Asks ∷ compile_stages q.1.config (env_in q run) true look) (planned_stages q.1.config (env_in q run) (repeating is_plain) look q.0) (planned q.1.config (env_in q run) (repeating is_plain) look q.0))
+order_in : (listens : Bool) (look : Look) (q : Request) (finds : Findings listens) (run : List Event) (c : Course) → Partly (terms_in listens q run c) (stages_of listens look q finds run) run c.before c.after → Behind (terms_in listens q run c) (first_stages finds.here look q (heard run)) run
+order_in listens look q finds run c p =
+    archives_behind (terms_in listens q run c) (first_stages finds.here look q (heard run)) (stages_of listens look q finds run) run c.before c.after (no_source_archives q.1.config (env_in q run) (warning finds.here) look) p
+    (listed_first (folder_stages q.1.config (env_in q run) ++ Asks ∷ compile_stages q.1.config (env_in q run) (warning finds.here) look) (planned_stages q.1.config (env_in q run) (repeating finds.here finds.is_plain) look q.0) (planned q.1.config (env_in q run) (repeating finds.here finds.is_plain) look q.0))
 
-order_of : (look : Look) (q : Request) (part : List Event) (c : Course) → Begun look q part c → ArchivesBehind look q part c
-order_of look q part c b before after event is archive =
-    let order : Behind (terms_in q part c) (first_stages look q (heard part)) part =
-    subst (λ (vars : List (List ℕ × List ℕ)). Behind (terms_of q.1.config (with_vars q.1.env vars) c) (first_stages look q vars) part) (sym (heard_same part b.run b.line b.cut b.printed))
-    (still_behind (terms_in q b.run c) (first_stages look q (heard b.run)) part b.run b.line b.cut b.printed (order_in look q b.is_plain b.run c b.partly)) in
+order_of : (listens : Bool) (look : Look) (q : Request) (part : List Event) (c : Course) → Begun listens look q part c → ArchivesBehind listens look q part c
+order_of listens look q part c b before after event is archive =
+    let order : Behind (terms_in listens q part c) (first_stages b.finds.here look q (heard part)) part =
+    subst (λ (vars : List (List ℕ × List ℕ)). Behind (terms_of listens q.1.config (with_vars q.1.env vars) c) (first_stages b.finds.here look q vars) part) (sym (heard_same part b.run b.line b.cut b.printed))
+    (still_behind (terms_in listens q b.run c) (first_stages b.finds.here look q (heard b.run)) part b.run b.line b.cut b.printed (order_in listens look q b.finds b.run c b.partly)) in
     let found = order before after event is archive in
-    record { runs = found.0; rest = found.1; cut = found.2.0; compiled = found.2.1 }
+    record { runs = found.0; rest = found.1; cut = found.2.0; here = b.finds.here; hears = b.finds.hears; compiled = found.2.1 }
 
-pub compiles_first : (look : Look) (words : Result Wish BadWord) (part : List Event) (ended : Ended) (c : Course) → AnswersWords look words part ended c → CompilesFirst look words part c
-compiles_first look (Ok (Compiles q)) part ended c a = order_of look q part c (begun_of look q part ended c a)
-compiles_first look (Ok (Records path q)) part ended c a = tt
-compiles_first look (Ok (Archives q)) part ended c a = tt
-compiles_first look (Ok (Generates n)) part ended c a = tt
-compiles_first look (Ok (Expands b)) part ended c a = tt
-compiles_first look (Ok (Shows b)) part ended c a = tt
-compiles_first look (Err bad) part ended c a = tt
+pub compiles_first : (listens : Bool) (look : Look) (words : Result Wish BadWord) (part : List Event) (ended : Ended) (c : Course) → AnswersWords listens look words part ended c → CompilesFirst listens look words part c
+compiles_first listens look (Ok (Compiles q)) part ended c a = order_of listens look q part c (begun_of listens look q part ended c a)
+compiles_first listens look (Ok (Records path q)) part ended c a = tt
+compiles_first listens look (Ok (Archives q)) part ended c a = tt
+compiles_first listens look (Ok (Generates n)) part ended c a = tt
+compiles_first listens look (Ok (Expands b)) part ended c a = tt
+compiles_first listens look (Ok (Shows b)) part ended c a = tt
+compiles_first listens look (Err bad) part ended c a = tt
 
 -- ---- a fault is last
 
@@ -253,8 +253,8 @@ alone_last : (x : Event) (before after : List Event) (event : Event) → x ∷ [
 alone_last x [] after event e = cc
 alone_last x (b ∷ before) after event e = let none : [] ≡ before ++ event ∷ after = cc in absurd (none_inside before after event none)
 
-pub request_faults : (look : Look) (q : Request) (part : List Event) (c : Course) → Begun look q part c → FaultsLast part
-request_faults look q part c b = stages_last (terms_in q b.run c) (stages_of look q b.is_plain b.run) part b.run b.line c.before c.after b.cut b.partly b.printed
+pub request_faults : (listens : Bool) (look : Look) (q : Request) (part : List Event) (c : Course) → Begun listens look q part c → FaultsLast part
+request_faults listens look q part c b = stages_last (terms_in listens q b.run c) (stages_of listens look q b.finds b.run) part b.run b.line c.before c.after b.cut b.partly b.printed
 
 pub word_faults : (bad : BadWord) (part : List Event) (ended : Ended) → AnswersBad bad part ended → FaultsLast part
 word_faults bad part ended (inl (is, inl printed)) = λ before after call why _real e. ([], [], (alone_last (Printed FaultLine (word_line bad)) before after (Fault call why) (sym printed ∙ e), inl refl))
@@ -280,12 +280,12 @@ pub any_before : (f : Event → Bool) (a b : List Event) → list_any f a ≡ tr
 any_before f [] b h = absurd (cc)
 any_before f (x ∷ a) b h = or_first (f x) (list_any f a) (list_any f (a ++ b)) (any_before f a b) h
 
-valid_in : (look : Look) (q : Request) (part : List Event) (ended : Ended) (c : Course) (r : Refused look q part ended c) → Valid q.1.config (env_in q part) look q.0 → Valid q.1.config (env_in q r.run) look q.0
-valid_in look q part ended c r valid =
+valid_in : (listens : Bool) (look : Look) (q : Request) (part : List Event) (ended : Ended) (c : Course) (r : Refused listens look q part ended c) → Valid q.1.config (env_in q part) look q.0 → Valid q.1.config (env_in q r.run) look q.0
+valid_in listens look q part ended c r valid =
     subst (λ (vars : List (List ℕ × List ℕ)). Valid q.1.config (with_vars q.1.env vars) look q.0) (heard_same part r.run r.line r.cut (line_of (error_line r.error) r.line r.printed)) valid
 
-failed_then : (look : Look) (q : Request) (part : List Event) (ended : Ended) (c : Course) (r : Refused look q part ended c) → (Failed (has_libtool q.1.config (env_in q part) look) part → ⊥) → Failed (has_libtool q.1.config (env_in q r.run) look) part → ⊥
-failed_then look q part ended c r none =
+failed_then : (listens : Bool) (look : Look) (q : Request) (part : List Event) (ended : Ended) (c : Course) (r : Refused listens look q part ended c) → (Failed (has_libtool q.1.config (env_in q part) look) part → ⊥) → Failed (has_libtool q.1.config (env_in q r.run) look) part → ⊥
+failed_then listens look q part ended c r none =
     subst (λ (vars : List (List ℕ × List ℕ)). Failed (has_libtool q.1.config (with_vars q.1.env vars) look) part → ⊥) (heard_same part r.run r.line r.cut (line_of (error_line r.error) r.line r.printed)) none
 
 pub known_memory : (e : ErrorSeen) → is_wanting e.kind ≡ false → e ≡ no_memory → ⊥
@@ -343,25 +343,25 @@ module _ (t : Terms) (libtool : Bool) (refusal : Option ErrorSeen) (stages : Lis
   spends = by_cause (halted_cause t libtool refusal stages run e x y plain first halted)
 
 -- so does a refused request with valid settings
-request_spends : (look : Look) (q : Request) (part : List Event) (ended : Ended) (c : Course) (r : Refused look q part ended c) → Valid q.1.config (env_in q r.run) look q.0 → (Failed (has_libtool q.1.config (env_in q r.run) look) part → ⊥) → (HasFault part → ⊥) → (Rose c.before.faults c.after.faults → ⊥) → EndsSpent c.before.left part ended
-request_spends look q part ended c r valid nothing_failed no_fault none_rose =
-    spends (terms_in q r.run c) (has_libtool q.1.config (env_in q r.run) look) (error_of look q r.run) (stages_of look q r.is_plain r.run) part r.run r.line r.error ended c.before c.after r.cut (line_of (error_line r.error) r.line r.printed) r.refused r.known r.is
-    (tt, planned_plain q.1.config (env_in q r.run) (repeating r.is_plain) look q.0) (λ other. inr (refl, planned_first q.1.config (env_in q r.run) (repeating r.is_plain) look q.0 other))
+request_spends : (listens : Bool) (look : Look) (q : Request) (part : List Event) (ended : Ended) (c : Course) (r : Refused listens look q part ended c) → Valid q.1.config (env_in q r.run) look q.0 → (Failed (has_libtool q.1.config (env_in q r.run) look) part → ⊥) → (HasFault part → ⊥) → (Rose c.before.faults c.after.faults → ⊥) → EndsSpent c.before.left part ended
+request_spends listens look q part ended c r valid nothing_failed no_fault none_rose =
+    spends (terms_in listens q r.run c) (has_libtool q.1.config (env_in q r.run) look) (error_of look q r.run) (stages_of listens look q r.finds r.run) part r.run r.line r.error ended c.before c.after r.cut (line_of (error_line r.error) r.line r.printed) r.refused r.known r.is
+    (tt, planned_plain q.1.config (env_in q r.run) (repeating r.finds.here r.finds.is_plain) look q.0) (λ other. inr (refl, planned_first q.1.config (env_in q r.run) (repeating r.finds.here r.finds.is_plain) look q.0 other))
     (no_refusal look q.1.config (env_in q r.run) q.0 r.error valid) nothing_failed no_fault none_rose
 
-complete_of : (look : Look) (q : Request) (part : List Event) (ended : Ended) (c : Course) → Answers look q part ended c → Valid q.1.config (env_in q part) look q.0 → (Failed (has_libtool q.1.config (env_in q part) look) part → ⊥) → (HasFault part → ⊥) → (Rose c.before.faults c.after.faults → ⊥) → (ended ≡ ended_well) ⊎ (EndsSpent c.before.left part ended ⊎ (ended ≡ ended_wanting))
-complete_of look q part ended c (inl well) valid failed fault rose = inl well.0
-complete_of look q part ended c (inr (inl r)) valid failed fault rose = inr (inl (request_spends look q part ended c r (valid_in look q part ended c r valid) (failed_then look q part ended c r failed) fault rose))
-complete_of look q part ended c (inr (inr wanting)) valid failed fault rose = inr (inr wanting.0)
+complete_of : (listens : Bool) (look : Look) (q : Request) (part : List Event) (ended : Ended) (c : Course) → Answers listens look q part ended c → Valid q.1.config (env_in q part) look q.0 → (Failed (has_libtool q.1.config (env_in q part) look) part → ⊥) → (HasFault part → ⊥) → (Rose c.before.faults c.after.faults → ⊥) → (ended ≡ ended_well) ⊎ (EndsSpent c.before.left part ended ⊎ (ended ≡ ended_wanting))
+complete_of listens look q part ended c (inl well) valid failed fault rose = inl well.0
+complete_of listens look q part ended c (inr (inl r)) valid failed fault rose = inr (inl (request_spends listens look q part ended c r (valid_in listens look q part ended c r valid) (failed_then listens look q part ended c r failed) fault rose))
+complete_of listens look q part ended c (inr (inr wanting)) valid failed fault rose = inr (inr wanting.0)
 
-pub complete : (look : Look) (words : Result Wish BadWord) (part : List Event) (ended : Ended) (c : Course) → AnswersWords look words part ended c → IsComplete look words part ended c
-complete look (Ok (Compiles q)) part ended c a = λ valid failed fault rose. complete_of look q part ended c a valid failed fault rose
-complete look (Ok (Records path q)) part ended c a = tt
-complete look (Ok (Archives q)) part ended c a = tt
-complete look (Ok (Generates n)) part ended c a = tt
-complete look (Ok (Expands b)) part ended c a = tt
-complete look (Ok (Shows b)) part ended c a = tt
-complete look (Err bad) part ended c a = tt
+pub complete : (listens : Bool) (look : Look) (words : Result Wish BadWord) (part : List Event) (ended : Ended) (c : Course) → AnswersWords listens look words part ended c → IsComplete look words part ended c
+complete listens look (Ok (Compiles q)) part ended c a = λ valid failed fault rose. complete_of listens look q part ended c a valid failed fault rose
+complete listens look (Ok (Records path q)) part ended c a = tt
+complete listens look (Ok (Archives q)) part ended c a = tt
+complete listens look (Ok (Generates n)) part ended c a = tt
+complete listens look (Ok (Expands b)) part ended c a = tt
+complete listens look (Ok (Shows b)) part ended c a = tt
+complete listens look (Err bad) part ended c a = tt
 
 -- ---- the turns are enough
 
@@ -374,28 +374,28 @@ too_few p n files objects most turned few count enough same =
     let more : p * n ≤ p * (2 * files + objects + 2) = mul-le-mul_left p (omega (arith, count)) in
     omega arith
 
-enough_of : (look : Look) (q : Request) (part : List Event) (ended : Ended) (c : Course) → Answers look q part ended c → (total p : ℕ) → c.total ≡ Some total → c.patience ≡ Some p → p * (2 * length q.1.config.files + length q.1.config.objects + 2) ≤ c.before.left → EndsSpent c.before.left part ended → ⊥
-enough_of look q part ended c (inl well) total p one patient enough spent =
+enough_of : (listens : Bool) (look : Look) (q : Request) (part : List Event) (ended : Ended) (c : Course) → Answers listens look q part ended c → (total p : ℕ) → c.total ≡ Some total → c.patience ≡ Some p → p * (2 * length q.1.config.files + length q.1.config.objects + 2) ≤ c.before.left → EndsSpent c.before.left part ended → ⊥
+enough_of listens look q part ended c (inl well) total p one patient enough spent =
     let s : ended.status ≡ 0 = ap (λ (x : Ended). x.status) well.0 in
     let r : ended.status ≡ 1 = ap (λ (x : Ended). x.status) spent.1.0 in
     cc
-enough_of look q part ended c (inr (inr wanting)) total p one patient enough spent =
+enough_of listens look q part ended c (inr (inr wanting)) total p one patient enough spent =
     let s : ended.status ≡ 3 = ap (λ (x : Ended). x.status) wanting.0 in
     let r : ended.status ≡ 1 = ap (λ (x : Ended). x.status) spent.1.0 in
     cc
-enough_of look q part ended c (inr (inl r)) total p one patient enough spent =
+enough_of listens look q part ended c (inr (inl r)) total p one patient enough spent =
     let same : r.error ≡ spent.0 = same_error r.error spent.0 ended r.is spent.1.0 in
-    let few : turns r.run < p * length (commands_in (stages_of look q r.is_plain r.run)) =
-    halted_bound (terms_in q r.run c) (error_of look q r.run) (stages_of look q r.is_plain r.run) r.run r.error c.before c.after total p one patient
+    let few : turns r.run < p * length (commands_in (stages_of listens look q r.finds r.run)) =
+    halted_bound (terms_in listens q r.run c) (error_of look q r.run) (stages_of listens look q r.finds r.run) r.run r.error c.before c.after total p one patient
     (never_spent q.1.config (env_in q r.run) look q.0) r.refused (ap (λ (x : ErrorSeen). x.kind) same ∙ spent.1.1) in
-    too_few p (length (commands_in (stages_of look q r.is_plain r.run))) (length q.1.config.files) (length q.1.config.objects) c.before.left (turns r.run) few (planned_count q.1.config (env_in q r.run) (repeating r.is_plain) look q.0) enough
+    too_few p (length (commands_in (stages_of listens look q r.finds r.run))) (length q.1.config.files) (length q.1.config.objects) c.before.left (turns r.run) few (planned_count q.1.config (env_in q r.run) (repeating r.finds.here r.finds.is_plain) look q.0) enough
     (sym (turns_same part r.run r.line r.cut (line_of (error_line r.error) r.line r.printed)) ∙ spent.1.2)
 
-pub enough : (look : Look) (words : Result Wish BadWord) (part : List Event) (ended : Ended) (c : Course) → AnswersWords look words part ended c → IsEnough look words part ended c
-enough look (Ok (Compiles q)) part ended c a = enough_of look q part ended c a
-enough look (Ok (Records path q)) part ended c a = tt
-enough look (Ok (Archives q)) part ended c a = tt
-enough look (Ok (Generates n)) part ended c a = tt
-enough look (Ok (Expands b)) part ended c a = tt
-enough look (Ok (Shows b)) part ended c a = tt
-enough look (Err bad) part ended c a = tt
+pub enough : (listens : Bool) (look : Look) (words : Result Wish BadWord) (part : List Event) (ended : Ended) (c : Course) → AnswersWords listens look words part ended c → IsEnough look words part ended c
+enough listens look (Ok (Compiles q)) part ended c a = enough_of listens look q part ended c a
+enough listens look (Ok (Records path q)) part ended c a = tt
+enough listens look (Ok (Archives q)) part ended c a = tt
+enough listens look (Ok (Generates n)) part ended c a = tt
+enough listens look (Ok (Expands b)) part ended c a = tt
+enough listens look (Ok (Shows b)) part ended c a = tt
+enough listens look (Err bad) part ended c a = tt

@@ -46,10 +46,10 @@ faults_unspent call subject part e (inl wanting) spent = memory_unspent e wantin
 faults_unspent call subject part e (inr (why, (stands, inl memory))) spent = memory_unspent e memory spent
 faults_unspent call subject part e (inr (why, (stands, inr is))) spent = let k : e.kind ≡ IOError = ap (λ (x : ErrorSeen). x.kind) is in cc
 
-capture_unspent : (b : BuildSeen) (front : List Event) (e : ErrorSeen) → CaptureEnds front (Err e) → e.kind ≡ TurnsSpent → ⊥
-capture_unspent b front e (inr h) spent = memory_unspent e h.0 spent
-capture_unspent b front e (inl h) spent =
-    let t = terms (shows_of b.config b.env) (Some 1) (Some 1) in
+capture_unspent : (listens : Bool) (b : BuildSeen) (front : List Event) (e : ErrorSeen) → CaptureEnds front (Err e) → e.kind ≡ TurnsSpent → ⊥
+capture_unspent listens b front e (inr h) spent = memory_unspent e h.0 spent
+capture_unspent listens b front e (inl h) spent =
+    let t = terms (shows_of b.config b.env listens) (Some 1) (Some 1) in
     let few : turns front < 1 * 0 = halted_bound t None (Calls Lists ∷ []) front e (means 0 0 0 0) (means 0 0 0 0) 1 1 refl refl (λ f is _k. let two : None ≡ Some f = is in cc) (h t (means 0 0 0 0)) spent in
     omega arith
 
@@ -116,7 +116,7 @@ module _ (vars : List (List ℕ × List ℕ)) (here : List ℕ) (run : List Even
 
 -- ---- all of it
 
-module _ (look : Look) (path : List ℕ) (q : Request) (part : List Event) (ended : Ended) (c : Course) where
+module _ (listens : Bool) (look : Look) (path : List ℕ) (q : Request) (part : List Event) (ended : Ended) (c : Course) where
   -- memory was wanted, or a call of the host faulted
   abbrev Stopped : Type 0
   Stopped = (ended ≡ ended_wanting) ⊎ HasFault part
@@ -150,7 +150,7 @@ module _ (look : Look) (path : List ℕ) (q : Request) (part : List Event) (ende
   unbegun_unspent u spent = by_cause u.cause
     where
       by_cause : CaptureEnds u.front (Err u.error) ⊎ Untold u.front u.error → ⊥
-      by_cause (inl h) = capture_unspent q.1 u.front u.error h (error_unspent u.error u.line ended c.before.left part u.says spent)
+      by_cause (inl h) = capture_unspent listens q.1 u.front u.error h (error_unspent u.error u.line ended c.before.left part u.says spent)
       by_cause (inr h) = faults_unspent CurrentDir [] h.1 u.error h.2.1 (error_unspent u.error u.line ended c.before.left part u.says spent)
 
   well_unspent : ended ≡ ended_well → EndsSpent c.before.left part ended → ⊥
@@ -159,7 +159,7 @@ module _ (look : Look) (path : List ℕ) (q : Request) (part : List Event) (ende
       let r : ended.status ≡ 1 = ap (λ (x : Ended). x.status) spent.1.0 in
       cc
 
-  module _ (r : Recorded look path q part ended c) (h : (ended ≡ r.ran) × (r.rest ≡ []) × (ended ≢ ended_well)) where
+  module _ (r : Recorded listens look path q part ended c) (h : (ended ≡ r.ran) × (r.rest ≡ []) × (ended ≢ ended_well)) where
     refused_all : part ≡ Listed r.vars ∷ Here r.here ∷ r.run
     refused_all = r.cut ∙ ap (λ l. Listed r.vars ∷ Here r.here ∷ (r.run ++ l)) h.1 ∙ ap (λ l. Listed r.vars ∷ Here r.here ∷ l) (append-nil r.run)
 
@@ -167,15 +167,15 @@ module _ (look : Look) (path : List ℕ) (q : Request) (part : List Event) (ende
     refused_complete =
         subst (λ (p : List Event). IsComplete look (Ok (Compiles q)) p ended c) (sym refused_all)
         (subst (λ (x : Ended). IsComplete look (Ok (Compiles q)) (Listed r.vars ∷ Here r.here ∷ r.run) x c) (sym h.0)
-        (complete_told r.vars r.here r.run look q r.ran c (complete look (Ok (Compiles q)) (Listed r.vars ∷ r.run) r.ran c r.answer)))
+        (complete_told r.vars r.here r.run look q r.ran c (complete listens look (Ok (Compiles q)) (Listed r.vars ∷ r.run) r.ran c r.answer)))
 
     refused_enough : IsEnough look (Ok (Compiles q)) part ended c
     refused_enough =
         subst (λ (p : List Event). IsEnough look (Ok (Compiles q)) p ended c) (sym refused_all)
         (subst (λ (x : Ended). IsEnough look (Ok (Compiles q)) (Listed r.vars ∷ Here r.here ∷ r.run) x c) (sym h.0)
-        (enough_told r.vars r.here r.run look q r.ran c (enough look (Ok (Compiles q)) (Listed r.vars ∷ r.run) r.ran c r.answer)))
+        (enough_told r.vars r.here r.run look q r.ran c (enough listens look (Ok (Compiles q)) (Listed r.vars ∷ r.run) r.ran c r.answer)))
 
-  pub record_complete : AnswersRecord look path q part ended c → IsComplete look (Ok (Compiles q)) part ended c
+  pub record_complete : AnswersRecord listens look path q part ended c → IsComplete look (Ok (Compiles q)) part ended c
   record_complete (inl u) = stopped_complete (unbegun_stopped u)
   record_complete (inr r) = by_rest r.behind
     where
@@ -184,7 +184,7 @@ module _ (look : Look) (path : List ℕ) (q : Request) (part : List Event) (ende
       by_rest (inl (well, inr u)) = stopped_complete (unwritten_stopped r.vars r.here r.run r.rest r.cut u)
       by_rest (inr h) = refused_complete r h
 
-  pub record_enough : AnswersRecord look path q part ended c → IsEnough look (Ok (Compiles q)) part ended c
+  pub record_enough : AnswersRecord listens look path q part ended c → IsEnough look (Ok (Compiles q)) part ended c
   record_enough (inl u) = λ total p one patient many spent. unbegun_unspent u spent
   record_enough (inr r) = by_rest r.behind
     where

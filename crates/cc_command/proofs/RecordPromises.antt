@@ -20,43 +20,43 @@ error_status : (e : ErrorSeen) (line : List Event) (ended : Ended) → AnswersEr
 error_status e line ended (inl printed) zero_is = let s : ended.status ≡ 1 = ap (λ (x : Ended). x.status) printed.0 in cc
 error_status e line ended (inr wanting) zero_is = let s : ended.status ≡ 3 = ap (λ (x : Ended). x.status) wanting.0 in cc
 
-answered_well : (look : Look) (q : Request) (part : List Event) (ended : Ended) (c : Course) → Answers look q part ended c → ended.status ≡ 0 → ended ≡ ended_well
-answered_well look q part ended c (inl well) zero_is = well.0
-answered_well look q part ended c (inr (inl r)) zero_is = let s : ended.status ≡ 1 = ap (λ (x : Ended). x.status) r.is in absurd (cc)
-answered_well look q part ended c (inr (inr wanting)) zero_is = let s : ended.status ≡ 3 = ap (λ (x : Ended). x.status) wanting.0 in absurd (cc)
+answered_well : (listens : Bool) (look : Look) (q : Request) (part : List Event) (ended : Ended) (c : Course) → Answers listens look q part ended c → ended.status ≡ 0 → ended ≡ ended_well
+answered_well listens look q part ended c (inl well) zero_is = well.0
+answered_well listens look q part ended c (inr (inl r)) zero_is = let s : ended.status ≡ 1 = ap (λ (x : Ended). x.status) r.is in absurd (cc)
+answered_well listens look q part ended c (inr (inr wanting)) zero_is = let s : ended.status ≡ 3 = ap (λ (x : Ended). x.status) wanting.0 in absurd (cc)
 
-module _ (look : Look) (path : List ℕ) (q : Request) (part : List Event) (ended : Ended) (c : Course) where
-  recorded_by : AnswersRecord look path q part ended c → ended.status ≡ 0 → RecordedBy look path q part c
+module _ (listens : Bool) (look : Look) (path : List ℕ) (q : Request) (part : List Event) (ended : Ended) (c : Course) where
+  recorded_by : AnswersRecord listens look path q part ended c → ended.status ≡ 0 → RecordedBy listens look path q part c
   recorded_by (inl u) zero_is = absurd (error_status u.error u.line ended u.says zero_is)
   recorded_by (inr r) zero_is = by_rest r.behind
     where
-      by_rest : Behind path (database_in look q r.vars r.here) r.ran r.rest ended → RecordedBy look path q part c
+      by_rest : Behind path (database_in look q r.vars r.here) r.ran r.rest ended → RecordedBy listens look path q part c
       by_rest (inl (well, inl written)) = record {
         vars = r.vars;
         here = r.here;
         run = r.run;
         cut = r.cut ∙ ap (λ l. Listed r.vars ∷ Here r.here ∷ (r.run ++ l)) written.1;
-        built = built_of look q (Listed r.vars ∷ r.run) r.ran c r.answer (ap (λ (x : Ended). x.status) well);
+        built = built_of listens look q (Listed r.vars ∷ r.run) r.ran c r.answer (ap (λ (x : Ended). x.status) well);
       }
       by_rest (inl (well, inr u)) = absurd (error_status u.error u.line ended u.says zero_is)
       by_rest (inr refused) =
           let ran : r.ran.status ≡ 0 = ap (λ (x : Ended). x.status) (sym refused.0) ∙ zero_is in
-          absurd (refused.2 (refused.0 ∙ answered_well look q (Listed r.vars ∷ r.run) r.ran c r.answer ran))
+          absurd (refused.2 (refused.0 ∙ answered_well listens look q (Listed r.vars ∷ r.run) r.ran c r.answer ran))
 
-  promises : AnswersRecord look path q part ended c → RecordPromises look path q part ended c
+  promises : AnswersRecord listens look path q part ended c → RecordPromises listens look path q part ended c
   promises a = record {
     answer = a;
     recorded = recorded_by a;
-    promises = λ r. promised (Ok (Compiles q)) r.ran look (Listed r.vars ∷ r.run) c r.answer;
-    complete = record_complete look path q part ended c a;
-    enough = record_enough look path q part ended c a;
+    promises = λ r. promised listens (Ok (Compiles q)) r.ran look (Listed r.vars ∷ r.run) c r.answer;
+    complete = record_complete listens look path q part ended c a;
+    enough = record_enough listens look path q part ended c a;
   }
 
-pub record_promises : (look : Look) (words : Result Wish BadWord) (part : List Event) (ended : Ended) (c : Course) → AnswersWords look words part ended c → IfRecords words (λ path q. RecordPromises look path q part ended c)
-record_promises look (Ok (Compiles q)) part ended c a = tt
-record_promises look (Ok (Records path q)) part ended c a = promises look path q part ended c a
-record_promises look (Ok (Archives q)) part ended c a = tt
-record_promises look (Ok (Generates n)) part ended c a = tt
-record_promises look (Ok (Expands b)) part ended c a = tt
-record_promises look (Ok (Shows b)) part ended c a = tt
-record_promises look (Err bad) part ended c a = tt
+pub record_promises : (listens : Bool) (look : Look) (words : Result Wish BadWord) (part : List Event) (ended : Ended) (c : Course) → AnswersWords listens look words part ended c → IfRecords words (λ path q. RecordPromises listens look path q part ended c)
+record_promises listens look (Ok (Compiles q)) part ended c a = tt
+record_promises listens look (Ok (Records path q)) part ended c a = promises look path q part ended c a
+record_promises listens look (Ok (Archives q)) part ended c a = tt
+record_promises listens look (Ok (Generates n)) part ended c a = tt
+record_promises listens look (Ok (Expands b)) part ended c a = tt
+record_promises listens look (Ok (Shows b)) part ended c a = tt
+record_promises listens look (Err bad) part ended c a = tt

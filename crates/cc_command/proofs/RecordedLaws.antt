@@ -1,5 +1,5 @@
 -- A compile run that is recorded: what its part is cut into, and what follows from that.
-use Rattle.std.proofs.Common.{◌≡◌, ◌⊎◌, inl, inr, ℕ, List, [], ◌∷◌, ◌++◌, Option, None, Result, Ok, Err, refl, sym, ◌∙◌, ap, subst, append_assoc, append-nil}
+use Rattle.std.proofs.Common.{◌≡◌, ◌⊎◌, inl, inr, ℕ, List, [], ◌∷◌, ◌++◌, Option, None, Result, Ok, Err, refl, sym, ◌∙◌, ap, subst, append_assoc, append-nil, Bool}
 use Rattle.std.specs.Prelude.{◌≢◌}
 use Rattle.cc_host.specs.Part.{Refuses}
 use Rattle.cc_host.specs.Part.Step.{Lists, Finds, Writes}
@@ -50,9 +50,9 @@ last_told vars here run ended (inr (inl error)) = inr (inl (error.0, (error.1.0,
 last_told vars here run ended (inr (inr (inl word))) = inr (inr (inl (word.0, (word.1.0, ends_told _ vars here run word.1.1))))
 last_told vars here run ended (inr (inr (inr wanting))) = inr (inr (inr wanting))
 
-pub record_last : (look : Look) (path : List ℕ) (q : Request) (part : List Event) (ended : Ended) (c : Course) → AnswersRecord look path q part ended c → PrintsLast part ended
-record_last look path q part ended c (inl u) = said_last part u.front u.line u.error ended u.cut u.says
-record_last look path q part ended c (inr r) = by_rest r.behind
+pub record_last : (listens : Bool) (look : Look) (path : List ℕ) (q : Request) (part : List Event) (ended : Ended) (c : Course) → AnswersRecord listens look path q part ended c → PrintsLast part ended
+record_last listens look path q part ended c (inl u) = said_last part u.front u.line u.error ended u.cut u.says
+record_last listens look path q part ended c (inr r) = by_rest r.behind
   where
     by_rest : Behind path (database_in look q r.vars r.here) r.ran r.rest ended → PrintsLast part ended
     by_rest (inl (well, inl written)) = inl (ap told written.0)
@@ -61,7 +61,7 @@ record_last look path q part ended c (inr r) = by_rest r.behind
         (r.cut ∙ ap (λ l. Listed r.vars ∷ Here r.here ∷ (r.run ++ l)) u.cut ∙ ap (λ l. Listed r.vars ∷ Here r.here ∷ l) (sym (append_assoc r.run u.front u.line))) u.says
     by_rest (inr refused) =
         let all : part ≡ Listed r.vars ∷ Here r.here ∷ r.run = r.cut ∙ ap (λ l. Listed r.vars ∷ Here r.here ∷ (r.run ++ l)) refused.1 ∙ ap (λ l. Listed r.vars ∷ Here r.here ∷ l) (append-nil r.run) in
-        let last : PrintsLast (Listed r.vars ∷ r.run) ended = subst (λ (x : Ended). PrintsLast (Listed r.vars ∷ r.run) x) (sym refused.0) (request_last look q (Listed r.vars ∷ r.run) r.ran c r.answer) in
+        let last : PrintsLast (Listed r.vars ∷ r.run) ended = subst (λ (x : Ended). PrintsLast (Listed r.vars ∷ r.run) x) (sym refused.0) (request_last listens look q (Listed r.vars ∷ r.run) r.ran c r.answer) in
         subst (λ (p : List Event). PrintsLast p ended) (sym all) (last_told r.vars r.here r.run ended last)
 
 -- ---- the stages of such a run
@@ -124,33 +124,33 @@ told_went t vars here stages run x z w =
     let rest : Went t stages run x z = subst (λ (l : List Event). Went t stages l x z) same (subst (λ (m : Means). Went t stages w.1 m z) w.3.1.1.2 w.3.2) in
     (Listed vars ∷ [], Here here ∷ run, x, (refl, (Listed vars, (refl, refl, refl)), (Here here ∷ [], run, x, (refl, (Here here, (refl, refl, refl)), rest))))
 
-module _ (look : Look) (path : List ℕ) (q : Request) (part : List Event) (ended : Ended) (c : Course) where
+module _ (listens : Bool) (look : Look) (path : List ℕ) (q : Request) (part : List Event) (ended : Ended) (c : Course) where
   unbegun : Unbegun part ended c → Gone part c
   unbegun u = by_cause u.cause
     where
-      made : (stages : List Stage) → Partly (terms_in q part c) stages u.front c.before c.before → Gone part c
+      made : (stages : List Stage) → Partly (terms_in listens q part c) stages u.front c.before c.before → Gone part c
       made stages p = record {
-        t = terms_in q part c;
+        t = terms_in listens q part c;
         stages = stages;
         run = u.front;
         line = u.line;
         cut = u.cut;
-        partly = subst (λ (m : Means). Partly (terms_in q part c) stages u.front c.before m) (sym u.idle) p;
+        partly = subst (λ (m : Means). Partly (terms_in listens q part c) stages u.front c.before m) (sym u.idle) p;
         printed = said_line u.error u.line ended u.says;
       }
 
       by_cause : CaptureEnds u.front (Err u.error) ⊎ Untold u.front u.error → Gone part c
-      by_cause (inl h) = made (Calls Lists ∷ []) (captured_partly (terms_in q part c) u.front u.error c.before h)
-      by_cause (inr h) = made (Calls Lists ∷ Calls (Finds []) ∷ []) (untold_partly (terms_in q part c) u.front u.error c.before h)
+      by_cause (inl h) = made (Calls Lists ∷ []) (captured_partly (terms_in listens q part c) u.front u.error c.before h)
+      by_cause (inr h) = made (Calls Lists ∷ Calls (Finds []) ∷ []) (untold_partly (terms_in listens q part c) u.front u.error c.before h)
 
-  recorded : Recorded look path q part ended c → Gone part c
+  recorded : Recorded listens look path q part ended c → Gone part c
   recorded r = by_rest r.behind
     where
       refused : (ended ≡ r.ran) × (r.rest ≡ []) × (ended ≢ ended_well) → Gone part c
       refused h =
-          let b = begun_of look q (Listed r.vars ∷ r.run) r.ran c r.answer in
-          let t = terms_in q b.run c in
-          let planned = planned_stages q.1.config (env_in q b.run) (repeating b.is_plain) look q.0 in
+          let b = begun_of listens look q (Listed r.vars ∷ r.run) r.ran c r.answer in
+          let t = terms_in listens q b.run c in
+          let planned = planned_stages q.1.config (env_in q b.run) (repeating b.finds.here b.finds.is_plain) look q.0 in
           let more = behind_listing t r.vars planned r.run b.run b.line c.before c.after b.cut b.printed b.partly in
           record {
             t = t;
@@ -166,10 +166,10 @@ module _ (look : Look) (path : List ℕ) (q : Request) (part : List Event) (ende
       after : (stages : List Stage) (front line : List Event) → r.ran ≡ ended_well → r.rest ≡ front ++ line → IsLine line → ((t : Terms) (x : Means) → Partly t stages front x x) → Gone part c
       after stages front line well cut printed p = by_answer r.answer
         where
-          by_answer : Answers look q (Listed r.vars ∷ r.run) r.ran c → Gone part c
+          by_answer : Answers listens look q (Listed r.vars ∷ r.run) r.ran c → Gone part c
           by_answer (inl a) =
-              let t = terms_in q (Listed r.vars ∷ r.run) c in
-              let planned = planned_stages q.1.config (env_in q (Listed r.vars ∷ r.run)) (repeating a.1.1.0) look q.0 in
+              let t = terms_in listens q (Listed r.vars ∷ r.run) c in
+              let planned = planned_stages q.1.config (env_in q (Listed r.vars ∷ r.run)) (repeating a.1.1.0.here a.1.1.0.is_plain) look q.0 in
               let w : Went t (Calls Lists ∷ planned) (Listed r.vars ∷ r.run) c.before c.after = a.1.1.1 in
               let here : Went t (Calls Lists ∷ Calls (Finds r.here) ∷ planned) (Listed r.vars ∷ Here r.here ∷ r.run) c.before c.after = told_went t r.vars r.here planned r.run c.before c.after w in
               record {
@@ -198,12 +198,12 @@ module _ (look : Look) (path : List ℕ) (q : Request) (part : List Event) (ende
           after (Calls (Writes path (database_in look q r.vars r.here)) ∷ []) u.front u.line well u.cut (said_line u.error u.line ended u.says) (λ t x. file_partly t path (database_in look q r.vars r.here) u.front u.error x u.cause)
       by_rest (inr h) = refused h
 
-  gone : AnswersRecord look path q part ended c → Gone part c
+  gone : AnswersRecord listens look path q part ended c → Gone part c
   gone (inl u) = unbegun u
   gone (inr r) = recorded r
 
-  pub record_faults : AnswersRecord look path q part ended c → FaultsLast part
+  pub record_faults : AnswersRecord listens look path q part ended c → FaultsLast part
   record_faults a = let g = gone a in stages_last g.t g.stages part g.run g.line c.before c.after g.cut g.partly g.printed
 
-  pub record_settled : AnswersRecord look path q part ended c → NothingRuns part
+  pub record_settled : AnswersRecord listens look path q part ended c → NothingRuns part
   record_settled a = let g = gone a in stages_settled g.t g.stages part g.run g.line c.before c.after g.cut g.partly g.printed

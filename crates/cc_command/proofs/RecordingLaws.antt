@@ -1,5 +1,5 @@
 -- How a compile run goes that is recorded, from its calls to its answer.
-use Rattle.std.proofs.Common.{◌≡◌, ◌⊎◌, inl, inr, ℕ, List, [], ◌∷◌, ◌++◌, true, Option, Some, Result, Ok, Err, refl, sym, ◌∙◌, ap, subst, append_assoc, append-nil}
+use Rattle.std.proofs.Common.{◌≡◌, ◌⊎◌, inl, inr, ℕ, List, [], ◌∷◌, ◌++◌, true, Option, Some, Result, Ok, Err, refl, sym, ◌∙◌, ap, subst, append_assoc, append-nil, Bool}
 use Rattle.std.specs.Prelude.{◌≢◌}
 use Rattle.cc_db.specs.Database.{database}
 use Rattle.cc_host.specs.Part.{since}
@@ -27,28 +27,28 @@ use Rattle.cc_command.proofs.EntryLaws.{built_starts, planned_log}
 -- ---- between the two calls
 
 -- the three calls, one after another
-pub between_so : (look : Look) (b : BuildSeen) (output path here : List ℕ) (ran result : Result (Unit {0}) ErrorSeen) (first run rest part : List Event) → part ≡ (first ++ run) ++ rest → first ≡ Here here ∷ [] → (total p q : Option ℕ) → p ≡ q → (x y : Means) → IsBuilt b output ran look run (course total p x y) → Promises b output ran look run (course total p x y) → EndsBehind path (database (entries_of b.config b.env look here)) ran rest result → IsRecord output path b result look part (course total q x y)
-between_so look b output path here ran result first run rest part cut told total p q same x y built promises behind =
+pub between_so : (listens : Bool) (look : Look) (b : BuildSeen) (output path here : List ℕ) (ran result : Result (Unit {0}) ErrorSeen) (first run rest part : List Event) → part ≡ (first ++ run) ++ rest → first ≡ Here here ∷ [] → (total p q : Option ℕ) → p ≡ q → (x y : Means) → IsBuilt b listens output ran look run (course total p x y) → Promises b listens output ran look run (course total p x y) → EndsBehind path (database (entries_of b.config b.env look here)) ran rest result → IsRecord listens output path b result look part (course total q x y)
+between_so listens look b output path here ran result first run rest part cut told total p q same x y built promises behind =
     inr (record {
       here = here;
       run = run;
       rest = rest;
       cut = cut ∙ ap (λ l. (l ++ run) ++ rest) told;
       ran = ran;
-      built = subst (λ (patience : Option ℕ). IsBuilt b output ran look run (course total patience x y)) same built;
-      promises = subst (λ (patience : Option ℕ). Promises b output ran look run (course total patience x y)) same promises;
+      built = subst (λ (patience : Option ℕ). IsBuilt b listens output ran look run (course total patience x y)) same built;
+      promises = subst (λ (patience : Option ℕ). Promises b listens output ran look run (course total patience x y)) same promises;
       behind = behind;
     })
 
 -- what was written behind a library that was built
-pub wrote_so : (look : Look) (b : BuildSeen) (output path here named : List ℕ) (c : Course) (mid end part : List Event) → end ≡ mid ++ since mid end → Built (terms_for b c) b.config b.env look output (since mid end) → named ≡ here → part ≡ Wrote path (database (logged_entries named (objects_of b.config b.env) end)) ∷ [] → part ≡ Wrote path (database (entries_of b.config b.env look here)) ∷ []
-wrote_so look b output path here named c mid end part extends built same wrote =
+pub wrote_so : (listens : Bool) (look : Look) (b : BuildSeen) (output path here named : List ℕ) (c : Course) (mid end part : List Event) → end ≡ mid ++ since mid end → Built (terms_for b listens c) b.config b.env look output (since mid end) → named ≡ here → part ≡ Wrote path (database (logged_entries named (objects_of b.config b.env) end)) ∷ [] → part ≡ Wrote path (database (entries_of b.config b.env look here)) ∷ []
+wrote_so listens look b output path here named c mid end part extends built same wrote =
     let entries : logged_entries here (objects_of b.config b.env) end ≡ entries_of b.config b.env look here =
-    ap (logged_entries here (objects_of b.config b.env)) extends ∙ planned_log b.config b.env look here mid (since mid end) (built_starts (terms_for b c) b.config b.env look output (since mid end) built) in
+    ap (logged_entries here (objects_of b.config b.env)) extends ∙ planned_log b.config b.env look here mid (since mid end) (built_starts (terms_for b listens c) b.config b.env look output (since mid end) built) in
     wrote ∙ ap (λ (folder : List ℕ). Wrote path (database (logged_entries folder (objects_of b.config b.env) end)) ∷ []) same ∙ ap (λ entries. Wrote path (database entries) ∷ []) entries
 
-pub unfound_so : (look : Look) (b : BuildSeen) (output path : List ℕ) (e : ErrorSeen) (part : List Event) (c : Course) → Faults CurrentDir [] part e → c.after ≡ c.before → IsRecord output path b (Err e) look part c
-unfound_so look b output path e part c faults same = inl (e, (refl, faults, same))
+pub unfound_so : (listens : Bool) (look : Look) (b : BuildSeen) (output path : List ℕ) (e : ErrorSeen) (part : List Event) (c : Course) → Faults CurrentDir [] part e → c.after ≡ c.before → IsRecord listens output path b (Err e) look part c
+unfound_so listens look b output path e part c faults same = inl (e, (refl, faults, same))
 
 -- ---- with the variables before it
 
@@ -63,10 +63,10 @@ refused_differs e line ended (inr wanting) = λ well.
     cc
 
 -- the variables weren't listed
-pub unlisted_record : (look : Look) (path : List ℕ) (q : Request) (front line part : List Event) (e : ErrorSeen) (ended : Ended) (c : Course) → part ≡ front ++ line → CaptureEnds front (Err e) → AnswersError e line ended → c.after ≡ c.before → AnswersRecord look path q part ended c
-unlisted_record look path q front line part e ended c cut ends says same = inl (record { error = e; front = front; line = line; cut = cut; cause = inl ends; says = says; idle = same })
+pub unlisted_record : (listens : Bool) (look : Look) (path : List ℕ) (q : Request) (front line part : List Event) (e : ErrorSeen) (ended : Ended) (c : Course) → part ≡ front ++ line → CaptureEnds front (Err e) → AnswersError e line ended → c.after ≡ c.before → AnswersRecord listens look path q part ended c
+unlisted_record listens look path q front line part e ended c cut ends says same = inl (record { error = e; front = front; line = line; cut = cut; cause = inl ends; says = says; idle = same })
 
-module _ (look : Look) (path name : List ℕ) (before after : BuildSeen) (listed : List Event) (k : Captures before after listed) (total p q : Option ℕ) (same : p ≡ q) (x y : Means) (repeats : before.config.repeat_lines ≡ true) where
+module _ (listens : Bool) (look : Look) (path name : List ℕ) (before after : BuildSeen) (listed : List Event) (k : Captures before after listed) (total p q : Option ℕ) (same : p ≡ q) (x y : Means) (repeats : before.config.repeat_lines ≡ true) where
   abbrev c : Course
   c = course total q x y
 
@@ -74,22 +74,22 @@ module _ (look : Look) (path name : List ℕ) (before after : BuildSeen) (listed
   alone : Captures before after (Listed k.vars ∷ [])
   alone = record { vars = k.vars; listed = refl; is = k.is }
 
-  answered : (run : List Event) → Built (terms_for after (course total p x y)) after.config after.env look name run → Promises {T = Unit {0}} after name (Ok tt) look run (course total p x y) → Answers look (name, before) (Listed k.vars ∷ run) ended_well c
-  answered run built promises = answers_built look name before after [] (Listed k.vars ∷ []) (Listed k.vars ∷ run) refl refl alone total p q same x y repeats ended_well refl built promises
+  answered : (run : List Event) → Built (terms_for after listens (course total p x y)) after.config after.env look name run → Promises {T = Unit {0}} after listens name (Ok tt) look run (course total p x y) → Answers listens look (name, before) (Listed k.vars ∷ run) ended_well c
+  answered run built promises = answers_built listens look name before after [] (Listed k.vars ∷ []) (Listed k.vars ∷ run) refl refl alone total p q same x y repeats ended_well refl built promises
 
-  refused : (run line : List Event) (e : ErrorSeen) (ended : Ended) → Promises {T = Unit {0}} after name (Err e) look run (course total p x y) → AnswersError e line ended → Answers look (name, before) (Listed k.vars ∷ (run ++ line)) ended c
+  refused : (run line : List Event) (e : ErrorSeen) (ended : Ended) → Promises {T = Unit {0}} after listens name (Err e) look run (course total p x y) → AnswersError e line ended → Answers listens look (name, before) (Listed k.vars ∷ (run ++ line)) ended c
   refused run line e ended promises says =
-      answers_refused look (name, before) (Listed k.vars ∷ run) line (Listed k.vars ∷ (run ++ line)) e ended c refl (halted_listed look name before after [] (Listed k.vars ∷ []) (Listed k.vars ∷ run) refl refl alone total p q same x y repeats e promises) says
+      answers_refused listens look (name, before) (Listed k.vars ∷ run) line (Listed k.vars ∷ (run ++ line)) e ended c refl (halted_listed listens look name before after [] (Listed k.vars ∷ []) (Listed k.vars ∷ run) refl refl alone total p q same x y repeats e promises) says
 
   bytes_same : (here : List ℕ) → database (entries_of after.config after.env look here) ≡ database_in look (name, before) k.vars here
   bytes_same here = ap (λ (b : BuildSeen). database (entries_of b.config b.env look here)) k.is
 
   -- it was done
-  pub recorded_done : (part more : List Event) (ended : Ended) → part ≡ listed ++ more → IsRecord name path after (Ok tt) look more (course total p x y) → ended ≡ ended_well → AnswersRecord look path (name, before) part ended c
+  pub recorded_done : (part more : List Event) (ended : Ended) → part ≡ listed ++ more → IsRecord listens name path after (Ok tt) look more (course total p x y) → ended ≡ ended_well → AnswersRecord listens look path (name, before) part ended c
   recorded_done part more ended cut (inl f) is = let clash : Ok tt ≡ Err f.0 = f.1.0 in absurd (cc)
   recorded_done part more ended cut (inr w) is = by_run w.ran w.built w.promises w.behind
     where
-      by_run : (ran : Result (Unit {0}) ErrorSeen) → IsBuilt after name ran look w.run (course total p x y) → Promises after name ran look w.run (course total p x y) → EndsBehind path (database (entries_of after.config after.env look w.here)) ran w.rest (Ok tt) → AnswersRecord look path (name, before) part ended c
+      by_run : (ran : Result (Unit {0}) ErrorSeen) → IsBuilt after listens name ran look w.run (course total p x y) → Promises after listens name ran look w.run (course total p x y) → EndsBehind path (database (entries_of after.config after.env look w.here)) ran w.rest (Ok tt) → AnswersRecord listens look path (name, before) part ended c
       by_run (Ok done) built promises behind =
           inr (record {
             vars = k.vars;
@@ -104,7 +104,7 @@ module _ (look : Look) (path name : List ℕ) (before after : BuildSeen) (listed
       by_run (Err e) built promises behind = let clash : Ok tt ≡ Err e = behind.0 in absurd (cc)
 
   -- it was refused, with a line behind it
-  pub recorded_refused : (part more line : List Event) (e : ErrorSeen) (ended : Ended) → part ≡ (listed ++ more) ++ line → IsRecord name path after (Err e) look more (course total p x y) → AnswersError e line ended → AnswersRecord look path (name, before) part ended c
+  pub recorded_refused : (part more line : List Event) (e : ErrorSeen) (ended : Ended) → part ≡ (listed ++ more) ++ line → IsRecord listens name path after (Err e) look more (course total p x y) → AnswersError e line ended → AnswersRecord listens look path (name, before) part ended c
   recorded_refused part more line e ended cut (inl f) says =
       let same_error : f.0 ≡ e = let g : Err e ≡ Err f.0 = f.1.0 in cc in
       inl (record {
@@ -121,7 +121,7 @@ module _ (look : Look) (path name : List ℕ) (before after : BuildSeen) (listed
       whole : part ≡ Listed k.vars ∷ Here w.here ∷ ((w.run ++ w.rest) ++ line)
       whole = cut ∙ ap (λ l. (l ++ more) ++ line) k.listed ∙ ap (λ l. (Listed k.vars ∷ l) ++ line) w.cut
 
-      by_run : (ran : Result (Unit {0}) ErrorSeen) → IsBuilt after name ran look w.run (course total p x y) → Promises after name ran look w.run (course total p x y) → EndsBehind path (database (entries_of after.config after.env look w.here)) ran w.rest (Err e) → AnswersRecord look path (name, before) part ended c
+      by_run : (ran : Result (Unit {0}) ErrorSeen) → IsBuilt after listens name ran look w.run (course total p x y) → Promises after listens name ran look w.run (course total p x y) → EndsBehind path (database (entries_of after.config after.env look w.here)) ran w.rest (Err e) → AnswersRecord listens look path (name, before) part ended c
       by_run (Ok done) built promises behind =
           inr (record {
             vars = k.vars;
@@ -135,7 +135,7 @@ module _ (look : Look) (path name : List ℕ) (before after : BuildSeen) (listed
           })
       by_run (Err f) built promises behind =
           let same_error : f ≡ e = let g : Err e ≡ Err f = behind.0 in cc in
-          let its : Promises {T = Unit {0}} after name (Err e) look w.run (course total p x y) = subst (λ (d : ErrorSeen). Promises {T = Unit {0}} after name (Err d) look w.run (course total p x y)) same_error promises in
+          let its : Promises {T = Unit {0}} after listens name (Err e) look w.run (course total p x y) = subst (λ (d : ErrorSeen). Promises {T = Unit {0}} after listens name (Err d) look w.run (course total p x y)) same_error promises in
           inr (record {
             vars = k.vars;
             here = w.here;

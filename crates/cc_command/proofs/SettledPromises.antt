@@ -1,5 +1,5 @@
 -- No child runs behind a request, and its commands are the first of the planned ones.
-use Rattle.std.proofs.Common.{◌≡◌, inl, inr, ℕ, List, ◌∷◌, ◌++◌, map, Result, Ok, Err, sym, ◌∙◌, ap, append-nil}
+use Rattle.std.proofs.Common.{◌≡◌, inl, inr, ℕ, List, ◌∷◌, ◌++◌, map, Result, Ok, Err, sym, ◌∙◌, ap, append-nil, Bool}
 use Rattle.std.specs.Prelude.{String}
 use Rattle.std.proofs.lemmas.Grind.{flat_map-append}
 use Rattle.cc_host.specs.Part.Step.{Lists}
@@ -30,8 +30,8 @@ use Rattle.cc_command.proofs.StartedPromises.{no_attempt, beside, failed}
 pub stages_settled : (t : Terms) (stages : List Stage) (part run line : List Event) (x y : Means) → part ≡ run ++ line → Partly t stages run x y → IsLine line → NothingRuns part
 stages_settled t stages part run line x y cut begun printed = ap (λ (r : Run). r.live) (run_same part run line cut printed) ∙ partly_settled t stages run x y 0 begun
 
-pub request_settled : (look : Look) (q : Request) (part : List Event) (c : Course) → Begun look q part c → NothingRuns part
-request_settled look q part c b = stages_settled (terms_in q b.run c) (stages_of look q b.is_plain b.run) part b.run b.line c.before c.after b.cut b.partly b.printed
+pub request_settled : (listens : Bool) (look : Look) (q : Request) (part : List Event) (c : Course) → Begun listens look q part c → NothingRuns part
+request_settled listens look q part c b = stages_settled (terms_in listens q b.run c) (stages_of listens look q b.finds b.run) part b.run b.line c.before c.after b.cut b.partly b.printed
 
 line_settled : (part : List Event) → IsLine part → NothingRuns part
 line_settled part line = ap (λ (r : Run). r.live) (no_child nothing part line)
@@ -47,37 +47,37 @@ pub attempts_same : (part run line : List Event) → part ≡ run ++ line → Is
 attempts_same part run line cut printed =
     ap attempts cut ∙ flat_map-append attempt_of run line ∙ ap (λ l. attempts run ++ l) (no_attempt line printed) ∙ append-nil (attempts run)
 
-pub first : (look : Look) (words : Result Wish BadWord) (part : List Event) (ended : Ended) (c : Course) → AnswersWords look words part ended c → IsPrefix look words part
-first look (Ok (Records path q)) part ended c a = tt
-first look (Ok (Archives q)) part ended c a = tt
-first look (Ok (Generates n)) part ended c a = tt
-first look (Ok (Expands b)) part ended c a = tt
-first look (Ok (Shows b)) part ended c a = tt
-first look (Ok (Compiles q)) part ended c a =
-    let b : Begun look q part c = is_begun look (Ok (Compiles q)) part ended c a in
-    let p = partly_first (terms_in q b.run c) (stages_of look q b.is_plain b.run) b.run c.before c.after (tt, planned_plain q.1.config (env_in q b.run) (repeating b.is_plain) look q.0) b.partly in
+pub first : (listens : Bool) (look : Look) (words : Result Wish BadWord) (part : List Event) (ended : Ended) (c : Course) → AnswersWords listens look words part ended c → IsPrefix listens look words part
+first listens look (Ok (Records path q)) part ended c a = tt
+first listens look (Ok (Archives q)) part ended c a = tt
+first listens look (Ok (Generates n)) part ended c a = tt
+first listens look (Ok (Expands b)) part ended c a = tt
+first listens look (Ok (Shows b)) part ended c a = tt
+first listens look (Ok (Compiles q)) part ended c a =
+    let b : Begun listens look q part c = is_begun listens look (Ok (Compiles q)) part ended c a in
+    let p = partly_first (terms_in listens q b.run c) (stages_of listens look q b.finds b.run) b.run c.before c.after (tt, planned_plain q.1.config (env_in q b.run) (repeating b.finds.here b.finds.is_plain) look q.0) b.partly in
     let same = attempts_same part b.run b.line b.cut b.printed in (
-      b.is_plain,
+      b.finds,
       (
         p.0,
-        ap (λ (vars : List (List ℕ × List ℕ)). map to_attempt (commands_in (Calls Lists ∷ planned_stages q.1.config (with_vars q.1.env vars) (repeating b.is_plain) look q.0))) (heard_same part b.run b.line b.cut b.printed)
+        ap (λ (vars : List (List ℕ × List ℕ)). map to_attempt (commands_in (Calls Lists ∷ planned_stages q.1.config (with_vars q.1.env vars) (repeating b.finds.here b.finds.is_plain) look q.0))) (heard_same part b.run b.line b.cut b.printed)
             ∙ p.1
             ∙ ap (λ l. l ++ p.0) (sym same),
       ),
     )
-first look (Err bad) part ended c a = tt
+first listens look (Err bad) part ended c a = tt
 
 -- ---- all of it
 
 -- what an answer promises
-pub promised : (words : Result Wish BadWord) (ended : Ended) (look : Look) (part : List Event) (c : Course) → AnswersWords look words part ended c → Promises words ended look part c
-promised words ended look part c a = record {
+pub promised : (listens : Bool) (words : Result Wish BadWord) (ended : Ended) (look : Look) (part : List Event) (c : Course) → AnswersWords listens look words part ended c → Promises listens words ended look part c
+promised listens words ended look part c a = record {
   answer = a;
-  begun = is_begun look words part ended c a;
-  order = compiles_first look words part ended c a;
-  prefix = first look words part ended c a;
-  beside = beside look words part ended c a;
-  failed = failed look words part ended c a;
-  complete = complete look words part ended c a;
-  enough = enough look words part ended c a;
+  begun = is_begun listens look words part ended c a;
+  order = compiles_first listens look words part ended c a;
+  prefix = first listens look words part ended c a;
+  beside = beside listens look words part ended c a;
+  failed = failed listens look words part ended c a;
+  complete = complete listens look words part ended c a;
+  enough = enough listens look words part ended c a;
 }

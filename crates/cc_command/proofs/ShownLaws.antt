@@ -20,8 +20,8 @@ use Rattle.cc_host.specs.declared.question.Question.{Question}
 use Rattle.cc_host.proofs.Parts.{kind_is, IsKind, stops_both, stops_stop, calm_then, calm_whole, left_more, left_stop, partly_more, partly_stop, partly_whole, partly_none, whole_step, whole_then}
 use Rattle.cc_plan.specs.Archive.{archiver_of}
 use Rattle.cc_plan.specs.Asking.{is_of_children}
-use Rattle.cc_plan.specs.Plan.{prints, tool_lines as warned_lines}
-use Rattle.cc_plan.specs.Planned.{tool_of}
+use Rattle.cc_plan.specs.Plan.{prints}
+use Rattle.cc_plan.specs.Planned.{tool_of, warnings_of}
 use Rattle.cc_plan.specs.Questions.{PlanAsks, ArchiverAsks, RanlibAsks}
 use Rattle.cc_plan.specs.Refusal.{archiver_refusal, ranlib_refusal}
 use Rattle.cc_plan.specs.Reruns.{rerun_names}
@@ -52,7 +52,7 @@ use Rattle.cc_build.specs.Way.{Firsts}
 use Rattle.cc_build.specs.Went.{Terms, Means, terms, means, Went, Halted, Halts, IsOf}
 use Rattle.cc_build.proofs.Going.{part_is}
 use Rattle.cc_build.proofs.Outcomes.{outcome_then}
-use Rattle.cc_build.proofs.PrintedLaws.{is_told, told_prints, told_printed, IsRealFault, told_refused, fault_stops, fault_childless, fault_is, or_false, neither, IsChildless, childless_then, calls_outcome, asked_whole, refused_more, asked_refused}
+use Rattle.cc_build.proofs.PrintedLaws.{is_told, told_prints, told_printed, told_warned, IsRealFault, told_refused, fault_stops, fault_childless, fault_is, or_false, neither, IsChildless, childless_then, calls_outcome, asked_whole, refused_more, asked_refused}
 use Rattle.cc_command.specs.Answer.{AnswersError, IfShows, IsAnswerOf, ended_well, ended_wanting}
 use Rattle.cc_command.specs.Archived.{Says}
 use Rattle.cc_command.specs.Asks.{AsksWish}
@@ -97,7 +97,7 @@ module _ (reads : Reads) (b : BuildSeen) (repeats : b.config.repeat_lines ≡ tr
 
 -- ---- the tools, found one after another
 
-module _ (steady : Bool) (world : Question → Verdicts) (b : BuildSeen) where
+module _ (listens : Bool) (steady : Bool) (world : Question → Verdicts) (b : BuildSeen) where
   none_compiler : AsksByPlan steady world b []
   none_compiler = asked_none steady world (probes b) (PlanAsks b.config b.env) [] refl
 
@@ -133,7 +133,7 @@ module _ (steady : Bool) (world : Question → Verdicts) (b : BuildSeen) where
     behind_compiler looks = read_steps archiver_reads b looks.archiver ++ behind_archiver looks
 
     -- no compiler is found, or a line of what was read for it couldn't be printed
-    pub no_compiler : (part : List Event) (e : ErrorSeen) → AsksByPlan steady world b part → IsChildless part → Holds (answers part) (λ look. CompilerEnds {T = ToolSeen} b.config b.env (Err e) look part) → Showing steady world b part (Err e)
+    pub no_compiler : (part : List Event) (e : ErrorSeen) → AsksByPlan steady world b part → IsChildless part → Holds (answers part) (λ look. CompilerEnds {T = ToolSeen} b.config b.env listens (Err e) look part) → Showing listens steady world b part (Err e)
     no_compiler part e asks childless ends = record {
       asks = record {
         compiler = part;
@@ -149,22 +149,22 @@ module _ (steady : Bool) (world : Question → Verdicts) (b : BuildSeen) where
       childless = childless;
       ends = λ looks agree.
           let o = ends.under looks.compiler agree.0 in
-          (o.0, told_refused_so compiler_reads b repeats looks.compiler (tool_error b.config b.env looks.compiler) (tool_steps b.config b.env o.0 looks.compiler) part e (show_error b looks) (behind_compiler looks) (first_refused looks e) o.1);
+          (o.0, told_refused_so compiler_reads b repeats looks.compiler (tool_error b.config b.env looks.compiler) (tool_steps b.config b.env listens o.0 looks.compiler) part e (show_error b looks) (behind_compiler looks) (first_refused looks e) o.1);
     }
 
-    module _ (tool : ToolSeen) (compiler : List Event) (compiler_asks : AsksByPlan steady world b compiler) (no_child : IsChildless compiler) (is_tool : Holds (answers compiler) (λ look. IsTool b.config b.env tool look)) (found : Holds (answers compiler) (λ look. CompilerEnds b.config b.env (Ok tool) look compiler)) where
+    module _ (tool : ToolSeen) (compiler : List Event) (compiler_asks : AsksByPlan steady world b compiler) (no_child : IsChildless compiler) (is_tool : Holds (answers compiler) (λ look. IsTool b.config b.env tool look)) (found : Holds (answers compiler) (λ look. CompilerEnds b.config b.env listens (Ok tool) look compiler)) where
       -- the compiler was found, and a part behind it comes so
-      behind_first : (looks : Looks) (rest part : List Event) (r : Result (Unit {0}) ErrorSeen) → part ≡ compiler ++ rest → Agrees looks.compiler (answers compiler) → ((tool_error b.config b.env looks.compiler ≡ None) → Outcome (show_error b looks) (behind_compiler looks) rest r) → (warns_of_link : Bool) × Outcome (show_error b looks) (tools_steps b warns_of_link looks) part r
+      behind_first : (looks : Looks) (rest part : List Event) (r : Result (Unit {0}) ErrorSeen) → part ≡ compiler ++ rest → Agrees looks.compiler (answers compiler) → ((tool_error b.config b.env looks.compiler ≡ None) → Outcome (show_error b looks) (behind_compiler looks) rest r) → (warns_of_link : Bool) × Outcome (show_error b looks) (tools_steps listens b warns_of_link looks) part r
       behind_first looks rest part r cut agree so =
           let o = found.under looks.compiler agree in
-          let whole = told_whole compiler_reads b repeats looks.compiler (tool_error b.config b.env looks.compiler) (tool_steps b.config b.env o.0 looks.compiler) compiler tool o.1 in (
+          let whole = told_whole compiler_reads b repeats looks.compiler (tool_error b.config b.env looks.compiler) (tool_steps b.config b.env listens o.0 looks.compiler) compiler tool o.1 in (
             o.0,
-            subst (λ (l : List Event). Outcome (show_error b looks) (tools_steps b o.0 looks) l r) (sym cut)
-                (outcome_then (show_error b looks) (compiler_steps b o.0 looks.compiler) (behind_compiler looks) compiler rest r whole.1 (so whole.0)),
+            subst (λ (l : List Event). Outcome (show_error b looks) (tools_steps listens b o.0 looks) l r) (sym cut)
+                (outcome_then (show_error b looks) (compiler_steps listens b o.0 looks.compiler) (behind_compiler looks) compiler rest r whole.1 (so whole.0)),
           )
 
       -- no archiver is found
-      pub no_archiver : (archiver part : List Event) (e : ErrorSeen) → part ≡ compiler ++ archiver → AsksForArchiver steady world b archiver → IsChildless archiver → Holds (answers archiver) (λ look. ArchiverEnds {T = CommandSeen} b.config b.env (Err e) look archiver) → Showing steady world b part (Err e)
+      pub no_archiver : (archiver part : List Event) (e : ErrorSeen) → part ≡ compiler ++ archiver → AsksForArchiver steady world b archiver → IsChildless archiver → Holds (answers archiver) (λ look. ArchiverEnds {T = CommandSeen} b.config b.env (Err e) look archiver) → Showing listens steady world b part (Err e)
       no_archiver archiver part e cut archiver_asks childless lacks = record {
         asks = record {
           compiler = compiler;
@@ -185,14 +185,14 @@ module _ (steady : Bool) (world : Question → Verdicts) (b : BuildSeen) where
 
       module _ (archiver_cmd : CommandSeen) (archiver : List Event) (archiver_asks : AsksForArchiver steady world b archiver) (no_child_of : IsChildless archiver) (is_archiver : Holds (answers archiver) (λ look. IsArchiver b.config b.env archiver_cmd look)) (found_archiver : Holds (answers archiver) (λ look. ArchiverEnds b.config b.env (Ok archiver_cmd) look archiver)) where
         -- so was the archiver
-        behind_second : (looks : Looks) (rest part : List Event) (r : Result (Unit {0}) ErrorSeen) → part ≡ compiler ++ (archiver ++ rest) → Agrees looks.compiler (answers compiler) → Agrees looks.archiver (answers archiver) → ((tool_error b.config b.env looks.compiler ≡ None) → Outcome (show_error b looks) (behind_archiver looks) rest r) → (warns_of_link : Bool) × Outcome (show_error b looks) (tools_steps b warns_of_link looks) part r
+        behind_second : (looks : Looks) (rest part : List Event) (r : Result (Unit {0}) ErrorSeen) → part ≡ compiler ++ (archiver ++ rest) → Agrees looks.compiler (answers compiler) → Agrees looks.archiver (answers archiver) → ((tool_error b.config b.env looks.compiler ≡ None) → Outcome (show_error b looks) (behind_archiver looks) rest r) → (warns_of_link : Bool) × Outcome (show_error b looks) (tools_steps listens b warns_of_link looks) part r
         behind_second looks rest part r cut agree agree_of so =
             let whole = told_whole archiver_reads b repeats looks.archiver (archiver_in looks) [] archiver archiver_cmd (found_archiver.under looks.archiver agree_of) in
             behind_first looks (archiver ++ rest) part r cut agree
             (λ first. outcome_then (show_error b looks) (read_steps archiver_reads b looks.archiver) (behind_archiver looks) archiver rest r whole.1 (so first))
 
         -- no tool is found that writes an index
-        pub no_ranlib : (ranlib part : List Event) (e : ErrorSeen) → part ≡ compiler ++ (archiver ++ ranlib) → AsksForRanlib steady world b ranlib → IsChildless ranlib → Holds (answers ranlib) (λ look. RanlibEnds {T = CommandSeen} b.config b.env (Err e) look ranlib) → Showing steady world b part (Err e)
+        pub no_ranlib : (ranlib part : List Event) (e : ErrorSeen) → part ≡ compiler ++ (archiver ++ ranlib) → AsksForRanlib steady world b ranlib → IsChildless ranlib → Holds (answers ranlib) (λ look. RanlibEnds {T = CommandSeen} b.config b.env (Err e) look ranlib) → Showing listens steady world b part (Err e)
         no_ranlib ranlib part e cut ranlib_asks childless lacks = record {
           asks = record {
             compiler = compiler;
@@ -212,7 +212,7 @@ module _ (steady : Bool) (world : Question → Verdicts) (b : BuildSeen) where
         }
 
         -- all are found, and their lines are printed
-        pub tools_shown : (ranlib_cmd : CommandSeen) (ranlib shown part : List Event) (r : Result (Unit {0}) ErrorSeen) → part ≡ compiler ++ (archiver ++ (ranlib ++ shown)) → AsksForRanlib steady world b ranlib → IsChildless ranlib → Holds (answers ranlib) (λ look. IsRanlib b.config b.env ranlib_cmd look) → Holds (answers ranlib) (λ look. RanlibEnds b.config b.env (Ok ranlib_cmd) look ranlib) → question_events shown ≡ [] → CallsEnd (shows (tool_lines tool archiver_cmd ranlib_cmd)) shown r → Showing steady world b part r
+        pub tools_shown : (ranlib_cmd : CommandSeen) (ranlib shown part : List Event) (r : Result (Unit {0}) ErrorSeen) → part ≡ compiler ++ (archiver ++ (ranlib ++ shown)) → AsksForRanlib steady world b ranlib → IsChildless ranlib → Holds (answers ranlib) (λ look. IsRanlib b.config b.env ranlib_cmd look) → Holds (answers ranlib) (λ look. RanlibEnds b.config b.env (Ok ranlib_cmd) look ranlib) → question_events shown ≡ [] → CallsEnd (shows (tool_lines tool archiver_cmd ranlib_cmd)) shown r → Showing listens steady world b part r
         tools_shown ranlib_cmd ranlib shown part r cut ranlib_asks childless is_ranlib found_ranlib none printed = record {
           asks = record {
             compiler = compiler;
@@ -251,7 +251,7 @@ module _ (steady : Bool) (world : Question → Verdicts) (b : BuildSeen) where
   no_question line (inr (inr faulted)) = ap question_events faulted.1
 
   -- the variables were not listed, or memory for their snapshot was wanted
-  pub unshown : (listing line part : List Event) (e : ErrorSeen) (ended : Ended) → part ≡ listing ++ line → question_events listing ≡ [] → CaptureEnds listing (Err e) → AnswersError e line ended → Shown steady world b part ended
+  pub unshown : (listing line part : List Event) (e : ErrorSeen) (ended : Ended) → part ≡ listing ++ line → question_events listing ≡ [] → CaptureEnds listing (Err e) → AnswersError e line ended → Shown listens steady world b part ended
   unshown listing line part e ended cut none h says = record {
     asks = no_tools_asked steady world (listed_build b part) part (ap question_events cut ∙ none_then listing line none (no_question line (says_line (Err e) line ended says)));
     run = listing;
@@ -259,7 +259,7 @@ module _ (steady : Bool) (world : Question → Verdicts) (b : BuildSeen) where
     cut = cut;
     childless = (refused_so h).1;
     result = Err e;
-    ends = λ looks agree. (true, refused_more None (show_error (listed_build b part) looks) (Lists ∷ []) (tools_steps (listed_build b part) true looks) listing e (λ no. absurd (let clash : None ≡ Some e = no in cc)) (refused_so h).0);
+    ends = λ looks agree. (true, refused_more None (show_error (listed_build b part) looks) (Lists ∷ []) (tools_steps listens (listed_build b part) true looks) listing e (λ no. absurd (let clash : None ≡ Some e = no in cc)) (refused_so h).0);
     says = says;
   }
     where
@@ -268,7 +268,7 @@ module _ (steady : Bool) (world : Question → Verdicts) (b : BuildSeen) where
       refused_so (inr k) = let o = calls_outcome {T = Unit {0}} b None (Lists ∷ []) listing (Ok tt) refl refl k.1 in ((partly_whole (Lists ∷ []) listing o.0.1, inl k.0), o.1)
 
   -- memory for the words was wanted, and nothing was done
-  unread : (part : List Event) (ended : Ended) → part ≡ [] → ended ≡ ended_wanting → Shown steady world b part ended
+  unread : (part : List Event) (ended : Ended) → part ≡ [] → ended ≡ ended_wanting → Shown listens steady world b part ended
   unread part ended none is = record {
     asks = no_tools_asked steady world (listed_build b part) part (ap question_events none);
     run = [];
@@ -276,7 +276,7 @@ module _ (steady : Bool) (world : Question → Verdicts) (b : BuildSeen) where
     cut = none;
     childless = refl;
     result = Err no_memory;
-    ends = λ looks agree. (true, (partly_none (show_steps (listed_build b part) true looks), inl refl));
+    ends = λ looks agree. (true, (partly_none (show_steps listens (listed_build b part) true looks), inl refl));
     says = inr (is, refl);
   }
 
@@ -307,7 +307,7 @@ module _ (steady : Bool) (world : Question → Verdicts) (b : BuildSeen) where
       quiet = none_then s.rest line s.quiet (no_question line printed);
     }
 
-    shown_listed : Showing steady world taken run result → Says result line ended → Shown steady world b whole ended
+    shown_listed : Showing listens steady world taken run result → Says result line ended → Shown listens steady world b whole ended
     shown_listed s says = record {
       asks = listed_asks s.asks (says_line result line ended says);
       run = Listed k.vars ∷ run;
@@ -317,14 +317,14 @@ module _ (steady : Bool) (world : Question → Verdicts) (b : BuildSeen) where
       result = result;
       ends = λ looks agree.
           let o = s.ends looks agree in
-          (o.0, outcome_then (show_error taken looks) (Lists ∷ []) (tools_steps taken o.0 looks) (Listed k.vars ∷ []) run result (whole_step Lists (Listed k.vars) refl refl) o.1);
+          (o.0, outcome_then (show_error taken looks) (Lists ∷ []) (tools_steps listens taken o.0 looks) (Listed k.vars ∷ []) run result (whole_step Lists (Listed k.vars) refl refl) o.1);
       says = says;
     }
 
-    pub shown_so : (part : List Event) → part ≡ (listing ++ run) ++ line → Showing steady world after run result → Says result line ended → Shown steady world b part ended
+    pub shown_so : (part : List Event) → part ≡ (listing ++ run) ++ line → Showing listens steady world after run result → Says result line ended → Shown listens steady world b part ended
     shown_so part cut s says =
-        subst (λ (l : List Event). Shown steady world b l ended) (sym (cut ∙ ap (λ l. (l ++ run) ++ line) k.listed))
-        (shown_listed (subst (λ (v : BuildSeen). Showing steady world v run result) k.is s) says)
+        subst (λ (l : List Event). Shown listens steady world b l ended) (sym (cut ∙ ap (λ l. (l ++ run) ++ line) k.listed))
+        (shown_listed (subst (λ (v : BuildSeen). Showing listens steady world v run result) k.is s) says)
 
 -- ---- what follows from it
 
@@ -403,10 +403,10 @@ told_both : (a b : List Step) → list_all is_told a ≡ true → list_all is_to
 told_both a b p q = list_all-append is_told a b ∙ ap (λ v. v && list_all is_told b) p ∙ q
 
 -- all that is shown are lines and a listing
-told_all : (b : BuildSeen) (warns_of_link : Bool) (looks : Looks) → list_all is_told (show_steps b warns_of_link looks) ≡ true
-told_all b warns_of_link looks =
-    told_both (compiler_steps b warns_of_link looks.compiler) (read_steps archiver_reads b looks.archiver ++ (read_steps ranlib_reads b looks.ranlib ++ shows (lines_of b looks)))
-    (told_both (tool_steps b.config b.env warns_of_link looks.compiler) (read_steps compiler_reads b looks.compiler) (told_printed Warning (warned_lines b.config b.env warns_of_link looks.compiler)) (told_printed Rerun (rerun_lines (rerun_names compiler_reads b.config b.env looks.compiler))))
+told_all : (listens : Bool) (b : BuildSeen) (warns_of_link : Bool) (looks : Looks) → list_all is_told (show_steps listens b warns_of_link looks) ≡ true
+told_all listens b warns_of_link looks =
+    told_both (compiler_steps listens b warns_of_link looks.compiler) (read_steps archiver_reads b looks.archiver ++ (read_steps ranlib_reads b looks.ranlib ++ shows (lines_of b looks)))
+    (told_both (tool_steps b.config b.env listens warns_of_link looks.compiler) (read_steps compiler_reads b looks.compiler) (told_warned b.config listens (warnings_of b.config b.env warns_of_link looks.compiler)) (told_printed Rerun (rerun_lines (rerun_names compiler_reads b.config b.env looks.compiler))))
     (told_both (read_steps archiver_reads b looks.archiver) (read_steps ranlib_reads b looks.ranlib ++ shows (lines_of b looks)) (told_printed Rerun (rerun_lines (rerun_names archiver_reads b.config b.env looks.archiver)))
     (told_both (read_steps ranlib_reads b looks.ranlib) (shows (lines_of b looks)) (told_printed Rerun (rerun_lines (rerun_names ranlib_reads b.config b.env looks.ranlib))) (told_prints ShownLine (lines_of b looks))))
 
@@ -430,8 +430,8 @@ stopped_fault refusal steps part e told p stopped = by_left (left steps part) (s
         or_last false false h = absurd (cc)
     by_left (step ∷ rest) (event ∷ other ∷ events) all stop are h = absurd stop
 
-module _ (steady : Bool) (world : Question → Verdicts) (b : BuildSeen) (part : List Event) (ended : Ended) where
-  module _ (s : Shown steady world b part ended) where
+module _ (listens : Bool) (steady : Bool) (world : Question → Verdicts) (b : BuildSeen) (part : List Event) (ended : Ended) where
+  module _ (s : Shown listens steady world b part ended) where
     its_line : IsLine s.line
     its_line = says_line s.result s.line ended s.says
 
@@ -449,7 +449,7 @@ module _ (steady : Bool) (world : Question → Verdicts) (b : BuildSeen) (part :
     shown_faults =
         let some = some_looks in
         let o = s.ends some.0 some.1 in
-        let steps = show_steps (listed_build b part) o.0 some.0 in
+        let steps = show_steps listens (listed_build b part) o.0 some.0 in
         faults_behind part s.run s.line s.cut (partly_faults steps s.run (outcome_partly (show_error (listed_build b part) some.0) steps s.run s.result o.1)) its_line
 
     pub shown_settled : NothingRuns part
@@ -475,57 +475,57 @@ module _ (steady : Bool) (world : Question → Verdicts) (b : BuildSeen) (part :
         by_cause (inr (inl refused)) = let clash : None ≡ Some e = sym none ∙ refused in cc
         by_cause (inr (inr stopped)) = fault (ap (list_any is_fault) cut ∙ any_before is_fault run line (stopped_fault refusal steps run e told o.0 stopped))
 
-    promises : ShowPromises steady world b part ended
+    promises : ShowPromises listens steady world b part ended
     promises = record {
       answer = s;
       shown = λ zero_is looks agree.
           let o = s.ends looks agree in
-          (o.0, shown_by (show_error (listed_build b part) looks) (show_steps (listed_build b part) o.0 looks) s.run s.line s.result s.cut s.says zero_is o.1);
+          (o.0, shown_by (show_error (listed_build b part) looks) (show_steps listens (listed_build b part) o.0 looks) s.run s.line s.result s.cut s.says zero_is o.1);
       complete = λ looks agree none fault.
           let o = s.ends looks agree in
-          complete_by (show_error (listed_build b part) looks) (show_steps (listed_build b part) o.0 looks) s.run s.line s.result (told_all (listed_build b part) o.0 looks) s.cut s.says none fault o.1;
+          complete_by (show_error (listed_build b part) looks) (show_steps listens (listed_build b part) o.0 looks) s.run s.line s.result (told_all listens (listed_build b part) o.0 looks) s.cut s.says none fault o.1;
     }
 
 -- the same of words
-pub show_promises : (steady : Bool) (world : Question → Verdicts) (part : List Event) (ended : Ended) (words : Result Wish BadWord) → IfShows words (λ b. Shown steady world b part ended) → IfShows words (λ b. ShowPromises steady world b part ended)
-show_promises steady world part ended (Ok (Compiles q)) s = tt
-show_promises steady world part ended (Ok (Records path q)) s = tt
-show_promises steady world part ended (Ok (Archives q)) s = tt
-show_promises steady world part ended (Ok (Generates count)) s = tt
-show_promises steady world part ended (Ok (Expands b)) s = tt
-show_promises steady world part ended (Ok (Shows b)) s = promises steady world b part ended s
-show_promises steady world part ended (Err bad) s = tt
+pub show_promises : (listens : Bool) (steady : Bool) (world : Question → Verdicts) (part : List Event) (ended : Ended) (words : Result Wish BadWord) → IfShows words (λ b. Shown listens steady world b part ended) → IfShows words (λ b. ShowPromises listens steady world b part ended)
+show_promises listens steady world part ended (Ok (Compiles q)) s = tt
+show_promises listens steady world part ended (Ok (Records path q)) s = tt
+show_promises listens steady world part ended (Ok (Archives q)) s = tt
+show_promises listens steady world part ended (Ok (Generates count)) s = tt
+show_promises listens steady world part ended (Ok (Expands b)) s = tt
+show_promises listens steady world part ended (Ok (Shows b)) s = promises steady world b part ended s
+show_promises listens steady world part ended (Err bad) s = tt
 
 -- ---- by the job
 
 -- words that were not read for want of memory
-pub shown_wanting : (steady : Bool) (world : Question → Verdicts) (log : List Event) (words : Result Wish BadWord) (ended : Ended) → ended ≡ ended_wanting → IfShows words (λ b. Shown steady world b (since log log) ended)
-shown_wanting steady world log (Ok (Compiles q)) ended is = tt
-shown_wanting steady world log (Ok (Records path q)) ended is = tt
-shown_wanting steady world log (Ok (Archives q)) ended is = tt
-shown_wanting steady world log (Ok (Generates count)) ended is = tt
-shown_wanting steady world log (Ok (Expands b)) ended is = tt
-shown_wanting steady world log (Ok (Shows b)) ended is = unread steady world b (since log log) ended (part_is log log [] (sym (append-nil log))) is
-shown_wanting steady world log (Err bad) ended is = tt
+pub shown_wanting : (listens : Bool) (steady : Bool) (world : Question → Verdicts) (log : List Event) (words : Result Wish BadWord) (ended : Ended) → ended ≡ ended_wanting → IfShows words (λ b. Shown listens steady world b (since log log) ended)
+shown_wanting listens steady world log (Ok (Compiles q)) ended is = tt
+shown_wanting listens steady world log (Ok (Records path q)) ended is = tt
+shown_wanting listens steady world log (Ok (Archives q)) ended is = tt
+shown_wanting listens steady world log (Ok (Generates count)) ended is = tt
+shown_wanting listens steady world log (Ok (Expands b)) ended is = tt
+shown_wanting listens steady world log (Ok (Shows b)) ended is = unread steady world b (since log log) ended (part_is log log [] (sym (append-nil log))) is
+shown_wanting listens steady world log (Err bad) ended is = tt
 
 -- a job that shows tools leaves the course as it was
-pub of_show : (job : Job) (build : BuildSeen) (database : Option (List ℕ)) (ended : Ended) (look : Look) (part : List Event) (c : Course) → job ≡ Show → c.after ≡ c.before → IsAnswerOf (wish_of job database build) ended look part c
-of_show (Compile name) build database ended look part c is same = absurd (cc)
-of_show (Archive name) build database ended look part c is same = absurd (cc)
-of_show (Generate count) build database ended look part c is same = absurd (cc)
-of_show Expand build database ended look part c is same = absurd (cc)
-of_show Show build database ended look part c is same = same
+pub of_show : (listens : Bool) (job : Job) (build : BuildSeen) (database : Option (List ℕ)) (ended : Ended) (look : Look) (part : List Event) (c : Course) → job ≡ Show → c.after ≡ c.before → IsAnswerOf listens (wish_of job database build) ended look part c
+of_show listens (Compile name) build database ended look part c is same = absurd (cc)
+of_show listens (Archive name) build database ended look part c is same = absurd (cc)
+of_show listens (Generate count) build database ended look part c is same = absurd (cc)
+of_show listens Expand build database ended look part c is same = absurd (cc)
+of_show listens Show build database ended look part c is same = same
 
-pub asks_show : (job : Job) (build : BuildSeen) (database : Option (List ℕ)) (steady : Bool) (world : Question → Verdicts) (part : List Event) (ended : Ended) → job ≡ Show → Shown steady world build part ended → AsksWish steady world (wish_of job database build) part
-asks_show (Compile name) build database steady world part ended is s = absurd (cc)
-asks_show (Archive name) build database steady world part ended is s = absurd (cc)
-asks_show (Generate count) build database steady world part ended is s = absurd (cc)
-asks_show Expand build database steady world part ended is s = absurd (cc)
-asks_show Show build database steady world part ended is s = s.asks
+pub asks_show : (listens : Bool) (job : Job) (build : BuildSeen) (database : Option (List ℕ)) (steady : Bool) (world : Question → Verdicts) (part : List Event) (ended : Ended) → job ≡ Show → Shown listens steady world build part ended → AsksWish steady world (wish_of job database build) part
+asks_show listens (Compile name) build database steady world part ended is s = absurd (cc)
+asks_show listens (Archive name) build database steady world part ended is s = absurd (cc)
+asks_show listens (Generate count) build database steady world part ended is s = absurd (cc)
+asks_show listens Expand build database steady world part ended is s = absurd (cc)
+asks_show listens Show build database steady world part ended is s = s.asks
 
-pub shown_show : (job : Job) (build : BuildSeen) (database : Option (List ℕ)) (steady : Bool) (world : Question → Verdicts) (part : List Event) (ended : Ended) → job ≡ Show → Shown steady world build part ended → IfShows (Ok (wish_of job database build)) (λ b. Shown steady world b part ended)
-shown_show (Compile name) build database steady world part ended is s = absurd (cc)
-shown_show (Archive name) build database steady world part ended is s = tt
-shown_show (Generate count) build database steady world part ended is s = tt
-shown_show Expand build database steady world part ended is s = tt
-shown_show Show build database steady world part ended is s = s
+pub shown_show : (listens : Bool) (job : Job) (build : BuildSeen) (database : Option (List ℕ)) (steady : Bool) (world : Question → Verdicts) (part : List Event) (ended : Ended) → job ≡ Show → Shown listens steady world build part ended → IfShows (Ok (wish_of job database build)) (λ b. Shown listens steady world b part ended)
+shown_show listens (Compile name) build database steady world part ended is s = absurd (cc)
+shown_show listens (Archive name) build database steady world part ended is s = tt
+shown_show listens (Generate count) build database steady world part ended is s = tt
+shown_show listens Expand build database steady world part ended is s = tt
+shown_show listens Show build database steady world part ended is s = s

@@ -1,5 +1,6 @@
 -- What the log of a large run counts: the lines that sum up its log are those of its summary.
-use Rattle.std.proofs.Common.{◌≡◌, ◌∙◌, refl, sym, ap, ap₂, subst, ℕ, ◌+◌, ◌≤◌, List, [], ◌∷◌, ◌++◌, length, map, Bool, true, false, if◌then◌else◌, zero-add, add-zero, add_assoc, append-nil, length-append, arith, append_assoc}
+use Rattle.std.proofs.Common.{◌≡◌, ◌∙◌, refl, sym, ap, ap₂, subst, ℕ, ◌+◌, ◌≤◌, List, [], ◌∷◌, ◌++◌, length, map, Bool, true, false, Option, Some, None, is_some, if◌then◌else◌, zero-add, add-zero, add_assoc, append-nil, length-append, arith, append_assoc}
+use Rattle.std.specs.List.{flat_map}
 use Rattle.std.proofs.lemmas.Grind.{flat_map-append}
 use Rattle.std.proofs.lemmas.List.{map-append, length-map}
 use Rattle.cc_env.specs.Env.{EnvSeen}
@@ -20,20 +21,21 @@ use Rattle.cc_plan.specs.Archive as archive
 use Rattle.cc_plan.specs.Archive.{archiver_of}
 use Rattle.cc_plan.specs.Batches.{batches_of}
 use Rattle.cc_plan.specs.Link.{printed_links}
-use Rattle.cc_plan.specs.Plan.{compiles_of, archives_of, indexes_of, archived_of, library_of, lists_of_run, link_lines, warning_lines, prints as line_steps, folder_steps}
+use Rattle.cc_plan.specs.Plan.{compiles_of, archives_of, indexes_of, archived_of, library_of, lists_of_run, link_lines, plan_warnings, warning_steps, warned_steps, prints as line_steps, folder_steps}
 use Rattle.cc_plan.specs.Reruns.{rerun_names}
 use Rattle.cc_plan.specs.declared.archive.Archiver.{Archiver}
 use Rattle.cc_plan.specs.declared.settings.BuildConfig.{BuildConfig}
 use Rattle.cc_run.specs.declared.planned.Planned.{Planned}
 use Rattle.cc_build.specs.Attempts.{attempt_of, attempts, to_attempt, all_tried, first_tried, form_tried}
 use Rattle.cc_build.specs.Built.{Built}
-use Rattle.cc_build.specs.Stage.{Stage, rerun_lines, run_reads, calls, planned, beside, in_turn, written, writings, commands_in, library_commands, has_libtool, folder_stages, compile_stages, list_stages, archive_stages, link_stages}
+use Rattle.cc_build.specs.Stage.{Stage, rerun_lines, run_reads, calls, planned, beside, opening_steps, finding_steps, compiles_planned, in_turn, written, writings, commands_in, library_commands, has_libtool, folder_stages, compile_stages, list_stages, archive_stages, link_stages}
 use Rattle.cc_build.specs.Stage.Stage.{Calls, Asks, Tries, RunsOne, RunsAll}
-use Rattle.cc_build.specs.Way.{Firsts, chosen}
+use Rattle.cc_build.specs.Way.{Found, Firsts, chosen}
 use Rattle.cc_build.specs.Went.{Terms, Means, Did, Went}
 use Rattle.cc_build.proofs.RunLaws.{commands_then, commands_calls, commands_beside}
 use Rattle.cc_build.proofs.SettledLaws.{went_attempts}
-use Rattle.cc_build.proofs.StopLaws.{ArePlain, plain_then, plain_lines}
+use Rattle.cc_build.proofs.SourceLaws.{opening_notes, attempts_planned}
+use Rattle.cc_build.proofs.StopLaws.{ArePlain, plain_then, plain_lines, plain_notes}
 use Rattle.cc_command.specs.Generated.{gen_settings, gen_name, gen_objects, no_variables, counted_lines, summary}
 use Rattle.cc_command.specs.Summary.{begins, links, number, log_lines}
 use Rattle.cc_command.proofs.GeneratedLaws.{not_libtool, compiles_count, archives_count, indexes_count, links_count}
@@ -98,10 +100,33 @@ unfolding line_steps
 links_printed [] = refl
 links_printed (line ∷ lines) = ap (λ n. 1 + n) (links_printed lines) ∙ one_more line lines
 
-links_warned : (lines : List (List ℕ)) → links_in (calls (line_steps Warning lines)) ≡ 0
-unfolding line_steps
-links_warned [] = refl
-links_warned (line ∷ lines) = zero-add (links_in (calls (line_steps Warning lines))) ∙ links_warned lines
+links_warning : (prints listens : Bool) (text : List ℕ) → links_in (calls (warning_steps prints listens text)) ≡ 0
+links_warning true true text = refl
+links_warning true false text = refl
+links_warning false true text = refl
+links_warning false false text = refl
+
+links_each : (prints listens : Bool) (texts : List (List ℕ)) → links_in (calls (flat_map (warning_steps prints listens) texts)) ≡ 0
+links_each prints listens [] = refl
+links_each prints listens (text ∷ texts) =
+    ap links_in (map-append Calls (warning_steps prints listens text) (flat_map (warning_steps prints listens) texts))
+    ∙ links_then (calls (warning_steps prints listens text)) (calls (flat_map (warning_steps prints listens) texts))
+    ∙ ap₂ (λ m n. m + n) (links_warning prints listens text) (links_each prints listens texts)
+
+links_warned : (set : BuildConfig) (listens : Bool) (texts : List (List ℕ)) → links_in (calls (warned_steps set listens texts)) ≡ 0
+unfolding warned_steps
+links_warned set listens texts = links_each set.cargo_warnings listens texts
+
+links_finding : (here : Option (List ℕ)) → links_in (calls (finding_steps here)) ≡ 0
+links_finding None = refl
+links_finding (Some path) = refl
+
+links_opening : (set : BuildConfig) (env : EnvSeen) (found : Found) (look : Look) → links_in (calls (opening_steps set env found look)) ≡ 0
+links_opening set env found look =
+    let warnings = warned_steps set (is_some found.here) (plan_warnings set env found.warns_of_link look) in
+    ap links_in (map-append Calls warnings (finding_steps found.here))
+    ∙ links_then (calls warnings) (calls (finding_steps found.here))
+    ∙ ap₂ (λ m n. m + n) (links_warned set (is_some found.here) (plan_warnings set env found.warns_of_link look)) (links_finding found.here)
 
 links_told : (lines : List (List ℕ)) → links_in (calls (line_steps Rerun lines)) ≡ 0
 unfolding line_steps
@@ -128,25 +153,25 @@ links_written false refused (p ∷ ps) = zero-add (links_in (in_turn ps)) ∙ li
 
 -- ---- the stages of the sources
 
-module _ (set : BuildConfig) (env : EnvSeen) (warns : Bool) (look : Look) where
+module _ (set : BuildConfig) (env : EnvSeen) (found : Found) (look : Look) where
   -- the folder, and the sources behind it
   abbrev first : List Stage
-  first = folder_stages set env ++ (Asks ∷ (compile_stages set env warns look ++ (Asks ∷ [])))
+  first = folder_stages set env ++ (Asks ∷ (compile_stages set env found look ++ (Asks ∷ [])))
 
   folder_commands : commands_in (folder_stages set env) ≡ []
   unfolding folder_stages
   folder_commands = commands_calls (folder_steps set env)
 
-  compile_commands : commands_in (compile_stages set env warns look) ≡ planned Compile (compiles_of set env look)
+  compile_commands : commands_in (compile_stages set env found look) ≡ compiles_planned set env found.here look
   unfolding compile_stages
   compile_commands =
-      commands_then (calls (line_steps Warning (warning_lines set env warns look))) (beside (planned Compile (compiles_of set env look)))
-      ∙ ap₂ (λ k l. k ++ l) (commands_calls (line_steps Warning (warning_lines set env warns look))) (commands_beside (planned Compile (compiles_of set env look)))
+      commands_then (calls (opening_steps set env found look)) (beside (compiles_planned set env found.here look))
+      ∙ ap₂ (λ k l. k ++ l) (commands_calls (opening_steps set env found look)) (commands_beside (compiles_planned set env found.here look))
 
-  first_commands : commands_in first ≡ planned Compile (compiles_of set env look)
+  first_commands : commands_in first ≡ compiles_planned set env found.here look
   first_commands =
-      commands_then (folder_stages set env) (Asks ∷ (compile_stages set env warns look ++ (Asks ∷ [])))
-      ∙ ap₂ (λ k l. k ++ l) folder_commands (commands_then (compile_stages set env warns look) (Asks ∷ []) ∙ append-nil (commands_in (compile_stages set env warns look)) ∙ compile_commands)
+      commands_then (folder_stages set env) (Asks ∷ (compile_stages set env found look ++ (Asks ∷ [])))
+      ∙ ap₂ (λ k l. k ++ l) folder_commands (commands_then (compile_stages set env found look) (Asks ∷ []) ∙ append-nil (commands_in (compile_stages set env found look)) ∙ compile_commands)
 
   plain_some : (none : Bool) (dir : List ℕ) → ArePlain (calls (if none then [] else Makes Build dir ∷ []))
   plain_some true dir = tt
@@ -161,12 +186,12 @@ module _ (set : BuildConfig) (env : EnvSeen) (warns : Bool) (look : Look) where
   plain_beside (p ∷ []) = (tt, tt)
   plain_beside (p ∷ q ∷ ps) = (tt, tt)
 
-  plain_compile : ArePlain (compile_stages set env warns look)
+  plain_compile : ArePlain (compile_stages set env found look)
   unfolding compile_stages
-  plain_compile = plain_then (calls (line_steps Warning (warning_lines set env warns look))) (beside (planned Compile (compiles_of set env look))) (plain_lines Warning (warning_lines set env warns look)) (plain_beside (planned Compile (compiles_of set env look)))
+  plain_compile = plain_then (calls (opening_steps set env found look)) (beside (compiles_planned set env found.here look)) (plain_notes (opening_steps set env found look) (opening_notes set env found look)) (plain_beside (compiles_planned set env found.here look))
 
   plain_first : ArePlain first
-  plain_first = plain_then (folder_stages set env) (Asks ∷ (compile_stages set env warns look ++ (Asks ∷ []))) plain_folder (tt, plain_then (compile_stages set env warns look) (Asks ∷ []) plain_compile (tt, tt))
+  plain_first = plain_then (folder_stages set env) (Asks ∷ (compile_stages set env found look ++ (Asks ∷ []))) plain_folder (tt, plain_then (compile_stages set env found look) (Asks ∷ []) plain_compile (tt, tt))
 
   links_some : (none : Bool) (dir : List ℕ) → links_in (calls (if none then [] else Makes Build dir ∷ [])) ≡ 0
   links_some true dir = refl
@@ -176,16 +201,16 @@ module _ (set : BuildConfig) (env : EnvSeen) (warns : Bool) (look : Look) where
   unfolding folder_stages folder_steps
   folder_links = links_some _ _
 
-  compile_links : links_in (compile_stages set env warns look) ≡ 0
+  compile_links : links_in (compile_stages set env found look) ≡ 0
   unfolding compile_stages
   compile_links =
-      links_then (calls (line_steps Warning (warning_lines set env warns look))) (beside (planned Compile (compiles_of set env look)))
-      ∙ ap₂ (λ m n. m + n) (links_warned (warning_lines set env warns look)) (links_beside (planned Compile (compiles_of set env look)))
+      links_then (calls (opening_steps set env found look)) (beside (compiles_planned set env found.here look))
+      ∙ ap₂ (λ m n. m + n) (links_opening set env found look) (links_beside (compiles_planned set env found.here look))
 
   first_links : links_in first ≡ 0
   first_links =
-      links_then (folder_stages set env) (Asks ∷ (compile_stages set env warns look ++ (Asks ∷ [])))
-      ∙ ap₂ (λ m n. m + (0 + n)) folder_links (links_then (compile_stages set env warns look) (Asks ∷ []) ∙ ap (λ n. n + (0 + 0)) compile_links)
+      links_then (folder_stages set env) (Asks ∷ (compile_stages set env found look ++ (Asks ∷ [])))
+      ∙ ap₂ (λ m n. m + (0 + n)) folder_links (links_then (compile_stages set env found look) (Asks ∷ []) ∙ ap (λ n. n + (0 + 0)) compile_links)
 
 -- ---- the stages of the library and of its link lines
 
@@ -276,7 +301,7 @@ module _ (count : ℕ) (look : Look) (t : Terms) (log : List Event) (plain : IsP
 
   log_attempts : attempts log ≡ map to_attempt (planned Compile compiles) ++ (map to_attempt (planned Archive archives) ++ map to_attempt (planned Index indexes))
   log_attempts =
-      let sources : attempts b.runs ≡ map to_attempt (planned Compile compiles) = went_attempts t (first set no_variables b.way.warns_of_link look) b.runs b.compiled.0 b.compiled.1 (plain_first set no_variables b.way.warns_of_link look) b.compiled.2 ∙ ap (map to_attempt) (first_commands set no_variables b.way.warns_of_link look) in
+      let sources : attempts b.runs ≡ map to_attempt (planned Compile compiles) = went_attempts t (first set no_variables b.way.found look) b.runs b.compiled.0 b.compiled.1 (plain_first set no_variables b.way.found look) b.compiled.2 ∙ ap (map to_attempt) (first_commands set no_variables b.way.found look) ∙ attempts_planned set no_variables b.way.found.here look in
       let written_so : attempts b.archives ≡ map to_attempt (library_commands set no_variables look false gen_name) = subst (λ (p : Bool). attempts b.archives ≡ map to_attempt (library_commands set no_variables look p gen_name)) first_form b.writes in
       let both : attempts b.archives ≡ map to_attempt (planned Archive archives) ++ map to_attempt (planned Index indexes) = written_so ∙ map-append to_attempt (planned Archive archives) (planned Index indexes) in
       let none : attempts b.lines ≡ [] = went_attempts t (Asks ∷ link_stages set no_variables look b.way.firsts gen_name) b.lines b.linked.0 b.linked.1 (plain_ending set no_variables look false b.way.firsts gen_name) b.linked.2 ∙ ap (map to_attempt) (ending_commands set no_variables look false b.way.firsts gen_name) in
@@ -307,7 +332,7 @@ module _ (count : ℕ) (look : Look) (t : Terms) (log : List Event) (plain : IsP
 
   log_links : number links log ≡ 2
   log_links =
-      let sources : number links b.runs ≡ 0 = went_links t (first set no_variables b.way.warns_of_link look) b.runs b.compiled.0 b.compiled.1 b.compiled.2 ∙ first_links set no_variables b.way.warns_of_link look in
+      let sources : number links b.runs ≡ 0 = went_links t (first set no_variables b.way.found look) b.runs b.compiled.0 b.compiled.1 b.compiled.2 ∙ first_links set no_variables b.way.found look in
       let library : number links b.archives ≡ 0 = went_links t (list_stages set no_variables look gen_name ++ archive_stages set no_variables look b.way.is_plain gen_name) b.archives b.archived.0 b.archived.1 b.archived.2 ∙ archive_links set no_variables look b.way.is_plain b.way.firsts gen_name in
       let lines : number links b.lines ≡ 2 = went_links t (Asks ∷ link_stages set no_variables look b.way.firsts gen_name) b.lines b.linked.0 b.linked.1 b.linked.2 ∙ ending_links set no_variables look b.way.is_plain b.way.firsts gen_name ∙ links_count count look b.way.firsts.links in
       ap (number links) whole ∙ number_both links b.runs rest

@@ -70,7 +70,7 @@ concluded count turned log (Err e) part ended g c = record { shown = c.shown; li
 concluded count turned log (Ok done) part ended g c =
     let some = some_agree (answers log) g.run.once in
     let built = g.run.built.under some.0 some.1 in
-    let t = terms_for (gen_build count) (gen_course turned built.0 built.1 built.2) in
+    let t = terms_for (gen_build count) false (gen_course turned built.0 built.1 built.2) in
     subst (λ (lines : List (List ℕ)). Concludes lines (Ok done) part ended) (summary_is count some.0 t log g.run.plain built.3) c
 
 -- ---- lines that are printed
@@ -148,7 +148,7 @@ unprinted t lines part e x y h = by_after h.after h.stages_are h.halts
 
 module _ (count turned : ℕ) (part : List Event) (ended : Ended) where
   abbrev t : Terms
-  t = terms_for (gen_build count) (gen_course turned 0 0 0)
+  t = terms_for (gen_build count) false (gen_course turned 0 0 0)
 
   abbrev idle : Means
   idle = means 0 0 0 0
@@ -292,12 +292,12 @@ sums_wanting turned log (Ok (Shows b)) ended is = tt
 sums_wanting turned log (Err bad) ended is = tt
 
 -- a job that generates leaves the course as it was
-pub of_generate : (job : Job) (count : ℕ) (build : BuildSeen) (database : Option (List ℕ)) (ended : Ended) (look : Look) (part : List Event) (c : Course) → job ≡ Generate count → c.after ≡ c.before → IsAnswerOf (wish_of job database build) ended look part c
-of_generate (Compile name) count build database ended look part c is same = absurd (cc)
-of_generate (Archive name) count build database ended look part c is same = absurd (cc)
-of_generate (Generate n) count build database ended look part c is same = same
-of_generate Expand count build database ended look part c is same = same
-of_generate Show count build database ended look part c is same = same
+pub of_generate : (listens : Bool) (job : Job) (count : ℕ) (build : BuildSeen) (database : Option (List ℕ)) (ended : Ended) (look : Look) (part : List Event) (c : Course) → job ≡ Generate count → c.after ≡ c.before → IsAnswerOf listens (wish_of job database build) ended look part c
+of_generate listens (Compile name) count build database ended look part c is same = absurd (cc)
+of_generate listens (Archive name) count build database ended look part c is same = absurd (cc)
+of_generate listens (Generate n) count build database ended look part c is same = same
+of_generate listens Expand count build database ended look part c is same = same
+of_generate listens Show count build database ended look part c is same = same
 
 pub asks_generate : (job : Job) (count : ℕ) (build : BuildSeen) (database : Option (List ℕ)) (steady : Bool) (world : Question → Outcome) (part : List Event) → job ≡ Generate count → question_events part ≡ [] → AsksWish steady world (wish_of job database build) part
 asks_generate (Compile name) count build database steady world part is none = absurd (cc)

@@ -20,7 +20,7 @@ use Rattle.cc_build.specs.Error.{ErrorSeen}
 use Rattle.cc_build.specs.Shows.{shows_of}
 use Rattle.cc_build.specs.Stage.{Stage, planned_stages}
 use Rattle.cc_build.specs.Stage.Stage.{Calls}
-use Rattle.cc_build.specs.Way.{Way, all_firsts}
+use Rattle.cc_build.specs.Way.{Way, Found, Hears, all_firsts}
 use Rattle.cc_build.specs.Went.{Terms, Means, terms, Went, Halted}
 use Rattle.cc_build.specs.declared.error.ErrorKind.{ErrorKind}
 use Rattle.cc_build.specs.declared.error.ErrorKind.TheVariants.{NoMemory}
@@ -83,9 +83,9 @@ abbrev pub AnswersError : ErrorSeen → List Event → Ended → Type 0
 AnswersError e part ended =
     ((ended ≡ ended_refused e) × (is_wanting e.kind ≡ false) × PrintsLine (error_line e) part) ⊎ ((ended ≡ ended_wanting) × (part ≡ []))
 
--- the terms of a compile run with these settings
-abbrev pub terms_of : BuildConfig → EnvSeen → Course → Terms
-terms_of set env c = terms (shows_of set env) c.total c.patience
+-- the terms of a compile run with these settings, on a host that listens or not
+abbrev pub terms_of : Bool → BuildConfig → EnvSeen → Course → Terms
+terms_of listens set env c = terms (shows_of set env listens) c.total c.patience
 
 -- a run that was refused, with some error
 abbrev pub IsHalted : Terms → Option ErrorSeen → List Stage → List Event → Means → Means → Type 0
@@ -103,48 +103,58 @@ heard part = first_listing (listings part)
 abbrev pub env_in : Request → List Event → EnvSeen
 env_in request part = with_vars request.1.env (heard part)
 
--- The settings of words repeat their lines: a run warns of flags for the linker whenever it leaves some off, and prints all lines for Cargo.
-abbrev pub repeating : Bool → Way
-repeating is_plain = record { warns_of_link = true; is_plain = is_plain; firsts = all_firsts }
+-- The settings of words repeat their lines: a run warns of flags for the linker whenever it leaves some off.
+abbrev pub warning : Option (List ℕ) → Found
+warning here = record { warns_of_link = true; here = here }
 
--- The stages of a request: the host lists its variables, then come those of the compile run. `is_plain` says whether the first form of its archive was
+-- it prints all lines for Cargo, too
+abbrev pub repeating : Option (List ℕ) → Bool → Way
+repeating here is_plain = record { found = warning here; is_plain = is_plain; firsts = all_firsts }
+
+-- What is left to be found out as it goes: the current folder, which a host that listens is asked for, and whether the first form of the archive was
 -- refused.
-abbrev pub stages_of : Look → Request → Bool → List Event → List Stage
-stages_of look request is_plain part = Calls Lists ∷ planned_stages request.1.config (env_in request part) (repeating is_plain) look request.0
+pub record Findings (listens : Bool) : Type 0 where
+  pub here : Option (List ℕ)
+  pub hears : Hears listens (warning here)
+  pub is_plain : Bool
+
+-- The stages of a request: the host lists its variables, then come those of the compile run.
+abbrev pub stages_of : (listens : Bool) → Look → Request → Findings listens → List Event → List Stage
+stages_of listens look request finds part = Calls Lists ∷ planned_stages request.1.config (env_in request part) (repeating finds.here finds.is_plain) look request.0
 
 -- the terms of a request's run
-abbrev pub terms_in : Request → List Event → Course → Terms
-terms_in request part c = terms_of request.1.config (env_in request part) c
+abbrev pub terms_in : Bool → Request → List Event → Course → Terms
+terms_in listens request part c = terms_of listens request.1.config (env_in request part) c
 
 -- the error of a request's settings
 abbrev pub error_of : Look → Request → List Event → Option ErrorSeen
 error_of look request part = refusal_error request.1.config (env_in request part) look request.0
 
 -- The host listed its variables, and then the library was built with their snapshot.
-pub record BuiltBy (look : Look) (request : Request) (part : List Event) (c : Course) : Type 0 where
+pub record BuiltBy (listens : Bool) (look : Look) (request : Request) (part : List Event) (c : Course) : Type 0 where
   pub vars : List (List ℕ × List ℕ)
   pub run : List Event
   pub cut : part ≡ Listed vars ∷ run
-  pub built : Built (terms_of request.1.config (with_vars request.1.env vars) c) request.1.config (with_vars request.1.env vars) look request.0 run
+  pub built : Built (terms_of listens request.1.config (with_vars request.1.env vars) c) request.1.config (with_vars request.1.env vars) look request.0 run
 
 -- a request that was refused: its first stages were done, and the line of its error was printed last
-pub record Refused (look : Look) (request : Request) (part : List Event) (ended : Ended) (c : Course) : Type 0 where
+pub record Refused (listens : Bool) (look : Look) (request : Request) (part : List Event) (ended : Ended) (c : Course) : Type 0 where
   pub error : ErrorSeen
   pub run : List Event
   pub line : List Event
   pub cut : part ≡ run ++ line
   pub printed : PrintsLine (error_line error) line
-  pub is_plain : Bool
-  pub refused : Halted (terms_in request run c) (error_of look request run) (stages_of look request is_plain run) run error c.before c.after
+  pub finds : Findings listens
+  pub refused : Halted (terms_in listens request run c) (error_of look request run) (stages_of listens look request finds run) run error c.before c.after
   pub known : is_wanting error.kind ≡ false
   pub is : ended ≡ ended_refused error
 
 -- a request: it is built by its stages, or refused, or refused with an error that no memory could tell
-abbrev pub Answers : Look → Request → List Event → Ended → Course → Type 0
-Answers look request part ended c =
-    ((ended ≡ ended_well) × (BuiltBy look request part c × ((is_plain : Bool) × Went (terms_in request part c) (stages_of look request is_plain part) part c.before c.after)))
-    ⊎ (Refused look request part ended c
-    ⊎ ((ended ≡ ended_wanting) × ((is_plain : Bool) × IsHalted (terms_in request part c) (error_of look request part) (stages_of look request is_plain part) part c.before c.after)))
+abbrev pub Answers : Bool → Look → Request → List Event → Ended → Course → Type 0
+Answers listens look request part ended c =
+    ((ended ≡ ended_well) × (BuiltBy listens look request part c × ((finds : Findings listens) × Went (terms_in listens request part c) (stages_of listens look request finds part) part c.before c.after)))
+    ⊎ (Refused listens look request part ended c
+    ⊎ ((ended ≡ ended_wanting) × ((finds : Findings listens) × IsHalted (terms_in listens request part c) (error_of look request part) (stages_of listens look request finds part) part c.before c.after)))
 
 -- the host listed its variables, and couldn't tell its folder, or memory was wanted
 abbrev pub Untold : List Event → ErrorSeen → Type 0
@@ -184,19 +194,19 @@ database_in look request vars here = database (entries_of request.1.config (with
 
 -- A run that is recorded: the host listed its variables and told its folder. The rest answers the request as a run does that isn't recorded, and then
 -- comes the file of the database.
-pub record Recorded (look : Look) (path : List ℕ) (request : Request) (part : List Event) (ended : Ended) (c : Course) : Type 0 where
+pub record Recorded (listens : Bool) (look : Look) (path : List ℕ) (request : Request) (part : List Event) (ended : Ended) (c : Course) : Type 0 where
   pub vars : List (List ℕ × List ℕ)
   pub here : List ℕ
   pub run : List Event
   pub rest : List Event
   pub cut : part ≡ Listed vars ∷ Here here ∷ (run ++ rest)
   pub ran : Ended
-  pub answer : Answers look request (Listed vars ∷ run) ran c
+  pub answer : Answers listens look request (Listed vars ∷ run) ran c
   pub behind : Behind path (database_in look request vars here) ran rest ended
 
 -- a request that is to be recorded: its run wasn't begun, or is recorded
-abbrev pub AnswersRecord : Look → List ℕ → Request → List Event → Ended → Course → Type 0
-AnswersRecord look path request part ended c = Unbegun part ended c ⊎ Recorded look path request part ended c
+abbrev pub AnswersRecord : Bool → Look → List ℕ → Request → List Event → Ended → Course → Type 0
+AnswersRecord listens look path request part ended c = Unbegun part ended c ⊎ Recorded listens look path request part ended c
 
 -- bad words: their line alone was printed, or memory for it was wanted
 abbrev pub AnswersBad : BadWord → List Event → Ended → Type 0
@@ -264,31 +274,31 @@ IfShows (Err bad) fact = Unit {0}
 
 -- Words that wish a compile run, or are bad, were answered. Those that can't be read for want of memory ask for nothing. A large run takes no token and
 -- makes no turn but its own; nor does what expands a source or shows tools.
-abbrev pub AnswersWords : Look → Result Wish BadWord → List Event → Ended → Course → Type 0
-AnswersWords look (Ok (Compiles request)) part ended c = Answers look request part ended c
-AnswersWords look (Ok (Records path request)) part ended c = AnswersRecord look path request part ended c
-AnswersWords look (Ok (Archives request)) part ended c = Unit {0}
-AnswersWords look (Ok (Generates count)) part ended c = c.after ≡ c.before
-AnswersWords look (Ok (Expands build)) part ended c = c.after ≡ c.before
-AnswersWords look (Ok (Shows build)) part ended c = c.after ≡ c.before
-AnswersWords look (Err bad) part ended c = AnswersBad bad part ended × (c.after ≡ c.before)
+abbrev pub AnswersWords : Bool → Look → Result Wish BadWord → List Event → Ended → Course → Type 0
+AnswersWords listens look (Ok (Compiles request)) part ended c = Answers listens look request part ended c
+AnswersWords listens look (Ok (Records path request)) part ended c = AnswersRecord listens look path request part ended c
+AnswersWords listens look (Ok (Archives request)) part ended c = Unit {0}
+AnswersWords listens look (Ok (Generates count)) part ended c = c.after ≡ c.before
+AnswersWords listens look (Ok (Expands build)) part ended c = c.after ≡ c.before
+AnswersWords listens look (Ok (Shows build)) part ended c = c.after ≡ c.before
+AnswersWords listens look (Err bad) part ended c = AnswersBad bad part ended × (c.after ≡ c.before)
 
 -- what the words ask for, or the first bad one
 abbrev pub asked_for : {Z : Type 0} → List (String Z) → Result Wish BadWord
 asked_for words = read (map string_bytes words)
 
 -- this answers a compile run
-abbrev pub IsAnswer : Request → Ended → Look → List Event → Course → Type 0
-IsAnswer request ended look part c = Answers look request part ended c
+abbrev pub IsAnswer : Bool → Request → Ended → Look → List Event → Course → Type 0
+IsAnswer listens request ended look part c = Answers listens look request part ended c
 
 -- this answers a compile run that is recorded
-abbrev pub IsRecorded : List ℕ → Request → Ended → Look → List Event → Course → Type 0
-IsRecorded path request ended look part c = AnswersRecord look path request part ended c
+abbrev pub IsRecorded : Bool → List ℕ → Request → Ended → Look → List Event → Course → Type 0
+IsRecorded listens path request ended look part c = AnswersRecord listens look path request part ended c
 
 -- this answers a wish
-abbrev pub IsAnswerOf : Wish → Ended → Look → List Event → Course → Type 0
-IsAnswerOf wish ended look part c = AnswersWords look (Ok wish) part ended c
+abbrev pub IsAnswerOf : Bool → Wish → Ended → Look → List Event → Course → Type 0
+IsAnswerOf listens wish ended look part c = AnswersWords listens look (Ok wish) part ended c
 
 -- this answers the words
-abbrev pub IsAnswerTo : {Z : Type 0} → List (String Z) → Ended → Look → List Event → Course → Type 0
-IsAnswerTo words ended look part c = AnswersWords look (asked_for words) part ended c
+abbrev pub IsAnswerTo : {Z : Type 0} → Bool → List (String Z) → Ended → Look → List Event → Course → Type 0
+IsAnswerTo listens words ended look part c = AnswersWords listens look (asked_for words) part ended c

@@ -65,13 +65,13 @@ abbrev pub Agree : List Event → List Event → Look → Look → Type 0
 Agree made linked look links = Agrees look (answers made) × Agrees links (answers linked)
 
 -- The archive and its link lines, in two parts: each asks its own questions. The stages were done, or the error has its cause.
-pub record Archiving (steady : Bool) (world : Question → Outcome) (b : BuildSeen) (patience : Option ℕ) (turns : ℕ) (output : List ℕ) (part : List Event) (result : Result (Unit {0}) ErrorSeen) : Type 0 where
+pub record Archiving (listens steady : Bool) (world : Question → Outcome) (b : BuildSeen) (patience : Option ℕ) (turns : ℕ) (output : List ℕ) (part : List Event) (result : Result (Unit {0}) ErrorSeen) : Type 0 where
   pub made : List Event
   pub linked : List Event
   pub cut : part ≡ made ++ linked
   pub made_asks : AsksByRun steady world (alone b) made
   pub linked_asks : AsksByRun steady world b linked
-  pub ends : (look links : Look) → Agree made linked look links → (left : ℕ) × (is_plain : Bool) × Ends (terms_for (alone b) (course_alone patience turns left)) (archive_refused b look links output) (archive_stages b is_plain look links output) part result (course_alone patience turns left).before (course_alone patience turns left).after
+  pub ends : (look links : Look) → Agree made linked look links → (left : ℕ) × (is_plain : Bool) × Ends (terms_for (alone b) listens (course_alone patience turns left)) (archive_refused b look links output) (archive_stages b is_plain look links output) part result (course_alone patience turns left).before (course_alone patience turns left).after
 
 -- the build of a request with the variables that the host listed
 abbrev pub build_in : Request → List Event → BuildSeen
@@ -85,9 +85,9 @@ abbrev pub wished_refusal : Request → Look → Look → List Event → Option 
 wished_refusal request look links part = archive_refused (build_in request part) look links request.0
 
 -- these stages of a request were done so
-abbrev pub WishEnds : Request → Option ℕ → ℕ → Result (Unit {0}) ErrorSeen → Look → Look → List Event → Type 0
-WishEnds request patience turns result look links part =
-    (left : ℕ) × (is_plain : Bool) × Ends (terms_for (alone (build_in request part)) (course_alone patience turns left)) (wished_refusal request look links part) (wished_stages request is_plain look links part) part result (course_alone patience turns left).before (course_alone patience turns left).after
+abbrev pub WishEnds : Bool → Request → Option ℕ → ℕ → Result (Unit {0}) ErrorSeen → Look → Look → List Event → Type 0
+WishEnds listens request patience turns result look links part =
+    (left : ℕ) × (is_plain : Bool) × Ends (terms_for (alone (build_in request part)) listens (course_alone patience turns left)) (wished_refusal request look links part) (wished_stages request is_plain look links part) part result (course_alone patience turns left).before (course_alone patience turns left).after
 
 -- what the program answers to a result, with the line that it prints
 abbrev pub Says : Result (Unit {0}) ErrorSeen → List Event → Ended → Type 0
@@ -95,7 +95,7 @@ Says (Ok done) line ended = (ended ≡ ended_well) × (line ≡ [])
 Says (Err e) line ended = AnswersError e line ended
 
 -- an archive alone, in the two parts that ask, and with the line behind them
-pub record Archived (steady : Bool) (world : Question → Outcome) (request : Request) (patience : Option ℕ) (turns : ℕ) (part : List Event) (ended : Ended) : Type 0 where
+pub record Archived (listens steady : Bool) (world : Question → Outcome) (request : Request) (patience : Option ℕ) (turns : ℕ) (part : List Event) (ended : Ended) : Type 0 where
   pub run : List Event
   pub line : List Event
   pub cut : part ≡ run ++ line
@@ -105,26 +105,26 @@ pub record Archived (steady : Bool) (world : Question → Outcome) (request : Re
   pub made_asks : AsksByRun steady world (alone (build_in request run)) made
   pub linked_asks : AsksByRun steady world (build_in request run) linked
   pub result : Result (Unit {0}) ErrorSeen
-  pub ends : (look links : Look) → Agree made linked look links → WishEnds request patience turns result look links run
+  pub ends : (look links : Look) → Agree made linked look links → WishEnds listens request patience turns result look links run
   pub says : Says result line ended
 
 -- The planned archive and index commands were run, and no other: the first was tried, unless it is libtool's, and each of the others has ended with 0.
 -- Behind them exactly the lines of the variables that were read for them were printed, and then exactly the link lines, with those of their own variables.
-pub record Written (b : BuildSeen) (patience : Option ℕ) (turns : ℕ) (look links : Look) (output : List ℕ) (part : List Event) : Type 0 where
+pub record Written (listens : Bool) (b : BuildSeen) (patience : Option ℕ) (turns : ℕ) (look links : Look) (output : List ℕ) (part : List Event) : Type 0 where
   pub accepted : archive_refused b look links output ≡ None
   pub is_plain : Bool
   pub left : ℕ
-  pub went : Went (terms_for (alone b) (course_alone patience turns left)) (Calls Lists ∷ archive_stages b is_plain look links output) part (course_alone patience turns left).before (course_alone patience turns left).after
+  pub went : Went (terms_for (alone b) listens (course_alone patience turns left)) (Calls Lists ∷ archive_stages b is_plain look links output) part (course_alone patience turns left).before (course_alone patience turns left).after
   pub writes : attempts part ≡ map to_attempt (library_commands (alone b).config (alone b).env look is_plain output)
-  pub others : started part ≡ asked (shows_of (alone b).config (alone b).env) (written_children (has_libtool (alone b).config (alone b).env look) (library_commands (alone b).config (alone b).env look is_plain output))
+  pub others : started part ≡ asked (shows_of (alone b).config (alone b).env listens) (written_children (has_libtool (alone b).config (alone b).env look) (library_commands (alone b).config (alone b).env look is_plain output))
   pub ended : run_from nothing part ≡ all_ended (length (written_children (has_libtool (alone b).config (alone b).env look) (library_commands (alone b).config (alone b).env look is_plain output)))
 
 -- What an archive alone promises of its answer and its part.
-pub record ArchivePromises (steady : Bool) (world : Question → Outcome) (request : Request) (patience : Option ℕ) (turns : ℕ) (part : List Event) (ended : Ended) : Type 0 where
+pub record ArchivePromises (listens steady : Bool) (world : Question → Outcome) (request : Request) (patience : Option ℕ) (turns : ℕ) (part : List Event) (ended : Ended) : Type 0 where
   -- the whole answer: each status with its cause
-  pub answer : Archived steady world request patience turns part ended
+  pub answer : Archived listens steady world request patience turns part ended
   -- status 0: the library was written, and then the lines of its variables and its link lines were printed
-  pub written : ended.status ≡ 0 → (look links : Look) → Agree answer.made answer.linked look links → Written (build_in request part) patience turns look links request.0 part
+  pub written : ended.status ≡ 0 → (look links : Look) → Agree answer.made answer.linked look links → Written listens (build_in request part) patience turns look links request.0 part
   -- one attempt for each of the first planned commands, and no other
   pub prefix : (look links : Look) → Agree answer.made answer.linked look links → (is_plain : Bool) × AreFirst (wished_stages request is_plain look links part) part
   -- where nothing is refused, no command failed but the first form, and no call of the host: it is done, the turns are spent, or memory was wanted

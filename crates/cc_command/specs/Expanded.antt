@@ -37,48 +37,48 @@ use Rattle.cc_command.specs.Shown.{listed_build}
 use Rattle.cc_command.specs.declared.ended.Ended.{Ended}
 
 -- the source was expanded, the lines of the variables that were read for it were printed, and then the output of its command, as it is
-pub record PrintsOutput (b : BuildSeen) (result : Result (Unit {0}) ErrorSeen) (look : Look) (part : List Event) : Type 0 where
+pub record PrintsOutput (listens : Bool) (b : BuildSeen) (result : Result (Unit {0}) ErrorSeen) (look : Look) (part : List Event) : Type 0 where
   pub output : List ℕ
   pub run : List Event
   pub printed : List Event
   pub cut : part ≡ run ++ printed
-  pub expands : ExpandedEnds b (Ok output) look run
+  pub expands : ExpandedEnds b listens (Ok output) look run
   -- each variable has its line
   pub all : expands.told.0 ≡ all_firsts
   pub prints : CallsEnd (Prints ExpandedLine output ∷ []) printed result
 
 -- so it was; or the source couldn't be expanded, and the error has its cause
-abbrev pub ExpandsSource : BuildSeen → Result (Unit {0}) ErrorSeen → Look → List Event → Type 0
-ExpandsSource b (Ok done) look part = PrintsOutput b (Ok done) look part
-ExpandsSource b (Err e) look part = ExpandedEnds b (Err e) look part ⊎ PrintsOutput b (Err e) look part
+abbrev pub ExpandsSource : Bool → BuildSeen → Result (Unit {0}) ErrorSeen → Look → List Event → Type 0
+ExpandsSource listens b (Ok done) look part = PrintsOutput listens b (Ok done) look part
+ExpandsSource listens b (Err e) look part = ExpandedEnds b listens (Err e) look part ⊎ PrintsOutput listens b (Err e) look part
 
 -- that, with the questions of the part; no child was started
-pub record Expanding (steady : Bool) (world : Question → Verdicts) (b : BuildSeen) (part : List Event) (result : Result (Unit {0}) ErrorSeen) : Type 0 where
+pub record Expanding (listens steady : Bool) (world : Question → Verdicts) (b : BuildSeen) (part : List Event) (result : Result (Unit {0}) ErrorSeen) : Type 0 where
   pub asks : AsksByPlan steady world b part
   pub childless : list_any is_of_children part ≡ false
-  pub ends : (look : Look) → Agrees look (answers part) → ExpandsSource b result look part
+  pub ends : (look : Look) → Agrees look (answers part) → ExpandsSource listens b result look part
 
 -- the host listed its variables, and the source was expanded with their snapshot
-pub record ListsThenExpands (b : BuildSeen) (result : Result (Unit {0}) ErrorSeen) (look : Look) (part : List Event) : Type 0 where
+pub record ListsThenExpands (listens : Bool) (b : BuildSeen) (result : Result (Unit {0}) ErrorSeen) (look : Look) (part : List Event) : Type 0 where
   pub vars : List (List ℕ × List ℕ)
   pub rest : List Event
   pub cut : part ≡ Listed vars ∷ rest
-  pub expands : ExpandsSource (record b { env = with_vars b.env vars }) result look rest
+  pub expands : ExpandsSource listens (record b { env = with_vars b.env vars }) result look rest
 
 -- so it was; or the variables couldn't be listed, and the error has its cause
-abbrev pub ExpandJobEnds : BuildSeen → Result (Unit {0}) ErrorSeen → Look → List Event → Type 0
-ExpandJobEnds b (Ok done) look part = ListsThenExpands b (Ok done) look part
-ExpandJobEnds b (Err e) look part = CaptureEnds part (Err e) ⊎ ListsThenExpands b (Err e) look part
+abbrev pub ExpandJobEnds : Bool → BuildSeen → Result (Unit {0}) ErrorSeen → Look → List Event → Type 0
+ExpandJobEnds listens b (Ok done) look part = ListsThenExpands listens b (Ok done) look part
+ExpandJobEnds listens b (Err e) look part = CaptureEnds part (Err e) ⊎ ListsThenExpands listens b (Err e) look part
 
 -- the same with the line behind it
-pub record Expanded (steady : Bool) (world : Question → Verdicts) (b : BuildSeen) (part : List Event) (ended : Ended) : Type 0 where
+pub record Expanded (listens steady : Bool) (world : Question → Verdicts) (b : BuildSeen) (part : List Event) (ended : Ended) : Type 0 where
   pub asks : AsksByPlan steady world (listed_build b part) part
   pub run : List Event
   pub line : List Event
   pub cut : part ≡ run ++ line
   pub childless : list_any is_of_children run ≡ false
   pub result : Result (Unit {0}) ErrorSeen
-  pub ends : (look : Look) → Agrees look (answers part) → ExpandJobEnds b result look run
+  pub ends : (look : Look) → Agrees look (answers part) → ExpandJobEnds listens b result look run
   pub says : Says result line ended
 
 -- the error of a build whose source isn't expanded
@@ -96,7 +96,7 @@ ignored_in b look = ignored_line (tool_of b.config b.env look).family (source_of
 -- Nothing is refused. The host listed its variables, questions were asked and the warnings of the compiler's plan were printed; then the planned command
 -- ended with 0, among the lines of its run; then a line was printed for each variable that was read; and then the command's output, as it is. No other
 -- command was run.
-pub record IsExpanded (b : BuildSeen) (look : Look) (part : List Event) : Type 0 where
+pub record IsExpanded (listens : Bool) (b : BuildSeen) (look : Look) (part : List Event) : Type 0 where
   pub accepted : expand_error b look ≡ None
   pub vars : List (List ℕ × List ℕ)
   pub asking : List Event
@@ -105,10 +105,10 @@ pub record IsExpanded (b : BuildSeen) (look : Look) (part : List Event) : Type 0
   pub output : List ℕ
   pub cut : part ≡ Listed vars ∷ (asking ++ (run ++ (telling ++ Printed ExpandedLine output ∷ [])))
   pub warns_of_link : Bool
-  pub warned : IsWhole (tool_steps b.config b.env warns_of_link look) asking
+  pub warned : IsWhole (tool_steps b.config b.env listens warns_of_link look) asking
   pub status : Status
   pub success : is_success status ≡ true
-  pub ran : IsRanTo (shows_of b.config b.env) (expansion_in b look) Capture true (ignored_in b look) status output run
+  pub ran : IsRanTo (shows_of b.config b.env listens) (expansion_in b look) Capture true (ignored_in b look) status output run
   pub told : IsWhole (name_steps expand_reads b.config b.env all_firsts look) telling
   pub alone : attempts part ≡ to_attempt (expansion_in b look) ∷ []
 
@@ -121,11 +121,11 @@ abbrev pub IsSole : Planned → List Event → Type 0
 IsSole p part = (rest : List (Role × CommandSeen)) × (to_attempt p ∷ [] ≡ attempts part ++ rest)
 
 -- What expanding a source promises of its answer and its part.
-pub record ExpandPromises (steady : Bool) (world : Question → Verdicts) (b : BuildSeen) (part : List Event) (ended : Ended) : Type 0 where
+pub record ExpandPromises (listens steady : Bool) (world : Question → Verdicts) (b : BuildSeen) (part : List Event) (ended : Ended) : Type 0 where
   -- the whole answer: each status with its cause
-  pub answer : Expanded steady world b part ended
+  pub answer : Expanded listens steady world b part ended
   -- status 0: the source was expanded, and what its command made of it was printed, behind the lines of the variables
-  pub expanded : ended.status ≡ 0 → (look : Look) → Agrees look (answers part) → IsExpanded (listed_build b part) look part
+  pub expanded : ended.status ≡ 0 → (look : Look) → Agrees look (answers part) → IsExpanded listens (listed_build b part) look part
   -- no command but the planned one, and that at most once
   pub sole : (look : Look) → Agrees look (answers part) → IsSole (expansion_in (listed_build b part) look) part
   -- where nothing is refused, the command didn't fail, and no call of the host did: it is done, or memory was wanted

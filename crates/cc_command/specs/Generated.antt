@@ -1,5 +1,5 @@
 -- A large run from a number: its settings, what it comes to, and the lines that sum it up.
-use Rattle.std.specs.Prelude.{◌≡◌, ◌⊎◌, ◌≤◌, ◌+◌, ◌*◌, ℕ, zero, suc, List, [], ◌∷◌, ◌++◌, Some, true, length, codes, Result, Ok, Err}
+use Rattle.std.specs.Prelude.{◌≡◌, ◌⊎◌, ◌≤◌, ◌+◌, ◌*◌, ℕ, zero, suc, List, [], ◌∷◌, ◌++◌, Some, true, length, codes, Result, Ok, Err, false}
 use Rattle.std.specs.Fmt.{decimal}
 use Rattle.cc_env.specs.Env.{EnvSeen}
 use Rattle.cc_host.specs.Question.{Look, answers, Holds, NoTwice}
@@ -71,9 +71,9 @@ pub record PlainRun (b : BuildSeen) (turns : ℕ) (log : List Event) (result : R
   -- no question has two answers
   pub once : NoTwice (answers log)
   -- what each compile run promises
-  pub promises : OnGenerated turns log (Promises b gen_name result)
+  pub promises : OnGenerated turns log (Promises b false gen_name result)
   -- Ok: the library is built
-  pub built : OnGenerated turns log (IsBuilt b gen_name result)
+  pub built : OnGenerated turns log (IsBuilt b false gen_name result)
 
 -- What a run of so many sources comes to.
 pub record GeneratedRun (count turns : ℕ) (log : List Event) (result : Result (Unit {0}) ErrorSeen) : Type 0 where

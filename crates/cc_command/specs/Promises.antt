@@ -1,5 +1,5 @@
 -- What follows from an answer, each in one sentence.
-use Rattle.std.specs.Prelude.{◌≡◌, ◌⊎◌, ◌≤◌, ◌*◌, ◌+◌, ℕ, List, [], ◌∷◌, ◌++◌, length, map, Some, Bool, true, false, Result, Ok, String}
+use Rattle.std.specs.Prelude.{◌≡◌, ◌⊎◌, ◌≤◌, ◌*◌, ◌+◌, ℕ, List, [], ◌∷◌, ◌++◌, length, map, Option, Some, Bool, true, false, Result, Ok, String}
 use Rattle.cc_host.specs.Question.{Look}
 use Rattle.cc_host.specs.Part.{is_probing}
 use Rattle.cc_host.specs.Part.Step.{Lists}
@@ -21,17 +21,18 @@ use Rattle.cc_build.specs.Promises.{AreFirst, RunBeside, AllStarted}
 use Rattle.cc_build.specs.Shows.{shows_of}
 use Rattle.cc_build.specs.Stage.{folder_stages, compile_stages, has_libtool}
 use Rattle.cc_build.specs.Stage.Stage.{Asks, Calls}
+use Rattle.cc_build.specs.Way.{Hears}
 use Rattle.cc_build.specs.Went.{Goes, Partly}
 use Rattle.cc_build.specs.declared.error.ErrorKind.TheVariants.{TurnsSpent, ToolExecError}
-use Rattle.cc_command.specs.Answer.{PrintsLine, IfCompiles, IfRecords, AnswersRecord, AnswersWords, Recorded, database_in, BuiltBy, asked_for, env_in, terms_in, stages_of, error_line, word_line, told, ended_well, ended_refused, ended_bad, ended_wanting}
+use Rattle.cc_command.specs.Answer.{PrintsLine, IfCompiles, IfRecords, AnswersRecord, AnswersWords, Recorded, database_in, BuiltBy, asked_for, env_in, terms_in, warning, Findings, stages_of, error_line, word_line, told, ended_well, ended_refused, ended_bad, ended_wanting}
 use Rattle.cc_command.specs.Read.{Request, Wish}
 use Rattle.cc_command.specs.Read.Wish.{Compiles}
 use Rattle.cc_command.specs.declared.ended.Ended.{Ended}
 use Rattle.cc_command.specs.declared.words.BadWord.{BadWord}
 
 -- Status 0 means that the host listed its variables, and that the library of the words is built with their snapshot.
-abbrev pub Headline : {Z : Type 0} → List (String Z) → Ended → Look → List Event → Course → Type 0
-Headline words ended look part c = IfCompiles (asked_for words) (λ request. ended.status ≡ 0 → BuiltBy look request part c)
+abbrev pub Headline : {Z : Type 0} → Bool → List (String Z) → Ended → Look → List Event → Course → Type 0
+Headline listens words ended look part c = IfCompiles (asked_for words) (λ request. ended.status ≡ 0 → BuiltBy listens look request part c)
 
 -- the part ends with this line of kind Fault, or with the fault of its print
 pub record EndsWith (line : List ℕ) (part : List Event) : Type 0 where
@@ -56,30 +57,32 @@ IsLine line =
     ⊎ ((why : Why) × (line ≡ Fault Print why ∷ [])))
 
 -- On every exit the first stages of the request were done, each once and in order, and behind them stands at most a line of kind Fault.
-pub record Begun (look : Look) (request : Request) (part : List Event) (c : Course) : Type 0 where
+pub record Begun (listens : Bool) (look : Look) (request : Request) (part : List Event) (c : Course) : Type 0 where
   pub run : List Event
   pub line : List Event
   pub cut : part ≡ run ++ line
-  pub is_plain : Bool
-  pub partly : Partly (terms_in request run c) (stages_of look request is_plain run) run c.before c.after
+  pub finds : Findings listens
+  pub partly : Partly (terms_in listens request run c) (stages_of listens look request finds run) run c.before c.after
   pub printed : IsLine line
 
-abbrev pub IsBegun : Look → Result Wish BadWord → List Event → Course → Type 0
-IsBegun look words part c = IfCompiles words (λ request. Begun look request part c)
+abbrev pub IsBegun : Bool → Look → Result Wish BadWord → List Event → Course → Type 0
+IsBegun listens look words part c = IfCompiles words (λ request. Begun listens look request part c)
 
 -- before an archive command the variables were listed, the folder was made, and every source's compile command ended with 0
-pub record CompiledBefore (look : Look) (request : Request) (part before : List Event) (c : Course) : Type 0 where
+pub record CompiledBefore (listens : Bool) (look : Look) (request : Request) (part before : List Event) (c : Course) : Type 0 where
   pub runs : List Event
   pub rest : List Event
   pub cut : before ≡ runs ++ rest
-  pub compiled : Goes (terms_in request part c) (Calls Lists ∷ (folder_stages request.1.config (env_in request part) ++ Asks ∷ compile_stages request.1.config (env_in request part) true look)) runs
+  pub here : Option (List ℕ)
+  pub hears : Hears listens (warning here)
+  pub compiled : Goes (terms_in listens request part c) (Calls Lists ∷ (folder_stages request.1.config (env_in request part) ++ Asks ∷ compile_stages request.1.config (env_in request part) (warning here) look)) runs
 
 -- No archive command stands in the part unless that stands before it.
-abbrev pub ArchivesBehind : Look → Request → List Event → Course → Type 0
-ArchivesBehind look request part c = (before after : List Event) (event : Event) → part ≡ before ++ event ∷ after → is_archive_event event ≡ true → CompiledBefore look request part before c
+abbrev pub ArchivesBehind : Bool → Look → Request → List Event → Course → Type 0
+ArchivesBehind listens look request part c = (before after : List Event) (event : Event) → part ≡ before ++ event ∷ after → is_archive_event event ≡ true → CompiledBefore listens look request part before c
 
-abbrev pub CompilesFirst : Look → Result Wish BadWord → List Event → Course → Type 0
-CompilesFirst look words part c = IfCompiles words (λ request. ArchivesBehind look request part c)
+abbrev pub CompilesFirst : Bool → Look → Result Wish BadWord → List Event → Course → Type 0
+CompilesFirst listens look words part c = IfCompiles words (λ request. ArchivesBehind listens look request part c)
 
 -- children that were abandoned, and then a line of kind Fault, or the fault of its print
 abbrev pub EndsAlone : List Event → Type 0
@@ -91,16 +94,16 @@ FaultsLast part = (before after : List Event) (call : HostCall) (why : Why) → 
 
 -- The commands of the part, those that are missing among them, are the first of the planned ones, where the first form of the archive was taken or where
 -- it was refused: one attempt for each, and no other command.
-abbrev pub IsPrefix : Look → Result Wish BadWord → List Event → Type 0
-IsPrefix look words part = IfCompiles words (λ request. (is_plain : Bool) × AreFirst (stages_of look request is_plain part) part)
+abbrev pub IsPrefix : Bool → Look → Result Wish BadWord → List Event → Type 0
+IsPrefix listens look words part = IfCompiles words (λ request. (finds : Findings listens) × AreFirst (stages_of listens look request finds part) part)
 
 -- Two sources or more are compiled beside each other, each under a token, and as many at once as there are tokens.
 abbrev pub IsBeside : Result Wish BadWord → List Event → Course → Type 0
 IsBeside words part c = IfCompiles words (λ request. 2 ≤ length request.1.config.files → RunBeside c.total (length request.1.config.files) part)
 
 -- A failed child stops no later start: where a command ended badly and the host is sound, every source's command was started, and none was left alone.
-abbrev pub StartsAll : Look → Result Wish BadWord → List Event → Ended → Type 0
-StartsAll look words part ended = IfCompiles words (λ request. (e : ErrorSeen) → 2 ≤ length request.1.config.files → ended ≡ ended_refused e → e.kind ≡ ToolExecError → (HasFault part → ⊥) → AllStarted (shows_of request.1.config (env_in request part)) (compiles_of request.1.config (env_in request part) look) part)
+abbrev pub StartsAll : Bool → Look → Result Wish BadWord → List Event → Ended → Type 0
+StartsAll listens look words part ended = IfCompiles words (λ request. (e : ErrorSeen) → 2 ≤ length request.1.config.files → ended ≡ ended_refused e → e.kind ≡ ToolExecError → (HasFault part → ⊥) → AllStarted (shows_of request.1.config (env_in request part) listens) (compiles_of request.1.config (env_in request part) look) part)
 
 -- the turns are spent: as many were made as there are
 abbrev pub EndsSpent : ℕ → List Event → Ended → Type 0
@@ -116,19 +119,19 @@ abbrev pub IsEnough : Look → Result Wish BadWord → List Event → Ended → 
 IsEnough look words part ended c = IfCompiles words (λ request. (total p : ℕ) → c.total ≡ Some total → c.patience ≡ Some p → p * (2 * length request.1.config.files + length request.1.config.objects + 2) ≤ c.before.left → EndsSpent c.before.left part ended → ⊥)
 
 -- What a run of the words promises of its answer, its part and its course.
-pub record Promises (words : Result Wish BadWord) (ended : Ended) (look : Look) (part : List Event) (c : Course) : Type 0 where
+pub record Promises (listens : Bool) (words : Result Wish BadWord) (ended : Ended) (look : Look) (part : List Event) (c : Course) : Type 0 where
   -- the whole answer: each status with its cause
-  pub answer : AnswersWords look words part ended c
+  pub answer : AnswersWords listens look words part ended c
   -- on every exit the first stages were done, each once and in order
-  pub begun : IsBegun look words part c
+  pub begun : IsBegun listens look words part c
   -- no archive command stands in the part unless every source was compiled before it
-  pub order : CompilesFirst look words part c
+  pub order : CompilesFirst listens look words part c
   -- one attempt for each of the first planned commands, and no other
-  pub prefix : IsPrefix look words part
+  pub prefix : IsPrefix listens look words part
   -- two sources or more are compiled beside each other, each under a token, and as many at once as there are tokens
   pub beside : IsBeside words part c
   -- a failed child stops no later start
-  pub failed : StartsAll look words part ended
+  pub failed : StartsAll listens look words part ended
   -- valid settings, no failed command but the first form of the archive, no fault of the host and none of the pool: it is done, the turns are spent, or
   -- memory was wanted
   pub complete : IsComplete look words part ended c
@@ -136,31 +139,31 @@ pub record Promises (words : Result Wish BadWord) (ended : Ended) (look : Look) 
   pub enough : IsEnough look words part ended c
 
 -- the same of the words of the program
-abbrev pub IsPromised : {Z : Type 0} → List (String Z) → Ended → Look → List Event → Course → Type 0
-IsPromised words ended look part c = Promises (asked_for words) ended look part c
+abbrev pub IsPromised : {Z : Type 0} → Bool → List (String Z) → Ended → Look → List Event → Course → Type 0
+IsPromised listens words ended look part c = Promises listens (asked_for words) ended look part c
 
 -- The host listed its variables and told its folder; the rest, but for the last event, built the library; and that wrote the database, with an entry for
 -- each source.
-pub record RecordedBy (look : Look) (path : List ℕ) (request : Request) (part : List Event) (c : Course) : Type 0 where
+pub record RecordedBy (listens : Bool) (look : Look) (path : List ℕ) (request : Request) (part : List Event) (c : Course) : Type 0 where
   pub vars : List (List ℕ × List ℕ)
   pub here : List ℕ
   pub run : List Event
   pub cut : part ≡ Listed vars ∷ Here here ∷ (run ++ Wrote path (database_in look request vars here) ∷ [])
-  pub built : BuiltBy look request (Listed vars ∷ run) c
+  pub built : BuiltBy listens look request (Listed vars ∷ run) c
 
 -- What a compile run promises that is recorded in a database.
-pub record RecordPromises (look : Look) (path : List ℕ) (request : Request) (part : List Event) (ended : Ended) (c : Course) : Type 0 where
+pub record RecordPromises (listens : Bool) (look : Look) (path : List ℕ) (request : Request) (part : List Event) (ended : Ended) (c : Course) : Type 0 where
   -- the whole answer: each status with its cause
-  pub answer : AnswersRecord look path request part ended c
+  pub answer : AnswersRecord listens look path request part ended c
   -- status 0: the library was built, and the database was written last
-  pub recorded : ended.status ≡ 0 → RecordedBy look path request part c
+  pub recorded : ended.status ≡ 0 → RecordedBy listens look path request part c
   -- the run, without the folder and the file of the database, promises all that one does which isn't recorded
-  pub promises : (r : Recorded look path request part ended c) → Promises (Ok (Compiles request)) r.ran look (Listed r.vars ∷ r.run) c
+  pub promises : (r : Recorded listens look path request part ended c) → Promises listens (Ok (Compiles request)) r.ran look (Listed r.vars ∷ r.run) c
   -- all of it is complete as a run is that isn't recorded: where nothing keeps it from that it is done, the turns are spent, or memory was wanted
   pub complete : IsComplete look (Ok (Compiles request)) part ended c
   -- and as many turns are enough for it
   pub enough : IsEnough look (Ok (Compiles request)) part ended c
 
 -- the same of words that wish such a run
-abbrev pub IsRecordedSo : {Z : Type 0} → List (String Z) → Ended → Look → List Event → Course → Type 0
-IsRecordedSo words ended look part c = IfRecords (asked_for words) (λ path request. RecordPromises look path request part ended c)
+abbrev pub IsRecordedSo : {Z : Type 0} → Bool → List (String Z) → Ended → Look → List Event → Course → Type 0
+IsRecordedSo listens words ended look part c = IfRecords (asked_for words) (λ path request. RecordPromises listens look path request part ended c)

@@ -65,18 +65,18 @@ abbrev pub read_steps : Reads → BuildSeen → Look → List Step
 read_steps reads b look = name_steps reads b.config b.env all_firsts look
 
 -- the warnings of how the compiler was found are printed, and the lines of the variables that were read for it
-abbrev pub compiler_steps : BuildSeen → Bool → Look → List Step
-compiler_steps b warns_of_link look = tool_steps b.config b.env warns_of_link look ++ read_steps compiler_reads b look
+abbrev pub compiler_steps : Bool → BuildSeen → Bool → Look → List Step
+compiler_steps listens b warns_of_link look = tool_steps b.config b.env listens warns_of_link look ++ read_steps compiler_reads b look
 
 -- so they are, then those that were read for the archiver and for the tool that writes an index, and then the lines that show the tools
-abbrev pub tools_steps : BuildSeen → Bool → Looks → List Step
-tools_steps b warns_of_link looks =
-    compiler_steps b warns_of_link looks.compiler
+abbrev pub tools_steps : Bool → BuildSeen → Bool → Looks → List Step
+tools_steps listens b warns_of_link looks =
+    compiler_steps listens b warns_of_link looks.compiler
     ++ (read_steps archiver_reads b looks.archiver ++ (read_steps ranlib_reads b looks.ranlib ++ shows (lines_of b looks)))
 
 -- the host lists its variables before
-abbrev pub show_steps : BuildSeen → Bool → Looks → List Step
-show_steps b warns_of_link looks = Lists ∷ tools_steps b warns_of_link looks
+abbrev pub show_steps : Bool → BuildSeen → Bool → Looks → List Step
+show_steps listens b warns_of_link looks = Lists ∷ tools_steps listens b warns_of_link looks
 
 -- the error of settings that have no compiler, no archiver, or no tool that writes an index
 abbrev pub show_error : BuildSeen → Looks → Option ErrorSeen
@@ -101,31 +101,31 @@ abbrev pub Agree : List Event → List Event → List Event → Looks → Type 0
 Agree compiler archiver ranlib looks = Agrees looks.compiler (answers compiler) × Agrees looks.archiver (answers archiver) × Agrees looks.ranlib (answers ranlib)
 
 -- the tools were found and shown, or the error has its cause; no child was started
-pub record Showing (steady : Bool) (world : Question → Verdicts) (b : BuildSeen) (part : List Event) (result : Result (Unit {0}) ErrorSeen) : Type 0 where
+pub record Showing (listens steady : Bool) (world : Question → Verdicts) (b : BuildSeen) (part : List Event) (result : Result (Unit {0}) ErrorSeen) : Type 0 where
   pub asks : AsksTools steady world b part
   pub childless : list_any is_of_children part ≡ false
-  pub ends : (looks : Looks) → Agree asks.compiler asks.archiver asks.ranlib looks → (warns_of_link : Bool) × Outcome (show_error b looks) (tools_steps b warns_of_link looks) part result
+  pub ends : (looks : Looks) → Agree asks.compiler asks.archiver asks.ranlib looks → (warns_of_link : Bool) × Outcome (show_error b looks) (tools_steps listens b warns_of_link looks) part result
 
 -- a build with the variables that the host listed
 abbrev pub listed_build : BuildSeen → List Event → BuildSeen
 listed_build b part = record b { env = with_vars b.env (heard part) }
 
 -- the same behind the listing of the variables, and with the line behind it
-pub record Shown (steady : Bool) (world : Question → Verdicts) (b : BuildSeen) (part : List Event) (ended : Ended) : Type 0 where
+pub record Shown (listens steady : Bool) (world : Question → Verdicts) (b : BuildSeen) (part : List Event) (ended : Ended) : Type 0 where
   pub asks : AsksTools steady world (listed_build b part) part
   pub run : List Event
   pub line : List Event
   pub cut : part ≡ run ++ line
   pub childless : list_any is_of_children run ≡ false
   pub result : Result (Unit {0}) ErrorSeen
-  pub ends : (looks : Looks) → Agree asks.compiler asks.archiver asks.ranlib looks → (warns_of_link : Bool) × Outcome (show_error (listed_build b part) looks) (show_steps (listed_build b part) warns_of_link looks) run result
+  pub ends : (looks : Looks) → Agree asks.compiler asks.archiver asks.ranlib looks → (warns_of_link : Bool) × Outcome (show_error (listed_build b part) looks) (show_steps listens (listed_build b part) warns_of_link looks) run result
   pub says : Says result line ended
 
 -- What showing the tools of a build promises of its answer and its part.
-pub record ShowPromises (steady : Bool) (world : Question → Verdicts) (b : BuildSeen) (part : List Event) (ended : Ended) : Type 0 where
+pub record ShowPromises (listens steady : Bool) (world : Question → Verdicts) (b : BuildSeen) (part : List Event) (ended : Ended) : Type 0 where
   -- the whole answer: each status with its cause
-  pub answer : Shown steady world b part ended
+  pub answer : Shown listens steady world b part ended
   -- status 0: nothing is refused, and exactly the variables were listed, the warnings and the lines of the variables printed, and the tools shown
-  pub shown : ended.status ≡ 0 → (looks : Looks) → Agree answer.asks.compiler answer.asks.archiver answer.asks.ranlib looks → (warns_of_link : Bool) × ((show_error (listed_build b part) looks ≡ None) × IsWhole (show_steps (listed_build b part) warns_of_link looks) part)
+  pub shown : ended.status ≡ 0 → (looks : Looks) → Agree answer.asks.compiler answer.asks.archiver answer.asks.ranlib looks → (warns_of_link : Bool) × ((show_error (listed_build b part) looks ≡ None) × IsWhole (show_steps listens (listed_build b part) warns_of_link looks) part)
   -- where nothing is refused, and no call of the host failed: it is done, or memory was wanted
   pub complete : (looks : Looks) → Agree answer.asks.compiler answer.asks.archiver answer.asks.ranlib looks → show_error (listed_build b part) looks ≡ None → (HasFault part → ⊥) → (ended ≡ ended_well) ⊎ (ended ≡ ended_wanting)

@@ -79,7 +79,7 @@ pub record BuiltAlone (count turned : ℕ) (part : List Event) (ended : Ended) :
   pub bench : BenchSeen
   pub back : ended.bench ≡ Some bench
   pub run : GeneratedRun count turned bench.log (Ok tt)
-  pub built : OnGenerated turned bench.log (λ look log c. Built (terms_for (gen_build count) c) (gen_settings count) no_variables look gen_name log)
+  pub built : OnGenerated turned bench.log (λ look log c. Built (terms_for (gen_build count) false c) (gen_settings count) no_variables look gen_name log)
   pub shown : part ≡ map (Printed Shown) (summary count)
 
 -- the turns of the run were spent: the host that is handed back has made as many as there are

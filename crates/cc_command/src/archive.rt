@@ -21,8 +21,9 @@ pub(crate) fn archive<W: World, H: Host<W>>(
     requires repeats { request.now.build.config.repeat_lines ≡ true }
     ensures patient { H.patience host.new ≡ H.patience host.old }
     ensures extends { H.log host.new ≡ H.log host.old ++ part H.log host.old host.new }
-    ensures archiving { Archiving W.steady W.answer request.now.build (H.patience host.old) turns
-        (name_of request.now.job) (part H.log host.old host.new) result }
+    ensures archiving { Archiving (H.listens host.old) W.steady W.answer request.now.build
+        (H.patience host.old) turns (name_of request.now.job)
+        (part H.log host.old host.new) result }
 {
     let objects = Words::new(request.alloc);
     let name = request.job.name();

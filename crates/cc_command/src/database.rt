@@ -68,6 +68,7 @@ fn unwritten(alloc: Global, path: &str, error: HostError) -> Error
 #[tactic(auto, using(cc_host::proofs::Parts::since_append))]
 pub(crate) fn find_folder<W: World, H: Host<W>>(alloc: Global, host: &mut H) -> Result<Text, Error>
     ensures aside { Aside H.log H.patience host.old host.new }
+    ensures ear { H.listens host.new ≡ H.listens host.old }
     ensures told { IfOk result (λ here. part H.log host.old host.new ≡ Here here ∷ []) }
     ensures refused { IfErr result (Faults TellsFolder [] (part H.log host.old host.new)) }
 {

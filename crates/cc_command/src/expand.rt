@@ -19,7 +19,7 @@ pub(crate) fn expand<W: World, H: Host<W>>(
 ) -> Result<(), Error>
     requires repeats { build.now.config.repeat_lines ≡ true }
     ensures extends { H.log host.new ≡ H.log host.old ++ part H.log host.old host.new }
-    ensures expanding { Expanding W.steady W.answer build.now
+    ensures expanding { Expanding (H.listens host.old) W.steady W.answer build.now
         (part H.log host.old host.new) result }
 {
     let output = build.try_expand(rt, host)?;

@@ -42,7 +42,7 @@ fn run_between<W: World, H: Host<W>, J: Jobs>(
     ensures asked { AsksByRun W.steady W.answer build.now (part H.log host.old host.new) }
     ensures answer { ByRun H.log H.patience J.total J.faults J.taken J.load to.entry.turns
         host.old host.new seat.old seat.new
-        (IsRecord to.entry.name.now to.entry.path.now build.now result) }
+        (IsRecord (H.listens host.old) to.entry.name.now to.entry.path.now build.now result) }
 {
     let here = find_folder(to.alloc, host)?;
     build.try_compile(rt, host, jobs, seat, to.turns, to.name)?;
@@ -70,7 +70,7 @@ pub(crate) fn compile_recorded<W: World, H: Host<W>, J: Jobs>(
         (part H.log host.old host.new) }
     ensures answer { ByRun H.log H.patience J.total J.faults J.taken J.load to.entry.turns
         host.old host.new seat.old seat.new
-        (IsRecorded to.entry.path.now (to.entry.name.now, build.old) result) }
+        (IsRecorded (H.listens host.old) to.entry.path.now (to.entry.name.now, build.old) result) }
 {
     match build.capture(host) {
         Ok(()) => match run_between(rt, to, build, host, jobs, seat) {

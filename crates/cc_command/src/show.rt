@@ -86,7 +86,7 @@ pub(crate) fn show<W: World, H: Host<W>>(
 ) -> Result<(), Error>
     requires repeats { build.now.config.repeat_lines ≡ true }
     ensures extends { H.log host.new ≡ H.log host.old ++ part H.log host.old host.new }
-    ensures showing { Showing W.steady W.answer build.now
+    ensures showing { Showing (H.listens host.old) W.steady W.answer build.now
         (part H.log host.old host.new) result }
 {
     let tool = build.try_get_compiler(rt, host)?;

@@ -45,7 +45,7 @@ fn compile<W: World, H: Host<W>, J: Jobs>(
         (part H.log host.old host.new) }
     ensures answer { ByRun H.log H.patience J.total J.faults J.taken J.load turns
         host.old host.new seat.old seat.new
-        (IsAnswer (name_of request.old.job, request.old.build) result) }
+        (IsAnswer (H.listens host.old) (name_of request.old.job, request.old.build) result) }
 {
     let alloc = request.alloc;
     let name = request.job.name();
@@ -78,8 +78,8 @@ fn compile_job<W: World, H: Host<W>, J: Jobs>(
     ensures asked { AsksWish W.steady W.answer (compile_wish request.old.database
         (name_of request.old.job, request.old.build)) (part H.log host.old host.new) }
     ensures answer { ByRun H.log H.patience J.total J.faults J.taken J.load turns
-        host.old host.new seat.old seat.new (IsAnswerOf (compile_wish request.old.database
-        (name_of request.old.job, request.old.build)) result) }
+        host.old host.new seat.old seat.new (IsAnswerOf (H.listens host.old)
+        (compile_wish request.old.database (name_of request.old.job, request.old.build)) result) }
 {
     match &request.database {
         Some(path) => {
@@ -108,8 +108,9 @@ fn archive_alone<W: World, H: Host<W>>(
 ) -> Ended
     requires repeats { request.old.build.config.repeat_lines ≡ true }
     ensures extends { H.log host.new ≡ H.log host.old ++ part H.log host.old host.new }
-    ensures archived { Archived W.steady W.answer (name_of request.old.job, request.old.build)
-        (H.patience host.old) turns (part H.log host.old host.new) result }
+    ensures archived { Archived (H.listens host.old) W.steady W.answer
+        (name_of request.old.job, request.old.build) (H.patience host.old) turns
+        (part H.log host.old host.new) result }
 {
     let alloc = request.alloc;
     match request.build.capture(host) {
@@ -130,7 +131,7 @@ fn expand_alone<W: World, H: Host<W>>(
 ) -> Ended
     requires repeats { request.old.build.config.repeat_lines ≡ true }
     ensures extends { H.log host.new ≡ H.log host.old ++ part H.log host.old host.new }
-    ensures expanded { Expanded W.steady W.answer request.old.build
+    ensures expanded { Expanded (H.listens host.old) W.steady W.answer request.old.build
         (part H.log host.old host.new) result }
 {
     let alloc = request.alloc;
@@ -148,7 +149,7 @@ fn expand_alone<W: World, H: Host<W>>(
 fn show_tools<W: World, H: Host<W>>(rt: &impl Wait, request: &mut Request<W>, host: &mut H) -> Ended
     requires repeats { request.old.build.config.repeat_lines ≡ true }
     ensures extends { H.log host.new ≡ H.log host.old ++ part H.log host.old host.new }
-    ensures shown { Shown W.steady W.answer request.old.build
+    ensures shown { Shown (H.listens host.old) W.steady W.answer request.old.build
         (part H.log host.old host.new) result }
 {
     let alloc = request.alloc;
@@ -182,20 +183,23 @@ fn serve<W: World, H: Host<W>, J: Jobs>(
         (part H.log host.old host.new) }
     ensures answer { ByRun H.log H.patience J.total J.faults J.taken J.load turns
         host.old host.new seat.old seat.new
-        (IsAnswerOf (wish_of request.old.job request.old.database request.old.build) result) }
+        (IsAnswerOf (H.listens host.old)
+        (wish_of request.old.job request.old.database request.old.build) result) }
     ensures archived { IfArchives
         (Ok (wish_of request.old.job request.old.database request.old.build))
-        (λ q. Archived W.steady W.answer q (H.patience host.old) turns
-        (part H.log host.old host.new) result) }
+        (λ q. Archived (H.listens host.old) W.steady W.answer q
+        (H.patience host.old) turns (part H.log host.old host.new) result) }
     ensures generated { IfGenerates
         (Ok (wish_of request.old.job request.old.database request.old.build))
         (λ count. Sums count turns (part H.log host.old host.new) result) }
     ensures expanded { IfExpands
         (Ok (wish_of request.old.job request.old.database request.old.build))
-        (λ b. Expanded W.steady W.answer b (part H.log host.old host.new) result) }
+        (λ b. Expanded (H.listens host.old) W.steady W.answer b
+        (part H.log host.old host.new) result) }
     ensures shown { IfShows
         (Ok (wish_of request.old.job request.old.database request.old.build))
-        (λ b. Shown W.steady W.answer b (part H.log host.old host.new) result) }
+        (λ b. Shown (H.listens host.old) W.steady W.answer b
+        (part H.log host.old host.new) result) }
 {
     match request.job {
         Job::Compile(_) => compile_job(rt, request, turns, host, jobs, seat),
@@ -223,16 +227,19 @@ fn run<W: World, H: Host<W>, J: Jobs>(
     ensures asked { AsksWords W.steady W.answer (asked_for invocation.entry.words.now)
         (part H.log host.old host.new) }
     ensures answer { ByRun H.log H.patience J.total J.faults J.taken J.load invocation.entry.turns
-        host.old host.new seat.old seat.new (IsAnswerTo invocation.entry.words.now result) }
+        host.old host.new seat.old seat.new
+        (IsAnswerTo (H.listens host.old) invocation.entry.words.now result) }
     ensures archived { IfArchives (asked_for invocation.entry.words.now)
-        (λ q. Archived W.steady W.answer q (H.patience host.old) invocation.entry.turns
-        (part H.log host.old host.new) result) }
+        (λ q. Archived (H.listens host.old) W.steady W.answer q
+        (H.patience host.old) invocation.entry.turns (part H.log host.old host.new) result) }
     ensures generated { IfGenerates (asked_for invocation.entry.words.now)
         (λ count. Sums count invocation.entry.turns (part H.log host.old host.new) result) }
     ensures expanded { IfExpands (asked_for invocation.entry.words.now)
-        (λ b. Expanded W.steady W.answer b (part H.log host.old host.new) result) }
+        (λ b. Expanded (H.listens host.old) W.steady W.answer b
+        (part H.log host.old host.new) result) }
     ensures shown { IfShows (asked_for invocation.entry.words.now)
-        (λ b. Shown W.steady W.answer b (part H.log host.old host.new) result) }
+        (λ b. Shown (H.listens host.old) W.steady W.answer b
+        (part H.log host.old host.new) result) }
 {
     let Invocation {
         alloc,
@@ -295,18 +302,19 @@ pub fn drive<W: World, H: Host<W>, J: Jobs>(
 
     // The headline.
     ensures built { ByRun H.log H.patience J.total J.faults J.taken J.load turns
-        host.old host.new seat.old seat.new (Headline words.now result) }
+        host.old host.new seat.old seat.new (Headline (H.listens host.old) words.now result) }
 
     // The whole answer, each status with its cause, and what follows from it, sentence by sentence.
     ensures promises { ByRun H.log H.patience J.total J.faults J.taken J.load turns
-        host.old host.new seat.old seat.new (IsPromised words.now result) }
+        host.old host.new seat.old seat.new (IsPromised (H.listens host.old) words.now result) }
 
     // The same of a compile run that is recorded in a database.
     ensures recorded { ByRun H.log H.patience J.total J.faults J.taken J.load turns
-        host.old host.new seat.old seat.new (IsRecordedSo words.now result) }
+        host.old host.new seat.old seat.new (IsRecordedSo (H.listens host.old) words.now result) }
 
     // The same of an archive alone.
-    ensures archived { IfArchives (asked_for words.now) (λ q. ArchivePromises W.steady W.answer q
+    ensures archived { IfArchives (asked_for words.now)
+        (λ q. ArchivePromises (H.listens host.old) W.steady W.answer q
         (H.patience host.old) turns (part H.log host.old host.new) result) }
 
     // A large run from a number.
@@ -314,11 +322,13 @@ pub fn drive<W: World, H: Host<W>, J: Jobs>(
         (λ count. GeneratePromises count turns (part H.log host.old host.new) result) }
 
     // A source that is expanded.
-    ensures expanded { IfExpands (asked_for words.now) (λ b. ExpandPromises W.steady W.answer b
+    ensures expanded { IfExpands (asked_for words.now)
+        (λ b. ExpandPromises (H.listens host.old) W.steady W.answer b
         (part H.log host.old host.new) result) }
 
     // The tools of a build.
-    ensures shown { IfShows (asked_for words.now) (λ b. ShowPromises W.steady W.answer b
+    ensures shown { IfShows (asked_for words.now)
+        (λ b. ShowPromises (H.listens host.old) W.steady W.answer b
         (part H.log host.old host.new) result) }
 
     ensures printed { PrintsLast (part H.log host.old host.new) result }

@@ -22,14 +22,14 @@ returns-in_err-library-clause-archiving g c =
     let name = name_of c.args.request.now.job in
     let e = c.in_err-library.field-0.0 in
     let p = err_from_is_err_and c.from_residual.result c.from_residual.ensures.1 in
-    let named : Holds (answers part) (λ look. Creates {T = List ℕ} (with_objects b c.new-objects.result) patience c.args.turns name (Err e) look part) =
-    subst (λ (n : List ℕ). Holds (answers part) (λ look. Creates {T = List ℕ} (with_objects b c.new-objects.result) patience c.args.turns n (Err e) look part)) c.name-name.ensures c.in_err-library.ensures.outcome in
+    let named : Holds (answers part) (λ look. Creates {T = List ℕ} (with_objects b c.new-objects.result) (g.H.Host.listens c.args.host.now) patience c.args.turns name (Err e) look part) =
+    subst (λ (n : List ℕ). Holds (answers part) (λ look. Creates {T = List ℕ} (with_objects b c.new-objects.result) (g.H.Host.listens c.args.host.now) patience c.args.turns n (Err e) look part)) c.name-name.ensures c.in_err-library.ensures.outcome in
     let none : c.new-objects.result ≡ [] = c.new-objects.ensures in
     rw (p.1, p.2)
-    (archive_ended g.W.World.steady g.W.World.answer b patience c.args.turns name part e c.requires.repeats
+    (archive_ended (g.H.Host.listens c.args.host.now) g.W.World.steady g.W.World.answer b patience c.args.turns name part e c.requires.repeats
     (subst (λ (o : List (List ℕ)). AsksByRun g.W.World.steady g.W.World.answer (with_objects b o) part) none c.try_create_archive.ensures.asked)
     (asked_none g.W.World.steady g.W.World.answer (probes b) (RunAsks b.config b.env) [] refl)
-    (subst (λ (o : List (List ℕ)). Holds (answers part) (λ look. Creates {T = List ℕ} (with_objects b o) patience c.args.turns name (Err e) look part)) none named))
+    (subst (λ (o : List (List ℕ)). Holds (answers part) (λ look. Creates {T = List ℕ} (with_objects b o) (g.H.Host.listens c.args.host.now) patience c.args.turns name (Err e) look part)) none named))
 
 pub returns-clause-archiving : goal.returns-clause-archiving
 returns-clause-archiving g c =
@@ -42,15 +42,15 @@ returns-clause-archiving g c =
     let path = c.in_ok-library.library in
     let r = c.try_emit_link_directives.result in
     let none : c.new-objects.result ≡ [] = c.new-objects.ensures in
-    let named : Holds (answers (since old mid)) (λ look. Creates (with_objects b c.new-objects.result) patience c.args.turns name (Ok path) look (since old mid)) =
-    subst (λ (n : List ℕ). Holds (answers (since old mid)) (λ look. Creates (with_objects b c.new-objects.result) patience c.args.turns n (Ok path) look (since old mid))) c.name-name.ensures c.in_ok-library.ensures.outcome in
-    let made : Holds (answers (since old mid)) (λ look. Creates (alone b) patience c.args.turns name (Ok path) look (since old mid)) =
-    subst (λ (o : List (List ℕ)). Holds (answers (since old mid)) (λ look. Creates (with_objects b o) patience c.args.turns name (Ok path) look (since old mid))) none named in
+    let named : Holds (answers (since old mid)) (λ look. Creates (with_objects b c.new-objects.result) (g.H.Host.listens c.args.host.now) patience c.args.turns name (Ok path) look (since old mid)) =
+    subst (λ (n : List ℕ). Holds (answers (since old mid)) (λ look. Creates (with_objects b c.new-objects.result) (g.H.Host.listens c.args.host.now) patience c.args.turns n (Ok path) look (since old mid))) c.name-name.ensures c.in_ok-library.ensures.outcome in
+    let made : Holds (answers (since old mid)) (λ look. Creates (alone b) (g.H.Host.listens c.args.host.now) patience c.args.turns name (Ok path) look (since old mid)) =
+    subst (λ (o : List (List ℕ)). Holds (answers (since old mid)) (λ look. Creates (with_objects b o) (g.H.Host.listens c.args.host.now) patience c.args.turns name (Ok path) look (since old mid))) none named in
     let at : c.as_str.result.now ≡ library_at b name =
     c.as_str.ensures ∙ c.in_ok-library.ensures.library ∙ ap (λ (o : List (List ℕ)). library_of (with_objects b o).config b.env c.name-name.result.now) none ∙ ap (library_of (alone b).config b.env) c.name-name.ensures in
     let linked : Holds (answers (since mid new)) (λ links. DirectivesEnd b (library_at b name) r links (since mid new)) =
     subst (λ (l : List ℕ). Holds (answers (since mid new)) (λ links. DirectivesEnd b l r links (since mid new))) at c.try_emit_link_directives.ensures.outcome in
-    subst (λ l. Archiving g.W.World.steady g.W.World.answer b patience c.args.turns name l r) (sym (since_since old mid new c.try_create_archive.ensures.extends c.try_emit_link_directives.ensures.extends))
-    (directives_ended g.W.World.steady g.W.World.answer b patience c.args.turns name path (since old mid) (since mid new) r c.requires.repeats
+    subst (λ l. Archiving (g.H.Host.listens c.args.host.now) g.W.World.steady g.W.World.answer b patience c.args.turns name l r) (sym (since_since old mid new c.try_create_archive.ensures.extends c.try_emit_link_directives.ensures.extends))
+    (directives_ended (g.H.Host.listens c.args.host.now) g.W.World.steady g.W.World.answer b patience c.args.turns name path (since old mid) (since mid new) r c.requires.repeats
     (subst (λ (o : List (List ℕ)). AsksByRun g.W.World.steady g.W.World.answer (with_objects b o) (since old mid)) none c.try_create_archive.ensures.asked)
     c.try_emit_link_directives.ensures.asked made linked)

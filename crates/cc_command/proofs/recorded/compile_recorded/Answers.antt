@@ -22,7 +22,7 @@ returns-in-Ok-run_between-clause-answer g c =
           let run = c.in-Ok-run_between.ensures.answer.under look agreed in
           let after = means run.0 (g.J.Jobs.faults c.run_between.new.seat) (g.J.Jobs.taken c.run_between.new.seat) (g.J.Jobs.load c.run_between.new.seat) in (
             run.0,
-            recorded_done look c.args.to.path.now c.args.to.name.now c.args.build.now c.capture.new.self (since old mid) c.in-Ok.ensures.captured total (g.H.Host.patience c.capture.new.host) (g.H.Host.patience c.args.host.now) c.capture.ensures.patient before after c.requires.repeats
+            recorded_done (g.H.Host.listens c.args.host.now) look c.args.to.path.now c.args.to.name.now c.args.build.now c.capture.new.self (since old mid) c.in-Ok.ensures.captured total (g.H.Host.patience c.capture.new.host) (g.H.Host.patience c.args.host.now) c.capture.ensures.patient before after c.requires.repeats
                 (since old new) (since mid new) c.ended_done.result (since_since old mid new c.capture.ensures.extends c.run_between.ensures.extends) run.1 c.ended_done.ensures,
           );
     }
@@ -47,7 +47,7 @@ returns-in-Err-run_between-clause-answer g c =
           let run = c.in-Err-run_between.ensures.answer.under look agreed in
           let after = means run.0 (g.J.Jobs.faults c.run_between.new.seat) (g.J.Jobs.taken c.run_between.new.seat) (g.J.Jobs.load c.run_between.new.seat) in (
             run.0,
-            recorded_refused look c.args.to.path.now c.args.to.name.now c.args.build.now c.capture.new.self (since old mid) c.in-Ok.ensures.captured total (g.H.Host.patience c.capture.new.host) (g.H.Host.patience c.args.host.now) c.capture.ensures.patient before after c.requires.repeats
+            recorded_refused (g.H.Host.listens c.args.host.now) look c.args.to.path.now c.args.to.name.now c.args.build.now c.capture.new.self (since old mid) c.in-Ok.ensures.captured total (g.H.Host.patience c.capture.new.host) (g.H.Host.patience c.args.host.now) c.capture.ensures.patient before after c.requires.repeats
                 (since old new) (since mid end) (since end new) c.in-Err-run_between.error c.refuse.result
                 (since_since old end new whole c.refuse.ensures.extends ∙ ap (λ l. l ++ since end new) (since_since old mid end c.capture.ensures.extends c.run_between.ensures.extends)) run.1 c.refuse.ensures.answer,
           );
@@ -71,7 +71,7 @@ returns-in-Err-clause-answer g c =
     record {
       under = λ look agree. (
         c.args.to.turns,
-        unlisted_record look c.args.to.path.now (c.args.to.name.now, c.args.build.now) (since old mid) (since mid new) (since old new) c.in-Err.error c.refuse-in-Err.result (course (g.J.Jobs.total c.args.seat.now) (g.H.Host.patience c.args.host.now) before before)
+        unlisted_record (g.H.Host.listens c.args.host.now) look c.args.to.path.now (c.args.to.name.now, c.args.build.now) (since old mid) (since mid new) (since old new) c.in-Err.error c.refuse-in-Err.result (course (g.J.Jobs.total c.args.seat.now) (g.H.Host.patience c.args.host.now) before before)
             (since_since old mid new c.capture.ensures.extends c.refuse-in-Err.ensures.extends) c.in-Err.ensures.outcome c.refuse-in-Err.ensures.answer refl,
       );
     }

@@ -13,8 +13,8 @@ returns-in-Ok-archive-clause-archived g c =
     let new = g.H.Host.log c.archive.new.host in
     let name = name_of c.args.request.now.job in
     let after = c.capture.new.self in
-    let ran : Archiving g.W.World.steady g.W.World.answer after (g.H.Host.patience c.args.host.now) c.args.turns name (since mid new) (Ok tt) =
-    subst (λ (p : Option ℕ). Archiving g.W.World.steady g.W.World.answer after p c.args.turns name (since mid new) (Ok tt)) c.capture.ensures.patient c.in-Ok-archive.ensures.archiving in
+    let ran : Archiving (g.H.Host.listens c.args.host.now) g.W.World.steady g.W.World.answer after (g.H.Host.patience c.args.host.now) c.args.turns name (since mid new) (Ok tt) =
+    subst (λ (p : Option ℕ). Archiving (g.H.Host.listens c.args.host.now) g.W.World.steady g.W.World.answer after p c.args.turns name (since mid new) (Ok tt)) c.capture.ensures.patient c.in-Ok-archive.ensures.archiving in
     archived_so g.W.World.steady g.W.World.answer (g.H.Host.patience c.args.host.now) c.args.turns name c.args.request.now.build after (since old mid) (since mid new) c.in-Ok.ensures.captured (Ok tt) [] (since old new) c.ended_done.result
     (since_since old mid new c.capture.ensures.extends c.archive.ensures.extends ∙ sym (append-nil (since old mid ++ since mid new))) ran (c.ended_done.ensures, refl)
 
@@ -27,8 +27,8 @@ returns-in-Err-archive-clause-archived g c =
     let name = name_of c.args.request.now.job in
     let after = c.capture.new.self in
     let e = c.in-Err-archive.error in
-    let ran : Archiving g.W.World.steady g.W.World.answer after (g.H.Host.patience c.args.host.now) c.args.turns name (since mid end) (Err e) =
-    subst (λ (p : Option ℕ). Archiving g.W.World.steady g.W.World.answer after p c.args.turns name (since mid end) (Err e)) c.capture.ensures.patient c.in-Err-archive.ensures.archiving in
+    let ran : Archiving (g.H.Host.listens c.args.host.now) g.W.World.steady g.W.World.answer after (g.H.Host.patience c.args.host.now) c.args.turns name (since mid end) (Err e) =
+    subst (λ (p : Option ℕ). Archiving (g.H.Host.listens c.args.host.now) g.W.World.steady g.W.World.answer after p c.args.turns name (since mid end) (Err e)) c.capture.ensures.patient c.in-Err-archive.ensures.archiving in
     archived_so g.W.World.steady g.W.World.answer (g.H.Host.patience c.args.host.now) c.args.turns name c.args.request.now.build after (since old mid) (since mid end) c.in-Ok.ensures.captured (Err e) (since end new) (since old new) c.refuse.result
     (since_since old end new (since_extends old mid end c.capture.ensures.extends c.archive.ensures.extends) c.refuse.ensures.extends ∙ ap (λ l. l ++ since end new) (since_since old mid end c.capture.ensures.extends c.archive.ensures.extends)) ran c.refuse.ensures.answer
 

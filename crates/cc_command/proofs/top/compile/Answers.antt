@@ -23,8 +23,8 @@ returns-in-Ok-try_compile-clause-answer g c =
           let run = c.in-Ok-try_compile.ensures.promises.under look agreed in
           let after = means run.0 (g.J.Jobs.faults c.try_compile.new.seat) (g.J.Jobs.taken c.try_compile.new.seat) (g.J.Jobs.load c.try_compile.new.seat) in (
             run.0,
-            answers_named look c.name-name.result.now (name_of c.args.request.now.job) c.args.request.now.build (since old new) c.ended_done.result (course total (g.H.Host.patience c.args.host.now) before after) c.name-name.ensures
-                (answers_built look c.name-name.result.now c.args.request.now.build c.capture.new.self old mid new c.capture.ensures.extends c.try_compile.ensures.extends c.in-Ok.ensures.captured total (g.H.Host.patience c.capture.new.host) (g.H.Host.patience c.args.host.now) c.capture.ensures.patient before after c.requires.repeats
+            answers_named (g.H.Host.listens c.args.host.now) look c.name-name.result.now (name_of c.args.request.now.job) c.args.request.now.build (since old new) c.ended_done.result (course total (g.H.Host.patience c.args.host.now) before after) c.name-name.ensures
+                (answers_built (g.H.Host.listens c.args.host.now) look c.name-name.result.now c.args.request.now.build c.capture.new.self old mid new c.capture.ensures.extends c.try_compile.ensures.extends c.in-Ok.ensures.captured total (g.H.Host.patience c.capture.new.host) (g.H.Host.patience c.args.host.now) c.capture.ensures.patient before after c.requires.repeats
                 c.ended_done.result c.ended_done.ensures built.1 run.1),
           );
     }
@@ -49,11 +49,11 @@ returns-in-Err-try_compile-clause-answer g c =
           let run = c.in-Err-try_compile.ensures.promises.under look agreed in
           let after = means run.0 (g.J.Jobs.faults c.try_compile.new.seat) (g.J.Jobs.taken c.try_compile.new.seat) (g.J.Jobs.load c.try_compile.new.seat) in
           let went = course total (g.H.Host.patience c.args.host.now) before after in
-          let refused = halted_listed look c.name-name.result.now c.args.request.now.build c.capture.new.self old mid end c.capture.ensures.extends c.try_compile.ensures.extends c.in-Ok.ensures.captured total (g.H.Host.patience c.capture.new.host) (g.H.Host.patience c.args.host.now) c.capture.ensures.patient before after c.requires.repeats
+          let refused = halted_listed (g.H.Host.listens c.args.host.now) look c.name-name.result.now c.args.request.now.build c.capture.new.self old mid end c.capture.ensures.extends c.try_compile.ensures.extends c.in-Ok.ensures.captured total (g.H.Host.patience c.capture.new.host) (g.H.Host.patience c.args.host.now) c.capture.ensures.patient before after c.requires.repeats
           c.in-Err-try_compile.error run.1 in (
             run.0,
-            answers_named look c.name-name.result.now (name_of c.args.request.now.job) c.args.request.now.build (since old new) c.refuse.result went c.name-name.ensures
-                (answers_refused look (c.name-name.result.now, c.args.request.now.build) (since old end) (since end new) (since old new) c.in-Err-try_compile.error c.refuse.result went (since_since old end new whole c.refuse.ensures.extends) refused c.refuse.ensures.answer),
+            answers_named (g.H.Host.listens c.args.host.now) look c.name-name.result.now (name_of c.args.request.now.job) c.args.request.now.build (since old new) c.refuse.result went c.name-name.ensures
+                (answers_refused (g.H.Host.listens c.args.host.now) look (c.name-name.result.now, c.args.request.now.build) (since old end) (since end new) (since old new) c.in-Err-try_compile.error c.refuse.result went (since_since old end new whole c.refuse.ensures.extends) refused c.refuse.ensures.answer),
           );
     }
 
@@ -76,8 +76,8 @@ returns-in-Err-clause-answer g c =
     record {
       under = λ look agree. (
         c.args.turns,
-        answers_refused look (name_of c.args.request.now.job, c.args.request.now.build) (since old mid) (since mid new) (since old new) c.in-Err.error c.refuse-in-Err.result went (since_since old mid new c.capture.ensures.extends c.refuse-in-Err.ensures.extends)
-            (uncaptured look (name_of c.args.request.now.job, c.args.request.now.build) (since old mid) c.in-Err.error (terms_in (name_of c.args.request.now.job, c.args.request.now.build) (since old mid) went) before c.in-Err.ensures.outcome) c.refuse-in-Err.ensures.answer,
+        answers_refused (g.H.Host.listens c.args.host.now) look (name_of c.args.request.now.job, c.args.request.now.build) (since old mid) (since mid new) (since old new) c.in-Err.error c.refuse-in-Err.result went (since_since old mid new c.capture.ensures.extends c.refuse-in-Err.ensures.extends)
+            (uncaptured (g.H.Host.listens c.args.host.now) look (name_of c.args.request.now.job, c.args.request.now.build) (since old mid) c.in-Err.error (terms_in (g.H.Host.listens c.args.host.now) (name_of c.args.request.now.job, c.args.request.now.build) (since old mid) went) before c.in-Err.ensures.outcome) c.refuse-in-Err.ensures.answer,
       );
     }
 

@@ -14,7 +14,7 @@ returns-in-Some-clause-answer g c =
           let h = c.compile_recorded.ensures.answer.under look agree in
           let after = means h.0 (g.J.Jobs.faults c.compile_recorded.new.seat) (g.J.Jobs.taken c.compile_recorded.new.seat) (g.J.Jobs.load c.compile_recorded.new.seat) in (
             h.0,
-            recorded_job c.args.request.now.database _ _ _ (name_of c.args.request.now.job) c.args.request.now.build c.compile_recorded.result look part (course (g.J.Jobs.total c.args.seat.now) (g.H.Host.patience c.args.host.now) before after) c.in-Some.is c.as_str-path.ensures c.name-name.ensures h.1,
+            recorded_job (g.H.Host.listens c.args.host.now) c.args.request.now.database _ _ _ (name_of c.args.request.now.job) c.args.request.now.build c.compile_recorded.result look part (course (g.J.Jobs.total c.args.seat.now) (g.H.Host.patience c.args.host.now) before after) c.in-Some.is c.as_str-path.ensures c.name-name.ensures h.1,
           );
     }
 
@@ -30,7 +30,7 @@ returns-in-None-clause-answer g c =
       under = λ look agree.
           let h = c.compile.ensures.answer.under look agree in
           let after = means h.0 (g.J.Jobs.faults c.compile.new.seat) (g.J.Jobs.taken c.compile.new.seat) (g.J.Jobs.load c.compile.new.seat) in
-          (h.0, plain_job c.args.request.now.database (name_of c.args.request.now.job, c.args.request.now.build) c.compile.result look part (course (g.J.Jobs.total c.args.seat.now) (g.H.Host.patience c.args.host.now) before after) c.in-None.is h.1);
+          (h.0, plain_job (g.H.Host.listens c.args.host.now) c.args.request.now.database (name_of c.args.request.now.job, c.args.request.now.build) c.compile.result look part (course (g.J.Jobs.total c.args.seat.now) (g.H.Host.patience c.args.host.now) before after) c.in-None.is h.1);
     }
 
 pub returns-in-None-clause-asked : goal.returns-in-None-clause-asked

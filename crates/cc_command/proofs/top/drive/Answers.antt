@@ -21,7 +21,7 @@ returns-clause-built g c =
       under = λ look agree.
           let run = c.run.ensures.answer.under look agree in
           let after = means run.0 (g.J.Jobs.faults c.run.new.seat) (g.J.Jobs.taken c.run.new.seat) (g.J.Jobs.load c.run.new.seat) in
-          (run.0, headline look (asked_for c.args.words.now) part c.run.result (course (g.J.Jobs.total c.args.seat.now) (g.H.Host.patience c.args.host.now) before after) run.1);
+          (run.0, headline (g.H.Host.listens c.args.host.now) look (asked_for c.args.words.now) part c.run.result (course (g.J.Jobs.total c.args.seat.now) (g.H.Host.patience c.args.host.now) before after) run.1);
     }
 
 pub returns-clause-promises : goal.returns-clause-promises
@@ -32,7 +32,7 @@ returns-clause-promises g c =
       under = λ look agree.
           let run = c.run.ensures.answer.under look agree in
           let after = means run.0 (g.J.Jobs.faults c.run.new.seat) (g.J.Jobs.taken c.run.new.seat) (g.J.Jobs.load c.run.new.seat) in
-          (run.0, promised (asked_for c.args.words.now) c.run.result look part (course (g.J.Jobs.total c.args.seat.now) (g.H.Host.patience c.args.host.now) before after) run.1);
+          (run.0, promised (g.H.Host.listens c.args.host.now) (asked_for c.args.words.now) c.run.result look part (course (g.J.Jobs.total c.args.seat.now) (g.H.Host.patience c.args.host.now) before after) run.1);
     }
 
 pub returns-clause-recorded : goal.returns-clause-recorded
@@ -43,13 +43,13 @@ returns-clause-recorded g c =
       under = λ look agree.
           let run = c.run.ensures.answer.under look agree in
           let after = means run.0 (g.J.Jobs.faults c.run.new.seat) (g.J.Jobs.taken c.run.new.seat) (g.J.Jobs.load c.run.new.seat) in
-          (run.0, record_promises look (asked_for c.args.words.now) part c.run.result (course (g.J.Jobs.total c.args.seat.now) (g.H.Host.patience c.args.host.now) before after) run.1);
+          (run.0, record_promises (g.H.Host.listens c.args.host.now) look (asked_for c.args.words.now) part c.run.result (course (g.J.Jobs.total c.args.seat.now) (g.H.Host.patience c.args.host.now) before after) run.1);
     }
 
 pub returns-clause-archived : goal.returns-clause-archived
 returns-clause-archived g c =
     let part = since (g.H.Host.log c.args.host.now) (g.H.Host.log c.run.new.host) in
-    archive_promises g.W.World.steady g.W.World.answer (g.H.Host.patience c.args.host.now) c.args.turns part c.run.result (asked_for c.args.words.now) c.run.ensures.archived
+    archive_promises (g.H.Host.listens c.args.host.now) g.W.World.steady g.W.World.answer (g.H.Host.patience c.args.host.now) c.args.turns part c.run.result (asked_for c.args.words.now) c.run.ensures.archived
 
 pub returns-clause-generated : goal.returns-clause-generated
 returns-clause-generated g c =
@@ -59,12 +59,12 @@ returns-clause-generated g c =
 pub returns-clause-expanded : goal.returns-clause-expanded
 returns-clause-expanded g c =
     let part = since (g.H.Host.log c.args.host.now) (g.H.Host.log c.run.new.host) in
-    expand_promises g.W.World.steady g.W.World.answer part c.run.result (asked_for c.args.words.now) c.run.ensures.expanded
+    expand_promises (g.H.Host.listens c.args.host.now) g.W.World.steady g.W.World.answer part c.run.result (asked_for c.args.words.now) c.run.ensures.expanded
 
 pub returns-clause-shown : goal.returns-clause-shown
 returns-clause-shown g c =
     let part = since (g.H.Host.log c.args.host.now) (g.H.Host.log c.run.new.host) in
-    show_promises g.W.World.steady g.W.World.answer part c.run.result (asked_for c.args.words.now) c.run.ensures.shown
+    show_promises (g.H.Host.listens c.args.host.now) g.W.World.steady g.W.World.answer part c.run.result (asked_for c.args.words.now) c.run.ensures.shown
 
 pub returns-clause-printed : goal.returns-clause-printed
 returns-clause-printed g c =
@@ -73,7 +73,7 @@ returns-clause-printed g c =
     let before = means c.args.turns (g.J.Jobs.faults c.args.seat.now) (g.J.Jobs.taken c.args.seat.now) (g.J.Jobs.load c.args.seat.now) in
     let on : ℕ → Course = λ left. course (g.J.Jobs.total c.args.seat.now) patience before (means left (g.J.Jobs.faults c.run.new.seat) (g.J.Jobs.taken c.run.new.seat) (g.J.Jobs.load c.run.new.seat)) in
     let words = asked_for c.args.words.now in
-    prints_last g.W.World.steady g.W.World.answer patience c.args.turns part c.run.result words (said g.W.World.steady g.W.World.answer patience c.args.turns part c.run.result words on c.run.ensures.asked c.run.ensures.answer c.run.ensures.archived c.run.ensures.generated c.run.ensures.expanded c.run.ensures.shown)
+    prints_last (g.H.Host.listens c.args.host.now) g.W.World.steady g.W.World.answer patience c.args.turns part c.run.result words (said (g.H.Host.listens c.args.host.now) g.W.World.steady g.W.World.answer patience c.args.turns part c.run.result words on c.run.ensures.asked c.run.ensures.answer c.run.ensures.archived c.run.ensures.generated c.run.ensures.expanded c.run.ensures.shown)
 
 pub returns-clause-faults_last : goal.returns-clause-faults_last
 returns-clause-faults_last g c =
@@ -82,7 +82,7 @@ returns-clause-faults_last g c =
     let before = means c.args.turns (g.J.Jobs.faults c.args.seat.now) (g.J.Jobs.taken c.args.seat.now) (g.J.Jobs.load c.args.seat.now) in
     let on : ℕ → Course = λ left. course (g.J.Jobs.total c.args.seat.now) patience before (means left (g.J.Jobs.faults c.run.new.seat) (g.J.Jobs.taken c.run.new.seat) (g.J.Jobs.load c.run.new.seat)) in
     let words = asked_for c.args.words.now in
-    faults_last g.W.World.steady g.W.World.answer patience c.args.turns part c.run.result words (said g.W.World.steady g.W.World.answer patience c.args.turns part c.run.result words on c.run.ensures.asked c.run.ensures.answer c.run.ensures.archived c.run.ensures.generated c.run.ensures.expanded c.run.ensures.shown)
+    faults_last (g.H.Host.listens c.args.host.now) g.W.World.steady g.W.World.answer patience c.args.turns part c.run.result words (said (g.H.Host.listens c.args.host.now) g.W.World.steady g.W.World.answer patience c.args.turns part c.run.result words on c.run.ensures.asked c.run.ensures.answer c.run.ensures.archived c.run.ensures.generated c.run.ensures.expanded c.run.ensures.shown)
 
 pub returns-clause-settled : goal.returns-clause-settled
 returns-clause-settled g c =
@@ -91,4 +91,4 @@ returns-clause-settled g c =
     let before = means c.args.turns (g.J.Jobs.faults c.args.seat.now) (g.J.Jobs.taken c.args.seat.now) (g.J.Jobs.load c.args.seat.now) in
     let on : ℕ → Course = λ left. course (g.J.Jobs.total c.args.seat.now) patience before (means left (g.J.Jobs.faults c.run.new.seat) (g.J.Jobs.taken c.run.new.seat) (g.J.Jobs.load c.run.new.seat)) in
     let words = asked_for c.args.words.now in
-    settled g.W.World.steady g.W.World.answer patience c.args.turns part c.run.result words (said g.W.World.steady g.W.World.answer patience c.args.turns part c.run.result words on c.run.ensures.asked c.run.ensures.answer c.run.ensures.archived c.run.ensures.generated c.run.ensures.expanded c.run.ensures.shown)
+    settled (g.H.Host.listens c.args.host.now) g.W.World.steady g.W.World.answer patience c.args.turns part c.run.result words (said (g.H.Host.listens c.args.host.now) g.W.World.steady g.W.World.answer patience c.args.turns part c.run.result words on c.run.ensures.asked c.run.ensures.answer c.run.ensures.archived c.run.ensures.generated c.run.ensures.expanded c.run.ensures.shown)

@@ -24,7 +24,7 @@ returns-in-Ok-clause-answer g c =
           let served = c.serve.ensures.answer.under look agree in
           let after = means served.0 (g.J.Jobs.faults c.serve.new.seat) (g.J.Jobs.taken c.serve.new.seat) (g.J.Jobs.load c.serve.new.seat) in (
             served.0,
-            answers_read look (asked_for c.args.invocation.words.now) (Ok (wish_of c.in-Ok.request.job c.in-Ok.request.database c.in-Ok.request.build)) (since (g.H.Host.log c.args.host.now) (g.H.Host.log c.serve.new.host)) c.serve.result
+            answers_read (g.H.Host.listens c.args.host.now) look (asked_for c.args.invocation.words.now) (Ok (wish_of c.in-Ok.request.job c.in-Ok.request.database c.in-Ok.request.build)) (since (g.H.Host.log c.args.host.now) (g.H.Host.log c.serve.new.host)) c.serve.result
                 (course (g.J.Jobs.total c.args.seat.now) (g.H.Host.patience c.args.host.now) before after) c.in-Ok.ensures.ok served.1,
           );
     }
@@ -41,7 +41,7 @@ returns-in-Err-Bad-clause-answer g c =
     record {
       under = λ look agree. (
         c.args.invocation.turns,
-        answers_read look words (Err c.in-Err-Bad.bad) (since (g.H.Host.log c.args.host.now) (g.H.Host.log c.refuse_word.new.host)) c.refuse_word.result (course (g.J.Jobs.total c.args.seat.now) (g.H.Host.patience c.args.host.now) start start)
+        answers_read (g.H.Host.listens c.args.host.now) look words (Err c.in-Err-Bad.bad) (since (g.H.Host.log c.args.host.now) (g.H.Host.log c.refuse_word.new.host)) c.refuse_word.result (course (g.J.Jobs.total c.args.seat.now) (g.H.Host.patience c.args.host.now) start start)
             (bad_read words c.in-Err-Bad.field-0 c.in-Err-Bad.bad c.in-Err-Bad.field-0-is c.in-Err-Bad.ensures.refused) (c.refuse_word.ensures.answer, refl),
       );
     }
@@ -52,7 +52,7 @@ returns-in-Err-NoMemory-clause-answer g c =
     record {
       under = λ look agree. (
         c.args.invocation.turns,
-        answers_wanting look (asked_for c.args.invocation.words.now) (g.H.Host.log c.args.host.now) c.ended_wanting.result (course (g.J.Jobs.total c.args.seat.now) (g.H.Host.patience c.args.host.now) start start)
+        answers_wanting (g.H.Host.listens c.args.host.now) look (asked_for c.args.invocation.words.now) (g.H.Host.log c.args.host.now) c.ended_wanting.result (course (g.J.Jobs.total c.args.seat.now) (g.H.Host.patience c.args.host.now) start start)
             c.ended_wanting.ensures refl,
       );
     }
@@ -60,18 +60,18 @@ returns-in-Err-NoMemory-clause-answer g c =
 pub returns-in-Ok-clause-archived : goal.returns-in-Ok-clause-archived
 returns-in-Ok-clause-archived g c =
     let part = since (g.H.Host.log c.args.host.now) (g.H.Host.log c.serve.new.host) in
-    subst (λ words. IfArchives words (λ q. Archived g.W.World.steady g.W.World.answer q (g.H.Host.patience c.args.host.now) c.args.invocation.turns part c.serve.result)) (sym c.in-Ok.ensures.ok) c.serve.ensures.archived
+    subst (λ words. IfArchives words (λ q. Archived (g.H.Host.listens c.args.host.now) g.W.World.steady g.W.World.answer q (g.H.Host.patience c.args.host.now) c.args.invocation.turns part c.serve.result)) (sym c.in-Ok.ensures.ok) c.serve.ensures.archived
 
 pub returns-in-Err-Bad-clause-archived : goal.returns-in-Err-Bad-clause-archived
 returns-in-Err-Bad-clause-archived g c =
     let words = asked_for c.args.invocation.words.now in
     let part = since (g.H.Host.log c.args.host.now) (g.H.Host.log c.refuse_word.new.host) in
-    subst (λ w. IfArchives w (λ q. Archived g.W.World.steady g.W.World.answer q (g.H.Host.patience c.args.host.now) c.args.invocation.turns part c.refuse_word.result))
+    subst (λ w. IfArchives w (λ q. Archived (g.H.Host.listens c.args.host.now) g.W.World.steady g.W.World.answer q (g.H.Host.patience c.args.host.now) c.args.invocation.turns part c.refuse_word.result))
     (sym (bad_read words c.in-Err-Bad.field-0 c.in-Err-Bad.bad c.in-Err-Bad.field-0-is c.in-Err-Bad.ensures.refused)) tt
 
 pub returns-in-Err-NoMemory-clause-archived : goal.returns-in-Err-NoMemory-clause-archived
 returns-in-Err-NoMemory-clause-archived g c =
-    archived_wanting g.W.World.steady g.W.World.answer (g.H.Host.patience c.args.host.now) c.args.invocation.turns (g.H.Host.log c.args.host.now) (asked_for c.args.invocation.words.now) c.ended_wanting.result c.ended_wanting.ensures
+    archived_wanting (g.H.Host.listens c.args.host.now) g.W.World.steady g.W.World.answer (g.H.Host.patience c.args.host.now) c.args.invocation.turns (g.H.Host.log c.args.host.now) (asked_for c.args.invocation.words.now) c.ended_wanting.result c.ended_wanting.ensures
 
 pub returns-in-Err-NoMemory-clause-asked : goal.returns-in-Err-NoMemory-clause-asked
 returns-in-Err-NoMemory-clause-asked g c = asked_wanting g.W.World.steady g.W.World.answer (g.H.Host.log c.args.host.now) (asked_for c.args.invocation.words.now)
@@ -94,34 +94,34 @@ returns-in-Err-NoMemory-clause-generated g c = sums_wanting c.args.invocation.tu
 pub returns-in-Ok-clause-expanded : goal.returns-in-Ok-clause-expanded
 returns-in-Ok-clause-expanded g c =
     let part = since (g.H.Host.log c.args.host.now) (g.H.Host.log c.serve.new.host) in
-    subst (λ words. IfExpands words (λ b. Expanded g.W.World.steady g.W.World.answer b part c.serve.result)) (sym c.in-Ok.ensures.ok) c.serve.ensures.expanded
+    subst (λ words. IfExpands words (λ b. Expanded (g.H.Host.listens c.args.host.now) g.W.World.steady g.W.World.answer b part c.serve.result)) (sym c.in-Ok.ensures.ok) c.serve.ensures.expanded
 
 pub returns-in-Err-Bad-clause-expanded : goal.returns-in-Err-Bad-clause-expanded
 returns-in-Err-Bad-clause-expanded g c =
     let words = asked_for c.args.invocation.words.now in
     let part = since (g.H.Host.log c.args.host.now) (g.H.Host.log c.refuse_word.new.host) in
-    subst (λ w. IfExpands w (λ b. Expanded g.W.World.steady g.W.World.answer b part c.refuse_word.result))
+    subst (λ w. IfExpands w (λ b. Expanded (g.H.Host.listens c.args.host.now) g.W.World.steady g.W.World.answer b part c.refuse_word.result))
     (sym (bad_read words c.in-Err-Bad.field-0 c.in-Err-Bad.bad c.in-Err-Bad.field-0-is c.in-Err-Bad.ensures.refused)) tt
 
 pub returns-in-Err-NoMemory-clause-expanded : goal.returns-in-Err-NoMemory-clause-expanded
 returns-in-Err-NoMemory-clause-expanded g c =
-    expanded_wanting g.W.World.steady g.W.World.answer (g.H.Host.log c.args.host.now) (asked_for c.args.invocation.words.now) c.ended_wanting.result c.ended_wanting.ensures
+    expanded_wanting (g.H.Host.listens c.args.host.now) g.W.World.steady g.W.World.answer (g.H.Host.log c.args.host.now) (asked_for c.args.invocation.words.now) c.ended_wanting.result c.ended_wanting.ensures
 
 pub returns-in-Ok-clause-shown : goal.returns-in-Ok-clause-shown
 returns-in-Ok-clause-shown g c =
     let part = since (g.H.Host.log c.args.host.now) (g.H.Host.log c.serve.new.host) in
-    subst (λ words. IfShows words (λ b. Shown g.W.World.steady g.W.World.answer b part c.serve.result)) (sym c.in-Ok.ensures.ok) c.serve.ensures.shown
+    subst (λ words. IfShows words (λ b. Shown (g.H.Host.listens c.args.host.now) g.W.World.steady g.W.World.answer b part c.serve.result)) (sym c.in-Ok.ensures.ok) c.serve.ensures.shown
 
 pub returns-in-Err-Bad-clause-shown : goal.returns-in-Err-Bad-clause-shown
 returns-in-Err-Bad-clause-shown g c =
     let words = asked_for c.args.invocation.words.now in
     let part = since (g.H.Host.log c.args.host.now) (g.H.Host.log c.refuse_word.new.host) in
-    subst (λ w. IfShows w (λ b. Shown g.W.World.steady g.W.World.answer b part c.refuse_word.result))
+    subst (λ w. IfShows w (λ b. Shown (g.H.Host.listens c.args.host.now) g.W.World.steady g.W.World.answer b part c.refuse_word.result))
     (sym (bad_read words c.in-Err-Bad.field-0 c.in-Err-Bad.bad c.in-Err-Bad.field-0-is c.in-Err-Bad.ensures.refused)) tt
 
 pub returns-in-Err-NoMemory-clause-shown : goal.returns-in-Err-NoMemory-clause-shown
 returns-in-Err-NoMemory-clause-shown g c =
-    shown_wanting g.W.World.steady g.W.World.answer (g.H.Host.log c.args.host.now) (asked_for c.args.invocation.words.now) c.ended_wanting.result c.ended_wanting.ensures
+    shown_wanting (g.H.Host.listens c.args.host.now) g.W.World.steady g.W.World.answer (g.H.Host.log c.args.host.now) (asked_for c.args.invocation.words.now) c.ended_wanting.result c.ended_wanting.ensures
 
 pub returns-in-Err-Bad-clause-asked : goal.returns-in-Err-Bad-clause-asked
 returns-in-Err-Bad-clause-asked g c =

@@ -26,5 +26,5 @@ returns-in-Err-clause-shown g c =
     let old = g.H.Host.log c.args.host.now in
     let mid = g.H.Host.log c.capture.new.host in
     let new = g.H.Host.log c.refuse-in-Err.new.host in
-    unshown g.W.World.steady g.W.World.answer c.args.request.now.build (since old mid) (since mid new) (since old new) c.in-Err.error c.refuse-in-Err.result
+    unshown (g.H.Host.listens c.args.host.now) g.W.World.steady g.W.World.answer c.args.request.now.build (since old mid) (since mid new) (since old new) c.in-Err.error c.refuse-in-Err.result
     (since_since old mid new c.capture.ensures.extends c.refuse-in-Err.ensures.extends) c.capture.ensures.asks_none c.in-Err.ensures.outcome c.refuse-in-Err.ensures.answer
