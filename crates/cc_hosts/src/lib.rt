@@ -16,6 +16,7 @@ mod look_up;
 mod plain;
 mod process_host;
 mod reason;
+mod replaced;
 mod running;
 mod standard;
 mod watched;

@@ -7,6 +7,7 @@ use crate::child::{self, Begun, Closed, Ended, Streams};
 use crate::disk::{create_new, remove};
 use crate::entry::list_vars;
 use crate::reason::why_of;
+use crate::replaced::{name_beside, replace};
 use crate::running::{self, Process};
 use crate::watched::Watched;
 use crate::watchers::Watchers;
@@ -51,6 +52,9 @@ impl World for Real {
 /// A child whose standard error isn't heard writes it nowhere. Refused for memory, a call that started nothing did nothing, and a turn
 /// loses nothing: the next one has it. A command of `output` or `probe` whose end can't be kept did run: its end is lost, and no event is
 /// noted.
+///
+/// A file that couldn't be written whole is as it was, unless it had to be written in place, as a device, or one whose folder takes no new
+/// file.
 #[derive(Drop)]
 pub struct ProcessHost<R: Processes + Threads + Wait + Copy> {
     rt: R,
@@ -355,7 +359,10 @@ where
         self.log.reserve(1)?;
         let name = Text::of(self.alloc, path)?;
         let bytes = Bytes::of(self.alloc, contents)?;
-        match fs::write(&self.rt, path, contents) {
+        self.drawn = self.drawn.wrapping_add(1);
+        let word = random_word(&self.rt, self.drawn);
+        let beside = name_beside(self.alloc, path, word)?;
+        match replace(&self.rt, path, beside.as_str(), contents) {
             Ok(()) => {
                 self.log.note(Event::Wrote { path: name, bytes });
                 Ok(())
