@@ -1,4 +1,4 @@
-use Rattle.std.proofs.Common.{◌≡◌, ◌+◌, arith, Ok, Err, length, ◌∙◌}
+use Rattle.std.proofs.Common.{◌≡◌, ◌+◌, arith, Ok, Err, length, refl, ◌∙◌}
 use Rattle.std.proofs.lemmas.Grind.{common_steps}
 use Rattle.cc_host.specs.Part.{since}
 use Rattle.cc_run.specs.Part.{turns}
@@ -6,10 +6,28 @@ use Rattle.cc_run.specs.declared.error.Step.{Step}
 use Rattle.cc_run.specs.declared.error.Step.TheVariants.{Ready, Pending}
 use Rattle.cc_run.proofs.KeepingLemmas.{keeps_then}
 use Rattle.cc_run.proofs.Payments.{paid_then}
-use Rattle.cc_run.proofs.PrintingLemmas.{kept_then, printed_then}
+use Rattle.cc_run.proofs.PrintingLemmas.{kept_then, nothing_printed, printed_then}
 use Rattle.cc_run.proofs.Runs.{goes_on, named_then, turns_both}
 use Rattle.cc_run.proofs.OwnLemmas.{own_then}
 use Rattle.cc_run.proofs.spawn.SpawnState.poll.Goals as goal
+
+pub loop-running-init : goal.loop-running-init
+loop-running-init g c = record {
+  one_run = grind (arith, common_steps);
+  within = grind (arith, common_steps);
+  keeps = grind (arith, common_steps);
+  patient = grind (arith, common_steps);
+  goes = grind (arith, common_steps);
+  named = grind (arith, common_steps);
+  turns = grind (arith, common_steps);
+  grew = grind (arith, common_steps);
+  more = grind (arith, common_steps);
+  failed = grind (arith, common_steps);
+  paid = grind (arith, common_steps);
+  own = grind (arith, common_steps);
+  kept = grind (arith, common_steps);
+  lines = λ warns. nothing_printed c.args.shows.now warns c.args.cmds.now c.args.running.now (g.H.Host.log c.args.host.now) (g.H.Host.log c.args.host.now) refl;
+}
 
 pub loop-running-preserved : goal.loop-running-preserved
 loop-running-preserved g c =
