@@ -345,9 +345,6 @@ unturned_printed U shows warns cmds k old new (StartFault n) h = absurd h
 unturned_printed U shows warns cmds k old new JobFault h = absurd h
 
 -- nothing was done
-pub nothing_in_time : (shows : Shows) (warns : Bool) (cmds : List Planned) (k : Kept) (log : List Event) → PrintsInTime shows warns cmds k (since log log)
-nothing_in_time shows warns cmds k log = unstarted_in_time shows warns cmds k (since log log) (ap starts (nothing_since log log refl))
-
 pub nothing_printed : (shows : Shows) (warns : Bool) (cmds : List Planned) (k : Kept) (old new : List Event) → new ≡ old → (printed (since old new) ≡ due_from shows warns cmds k (since old new)) × PrintsInTime shows warns cmds k (since old new)
 nothing_printed shows warns cmds k old new e = subst (λ p. (printed p ≡ due_from shows warns cmds k p) × PrintsInTime shows warns cmds k p) (sym (nothing_since old new e)) (refl, unstarted_in_time shows warns cmds k [] refl)
 

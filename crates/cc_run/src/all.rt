@@ -104,7 +104,6 @@ pub(crate) fn outcome_of(running: &Running) -> Result<(), RunError>
 }
 
 // Runs passes until every command has ended, or the run can't go on.
-#[tactic(auto, using(crate::proofs::PrintingLemmas::nothing_in_time))]
 fn run_passes<W: World, H: Host<W>, J: Jobs>(
     host: &mut H,
     seat: &mut J::Seat,

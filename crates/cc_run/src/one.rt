@@ -28,7 +28,6 @@ use std::alloc::Global;
 use std::slice;
 
 // Makes turns until the children of a run whose commands were all started have ended.
-#[tactic(auto, using(crate::proofs::PrintingLemmas::nothing_in_time))]
 fn wait_out<W: World, H: Host<W>, J: Jobs>(
     host: &mut H,
     seat: &mut J::Seat,

@@ -130,7 +130,6 @@ impl SpawnState {
     ///
     /// Refused are a missing program, a fault of the host or of the pool, and want of memory: no command more is started
     /// then, and the token of the start that ended it was given back. Those that were started before run on.
-    #[tactic(auto, using(crate::proofs::PrintingLemmas::nothing_in_time))]
     pub fn poll<W: World, H: Host<W>, J: Jobs>(
         &mut self,
         host: &mut H,

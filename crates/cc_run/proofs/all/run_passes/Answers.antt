@@ -1,15 +1,34 @@
-use Rattle.std.proofs.Common.{◌≡◌, ◌+◌, Ok, Err, Bool, true, false, length, arith, ◌∙◌}
+use Rattle.std.proofs.Common.{◌≡◌, ◌+◌, Ok, Err, Bool, true, false, length, arith, refl, ◌∙◌}
 use Rattle.std.proofs.lemmas.Grind.{common_steps}
 use Rattle.cc_host.specs.Part.{since}
+use Rattle.cc_run.specs.Children.{run_of}
 use Rattle.cc_run.specs.Part.{turns}
-use Rattle.cc_run.proofs.Runs.{goes_on, turns_both, named_then}
+use Rattle.cc_run.specs.Planned.{asked}
+use Rattle.cc_run.proofs.Runs.{goes_none, goes_on, turns_both, named_then}
 use Rattle.cc_run.specs.Paid.{PaidAnd}
 use Rattle.cc_run.proofs.KeepingLemmas.{keeps_then, made_then}
 use Rattle.cc_run.proofs.Payments.{paid_then, paid_any}
-use Rattle.cc_run.proofs.PatienceLemmas.{lasts_then}
+use Rattle.cc_run.proofs.PatienceLemmas.{lasts_none, lasts_then}
 use Rattle.cc_run.proofs.OwnLemmas.{own_then}
-use Rattle.cc_run.proofs.PrintingLemmas.{kept_then, printed_then, printed_outcome}
+use Rattle.cc_run.proofs.PrintingLemmas.{kept_then, nothing_printed, printed_then, printed_outcome}
 use Rattle.cc_run.proofs.all.run_passes.Goals as goal
+
+pub passes-init : goal.passes-init
+passes-init g c = record {
+  one_run = grind (arith, common_steps);
+  within = grind (arith, common_steps);
+  keeps = grind (arith, common_steps);
+  patient = grind (arith, common_steps);
+  goes = goes_none (g.J.Jobs.total c.args.seat.now) (asked c.args.batch.now.shows.now c.args.batch.now.cmds.now) (g.H.Host.log c.args.host.now) (run_of c.args.running.now);
+  unfinished = grind (arith, common_steps);
+  named = grind (arith, common_steps);
+  paid = grind (arith, common_steps);
+  lasts = lasts_none (g.J.Jobs.total c.args.seat.now) (g.H.Host.patience c.args.host.now) (g.H.Host.log c.args.host.now) (run_of c.args.running.now);
+  turns = grind (arith, common_steps);
+  own = grind (arith, common_steps);
+  kept = grind (arith, common_steps);
+  lines = nothing_printed c.args.batch.now.shows.now c.args.batch.now.warns c.args.batch.now.cmds.now c.args.running.now (g.H.Host.log c.args.host.now) (g.H.Host.log c.args.host.now) refl;
+}
 
 pub passes-preserved : goal.passes-preserved
 passes-preserved g c =

@@ -1,17 +1,35 @@
-use Rattle.std.proofs.Common.{◌≡◌, ◌+◌, ◌∙◌, Ok, Err, arith}
+use Rattle.std.proofs.Common.{◌≡◌, ◌+◌, ◌∙◌, Ok, Err, refl, arith}
 use Rattle.std.proofs.lemmas.Grind.{common_steps}
 use Rattle.cc_host.specs.Part.{since}
+use Rattle.cc_run.specs.Children.{run_of}
 use Rattle.cc_run.specs.Part.{turns}
 use Rattle.cc_run.specs.Planned.{asked}
 use Rattle.cc_run.specs.declared.error.Step.TheVariants.{Pending, Ready}
 use Rattle.cc_run.proofs.KeepingLemmas.{made_then}
-use Rattle.cc_run.proofs.PatienceLemmas.{lasts_then}
+use Rattle.cc_run.proofs.PatienceLemmas.{lasts_none, lasts_then}
 use Rattle.cc_run.specs.declared.error.Step.{Step}
-use Rattle.cc_run.proofs.PrintingLemmas.{kept_then, printed_then, printed_outcome}
-use Rattle.cc_run.proofs.Runs.{goes_on}
+use Rattle.cc_run.proofs.PrintingLemmas.{kept_then, nothing_printed, printed_then, printed_outcome}
+use Rattle.cc_run.proofs.Runs.{goes_none, goes_on}
 use Rattle.cc_run.proofs.SoloLemmas.{busy_whole, named_pair, turns_pair, loads_pair}
 use Rattle.cc_run.proofs.OwnLemmas.{own_then}
 use Rattle.cc_run.proofs.one.wait_out.Goals as goal
+
+pub turns-init : goal.turns-init
+turns-init g c = record {
+  one_run = grind (arith, common_steps);
+  begun = grind (arith, common_steps);
+  some = grind (arith, common_steps);
+  total = grind (arith, common_steps);
+  patient = grind (arith, common_steps);
+  goes = goes_none (g.J.Jobs.total c.args.seat.now) (asked c.args.batch.now.shows.now c.args.batch.now.cmds.now) (g.H.Host.log c.args.host.now) (run_of c.args.running.now);
+  named = grind (arith, common_steps);
+  free = grind (arith, common_steps);
+  lasts = lasts_none (g.J.Jobs.total c.args.seat.now) (g.H.Host.patience c.args.host.now) (g.H.Host.log c.args.host.now) (run_of c.args.running.now);
+  turns = grind (arith, common_steps);
+  own = grind (arith, common_steps);
+  kept = grind (arith, common_steps);
+  lines = nothing_printed c.args.batch.now.shows.now c.args.batch.now.warns c.args.batch.now.cmds.now c.args.running.now (g.H.Host.log c.args.host.now) (g.H.Host.log c.args.host.now) refl;
+}
 
 pub turns-preserved : goal.turns-preserved
 turns-preserved g c =
