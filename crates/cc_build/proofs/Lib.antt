@@ -3,7 +3,6 @@ pub mod ArchivingLaws
 pub mod Asking
 pub mod BesideLaws
 pub mod BuiltLaws
-pub mod SourceLaws
 pub mod Doing
 pub mod ExpandLaws
 pub mod FailedLaws
@@ -16,6 +15,7 @@ pub mod IntermediateLaws
 pub mod Keeping
 pub mod LinkingLaws
 pub mod Looks
+pub mod OpeningLaws
 pub mod OrderLaws
 pub mod Outcomes
 pub mod PartLaws
@@ -26,6 +26,7 @@ pub mod RerunLaws
 pub mod RunLaws
 pub mod Running
 pub mod SettledLaws
+pub mod SourceLaws
 pub mod Stages
 pub mod StopLaws
 pub mod SupportLaws

@@ -39,17 +39,18 @@ abbrev pub HereEnds : Bool → Result (Option (List ℕ)) ErrorSeen → List Eve
 HereEnds listens (Ok here) part = (is_some here ≡ listens) × CallsEnd {T = Unit {0}} (finding_steps here) part (Ok tt)
 HereEnds listens (Err e) part = (here : Option (List ℕ)) → is_some here ≡ listens → CallsEnd {T = Unit {0}} (finding_steps here) part (Err e)
 
--- the warnings were given to the host, and the folder was told, where the host listens; or the error has its cause
+-- the warnings were given to the host, and the folder was told, where the host listens; or the error has its cause. The questions right before it
+-- are the stage at which memory is wanted for the warnings.
 abbrev pub OpensEnd : Task → List (List ℕ) → Result (Option (List ℕ)) ErrorSeen → List Event → Course → Type 0
 OpensEnd task texts (Ok here) part c =
-    (is_some here ≡ task.reporting.shows.listens) × Went (task_terms task c) (calls (opening_of task.set.now task.reporting.shows.listens texts here)) part c.before c.after
+    (is_some here ≡ task.reporting.shows.listens) × Went (task_terms task c) (Asks ∷ calls (opening_of task.set.now task.reporting.shows.listens texts here)) part c.before c.after
 OpensEnd task texts (Err e) part c =
-    (here : Option (List ℕ)) → is_some here ≡ task.reporting.shows.listens → Halted (task_terms task c) None (calls (opening_of task.set.now task.reporting.shows.listens texts here)) part e c.before c.after
+    (here : Option (List ℕ)) → is_some here ≡ task.reporting.shows.listens → Halted (task_terms task c) None (Asks ∷ calls (opening_of task.set.now task.reporting.shows.listens texts here)) part e c.before c.after
 
--- what is planned for these objects was done
+-- what is planned for these objects was done, right behind questions
 abbrev pub PlanEnds : {T : Type 0} → Task → Plan → List Object → Result T ErrorSeen → List Event → Course → Type 0
 PlanEnds task plan objects result part c =
-    (here : Option (List ℕ)) × ((is_some here ≡ task.reporting.shows.listens) × Ends (task_terms task c) None (stages_of task.set.now plan objects here) part result c.before c.after)
+    (here : Option (List ℕ)) × ((is_some here ≡ task.reporting.shows.listens) × Ends (task_terms task c) None (Asks ∷ stages_of task.set.now plan objects here) part result c.before c.after)
 
 -- the sources were compiled
 abbrev pub CompileEnds : {T : Type 0} → Task → Result T ErrorSeen → Look → List Event → Course → Type 0

@@ -276,7 +276,8 @@ impl<W: World> Build<W> {
 
         // Each answer has its cause.
         ensures outcome { ByRun H.log H.patience J.total J.faults J.taken J.load turns
-            host.old host.new seat.old seat.new (IntermediateEnds self.now (H.listens host.old) result) }
+            host.old host.new seat.old seat.new
+            (IntermediateEnds self.now (H.listens host.old) result) }
         ensures settled { NothingRuns (part H.log host.old host.new) }
         ensures faults_last { FaultsEnd (part H.log host.old host.new) }
     {
@@ -318,11 +319,13 @@ impl<W: World> Build<W> {
 
         // Ok: the library is built.
         ensures built { ByRun H.log H.patience J.total J.faults J.taken J.load turns
-            host.old host.new seat.old seat.new (IsBuilt self.now (H.listens host.old) output.now result) }
+            host.old host.new seat.old seat.new
+            (IsBuilt self.now (H.listens host.old) output.now result) }
 
         // Each answer has its cause, and what follows from it, sentence by sentence.
         ensures promises { ByRun H.log H.patience J.total J.faults J.taken J.load turns
-            host.old host.new seat.old seat.new (Promises self.now (H.listens host.old) output.now result) }
+            host.old host.new seat.old seat.new
+            (Promises self.now (H.listens host.old) output.now result) }
         ensures settled { NothingRuns (part H.log host.old host.new) }
         ensures faults_last { FaultsEnd (part H.log host.old host.new) }
     {

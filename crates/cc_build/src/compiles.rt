@@ -1,6 +1,6 @@
 // The sources of a run are compiled. Before it the host is given the warnings of the plan, and one that listens is asked for the current folder,
 // which the messages of the commands name.
-ghost use Rattle.std.specs.Prelude.{◌≡◌, ◌+◌, ◌<◌, ◌^◌, [], ◌∷◌, ◌++◌, map, option_to_list, IfOk, OnOk};
+ghost use Rattle.std.specs.Prelude.{◌≡◌, ◌≢◌, ◌+◌, ◌<◌, ◌^◌, [], ◌∷◌, ◌++◌, map, option_to_list, IfOk, IfErr, OnOk};
 ghost use Rattle.std.specs.List.{flat_map, slice_get};
 ghost use Rattle.std.specs.Option.{option_copied, option_map};
 ghost use Rattle.cc_host.specs.Call.{part};
@@ -152,16 +152,21 @@ fn compiles_by(
     Ok(planned)
 }
 
-// The stages in which these objects are compiled, beside each other where there is more than one.
+// The stages in which these objects are compiled, beside each other where there is more than one. Memory is wanted only where there is one.
 fn compiling(
     alloc: Global,
     here: Option<&str>,
     objects: &[Object],
     cmds: &[Command],
 ) -> Mem<Vec<Stage>>
-    ensures { IfOk result (λ stages. stages_seen stages.items
+    ensures planned { IfOk result (λ stages. stages_seen stages.items
         ≡ beside (compiles_by (option_copied here.entry) objects.now cmds.now)) }
+    ensures wanted { IfErr result (λ _.
+        beside (compiles_by (option_copied here.entry) objects.now cmds.now) ≢ []) }
 {
+    if objects.is_empty() || cmds.is_empty() {
+        return Ok(Vec::new(alloc));
+    }
     let cmds = compiles_by(alloc, here, objects, cmds)?;
     if cmds.len() < 2 {
         return alone(alloc, cmds);
@@ -191,6 +196,7 @@ fn find_here<W: World, H: Host<W>>(
 }
 
 // Gives the host these warnings, and asks it for the current folder where it listens.
+#[tactic(auto, using(crate::proofs::Keeping::aside_none, crate::proofs::Keeping::aside_then))]
 fn open<W: World, H: Host<W>, J: Jobs>(
     task: &Task<'_>,
     host: &mut H,
@@ -215,7 +221,18 @@ fn open<W: World, H: Host<W>, J: Jobs>(
     find_here(alloc, host, listens)
 }
 
+// The folder, where it is known.
+fn known(here: &Option<Text>) -> Option<&str>
+    ensures { option_copied result ≡ here.now }
+{
+    match here {
+        Some(folder) => Some(folder.as_str()),
+        None => None,
+    }
+}
+
 /// Does what is planned for these objects.
+#[tactic(auto, using(crate::proofs::Keeping::aside_then))]
 pub(crate) fn do_plan<W: World, H: Host<W>, J: Jobs>(
     task: &Task<'_>,
     host: &mut H,
@@ -236,15 +253,7 @@ pub(crate) fn do_plan<W: World, H: Host<W>, J: Jobs>(
         host.old host.new seat.old seat.new (PlanEnds task.now plan.now objects.now result) }
 {
     let here = open(task, host, jobs, seat, turns, &plan.warnings)?;
-    let here = match &here {
-        Some(folder) => Some(folder.as_str()),
-        None => None,
-    };
-    let stages = compiling(
-        task.reporting.alloc,
-        here,
-        objects,
-        plan.compiles.as_slice(),
-    )?;
+    let cmds = plan.compiles.as_slice();
+    let stages = compiling(task.reporting.alloc, known(&here), objects, cmds)?;
     do_stages(task.reporting, host, jobs, seat, turns, &stages)
 }

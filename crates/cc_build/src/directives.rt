@@ -135,7 +135,8 @@ fn rerun_lines(alloc: Global, names: &[Text]) -> Mem<Words>
 // The lines as stages: the link lines that this run prints, and then those of the names.
 fn cargo_stages(alloc: Global, links: &[LinkLine], is_first: bool, names: &Words) -> Mem<Vec<Stage>>
     ensures { IfOk result (λ stages. stages_seen stages.items ≡ calls
-        (prints Link (printed_links is_first links.now)) ++ calls (prints Rerun (lines_of names.now))) }
+        (prints Link (printed_links is_first links.now))
+        ++ calls (prints Rerun (lines_of names.now))) }
 {
     let links = printed_texts(alloc, links, is_first)?;
     let names = rerun_lines(alloc, names.as_slice())?;

@@ -108,7 +108,8 @@ impl<W: World> Build<W> {
         ensures objects { IfOk result (λ paths.
             paths ≡ paths_of (objects_of self.now.config self.now.env)) }
         ensures outcome { ByRun H.log H.patience J.total J.faults J.taken J.load turns
-            host.old host.new seat.old seat.new (IntermediateEnds self.now (H.listens host.old) result) }
+            host.old host.new seat.old seat.new
+            (IntermediateEnds self.now (H.listens host.old) result) }
     {
         let (alloc, set, env) = (self.alloc, &self.config, &self.env);
         let shows = shows_of(set, env, host.listens());

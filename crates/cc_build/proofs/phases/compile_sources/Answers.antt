@@ -1,4 +1,4 @@
-use Rattle.std.proofs.Common.{◌≡◌, ◌∙◌, None, false, sym, ap, refl}
+use Rattle.std.proofs.Common.{◌∷◌, ◌∙◌, None}
 use Rattle.cc_host.specs.Part.{since}
 use Rattle.cc_plan.specs.Refusal.{late_refusal}
 use Rattle.cc_build.specs.Kept.{left_at}
@@ -9,7 +9,9 @@ use Rattle.cc_build.proofs.SourceLaws.{unfound, unfound_hears}
 use Rattle.cc_build.proofs.Going.{same_patience, asked_halted}
 use Rattle.cc_build.proofs.Growing.{asking_before}
 use Rattle.cc_build.specs.Stage.{compile_stages}
-use Rattle.cc_build.proofs.PhaseLaws.{found_of, phase_done, plan_stages}
+use Rattle.cc_build.specs.Stage.Stage.{Asks}
+use Rattle.cc_build.proofs.OpeningLaws.{phase_from}
+use Rattle.cc_build.proofs.PhaseLaws.{found_of, plan_stages}
 use Rattle.cc_build.proofs.phases.compile_sources.Goals as goal
 
 pub returns-in-Err-clause-outcome : goal.returns-in-Err-clause-outcome
@@ -55,9 +57,9 @@ returns-clause-outcome g c =
             found,
             (
               did.1.0,
-              phase_done t (plan_error set env c.args.shared.now.task.output.now) (late_refusal set env look) (compile_stages set env found look) old mid new x c.plan_compiles.ensures.asks.extends c.do_plan.ensures.aside.extends c.plan_compiles.ensures.quiet plan.allowed (stages_of set c.in-Ok.plan objects did.0) c.do_plan.result z
+              phase_from t (plan_error set env c.args.shared.now.task.output.now) (late_refusal set env look) (compile_stages set env found look) (stages_of set c.in-Ok.plan objects did.0) old mid new c.do_plan.result x z c.plan_compiles.ensures.asks.extends c.do_plan.ensures.aside.extends c.plan_compiles.ensures.quiet plan.allowed
                   (plan_stages c.args.shared.now.task c.in-Ok.plan objects look did.0 (c.as_slice.ensures.value ∙ c.requires.objects) plan)
-                  (same_patience c.args.shared.now.task.reporting.shows total (g.H.Host.patience c.plan_compiles.new.host) patience None (stages_of set c.in-Ok.plan objects did.0) (since mid new) c.do_plan.result x z c.plan_compiles.ensures.asks.patient did.1.1),
+                  (same_patience c.args.shared.now.task.reporting.shows total (g.H.Host.patience c.plan_compiles.new.host) patience None (Asks ∷ stages_of set c.in-Ok.plan objects did.0) (since mid new) c.do_plan.result x z c.plan_compiles.ensures.asks.patient did.1.1),
             ),
           );
     }
