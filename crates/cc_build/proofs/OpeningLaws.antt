@@ -1,5 +1,5 @@
 -- How what is planned for the objects is done: the warnings and the folder come first, and then the commands that compile them.
-use Rattle.std.proofs.Common.{◌≡◌, ◌≢◌, ◌⊎◌, inl, inr, ℕ, List, [], ◌∷◌, ◌++◌, length, Bool, true, false, nat_eq, Option, Some, None, is_some, Result, Ok, Err, IfErr, map, refl, sym, ◌∙◌, ap, subst, append_assoc, option_map}
+use Rattle.std.proofs.Common.{◌≡◌, ◌≢◌, ◌⊎◌, inl, inr, ℕ, List, [], ◌∷◌, ◌++◌, length, Bool, true, false, nat_eq, eqb-true, arith, Option, Some, None, is_some, Result, Ok, Err, IfErr, map, refl, sym, ◌∙◌, ap, subst, append_assoc, option_map}
 use Rattle.std.specs.List.{list_all, flat_map}
 use Rattle.std.specs.Cmp.Derive.{both_true}
 use Rattle.std.proofs.lemmas.List.{map-append}
@@ -136,7 +136,9 @@ module _ (task : Task) (texts : List (List ℕ)) (total patience : Option ℕ) w
 -- a list is empty as the code says
 pub nothing_in : {X : Type 0} (xs : List X) (is_empty : Bool) → is_empty ≡ nat_eq (length xs) 0 → is_empty ≡ true → xs ≡ []
 nothing_in [] is_empty tells empty = refl
-nothing_in (x ∷ xs) is_empty tells empty = absurd (let clash : true ≡ false = sym empty ∙ tells in cc)
+nothing_in (x ∷ xs) is_empty tells empty =
+    let none : length (x ∷ xs) ≡ 0 = eqb-true (length (x ∷ xs)) 0 (sym tells ∙ empty) in
+    absurd (omega (arith, none))
 
 pub something_in : {X : Type 0} (xs : List X) (is_empty : Bool) → is_empty ≡ nat_eq (length xs) 0 → is_empty ≡ false → xs ≢ []
 something_in [] is_empty tells filled = λ none. absurd (let clash : true ≡ false = sym tells ∙ filled in cc)

@@ -46,11 +46,7 @@ fn run_reads(set: &BuildConfig) -> Reads
 }
 
 // Makes the folder of the objects, where there is a source.
-#[tactic(
-    auto,
-    using(cc_host::proofs::Parts::since_append),
-    unfolding(cc_plan::specs::Plan::folder_steps)
-)]
+#[tactic(auto, using(cc_host::proofs::Parts::since_append), unfolding(cc_plan::specs::Plan::folder_steps))]
 pub(crate) fn prepare_folder<W: World, H: Host<W>>(
     alloc: Global,
     host: &mut H,
