@@ -1,20 +1,20 @@
 -- How what is planned for the objects is done: the warnings and the folder come first, and then the commands that compile them.
-use Rattle.std.proofs.Common.{◌≡◌, ◌≢◌, ◌⊎◌, inl, inr, ℕ, List, [], ◌∷◌, ◌++◌, length, Bool, true, false, nat_eq, eqb-true, arith, Option, Some, None, is_some, Result, Ok, Err, IfErr, map, refl, sym, ◌∙◌, ap, subst, append_assoc, option_map}
+use Rattle.std.proofs.Common.{◌≡◌, ◌≢◌, ◌⊎◌, inl, inr, ℕ, List, [], ◌∷◌, ◌++◌, length, Bool, true, false, nat_eq, eqb-true, arith, Option, Some, None, is_some, Result, Ok, Err, IfErr, refl, sym, ◌∙◌, ap, subst, append_assoc, option_map}
 use Rattle.std.specs.List.{list_all, flat_map}
 use Rattle.std.specs.Cmp.Derive.{both_true}
 use Rattle.std.proofs.lemmas.List.{map-append}
 use Rattle.std.proofs.lemmas.List.Folds.{list_all-append}
 use Rattle.cc_host.specs.Command.{CommandSeen}
-use Rattle.cc_host.specs.Part.{Step, since}
+use Rattle.cc_host.specs.Part.{since}
 use Rattle.cc_host.specs.declared.event.Event.{Event}
-use Rattle.cc_host.proofs.Parts.{since_since, since_extends}
+use Rattle.cc_host.proofs.Parts.{since_since}
 use Rattle.cc_plan.specs.Plan.{warned_steps, warning_steps}
 use Rattle.cc_plan.specs.declared.error.PlanError.{PlanError}
 use Rattle.cc_plan.specs.declared.object.Object.{Object}
 use Rattle.cc_plan.specs.declared.plan.Plan.{Plan}
 use Rattle.cc_plan.specs.declared.settings.BuildConfig.{BuildConfig}
 use Rattle.cc_tool.specs.Probing.{is_asked}
-use Rattle.cc_build.specs.Course.{course, CallsEnd}
+use Rattle.cc_build.specs.Course.{course}
 use Rattle.cc_build.specs.Error.{ErrorSeen, no_memory}
 use Rattle.cc_build.specs.Phases.{HereEnds, OpensEnd, PlanEnds}
 use Rattle.cc_build.specs.Seen.{opening_of, compiles_by}

@@ -1,29 +1,22 @@
 -- The planned compile commands: one for each source, with its message where the current folder is known.
-use Rattle.std.proofs.Common.{◌≡◌, ℕ, zero, suc, ◌+◌, ◌<◌, ◌≤◌, List, [], ◌∷◌, ◌++◌, length, map, drop, take, get_or, Bool, true, false, Option, Some, None, refl, sym, ◌∙◌, ap, ap₂, add-one, subst, append_assoc, append-nil, if◌then◌else◌}
+use Rattle.std.proofs.Common.{◌≡◌, ℕ, zero, suc, ◌+◌, ◌<◌, List, [], ◌∷◌, ◌++◌, length, map, drop, get_or, Bool, true, false, Option, Some, None, refl, sym, ◌∙◌, ap, ap₂, add-one, subst, append_assoc, append-nil, if◌then◌else◌}
 use Rattle.std.specs.Prelude.{option_to_list}
-use Rattle.std.specs.List.{All, flat_map, list_any, list_all, slice_get}
-use Rattle.std.specs.Option.{option_map}
+use Rattle.std.specs.List.{All, flat_map, list_all, slice_get}
 use Rattle.std.specs.Cmp.Derive.{both_true}
-use Rattle.std.proofs.lemmas.Grind.{flat_map-append, take_at_read}
-use Rattle.std.proofs.lemmas.List.{length-map, map-append}
+use Rattle.std.proofs.lemmas.List.{length-map}
 use Rattle.std.proofs.lemmas.List.Elements.{All-nil, All-cons}
 use Rattle.std.proofs.lemmas.List.Folds.{list_all-append}
 use Rattle.std.proofs.lemmas.Option.{slice_get_read}
 use Rattle.cc_env.specs.Env.{EnvSeen}
-use Rattle.cc_text.specs.Words.{when}
 use Rattle.cc_host.specs.Command.{CommandSeen}
 use Rattle.cc_host.specs.Part.{Step}
-use Rattle.cc_host.specs.Part.Step.{Runs, Makes, Removes, Writes, Copies, Finds, Says, Prints, Lists}
+use Rattle.cc_host.specs.Part.Step.{Finds, Says, Prints}
 use Rattle.cc_host.specs.Question.{Look}
-use Rattle.cc_host.specs.declared.event.LineKind.TheVariants.{Warning}
-use Rattle.cc_host.specs.declared.event.Message.TheVariants.{GeneralWarning}
-use Rattle.cc_host.specs.declared.event.Role.{Role}
 use Rattle.cc_host.specs.declared.event.Role.TheVariants.{Compile}
-use Rattle.cc_plan.specs.Link.{printed_line}
-use Rattle.cc_plan.specs.Plan.{compiles_of, objects_of, plan_warnings, warned_steps, warning_line, warning_steps}
+use Rattle.cc_plan.specs.Plan.{compiles_of, objects_of, plan_warnings, warned_steps, warning_steps}
 use Rattle.cc_plan.specs.declared.object.Object.{Object}
 use Rattle.cc_plan.specs.declared.settings.BuildConfig.{BuildConfig}
-use Rattle.cc_run.specs.Planned.{Asked, asked, asked_by}
+use Rattle.cc_run.specs.Planned.{asked, asked_by}
 use Rattle.cc_run.specs.declared.planned.Planned.{Planned}
 use Rattle.cc_run.specs.declared.planned.Shows.{Shows}
 use Rattle.cc_build.specs.Attempts.{to_attempt}

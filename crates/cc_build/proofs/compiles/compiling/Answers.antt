@@ -1,4 +1,4 @@
-use Rattle.std.proofs.Common.{arith, ◌≡◌, ◌≢◌, ◌∙◌, inl, inr, [], ap, sym}
+use Rattle.std.proofs.Common.{arith, ◌≢◌, ◌∙◌, inl, inr, [], ap, sym}
 use Rattle.std.specs.Option.{option_copied}
 use Rattle.cc_build.specs.Seen.{stages_seen, compiles_by}
 use Rattle.cc_build.specs.Stage.{beside}
