@@ -94,7 +94,7 @@ failed_of listens look q part ended c r many badly sound =
       (
         s.0.0,
         ap started r.cut ∙ flat_map-append started_of r.run r.line ∙ ap₂ (λ u v. u ++ v) s.0.1 (no_start r.line printed) ∙ append-nil (asked (shows_of set env listens) ps ++ s.0.0)
-        ∙ ap (λ l. l ++ s.0.0) (asked_planned (shows_of set env listens) set env r.finds.here look),
+            ∙ ap (λ l. l ++ s.0.0) (asked_planned (shows_of set env listens) set env r.finds.here look),
       ),
       ap abandoned r.cut ∙ flat_map-append abandoned_of r.run r.line ∙ ap₂ (λ u v. u ++ v) s.1 (none_left r.line printed),
     )
