@@ -90,7 +90,7 @@ module _ (listens : Bool) (look : Look) (name : List ℕ) (before after : BuildS
       (inl (is, (record { vars = k.vars; run = since mid new; cut = refl; built = built_taken built }, (finds_of listens way promises.hears, went))))
 
   -- it was refused behind the listing
-  pub halted_listed : (e : ErrorSeen) → Promises {T = Unit {0}} after listens name (Err e) look (since mid new) (course total p x y) → (finds : Findings listens) × Halted (terms_in listens (name, before) (since old new) (course total q x y)) (error_of look (name, before) (since old new)) (stages_of listens look (name, before) is_plain (since old new)) (since old new) e x y
+  pub halted_listed : (e : ErrorSeen) → Promises {T = Unit {0}} after listens name (Err e) look (since mid new) (course total p x y) → (finds : Findings listens) × Halted (terms_in listens (name, before) (since old new) (course total q x y)) (error_of look (name, before) (since old new)) (stages_of listens look (name, before) finds (since old new)) (since old new) e x y
   halted_listed e h =
       let promises = as_taken {T = Unit {0}} (Err e) h in
       let way = promises.way in

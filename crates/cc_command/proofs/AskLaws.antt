@@ -60,8 +60,8 @@ module _ (listens : Bool) (steady : Bool) (world : Question → Outcome) (patien
   prints_last (Ok (Records path q)) s = record_last listens s.0 path q part ended s.1 s.2
   prints_last (Ok (Archives q)) s = archived_last listens steady world q patience turns part ended s
   prints_last (Ok (Generates count)) s = summed_last count turns part ended s
-  prints_last (Ok (Expands b)) s = expanded_last steady world b part ended s
-  prints_last (Ok (Shows b)) s = shown_last steady world b part ended s
+  prints_last (Ok (Expands b)) s = expanded_last listens steady world b part ended s
+  prints_last (Ok (Shows b)) s = shown_last listens steady world b part ended s
   prints_last (Err bad) s = word_last bad part ended s
 
   pub faults_last : (words : Result Wish BadWord) → Said listens steady world patience turns words part ended → FaultsLast part
@@ -69,8 +69,8 @@ module _ (listens : Bool) (steady : Bool) (world : Question → Outcome) (patien
   faults_last (Ok (Records path q)) s = record_faults listens s.0 path q part ended s.1 s.2
   faults_last (Ok (Archives q)) s = archived_faults listens steady world q patience turns part ended s
   faults_last (Ok (Generates count)) s = summed_faults count turns part ended s
-  faults_last (Ok (Expands b)) s = expanded_faults steady world b part ended s
-  faults_last (Ok (Shows b)) s = shown_faults steady world b part ended s
+  faults_last (Ok (Expands b)) s = expanded_faults listens steady world b part ended s
+  faults_last (Ok (Shows b)) s = shown_faults listens steady world b part ended s
   faults_last (Err bad) s = word_faults bad part ended s
 
   pub settled : (words : Result Wish BadWord) → Said listens steady world patience turns words part ended → NothingRuns part
@@ -78,6 +78,6 @@ module _ (listens : Bool) (steady : Bool) (world : Question → Outcome) (patien
   settled (Ok (Records path q)) s = record_settled listens s.0 path q part ended s.1 s.2
   settled (Ok (Archives q)) s = archived_settled listens steady world q patience turns part ended s
   settled (Ok (Generates count)) s = summed_settled count turns part ended s
-  settled (Ok (Expands b)) s = expanded_settled steady world b part ended s
-  settled (Ok (Shows b)) s = shown_settled steady world b part ended s
+  settled (Ok (Expands b)) s = expanded_settled listens steady world b part ended s
+  settled (Ok (Shows b)) s = shown_settled listens steady world b part ended s
   settled (Err bad) s = word_settled bad part ended s

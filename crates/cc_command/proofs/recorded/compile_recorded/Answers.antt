@@ -16,16 +16,17 @@ returns-in-Ok-run_between-clause-answer g c =
     let new = g.H.Host.log c.run_between.new.host in
     let total = g.J.Jobs.total c.args.seat.now in
     let before = means c.args.to.turns (g.J.Jobs.faults c.args.seat.now) (g.J.Jobs.taken c.args.seat.now) (g.J.Jobs.load c.args.seat.now) in
-    record {
+    rw (sym c.capture.ensures.ear)
+    (record {
       under = λ look agree.
           let agreed = (agrees_since look old mid new c.capture.ensures.extends c.run_between.ensures.extends agree).1 in
           let run = c.in-Ok-run_between.ensures.answer.under look agreed in
           let after = means run.0 (g.J.Jobs.faults c.run_between.new.seat) (g.J.Jobs.taken c.run_between.new.seat) (g.J.Jobs.load c.run_between.new.seat) in (
             run.0,
-            recorded_done (g.H.Host.listens c.args.host.now) look c.args.to.path.now c.args.to.name.now c.args.build.now c.capture.new.self (since old mid) c.in-Ok.ensures.captured total (g.H.Host.patience c.capture.new.host) (g.H.Host.patience c.args.host.now) c.capture.ensures.patient before after c.requires.repeats
+            recorded_done (g.H.Host.listens c.capture.new.host) look c.args.to.path.now c.args.to.name.now c.args.build.now c.capture.new.self (since old mid) c.in-Ok.ensures.captured total (g.H.Host.patience c.capture.new.host) (g.H.Host.patience c.args.host.now) c.capture.ensures.patient before after c.requires.repeats
                 (since old new) (since mid new) c.ended_done.result (since_since old mid new c.capture.ensures.extends c.run_between.ensures.extends) run.1 c.ended_done.ensures,
           );
-    }
+    })
 
 pub returns-in-Ok-run_between-clause-asked : goal.returns-in-Ok-run_between-clause-asked
 returns-in-Ok-run_between-clause-asked g c =
@@ -40,18 +41,19 @@ returns-in-Err-run_between-clause-answer g c =
     let total = g.J.Jobs.total c.args.seat.now in
     let before = means c.args.to.turns (g.J.Jobs.faults c.args.seat.now) (g.J.Jobs.taken c.args.seat.now) (g.J.Jobs.load c.args.seat.now) in
     let whole = since_extends old mid end c.capture.ensures.extends c.run_between.ensures.extends in
-    record {
+    rw (sym c.capture.ensures.ear)
+    (record {
       under = λ look agree.
           let listed = (agrees_since look old end new whole c.refuse.ensures.extends agree).0 in
           let agreed = (agrees_since look old mid end c.capture.ensures.extends c.run_between.ensures.extends listed).1 in
           let run = c.in-Err-run_between.ensures.answer.under look agreed in
           let after = means run.0 (g.J.Jobs.faults c.run_between.new.seat) (g.J.Jobs.taken c.run_between.new.seat) (g.J.Jobs.load c.run_between.new.seat) in (
             run.0,
-            recorded_refused (g.H.Host.listens c.args.host.now) look c.args.to.path.now c.args.to.name.now c.args.build.now c.capture.new.self (since old mid) c.in-Ok.ensures.captured total (g.H.Host.patience c.capture.new.host) (g.H.Host.patience c.args.host.now) c.capture.ensures.patient before after c.requires.repeats
+            recorded_refused (g.H.Host.listens c.capture.new.host) look c.args.to.path.now c.args.to.name.now c.args.build.now c.capture.new.self (since old mid) c.in-Ok.ensures.captured total (g.H.Host.patience c.capture.new.host) (g.H.Host.patience c.args.host.now) c.capture.ensures.patient before after c.requires.repeats
                 (since old new) (since mid end) (since end new) c.in-Err-run_between.error c.refuse.result
                 (since_since old end new whole c.refuse.ensures.extends ∙ ap (λ l. l ++ since end new) (since_since old mid end c.capture.ensures.extends c.run_between.ensures.extends)) run.1 c.refuse.ensures.answer,
           );
-    }
+    })
 
 pub returns-in-Err-run_between-clause-asked : goal.returns-in-Err-run_between-clause-asked
 returns-in-Err-run_between-clause-asked g c =

@@ -18,7 +18,8 @@ returns-clause-answer g c =
     let total = g.J.Jobs.total c.args.seat.now in
     let before = means c.args.to.turns (g.J.Jobs.faults c.args.seat.now) (g.J.Jobs.taken c.args.seat.now) (g.J.Jobs.load c.args.seat.now) in
     let whole = since_extends old mid end c.find_folder.ensures.aside.extends c.try_compile.ensures.extends in
-    record {
+    rw (sym c.find_folder.ensures.ear)
+    (record {
       under = λ look agree.
           let first = (agrees_since look old end new whole c.write_database.ensures.aside.extends agree).0 in
           let agreed = (agrees_since look old mid end c.find_folder.ensures.aside.extends c.try_compile.ensures.extends first).1 in
@@ -26,12 +27,12 @@ returns-clause-answer g c =
           let run = c.in_ok-try_compile.ensures.promises.under look agreed in
           let after = means run.0 (g.J.Jobs.faults c.try_compile.new.seat) (g.J.Jobs.taken c.try_compile.new.seat) (g.J.Jobs.load c.try_compile.new.seat) in (
             run.0,
-            between_so (g.H.Host.listens c.args.host.now) look c.args.build.now c.args.to.name.now c.args.to.path.now c.in_ok-here.here (Ok tt) (Ok tt) (since old mid) (since mid end) (since end new) (since old new)
+            between_so (g.H.Host.listens c.find_folder.new.host) look c.args.build.now c.args.to.name.now c.args.to.path.now c.in_ok-here.here (Ok tt) (Ok tt) (since old mid) (since mid end) (since end new) (since old new)
                 (since_since old end new whole c.write_database.ensures.aside.extends ∙ ap (λ l. l ++ since end new) (since_since old mid end c.find_folder.ensures.aside.extends c.try_compile.ensures.extends)) c.in_ok-here.ensures.told total
                 (g.H.Host.patience c.find_folder.new.host) (g.H.Host.patience c.args.host.now) c.find_folder.ensures.aside.patient before after built.1 run.1
-                (wrote_so (g.H.Host.listens c.args.host.now) look c.args.build.now c.args.to.name.now c.args.to.path.now c.in_ok-here.here c.as_str.result.now (course total (g.H.Host.patience c.find_folder.new.host) before after) mid end (since end new) c.try_compile.ensures.extends built.1 c.as_str.ensures c.in_ok-write_database.ensures.wrote),
+                (wrote_so (g.H.Host.listens c.find_folder.new.host) look c.args.build.now c.args.to.name.now c.args.to.path.now c.in_ok-here.here c.as_str.result.now (course total (g.H.Host.patience c.find_folder.new.host) before after) mid end (since end new) c.try_compile.ensures.extends built.1 c.as_str.ensures c.in_ok-write_database.ensures.wrote),
           );
-    }
+    })
 
 pub returns-clause-asked : goal.returns-clause-asked
 returns-clause-asked g c =
@@ -67,14 +68,14 @@ returns-in_err-try_compile-clause-answer g c =
     let total = g.J.Jobs.total c.args.seat.now in
     let e = c.in_err-try_compile.field-0.0 in
     let before = means c.args.to.turns (g.J.Jobs.faults c.args.seat.now) (g.J.Jobs.taken c.args.seat.now) (g.J.Jobs.load c.args.seat.now) in
-    rw (p.1, p.2)
+    rw (p.1, p.2, sym c.find_folder.ensures.ear)
     (record {
       under = λ look agree.
           let agreed = (agrees_since look old mid end c.find_folder.ensures.aside.extends c.try_compile.ensures.extends agree).1 in
           let run = c.in_err-try_compile.ensures.promises.under look agreed in
           let after = means run.0 (g.J.Jobs.faults c.try_compile.new.seat) (g.J.Jobs.taken c.try_compile.new.seat) (g.J.Jobs.load c.try_compile.new.seat) in (
             run.0,
-            between_so (g.H.Host.listens c.args.host.now) look c.args.build.now c.args.to.name.now c.args.to.path.now c.in_ok-here.here (Err e) (Err e) (since old mid) (since mid end) [] (since old end)
+            between_so (g.H.Host.listens c.find_folder.new.host) look c.args.build.now c.args.to.name.now c.args.to.path.now c.in_ok-here.here (Err e) (Err e) (since old mid) (since mid end) [] (since old end)
                 (since_since old mid end c.find_folder.ensures.aside.extends c.try_compile.ensures.extends ∙ sym (append-nil (since old mid ++ since mid end))) c.in_ok-here.ensures.told total
                 (g.H.Host.patience c.find_folder.new.host) (g.H.Host.patience c.args.host.now) c.find_folder.ensures.aside.patient before after tt run.1 (refl, refl),
           );
@@ -95,7 +96,7 @@ returns-in_err-write_database-clause-answer g c =
     let e = c.in_err-write_database.field-0.0 in
     let before = means c.args.to.turns (g.J.Jobs.faults c.args.seat.now) (g.J.Jobs.taken c.args.seat.now) (g.J.Jobs.load c.args.seat.now) in
     let whole = since_extends old mid end c.find_folder.ensures.aside.extends c.try_compile.ensures.extends in
-    rw (p.1, p.2)
+    rw (p.1, p.2, sym c.find_folder.ensures.ear)
     (record {
       under = λ look agree.
           let first = (agrees_since look old end new whole c.write_database.ensures.aside.extends agree).0 in
@@ -104,7 +105,7 @@ returns-in_err-write_database-clause-answer g c =
           let run = c.in_ok-try_compile.ensures.promises.under look agreed in
           let after = means run.0 (g.J.Jobs.faults c.try_compile.new.seat) (g.J.Jobs.taken c.try_compile.new.seat) (g.J.Jobs.load c.try_compile.new.seat) in (
             run.0,
-            between_so (g.H.Host.listens c.args.host.now) look c.args.build.now c.args.to.name.now c.args.to.path.now c.in_ok-here.here (Ok tt) (Err e) (since old mid) (since mid end) (since end new) (since old new)
+            between_so (g.H.Host.listens c.find_folder.new.host) look c.args.build.now c.args.to.name.now c.args.to.path.now c.in_ok-here.here (Ok tt) (Err e) (since old mid) (since mid end) (since end new) (since old new)
                 (since_since old end new whole c.write_database.ensures.aside.extends ∙ ap (λ l. l ++ since end new) (since_since old mid end c.find_folder.ensures.aside.extends c.try_compile.ensures.extends)) c.in_ok-here.ensures.told total
                 (g.H.Host.patience c.find_folder.new.host) (g.H.Host.patience c.args.host.now) c.find_folder.ensures.aside.patient before after built.1 run.1 c.in_err-write_database.ensures.refused,
           );

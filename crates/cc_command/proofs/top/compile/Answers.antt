@@ -1,3 +1,4 @@
+use Rattle.std.proofs.Common.{sym}
 use Rattle.cc_host.specs.Part.{since}
 use Rattle.cc_host.proofs.Parts.{since_since, since_extends}
 use Rattle.cc_tool.proofs.Asides.{asked_none, asked_before, none_since}
@@ -16,18 +17,19 @@ returns-in-Ok-try_compile-clause-answer g c =
     let new = g.H.Host.log c.try_compile.new.host in
     let total = g.J.Jobs.total c.args.seat.now in
     let before = means c.args.turns (g.J.Jobs.faults c.args.seat.now) (g.J.Jobs.taken c.args.seat.now) (g.J.Jobs.load c.args.seat.now) in
-    record {
+    rw (sym c.capture.ensures.ear)
+    (record {
       under = λ look agree.
           let agreed = (agrees_since look old mid new c.capture.ensures.extends c.try_compile.ensures.extends agree).1 in
           let built = c.in-Ok-try_compile.ensures.built.under look agreed in
           let run = c.in-Ok-try_compile.ensures.promises.under look agreed in
           let after = means run.0 (g.J.Jobs.faults c.try_compile.new.seat) (g.J.Jobs.taken c.try_compile.new.seat) (g.J.Jobs.load c.try_compile.new.seat) in (
             run.0,
-            answers_named (g.H.Host.listens c.args.host.now) look c.name-name.result.now (name_of c.args.request.now.job) c.args.request.now.build (since old new) c.ended_done.result (course total (g.H.Host.patience c.args.host.now) before after) c.name-name.ensures
-                (answers_built (g.H.Host.listens c.args.host.now) look c.name-name.result.now c.args.request.now.build c.capture.new.self old mid new c.capture.ensures.extends c.try_compile.ensures.extends c.in-Ok.ensures.captured total (g.H.Host.patience c.capture.new.host) (g.H.Host.patience c.args.host.now) c.capture.ensures.patient before after c.requires.repeats
+            answers_named (g.H.Host.listens c.capture.new.host) look c.name-name.result.now (name_of c.args.request.now.job) c.args.request.now.build (since old new) c.ended_done.result (course total (g.H.Host.patience c.args.host.now) before after) c.name-name.ensures
+                (answers_built (g.H.Host.listens c.capture.new.host) look c.name-name.result.now c.args.request.now.build c.capture.new.self old mid new c.capture.ensures.extends c.try_compile.ensures.extends c.in-Ok.ensures.captured total (g.H.Host.patience c.capture.new.host) (g.H.Host.patience c.args.host.now) c.capture.ensures.patient before after c.requires.repeats
                 c.ended_done.result c.ended_done.ensures built.1 run.1),
           );
-    }
+    })
 
 pub returns-in-Ok-try_compile-clause-asked : goal.returns-in-Ok-try_compile-clause-asked
 returns-in-Ok-try_compile-clause-asked g c =
@@ -42,20 +44,21 @@ returns-in-Err-try_compile-clause-answer g c =
     let total = g.J.Jobs.total c.args.seat.now in
     let before = means c.args.turns (g.J.Jobs.faults c.args.seat.now) (g.J.Jobs.taken c.args.seat.now) (g.J.Jobs.load c.args.seat.now) in
     let whole = since_extends old mid end c.capture.ensures.extends c.try_compile.ensures.extends in
-    record {
+    rw (sym c.capture.ensures.ear)
+    (record {
       under = λ look agree.
           let listed = (agrees_since look old end new whole c.refuse.ensures.extends agree).0 in
           let agreed = (agrees_since look old mid end c.capture.ensures.extends c.try_compile.ensures.extends listed).1 in
           let run = c.in-Err-try_compile.ensures.promises.under look agreed in
           let after = means run.0 (g.J.Jobs.faults c.try_compile.new.seat) (g.J.Jobs.taken c.try_compile.new.seat) (g.J.Jobs.load c.try_compile.new.seat) in
           let went = course total (g.H.Host.patience c.args.host.now) before after in
-          let refused = halted_listed (g.H.Host.listens c.args.host.now) look c.name-name.result.now c.args.request.now.build c.capture.new.self old mid end c.capture.ensures.extends c.try_compile.ensures.extends c.in-Ok.ensures.captured total (g.H.Host.patience c.capture.new.host) (g.H.Host.patience c.args.host.now) c.capture.ensures.patient before after c.requires.repeats
+          let refused = halted_listed (g.H.Host.listens c.capture.new.host) look c.name-name.result.now c.args.request.now.build c.capture.new.self old mid end c.capture.ensures.extends c.try_compile.ensures.extends c.in-Ok.ensures.captured total (g.H.Host.patience c.capture.new.host) (g.H.Host.patience c.args.host.now) c.capture.ensures.patient before after c.requires.repeats
           c.in-Err-try_compile.error run.1 in (
             run.0,
-            answers_named (g.H.Host.listens c.args.host.now) look c.name-name.result.now (name_of c.args.request.now.job) c.args.request.now.build (since old new) c.refuse.result went c.name-name.ensures
-                (answers_refused (g.H.Host.listens c.args.host.now) look (c.name-name.result.now, c.args.request.now.build) (since old end) (since end new) (since old new) c.in-Err-try_compile.error c.refuse.result went (since_since old end new whole c.refuse.ensures.extends) refused c.refuse.ensures.answer),
+            answers_named (g.H.Host.listens c.capture.new.host) look c.name-name.result.now (name_of c.args.request.now.job) c.args.request.now.build (since old new) c.refuse.result went c.name-name.ensures
+                (answers_refused (g.H.Host.listens c.capture.new.host) look (c.name-name.result.now, c.args.request.now.build) (since old end) (since end new) (since old new) c.in-Err-try_compile.error c.refuse.result went (since_since old end new whole c.refuse.ensures.extends) refused c.refuse.ensures.answer),
           );
-    }
+    })
 
 pub returns-in-Err-try_compile-clause-asked : goal.returns-in-Err-try_compile-clause-asked
 returns-in-Err-try_compile-clause-asked g c =
