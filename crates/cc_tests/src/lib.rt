@@ -22,6 +22,8 @@ mod machine;
 #[cfg(test)]
 mod memory;
 #[cfg(test)]
+mod messages;
+#[cfg(test)]
 mod on_machine;
 #[cfg(test)]
 mod once;

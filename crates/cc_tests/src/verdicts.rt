@@ -13,7 +13,7 @@ use std::process::Abort;
 use std::sync::Wait;
 
 // A command that ended well, and wrote this.
-fn done(alloc: Global, out: &str, err: &str) -> Mem<Outcome>
+pub(crate) fn done(alloc: Global, out: &str, err: &str) -> Mem<Outcome>
     ensures { IfOk result (λ o. o ≢ Unanswered) }
 {
     Ok(Outcome::Done {
