@@ -240,7 +240,7 @@ module _ (b : BuildSeen) (is_plain : Bool) (look links : Look) (output : List �
   alone_first other = inr (
     refl,
     formed_unless (is_some (unarchived_error (alone b).config (alone b).env output)) _
-        (inr (refl, formed_unless (is_some (archive_refusal (alone b).config (alone b).env look)) _ (library_first (alone b).config (alone b).env (repeating is_plain) look output behind behind_first other))),
+        (inr (refl, formed_unless (is_some (archive_refusal (alone b).config (alone b).env look)) _ (library_first (alone b).config (alone b).env (repeating None is_plain) look output behind behind_first other))),
   )
 
   unless_commands : (d : Bool) (stages : List Stage) → commands_in stages ≡ [] → commands_in (if d then [] else stages) ≡ []
@@ -392,7 +392,7 @@ module _ (listens : Bool) (steady : Bool) (world : Question → Outcome) (q : Re
       let second = some_agree (answers h.linked) h.linked_asks.once in
       (first.0, second.0, (first.1, second.1))
 
-  begun : (look links : Look) (agree : Agree h.made h.linked look links) → Partly (t q patience turned part h.run h.line ended look links (h.ends look links agree).0 (h.ends look links agree).1 h.cut) (wished_stages q (h.ends look links agree).1 look links h.run) h.run (course_alone patience turned (h.ends look links agree).0).before (course_alone patience turned (h.ends look links agree).0).after
+  begun : (look links : Look) (agree : Agree h.made h.linked look links) → Partly (t listens q patience turned part h.run h.line ended look links (h.ends look links agree).0 (h.ends look links agree).1 h.cut) (wished_stages q (h.ends look links agree).1 look links h.run) h.run (course_alone patience turned (h.ends look links agree).0).before (course_alone patience turned (h.ends look links agree).0).after
   begun look links agree =
       let o = h.ends look links agree in
       let c = course_alone patience turned o.0 in
@@ -426,7 +426,7 @@ module _ (listens : Bool) (steady : Bool) (world : Question → Outcome) (q : Re
   its_written : ended.status ≡ 0 → (look links : Look) → Agree h.made h.linked look links → Written listens (build_in q part) patience turned look links q.0 part
   its_written zero_is look links agree =
       let o = h.ends look links agree in
-      let w = written_of q patience turned part h.run h.line ended look links o.0 o.1 h.cut h.result h.says zero_is o.2 in
+      let w = written_of listens q patience turned part h.run h.line ended look links o.0 o.1 h.cut h.result h.says zero_is o.2 in
       let same : part ≡ h.run = h.cut ∙ ap (λ l. h.run ++ l) w.0 ∙ append-nil h.run in
       subst (λ (p : List Event). Written listens (build_in q p) patience turned look links q.0 p) (sym same) w.1
 
@@ -447,7 +447,7 @@ module _ (listens : Bool) (steady : Bool) (world : Question → Outcome) (q : Re
   its_complete : (look links : Look) → Agree h.made h.linked look links → wished_refusal q look links part ≡ None → (Failed (has_libtool (alone (build_in q part)).config (alone (build_in q part)).env look) part → ⊥) → (HasFault part → ⊥) → (ended ≡ ended_well) ⊎ (EndsSpent turned part ended ⊎ (ended ≡ ended_wanting))
   its_complete look links agree allowed failed fault =
       let o = h.ends look links agree in
-      complete_of q patience turned part h.run h.line ended look links o.0 o.1 h.cut h.result h.says o.2
+      complete_of listens q patience turned part h.run h.line ended look links o.0 o.1 h.cut h.result h.says o.2
       (subst (λ (vars : List (List ℕ × List ℕ)). archive_refused (with_heard vars) look links q.0 ≡ None) heard_too allowed)
       (subst (λ (vars : List (List ℕ × List ℕ)). Failed (has_libtool (alone (with_heard vars)).config (alone (with_heard vars)).env look) part → ⊥) heard_too failed) fault
 
@@ -455,7 +455,7 @@ module _ (listens : Bool) (steady : Bool) (world : Question → Outcome) (q : Re
   its_enough p patient enough spent =
       let some = some_looks in
       let o = h.ends some.0 some.1 some.2 in
-      enough_of q patience turned part h.run h.line ended some.0 some.1 o.0 o.1 h.cut h.result h.says o.2 p patient enough spent
+      enough_of listens q patience turned part h.run h.line ended some.0 some.1 o.0 o.1 h.cut h.result h.says o.2 p patient enough spent
 
   no_question : (line : List Event) → IsLine line → question_events line ≡ []
   no_question line (inl none) = ap question_events none

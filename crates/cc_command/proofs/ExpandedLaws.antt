@@ -435,15 +435,15 @@ line_untried line (inr (inr faulted)) = ap attempts faulted.1
 any_front : (f : Event → Bool) (a b : List Event) → list_any f a ≡ true → list_any f (a ++ b) ≡ true
 any_front f a b h = list_any-append f a b ∙ ap (λ x. x || list_any f b) h
 
-known_front : (b : BuildSeen) (look : Look) (e : ErrorSeen) (a rest : List Event) → IsKnown b look e a → IsKnown b look e (a ++ rest)
-known_front b look e a rest (inl memory) = inl memory
-known_front b look e a rest (inr (inl fault)) = inr (inl (any_front is_fault a rest fault))
-known_front b look e a rest (inr (inr (inl lacks))) = inr (inr (inl (λ none. lacks (front_none (missing a) (missing rest) (sym (flat_map-append missing_of a rest) ∙ none)))))
+known_front : (listens : Bool) (b : BuildSeen) (look : Look) (e : ErrorSeen) (a rest : List Event) → IsKnown listens b look e a → IsKnown listens b look e (a ++ rest)
+known_front listens b look e a rest (inl memory) = inl memory
+known_front listens b look e a rest (inr (inl fault)) = inr (inl (any_front is_fault a rest fault))
+known_front listens b look e a rest (inr (inr (inl lacks))) = inr (inr (inl (λ none. lacks (front_none (missing a) (missing rest) (sym (flat_map-append missing_of a rest) ∙ none)))))
   where
     front_none : {X : Type 0} (x y : List X) → x ++ y ≡ [] → x ≡ []
     front_none [] y h = refl
     front_none (v ∷ x) y h = absurd (cc)
-known_front b look e a rest (inr (inr (inr badly))) = inr (inr (inr (any_front ran_badly a rest badly)))
+known_front listens b look e a rest (inr (inr (inr badly))) = inr (inr (inr (any_front ran_badly a rest badly)))
 
 module _ (listens : Bool) (steady : Bool) (world : Question → Verdicts) (b : BuildSeen) where
   abbrev heard_by : List (List ℕ × List ℕ) → BuildSeen
@@ -453,9 +453,9 @@ module _ (listens : Bool) (steady : Bool) (world : Question → Verdicts) (b : B
   listed_is part run line rest vars cut is = ap (listed_build b) (cut ∙ ap (λ l. l ++ line) is)
 
   job_faults : (r : Result (Unit {0}) ErrorSeen) (look : Look) (run : List Event) → ExpandJobEnds listens b r look run → FaultsEnd run
-  job_faults (Ok v) look run k = subst FaultsEnd (sym k.cut) (then_faults (Listed k.vars ∷ []) k.rest refl (source_faults (heard_by k.vars) look (Ok v) k.rest k.expands))
-  job_faults (Err e) look run (inl h) = partly_faults (Lists ∷ []) run (captured_ends steady world b e run h).0
-  job_faults (Err e) look run (inr k) = subst FaultsEnd (sym k.cut) (then_faults (Listed k.vars ∷ []) k.rest refl (source_faults (heard_by k.vars) look (Err e) k.rest k.expands))
+  job_faults (Ok v) look run k = subst FaultsEnd (sym k.cut) (then_faults (Listed k.vars ∷ []) k.rest refl (source_faults listens (heard_by k.vars) look (Ok v) k.rest k.expands))
+  job_faults (Err e) look run (inl h) = partly_faults (Lists ∷ []) run (captured_ends listens steady world b e run h).0
+  job_faults (Err e) look run (inr k) = subst FaultsEnd (sym k.cut) (then_faults (Listed k.vars ∷ []) k.rest refl (source_faults listens (heard_by k.vars) look (Err e) k.rest k.expands))
 
   module _ (part : List Event) (ended : Ended) (s : Expanded listens steady world b part ended) where
     its_line : IsLine s.line
@@ -477,11 +477,11 @@ module _ (listens : Bool) (steady : Bool) (world : Question → Verdicts) (b : B
     lists_sole r look k =
         subst (λ (v : BuildSeen). IsSole (expansion_in v look) s.run) (sym (listed_is part s.run s.line k.rest k.vars s.cut k.cut))
         (subst (IsSole (expansion_in (heard_by k.vars) look)) (sym k.cut)
-        (source_sole (heard_by k.vars) look r k.rest k.expands (both_childless (Listed k.vars ∷ []) k.rest s.run k.cut s.childless).1))
+        (source_sole listens (heard_by k.vars) look r k.rest k.expands (both_childless (Listed k.vars ∷ []) k.rest s.run k.cut s.childless).1))
 
     job_sole : (r : Result (Unit {0}) ErrorSeen) (look : Look) → ExpandJobEnds listens b r look s.run → IsSole (expansion_in (listed_build b part) look) s.run
     job_sole (Ok v) look k = lists_sole (Ok v) look k
-    job_sole (Err e) look (inl h) = sole_none (expansion_in (listed_build b part) look) s.run (partly_untried (Lists ∷ []) refl s.run (captured_ends steady world b e s.run h).0 s.childless)
+    job_sole (Err e) look (inl h) = sole_none (expansion_in (listed_build b part) look) s.run (partly_untried (Lists ∷ []) refl s.run (captured_ends listens steady world b e s.run h).0 s.childless)
     job_sole (Err e) look (inr k) = lists_sole (Err e) look k
 
     sole_so : (look : Look) → Agrees look (answers part) → IsSole (expansion_in (listed_build b part) look) part
@@ -490,30 +490,30 @@ module _ (listens : Bool) (steady : Bool) (world : Question → Verdicts) (b : B
         (sole_then (expansion_in (listed_build b part) look) s.run s.line (job_sole s.result look (s.ends look agree)) (line_untried s.line its_line))
 
     module _ (look : Look) where
-      job_known : (e : ErrorSeen) → expand_error (listed_build b part) look ≡ None → ExpandJobEnds listens b (Err e) look s.run → IsKnown (listed_build b part) look e s.run
+      job_known : (e : ErrorSeen) → expand_error (listed_build b part) look ≡ None → ExpandJobEnds listens b (Err e) look s.run → IsKnown listens (listed_build b part) look e s.run
       job_known e accepted (inl (inl h)) = by_cause (o.0.1)
         where
           o : Outcome {T = Unit {0}} None (Lists ∷ []) s.run (Err e) × IsChildless s.run
           o = calls_outcome {T = Unit {0}} b None (Lists ∷ []) s.run (Err e) refl refl h
 
-          by_cause : IsCausedBy None (Lists ∷ []) s.run e → IsKnown (listed_build b part) look e s.run
+          by_cause : IsCausedBy None (Lists ∷ []) s.run e → IsKnown listens (listed_build b part) look e s.run
           by_cause (inl memory) = inl memory
           by_cause (inr (inl refused)) = absurd (let two : None ≡ Some e = refused in cc)
           by_cause (inr (inr stopped)) = inr (inl (stopped_fault None (Lists ∷ []) s.run e refl o.0.0 stopped))
       job_known e accepted (inl (inr h)) = inl h.0
       job_known e accepted (inr k) =
           let same = listed_is part s.run s.line k.rest k.vars s.cut k.cut in
-          subst (λ (l : List Event). IsKnown (listed_build b part) look e l) (sym k.cut)
-          (known_behind (listed_build b part) look e (Listed k.vars ∷ []) k.rest
-          (source_known (heard_by k.vars) look (subst (λ (v : BuildSeen). expand_error v look ≡ None) same accepted) e k.rest k.expands))
+          subst (λ (l : List Event). IsKnown listens (listed_build b part) look e l) (sym k.cut)
+          (known_behind listens (listed_build b part) look e (Listed k.vars ∷ []) k.rest
+          (source_known listens (heard_by k.vars) look (subst (λ (v : BuildSeen). expand_error v look ≡ None) same accepted) e k.rest k.expands))
 
       complete_by : (r : Result (Unit {0}) ErrorSeen) → Says r s.line ended → ExpandJobEnds listens b r look s.run → expand_error (listed_build b part) look ≡ None → (IsFailed part → ⊥) → (HasFault part → ⊥) → (ended ≡ ended_well) ⊎ (ended ≡ ended_wanting)
       complete_by (Ok v) says h accepted failed fault = inl says.0
       complete_by (Err e) (inr wanting) h accepted failed fault = inr wanting.0
       complete_by (Err e) (inl printed) h accepted failed fault =
-          absurd (by_known (subst (IsKnown (listed_build b part) look e) (sym s.cut) (known_front (listed_build b part) look e s.run s.line (job_known e accepted h))))
+          absurd (by_known (subst (IsKnown listens (listed_build b part) look e) (sym s.cut) (known_front listens (listed_build b part) look e s.run s.line (job_known e accepted h))))
         where
-          by_known : IsKnown (listed_build b part) look e part → ⊥
+          by_known : IsKnown listens (listed_build b part) look e part → ⊥
           by_known (inl memory) = known_memory e printed.1 memory
           by_known (inr (inl some)) = fault some
           by_known (inr (inr some)) = failed some
@@ -582,12 +582,12 @@ module _ (listens : Bool) (steady : Bool) (world : Question → Verdicts) (b : B
           behind_untried : attempts behind ≡ []
           behind_untried =
               flat_map-append attempt_of x.expands.telling (Printed ExpandedLine x.output ∷ []) ∙ append-nil (attempts x.expands.telling)
-              ∙ telling_untried (heard_by h.vars) look x.output (Ok x.output) x.run x.expands childless_run_of
+              ∙ telling_untried listens (heard_by h.vars) look x.output (Ok x.output) x.run x.expands childless_run_of
 
           one : attempts part ≡ to_attempt (expansion_in (heard_by h.vars) look) ∷ []
           one =
               ap attempts whole_cut ∙ flat_map-append attempt_of tool.asking (tool.run ++ behind)
-              ∙ ap (λ l. l ++ attempts (tool.run ++ behind)) (asking_untried (heard_by h.vars) look (Ok x.output) x.expands.expanding tool childless_expanding)
+              ∙ ap (λ l. l ++ attempts (tool.run ++ behind)) (asking_untried listens (heard_by h.vars) look (Ok x.output) x.expands.expanding tool childless_expanding)
               ∙ flat_map-append attempt_of tool.run behind ∙ ap (λ l. attempts tool.run ++ l) behind_untried ∙ append-nil (attempts tool.run)
               ∙ given_attempts (shows_of (heard_by h.vars).config (heard_by h.vars).env listens) (expansion_in (heard_by h.vars) look) (ignored_in (heard_by h.vars) look) tool.run x.output tool.gives
 
@@ -605,7 +605,7 @@ expand_promises listens steady world part ended (Ok (Compiles q)) s = tt
 expand_promises listens steady world part ended (Ok (Records path q)) s = tt
 expand_promises listens steady world part ended (Ok (Archives q)) s = tt
 expand_promises listens steady world part ended (Ok (Generates count)) s = tt
-expand_promises listens steady world part ended (Ok (Expands b)) s = promises steady world b part ended s
+expand_promises listens steady world part ended (Ok (Expands b)) s = promises listens steady world b part ended s
 expand_promises listens steady world part ended (Ok (Shows b)) s = tt
 expand_promises listens steady world part ended (Err bad) s = tt
 
@@ -617,7 +617,7 @@ expanded_wanting listens steady world log (Ok (Compiles q)) ended is = tt
 expanded_wanting listens steady world log (Ok (Records path q)) ended is = tt
 expanded_wanting listens steady world log (Ok (Archives q)) ended is = tt
 expanded_wanting listens steady world log (Ok (Generates count)) ended is = tt
-expanded_wanting listens steady world log (Ok (Expands b)) ended is = unread steady world b (since log log) ended (part_is log log [] (sym (append-nil log))) is
+expanded_wanting listens steady world log (Ok (Expands b)) ended is = unread listens steady world b (since log log) ended (part_is log log [] (sym (append-nil log))) is
 expanded_wanting listens steady world log (Ok (Shows b)) ended is = tt
 expanded_wanting listens steady world log (Err bad) ended is = tt
 

@@ -44,16 +44,19 @@ module _ (turned taken' load' : ℕ) (log : List Event) (fact : Look → List Ev
       let at_load = subst (λ n. On [] 4 0 n) no_load at_taken in
       record { under = λ look agree. let r = at_load.under look agree in (r.0, taken', load', r.1) }
 
-pub plain_run : (steady : Bool) (world : Question → Outcome) (b : BuildSeen) (turned taken' load' : ℕ) (bench old new : BenchSeen) (total taken load : ℕ) (result : Result (Unit {0}) ErrorSeen) → old ≡ fresh → total ≡ 4 → taken ≡ 0 → load ≡ 0 → bench ≡ new → IsPlainLog bench.log → AsksByRun steady world b (since old.log new.log) → On turned taken' load' new.log (Promises b false gen_name result) old.log total taken load → On turned taken' load' new.log (IsBuilt b false gen_name result) old.log total taken load → PlainRun b turned bench.log result
+pub plain_run : (steady : Bool) (world : Question → Outcome) (b : BuildSeen) (turned taken' load' : ℕ) (bench old new : BenchSeen) (total taken load : ℕ) (result : Result (Unit {0}) ErrorSeen) → old ≡ fresh → total ≡ 4 → taken ≡ 0 → load ≡ 0 → bench ≡ new → IsPlainLog bench.log → AsksByRun steady world b (since old.log new.log) → On turned taken' load' new.log (Promises b old.listens gen_name result) old.log total taken load → On turned taken' load' new.log (IsBuilt b old.listens gen_name result) old.log total taken load → PlainRun b turned bench.log result
 plain_run steady world b turned taken' load' bench old new total taken load result first four no_taken no_load same plain asked promised built =
     let no_log : old.log ≡ [] = ap (λ (h : BenchSeen). h.log) first in
     let once : NoTwice (answers new.log) = subst (λ l. NoTwice (answers (since l new.log))) no_log asked.once in
+    let deaf : old.listens ≡ false = ap (λ (h : BenchSeen). h.listens) first in
     let log_same : new.log ≡ bench.log = ap (λ (h : BenchSeen). h.log) (sym same) in
     record {
       plain = plain;
       once = subst (λ l. NoTwice (answers l)) log_same once;
-      promises = subst (λ l. OnGenerated turned l (Promises b false gen_name result)) log_same (on_generated turned taken' load' new.log (Promises b false gen_name result) old.log total taken load no_log four no_taken no_load promised);
-      built = subst (λ l. OnGenerated turned l (IsBuilt b false gen_name result)) log_same (on_generated turned taken' load' new.log (IsBuilt b false gen_name result) old.log total taken load no_log four no_taken no_load built);
+      promises = subst (λ l. OnGenerated turned l (Promises b false gen_name result)) log_same (on_generated turned taken' load' new.log (Promises b false gen_name result) old.log total taken load no_log four no_taken no_load
+          (subst (λ (l : Bool). On turned taken' load' new.log (Promises b l gen_name result) old.log total taken load) deaf promised));
+      built = subst (λ l. OnGenerated turned l (IsBuilt b false gen_name result)) log_same (on_generated turned taken' load' new.log (IsBuilt b false gen_name result) old.log total taken load no_log four no_taken no_load
+          (subst (λ (l : Bool). On turned taken' load' new.log (IsBuilt b l gen_name result) old.log total taken load) deaf built));
     }
 
 -- ---- turns enough

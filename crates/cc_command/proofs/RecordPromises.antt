@@ -54,7 +54,7 @@ module _ (listens : Bool) (look : Look) (path : List ℕ) (q : Request) (part : 
 
 pub record_promises : (listens : Bool) (look : Look) (words : Result Wish BadWord) (part : List Event) (ended : Ended) (c : Course) → AnswersWords listens look words part ended c → IfRecords words (λ path q. RecordPromises listens look path q part ended c)
 record_promises listens look (Ok (Compiles q)) part ended c a = tt
-record_promises listens look (Ok (Records path q)) part ended c a = promises look path q part ended c a
+record_promises listens look (Ok (Records path q)) part ended c a = promises listens look path q part ended c a
 record_promises listens look (Ok (Archives q)) part ended c a = tt
 record_promises listens look (Ok (Generates n)) part ended c a = tt
 record_promises listens look (Ok (Expands b)) part ended c a = tt

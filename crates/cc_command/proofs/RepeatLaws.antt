@@ -32,7 +32,7 @@ compile_same set env found look repeats =
     ap (λ (texts : List (List ℕ)). calls (warned_steps set (is_some found.here) texts ++ finding_steps found.here) ++ beside (compiles_planned set env found.here look)) (opening_same set env found look repeats)
 
 -- what such a run finds out
-pub finds_of : (listens : Bool) (way : Way) → Hears listens way.found → Findings listens
+abbrev pub finds_of : (listens : Bool) (way : Way) → Hears listens way.found → Findings listens
 finds_of listens way hears = record { here = way.found.here; hears = hears; is_plain = way.is_plain }
 
 -- a run that ended before it found anything out

@@ -493,7 +493,7 @@ show_promises listens steady world part ended (Ok (Records path q)) s = tt
 show_promises listens steady world part ended (Ok (Archives q)) s = tt
 show_promises listens steady world part ended (Ok (Generates count)) s = tt
 show_promises listens steady world part ended (Ok (Expands b)) s = tt
-show_promises listens steady world part ended (Ok (Shows b)) s = promises steady world b part ended s
+show_promises listens steady world part ended (Ok (Shows b)) s = promises listens steady world b part ended s
 show_promises listens steady world part ended (Err bad) s = tt
 
 -- ---- by the job
@@ -505,7 +505,7 @@ shown_wanting listens steady world log (Ok (Records path q)) ended is = tt
 shown_wanting listens steady world log (Ok (Archives q)) ended is = tt
 shown_wanting listens steady world log (Ok (Generates count)) ended is = tt
 shown_wanting listens steady world log (Ok (Expands b)) ended is = tt
-shown_wanting listens steady world log (Ok (Shows b)) ended is = unread steady world b (since log log) ended (part_is log log [] (sym (append-nil log))) is
+shown_wanting listens steady world log (Ok (Shows b)) ended is = unread listens steady world b (since log log) ended (part_is log log [] (sym (append-nil log))) is
 shown_wanting listens steady world log (Err bad) ended is = tt
 
 -- a job that shows tools leaves the course as it was
