@@ -50,7 +50,7 @@ use Rattle.cc_build.proofs.RunLaws.{commands_then, commands_calls, commands_writ
 use Rattle.cc_build.proofs.SettledLaws.{went_attempts, partly_first}
 use Rattle.cc_build.proofs.StopLaws.{ArePlain, plain_then, plain_lines, plain_both, plain_unless, plain_library}
 use Rattle.cc_build.proofs.TurnLaws.{halted_bound}
-use Rattle.cc_command.specs.Answer.{AnswersError, IfArchives, IsAnswer, IsAnswerOf, env_in, error_line, heard, repeating, told, ended_well, ended_wanting}
+use Rattle.cc_command.specs.Answer.{AnswersError, IfArchives, IsAnswerOf, env_in, error_line, heard, repeating, told, ended_well, ended_wanting}
 use Rattle.cc_command.specs.Archived.{alone, library_at, directed_stages, behind_library, archive_stages, archive_refused, Agree, Archiving, build_in, wished_stages, wished_refusal, WishEnds, Says, Archived, Written, ArchivePromises}
 use Rattle.cc_command.specs.Promises.{PrintsLast, IsLine, FaultsLast, EndsSpent}
 use Rattle.cc_command.specs.Asks.{AsksAlone, AsksWish, AsksWords}

@@ -7,7 +7,7 @@ use Rattle.std.specs.Prelude.{cond, filter, replicate}
 use Rattle.std.specs.List.{list_all, flat_map}
 use Rattle.std.proofs.lemmas.Bool.{and_parts, and_from, false≢true}
 use Rattle.std.proofs.lemmas.List.Elements.{filter-append}
-use Rattle.std.proofs.lemmas.List.Folds.{list_all-append, list_all-map}
+use Rattle.std.proofs.lemmas.List.Folds.{list_all-append}
 use Rattle.cc_host.specs.Command.{CommandSeen}
 use Rattle.cc_host.specs.Event.{apart}
 use Rattle.cc_host.specs.Script.{same_role}
@@ -21,7 +21,7 @@ use Rattle.cc_run.specs.Lines.{warnings}
 use Rattle.cc_run.specs.Messages.{warned_of}
 use Rattle.cc_run.specs.Output.{behind, map_warnings, IsSilentRun}
 use Rattle.cc_run.specs.Own.{is_run_line, is_run_notice, is_of_run, AreRunLines}
-use Rattle.cc_run.specs.Prints.{print_of, prints}
+use Rattle.cc_run.specs.Prints.{prints}
 use Rattle.cc_run.specs.Texts.{announced, cargo_line, debug_line, ended_text}
 use Rattle.cc_run.specs.declared.error.RunError.{RunError}
 use Rattle.cc_run.specs.declared.error.RunError.TheVariants.{ToolNotFound, Failed as Fails, StartFault, WaitFault, HostFault, JobFault, TurnsSpent, NoMemory}

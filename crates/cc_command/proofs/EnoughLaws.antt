@@ -8,14 +8,13 @@ use Rattle.cc_env.specs.Env.{EnvSeen}
 use Rattle.cc_host.specs.Command.{CommandSeen}
 use Rattle.cc_host.specs.Part.{Step}
 use Rattle.cc_host.specs.Question.{Look}
-use Rattle.cc_host.specs.declared.event.LineKind.TheVariants.{Warning}
-use Rattle.cc_host.specs.declared.event.Role.TheVariants.{Compile, Archive, Index}
+use Rattle.cc_host.specs.declared.event.Role.TheVariants.{Archive, Index}
 use Rattle.cc_plan.specs.Archive as archive
 use Rattle.cc_plan.specs.Archive.{paths_of, archiver_of}
 use Rattle.cc_plan.specs.Batches.{batches_of}
 use Rattle.cc_plan.specs.Given.{is_disabled}
 use Rattle.cc_plan.specs.Libtool.{is_libtool}
-use Rattle.cc_plan.specs.Plan.{objects_of, library_of, compiles_of, archived_of, archive_refusal, archives_of, indexes_of, lists_of_run, folder_steps, removal_steps, link_lines}
+use Rattle.cc_plan.specs.Plan.{objects_of, library_of, archived_of, archive_refusal, archives_of, indexes_of, lists_of_run, folder_steps, removal_steps, link_lines}
 use Rattle.cc_plan.specs.Refusal.{first_of, early_refusal, late_refusal, link_refusal}
 use Rattle.cc_plan.specs.declared.error.ArgumentCause.TheVariants.{Output, OutDir, NoFileName, SameObject, LibraryIsObject, LineFeed, Library}
 use Rattle.cc_plan.specs.declared.error.PlanError.{PlanError}

@@ -21,15 +21,14 @@ use Rattle.cc_plan.specs.Plan.{archives_of, compiles_of, indexes_of, library_of,
 use Rattle.cc_plan.specs.declared.object.Object.{Object}
 use Rattle.cc_plan.specs.declared.settings.BuildConfig.{BuildConfig}
 use Rattle.cc_run.specs.Part.{started, started_of}
-use Rattle.cc_run.specs.Planned.{Asked, asked, asked_by}
+use Rattle.cc_run.specs.Planned.{Asked, asked}
 use Rattle.cc_run.specs.declared.planned.Planned.{Planned}
 use Rattle.cc_run.specs.declared.planned.Shows.{Shows}
 use Rattle.cc_build.specs.Built.{Built}
 use Rattle.cc_build.specs.Error.{ErrorSeen, no_memory}
-use Rattle.cc_build.specs.Stage.{planned, behind_first, written_children, link_stages, library_commands, has_libtool, cargo_steps}
+use Rattle.cc_build.specs.Stage.{planned, written_children, link_stages, library_commands, has_libtool, cargo_steps}
 use Rattle.cc_build.specs.Stage.Stage.{Asks}
 use Rattle.cc_build.specs.Stage.{children_in}
-use Rattle.cc_build.specs.Way.{Firsts}
 use Rattle.cc_build.specs.Went.{Terms}
 use Rattle.cc_build.proofs.RunLaws.{children_calls, went_started}
 use Rattle.cc_command.specs.Database.{Faults, call_error, optional, compile_start, compile_starts, compile_in, entry_of, entries_by, entries_of, last_of, logged_entries}

@@ -10,7 +10,7 @@ use Rattle.cc_host.specs.Question.{Look, Agrees, answers, Holds}
 use Rattle.cc_host.specs.declared.event.Event.{Event}
 use Rattle.cc_host.specs.declared.event.Event.TheVariants.{Started, Missing, Ran, Fault, Printed, Removed, Wrote, Copied, Here, Said, Made, Listed}
 use Rattle.cc_host.specs.declared.event.LineKind.{LineKind}
-use Rattle.cc_host.specs.declared.event.LineKind.TheVariants.{Warning, Rerun, Expanded as ExpandedLine}
+use Rattle.cc_host.specs.declared.event.LineKind.TheVariants.{Rerun, Expanded as ExpandedLine}
 use Rattle.cc_host.specs.declared.event.Scope.TheVariants.{Build as Building, Probe as ForProbes}
 use Rattle.cc_host.specs.Status.{is_success}
 use Rattle.cc_host.specs.declared.question.Outcome.{Outcome as Verdicts}

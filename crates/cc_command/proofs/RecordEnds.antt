@@ -1,5 +1,5 @@
 -- A compile run that is recorded ends well, where nothing keeps it from that.
-use Rattle.std.proofs.Common.{◌≡◌, ◌⊎◌, inl, inr, ℕ, ◌+◌, ◌<◌, ◌*◌, ◌≤◌, List, [], ◌∷◌, ◌++◌, Bool, true, false, not, ◌||◌, Option, None, Some, Result, Ok, Err, refl, sym, ◌∙◌, ap, subst, append-nil, arith}
+use Rattle.std.proofs.Common.{◌≡◌, ◌⊎◌, inl, inr, ℕ, ◌+◌, ◌<◌, ◌*◌, List, [], ◌∷◌, ◌++◌, Bool, true, false, not, ◌||◌, None, Some, Ok, Err, refl, sym, ◌∙◌, ap, subst, append-nil, arith}
 use Rattle.std.specs.List.{list_any}
 use Rattle.std.proofs.lemmas.List.Sums.{sum_by-append}
 use Rattle.std.specs.Prelude.{◌≢◌}
@@ -22,11 +22,10 @@ use Rattle.cc_build.specs.Stage.{has_libtool}
 use Rattle.cc_build.specs.Stage.Stage.{Calls}
 use Rattle.cc_build.specs.Stop.{fault_error}
 use Rattle.cc_build.specs.Went.{terms, means}
-use Rattle.cc_build.specs.declared.error.ErrorKind.{ErrorKind}
 use Rattle.cc_build.specs.declared.error.ErrorKind.TheVariants.{NoMemory, IOError, TurnsSpent}
 use Rattle.cc_build.proofs.PrintedLaws.{calls_outcome}
 use Rattle.cc_build.proofs.TurnLaws.{halted_bound}
-use Rattle.cc_command.specs.Answer.{AnswersError, AnswersRecord, Behind, Recorded, Unbegun, Untold, Unwritten, database_in, env_in, is_wanting, ended_refused, ended_wanting, ended_well}
+use Rattle.cc_command.specs.Answer.{AnswersError, AnswersRecord, Behind, Recorded, Unbegun, Untold, Unwritten, database_in, env_in, is_wanting, ended_wanting, ended_well}
 use Rattle.cc_command.specs.Database.{Faults}
 use Rattle.cc_command.specs.Promises.{EndsSpent, IsComplete, IsEnough}
 use Rattle.cc_command.specs.Read.{Request}

@@ -1,12 +1,11 @@
 -- What an answer to a compile run that is recorded promises.
-use Rattle.std.proofs.Common.{◌≡◌, ◌⊎◌, inl, inr, ℕ, List, [], ◌∷◌, ◌++◌, Bool, true, false, Option, None, Result, Ok, Err, refl, sym, ◌∙◌, ap, subst, append-nil}
-use Rattle.std.specs.Prelude.{◌≢◌}
+use Rattle.std.proofs.Common.{◌≡◌, inl, inr, ℕ, List, ◌∷◌, ◌++◌, Bool, Result, Ok, Err, sym, ◌∙◌, ap}
 use Rattle.cc_host.specs.Question.{Look}
 use Rattle.cc_host.specs.declared.event.Event.{Event}
-use Rattle.cc_host.specs.declared.event.Event.TheVariants.{Listed, Here, Wrote}
+use Rattle.cc_host.specs.declared.event.Event.TheVariants.{Listed, Here}
 use Rattle.cc_build.specs.Course.{Course}
 use Rattle.cc_build.specs.Error.{ErrorSeen}
-use Rattle.cc_command.specs.Answer.{Answers, AnswersError, AnswersRecord, AnswersWords, Behind, BuiltBy, IfRecords, Recorded, Unbegun, database_in, ended_well}
+use Rattle.cc_command.specs.Answer.{Answers, AnswersError, AnswersRecord, AnswersWords, Behind, IfRecords, database_in, ended_well}
 use Rattle.cc_command.specs.Promises.{RecordedBy, RecordPromises}
 use Rattle.cc_command.specs.Read.{Request, Wish}
 use Rattle.cc_command.specs.Read.Wish.{Compiles, Records, Archives, Generates, Expands, Shows}

@@ -1,5 +1,5 @@
 -- A compile run that is recorded: what its part is cut into, and what follows from that.
-use Rattle.std.proofs.Common.{◌≡◌, ◌⊎◌, inl, inr, ℕ, List, [], ◌∷◌, ◌++◌, Option, None, Result, Ok, Err, refl, sym, ◌∙◌, ap, subst, append_assoc, append-nil, Bool}
+use Rattle.std.proofs.Common.{◌≡◌, ◌⊎◌, inl, inr, ℕ, List, [], ◌∷◌, ◌++◌, None, Err, refl, sym, ◌∙◌, ap, subst, append_assoc, append-nil, Bool}
 use Rattle.std.specs.Prelude.{◌≢◌}
 use Rattle.cc_host.specs.Part.{Refuses}
 use Rattle.cc_host.specs.Part.Step.{Lists, Finds, Writes}
@@ -8,7 +8,6 @@ use Rattle.cc_host.specs.declared.event.Event.{Event}
 use Rattle.cc_host.specs.declared.event.Event.TheVariants.{Listed, Here, Wrote, Printed, Fault}
 use Rattle.cc_host.specs.declared.event.HostCall.TheVariants.{CurrentDir, Write, Print}
 use Rattle.cc_host.specs.declared.event.LineKind.TheVariants.{Fault as FaultLine}
-use Rattle.cc_host.specs.declared.event.Why.{Why}
 use Rattle.cc_build.specs.Captured.{CaptureEnds}
 use Rattle.cc_build.specs.Course.{Course}
 use Rattle.cc_build.specs.Error.{ErrorSeen}
@@ -17,9 +16,9 @@ use Rattle.cc_build.specs.Stage.{Stage, planned_stages}
 use Rattle.cc_build.specs.Stage.Stage.{Calls}
 use Rattle.cc_build.specs.Went.{Terms, Means, Went, Partly}
 use Rattle.cc_build.proofs.OrderLaws.{went_partly, halted_partly}
-use Rattle.cc_command.specs.Answer.{Answers, AnswersError, AnswersRecord, Behind, Recorded, Unbegun, Untold, Unwritten, PrintsLine, database_in, ended_well, env_in, error_line, repeating, stages_of, terms_in, told}
+use Rattle.cc_command.specs.Answer.{Answers, AnswersError, AnswersRecord, Behind, Recorded, Unbegun, Untold, PrintsLine, database_in, ended_well, env_in, error_line, repeating, terms_in, told}
 use Rattle.cc_command.specs.Database.{Faults}
-use Rattle.cc_command.specs.Promises.{Begun, EndsWith, FaultsLast, IsLine, PrintsLast}
+use Rattle.cc_command.specs.Promises.{EndsWith, FaultsLast, IsLine, PrintsLast}
 use Rattle.cc_command.specs.Read.{Request}
 use Rattle.cc_command.specs.declared.ended.Ended.{Ended}
 use Rattle.cc_command.proofs.PromiseLaws.{begun_of, line_of, request_last, stages_last}

@@ -1,25 +1,24 @@
 -- How a compile run goes that is recorded, from its calls to its answer.
-use Rattle.std.proofs.Common.{◌≡◌, ◌⊎◌, inl, inr, ℕ, List, [], ◌∷◌, ◌++◌, true, Option, Some, Result, Ok, Err, refl, sym, ◌∙◌, ap, subst, append_assoc, append-nil, Bool}
+use Rattle.std.proofs.Common.{◌≡◌, inl, inr, ℕ, List, [], ◌∷◌, ◌++◌, true, Option, Result, Ok, Err, refl, sym, ◌∙◌, ap, subst, append_assoc, append-nil, Bool}
 use Rattle.std.specs.Prelude.{◌≢◌}
 use Rattle.cc_db.specs.Database.{database}
 use Rattle.cc_host.specs.Part.{since}
 use Rattle.cc_host.specs.Question.{Look}
 use Rattle.cc_host.specs.declared.event.Event.{Event}
 use Rattle.cc_host.specs.declared.event.Event.TheVariants.{Listed, Here, Wrote}
-use Rattle.cc_host.specs.declared.event.HostCall.TheVariants.{CurrentDir, Write}
-use Rattle.cc_host.proofs.Parts.{since_since, since_extends}
+use Rattle.cc_host.specs.declared.event.HostCall.TheVariants.{CurrentDir}
 use Rattle.cc_plan.specs.Plan.{objects_of}
 use Rattle.cc_build.specs.Build.{BuildSeen}
 use Rattle.cc_build.specs.Built.{Built}
-use Rattle.cc_build.specs.Captured.{with_vars, Captures, CaptureEnds}
+use Rattle.cc_build.specs.Captured.{Captures, CaptureEnds}
 use Rattle.cc_build.specs.Course.{Course, course}
 use Rattle.cc_build.specs.Error.{ErrorSeen}
 use Rattle.cc_build.specs.Promises.{terms_for, IsBuilt, Promises}
 use Rattle.cc_build.specs.Went.{Means}
-use Rattle.cc_command.specs.Answer.{Answers, AnswersError, AnswersRecord, Recorded, ended_well, database_in}
+use Rattle.cc_command.specs.Answer.{Answers, AnswersError, AnswersRecord, ended_well, database_in}
 use Rattle.cc_command.specs.Database.{Faults, entries_of, logged_entries}
 use Rattle.cc_command.specs.Read.{Request}
-use Rattle.cc_command.specs.Recording.{Between, EndsBehind, IsRecord, WritesOrFaults}
+use Rattle.cc_command.specs.Recording.{EndsBehind, IsRecord}
 use Rattle.cc_command.specs.declared.ended.Ended.{Ended}
 use Rattle.cc_command.proofs.AnswerLaws.{answers_built, answers_refused, halted_listed}
 use Rattle.cc_command.proofs.EntryLaws.{built_starts, planned_log}

@@ -1,6 +1,5 @@
 -- No child runs behind a request, and its commands are the first of the planned ones.
 use Rattle.std.proofs.Common.{◌≡◌, inl, inr, ℕ, List, ◌∷◌, ◌++◌, map, Result, Ok, Err, sym, ◌∙◌, ap, append-nil, Bool}
-use Rattle.std.specs.Prelude.{String}
 use Rattle.std.proofs.lemmas.Grind.{flat_map-append}
 use Rattle.cc_host.specs.Part.Step.{Lists}
 use Rattle.cc_host.specs.Question.{Look}
@@ -15,7 +14,7 @@ use Rattle.cc_build.proofs.SettledLaws.{partly_settled, partly_first}
 use Rattle.cc_build.proofs.StopLaws.{planned_plain}
 use Rattle.cc_build.specs.Course.{Course}
 use Rattle.cc_build.specs.Promises.{NothingRuns}
-use Rattle.cc_command.specs.Answer.{AnswersBad, AnswersWords, asked_for, env_in, terms_in, repeating, stages_of, word_line}
+use Rattle.cc_command.specs.Answer.{AnswersBad, AnswersWords, env_in, terms_in, repeating, stages_of, word_line}
 use Rattle.cc_command.specs.Promises.{Begun, IsLine, IsPrefix, Promises}
 use Rattle.cc_command.specs.Read.{Request, Wish}
 use Rattle.cc_command.specs.Read.Wish.{Compiles, Records, Archives, Generates, Expands, Shows}

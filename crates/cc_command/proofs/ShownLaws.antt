@@ -1,26 +1,21 @@
 -- What the program answers where it shows the tools of a build, and what follows from it.
-use Rattle.std.proofs.Common.{◌≡◌, ◌⊎◌, inl, inr, ◌∙◌, refl, sym, ap, subst, ℕ, List, [], ◌∷◌, ◌++◌, map, Bool, true, false, if◌then◌else◌, ◌||◌, ◌&&◌, Option, Some, None, option_map, Result, Ok, Err, append-nil, append_assoc}
+use Rattle.std.proofs.Common.{◌≡◌, ◌⊎◌, inl, inr, ◌∙◌, refl, sym, ap, subst, ℕ, List, [], ◌∷◌, ◌++◌, Bool, true, false, ◌||◌, ◌&&◌, Option, Some, None, option_map, Result, Ok, Err, append-nil, append_assoc}
 use Rattle.std.specs.List.{list_all, list_any}
 use Rattle.std.proofs.lemmas.Bool.{and_parts}
 use Rattle.std.proofs.lemmas.List.{append_cancel_left}
 use Rattle.std.proofs.lemmas.List.Folds.{list_all-append, list_any-append}
 use Rattle.cc_host.specs.Command.{CommandSeen}
-use Rattle.cc_host.specs.Part.{Step, since, step_of, stop_of, calm_of, stops, calm, done, left, is_probing, Refuses, StopsAt, IsPartly, IsWhole}
-use Rattle.cc_host.specs.Part.Step.{Runs, Makes, Removes, Writes, Copies, Finds, Prints, Lists}
+use Rattle.cc_host.specs.Part.{Step, since, stop_of, calm_of, stops, calm, done, left, StopsAt, IsPartly, IsWhole}
+use Rattle.cc_host.specs.Part.Step.{Lists}
 use Rattle.cc_host.specs.Question.{Look, Agrees, answers, Holds}
 use Rattle.cc_host.specs.declared.event.Event.{Event}
-use Rattle.cc_host.specs.declared.event.Event.TheVariants.{Started, Missing, Ended as EndedChild, Abandoned, Ran, Heard, Unread, Turn, Fault, Printed, Removed, Wrote, Copied, Here, Said, Made, Listed}
-use Rattle.cc_host.specs.declared.event.HostCall.{HostCall}
-use Rattle.cc_host.specs.declared.event.LineKind.{LineKind}
-use Rattle.cc_host.specs.declared.event.LineKind.TheVariants.{Warning, Rerun, Shown as ShownLine}
-use Rattle.cc_host.specs.declared.event.Scope.TheVariants.{Build as Building, Probe as ForProbes}
-use Rattle.cc_host.specs.declared.event.Why.{Why}
+use Rattle.cc_host.specs.declared.event.Event.TheVariants.{Started, Ended as EndedChild, Abandoned, Fault, Listed}
+use Rattle.cc_host.specs.declared.event.LineKind.TheVariants.{Rerun, Shown as ShownLine}
 use Rattle.cc_host.specs.declared.question.Outcome.{Outcome as Verdicts}
 use Rattle.cc_host.specs.declared.question.Question.{Question}
-use Rattle.cc_host.proofs.Parts.{kind_is, IsKind, stops_both, stops_stop, calm_then, calm_whole, left_more, left_stop, partly_more, partly_stop, partly_whole, partly_none, whole_step, whole_then}
+use Rattle.cc_host.proofs.Parts.{stops_both, calm_then, calm_whole, partly_whole, partly_none, whole_step}
 use Rattle.cc_plan.specs.Archive.{archiver_of}
 use Rattle.cc_plan.specs.Asking.{is_of_children}
-use Rattle.cc_plan.specs.Plan.{prints}
 use Rattle.cc_plan.specs.Planned.{tool_of, warnings_of}
 use Rattle.cc_plan.specs.Questions.{PlanAsks, ArchiverAsks, RanlibAsks}
 use Rattle.cc_plan.specs.Refusal.{archiver_refusal, ranlib_refusal}
@@ -30,7 +25,6 @@ use Rattle.cc_run.specs.Run.{Run, run_after, run_from, nothing}
 use Rattle.cc_tool.proofs.Asides.{asked_around, asked_none, none_then}
 use Rattle.cc_tool.proofs.SomeLemmas.{some_agree}
 use Rattle.cc_tool.specs.Asked.{question_events}
-use Rattle.cc_tool.specs.Probing.{is_asked}
 use Rattle.cc_tool.specs.Tool.{ToolSeen}
 use Rattle.cc_build.specs.Build.{BuildSeen, AsksByPlan, probes}
 use Rattle.cc_build.specs.Captured.{with_vars, Captures, CaptureEnds}
@@ -40,19 +34,15 @@ use Rattle.cc_build.specs.Error.{ErrorSeen, no_memory}
 use Rattle.cc_build.specs.Failed.{HasFault, is_fault}
 use Rattle.cc_build.specs.Outcome.{Outcome, IsRefused, IsCausedBy}
 use Rattle.cc_build.specs.Promises.{NothingRuns, FaultsEnd}
-use Rattle.cc_build.specs.Questions.{AsksOnly}
 use Rattle.cc_build.specs.Refusal.{plan_error}
-use Rattle.cc_build.specs.Shows.{shows_of}
-use Rattle.cc_build.specs.Stage.{Stage, calls, rerun_lines}
-use Rattle.cc_build.specs.Stage.Stage.{Calls}
-use Rattle.cc_build.specs.Stop.{stop_error, stopped_by}
+use Rattle.cc_build.specs.Stage.{rerun_lines}
+use Rattle.cc_build.specs.Stop.{stopped_by}
 use Rattle.cc_build.specs.Told.{compiler_reads, archiver_reads, ranlib_reads, name_steps, unless_refused, DoesAndTells}
 use Rattle.cc_build.specs.Tools.{IsArchiver, IsRanlib, archiver_error, ranlib_error, ArchiverEnds, RanlibEnds, AsksForArchiver, AsksForRanlib}
 use Rattle.cc_build.specs.Way.{Firsts}
-use Rattle.cc_build.specs.Went.{Terms, Means, terms, means, Went, Halted, Halts, IsOf}
 use Rattle.cc_build.proofs.Going.{part_is}
 use Rattle.cc_build.proofs.Outcomes.{outcome_then}
-use Rattle.cc_build.proofs.PrintedLaws.{is_told, told_prints, told_printed, told_warned, IsRealFault, told_refused, fault_stops, fault_childless, fault_is, or_false, neither, IsChildless, childless_then, calls_outcome, asked_whole, refused_more, asked_refused}
+use Rattle.cc_build.proofs.PrintedLaws.{is_told, told_prints, told_printed, told_warned, IsRealFault, told_refused, fault_stops, fault_is, neither, IsChildless, childless_then, calls_outcome, refused_more}
 use Rattle.cc_command.specs.Answer.{AnswersError, IfShows, IsAnswerOf, ended_well, ended_wanting}
 use Rattle.cc_command.specs.Archived.{Says}
 use Rattle.cc_command.specs.Asks.{AsksWish}

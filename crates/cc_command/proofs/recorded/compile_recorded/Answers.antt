@@ -1,4 +1,4 @@
-use Rattle.std.proofs.Common.{◌∙◌, ℕ, List, [], ◌++◌, Ok, Err, refl, sym, ap, append-nil}
+use Rattle.std.proofs.Common.{◌∙◌, ◌++◌, refl, sym, ap}
 use Rattle.cc_host.specs.Part.{since}
 use Rattle.cc_host.proofs.Parts.{since_since, since_extends}
 use Rattle.cc_tool.proofs.Asides.{asked_none, asked_before, none_since}

@@ -1,4 +1,4 @@
-use Rattle.std.proofs.Common.{◌∙◌, ℕ, List, [], ◌++◌, Ok, Err, refl, sym, ap, append-nil}
+use Rattle.std.proofs.Common.{◌∙◌, [], ◌++◌, Ok, Err, refl, sym, ap, append-nil}
 use Rattle.std.proofs.lemmas.Result.{err_from_is_err_and}
 use Rattle.cc_host.specs.Part.{since}
 use Rattle.cc_host.proofs.Parts.{since_since, since_extends}

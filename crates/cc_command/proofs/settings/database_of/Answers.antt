@@ -1,4 +1,4 @@
-use Rattle.std.proofs.Common.{◌≡◌, Option, List, ℕ, string_bytes, refl, arith}
+use Rattle.std.proofs.Common.{◌≡◌, string_bytes, refl, arith}
 use Rattle.std.specs.Option.{option_copied}
 use Rattle.cc_command.specs.Read.{database_in, values}
 use Rattle.cc_command.proofs.SettingLaws.{or_before, path_here}
