@@ -318,11 +318,6 @@ unfolding prints
 no_line_archives kind [] = refl
 no_line_archives kind (line ∷ lines) = no_line_archives kind lines
 
-pub no_lines_archives : (kind other : LineKind) (lines more : List (List ℕ)) → NoArchive (calls (prints kind lines ++ prints other more))
-unfolding prints
-no_lines_archives kind other [] more = no_line_archives other more
-no_lines_archives kind other (line ∷ lines) more = no_lines_archives kind other lines more
-
 -- nor does a step that prints, says or asks for the folder
 pub no_note_archives : (steps : List Step) → AreNotes steps → NoArchive (calls steps)
 no_note_archives [] h = refl

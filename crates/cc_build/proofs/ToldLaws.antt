@@ -1,5 +1,5 @@
 -- A call that asks and does something, and then prints the lines of the variables that it read.
-use Rattle.std.proofs.Common.{◌≡◌, ◌⊎◌, inl, inr, ℕ, List, [], ◌∷◌, ◌++◌, Bool, true, false, Option, Some, None, Result, Ok, Err, refl, sym, ◌∙◌, ap, subst}
+use Rattle.std.proofs.Common.{◌≡◌, ◌⊎◌, inl, inr, ℕ, List, [], ◌∷◌, ◌++◌, Bool, true, false, Option, Some, None, Result, Ok, Err, refl, sym, ◌∙◌, ap, ap₂, subst}
 use Rattle.cc_env.specs.Env.{EnvSeen}
 use Rattle.cc_host.specs.Part.{Step, since}
 use Rattle.cc_host.specs.Question.{Look, Answer, answers, Agrees, NoTwice, Holds}
@@ -129,11 +129,11 @@ module _ (steady : Bool) (world : Question → WorldOutcome) (dir : List ℕ) wh
 -- ---- outcomes
 
 -- the lines of such names are printed
-pub told_lines : {T : Type 0} (t : Terms) (firsts : Firsts) (links : List LinkLine) (names : List (List ℕ)) (these : List Stage) (part : List Event) (r : Result T ErrorSeen) (x y : Means) → these ≡ printed_stages firsts links names → links ≡ [] → Ends t None these part r x y → Outcome None (prints Rerun (rerun_lines (chosen firsts.names names))) part r × IsChildless part
+pub told_lines : {T : Type 0} (t : Terms) (listens : Bool) (texts : List (List ℕ)) (firsts : Firsts) (links : List LinkLine) (names : List (List ℕ)) (these : List Stage) (part : List Event) (r : Result T ErrorSeen) (x y : Means) → these ≡ printed_stages listens texts firsts links names → texts ≡ [] → links ≡ [] → Ends t None these part r x y → Outcome None (prints Rerun (rerun_lines (chosen firsts.names names))) part r × IsChildless part
 unfolding prints
-told_lines t firsts links names these part r x y is none ends =
+told_lines t listens texts firsts links names these part r x y is silent none ends =
     let steps = prints Rerun (rerun_lines (chosen firsts.names names)) in
-    let same : these ≡ calls steps = is ∙ ap (λ l. printed_stages firsts l names) none in
+    let same : these ≡ calls steps = is ∙ ap₂ (λ m l. printed_stages listens m firsts l names) silent none in
     ends_outcome t None steps part r x y refl (told_printed Rerun (rerun_lines (chosen firsts.names names))) (subst (λ (l : List Stage). Ends t None l part r x y) same ends)
 
 names_when : {T : Type 0} (refusal : Option ErrorSeen) (names : List Step) (part : List Event) (r : Result T ErrorSeen) → refusal ≡ None → Outcome None names part r → Outcome refusal (unless_refused refusal names) part r

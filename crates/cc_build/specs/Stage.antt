@@ -17,8 +17,9 @@ use Rattle.cc_plan.specs.Compile.{compile_of}
 use Rattle.cc_plan.specs.Given.{is_disabled}
 use Rattle.cc_plan.specs.Libtool.{is_libtool}
 use Rattle.cc_plan.specs.Link.{printed_links, link_lines as lines_of}
-use Rattle.cc_plan.specs.Plan.{compiles_of, archives_of, indexes_of, lists_of_run, archive_refusal, link_lines, plan_warnings, warned_steps, objects_of, prints, folder_steps, removal_steps}
+use Rattle.cc_plan.specs.Plan.{compiles_of, archives_of, indexes_of, lists_of_run, archive_refusal, link_lines, plan_warnings, warned_steps, objects_of, prints, warning_steps, folder_steps, removal_steps}
 use Rattle.cc_plan.specs.Planned.{tool_of}
+use Rattle.cc_plan.specs.Quiet.{quiet_warnings}
 use Rattle.cc_plan.specs.Refusal.{is_empty, early_refusal, late_refusal, link_refusal}
 use Rattle.cc_plan.specs.Reruns.{rerun_line, rerun_names}
 use Rattle.cc_plan.specs.declared.error.PlanError.{PlanError}
@@ -170,24 +171,34 @@ run_reads set = record { disabled = true; debug = true; compiler = not (is_empty
 abbrev pub rerun_lines : List (List ℕ) → List (List ℕ)
 rerun_lines names = map rerun_line names
 
+-- a host that listens is told of these warnings, and none of them is printed
+abbrev pub said_steps : Bool → List (List ℕ) → List Step
+said_steps listens texts = flat_map (warning_steps false listens) texts
+
 -- these link lines are printed, and then those of these variables
 abbrev pub cargo_steps : Firsts → List LinkLine → List (List ℕ) → List Step
 cargo_steps firsts lines names = prints Link (printed_links firsts.links lines) ++ prints Rerun (rerun_lines (chosen firsts.names names))
 
-abbrev pub printed_stages : Firsts → List LinkLine → List (List ℕ) → List Stage
-printed_stages firsts lines names = calls (cargo_steps firsts lines names)
+-- right before those lines a host that listens is told of warnings
+abbrev pub ending_steps : Bool → List (List ℕ) → Firsts → List LinkLine → List (List ℕ) → List Step
+ending_steps listens texts firsts lines names = said_steps listens texts ++ cargo_steps firsts lines names
+
+abbrev pub printed_stages : Bool → List (List ℕ) → Firsts → List LinkLine → List (List ℕ) → List Stage
+printed_stages listens texts firsts lines names = calls (ending_steps listens texts firsts lines names)
 
 -- the lines of the variables that a call reads are printed
 abbrev pub name_stages : BuildConfig → EnvSeen → Reads → Look → Firsts → List Stage
 name_stages set env reads look firsts = calls (prints Rerun (rerun_lines (chosen firsts.names (rerun_names reads set env look))))
 
--- the link lines are printed, and then those of the variables that the run read
-unfoldable pub link_stages : BuildConfig → EnvSeen → Look → Firsts → List ℕ → List Stage
-link_stages set env look firsts output = printed_stages firsts (link_lines set env look output) (rerun_names (run_reads set) set env look)
+-- a host that listens is told of the compiler that decides on the C++ library, the link lines are printed, and then those of the variables that the
+-- run read
+unfoldable pub link_stages : BuildConfig → EnvSeen → Bool → Look → Firsts → List ℕ → List Stage
+link_stages set env listens look firsts output =
+    printed_stages listens (quiet_warnings set env look) firsts (link_lines set env look output) (rerun_names (run_reads set) set env look)
 
 -- questions on the link lines, which are then printed
 abbrev pub ending_stages : BuildConfig → EnvSeen → Way → Look → List ℕ → List Stage
-ending_stages set env way look output = asked_then (link_refusal set env look) (link_stages set env look way.firsts output)
+ending_stages set env way look output = asked_then (link_refusal set env look) (link_stages set env (is_some way.found.here) look way.firsts output)
 
 -- the old library is removed, and the new one is written
 abbrev pub library_stages : BuildConfig → EnvSeen → Bool → Look → List ℕ → List Stage

@@ -25,6 +25,7 @@ pub mod Plan
 pub mod Planned
 pub mod Prefix
 pub mod Questions
+pub mod Quiet
 pub mod Refusal
 pub mod Reruns
 pub mod Search

@@ -58,7 +58,7 @@ pub use flag_verdict::{FlagSupport, flag_support};
 pub use flags::{BuildFlag, Definition, Definitions, Flags};
 pub use given::{host_of, is_disabled, out_dir_of, probe_folder, target_of, variable_flags};
 pub use libtool::{check_list, is_libtool, list_file};
-pub use link::{LinkLine, link_lines};
+pub use link::{LinkLine, LinkPlan, link_lines, plan_links};
 pub use names::{lib_and_archive_names, library_and_dir};
 pub use object::{Object, object_path, objects_from_files};
 pub use plan::{Plan, Sources, plan_commands, plan_objects, plan_sources};
