@@ -16,7 +16,7 @@ use Rattle.cc_host.specs.declared.event.Role.TheVariants.{Compile}
 use Rattle.cc_host.specs.declared.event.LineKind.{LineKind}
 use Rattle.cc_host.specs.declared.event.LineKind.TheVariants.{Link, Rerun}
 use Rattle.cc_plan.specs.Link.{printed_links}
-use Rattle.cc_plan.specs.Plan.{compiles_of, objects_of, plan_warnings, warned_steps, warning_steps, prints}
+use Rattle.cc_plan.specs.Plan.{compile_in, compiles_of, objects_of, plan_warnings, warned_steps, warning_steps, prints}
 use Rattle.cc_plan.specs.declared.link.LinkLine.{LinkLine}
 use Rattle.cc_plan.specs.declared.object.Object.{Object}
 use Rattle.cc_plan.specs.declared.settings.BuildConfig.{BuildConfig}
@@ -25,7 +25,7 @@ use Rattle.cc_run.specs.declared.planned.Planned.{Planned}
 use Rattle.cc_run.specs.declared.planned.Shows.{Shows}
 use Rattle.cc_build.specs.Attempts.{to_attempt}
 use Rattle.cc_build.specs.Seen.{compiles_by}
-use Rattle.cc_build.specs.Stage.{planned, compile_in, compile_planned, compiles_planned, finding_steps, opening_steps, said_steps, ending_steps, rerun_lines}
+use Rattle.cc_build.specs.Stage.{planned, compile_planned, compiles_planned, finding_steps, opening_steps, said_steps, ending_steps, rerun_lines}
 use Rattle.cc_build.specs.Way.{Found, Firsts, Hears, chosen}
 
 -- ---- one command after another

@@ -9,7 +9,7 @@ use Rattle.cc_host.specs.declared.question.Outcome.{Outcome as WorldOutcome}
 use Rattle.cc_host.specs.declared.question.Question.{Question}
 use Rattle.cc_host.proofs.Parts.{since_since}
 use Rattle.cc_plan.specs.Plan.{prints}
-use Rattle.cc_plan.specs.Questions.{ToolAsks, ArchiverAsks, RanlibAsks, NameAsks, PlanAsks, SupportAsks, RunAsks}
+use Rattle.cc_plan.specs.Questions.{ToolAsks, ArchiverAsks, RanlibAsks, NameAsks, PlanAsks, CompileAsks, SupportAsks, RunAsks}
 use Rattle.cc_plan.specs.declared.link.LinkLine.{LinkLine}
 use Rattle.cc_plan.specs.declared.settings.BuildConfig.{BuildConfig}
 use Rattle.cc_plan.specs.declared.variables.Reads.{Reads}
@@ -40,10 +40,11 @@ module _ (reads : Reads) (set : BuildConfig) (env : EnvSeen) (look : Look) (q : 
 
   -- a run asks them, which plans no tool that writes an index
   pub names_in_run : reads.ranlib ≡ false → NameAsks reads set env look q → RunAsks set env look q
-  unfolding NameAsks RunAsks
+  unfolding NameAsks RunAsks CompileAsks
   names_in_run plain (inl h) = inr (inl (archiver_too h))
   names_in_run plain (inr (inl h)) = inr (inl h.1)
-  names_in_run plain (inr (inr h)) = let clash : false ≡ true = sym plain ∙ h.0 in absurd (cc)
+  names_in_run plain (inr (inr (inl h))) = let clash : false ≡ true = sym plain ∙ h.0 in absurd (cc)
+  names_in_run plain (inr (inr (inr h))) = inl (inr h.1)
 
 module _ (set : BuildConfig) (env : EnvSeen) where
   -- so do the calls that find a tool
@@ -51,31 +52,36 @@ module _ (set : BuildConfig) (env : EnvSeen) where
   unfolding NameAsks
   names_in_plan look q (inl h) = tool_for_plan set env look q h
   names_in_plan look q (inr (inl h)) = let clash : false ≡ true = h.0 in absurd (cc)
-  names_in_plan look q (inr (inr h)) = let clash : false ≡ true = h.0 in absurd (cc)
+  names_in_plan look q (inr (inr (inl h))) = let clash : false ≡ true = h.0 in absurd (cc)
+  names_in_plan look q (inr (inr (inr h))) = let clash : false ≡ true = h.0 in absurd (cc)
 
   pub names_in_expand : (look : Look) (q : Question) → NameAsks expand_reads set env look q → PlanAsks set env look q
   unfolding NameAsks
   names_in_expand look q (inl h) = tool_for_plan set env look q h
   names_in_expand look q (inr (inl h)) = let clash : false ≡ true = h.0 in absurd (cc)
-  names_in_expand look q (inr (inr h)) = let clash : false ≡ true = h.0 in absurd (cc)
+  names_in_expand look q (inr (inr (inl h))) = let clash : false ≡ true = h.0 in absurd (cc)
+  names_in_expand look q (inr (inr (inr h))) = let clash : false ≡ true = h.0 in absurd (cc)
 
   pub names_in_support : (flag : List ℕ) (look : Look) (q : Question) → NameAsks flag_reads set env look q → SupportAsks set env flag look q
   unfolding NameAsks
   names_in_support flag look q (inl h) = tool_for_support set env flag look q h
   names_in_support flag look q (inr (inl h)) = let clash : false ≡ true = h.0 in absurd (cc)
-  names_in_support flag look q (inr (inr h)) = let clash : false ≡ true = h.0 in absurd (cc)
+  names_in_support flag look q (inr (inr (inl h))) = let clash : false ≡ true = h.0 in absurd (cc)
+  names_in_support flag look q (inr (inr (inr h))) = let clash : false ≡ true = h.0 in absurd (cc)
 
   pub names_in_archiver : (look : Look) (q : Question) → NameAsks archiver_reads set env look q → ArchiverAsks set env look q
   unfolding NameAsks
   names_in_archiver look q (inl h) = archiver_too archiver_reads set env look q h
   names_in_archiver look q (inr (inl h)) = h.1
-  names_in_archiver look q (inr (inr h)) = let clash : false ≡ true = h.0 in absurd (cc)
+  names_in_archiver look q (inr (inr (inl h))) = let clash : false ≡ true = h.0 in absurd (cc)
+  names_in_archiver look q (inr (inr (inr h))) = let clash : false ≡ true = h.0 in absurd (cc)
 
   pub names_in_ranlib : (look : Look) (q : Question) → NameAsks ranlib_reads set env look q → RanlibAsks set env look q
   unfolding NameAsks
   names_in_ranlib look q (inl h) = ranlib_too ranlib_reads set env look q h
   names_in_ranlib look q (inr (inl h)) = let clash : false ≡ true = h.0 in absurd (cc)
-  names_in_ranlib look q (inr (inr h)) = h.1
+  names_in_ranlib look q (inr (inr (inl h))) = h.1
+  names_in_ranlib look q (inr (inr (inr h))) = let clash : false ≡ true = h.0 in absurd (cc)
 
 -- ---- one part behind another
 

@@ -27,7 +27,7 @@ linked_name library = name_or_none (linked_library library)
 
 -- what the lines read variables for
 abbrev pub link_reads : Reads
-link_reads = record { disabled = false; debug = false; compiler = false; flag = false; archiver = false; ranlib = false; links = true }
+link_reads = record { disabled = false; debug = false; compiler = false; assembler = false; flag = false; archiver = false; ranlib = false; links = true }
 
 -- The lines are planned by questions, and printed with those of the variables that were read; none where the path is no library's. A host that listens
 -- is told of the compiler that decides on the C++ library.

@@ -13,17 +13,14 @@ use Rattle.cc_host.specs.declared.event.LineKind.TheVariants.{Link, Rerun}
 use Rattle.cc_host.specs.declared.event.Role.{Role}
 use Rattle.cc_host.specs.declared.event.Role.TheVariants.{Compile, Archive, Index}
 use Rattle.cc_plan.specs.Archive.{archiver_of}
-use Rattle.cc_plan.specs.Compile.{compile_of}
 use Rattle.cc_plan.specs.Given.{is_disabled}
 use Rattle.cc_plan.specs.Libtool.{is_libtool}
 use Rattle.cc_plan.specs.Link.{printed_links, link_lines as lines_of}
-use Rattle.cc_plan.specs.Plan.{compiles_of, archives_of, indexes_of, lists_of_run, archive_refusal, link_lines, plan_warnings, warned_steps, objects_of, prints, warning_steps, folder_steps, removal_steps}
-use Rattle.cc_plan.specs.Planned.{tool_of}
+use Rattle.cc_plan.specs.Plan.{compile_in, compiles_of, archives_of, indexes_of, lists_of_run, archive_refusal, link_lines, plan_warnings, warned_steps, objects_of, prints, warning_steps, folder_steps, removal_steps}
 use Rattle.cc_plan.specs.Quiet.{quiet_warnings}
 use Rattle.cc_plan.specs.Refusal.{is_empty, early_refusal, late_refusal, link_refusal}
 use Rattle.cc_plan.specs.Reruns.{rerun_line, rerun_names}
 use Rattle.cc_plan.specs.declared.error.PlanError.{PlanError}
-use Rattle.cc_plan.specs.Target.{target_info}
 use Rattle.cc_plan.specs.declared.link.LinkLine.{LinkLine}
 use Rattle.cc_plan.specs.declared.object.Object.{Object}
 use Rattle.cc_plan.specs.declared.variables.Reads.{Reads}
@@ -119,10 +116,6 @@ finding_steps here = map Finds (option_to_list here)
 abbrev pub opening_steps : BuildConfig → EnvSeen → Found → Look → List Step
 opening_steps set env found look = warned_steps set (is_some found.here) (plan_warnings set env found.warns_of_link look) ++ finding_steps found.here
 
--- the planned command that compiles a source to its object
-abbrev pub compile_in : BuildConfig → EnvSeen → Look → Object → CommandSeen
-compile_in set env look object = compile_of set (target_info set env) (tool_of set env look) None object
-
 -- such a command, with its message where the current folder is known
 abbrev pub compile_planned : Option (List ℕ) → Object → CommandSeen → Planned
 compile_planned here object cmd = record { role = Compile; cmd = cmd; message = option_map (compile_command cmd object.src object.dst) here }
@@ -165,7 +158,7 @@ links_of set env name library look = lines_of set env name (folder_in library) l
 
 -- what a run reads variables for; it plans a compiler where there is a source
 abbrev pub run_reads : BuildConfig → Reads
-run_reads set = record { disabled = true; debug = true; compiler = not (is_empty set.files); flag = false; archiver = true; ranlib = false; links = true }
+run_reads set = record { disabled = true; debug = true; compiler = not (is_empty set.files); assembler = not (is_empty set.files); flag = false; archiver = true; ranlib = false; links = true }
 
 -- the lines that tell Cargo of variables
 abbrev pub rerun_lines : List (List ℕ) → List (List ℕ)

@@ -28,6 +28,7 @@ fn link_reads() -> Reads
         disabled: false,
         debug: false,
         compiler: false,
+        assembler: false,
         flag: false,
         archiver: false,
         ranlib: false,

@@ -17,7 +17,7 @@ use Rattle.cc_host.specs.declared.event.HostCall.{HostCall}
 use Rattle.cc_host.specs.declared.event.HostError.{HostError}
 use Rattle.cc_host.specs.declared.event.HostError.TheVariants.{Fault as Faulted, NoMemory as WantsMemory}
 use Rattle.cc_host.specs.declared.event.Role.TheVariants.{Compile, Archive, Index}
-use Rattle.cc_plan.specs.Plan.{archives_of, compiles_of, indexes_of, library_of, objects_of}
+use Rattle.cc_plan.specs.Plan.{archives_of, compile_in, compiles_of, indexes_of, library_of, objects_of}
 use Rattle.cc_plan.specs.declared.object.Object.{Object}
 use Rattle.cc_plan.specs.declared.settings.BuildConfig.{BuildConfig}
 use Rattle.cc_run.specs.Part.{started, started_of}
@@ -31,7 +31,7 @@ use Rattle.cc_build.specs.Stage.Stage.{Asks}
 use Rattle.cc_build.specs.Stage.{children_in}
 use Rattle.cc_build.specs.Went.{Terms}
 use Rattle.cc_build.proofs.RunLaws.{children_calls, went_started}
-use Rattle.cc_command.specs.Database.{Faults, call_error, optional, compile_start, compile_starts, compile_in, entry_of, entries_by, entries_of, last_of, logged_entries}
+use Rattle.cc_command.specs.Database.{Faults, call_error, optional, compile_start, compile_starts, entry_of, entries_by, entries_of, last_of, logged_entries}
 
 -- ---- the commands that were started to compile
 

@@ -13,7 +13,11 @@ mod archive_asks;
 mod archive_names;
 mod archive_reruns;
 mod archive_tool;
+mod assembler;
+mod assembler_reruns;
+mod assembly;
 mod batch;
+mod beside;
 mod blanks;
 mod choice;
 mod compilation;
@@ -37,6 +41,7 @@ mod prefix;
 mod printing;
 mod reruns;
 mod search;
+mod searched;
 mod settings;
 mod sight;
 mod stdlib;
@@ -49,6 +54,7 @@ mod words;
 pub use archive::{
     Archiver, archive_commands, archived_paths, archiver_of, index_commands, ranlib_of,
 };
+pub use assembler::assembler_of;
 pub use batch::batches;
 pub use choice::Choice;
 pub use compile::{compile_command, expand_command};

@@ -184,7 +184,7 @@ fn push_wrapper_words(tool: &mut Tool, words: &Words) -> Mem<()>
     Ok(())
 }
 
-fn push_args(tool: &mut Tool, words: &Words) -> Mem<()>
+pub(crate) fn push_args(tool: &mut Tool, words: &Words) -> Mem<()>
     ensures { OnOk result (tool.new ≡ record tool.old { args = tool.old.args ++ words.now }) }
 {
     for word in words.as_slice() {
@@ -193,7 +193,7 @@ fn push_args(tool: &mut Tool, words: &Words) -> Mem<()>
     Ok(())
 }
 
-fn push_entries(tool: &mut Tool, env: &BuildEnv) -> Mem<()>
+pub(crate) fn push_entries(tool: &mut Tool, env: &BuildEnv) -> Mem<()>
     ensures { OnOk result (tool.new
         ≡ record tool.old { entries = tool.old.entries ++ env.now.explicit }) }
 {
