@@ -40,7 +40,6 @@ fn archive_reads() -> Reads
         disabled: true,
         debug: true,
         compiler: false,
-        assembler: false,
         flag: false,
         archiver: true,
         ranlib: false,

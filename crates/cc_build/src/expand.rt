@@ -165,7 +165,6 @@ fn told_expand<W: World, H: Host<W>>(
         disabled: true,
         debug: true,
         compiler: true,
-        assembler: false,
         flag: false,
         archiver: false,
         ranlib: false,

@@ -1,13 +1,11 @@
 // The C++ library that a library of C++ is linked with, and the lines by which Cargo links it.
-ghost use Rattle.std.specs.Prelude.{◌≡◌, ◌++◌, [], IfOk, OnOk, Some};
+ghost use Rattle.std.specs.Prelude.{◌≡◌, ◌++◌, IfOk, OnOk, Some};
 ghost use Rattle.std.specs.List.{list_any};
 ghost use Rattle.cc_target.specs.Targets.{info_seen};
 ghost use Rattle.cc_tool.specs.Libcxx.{libcxx_question};
-ghost use Rattle.cc_host.specs.Question.{Settles};
 ghost use Rattle.cc_plan.specs.Asking.{OnlyAsks, AsksForLinks, AsksToPlan, SettledIn};
 ghost use Rattle.cc_plan.specs.Blanks.{nonempty};
 ghost use Rattle.cc_plan.specs.Questions.{LibraryAsks};
-ghost use Rattle.cc_plan.specs.Quiet.{allowed_warnings, quiet_warnings};
 ghost use Rattle.cc_plan.specs.Refusal.{AllowedBy, RefusedBy, cpp_refusal};
 ghost use Rattle.cc_plan.specs.Refusal as spec;
 ghost use Rattle.cc_plan.specs.Stdlib as stdlib;
@@ -15,7 +13,7 @@ ghost use Rattle.cc_plan.specs.Target.{target_info};
 
 use crate::given::{is_disabled, prefixed_value, target_name};
 use crate::settings::second;
-use crate::tool::{demand, plan_quietly, quiet_warnings};
+use crate::tool::{demand, plan_quietly};
 use crate::{BuildConfig, LinkLine, PlanError, Sight};
 use cc_env::{BuildEnv, env_value_is_true};
 use cc_flags::is_wasm_linux;
@@ -123,44 +121,25 @@ fn is_memory(error: &PlanError) -> bool
     }
 }
 
-// A tool, or none where its plan is refused, and what a user is told of that plan.
-#[derive(Drop)]
-struct Allowed {
-    tool: Option<Tool>,
-    warnings: Words,
-}
-
-// The tool of these settings, with its warnings, or none where it is refused. It asks, and prints nothing.
+// The tool of these settings, or none where it is refused. It asks, and a user isn't warned.
 fn allowed_tool<W: World, H: Host<W>>(
     rt: &impl Wait,
     alloc: Global,
     set: &BuildConfig,
     env: &BuildEnv,
     sight: &mut Sight<'_, W, H>,
-) -> Mem<Allowed>
+) -> Mem<Option<Tool>>
     ensures asks { AsksToPlan W.steady W.answer H.log H.patience set.now env.now
         sight.old sight.new }
-    ensures tool { IfOk result (λ allowed. Settles sight.new.answers.now
-        (stdlib.allowed_tool set.now env.now) allowed.tool) }
-    ensures warnings { IfOk result (λ allowed. Settles sight.new.answers.now
-        (allowed_warnings set.now env.now) allowed.warnings) }
+    ensures settles { SettledIn sight.new (stdlib.allowed_tool set.now env.now) result }
 {
     match plan_quietly(rt, alloc, set, env, sight) {
-        Ok(plan) => {
-            let warnings = quiet_warnings(set, plan.unmarked)?;
-            Ok(Allowed {
-                tool: Some(plan.tool),
-                warnings,
-            })
-        }
+        Ok(plan) => Ok(Some(plan.tool)),
         Err(error) => {
             if is_memory(&error) {
                 Err(NoMemory)
             } else {
-                Ok(Allowed {
-                    tool: None,
-                    warnings: Words::new(alloc),
-                })
+                Ok(None)
             }
         }
     }
@@ -214,43 +193,25 @@ fn tool_uses_libcxx<W: World, H: Host<W>>(
     Ok(uses)
 }
 
-// Whether the C++ library of the compiler is libc++, and what a user is told of that compiler's plan.
-#[derive(Drop)]
-struct Decided {
-    is_libcxx: bool,
-    warnings: Words,
-}
-
-// Whether the C++ library of the compiler is libc++, where it is Clang and its plan isn't refused, with the warnings of that plan.
+// Whether the C++ library of the compiler is libc++, where it is Clang and its plan isn't refused.
 fn uses_libcxx<W: World, H: Host<W>>(
     rt: &impl Wait,
     alloc: Global,
     set: &BuildConfig,
     env: &BuildEnv,
     sight: &mut Sight<'_, W, H>,
-) -> Mem<Decided>
+) -> Mem<bool>
     ensures asks { OnlyAsks W.steady W.answer H.log H.patience (LibraryAsks set.now env.now)
         sight.old sight.new }
-    ensures uses { IfOk result (λ decided. Settles sight.new.answers.now
-        (λ look. stdlib.uses_libcxx look (stdlib.allowed_tool set.now env.now look))
-        decided.is_libcxx) }
-    ensures warnings { IfOk result (λ decided. Settles sight.new.answers.now
-        (allowed_warnings set.now env.now) decided.warnings) }
+    ensures settles { SettledIn sight.new
+        (λ look. stdlib.uses_libcxx look (stdlib.allowed_tool set.now env.now look)) result }
 {
-    let allowed = allowed_tool(rt, alloc, set, env, sight)?;
-    let (tool, warnings) = (allowed.tool, allowed.warnings);
-    match tool {
+    match allowed_tool(rt, alloc, set, env, sight)? {
         Some(tool) => {
-            let is_libcxx = tool_uses_libcxx(rt, alloc, &tool, sight)?;
-            Ok(Decided {
-                is_libcxx,
-                warnings,
-            })
+            let uses = tool_uses_libcxx(rt, alloc, &tool, sight)?;
+            Ok(uses)
         }
-        None => Ok(Decided {
-            is_libcxx: false,
-            warnings,
-        }),
+        None => Ok(false),
     }
 }
 
@@ -275,28 +236,9 @@ pub(crate) fn links_cpp(set: &BuildConfig) -> bool
     set.cargo_metadata && set.cpp
 }
 
-/// The C++ library that a library of C++ is linked with, or none, and what a user is told of the plan of the compiler that decides on it.
-#[derive(Drop)]
-pub(crate) struct ChosenLibrary {
-    pub library: Option<Text>,
-    pub warnings: Words,
-}
-
-// A library, or none, for which no compiler was planned.
-fn unplanned(alloc: Global, library: Option<Text>) -> ChosenLibrary
-    ensures library { result.library ≡ library }
-    ensures warnings { result.warnings ≡ [] }
-{
-    ChosenLibrary {
-        library,
-        warnings: Words::new(alloc),
-    }
-}
-
 /// The C++ library that a library of C++ is linked with, or none, where there are lines for it: the set one; else `CXXSTDLIB`, where the
 /// empty text is none; else that of the target's system; else libc++ where the compiler is Clang and has that library's headers; else
-/// libstdc++. The compiler's plan is quiet: what it is refused for but memory leaves libstdc++, and its warnings are handed back as texts,
-/// which are printed nowhere.
+/// libstdc++. The compiler's plan is quiet: what it is refused for but memory leaves libstdc++, and no warning of it is given.
 #[tactic(auto, using(crate::proofs::AskingLemmas::only_none))]
 pub(crate) fn linked_library<W: World, H: Host<W>>(
     rt: &impl Wait,
@@ -304,30 +246,23 @@ pub(crate) fn linked_library<W: World, H: Host<W>>(
     set: &BuildConfig,
     env: &BuildEnv,
     sight: &mut Sight<'_, W, H>,
-) -> Mem<ChosenLibrary>
+) -> Mem<Option<Text>>
     ensures asks { AsksForLinks W.steady W.answer H.log H.patience set.now env.now
         sight.old sight.new }
-    ensures library { IfOk result (λ linked. Settles sight.new.answers.now
-        (stdlib.linked_library set.now env.now) linked.library) }
-    ensures warnings { IfOk result (λ linked. Settles sight.new.answers.now
-        (quiet_warnings set.now env.now) linked.warnings) }
+    ensures settles { SettledIn sight.new (stdlib.linked_library set.now env.now) result }
 {
     if !links_cpp(set) {
-        return Ok(unplanned(alloc, None));
+        return Ok(None);
     }
     match given_library(alloc, set, env)? {
-        Some(library) => return Ok(unplanned(alloc, library)),
+        Some(library) => return Ok(library),
         None => {}
     }
     if !may_ask(set, env) {
-        return Ok(unplanned(alloc, Some(Text::of(alloc, library_by(false))?)));
+        return Ok(Some(Text::of(alloc, library_by(false))?));
     }
-    let decided = uses_libcxx(rt, alloc, set, env, sight)?;
-    let library = Text::of(alloc, library_by(decided.is_libcxx))?;
-    Ok(ChosenLibrary {
-        library: Some(library),
-        warnings: decided.warnings,
-    })
+    let uses = uses_libcxx(rt, alloc, set, env, sight)?;
+    Ok(Some(Text::of(alloc, library_by(uses))?))
 }
 
 #[tactic(auto, unfolding(crate::specs::Stdlib::is_static))]
