@@ -17,6 +17,7 @@ use Rattle.cc_host.proofs.Parts.{since_append}
 use Rattle.cc_plan.specs.Given.{is_disabled}
 use Rattle.cc_plan.specs.Plan.{compiles_of, archives_of, indexes_of, lists_of_run, archive_refusal, objects_of, folder_steps, removal_steps, link_lines}
 use Rattle.cc_plan.specs.Refusal.{early_refusal, late_refusal, link_refusal}
+use Rattle.cc_plan.specs.Quiet.{quiet_warnings}
 use Rattle.cc_plan.specs.declared.settings.BuildConfig.{BuildConfig}
 use Rattle.cc_host.specs.declared.event.LineKind.TheVariants.{Warning}
 use Rattle.cc_run.specs.Part.{turns, turns_of, Within, Greedy}
@@ -27,7 +28,7 @@ use Rattle.cc_run.specs.declared.planned.Planned.{Planned}
 use Rattle.cc_build.specs.Attempts.{attempt_of, attempts, to_attempt}
 use Rattle.cc_build.specs.Error.{ErrorSeen}
 use Rattle.cc_build.specs.Promises.{is_compiling, RunBeside}
-use Rattle.cc_build.specs.Stage.{Stage, commands_in, calls, planned, beside, compiles_planned, opening_steps, writings, has_libtool, folder_stages, compile_stages, removal_stages, library_commands, list_stages, archive_stages, link_stages, library_stages, ending_stages, later_stages, late_stages, planned_stages, run_reads, cargo_steps}
+use Rattle.cc_build.specs.Stage.{Stage, commands_in, calls, planned, beside, compiles_planned, opening_steps, writings, has_libtool, folder_stages, compile_stages, removal_stages, library_commands, list_stages, archive_stages, link_stages, library_stages, ending_stages, later_stages, late_stages, planned_stages, run_reads, ending_steps}
 use Rattle.cc_build.specs.Way.{Way}
 use Rattle.cc_build.proofs.SourceLaws.{planned_count}
 use Rattle.cc_build.specs.Stage.Stage.{Calls, Asks, Tries, RunsOne, RunsAll}
@@ -241,9 +242,9 @@ module _ (set : BuildConfig) (env : EnvSeen) (way : Way) (look : Look) (output :
   unfolding list_stages
   none_list = none_calls (writings (lists_of_run set env look output))
 
-  none_links : CompileNone (link_stages set env look way.firsts output)
+  none_links : CompileNone (link_stages set env (is_some way.found.here) look way.firsts output)
   unfolding link_stages
-  none_links = none_calls (cargo_steps way.firsts (link_lines set env look output) (rerun_names (run_reads set) set env look))
+  none_links = none_calls (ending_steps (is_some way.found.here) (quiet_warnings set env look) way.firsts (link_lines set env look output) (rerun_names (run_reads set) set env look))
 
   none_archives : CompileNone (archive_stages set env look way.is_plain output)
   unfolding archive_stages
@@ -256,7 +257,7 @@ module _ (set : BuildConfig) (env : EnvSeen) (way : Way) (look : Look) (output :
       ∙ or_none (list_any is_compiling (map to_attempt (planned Archive archives))) (list_any is_compiling (map to_attempt (planned Index indexes))) (none_archive archives) (none_index indexes)
 
   none_ending : CompileNone (ending_stages set env way look output)
-  none_ending = none_unless (is_some (link_refusal set env look)) (link_stages set env look way.firsts output) none_links
+  none_ending = none_unless (is_some (link_refusal set env look)) (link_stages set env (is_some way.found.here) look way.firsts output) none_links
 
   none_library : CompileNone (library_stages set env way.is_plain look output ++ ending_stages set env way look output)
   none_library =

@@ -1,5 +1,5 @@
 -- A part that did all the stages of a compile run is built.
-use Rattle.std.proofs.Common.{◌≡◌, List, [], ◌∷◌, ◌++◌, ℕ, length, Option, Some, None, Bool, true, false, if◌then◌else◌, Result, Ok, Err, OnOk, refl, sym, ◌∙◌, ap, ap₂, subst, append_assoc, append-nil, map, zero-add}
+use Rattle.std.proofs.Common.{◌≡◌, List, [], ◌∷◌, ◌++◌, ℕ, length, Option, Some, None, is_some, Bool, true, false, if◌then◌else◌, Result, Ok, Err, OnOk, refl, sym, ◌∙◌, ap, ap₂, subst, append_assoc, append-nil, map, zero-add}
 use Rattle.std.specs.Option.{option_map}
 use Rattle.std.proofs.lemmas.List.{length-map}
 use Rattle.std.proofs.lemmas.Grind.{flat_map-append}
@@ -70,7 +70,7 @@ module _ (set : BuildConfig) (env : EnvSeen) (way : Way) (look : Look) (output :
   first_part = folder_stages set env ++ (Asks ∷ (compile_stages set env way.found look ++ (Asks ∷ [])))
 
   abbrev last_part : List Stage
-  last_part = Asks ∷ link_stages set env look way.firsts output
+  last_part = Asks ∷ link_stages set env (is_some way.found.here) look way.firsts output
 
   -- the list, and the commands behind it
   abbrev middle_part : List Stage

@@ -8,7 +8,7 @@ use Rattle.cc_plan.specs.Plan.{prints}
 use Rattle.cc_plan.specs.declared.link.LinkLine.{LinkLine}
 use Rattle.cc_plan.specs.declared.settings.BuildConfig.{BuildConfig}
 use Rattle.cc_build.specs.Questions.{AreFirst}
-use Rattle.cc_build.specs.Stage.{Stage, calls, rerun_lines}
+use Rattle.cc_build.specs.Stage.{Stage, calls, said_steps, rerun_lines}
 use Rattle.cc_build.specs.Stage.Stage.{Calls}
 use Rattle.cc_build.specs.Way.{AreFirsts, Firsts, chosen}
 use Rattle.cc_build.specs.declared.directives.Lines.{Lines}
@@ -44,14 +44,20 @@ abbrev firsts_of : Bool → List Bool → Firsts
 firsts_of links names = record { links = links; names = names }
 
 -- these stages print the first ones
-pub are_first : (set : BuildConfig) (lines : Lines) (is_first : Bool) (names : List (List ℕ)) (links : List LinkLine) (stages : List Stage) → (set.repeat_lines ≡ true → is_first ≡ true) → AreFirsts set lines.names names → links ≡ lines.links.items → stages ≡ calls (prints Link (printed_links is_first links)) ++ calls (prints Rerun (rerun_lines names)) → AreFirst set lines stages
-are_first set lines is_first names links stages all some same are = (
-  firsts_of is_first some.0,
-  (
-    (λ repeats. ap₂ firsts_of (all repeats) (some.1.0 repeats)),
-    are
-        ∙ ap (λ (l : List LinkLine). calls (prints Link (printed_links is_first l)) ++ calls (prints Rerun (rerun_lines names))) same
-        ∙ ap (λ (n : List (List ℕ)). calls (prints Link (printed_links is_first lines.links.items)) ++ calls (prints Rerun (rerun_lines n))) some.1.1
-        ∙ sym (map-append Calls (prints Link (printed_links is_first lines.links.items)) (prints Rerun (rerun_lines (chosen some.0 lines.names)))),
-  ),
-)
+pub are_first : (set : BuildConfig) (listens : Bool) (lines : Lines) (is_first : Bool) (names : List (List ℕ)) (links : List LinkLine) (stages : List Stage) → (set.repeat_lines ≡ true → is_first ≡ true) → AreFirsts set lines.names names → links ≡ lines.links.lines.items
+    → stages ≡ (calls (said_steps listens lines.links.warnings) ++ calls (prints Link (printed_links is_first links))) ++ calls (prints Rerun (rerun_lines names)) → AreFirst set listens lines stages
+are_first set listens lines is_first names links stages all some same are =
+    let said = said_steps listens lines.links.warnings in
+    let printed = prints Link (printed_links is_first lines.links.lines.items) in
+    let told = prints Rerun (rerun_lines (chosen some.0 lines.names)) in (
+      firsts_of is_first some.0,
+      (
+        (λ repeats. ap₂ firsts_of (all repeats) (some.1.0 repeats)),
+        are
+            ∙ ap (λ (l : List LinkLine). (calls said ++ calls (prints Link (printed_links is_first l))) ++ calls (prints Rerun (rerun_lines names))) same
+            ∙ ap (λ (n : List (List ℕ)). (calls said ++ calls printed) ++ calls (prints Rerun (rerun_lines n))) some.1.1
+            ∙ append_assoc (calls said) (calls printed) (calls told)
+            ∙ ap (λ (l : List Stage). calls said ++ l) (sym (map-append Calls printed told))
+            ∙ sym (map-append Calls said (printed ++ told)),
+      ),
+    )

@@ -8,9 +8,8 @@ use Rattle.cc_host.specs.Command.{CommandSeen}
 use Rattle.cc_host.specs.Question.{Look}
 use Rattle.cc_host.specs.declared.event.Event.{Event}
 use Rattle.cc_host.specs.declared.event.Role.TheVariants.{Archive, Index}
-use Rattle.cc_host.specs.declared.event.LineKind.TheVariants.{Link, Rerun}
 use Rattle.cc_plan.specs.Given.{is_disabled}
-use Rattle.cc_plan.specs.Link.{printed_links}
+use Rattle.cc_plan.specs.Quiet.{quiet_warnings}
 use Rattle.cc_plan.specs.Plan.{archives_of, indexes_of, lists_of_run, archive_refusal, link_lines, removal_steps, prints}
 use Rattle.cc_plan.specs.Refusal.{early_refusal, late_refusal, link_refusal}
 use Rattle.cc_plan.specs.declared.settings.BuildConfig.{BuildConfig}
@@ -18,11 +17,12 @@ use Rattle.cc_run.specs.Part.{missing}
 use Rattle.cc_run.specs.declared.planned.Planned.{Planned}
 use Rattle.cc_build.specs.Error.{ErrorSeen}
 use Rattle.cc_build.specs.Failed.{is_form}
-use Rattle.cc_build.specs.Stage.{Stage, calls, planned, tried, written, writings, has_libtool, folder_stages, compile_stages, removal_stages, list_stages, archive_stages, link_stages, library_stages, ending_stages, later_stages, asked_stages, late_stages, planned_stages, run_reads, rerun_lines}
+use Rattle.cc_build.specs.Stage.{Stage, calls, planned, tried, written, writings, has_libtool, folder_stages, compile_stages, removal_stages, list_stages, archive_stages, link_stages, library_stages, ending_stages, later_stages, asked_stages, late_stages, planned_stages, run_reads, ending_steps}
 use Rattle.cc_build.specs.Stage.Stage.{Calls, Asks, Tries, RunsOne, RunsAll}
-use Rattle.cc_build.specs.Way.{Way, chosen}
+use Rattle.cc_build.specs.Way.{Way}
 use Rattle.cc_build.specs.Went.{Terms, Means, Went, Stops, Halts, Halted}
-use Rattle.cc_build.proofs.OrderLaws.{may_archive, NoArchive, IsSilent, no_archive_then, went_partly, stop_silent, partly_silent, no_folder_archives, no_line_archives, no_lines_archives, no_compile_archives}
+use Rattle.cc_build.proofs.OrderLaws.{may_archive, NoArchive, IsSilent, no_archive_then, went_partly, stop_silent, partly_silent, no_folder_archives, no_note_archives, no_compile_archives}
+use Rattle.cc_build.proofs.SourceLaws.{ending_notes}
 use Rattle.cc_build.proofs.StopLaws.{ArePlain, plain_behind, tries_form, went_form, IsFormed, HasCause, halts_cause}
 use Rattle.cc_build.proofs.Trying.{broken_of, broken_missing}
 
@@ -120,13 +120,15 @@ module _ (set : BuildConfig) (env : EnvSeen) (way : Way) (look : Look) (output :
   unfolding removal_stages removal_steps
   no_removal_archives = refl
 
-  no_link_archives : NoArchive (link_stages set env look way.firsts output)
+  no_link_archives : NoArchive (link_stages set env (is_some way.found.here) look way.firsts output)
   unfolding link_stages
   no_link_archives =
-      no_lines_archives Link Rerun (printed_links way.firsts.links (link_lines set env look output)) (rerun_lines (chosen way.firsts.names (rerun_names (run_reads set) set env look)))
+      let names = rerun_names (run_reads set) set env look in
+      let texts = quiet_warnings set env look in
+      no_note_archives (ending_steps (is_some way.found.here) texts way.firsts (link_lines set env look output) names) (ending_notes (is_some way.found.here) texts way.firsts (link_lines set env look output) names)
 
   ending_first : FormFirst (ending_stages set env way look output)
-  ending_first = inr (refl, formed_unless (is_some (link_refusal set env look)) (link_stages set env look way.firsts output) (none_first (link_stages set env look way.firsts output) no_link_archives))
+  ending_first = inr (refl, formed_unless (is_some (link_refusal set env look)) (link_stages set env (is_some way.found.here) look way.firsts output) (none_first (link_stages set env (is_some way.found.here) look way.firsts output) no_link_archives))
 
   -- the commands of a library, and stages behind them
   module _ (more : List Stage) (first : FormFirst more) where

@@ -11,7 +11,7 @@ use Rattle.cc_host.specs.declared.event.Event.{Event}
 use Rattle.cc_host.specs.declared.question.Outcome.{Outcome}
 use Rattle.cc_host.specs.declared.question.Question.{Question}
 use Rattle.cc_host.proofs.Parts.{since_since, since_extends}
-use Rattle.cc_plan.specs.Questions.{PlanAsks, ArchiverAsks, LinkAsks, RunAsks}
+use Rattle.cc_plan.specs.Questions.{CompileAsks, ArchiverAsks, LinkAsks, RunAsks}
 use Rattle.cc_plan.specs.declared.settings.BuildConfig.{BuildConfig}
 use Rattle.cc_tool.specs.Asked.{Asked, question_events}
 use Rattle.cc_tool.specs.Asks.{Asks, IsWorlds}
@@ -140,9 +140,9 @@ agrees_earlier look known new more grows agree = agrees_before look known more (
 -- ---- the questions of a run
 
 module _ (set : BuildConfig) (env : EnvSeen) (part : List Event) (new : List Answer) where
-  pub of_plan : Holds new (λ look. AnswersAmong (PlanAsks set env look) part) → Holds new (λ look. AnswersAmong (RunAsks set env look) part)
+  pub of_compiles : Holds new (λ look. AnswersAmong (CompileAsks set env look) part) → Holds new (λ look. AnswersAmong (RunAsks set env look) part)
   unfolding RunAsks
-  of_plan own = record { under = λ look agree i d l. inl (own.under look agree i d l) }
+  of_compiles own = record { under = λ look agree i d l. inl (own.under look agree i d l) }
 
   pub of_archiver : Holds new (λ look. AnswersAmong (ArchiverAsks set env look) part) → Holds new (λ look. AnswersAmong (RunAsks set env look) part)
   unfolding RunAsks

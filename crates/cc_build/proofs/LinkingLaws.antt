@@ -5,6 +5,7 @@ use Rattle.cc_env.specs.Env.{EnvSeen}
 use Rattle.cc_host.specs.Question.{Look}
 use Rattle.cc_host.specs.declared.event.Event.{Event}
 use Rattle.cc_plan.specs.Names.{linked_library}
+use Rattle.cc_plan.specs.Quiet.{quiet_warnings}
 use Rattle.cc_plan.specs.Reruns.{rerun_names}
 use Rattle.cc_plan.specs.declared.link.LinkLine.{LinkLine}
 use Rattle.cc_plan.specs.Refusal.{first_of, path_refusal, link_refusal}
@@ -15,7 +16,7 @@ use Rattle.cc_build.specs.Build.{BuildSeen}
 use Rattle.cc_build.specs.Error.{ErrorSeen, no_memory}
 use Rattle.cc_build.specs.Linking.{link_reads, linked_name, name_or_none, DirectivesEnd}
 use Rattle.cc_build.specs.Refusal.{plan_error}
-use Rattle.cc_build.specs.Stage.{Stage, asked_then, links_of, printed_stages, cargo_steps}
+use Rattle.cc_build.specs.Stage.{Stage, asked_then, links_of, printed_stages, ending_steps}
 use Rattle.cc_build.specs.Stage.Stage.{Asks}
 use Rattle.cc_build.specs.Way.{Firsts, Repeats, all_firsts}
 use Rattle.cc_build.specs.Went.{Terms, Means, Ends}
@@ -32,7 +33,7 @@ by_path t f (Some error) late run part r x z is o = absurd (cc)
 pub found_so : (library : List ℕ) (found : List ℕ × List ℕ) → linked_library library ≡ Some found → path_refusal library ≡ None
 found_so library found is = rw is refl
 
-module _ (set : BuildConfig) (env : EnvSeen) (look : Look) (library : List ℕ) (part : List Event) where
+module _ (set : BuildConfig) (env : EnvSeen) (listens : Bool) (look : Look) (library : List ℕ) (part : List Event) where
   abbrev seen : BuildSeen
   seen = record { config = set; env = env }
 
@@ -45,14 +46,17 @@ module _ (set : BuildConfig) (env : EnvSeen) (look : Look) (library : List ℕ) 
   abbrev lines : List LinkLine
   lines = links_of set env (linked_name library) library look
 
-  abbrev run_with : Firsts → List Stage
-  run_with firsts = if is_some (link_refusal set env look) then [] else printed_stages firsts lines names
+  abbrev texts : List (List ℕ)
+  texts = quiet_warnings set env look
 
-  still_lines : (firsts : Firsts) → AreStill (printed_stages firsts lines names)
-  still_lines firsts = still_calls (cargo_steps firsts lines names)
+  abbrev run_with : Firsts → List Stage
+  run_with firsts = if is_some (link_refusal set env look) then [] else printed_stages listens texts firsts lines names
+
+  still_lines : (firsts : Firsts) → AreStill (printed_stages listens texts firsts lines names)
+  still_lines firsts = still_calls (ending_steps listens texts firsts lines names)
 
   -- nothing was asked: the path is no library's, or memory was wanted
-  pub path_refused : (e : ErrorSeen) (error : PlanError) → part ≡ [] → (e ≡ no_memory) ⊎ (e ≡ plan_error set env library error) → (error ≡ WantsMemory) ⊎ (path_refusal library ≡ Some error) → DirectivesEnd {T = Unit {0}} seen library (Err e) look part
+  pub path_refused : (e : ErrorSeen) (error : PlanError) → part ≡ [] → (e ≡ no_memory) ⊎ (e ≡ plan_error set env library error) → (error ≡ WantsMemory) ⊎ (path_refusal library ≡ Some error) → DirectivesEnd {T = Unit {0}} seen listens library (Err e) look part
   path_refused e error none made cause = (
     all_firsts,
     (
@@ -62,17 +66,18 @@ module _ (set : BuildConfig) (env : EnvSeen) (look : Look) (library : List ℕ) 
   )
 
   -- the lines were planned and printed so
-  pub lines_ended : {T : Type 0} (t : Terms) (y z : Means) (found : List ℕ × List ℕ) (reads : Reads) (name path : List ℕ) (r : Result T ErrorSeen) → reads ≡ link_reads → linked_library library ≡ Some found → name ≡ found.0 → path ≡ library
-      → (firsts : Firsts) × (Repeats set firsts × Ends t late_in (asked_then (link_refusal set env look) (printed_stages firsts (links_of set env name path look) (rerun_names reads set env look))) part r y z)
-      → DirectivesEnd seen library r look part
-  lines_ended t y z found reads name path r those is n p h =
+  pub lines_ended : {T : Type 0} (t : Terms) (y z : Means) (found : List ℕ × List ℕ) (reads : Reads) (heard : Bool) (name path : List ℕ) (r : Result T ErrorSeen) → reads ≡ link_reads → heard ≡ listens → linked_library library ≡ Some found → name ≡ found.0 → path ≡ library
+      → (firsts : Firsts) × (Repeats set firsts × Ends t late_in (asked_then (link_refusal set env look) (printed_stages heard texts firsts (links_of set env name path look) (rerun_names reads set env look))) part r y z)
+      → DirectivesEnd seen listens library r look part
+  lines_ended t y z found reads heard name path r those hears is n p h =
       let named : name ≡ linked_name library = n ∙ ap name_or_none (sym is) in
-      let stages : List ℕ → List ℕ → List Stage = λ m l. asked_then (link_refusal set env look) (printed_stages h.0 (links_of set env m l look) names) in
+      let stages : List ℕ → List ℕ → List Stage = λ m l. asked_then (link_refusal set env look) (printed_stages listens texts h.0 (links_of set env m l look) names) in
       let ends : Ends t late_in (Asks ∷ run_with h.0) part r y z =
       subst (λ (m : List ℕ). Ends t late_in (stages m library) part r y z) named
       (subst (λ (l : List ℕ). Ends t late_in (stages name l) part r y z) p
-      (subst (λ (rd : Reads). Ends t late_in (asked_then (link_refusal set env look) (printed_stages h.0 (links_of set env name path look) (rerun_names rd set env look))) part r y z) those h.1.1)) in
-      let still : AreStill (Asks ∷ run_with h.0) = (tt, still_unless (is_some (link_refusal set env look)) (printed_stages h.0 lines names) (still_lines h.0)) in (
+      (subst (λ (b : Bool). Ends t late_in (asked_then (link_refusal set env look) (printed_stages b texts h.0 (links_of set env name path look) names)) part r y z) hears
+      (subst (λ (rd : Reads). Ends t late_in (asked_then (link_refusal set env look) (printed_stages heard texts h.0 (links_of set env name path look) (rerun_names rd set env look))) part r y z) those h.1.1))) in
+      let still : AreStill (Asks ∷ run_with h.0) = (tt, still_unless (is_some (link_refusal set env look)) (printed_stages listens texts h.0 lines names) (still_lines h.0)) in (
         h.0,
         (
           h.1.0,

@@ -19,7 +19,7 @@ use Rattle.cc_host.specs.declared.event.Role.TheVariants.{Compile}
 use Rattle.cc_host.specs.declared.event.Scope.TheVariants.{Build}
 use Rattle.cc_host.proofs.Parts.{since_append}
 use Rattle.cc_plan.specs.Given.{is_disabled}
-use Rattle.cc_plan.specs.Plan.{dir_of, objects_of, prints, folder_steps}
+use Rattle.cc_plan.specs.Plan.{compile_in, dir_of, objects_of, prints, folder_steps}
 use Rattle.cc_plan.specs.Refusal.{early_refusal, late_refusal, is_empty}
 use Rattle.cc_plan.specs.declared.object.Object.{Object}
 use Rattle.cc_plan.specs.declared.settings.BuildConfig.{BuildConfig}
@@ -36,7 +36,7 @@ use Rattle.cc_tool.specs.Probing.{is_asked}
 use Rattle.cc_build.specs.Error.{ErrorSeen}
 use Rattle.cc_build.specs.Order.{is_archive_role, is_archive_event, ArchivesLast}
 use Rattle.cc_build.specs.Refusal.{refusal_error}
-use Rattle.cc_build.specs.Stage.{Stage, calls, beside, compile_in, compile_planned, compiles_planned, opening_steps, folder_stages, compile_stages, later_stages, late_stages, planned_stages}
+use Rattle.cc_build.specs.Stage.{Stage, calls, beside, compile_planned, compiles_planned, opening_steps, folder_stages, compile_stages, later_stages, late_stages, planned_stages}
 use Rattle.cc_build.specs.Way.{Way, Found}
 use Rattle.cc_build.proofs.SourceLaws.{AreNotes, opening_notes}
 use Rattle.cc_build.specs.Stage.Stage.{Calls, Asks, Tries, RunsOne, RunsAll}
@@ -317,11 +317,6 @@ pub no_line_archives : (kind : LineKind) (lines : List (List ℕ)) → NoArchive
 unfolding prints
 no_line_archives kind [] = refl
 no_line_archives kind (line ∷ lines) = no_line_archives kind lines
-
-pub no_lines_archives : (kind other : LineKind) (lines more : List (List ℕ)) → NoArchive (calls (prints kind lines ++ prints other more))
-unfolding prints
-no_lines_archives kind other [] more = no_line_archives other more
-no_lines_archives kind other (line ∷ lines) more = no_lines_archives kind other lines more
 
 -- nor does a step that prints, says or asks for the folder
 pub no_note_archives : (steps : List Step) → AreNotes steps → NoArchive (calls steps)

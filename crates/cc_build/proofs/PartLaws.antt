@@ -1,12 +1,12 @@
 -- How the parts of a run, one after another, make up the whole of them.
-use Rattle.std.proofs.Common.{◌≡◌, ◌⊎◌, ℕ, List, [], ◌∷◌, ◌++◌, Bool, true, false, Option, Some, None, Result, Ok, Err, refl, sym, ◌∙◌, ap, append-nil, subst, option_map}
+use Rattle.std.proofs.Common.{◌≡◌, ◌⊎◌, ℕ, List, [], ◌∷◌, ◌++◌, Bool, true, false, Option, Some, None, is_some, Result, Ok, Err, refl, sym, ◌∙◌, ap, append-nil, subst, option_map}
 use Rattle.cc_env.specs.Env.{EnvSeen}
 use Rattle.cc_host.specs.Part.{since}
 use Rattle.cc_host.specs.Question.{Look}
 use Rattle.cc_host.specs.declared.event.Event.{Event}
 use Rattle.cc_plan.specs.Given.{is_disabled}
 use Rattle.cc_plan.specs.Plan.{folder_steps}
-use Rattle.cc_plan.specs.Refusal.{first_of, early_refusal, late_refusal}
+use Rattle.cc_plan.specs.Refusal.{first_of, early_refusal, late_refusal, link_refusal}
 use Rattle.cc_plan.specs.declared.error.PlanError.{PlanError}
 use Rattle.cc_plan.specs.declared.error.PlanError.TheVariants.{NoMemory as WantsMemory}
 use Rattle.cc_plan.specs.declared.settings.BuildConfig.{BuildConfig}
@@ -15,11 +15,11 @@ use Rattle.cc_run.specs.declared.planned.Shows.{Shows}
 use Rattle.cc_build.specs.Build.{BuildSeen}
 use Rattle.cc_build.specs.Course.{course}
 use Rattle.cc_build.specs.Error.{ErrorSeen, no_memory}
-use Rattle.cc_build.specs.Phases.{CompileEnds, LibraryEnds, LinkEnds, AskedEnds}
+use Rattle.cc_build.specs.Phases.{error_in, CompileEnds, LibraryEnds, LinkEnds, AskedEnds}
 use Rattle.cc_build.specs.Promises.{RunEnds}
 use Rattle.cc_build.specs.Refusal.{plan_error, disabled_error, archive_error, link_error}
 use Rattle.cc_build.specs.Shows.{shows_of}
-use Rattle.cc_build.specs.Stage.{calls, compile_stages, asked_stages}
+use Rattle.cc_build.specs.Stage.{calls, asked_then, compile_stages, link_stages, asked_stages}
 use Rattle.cc_build.specs.Stage.Stage.{Asks}
 use Rattle.cc_build.specs.Way.{Way, Hears, Repeats, all_firsts}
 use Rattle.cc_build.proofs.SourceLaws.{unfound, unfound_hears}
@@ -58,9 +58,12 @@ module _ (task : Task) (look : Look) where
         (subst (λ (n : Option ℕ). LibraryEnds task (Ok u) look (since mid made) (course t' n y z)) b l) in
         let links : LinkEnds task r look (since made new) (course total patience z end) =
         subst (λ (n : Option ℕ). LinkEnds task r look (since made new) (course n patience z end)) (a' ∙ a)
-        (subst (λ (n : Option ℕ). LinkEnds task r look (since made new) (course t'' n z end)) (b' ∙ b) k) in (
+        (subst (λ (n : Option ℕ). LinkEnds task r look (since made new) (course t'' n z end)) (b' ∙ b) k) in
+        let refusal = link_refusal task.set.now task.env.now look in
+        let printed : Ends (shown total patience) (error_in task refusal) (asked_then refusal (link_stages task.set.now task.env.now (is_some sources.0.here) look links.0 task.output.now)) (since made new) r z end =
+        subst (λ (listens : Bool). Ends (shown total patience) (error_in task refusal) (asked_then refusal (link_stages task.set.now task.env.now listens look links.0 task.output.now)) (since made new) r z end) (sym sources.1.0) links.1.1 in (
           way_of sources.0 library.0 links.0,
-          (sources.1.0, links.1.0, links_end (shown total patience) task look sources.0 library.0 links.0 old mid made new r x y z end first next last done.0 done.1 library.1.0 library.1.1 links.1.1),
+          (sources.1.0, links.1.0, links_end (shown total patience) task look sources.0 library.0 links.0 old mid made new r x y z end first next last done.0 done.1 library.1.0 library.1.1 printed),
         )
 
 -- ---- the whole run

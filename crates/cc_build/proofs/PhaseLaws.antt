@@ -18,6 +18,7 @@ use Rattle.cc_plan.specs.Names.{library_name}
 use Rattle.cc_plan.specs.declared.settings.BuildConfig.{BuildConfig}
 use Rattle.cc_env.specs.Env.{EnvSeen}
 use Rattle.cc_plan.specs.Plan.{library_of, objects_of, compiles_of, plan_warnings, archived_of, archive_refusal, archives_of, indexes_of, lists_of_run, link_lines, removal_steps}
+use Rattle.cc_plan.specs.Quiet.{quiet_warnings}
 use Rattle.cc_plan.specs.Refusal.{first_of, late_refusal, archiver_refusal, link_refusal}
 use Rattle.cc_plan.specs.declared.archive.Archiver.{Archiver}
 use Rattle.cc_plan.specs.declared.error.PlanError.{PlanError}
@@ -73,9 +74,13 @@ plan_stages task plan objects look here same h =
     ∙ ap (λ (os : List Object). calls (opening_of task.set.now (is_some here) (plan_warnings task.set.now task.env.now plan.warns_of_link look) here) ++ beside (compiles_by here os (compiles_of task.set.now task.env.now look))) same
     ∙ ap (λ ps. calls (opening_of task.set.now (is_some here) (plan_warnings task.set.now task.env.now plan.warns_of_link look) here) ++ beside ps) (compiles_are task.set.now task.env.now here look)
 
-pub line_stages : (task : Task) (reads : Reads) (name library : List ℕ) (lines : Lines) (firsts : Firsts) (look : Look) (these : List Stage) → these ≡ printed_stages firsts lines.links.items lines.names → AreLines task reads name library lines look → these ≡ cargo_stages task reads name library firsts look
+pub line_stages : (task : Task) (reads : Reads) (name library : List ℕ) (lines : Lines) (firsts : Firsts) (look : Look) (these : List Stage) → these ≡ printed_stages task.reporting.shows.listens lines.links.warnings firsts lines.links.lines.items lines.names → AreLines task reads name library lines look → these ≡ cargo_stages task reads name library firsts look
 line_stages task reads name library lines firsts look these is h =
-    is ∙ ap (λ l. printed_stages firsts l lines.names) h.links.are ∙ ap (printed_stages firsts (links_of task.set.now task.env.now name library look)) h.names
+    let listens = task.reporting.shows.listens in
+    is
+    ∙ ap (λ t. printed_stages listens t firsts lines.links.lines.items lines.names) h.links.warnings
+    ∙ ap (λ l. printed_stages listens (quiet_warnings task.set.now task.env.now look) firsts l lines.names) h.links.are
+    ∙ ap (printed_stages listens (quiet_warnings task.set.now task.env.now look) firsts (links_of task.set.now task.env.now name library look)) h.names
 
 -- the stages of a library are those of the settings
 pub library_is : (task : Task) (library : Library) (look : Look) (is_plain : Bool) → Archives task library.archiver.now look → library.env.now ≡ task.env.now → library.path.now ≡ library_of task.set.now task.env.now task.output.now → library.paths.now ≡ archived_of task.set.now task.env.now → library_seen library is_plain ≡ library_stages task.set.now task.env.now is_plain look task.output.now
@@ -328,10 +333,10 @@ module _ (t : Terms) (task : Task) (look : Look) where
   pub library_halted : (found : Found) (is_plain : Bool) (old mid new : List Event) (e : ErrorSeen) (x y z : Means) → mid ≡ old ++ since old mid → new ≡ mid ++ since mid new → late ≡ None → Went t (Asks ∷ compiles found) (since old mid) x y → Halted t (error_in task archive_stop) (asked_then archive_stop (writes is_plain ++ Asks ∷ [])) (since mid new) e y z → Halted t (first_of (error_in task late) behind_sources) (stages_in (way_of found is_plain all_firsts)) (since old new) e x z
   library_halted found is_plain old mid new e x y z first last allowed w h =
       sources_then {T = Unit {0}} (way_of found is_plain all_firsts) old mid new (Err e) x y z first last allowed w
-      (part_before t (plan_error task.set.now task.env.now task.output.now) archive_stop links (error_in task links) (writes is_plain) (link_stages task.set.now task.env.now look all_firsts task.output.now) (since mid new) e y z h)
+      (part_before t (plan_error task.set.now task.env.now task.output.now) archive_stop links (error_in task links) (writes is_plain) (link_stages task.set.now task.env.now (is_some found.here) look all_firsts task.output.now) (since mid new) e y z h)
 
   -- all of it, to the link lines
-  pub links_end : {T : Type 0} (found : Found) (is_plain : Bool) (firsts : Firsts) (old mid made new : List Event) (r : Result T ErrorSeen) (x y z u : Means) → mid ≡ old ++ since old mid → made ≡ mid ++ since mid made → new ≡ made ++ since made new → late ≡ None → Went t (Asks ∷ compiles found) (since old mid) x y → archive_stop ≡ None → Went t (Asks ∷ writes is_plain) (since mid made) y z → Ends t (error_in task links) (asked_then links (link_stages task.set.now task.env.now look firsts task.output.now)) (since made new) r z u → Ends t (first_of (error_in task late) behind_sources) (stages_in (way_of found is_plain firsts)) (since old new) r x u
+  pub links_end : {T : Type 0} (found : Found) (is_plain : Bool) (firsts : Firsts) (old mid made new : List Event) (r : Result T ErrorSeen) (x y z u : Means) → mid ≡ old ++ since old mid → made ≡ mid ++ since mid made → new ≡ made ++ since made new → late ≡ None → Went t (Asks ∷ compiles found) (since old mid) x y → archive_stop ≡ None → Went t (Asks ∷ writes is_plain) (since mid made) y z → Ends t (error_in task links) (asked_then links (link_stages task.set.now task.env.now (is_some found.here) look firsts task.output.now)) (since made new) r z u → Ends t (first_of (error_in task late) behind_sources) (stages_in (way_of found is_plain firsts)) (since old new) r x u
   links_end found is_plain firsts old mid made new r x y z u first next last allowed w allowed' w' o =
       sources_then (way_of found is_plain firsts) old mid new r x y u first (since_extends mid made new next last) allowed w
       (part_then t (plan_error task.set.now task.env.now task.output.now) archive_stop (error_in task links) (writes is_plain) (ending_stages task.set.now task.env.now (way_of found is_plain firsts) look task.output.now) mid made new r y z u next last allowed' w' o)

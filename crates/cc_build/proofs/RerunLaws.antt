@@ -1,5 +1,5 @@
 -- A part of a run, and behind it the lines of the variables that the call read.
-use Rattle.std.proofs.Common.{◌≡◌, ℕ, List, [], ◌∷◌, ◌++◌, Option, Some, None, Result, Ok, Err, refl, sym, ◌∙◌, ap, subst, option_map}
+use Rattle.std.proofs.Common.{◌≡◌, ℕ, List, [], ◌∷◌, ◌++◌, Bool, Option, Some, None, Result, Ok, Err, refl, sym, ◌∙◌, ap, ap₂, subst, option_map}
 use Rattle.cc_env.specs.Env.{EnvSeen}
 use Rattle.cc_host.specs.Part.{since}
 use Rattle.cc_host.specs.Question.{Look}
@@ -26,10 +26,10 @@ use Rattle.cc_build.proofs.PhaseLaws.{part_then, part_before}
 use Rattle.cc_build.proofs.RunLaws.{commands_calls, children_calls}
 
 -- lines without a link line are those of the variables
-pub named_stages : (set : BuildConfig) (env : EnvSeen) (reads : Reads) (look : Look) (firsts : Firsts) (links : List LinkLine) (names : List (List ℕ)) (these : List Stage) → these ≡ printed_stages firsts links names → links ≡ [] → rerun_names reads set env look ≡ names → these ≡ name_stages set env reads look firsts
+pub named_stages : (set : BuildConfig) (env : EnvSeen) (reads : Reads) (look : Look) (listens : Bool) (texts : List (List ℕ)) (firsts : Firsts) (links : List LinkLine) (names : List (List ℕ)) (these : List Stage) → these ≡ printed_stages listens texts firsts links names → texts ≡ [] → links ≡ [] → rerun_names reads set env look ≡ names → these ≡ name_stages set env reads look firsts
 unfolding prints
-named_stages set env reads look firsts links names these is none are =
-    is ∙ ap (λ l. printed_stages firsts l names) none ∙ ap (λ n. calls (prints Rerun (rerun_lines (chosen firsts.names n)))) (sym are)
+named_stages set env reads look listens texts firsts links names these is silent none are =
+    is ∙ ap₂ (λ m l. printed_stages listens m firsts l names) silent none ∙ ap (λ n. calls (prints Rerun (rerun_lines (chosen firsts.names n)))) (sym are)
 
 -- they have no command, and start no child
 pub name_commands : (set : BuildConfig) (env : EnvSeen) (reads : Reads) (look : Look) (firsts : Firsts) → commands_in (name_stages set env reads look firsts) ≡ []

@@ -13,7 +13,11 @@ use Rattle.cc_host.specs.Part.{Step}
 use Rattle.cc_host.specs.Part.Step.{Finds, Says, Prints}
 use Rattle.cc_host.specs.Question.{Look}
 use Rattle.cc_host.specs.declared.event.Role.TheVariants.{Compile}
-use Rattle.cc_plan.specs.Plan.{compiles_of, objects_of, plan_warnings, warned_steps, warning_steps}
+use Rattle.cc_host.specs.declared.event.LineKind.{LineKind}
+use Rattle.cc_host.specs.declared.event.LineKind.TheVariants.{Link, Rerun}
+use Rattle.cc_plan.specs.Link.{printed_links}
+use Rattle.cc_plan.specs.Plan.{compile_in, compiles_of, objects_of, plan_warnings, warned_steps, warning_steps, prints}
+use Rattle.cc_plan.specs.declared.link.LinkLine.{LinkLine}
 use Rattle.cc_plan.specs.declared.object.Object.{Object}
 use Rattle.cc_plan.specs.declared.settings.BuildConfig.{BuildConfig}
 use Rattle.cc_run.specs.Planned.{asked, asked_by}
@@ -21,8 +25,8 @@ use Rattle.cc_run.specs.declared.planned.Planned.{Planned}
 use Rattle.cc_run.specs.declared.planned.Shows.{Shows}
 use Rattle.cc_build.specs.Attempts.{to_attempt}
 use Rattle.cc_build.specs.Seen.{compiles_by}
-use Rattle.cc_build.specs.Stage.{planned, compile_in, compile_planned, compiles_planned, finding_steps, opening_steps}
-use Rattle.cc_build.specs.Way.{Found, Hears}
+use Rattle.cc_build.specs.Stage.{planned, compile_planned, compiles_planned, finding_steps, opening_steps, said_steps, ending_steps, rerun_lines}
+use Rattle.cc_build.specs.Way.{Found, Firsts, Hears, chosen}
 
 -- ---- one command after another
 
@@ -132,7 +136,7 @@ warning_notes true false text = refl
 warning_notes false true text = refl
 warning_notes false false text = refl
 
-all_notes : (prints listens : Bool) (texts : List (List ℕ)) → AreNotes (flat_map (warning_steps prints listens) texts)
+pub all_notes : (prints listens : Bool) (texts : List (List ℕ)) → AreNotes (flat_map (warning_steps prints listens) texts)
 all_notes prints listens [] = refl
 all_notes prints listens (text ∷ texts) = notes_then (warning_steps prints listens text) (flat_map (warning_steps prints listens) texts) (warning_notes prints listens text) (all_notes prints listens texts)
 
@@ -146,6 +150,18 @@ finding_notes (Some path) = refl
 
 pub opening_notes : (set : BuildConfig) (env : EnvSeen) (found : Found) (look : Look) → AreNotes (opening_steps set env found look)
 opening_notes set env found look = notes_then (warned_steps set _ (plan_warnings set env found.warns_of_link look)) (finding_steps found.here) (warned_notes set _ (plan_warnings set env found.warns_of_link look)) (finding_notes found.here)
+
+line_notes : (kind : LineKind) (lines : List (List ℕ)) → AreNotes (prints kind lines)
+unfolding prints
+line_notes kind [] = refl
+line_notes kind (line ∷ lines) = line_notes kind lines
+
+-- so are those by which lines for Cargo are printed
+pub ending_notes : (listens : Bool) (texts : List (List ℕ)) (firsts : Firsts) (lines : List LinkLine) (names : List (List ℕ)) → AreNotes (ending_steps listens texts firsts lines names)
+ending_notes listens texts firsts lines names =
+    let links = prints Link (printed_links firsts.links lines) in
+    let reruns = prints Rerun (rerun_lines (chosen firsts.names names)) in
+    notes_then (said_steps listens texts) (links ++ reruns) (all_notes false listens texts) (notes_then links reruns (line_notes Link (printed_links firsts.links lines)) (line_notes Rerun (rerun_lines (chosen firsts.names names))))
 
 -- ---- what a run that ended early found out
 

@@ -16,7 +16,6 @@ use Rattle.cc_host.specs.declared.event.Event.TheVariants.{Abandoned, Ran, Missi
 use Rattle.cc_host.specs.declared.event.HostCall.{HostCall}
 use Rattle.cc_host.specs.declared.event.HostCall.TheVariants.{Start, Turn as Turning}
 use Rattle.cc_host.specs.declared.event.LineKind.{LineKind}
-use Rattle.cc_host.specs.declared.event.LineKind.TheVariants.{Warning, Link, Rerun}
 use Rattle.cc_host.specs.declared.event.Role.{Role}
 use Rattle.cc_host.specs.declared.event.Role.TheVariants.{Compile}
 use Rattle.cc_host.specs.declared.event.Scope.TheVariants.{Build, Probe as ForProbes}
@@ -25,7 +24,7 @@ use Rattle.cc_host.specs.declared.event.Why.{Why}
 use Rattle.cc_host.proofs.Parts.{since_append}
 use Rattle.cc_jobs.specs.Seats.{Rose}
 use Rattle.cc_plan.specs.Given.{is_disabled}
-use Rattle.cc_plan.specs.Link.{printed_links}
+use Rattle.cc_plan.specs.Quiet.{quiet_warnings}
 use Rattle.cc_plan.specs.Plan.{dir_of, link_lines, lists_of_run, archive_refusal, prints, folder_steps, removal_steps}
 use Rattle.cc_plan.specs.Refusal.{early_refusal, late_refusal, link_refusal, is_empty}
 use Rattle.cc_plan.specs.declared.settings.BuildConfig.{BuildConfig}
@@ -44,10 +43,10 @@ use Rattle.cc_build.specs.Error.{ErrorSeen, no_memory}
 use Rattle.cc_build.specs.Failed.{Failed, is_fault, is_form, form_aside, unforgiven, HasFault}
 use Rattle.cc_build.specs.Order.{is_archive_role, is_archive_event}
 use Rattle.cc_build.specs.RunErrors.{run_error}
-use Rattle.cc_build.specs.Stage.{Stage, children_in, calls, beside, compiles_planned, opening_steps, in_turn, tried, written, writings, has_libtool, folder_stages, compile_stages, removal_stages, library_commands, list_stages, archive_stages, link_stages, library_stages, ending_stages, later_stages, asked_stages, late_stages, planned_stages, run_reads, rerun_lines}
+use Rattle.cc_build.specs.Stage.{Stage, children_in, calls, beside, compiles_planned, opening_steps, in_turn, tried, written, writings, has_libtool, folder_stages, compile_stages, removal_stages, library_commands, list_stages, archive_stages, link_stages, library_stages, ending_stages, later_stages, asked_stages, late_stages, planned_stages, run_reads, ending_steps}
 use Rattle.cc_build.specs.Stage.Stage.{Calls, Asks, Tries, RunsOne, RunsAll}
-use Rattle.cc_build.specs.Way.{Way, Found, chosen, Firsts}
-use Rattle.cc_build.proofs.SourceLaws.{AreNotes, opening_notes}
+use Rattle.cc_build.specs.Way.{Way, Found, Firsts}
+use Rattle.cc_build.proofs.SourceLaws.{AreNotes, opening_notes, ending_notes}
 use Rattle.cc_build.specs.Went.{Terms, Means, RanAll, RanOne, Did, Went, IsOf, Stops, Halts}
 use Rattle.cc_build.specs.declared.error.ErrorKind.TheVariants.{TurnsSpent as SpendsTurns}
 use Rattle.cc_build.proofs.RunLaws.{shift, shifted, went_run}
@@ -391,11 +390,6 @@ unfolding prints
 plain_lines kind [] = tt
 plain_lines kind (line ∷ lines) = (tt, plain_lines kind lines)
 
-pub plain_both : (kind other : LineKind) (lines more : List (List ℕ)) → ArePlain (calls (prints kind lines ++ prints other more))
-unfolding prints
-plain_both kind other [] more = plain_lines other more
-plain_both kind other (line ∷ lines) more = (tt, plain_both kind other lines more)
-
 pub plain_notes : (steps : List Step) → AreNotes steps → ArePlain (calls steps)
 plain_notes [] h = tt
 plain_notes (Runs role cmd ∷ steps) h = absurd (cc)
@@ -460,13 +454,15 @@ module _ (set : BuildConfig) (env : EnvSeen) where
   unfolding list_stages
   plain_list look output = plain_writings (lists_of_run set env look output)
 
-  plain_link : (look : Look) (firsts : Firsts) (output : List ℕ) → ArePlain (link_stages set env look firsts output)
+  plain_link : (listens : Bool) (look : Look) (firsts : Firsts) (output : List ℕ) → ArePlain (link_stages set env listens look firsts output)
   unfolding link_stages
-  plain_link look firsts output =
-      plain_both Link Rerun (printed_links firsts.links (link_lines set env look output)) (rerun_lines (chosen firsts.names (rerun_names (run_reads set) set env look)))
+  plain_link listens look firsts output =
+      let names = rerun_names (run_reads set) set env look in
+      let texts = quiet_warnings set env look in
+      plain_notes (ending_steps listens texts firsts (link_lines set env look output) names) (ending_notes listens texts firsts (link_lines set env look output) names)
 
   plain_ending : (way : Way) (look : Look) (output : List ℕ) → ArePlain (ending_stages set env way look output)
-  plain_ending way look output = (tt, plain_unless (is_some (link_refusal set env look)) (link_stages set env look way.firsts output) (plain_link look way.firsts output))
+  plain_ending way look output = (tt, plain_unless (is_some (link_refusal set env look)) (link_stages set env (is_some way.found.here) look way.firsts output) (plain_link (is_some way.found.here) look way.firsts output))
 
   pub plain_library : (is_plain : Bool) (look : Look) (output : List ℕ) (more : List Stage) → ArePlain more → ArePlain (library_stages set env is_plain look output ++ more)
   plain_library is_plain look output more plain =

@@ -1,5 +1,5 @@
 -- A call that asks and does something, and then prints the lines of the variables that it read.
-use Rattle.std.proofs.Common.{◌≡◌, ◌⊎◌, inl, inr, ℕ, List, [], ◌∷◌, ◌++◌, Bool, true, false, Option, Some, None, Result, Ok, Err, refl, sym, ◌∙◌, ap, subst}
+use Rattle.std.proofs.Common.{◌≡◌, ◌⊎◌, inl, inr, ℕ, List, [], ◌∷◌, ◌++◌, Bool, true, false, Option, Some, None, Result, Ok, Err, refl, sym, ◌∙◌, ap, ap₂, subst}
 use Rattle.cc_env.specs.Env.{EnvSeen}
 use Rattle.cc_host.specs.Part.{Step, since}
 use Rattle.cc_host.specs.Question.{Look, Answer, answers, Agrees, NoTwice, Holds}
@@ -9,7 +9,7 @@ use Rattle.cc_host.specs.declared.question.Outcome.{Outcome as WorldOutcome}
 use Rattle.cc_host.specs.declared.question.Question.{Question}
 use Rattle.cc_host.proofs.Parts.{since_since}
 use Rattle.cc_plan.specs.Plan.{prints}
-use Rattle.cc_plan.specs.Questions.{ToolAsks, ArchiverAsks, RanlibAsks, NameAsks, PlanAsks, SupportAsks, RunAsks}
+use Rattle.cc_plan.specs.Questions.{ToolAsks, ArchiverAsks, RanlibAsks, NameAsks, PlanAsks, CompileAsks, SupportAsks, RunAsks}
 use Rattle.cc_plan.specs.declared.link.LinkLine.{LinkLine}
 use Rattle.cc_plan.specs.declared.settings.BuildConfig.{BuildConfig}
 use Rattle.cc_plan.specs.declared.variables.Reads.{Reads}
@@ -40,10 +40,11 @@ module _ (reads : Reads) (set : BuildConfig) (env : EnvSeen) (look : Look) (q : 
 
   -- a run asks them, which plans no tool that writes an index
   pub names_in_run : reads.ranlib ≡ false → NameAsks reads set env look q → RunAsks set env look q
-  unfolding NameAsks RunAsks
+  unfolding NameAsks RunAsks CompileAsks
   names_in_run plain (inl h) = inr (inl (archiver_too h))
   names_in_run plain (inr (inl h)) = inr (inl h.1)
-  names_in_run plain (inr (inr h)) = let clash : false ≡ true = sym plain ∙ h.0 in absurd (cc)
+  names_in_run plain (inr (inr (inl h))) = let clash : false ≡ true = sym plain ∙ h.0 in absurd (cc)
+  names_in_run plain (inr (inr (inr h))) = inl (inr h.1)
 
 module _ (set : BuildConfig) (env : EnvSeen) where
   -- so do the calls that find a tool
@@ -51,31 +52,36 @@ module _ (set : BuildConfig) (env : EnvSeen) where
   unfolding NameAsks
   names_in_plan look q (inl h) = tool_for_plan set env look q h
   names_in_plan look q (inr (inl h)) = let clash : false ≡ true = h.0 in absurd (cc)
-  names_in_plan look q (inr (inr h)) = let clash : false ≡ true = h.0 in absurd (cc)
+  names_in_plan look q (inr (inr (inl h))) = let clash : false ≡ true = h.0 in absurd (cc)
+  names_in_plan look q (inr (inr (inr h))) = let clash : false ≡ true = h.0 in absurd (cc)
 
   pub names_in_expand : (look : Look) (q : Question) → NameAsks expand_reads set env look q → PlanAsks set env look q
   unfolding NameAsks
   names_in_expand look q (inl h) = tool_for_plan set env look q h
   names_in_expand look q (inr (inl h)) = let clash : false ≡ true = h.0 in absurd (cc)
-  names_in_expand look q (inr (inr h)) = let clash : false ≡ true = h.0 in absurd (cc)
+  names_in_expand look q (inr (inr (inl h))) = let clash : false ≡ true = h.0 in absurd (cc)
+  names_in_expand look q (inr (inr (inr h))) = let clash : false ≡ true = h.0 in absurd (cc)
 
   pub names_in_support : (flag : List ℕ) (look : Look) (q : Question) → NameAsks flag_reads set env look q → SupportAsks set env flag look q
   unfolding NameAsks
   names_in_support flag look q (inl h) = tool_for_support set env flag look q h
   names_in_support flag look q (inr (inl h)) = let clash : false ≡ true = h.0 in absurd (cc)
-  names_in_support flag look q (inr (inr h)) = let clash : false ≡ true = h.0 in absurd (cc)
+  names_in_support flag look q (inr (inr (inl h))) = let clash : false ≡ true = h.0 in absurd (cc)
+  names_in_support flag look q (inr (inr (inr h))) = let clash : false ≡ true = h.0 in absurd (cc)
 
   pub names_in_archiver : (look : Look) (q : Question) → NameAsks archiver_reads set env look q → ArchiverAsks set env look q
   unfolding NameAsks
   names_in_archiver look q (inl h) = archiver_too archiver_reads set env look q h
   names_in_archiver look q (inr (inl h)) = h.1
-  names_in_archiver look q (inr (inr h)) = let clash : false ≡ true = h.0 in absurd (cc)
+  names_in_archiver look q (inr (inr (inl h))) = let clash : false ≡ true = h.0 in absurd (cc)
+  names_in_archiver look q (inr (inr (inr h))) = let clash : false ≡ true = h.0 in absurd (cc)
 
   pub names_in_ranlib : (look : Look) (q : Question) → NameAsks ranlib_reads set env look q → RanlibAsks set env look q
   unfolding NameAsks
   names_in_ranlib look q (inl h) = ranlib_too ranlib_reads set env look q h
   names_in_ranlib look q (inr (inl h)) = let clash : false ≡ true = h.0 in absurd (cc)
-  names_in_ranlib look q (inr (inr h)) = h.1
+  names_in_ranlib look q (inr (inr (inl h))) = h.1
+  names_in_ranlib look q (inr (inr (inr h))) = let clash : false ≡ true = h.0 in absurd (cc)
 
 -- ---- one part behind another
 
@@ -129,11 +135,11 @@ module _ (steady : Bool) (world : Question → WorldOutcome) (dir : List ℕ) wh
 -- ---- outcomes
 
 -- the lines of such names are printed
-pub told_lines : {T : Type 0} (t : Terms) (firsts : Firsts) (links : List LinkLine) (names : List (List ℕ)) (these : List Stage) (part : List Event) (r : Result T ErrorSeen) (x y : Means) → these ≡ printed_stages firsts links names → links ≡ [] → Ends t None these part r x y → Outcome None (prints Rerun (rerun_lines (chosen firsts.names names))) part r × IsChildless part
+pub told_lines : {T : Type 0} (t : Terms) (listens : Bool) (texts : List (List ℕ)) (firsts : Firsts) (links : List LinkLine) (names : List (List ℕ)) (these : List Stage) (part : List Event) (r : Result T ErrorSeen) (x y : Means) → these ≡ printed_stages listens texts firsts links names → texts ≡ [] → links ≡ [] → Ends t None these part r x y → Outcome None (prints Rerun (rerun_lines (chosen firsts.names names))) part r × IsChildless part
 unfolding prints
-told_lines t firsts links names these part r x y is none ends =
+told_lines t listens texts firsts links names these part r x y is silent none ends =
     let steps = prints Rerun (rerun_lines (chosen firsts.names names)) in
-    let same : these ≡ calls steps = is ∙ ap (λ l. printed_stages firsts l names) none in
+    let same : these ≡ calls steps = is ∙ ap₂ (λ m l. printed_stages listens m firsts l names) silent none in
     ends_outcome t None steps part r x y refl (told_printed Rerun (rerun_lines (chosen firsts.names names))) (subst (λ (l : List Stage). Ends t None l part r x y) same ends)
 
 names_when : {T : Type 0} (refusal : Option ErrorSeen) (names : List Step) (part : List Event) (r : Result T ErrorSeen) → refusal ≡ None → Outcome None names part r → Outcome refusal (unless_refused refusal names) part r

@@ -21,7 +21,7 @@ use Rattle.cc_build.specs.Went.{Ends}
 
 -- what an archive alone reads variables for
 abbrev pub archive_reads : Reads
-archive_reads = record { disabled = true; debug = true; compiler = false; flag = false; archiver = true; ranlib = false; links = false }
+archive_reads = record { disabled = true; debug = true; compiler = false; assembler = false; flag = false; archiver = true; ranlib = false; links = false }
 
 -- the build without sources, with these objects before its added ones
 abbrev pub with_objects : BuildSeen → List (List ℕ) → BuildSeen

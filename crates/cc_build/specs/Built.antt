@@ -1,5 +1,5 @@
 -- What the part of a compile run that answers Ok is.
-use Rattle.std.specs.Prelude.{◌≡◌, ℕ, List, [], ◌∷◌, ◌++◌, map, None, false, length}
+use Rattle.std.specs.Prelude.{◌≡◌, ℕ, List, [], ◌∷◌, ◌++◌, map, None, is_some, false, length}
 use Rattle.cc_env.specs.Env.{EnvSeen}
 use Rattle.cc_host.specs.Question.{Look}
 use Rattle.cc_host.specs.declared.event.Removal.{Removal}
@@ -59,5 +59,6 @@ pub record Built (t : Terms) (set : BuildConfig) (env : EnvSeen) (look : Look) (
   -- the others were started, and each of them has ended with 0
   pub others : started archives ≡ asked t.shows (written_children (has_libtool set env look) (library_commands set env look way.is_plain output))
   pub written : run_from nothing archives ≡ ended_well (length (written_children (has_libtool set env look) (library_commands set env look way.is_plain output)))
-  -- questions were asked, and then exactly the link lines were printed, and those of the variables that the run read
-  pub linked : Goes t (Asks ∷ link_stages set env look way.firsts output) lines
+  -- questions were asked, a host that listens was told of the compiler that decides on the C++ library, and then exactly the link lines were printed,
+  -- and those of the variables that the run read
+  pub linked : Goes t (Asks ∷ link_stages set env (is_some way.found.here) look way.firsts output) lines

@@ -26,7 +26,7 @@ use Rattle.cc_build.specs.Went.{Terms, Goes, Ends}
 
 -- what it reads variables for: where there is a source a compiler is planned and commands are run
 abbrev pub source_reads : BuildConfig → Reads
-source_reads set = record { disabled = true; debug = not (is_empty set.files); compiler = not (is_empty set.files); flag = false; archiver = false; ranlib = false; links = false }
+source_reads set = record { disabled = true; debug = not (is_empty set.files); compiler = not (is_empty set.files); assembler = not (is_empty set.files); flag = false; archiver = false; ranlib = false; links = false }
 
 -- The folder is made where there is a source, and where commands may run the sources are compiled, and the lines of the variables that were read are
 -- printed.

@@ -1,10 +1,11 @@
 -- Link lines by the path of a library, which is there already.
-use Rattle.std.specs.Prelude.{ℕ, true, false, List, [], Option, Some, None, Result, is_some, if◌then◌else◌}
+use Rattle.std.specs.Prelude.{ℕ, Bool, true, false, List, [], Option, Some, None, Result, is_some, if◌then◌else◌}
 use Rattle.std.specs.Option.{option_map}
 use Rattle.cc_env.specs.Env.{EnvSeen}
 use Rattle.cc_host.specs.Question.{Look}
 use Rattle.cc_host.specs.declared.event.Event.{Event}
 use Rattle.cc_plan.specs.Names.{linked_library}
+use Rattle.cc_plan.specs.Quiet.{quiet_warnings}
 use Rattle.cc_plan.specs.Refusal.{first_of, path_refusal, link_refusal}
 use Rattle.cc_plan.specs.Reruns.{rerun_names}
 use Rattle.cc_plan.specs.declared.variables.Reads.{Reads}
@@ -26,13 +27,14 @@ linked_name library = name_or_none (linked_library library)
 
 -- what the lines read variables for
 abbrev pub link_reads : Reads
-link_reads = record { disabled = false; debug = false; compiler = false; flag = false; archiver = false; ranlib = false; links = true }
+link_reads = record { disabled = false; debug = false; compiler = false; assembler = false; flag = false; archiver = false; ranlib = false; links = true }
 
--- the lines are planned by questions, and printed with those of the variables that were read; none where the path is no library's
-abbrev pub directive_stages : BuildConfig → EnvSeen → Look → Firsts → List ℕ → List Stage
-directive_stages set env look firsts library =
+-- The lines are planned by questions, and printed with those of the variables that were read; none where the path is no library's. A host that listens
+-- is told of the compiler that decides on the C++ library.
+abbrev pub directive_stages : BuildConfig → EnvSeen → Bool → Look → Firsts → List ℕ → List Stage
+directive_stages set env listens look firsts library =
     if is_some (path_refusal library) then []
-    else asked_then (link_refusal set env look) (printed_stages firsts (links_of set env (linked_name library) library look) (rerun_names link_reads set env look))
+    else asked_then (link_refusal set env look) (printed_stages listens (quiet_warnings set env look) firsts (links_of set env (linked_name library) library look) (rerun_names link_reads set env look))
 
 -- the error of a path that is no library's, or of settings that are refused
 abbrev pub directive_error : BuildConfig → EnvSeen → Look → List ℕ → Option ErrorSeen
@@ -41,6 +43,6 @@ directive_error set env look library =
 
 -- Ok: nothing is refused, and the lines were printed. Else the first were, and the error has its cause. No child is started, so this holds on any terms
 -- and uses nothing up.
-abbrev pub DirectivesEnd : {T : Type 0} → BuildSeen → List ℕ → Result T ErrorSeen → Look → List Event → Type 0
-DirectivesEnd b library result look part =
-    (firsts : Firsts) × (Repeats b.config firsts × ((t : Terms) (x : Means) → Ends t (directive_error b.config b.env look library) (directive_stages b.config b.env look firsts library) part result x x))
+abbrev pub DirectivesEnd : {T : Type 0} → BuildSeen → Bool → List ℕ → Result T ErrorSeen → Look → List Event → Type 0
+DirectivesEnd b listens library result look part =
+    (firsts : Firsts) × (Repeats b.config firsts × ((t : Terms) (x : Means) → Ends t (directive_error b.config b.env look library) (directive_stages b.config b.env listens look firsts library) part result x x))

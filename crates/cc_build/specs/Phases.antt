@@ -4,6 +4,7 @@ use Rattle.std.specs.Option.{option_map}
 use Rattle.cc_host.specs.Question.{Look, Answer, Holds}
 use Rattle.cc_host.specs.declared.event.Event.{Event}
 use Rattle.cc_plan.specs.Plan.{archive_refusal}
+use Rattle.cc_plan.specs.Quiet.{quiet_warnings}
 use Rattle.cc_plan.specs.Refusal.{first_of, late_refusal, link_refusal}
 use Rattle.cc_plan.specs.Reruns.{rerun_names}
 use Rattle.cc_plan.specs.declared.error.PlanError.{PlanError}
@@ -65,12 +66,12 @@ LibraryEnds task (Err e) look part c =
 
 -- the lines for Cargo were printed
 abbrev pub LinkEnds : {T : Type 0} → Task → Result T ErrorSeen → Look → List Event → Course → Type 0
-LinkEnds task result look part c = (firsts : Firsts) × (Repeats task.set.now firsts × PhaseEnds task (link_refusal task.set.now task.env.now look) (link_stages task.set.now task.env.now look firsts task.output.now) result part c)
+LinkEnds task result look part c = (firsts : Firsts) × (Repeats task.set.now firsts × PhaseEnds task (link_refusal task.set.now task.env.now look) (link_stages task.set.now task.env.now task.reporting.shows.listens look firsts task.output.now) result part c)
 
 -- those of a library of this name and path, and of the variables that such a call reads
 abbrev pub cargo_stages : Task → Reads → List ℕ → List ℕ → Firsts → Look → List Stage
 cargo_stages task reads name library firsts look =
-    printed_stages firsts (links_of task.set.now task.env.now name library look) (rerun_names reads task.set.now task.env.now look)
+    printed_stages task.reporting.shows.listens (quiet_warnings task.set.now task.env.now look) firsts (links_of task.set.now task.env.now name library look) (rerun_names reads task.set.now task.env.now look)
 
 -- they were printed
 abbrev pub LinkedEnds : {T : Type 0} → Task → Reads → List ℕ → List ℕ → Result T ErrorSeen → Look → List Event → Course → Type 0

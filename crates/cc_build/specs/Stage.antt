@@ -13,16 +13,14 @@ use Rattle.cc_host.specs.declared.event.LineKind.TheVariants.{Link, Rerun}
 use Rattle.cc_host.specs.declared.event.Role.{Role}
 use Rattle.cc_host.specs.declared.event.Role.TheVariants.{Compile, Archive, Index}
 use Rattle.cc_plan.specs.Archive.{archiver_of}
-use Rattle.cc_plan.specs.Compile.{compile_of}
 use Rattle.cc_plan.specs.Given.{is_disabled}
 use Rattle.cc_plan.specs.Libtool.{is_libtool}
 use Rattle.cc_plan.specs.Link.{printed_links, link_lines as lines_of}
-use Rattle.cc_plan.specs.Plan.{compiles_of, archives_of, indexes_of, lists_of_run, archive_refusal, link_lines, plan_warnings, warned_steps, objects_of, prints, folder_steps, removal_steps}
-use Rattle.cc_plan.specs.Planned.{tool_of}
+use Rattle.cc_plan.specs.Plan.{compile_in, compiles_of, archives_of, indexes_of, lists_of_run, archive_refusal, link_lines, plan_warnings, warned_steps, objects_of, prints, warning_steps, folder_steps, removal_steps}
+use Rattle.cc_plan.specs.Quiet.{quiet_warnings}
 use Rattle.cc_plan.specs.Refusal.{is_empty, early_refusal, late_refusal, link_refusal}
 use Rattle.cc_plan.specs.Reruns.{rerun_line, rerun_names}
 use Rattle.cc_plan.specs.declared.error.PlanError.{PlanError}
-use Rattle.cc_plan.specs.Target.{target_info}
 use Rattle.cc_plan.specs.declared.link.LinkLine.{LinkLine}
 use Rattle.cc_plan.specs.declared.object.Object.{Object}
 use Rattle.cc_plan.specs.declared.variables.Reads.{Reads}
@@ -118,10 +116,6 @@ finding_steps here = map Finds (option_to_list here)
 abbrev pub opening_steps : BuildConfig → EnvSeen → Found → Look → List Step
 opening_steps set env found look = warned_steps set (is_some found.here) (plan_warnings set env found.warns_of_link look) ++ finding_steps found.here
 
--- the planned command that compiles a source to its object
-abbrev pub compile_in : BuildConfig → EnvSeen → Look → Object → CommandSeen
-compile_in set env look object = compile_of set (target_info set env) (tool_of set env look) None object
-
 -- such a command, with its message where the current folder is known
 abbrev pub compile_planned : Option (List ℕ) → Object → CommandSeen → Planned
 compile_planned here object cmd = record { role = Compile; cmd = cmd; message = option_map (compile_command cmd object.src object.dst) here }
@@ -164,30 +158,40 @@ links_of set env name library look = lines_of set env name (folder_in library) l
 
 -- what a run reads variables for; it plans a compiler where there is a source
 abbrev pub run_reads : BuildConfig → Reads
-run_reads set = record { disabled = true; debug = true; compiler = not (is_empty set.files); flag = false; archiver = true; ranlib = false; links = true }
+run_reads set = record { disabled = true; debug = true; compiler = not (is_empty set.files); assembler = not (is_empty set.files); flag = false; archiver = true; ranlib = false; links = true }
 
 -- the lines that tell Cargo of variables
 abbrev pub rerun_lines : List (List ℕ) → List (List ℕ)
 rerun_lines names = map rerun_line names
 
+-- a host that listens is told of these warnings, and none of them is printed
+abbrev pub said_steps : Bool → List (List ℕ) → List Step
+said_steps listens texts = flat_map (warning_steps false listens) texts
+
 -- these link lines are printed, and then those of these variables
 abbrev pub cargo_steps : Firsts → List LinkLine → List (List ℕ) → List Step
 cargo_steps firsts lines names = prints Link (printed_links firsts.links lines) ++ prints Rerun (rerun_lines (chosen firsts.names names))
 
-abbrev pub printed_stages : Firsts → List LinkLine → List (List ℕ) → List Stage
-printed_stages firsts lines names = calls (cargo_steps firsts lines names)
+-- right before those lines a host that listens is told of warnings
+abbrev pub ending_steps : Bool → List (List ℕ) → Firsts → List LinkLine → List (List ℕ) → List Step
+ending_steps listens texts firsts lines names = said_steps listens texts ++ cargo_steps firsts lines names
+
+abbrev pub printed_stages : Bool → List (List ℕ) → Firsts → List LinkLine → List (List ℕ) → List Stage
+printed_stages listens texts firsts lines names = calls (ending_steps listens texts firsts lines names)
 
 -- the lines of the variables that a call reads are printed
 abbrev pub name_stages : BuildConfig → EnvSeen → Reads → Look → Firsts → List Stage
 name_stages set env reads look firsts = calls (prints Rerun (rerun_lines (chosen firsts.names (rerun_names reads set env look))))
 
--- the link lines are printed, and then those of the variables that the run read
-unfoldable pub link_stages : BuildConfig → EnvSeen → Look → Firsts → List ℕ → List Stage
-link_stages set env look firsts output = printed_stages firsts (link_lines set env look output) (rerun_names (run_reads set) set env look)
+-- a host that listens is told of the compiler that decides on the C++ library, the link lines are printed, and then those of the variables that the
+-- run read
+unfoldable pub link_stages : BuildConfig → EnvSeen → Bool → Look → Firsts → List ℕ → List Stage
+link_stages set env listens look firsts output =
+    printed_stages listens (quiet_warnings set env look) firsts (link_lines set env look output) (rerun_names (run_reads set) set env look)
 
 -- questions on the link lines, which are then printed
 abbrev pub ending_stages : BuildConfig → EnvSeen → Way → Look → List ℕ → List Stage
-ending_stages set env way look output = asked_then (link_refusal set env look) (link_stages set env look way.firsts output)
+ending_stages set env way look output = asked_then (link_refusal set env look) (link_stages set env (is_some way.found.here) look way.firsts output)
 
 -- the old library is removed, and the new one is written
 abbrev pub library_stages : BuildConfig → EnvSeen → Bool → Look → List ℕ → List Stage

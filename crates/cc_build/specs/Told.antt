@@ -16,23 +16,23 @@ use Rattle.cc_build.specs.Way.{Firsts, Repeats, chosen}
 
 -- what finding the compiler reads variables for
 abbrev pub compiler_reads : Reads
-compiler_reads = record { disabled = false; debug = false; compiler = true; flag = false; archiver = false; ranlib = false; links = false }
+compiler_reads = record { disabled = false; debug = false; compiler = true; assembler = false; flag = false; archiver = false; ranlib = false; links = false }
 
 -- what asking whether it takes a flag does
 abbrev pub flag_reads : Reads
-flag_reads = record { disabled = false; debug = false; compiler = false; flag = true; archiver = false; ranlib = false; links = false }
+flag_reads = record { disabled = false; debug = false; compiler = false; assembler = false; flag = true; archiver = false; ranlib = false; links = false }
 
 -- what finding the archiver does
 abbrev pub archiver_reads : Reads
-archiver_reads = record { disabled = false; debug = false; compiler = false; flag = false; archiver = true; ranlib = false; links = false }
+archiver_reads = record { disabled = false; debug = false; compiler = false; assembler = false; flag = false; archiver = true; ranlib = false; links = false }
 
 -- what finding the tool that writes an index does
 abbrev pub ranlib_reads : Reads
-ranlib_reads = record { disabled = false; debug = false; compiler = false; flag = false; archiver = false; ranlib = true; links = false }
+ranlib_reads = record { disabled = false; debug = false; compiler = false; assembler = false; flag = false; archiver = false; ranlib = true; links = false }
 
 -- what expanding a source does: it runs a command, unless commands are off
 abbrev pub expand_reads : Reads
-expand_reads = record { disabled = true; debug = true; compiler = true; flag = false; archiver = false; ranlib = false; links = false }
+expand_reads = record { disabled = true; debug = true; compiler = true; assembler = false; flag = false; archiver = false; ranlib = false; links = false }
 
 -- a line is printed for each variable that such a call reads, and that no other told of where lines are printed once
 abbrev pub name_steps : Reads → BuildConfig → EnvSeen → Firsts → Look → List Step

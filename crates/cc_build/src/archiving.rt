@@ -40,6 +40,7 @@ fn archive_reads() -> Reads
         disabled: true,
         debug: true,
         compiler: false,
+        assembler: false,
         flag: false,
         archiver: true,
         ranlib: false,

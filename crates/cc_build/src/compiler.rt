@@ -77,6 +77,7 @@ pub(crate) fn told_compiler<W: World, H: Host<W>>(
         disabled: false,
         debug: false,
         compiler: true,
+        assembler: false,
         flag: false,
         archiver: false,
         ranlib: false,

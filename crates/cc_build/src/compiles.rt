@@ -70,8 +70,13 @@ fn push_warning(stages: &mut Vec<Stage>, prints: bool, listens: bool, text: &str
     Ok(())
 }
 
-// The stages in which a host is given these warnings.
-fn warnings_of(alloc: Global, prints: bool, listens: bool, texts: &Words) -> Mem<Vec<Stage>>
+/// The stages in which a host is given these warnings.
+pub(crate) fn warnings_of(
+    alloc: Global,
+    prints: bool,
+    listens: bool,
+    texts: &Words,
+) -> Mem<Vec<Stage>>
     ensures { IfOk result (λ stages. stages_seen stages.items
         ≡ calls (flat_map (warning_steps prints listens) texts.now)) }
 {

@@ -38,6 +38,7 @@ fn run_reads(set: &BuildConfig) -> Reads
         disabled: true,
         debug: true,
         compiler: !set.files.is_empty(),
+        assembler: !set.files.is_empty(),
         flag: false,
         archiver: true,
         ranlib: false,

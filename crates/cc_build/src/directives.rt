@@ -1,4 +1,5 @@
-// What is printed for Cargo at the end of a call: how the library is linked, and by which variables the build script is to run again.
+// What is printed for Cargo at the end of a call: how the library is linked, and by which variables the build script is to run again. Right before it a
+// host that listens is told of the compiler that decides on the C++ library.
 ghost use Rattle.std.specs.Prelude.{◌≡◌, ◌++◌, [], ◌∷◌, true, IfOk, OnOk};
 ghost use Rattle.cc_text.specs.Words.{when};
 ghost use Rattle.cc_host.specs.declared.event.LineKind.TheVariants.{Link, Rerun};
@@ -7,22 +8,36 @@ ghost use Rattle.cc_plan.specs.Plan.{prints};
 ghost use Rattle.cc_plan.specs.Reruns.{rerun_line as line_of};
 ghost use Rattle.cc_build.specs.Questions.{AreFirst};
 ghost use Rattle.cc_build.specs.Seen.{stages_seen};
-ghost use Rattle.cc_build.specs.Stage.{calls, rerun_lines as lines_of};
+ghost use Rattle.cc_build.specs.Stage.{calls, said_steps, rerun_lines as lines_of};
 ghost use Rattle.cc_build.specs.Way.{AreChosen, AreFirsts};
 
+use crate::compiles::warnings_of;
 use crate::stage::{Stage, push_lines};
 use cc_host::{LineKind, World};
-use cc_plan::{BuildConfig, LinkLine};
+use cc_plan::{BuildConfig, LinkLine, LinkPlan};
 use cc_text::{Mem, Text, Words, after_prefix};
 use cc_tool::Caches;
 use std::alloc::Global;
 use std::sync::Wait;
 
-/// What is planned for Cargo: link lines, and names of variables.
+/// What is planned for Cargo: link lines, with warnings that are said, and names of variables.
 #[derive(Drop)]
 pub(crate) struct Lines {
-    pub links: Vec<LinkLine>,
+    pub links: LinkPlan,
     pub names: Words,
+}
+
+/// Names of variables alone.
+pub(crate) fn names_alone(alloc: Global, names: Words) -> Lines
+    ensures links { result.links.lines.items ≡ [] }
+    ensures warnings { result.links.warnings ≡ [] }
+    ensures names { result.names ≡ names }
+{
+    let links = LinkPlan {
+        lines: Vec::new(alloc),
+        warnings: Words::new(alloc),
+    };
+    Lines { links, names }
 }
 
 // The value of a library, behind the key of its line.
@@ -132,32 +147,51 @@ fn rerun_lines(alloc: Global, names: &[Text]) -> Mem<Words>
     Ok(lines)
 }
 
-// The lines as stages: the link lines that this run prints, and then those of the names.
-fn cargo_stages(alloc: Global, links: &[LinkLine], is_first: bool, names: &Words) -> Mem<Vec<Stage>>
-    ensures { IfOk result (λ stages. stages_seen stages.items ≡ calls
-        (prints Link (printed_links is_first links.now))
+// What is done with them as stages: the warnings are said where the host listens, and the link lines that this run prints are printed, and then
+// those of the names.
+fn cargo_stages(
+    alloc: Global,
+    listens: bool,
+    warnings: &Words,
+    links: &[LinkLine],
+    is_first: bool,
+    names: &Words,
+) -> Mem<Vec<Stage>>
+    ensures { IfOk result (λ stages. stages_seen stages.items
+        ≡ (calls (said_steps listens warnings.now)
+        ++ calls (prints Link (printed_links is_first links.now)))
         ++ calls (prints Rerun (lines_of names.now))) }
 {
     let links = printed_texts(alloc, links, is_first)?;
     let names = rerun_lines(alloc, names.as_slice())?;
-    let mut stages = Vec::new(alloc);
+    let mut stages = warnings_of(alloc, false, listens, warnings)?;
     push_lines(&mut stages, LineKind::Link, &links)?;
     push_lines(&mut stages, LineKind::Rerun, &names)?;
     Ok(stages)
 }
 
-/// Those of the lines that this run prints, as stages.
+/// Those of the lines that this run prints, as stages, and before them what a host that listens is told.
 pub(crate) fn first_stages<W: World>(
     rt: &impl Wait,
     alloc: Global,
     caches: &Caches<W>,
     set: &BuildConfig,
+    listens: bool,
     lines: &Lines,
 ) -> Mem<Vec<Stage>>
-    ensures { IfOk result (λ stages. AreFirst set.now lines.now (stages_seen stages.items)) }
+    ensures { IfOk result (λ stages.
+        AreFirst set.now listens lines.now (stages_seen stages.items)) }
 {
-    let is_first = is_first_link(rt, caches, set, &lines.links)?;
+    let links = &lines.links;
+    let is_first = is_first_link(rt, caches, set, &links.lines)?;
     let names = first_names(rt, alloc, caches, set, &lines.names)?;
-    let stages = cargo_stages(alloc, &lines.links, is_first, &names)?;
+    let stages = cargo_stages(
+        alloc,
+        listens,
+        &links.warnings,
+        &links.lines,
+        is_first,
+        &names,
+    )?;
     Ok(stages)
 }

@@ -165,6 +165,7 @@ fn told_expand<W: World, H: Host<W>>(
         disabled: true,
         debug: true,
         compiler: true,
+        assembler: false,
         flag: false,
         archiver: false,
         ranlib: false,

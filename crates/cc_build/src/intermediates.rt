@@ -48,6 +48,7 @@ fn source_reads(set: &BuildConfig) -> Reads
         disabled: true,
         debug: is_any,
         compiler: is_any,
+        assembler: is_any,
         flag: false,
         archiver: false,
         ranlib: false,

@@ -36,4 +36,4 @@ mod tools;
 
 pub use build::Build;
 pub use error::{Error, ErrorKind};
-pub use linking::try_emit_link_directives;
+pub use linking::{emit_link_directives, try_emit_link_directives};

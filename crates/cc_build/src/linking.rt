@@ -28,6 +28,7 @@ fn link_reads() -> Reads
         disabled: false,
         debug: false,
         compiler: false,
+        assembler: false,
         flag: false,
         archiver: false,
         ranlib: false,
@@ -35,25 +36,20 @@ fn link_reads() -> Reads
     }
 }
 
-/// Prints the link lines of the library at a path, `lib<name>.a` with its folder, as `try_compile` does behind the library that it
-/// builds: by which name Cargo links it, where it is sought, and the C++ library that it wants. They are wanted where `cargo_metadata` is
-/// on; to find the C++ library the compiler may be asked. Behind them are the lines of the variables that were read for them. The library
-/// itself isn't looked at.
-///
-/// Refused with InvalidArgument where the path is no such one, with EnvVarNotFound where a sysroot is set nowhere that the lines of
-/// WebAssembly want, where a line couldn't be printed, and for memory. The build is as before.
+/// The same as `try_emit_link_directives`, for a caller that knows already whether its host listens.
 #[tactic(auto, using(cc_host::proofs::Parts::since_append))]
-pub fn try_emit_link_directives<W: World, H: Host<W>>(
+pub fn emit_link_directives<W: World, H: Host<W>>(
     rt: &impl Wait,
     build: &Build<W>,
     host: &mut H,
+    listens: bool,
     library: &str,
 ) -> Result<(), Error>
     ensures patient { H.patience host.new ≡ H.patience host.old }
     ensures extends { H.log host.new ≡ H.log host.old ++ part H.log host.old host.new }
     ensures asked { AsksByRun W.steady W.answer build.now (part H.log host.old host.new) }
     ensures outcome { ByPart H.log host.old host.new
-        (DirectivesEnd build.now library.now result) }
+        (DirectivesEnd build.now listens library.now result) }
 {
     let (alloc, set, env) = (build.alloc, &build.config, &build.env);
     let (name, _) = match library_and_dir(alloc, library) {
@@ -71,7 +67,7 @@ pub fn try_emit_link_directives<W: World, H: Host<W>>(
         task: Task {
             reporting: Reporting {
                 alloc,
-                shows: shows_of(set, env, host.listens()),
+                shows: shows_of(set, env, listens),
             },
             set,
             env,
@@ -85,4 +81,28 @@ pub fn try_emit_link_directives<W: World, H: Host<W>>(
     let mut answers = Answers::new(alloc);
     let mut turns = Turns { left: 0, used: 0 };
     print_links(rt, &shared, host, &mut seat, &mut turns, &mut answers)
+}
+
+/// Prints the link lines of the library at a path, `lib<name>.a` with its folder, as `try_compile` does behind the library that it
+/// builds: by which name Cargo links it, where it is sought, and the C++ library that it wants. They are wanted where `cargo_metadata` is
+/// on; to find the C++ library the compiler may be asked, of whose plan a host that listens is told the warnings. Behind them are the lines of the variables that were read for them. The library
+/// itself isn't looked at.
+///
+/// Refused with InvalidArgument where the path is no such one, with EnvVarNotFound where a sysroot is set nowhere that the lines of
+/// WebAssembly want, where a line couldn't be printed, and for memory. The build is as before.
+#[tactic(auto, using(cc_host::proofs::Parts::since_append))]
+pub fn try_emit_link_directives<W: World, H: Host<W>>(
+    rt: &impl Wait,
+    build: &Build<W>,
+    host: &mut H,
+    library: &str,
+) -> Result<(), Error>
+    ensures patient { H.patience host.new ≡ H.patience host.old }
+    ensures extends { H.log host.new ≡ H.log host.old ++ part H.log host.old host.new }
+    ensures asked { AsksByRun W.steady W.answer build.now (part H.log host.old host.new) }
+    ensures outcome { ByPart H.log host.old host.new
+        (DirectivesEnd build.now (H.listens host.old) library.now result) }
+{
+    let listens = host.listens();
+    emit_link_directives(rt, build, host, listens, library)
 }

@@ -29,8 +29,8 @@ use crate::task::{Shared, Task};
 use cc_host::{Host, World};
 use cc_jobs::Jobs;
 use cc_plan::{
-    Archiver, LinkLine, Plan, PlanError, Sight, Sources, archived_paths, archiver_of, check_list,
-    link_lines, plan_commands,
+    Archiver, LinkPlan, Plan, PlanError, Sight, Sources, archived_paths, archiver_of, check_list,
+    plan_commands, plan_links as plan_of_links,
 };
 use cc_run::Turns;
 use cc_text::{Mem, Words, parent};
@@ -134,7 +134,7 @@ fn folder_of(library: &str) -> &str
     }
 }
 
-// Plans the link lines.
+// Plans the link lines, with the warnings of the compiler that decides on the C++ library.
 #[tactic(auto, using(cc_host::proofs::Parts::since_append))]
 fn plan_links<W: World, H: Host<W>>(
     rt: &impl Wait,
@@ -143,13 +143,13 @@ fn plan_links<W: World, H: Host<W>>(
     caches: &Caches<W>,
     answers: &mut Answers,
     sources: &Sources,
-) -> Result<Vec<LinkLine>, Error>
+) -> Result<LinkPlan, Error>
     requires dir { sources.now.dir ≡ probe_folder task.now.set.now task.now.env.now }
     ensures quiet { AsksOnly (part H.log host.old host.new) }
     ensures asks { AsksFor W.steady W.answer task.now H.log H.patience
         host.old host.new answers.old answers.new }
-    ensures planned { IfOk result (λ lines. Holds answers.new
-        (Links task.now sources.now.name sources.now.library lines.items)) }
+    ensures planned { IfOk result (λ plan. Holds answers.new
+        (Links task.now sources.now.name sources.now.library plan)) }
     ensures refused { IfErr result (λ e. Holds answers.new
         (IsRefusedBy (link_refusal task.now.set.now task.now.env.now) task.now e)) }
 {
@@ -160,7 +160,7 @@ fn plan_links<W: World, H: Host<W>>(
         dir: sources.dir.as_str(),
     };
     let (name, dir) = (sources.name.as_str(), folder_of(sources.library.as_str()));
-    match link_lines(
+    match plan_of_links(
         rt,
         task.reporting.alloc,
         task.set,
@@ -169,7 +169,7 @@ fn plan_links<W: World, H: Host<W>>(
         dir,
         &mut sight,
     ) {
-        Ok(lines) => Ok(lines),
+        Ok(plan) => Ok(plan),
         Err(error) => Err(refused(task, error)),
     }
 }
@@ -325,7 +325,8 @@ fn plan_lines<W: World, H: Host<W>, J>(
     }
 }
 
-/// Asks what the link lines are planned by, and prints them, and then those of the variables that the call read.
+/// Asks what the link lines are planned by, tells a host that listens of the compiler that decides on the C++ library, and prints the
+/// lines, and then those of the variables that the call read.
 #[tactic(auto, using(cc_host::proofs::Parts::since_append))]
 pub(crate) fn print_links<W: World, H: Host<W>, J: Jobs>(
     rt: &impl Wait,
@@ -359,6 +360,7 @@ pub(crate) fn print_links<W: World, H: Host<W>, J: Jobs>(
         shared.task.reporting.alloc,
         shared.caches,
         shared.task.set,
+        shared.task.reporting.shows.listens,
         &lines,
     )?;
     do_stages(

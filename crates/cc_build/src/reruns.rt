@@ -13,7 +13,7 @@ ghost use Rattle.cc_build.specs.Questions.{AsksOnly};
 ghost use Rattle.cc_build.specs.Told.{NamesTold};
 
 use crate::Error;
-use crate::directives::{Lines, first_stages};
+use crate::directives::{first_stages, names_alone};
 use crate::phases::plan_names;
 use crate::stage::do_stages;
 use crate::task::{Shared, Task};
@@ -75,9 +75,8 @@ pub(crate) fn tell<W: World, H: Host<W>>(
 {
     let (alloc, reporting) = (task.reporting.alloc, task.reporting);
     let names = read_names(rt, task, caches, reads, host, answers)?;
-    let links = Vec::new(alloc);
-    let lines = Lines { links, names };
-    let stages = first_stages(rt, alloc, caches, task.set, &lines)?;
+    let lines = names_alone(alloc, names);
+    let stages = first_stages(rt, alloc, caches, task.set, reporting.shows.listens, &lines)?;
     let (jobs, mut seat) = OneCaller::new(1);
     let mut turns = Turns { left: 0, used: 0 };
     do_stages(reporting, host, &jobs, &mut seat, &mut turns, &stages)
@@ -109,8 +108,8 @@ pub(crate) fn print_names<W: World, H: Host<W>, J: Jobs>(
 {
     let (alloc, reporting) = (shared.task.reporting.alloc, shared.task.reporting);
     let names = plan_names(rt, shared, host, answers)?;
-    let links = Vec::new(alloc);
-    let lines = Lines { links, names };
-    let stages = first_stages(rt, alloc, shared.caches, shared.task.set, &lines)?;
+    let lines = names_alone(alloc, names);
+    let listens = reporting.shows.listens;
+    let stages = first_stages(rt, alloc, shared.caches, shared.task.set, listens, &lines)?;
     do_stages(reporting, host, shared.jobs, seat, turns, &stages)
 }

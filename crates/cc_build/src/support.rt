@@ -115,6 +115,7 @@ fn told_support<W: World, H: Host<W>>(
         disabled: false,
         debug: false,
         compiler: false,
+        assembler: false,
         flag: true,
         archiver: false,
         ranlib: false,

@@ -37,7 +37,7 @@ impl<W: World> Build<W> {
         Ok(())
     }
 
-    /// Sets the target, as rustc names it: `x86_64-unknown-linux-gnu`. Unset, it is `TARGET`. A name that isn't among the 33 known
+    /// Sets the target, as rustc names it: `x86_64-unknown-linux-gnu`. Unset, it is `TARGET`. A name that isn't among the 36 known
     /// targets is refused by the compile run, not here. Refused only for memory; the build is as before.
     pub fn target(&mut self, target: &str) -> Result<(), Error>
         ensures ok { OnOk result (Sets self.old self.new

@@ -15,9 +15,9 @@ use Rattle.cc_host.specs.declared.question.Outcome.{Outcome}
 use Rattle.cc_host.specs.declared.question.Question.{Question}
 use Rattle.cc_jobs.specs.Seats.{Rose}
 use Rattle.cc_plan.specs.Given.{is_disabled, probe_folder}
-use Rattle.cc_plan.specs.Link.{printed_links}
 use Rattle.cc_plan.specs.Plan.{archive_refusal, lists_of_run, removal_steps}
 use Rattle.cc_plan.specs.Questions.{RunAsks, PlanAsks, ArchiverAsks, RanlibAsks}
+use Rattle.cc_plan.specs.Quiet.{quiet_warnings}
 use Rattle.cc_plan.specs.Refusal.{first_of, name_refusal, early_refusal, path_refusal, link_refusal}
 use Rattle.cc_plan.specs.declared.error.PlanError.{PlanError}
 use Rattle.cc_plan.specs.declared.settings.BuildConfig.{BuildConfig}
@@ -39,16 +39,17 @@ use Rattle.cc_build.specs.Linking.{linked_name, link_reads}
 use Rattle.cc_build.specs.Promises.{terms_for, AreFirst, NothingRuns}
 use Rattle.cc_build.specs.Refusal.{plan_error}
 use Rattle.cc_build.specs.Shows.{shows_of}
-use Rattle.cc_build.specs.Stage.{Stage, asked_then, archive_stages as library_archive, calls, commands_in, children_in, has_libtool, removal_stages, list_stages, library_commands, library_stages, links_of, name_stages, printed_stages, written, written_children, writings, cargo_steps, rerun_lines}
+use Rattle.cc_build.specs.Stage.{Stage, asked_then, archive_stages as library_archive, calls, commands_in, children_in, has_libtool, removal_stages, list_stages, library_commands, library_stages, links_of, name_stages, printed_stages, written, written_children, writings, ending_steps, rerun_lines}
 use Rattle.cc_build.specs.Stage.Stage.{Asks, Calls}
 use Rattle.cc_build.specs.Went.{Terms, Means, Ends, Partly}
 use Rattle.cc_build.proofs.FormLaws.{FormFirst, formed_then, formed_unless, library_first, none_first}
 use Rattle.cc_build.proofs.Going.{called, part_is, halted_among, halted_more, halted_none, ends_then}
-use Rattle.cc_build.proofs.OrderLaws.{ended_partly, no_line_archives, no_lines_archives}
+use Rattle.cc_build.proofs.OrderLaws.{ended_partly, no_line_archives, no_note_archives}
 use Rattle.cc_build.proofs.RerunLaws.{name_commands, name_children}
 use Rattle.cc_build.proofs.RunLaws.{commands_then, commands_calls, commands_written, children_then, children_calls, children_written, went_started, went_run}
 use Rattle.cc_build.proofs.SettledLaws.{went_attempts, partly_first}
-use Rattle.cc_build.proofs.StopLaws.{ArePlain, plain_then, plain_lines, plain_both, plain_unless, plain_library}
+use Rattle.cc_build.proofs.SourceLaws.{AreNotes, ending_notes}
+use Rattle.cc_build.proofs.StopLaws.{ArePlain, plain_then, plain_lines, plain_notes, plain_unless, plain_library}
 use Rattle.cc_build.proofs.TurnLaws.{halted_bound}
 use Rattle.cc_command.specs.Answer.{AnswersError, IfArchives, IsAnswerOf, env_in, error_line, heard, repeating, told, ended_well, ended_wanting}
 use Rattle.cc_command.specs.Archived.{alone, library_at, directed_stages, behind_library, archive_stages, archive_refused, Agree, Archiving, build_in, wished_stages, wished_refusal, WishEnds, Says, Archived, Written, ArchivePromises}
@@ -68,8 +69,8 @@ use Rattle.cc_command.proofs.SettledPromises.{stages_settled, attempts_same}
 -- ---- what was done for it
 
 -- stages that are none go with a refusal
-archive_open : (b : BuildSeen) (look links : Look) (output : List ℕ) (is_plain : Bool) → archive_stages b is_plain look links output ≡ [] → is_some (archive_refused b look links output) ≡ true
-archive_open b look links output is_plain = by_early (unarchived_error (alone b).config (alone b).env output) _ _
+archive_open : (b : BuildSeen) (listens : Bool) (look links : Look) (output : List ℕ) (is_plain : Bool) → archive_stages b listens is_plain look links output ≡ [] → is_some (archive_refused b look links output) ≡ true
+archive_open b listens look links output is_plain = by_early (unarchived_error (alone b).config (alone b).env output) _ _
   where
     by_early : (early late : Option ErrorSeen) (run : List Stage) → (if is_some early then [] else Asks ∷ run) ≡ [] → is_some (first_of early late) ≡ true
     by_early None late run h = absurd (cc)
@@ -93,9 +94,9 @@ module _ (listens : Bool) (steady : Bool) (world : Question → Outcome) (patien
         t : Terms
         t = terms_for (alone b) listens (course_alone patience turns turns)
 
-        stopped : CaptureEnds run (Err e) → Ends {T = Unit {0}} t (archive_refused b look links request.0) (Calls Lists ∷ archive_stages b false look links request.0) run (Err e) idle idle
-        stopped (inl k) = halted_more t (archive_refused b look links request.0) (Calls Lists ∷ []) (archive_stages b false look links request.0) run e idle idle (k t idle)
-        stopped (inr k) = halted_among t (archive_refused b look links request.0) (Calls Lists ∷ []) (archive_stages b false look links request.0) run e idle idle (k.1 t idle).1 k.0 (archive_open b look links request.0 false)
+        stopped : CaptureEnds run (Err e) → Ends {T = Unit {0}} t (archive_refused b look links request.0) (Calls Lists ∷ archive_stages b listens false look links request.0) run (Err e) idle idle
+        stopped (inl k) = halted_more t (archive_refused b look links request.0) (Calls Lists ∷ []) (archive_stages b listens false look links request.0) run e idle idle (k t idle)
+        stopped (inr k) = halted_among t (archive_refused b look links request.0) (Calls Lists ∷ []) (archive_stages b listens false look links request.0) run e idle idle (k.1 t idle).1 k.0 (archive_open b listens look links request.0 false)
 
     pub unlisted : (line part : List Event) (ended : Ended) → part ≡ run ++ line → question_events run ≡ [] → CaptureEnds run (Err e) → AnswersError e line ended → Archived listens steady world request patience turns part ended
     unlisted line part ended cut none h says = record {
@@ -124,7 +125,7 @@ module _ (listens : Bool) (steady : Bool) (world : Question → Outcome) (patien
     made_asks = none_asked (alone (build_in request []));
     linked_asks = none_asked (build_in request []);
     result = Err no_memory;
-    ends = λ look links agree. (turns, false, halted_none (terms_for (alone (build_in request [])) listens (course_alone patience turns turns)) (wished_refusal request look links []) (wished_stages request false look links []) [] no_memory (course_alone patience turns turns).before refl refl (λ empty. absurd (cc)));
+    ends = λ look links agree. (turns, false, halted_none (terms_for (alone (build_in request [])) listens (course_alone patience turns turns)) (wished_refusal request look links []) (wished_stages request listens false look links []) [] no_memory (course_alone patience turns turns).before refl refl (λ empty. absurd (cc)));
     says = inr (is, refl);
   }
 
@@ -136,10 +137,10 @@ module _ (listens : Bool) (steady : Bool) (world : Question → Outcome) (patien
     abbrev taken : BuildSeen
     taken = record before { env = with_vars before.env k.vars }
 
-    listed_ends : (look links : Look) (left : ℕ) (is_plain : Bool) → Ends (terms_for (alone taken) listens (course_alone patience turns left)) (archive_refused taken look links name) (archive_stages taken is_plain look links name) part result (course_alone patience turns left).before (course_alone patience turns left).after → Ends (terms_for (alone taken) listens (course_alone patience turns left)) (archive_refused taken look links name) (Calls Lists ∷ archive_stages taken is_plain look links name) listed_run result (course_alone patience turns left).before (course_alone patience turns left).after
+    listed_ends : (look links : Look) (left : ℕ) (is_plain : Bool) → Ends (terms_for (alone taken) listens (course_alone patience turns left)) (archive_refused taken look links name) (archive_stages taken listens is_plain look links name) part result (course_alone patience turns left).before (course_alone patience turns left).after → Ends (terms_for (alone taken) listens (course_alone patience turns left)) (archive_refused taken look links name) (Calls Lists ∷ archive_stages taken listens is_plain look links name) listed_run result (course_alone patience turns left).before (course_alone patience turns left).after
     listed_ends look links left is_plain o =
         let c = course_alone patience turns left in
-        ends_then (terms_for (alone taken) listens c) (archive_refused taken look links name) (Calls Lists ∷ []) (archive_stages taken is_plain look links name) (Listed k.vars ∷ []) part result c.before c.before c.after (called (terms_for (alone taken) listens c) Lists (Listed k.vars) (Listed k.vars ∷ []) c.before refl refl) o
+        ends_then (terms_for (alone taken) listens c) (archive_refused taken look links name) (Calls Lists ∷ []) (archive_stages taken listens is_plain look links name) (Listed k.vars ∷ []) part result c.before c.before c.after (called (terms_for (alone taken) listens c) Lists (Listed k.vars) (Listed k.vars ∷ []) c.before refl refl) o
 
     of_taken : Archiving listens steady world after patience turns name part result → Archiving listens steady world taken patience turns name part result
     of_taken h = subst (λ (b : BuildSeen). Archiving listens steady world b patience turns name part result) k.is h
@@ -198,9 +199,12 @@ module _ (set : BuildConfig) (env : EnvSeen) (is_plain : Bool) (look : Look) (ou
 
 -- ---- its stages
 
-module _ (b : BuildSeen) (is_plain : Bool) (look links : Look) (output : List ℕ) where
+module _ (b : BuildSeen) (listens is_plain : Bool) (look links : Look) (output : List ℕ) where
+  abbrev texts : List (List ℕ)
+  texts = quiet_warnings b.config b.env links
+
   abbrev lines : List Stage
-  lines = printed_stages all_firsts (links_of b.config b.env (linked_name (library_at b output)) (library_at b output) links) (rerun_names link_reads b.config b.env links)
+  lines = printed_stages listens texts all_firsts (links_of b.config b.env (linked_name (library_at b output)) (library_at b output) links) (rerun_names link_reads b.config b.env links)
 
   abbrev unlinked : Bool
   unlinked = is_some (first_of (path_refusal (library_at b output)) (link_refusal b.config b.env links))
@@ -211,22 +215,19 @@ module _ (b : BuildSeen) (is_plain : Bool) (look links : Look) (output : List �
   abbrev read : List (List ℕ)
   read = rerun_lines (rerun_names archive_reads (alone b).config (alone b).env look)
 
-  abbrev printed : List (List ℕ)
-  printed = printed_links true (links_of b.config b.env (linked_name (library_at b output)) (library_at b output) links)
-
-  abbrev reread : List (List ℕ)
-  reread = rerun_lines (rerun_names link_reads b.config b.env links)
-
   abbrev shown : List Step
-  shown = cargo_steps all_firsts (links_of b.config b.env (linked_name (library_at b output)) (library_at b output) links) (rerun_names link_reads b.config b.env links)
+  shown = ending_steps listens texts all_firsts (links_of b.config b.env (linked_name (library_at b output)) (library_at b output) links) (rerun_names link_reads b.config b.env links)
+
+  shown_notes : AreNotes shown
+  shown_notes = ending_notes listens texts all_firsts (links_of b.config b.env (linked_name (library_at b output)) (library_at b output) links) (rerun_names link_reads b.config b.env links)
 
   abbrev behind : List Stage
-  behind = behind_library b look links output
+  behind = behind_library b listens look links output
 
   behind_plain : ArePlain behind
-  behind_plain = (tt, plain_then names (directed_stages b links (library_at b output)) (plain_lines Rerun read) (tt, plain_unless unlinked lines (plain_both Link Rerun printed reread)))
+  behind_plain = (tt, plain_then names (directed_stages b listens links (library_at b output)) (plain_lines Rerun read) (tt, plain_unless unlinked lines (plain_notes shown shown_notes)))
 
-  alone_plain : ArePlain (Calls Lists ∷ archive_stages b is_plain look links output)
+  alone_plain : ArePlain (Calls Lists ∷ archive_stages b listens is_plain look links output)
   alone_plain = (
     tt,
     plain_unless (is_some (unarchived_error (alone b).config (alone b).env output)) _
@@ -234,9 +235,9 @@ module _ (b : BuildSeen) (is_plain : Bool) (look links : Look) (output : List �
   )
 
   behind_first : FormFirst behind
-  behind_first = inr (refl, formed_then names (directed_stages b links (library_at b output)) (no_line_archives Rerun read) (inr (refl, formed_unless unlinked lines (none_first lines (no_lines_archives Link Rerun printed reread)))))
+  behind_first = inr (refl, formed_then names (directed_stages b listens links (library_at b output)) (no_line_archives Rerun read) (inr (refl, formed_unless unlinked lines (none_first lines (no_note_archives shown shown_notes)))))
 
-  alone_first : has_libtool (alone b).config (alone b).env look ≡ false → FormFirst (Calls Lists ∷ archive_stages b is_plain look links output)
+  alone_first : has_libtool (alone b).config (alone b).env look ≡ false → FormFirst (Calls Lists ∷ archive_stages b listens is_plain look links output)
   alone_first other = inr (
     refl,
     formed_unless (is_some (unarchived_error (alone b).config (alone b).env output)) _
@@ -253,14 +254,14 @@ module _ (b : BuildSeen) (is_plain : Bool) (look links : Look) (output : List �
 
   -- no command stands behind the library
   behind_commands : commands_in behind ≡ []
-  behind_commands = commands_then names (directed_stages b links (library_at b output)) ∙ ap₂ (λ u v. u ++ v) (name_commands (alone b).config (alone b).env archive_reads look all_firsts) (unless_commands unlinked lines (commands_calls shown))
+  behind_commands = commands_then names (directed_stages b listens links (library_at b output)) ∙ ap₂ (λ u v. u ++ v) (name_commands (alone b).config (alone b).env archive_reads look all_firsts) (unless_commands unlinked lines (commands_calls shown))
 
   behind_children : children_in behind ≡ []
-  behind_children = children_then names (directed_stages b links (library_at b output)) ∙ ap₂ (λ u v. u ++ v) (name_children (alone b).config (alone b).env archive_reads look all_firsts) (unless_children unlinked lines (children_calls shown))
+  behind_children = children_then names (directed_stages b listens links (library_at b output)) ∙ ap₂ (λ u v. u ++ v) (name_children (alone b).config (alone b).env archive_reads look all_firsts) (unless_children unlinked lines (children_calls shown))
 
-  alone_count : count (Calls Lists ∷ archive_stages b is_plain look links output) ≤ length b.config.objects + 2
+  alone_count : count (Calls Lists ∷ archive_stages b listens is_plain look links output) ≤ length b.config.objects + 2
   alone_count =
-      let few : count (archive_stages b is_plain look links output) ≤ 0 + length b.config.objects + 2 =
+      let few : count (archive_stages b listens is_plain look links output) ≤ 0 + length b.config.objects + 2 =
       unless_few (is_some (unarchived_error (alone b).config (alone b).env output)) _ (0 + length b.config.objects + 2)
       (unless_few (is_some (archive_refusal (alone b).config (alone b).env look)) _ (0 + length b.config.objects + 2)
       (ended_count (alone b).config (alone b).env look is_plain output behind (ap length behind_commands))) in
@@ -282,18 +283,18 @@ module _ (b : BuildSeen) (is_plain : Bool) (look links : Look) (output : List �
   all_stages None None f late run none = refl
 
   module _ (accepted : archive_refused b look links output ≡ None) where
-    stages_are : archive_stages b is_plain look links output ≡ Asks ∷ (library_stages (alone b).config (alone b).env is_plain look output ++ behind)
+    stages_are : archive_stages b listens is_plain look links output ≡ Asks ∷ (library_stages (alone b).config (alone b).env is_plain look output ++ behind)
     stages_are = all_stages (unarchived_error (alone b).config (alone b).env output) (archive_refusal (alone b).config (alone b).env look) (plan_error (alone b).config (alone b).env output) _ (library_stages (alone b).config (alone b).env is_plain look output ++ behind) accepted
 
     abbrev commands : List Planned
     commands = library_commands (alone b).config (alone b).env look is_plain output
 
-    commands_are : commands_in (Calls Lists ∷ archive_stages b is_plain look links output) ≡ commands
+    commands_are : commands_in (Calls Lists ∷ archive_stages b listens is_plain look links output) ≡ commands
     commands_are =
         ap commands_in stages_are ∙ commands_then (library_stages (alone b).config (alone b).env is_plain look output) behind ∙ ap (λ l. commands_in (library_stages (alone b).config (alone b).env is_plain look output) ++ l) behind_commands
         ∙ append-nil (commands_in (library_stages (alone b).config (alone b).env is_plain look output)) ∙ commands_library (alone b).config (alone b).env is_plain look output
 
-    children_are : children_in (Calls Lists ∷ archive_stages b is_plain look links output) ≡ written_children (has_libtool (alone b).config (alone b).env look) commands
+    children_are : children_in (Calls Lists ∷ archive_stages b listens is_plain look links output) ≡ written_children (has_libtool (alone b).config (alone b).env look) commands
     children_are =
         ap children_in stages_are ∙ children_then (library_stages (alone b).config (alone b).env is_plain look output) behind ∙ ap (λ l. children_in (library_stages (alone b).config (alone b).env is_plain look output) ++ l) behind_children
         ∙ append-nil (children_in (library_stages (alone b).config (alone b).env is_plain look output)) ∙ children_library (alone b).config (alone b).env is_plain look output
@@ -336,7 +337,7 @@ module _ (listens : Bool) (q : Request) (patience : Option ℕ) (turned : ℕ) (
   refusal = wished_refusal q look links run
 
   abbrev stages : List Stage
-  stages = wished_stages q is_plain look links run
+  stages = wished_stages q listens is_plain look links run
 
   -- status 0: nothing was refused, and the library was written
   written_of : (result : Result (Unit {0}) ErrorSeen) → Says result line ended → ended.status ≡ 0 → Ends t refusal stages run result x y → (line ≡ []) × Written listens b patience turned look links q.0 run
@@ -347,9 +348,9 @@ module _ (listens : Bool) (q : Request) (patience : Option ℕ) (turned : ℕ) (
       is_plain = is_plain;
       left = left;
       went = o.1;
-      writes = went_attempts t stages run x y (alone_plain b is_plain look links q.0) o.1 ∙ ap (map to_attempt) (commands_are b is_plain look links q.0 o.0);
-      others = went_started t stages run x y o.1 ∙ ap (asked (shows_of (alone b).config (alone b).env listens)) (children_are b is_plain look links q.0 o.0);
-      ended = went_run t stages run x y 0 o.1 ∙ ap all_ended (zero-add (length (children_in stages))) ∙ ap (λ l. all_ended (length l)) (children_are b is_plain look links q.0 o.0);
+      writes = went_attempts t stages run x y (alone_plain b listens is_plain look links q.0) o.1 ∙ ap (map to_attempt) (commands_are b listens is_plain look links q.0 o.0);
+      others = went_started t stages run x y o.1 ∙ ap (asked (shows_of (alone b).config (alone b).env listens)) (children_are b listens is_plain look links q.0 o.0);
+      ended = went_run t stages run x y 0 o.1 ∙ ap all_ended (zero-add (length (children_in stages))) ∙ ap (λ l. all_ended (length l)) (children_are b listens is_plain look links q.0 o.0);
     },
   )
   written_of (Err e) (inl printed) zero_is o = let s : ended.status ≡ 1 = ap (λ (v : Ended). v.status) printed.0 in absurd (cc)
@@ -360,7 +361,7 @@ module _ (listens : Bool) (q : Request) (patience : Option ℕ) (turned : ℕ) (
   complete_of (Ok done) says o allowed failed fault = inl says.0
   complete_of (Err e) (inr wanting) o allowed failed fault = inr (inr wanting.0)
   complete_of (Err e) (inl printed) o allowed failed fault =
-      inr (inl (spends t (has_libtool (alone b).config (alone b).env look) refusal stages part run line e ended x y cut (line_of (error_line e) line printed.2) o printed.1 printed.0 (alone_plain b is_plain look links q.0) (alone_first b is_plain look links q.0)
+      inr (inl (spends t (has_libtool (alone b).config (alone b).env look) refusal stages part run line e ended x y cut (line_of (error_line e) line printed.2) o printed.1 printed.0 (alone_plain b listens is_plain look links q.0) (alone_first b listens is_plain look links q.0)
       (λ is. let clash : None ≡ Some e = sym allowed ∙ is in cc) failed fault never_rose))
 
   -- the turns are enough
@@ -375,8 +376,8 @@ module _ (listens : Bool) (q : Request) (patience : Option ℕ) (turned : ℕ) (
       cc
   enough_of (Err e) (inl printed) o p patient enough spent =
       let same : e ≡ spent.0 = same_error e spent.0 ended printed.0 spent.1.0 in
-      let few : turns run < p * length (commands_in stages) = halted_bound t refusal stages run e x y 1 p refl patient (alone_never b is_plain look links q.0) o (ap (λ (v : ErrorSeen). v.kind) same ∙ spent.1.1) in
-      too_few p (length (commands_in stages)) (length q.1.config.objects) turned (turns run) few (alone_count b is_plain look links q.0) enough
+      let few : turns run < p * length (commands_in stages) = halted_bound t refusal stages run e x y 1 p refl patient (alone_never b listens is_plain look links q.0) o (ap (λ (v : ErrorSeen). v.kind) same ∙ spent.1.1) in
+      too_few p (length (commands_in stages)) (length q.1.config.objects) turned (turns run) few (alone_count b listens is_plain look links q.0) enough
       (sym (turns_same part run line cut (line_of (error_line e) line printed.2)) ∙ spent.1.2)
 
 -- ---- what it promises
@@ -392,11 +393,11 @@ module _ (listens : Bool) (steady : Bool) (world : Question → Outcome) (q : Re
       let second = some_agree (answers h.linked) h.linked_asks.once in
       (first.0, second.0, (first.1, second.1))
 
-  begun : (look links : Look) (agree : Agree h.made h.linked look links) → Partly (t listens q patience turned part h.run h.line ended look links (h.ends look links agree).0 (h.ends look links agree).1 h.cut) (wished_stages q (h.ends look links agree).1 look links h.run) h.run (course_alone patience turned (h.ends look links agree).0).before (course_alone patience turned (h.ends look links agree).0).after
+  begun : (look links : Look) (agree : Agree h.made h.linked look links) → Partly (t listens q patience turned part h.run h.line ended look links (h.ends look links agree).0 (h.ends look links agree).1 h.cut) (wished_stages q listens (h.ends look links agree).1 look links h.run) h.run (course_alone patience turned (h.ends look links agree).0).before (course_alone patience turned (h.ends look links agree).0).after
   begun look links agree =
       let o = h.ends look links agree in
       let c = course_alone patience turned o.0 in
-      ended_partly (terms_for (alone (build_in q h.run)) listens c) (wished_refusal q look links h.run) (wished_stages q o.1 look links h.run) h.run h.result c.before c.after o.2
+      ended_partly (terms_for (alone (build_in q h.run)) listens c) (wished_refusal q look links h.run) (wished_stages q listens o.1 look links h.run) h.run h.result c.before c.after o.2
 
   pub archived_last : PrintsLast part ended
   archived_last = says_last h.result part h.run h.line ended h.cut h.says
@@ -406,14 +407,14 @@ module _ (listens : Bool) (steady : Bool) (world : Question → Outcome) (q : Re
       let some = some_looks in
       let o = h.ends some.0 some.1 some.2 in
       let c = course_alone patience turned o.0 in
-      stages_last (terms_for (alone (build_in q h.run)) listens c) (wished_stages q o.1 some.0 some.1 h.run) part h.run h.line c.before c.after h.cut (begun some.0 some.1 some.2) its_line
+      stages_last (terms_for (alone (build_in q h.run)) listens c) (wished_stages q listens o.1 some.0 some.1 h.run) part h.run h.line c.before c.after h.cut (begun some.0 some.1 some.2) its_line
 
   pub archived_settled : NothingRuns part
   archived_settled =
       let some = some_looks in
       let o = h.ends some.0 some.1 some.2 in
       let c = course_alone patience turned o.0 in
-      stages_settled (terms_for (alone (build_in q h.run)) listens c) (wished_stages q o.1 some.0 some.1 h.run) part h.run h.line c.before c.after h.cut (begun some.0 some.1 some.2) its_line
+      stages_settled (terms_for (alone (build_in q h.run)) listens c) (wished_stages q listens o.1 some.0 some.1 h.run) part h.run h.line c.before c.after h.cut (begun some.0 some.1 some.2) its_line
 
   -- the line lists no variables
   heard_too : heard part ≡ heard h.run
@@ -430,17 +431,17 @@ module _ (listens : Bool) (steady : Bool) (world : Question → Outcome) (q : Re
       let same : part ≡ h.run = h.cut ∙ ap (λ l. h.run ++ l) w.0 ∙ append-nil h.run in
       subst (λ (p : List Event). Written listens (build_in q p) patience turned look links q.0 p) (sym same) w.1
 
-  its_prefix : (look links : Look) → Agree h.made h.linked look links → (is_plain : Bool) × AreFirst (wished_stages q is_plain look links part) part
+  its_prefix : (look links : Look) → Agree h.made h.linked look links → (is_plain : Bool) × AreFirst (wished_stages q listens is_plain look links part) part
   its_prefix look links agree =
       let o = h.ends look links agree in
       let c = course_alone patience turned o.0 in
       let b = build_in q h.run in
-      let p = partly_first (terms_for (alone b) listens c) (wished_stages q o.1 look links h.run) h.run c.before c.after (alone_plain b o.1 look links q.0) (begun look links agree) in
+      let p = partly_first (terms_for (alone b) listens c) (wished_stages q listens o.1 look links h.run) h.run c.before c.after (alone_plain b listens o.1 look links q.0) (begun look links agree) in
       let same = attempts_same part h.run h.line h.cut its_line in (
         o.1,
         (
           p.0,
-          ap (λ (vars : List (List ℕ × List ℕ)). map to_attempt (commands_in (Calls Lists ∷ archive_stages (with_heard vars) o.1 look links q.0))) heard_too ∙ p.1 ∙ ap (λ l. l ++ p.0) (sym same),
+          ap (λ (vars : List (List ℕ × List ℕ)). map to_attempt (commands_in (Calls Lists ∷ archive_stages (with_heard vars) listens o.1 look links q.0))) heard_too ∙ p.1 ∙ ap (λ l. l ++ p.0) (sym same),
         ),
       )
 

@@ -1,5 +1,6 @@
 -- How an archive and its link lines make up one list of stages.
 use Rattle.cc_build.specs.Way.{Firsts, all_firsts}
+use Rattle.cc_plan.specs.Quiet.{quiet_warnings}
 use Rattle.cc_plan.specs.Reruns.{rerun_names}
 use Rattle.std.proofs.Common.{◌≡◌, ◌⊎◌, inl, inr, ℕ, List, [], ◌∷◌, ◌++◌, Bool, true, if◌then◌else◌, is_some, Option, Some, None, option_map, Result, Ok, Err, refl, sym, ◌∙◌, ap, subst, append_assoc, append-nil}
 use Rattle.cc_host.specs.Question.{Look, Holds, answers}
@@ -104,7 +105,7 @@ module _ (listens : Bool) (steady : Bool) (world : Question → Outcome) (b : Bu
   link_error = plan_error b.config b.env (library_at b output)
 
   abbrev lines_by : Look → List Stage
-  lines_by links = printed_stages all_firsts (links_of b.config b.env (linked_name (library_at b output)) (library_at b output) links) (rerun_names link_reads b.config b.env links)
+  lines_by links = printed_stages listens (quiet_warnings b.config b.env links) all_firsts (links_of b.config b.env (linked_name (library_at b output)) (library_at b output) links) (rerun_names link_reads b.config b.env links)
 
   abbrev names_by : Look → List Stage
   names_by look = name_stages (alone b).config (alone b).env archive_reads look all_firsts
@@ -137,7 +138,7 @@ module _ (listens : Bool) (steady : Bool) (world : Question → Outcome) (b : Bu
   }
 
   -- it was made, and the link lines ended so
-  pub directives_ended : {P : Type 0} (path : P) (made linked : List Event) (r : Result (Unit {0}) ErrorSeen) → b.config.repeat_lines ≡ true → AsksByRun steady world (alone b) made → AsksByRun steady world b linked → Holds (answers made) (λ look. Creates (alone b) listens patience turns output (Ok path) look made) → Holds (answers linked) (λ links. DirectivesEnd b (library_at b output) r links linked) → Archiving listens steady world b patience turns output (made ++ linked) r
+  pub directives_ended : {P : Type 0} (path : P) (made linked : List Event) (r : Result (Unit {0}) ErrorSeen) → b.config.repeat_lines ≡ true → AsksByRun steady world (alone b) made → AsksByRun steady world b linked → Holds (answers made) (λ look. Creates (alone b) listens patience turns output (Ok path) look made) → Holds (answers linked) (λ links. DirectivesEnd b listens (library_at b output) r links linked) → Archiving listens steady world b patience turns output (made ++ linked) r
   directives_ended path made linked r repeats made_asks linked_asks h k = record {
     made = made;
     linked = linked;
@@ -154,6 +155,6 @@ module _ (listens : Bool) (steady : Bool) (world : Question → Outcome) (b : Bu
           c.1.0,
           linked_then t (unarchived_error (alone b).config (alone b).env output) first_error link_error (library_stages (alone b).config (alone b).env c.1.0 look output) (names_by look) (lines_by links)
               (archive_refusal (alone b).config (alone b).env look) (path_refusal (library_at b output)) (link_refusal b.config b.env links) made linked path r (course_alone patience turns c.0).before y y (made_so (Ok path) repeats look made c)
-              (subst (λ (firsts : Firsts). Ends t (first_of (option_map link_error (path_refusal (library_at b output))) (option_map link_error (link_refusal b.config b.env links))) (directive_stages b.config b.env links firsts (library_at b output)) linked r y y) all (d.1.1 t y)),
+              (subst (λ (firsts : Firsts). Ends t (first_of (option_map link_error (path_refusal (library_at b output))) (option_map link_error (link_refusal b.config b.env links))) (directive_stages b.config b.env listens links firsts (library_at b output)) linked r y y) all (d.1.1 t y)),
         );
   }

@@ -1,4 +1,5 @@
 -- How many commands a request has at most, and that refused settings spend no turns.
+use Rattle.cc_plan.specs.Quiet.{quiet_warnings}
 use Rattle.cc_plan.specs.Reruns.{rerun_names}
 use Rattle.std.proofs.Common.{◌≡◌, ℕ, ◌+◌, ◌*◌, List, [], ◌∷◌, ◌++◌, length, Bool, true, false, Option, Some, None, if◌then◌else◌, is_some, map, refl, ◌∙◌, ap, zero-add, arith}
 use Rattle.std.specs.Prelude.{◌≤◌}
@@ -24,7 +25,7 @@ use Rattle.cc_plan.specs.declared.settings.BuildConfig.{BuildConfig}
 use Rattle.cc_plan.proofs.BatchLaws.{few}
 use Rattle.cc_build.specs.Error.{ErrorSeen}
 use Rattle.cc_build.specs.Refusal.{plan_error, disabled_error, early_error, late_error, archive_error, link_error, refusal_error}
-use Rattle.cc_build.specs.Stage.{Stage, commands_in, calls, planned, beside, compiles_planned, opening_steps, written, writings, has_libtool, folder_stages, compile_stages, removal_stages, library_commands, list_stages, archive_stages, link_stages, library_stages, ending_stages, later_stages, late_stages, planned_stages, cargo_steps, run_reads}
+use Rattle.cc_build.specs.Stage.{Stage, commands_in, calls, planned, beside, compiles_planned, opening_steps, written, writings, has_libtool, folder_stages, compile_stages, removal_stages, library_commands, list_stages, archive_stages, link_stages, library_stages, ending_stages, later_stages, late_stages, planned_stages, ending_steps, run_reads}
 use Rattle.cc_build.specs.Way.{Way, Found, Firsts}
 use Rattle.cc_build.specs.Stage.Stage.{Asks}
 use Rattle.cc_build.specs.Stop.{fault_error}
@@ -111,9 +112,9 @@ list_count : (set : BuildConfig) (env : EnvSeen) (look : Look) (output : List �
 unfolding list_stages
 list_count set env look output = calls_none (writings (lists_of_run set env look output))
 
-link_count : (set : BuildConfig) (env : EnvSeen) (look : Look) (firsts : Firsts) (output : List ℕ) → count (link_stages set env look firsts output) ≡ 0
+link_count : (set : BuildConfig) (env : EnvSeen) (listens : Bool) (look : Look) (firsts : Firsts) (output : List ℕ) → count (link_stages set env listens look firsts output) ≡ 0
 unfolding link_stages
-link_count set env look firsts output = calls_none (cargo_steps firsts (link_lines set env look output) (rerun_names (run_reads set) set env look))
+link_count set env listens look firsts output = calls_none (ending_steps listens (quiet_warnings set env look) firsts (link_lines set env look output) (rerun_names (run_reads set) set env look))
 
 pub unless_few : (b : Bool) (stages : List Stage) (n : ℕ) → count stages ≤ n → count (if b then [] else stages) ≤ n
 unless_few true stages n h = omega arith
@@ -147,7 +148,7 @@ unfolding later_stages
 later_count set env way look output =
     unless_few (is_some (archive_refusal set env look)) (library_stages set env way.is_plain look output ++ ending_stages set env way look output) (length set.files + length set.objects + 2)
     (ended_count set env look way.is_plain output (ending_stages set env way look output)
-    (unless_none (is_some (link_refusal set env look)) (link_stages set env look way.firsts output) (link_count set env look way.firsts output)))
+    (unless_none (is_some (link_refusal set env look)) (link_stages set env (is_some way.found.here) look way.firsts output) (link_count set env (is_some way.found.here) look way.firsts output)))
 
 two : (a b : List Stage) (n m : ℕ) → count a ≡ n → count b ≤ n + m + 2 → count (a ++ b) ≤ 2 * n + m + 2
 two a b n m p q = let x : count (a ++ b) ≡ count a + count b = both a b in omega arith

@@ -1,5 +1,5 @@
 -- The entries of a database: what a log has of the sources that were compiled.
-use Rattle.std.proofs.Common.{◌≡◌, ◌⊎◌, inl, inr, ℕ, zero, suc, ◌+◌, ◌-◌, ◌<◌, List, [], ◌∷◌, ◌++◌, length, map, drop, get_or, replicate, Bool, true, false, Option, Some, None, if◌then◌else◌, refl, sym, ◌∙◌, ap, ap₂, add-one, append_assoc, append-nil, arith}
+use Rattle.std.proofs.Common.{◌≡◌, ◌⊎◌, inl, inr, ℕ, zero, suc, ◌+◌, ◌-◌, ◌<◌, List, [], ◌∷◌, ◌++◌, length, map, drop, get_or, replicate, Bool, true, false, Option, Some, None, is_some, if◌then◌else◌, refl, sym, ◌∙◌, ap, ap₂, add-one, append_assoc, append-nil, arith}
 use Rattle.std.specs.List.{flat_map, slice_get}
 use Rattle.std.proofs.Math.Seq.{drop-append_seam}
 use Rattle.std.proofs.lemmas.Grind.{flat_map-append}
@@ -17,7 +17,7 @@ use Rattle.cc_host.specs.declared.event.HostCall.{HostCall}
 use Rattle.cc_host.specs.declared.event.HostError.{HostError}
 use Rattle.cc_host.specs.declared.event.HostError.TheVariants.{Fault as Faulted, NoMemory as WantsMemory}
 use Rattle.cc_host.specs.declared.event.Role.TheVariants.{Compile, Archive, Index}
-use Rattle.cc_plan.specs.Plan.{archives_of, compiles_of, indexes_of, library_of, objects_of}
+use Rattle.cc_plan.specs.Plan.{archives_of, compile_in, compiles_of, indexes_of, library_of, objects_of}
 use Rattle.cc_plan.specs.declared.object.Object.{Object}
 use Rattle.cc_plan.specs.declared.settings.BuildConfig.{BuildConfig}
 use Rattle.cc_run.specs.Part.{started, started_of}
@@ -26,12 +26,12 @@ use Rattle.cc_run.specs.declared.planned.Planned.{Planned}
 use Rattle.cc_run.specs.declared.planned.Shows.{Shows}
 use Rattle.cc_build.specs.Built.{Built}
 use Rattle.cc_build.specs.Error.{ErrorSeen, no_memory}
-use Rattle.cc_build.specs.Stage.{planned, written_children, link_stages, library_commands, has_libtool, cargo_steps}
+use Rattle.cc_build.specs.Stage.{planned, written_children, link_stages, library_commands, has_libtool, ending_steps}
 use Rattle.cc_build.specs.Stage.Stage.{Asks}
 use Rattle.cc_build.specs.Stage.{children_in}
 use Rattle.cc_build.specs.Went.{Terms}
 use Rattle.cc_build.proofs.RunLaws.{children_calls, went_started}
-use Rattle.cc_command.specs.Database.{Faults, call_error, optional, compile_start, compile_starts, compile_in, entry_of, entries_by, entries_of, last_of, logged_entries}
+use Rattle.cc_command.specs.Database.{Faults, call_error, optional, compile_start, compile_starts, entry_of, entries_by, entries_of, last_of, logged_entries}
 
 -- ---- the commands that were started to compile
 
@@ -105,12 +105,12 @@ module _ (t : Terms) (set : BuildConfig) (env : EnvSeen) (look : Look) (output :
       all_started b.archives ∙ ap (flat_map compiled) b.others ∙ asked_compile t.shows (written_children (has_libtool set env look) cmds)
       ∙ written_none (has_libtool set env look) cmds (flat_map-append compiling (planned Archive archives) (planned Index indexes) ∙ ap₂ (λ u v. u ++ v) (archives_planned archives) (indexes_planned indexes))
 
-  link_children : children_in (link_stages set env look b.way.firsts output) ≡ []
+  link_children : children_in (link_stages set env (is_some b.way.found.here) look b.way.firsts output) ≡ []
   unfolding link_stages
-  link_children = children_calls (cargo_steps b.way.firsts _ _)
+  link_children = children_calls (ending_steps (is_some b.way.found.here) _ b.way.firsts _ _)
 
   lines_starts : compile_starts b.lines ≡ []
-  lines_starts = all_started b.lines ∙ ap (flat_map compiled) (went_started t (Asks ∷ link_stages set env look b.way.firsts output) b.lines b.linked.0 b.linked.1 b.linked.2) ∙ asked_compile t.shows (children_in (Asks ∷ link_stages set env look b.way.firsts output)) ∙ ap (flat_map compiling) link_children
+  lines_starts = all_started b.lines ∙ ap (flat_map compiled) (went_started t (Asks ∷ link_stages set env (is_some b.way.found.here) look b.way.firsts output) b.lines b.linked.0 b.linked.1 b.linked.2) ∙ asked_compile t.shows (children_in (Asks ∷ link_stages set env (is_some b.way.found.here) look b.way.firsts output)) ∙ ap (flat_map compiling) link_children
 
   -- a part that built the library started the planned compile commands, and no other
   pub built_starts : compile_starts part ≡ compiles_of set env look

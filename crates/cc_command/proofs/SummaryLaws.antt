@@ -22,20 +22,21 @@ use Rattle.cc_plan.specs.Archive.{archiver_of}
 use Rattle.cc_plan.specs.Batches.{batches_of}
 use Rattle.cc_plan.specs.Link.{printed_links}
 use Rattle.cc_plan.specs.Plan.{compiles_of, archives_of, indexes_of, archived_of, library_of, lists_of_run, link_lines, plan_warnings, warning_steps, warned_steps, prints as line_steps, folder_steps}
+use Rattle.cc_plan.specs.Quiet.{quiet_warnings}
 use Rattle.cc_plan.specs.Reruns.{rerun_names}
 use Rattle.cc_plan.specs.declared.archive.Archiver.{Archiver}
 use Rattle.cc_plan.specs.declared.settings.BuildConfig.{BuildConfig}
 use Rattle.cc_run.specs.declared.planned.Planned.{Planned}
 use Rattle.cc_build.specs.Attempts.{attempt_of, attempts, to_attempt, all_tried, first_tried, form_tried}
 use Rattle.cc_build.specs.Built.{Built}
-use Rattle.cc_build.specs.Stage.{Stage, rerun_lines, run_reads, calls, planned, beside, opening_steps, finding_steps, compiles_planned, in_turn, written, writings, commands_in, library_commands, has_libtool, folder_stages, compile_stages, list_stages, archive_stages, link_stages}
+use Rattle.cc_build.specs.Stage.{Stage, rerun_lines, run_reads, calls, planned, beside, opening_steps, finding_steps, said_steps, compiles_planned, in_turn, written, writings, commands_in, library_commands, has_libtool, folder_stages, compile_stages, list_stages, archive_stages, link_stages}
 use Rattle.cc_build.specs.Stage.Stage.{Calls, Asks, Tries, RunsOne, RunsAll}
 use Rattle.cc_build.specs.Way.{Found, Firsts, chosen}
 use Rattle.cc_build.specs.Went.{Terms, Means, Did, Went}
 use Rattle.cc_build.proofs.RunLaws.{commands_then, commands_calls, commands_beside}
 use Rattle.cc_build.proofs.SettledLaws.{went_attempts}
-use Rattle.cc_build.proofs.SourceLaws.{opening_notes, attempts_planned}
-use Rattle.cc_build.proofs.StopLaws.{ArePlain, plain_then, plain_lines, plain_notes}
+use Rattle.cc_build.proofs.SourceLaws.{opening_notes, ending_notes, attempts_planned}
+use Rattle.cc_build.proofs.StopLaws.{ArePlain, plain_then, plain_notes}
 use Rattle.cc_command.specs.Generated.{gen_settings, gen_name, gen_objects, no_variables, counted_lines, summary}
 use Rattle.cc_command.specs.Summary.{begins, links, number, log_lines}
 use Rattle.cc_command.proofs.GeneratedLaws.{not_libtool, compiles_count, archives_count, indexes_count, links_count}
@@ -214,12 +215,15 @@ module _ (set : BuildConfig) (env : EnvSeen) (found : Found) (look : Look) where
 
 -- ---- the stages of the library and of its link lines
 
-module _ (set : BuildConfig) (env : EnvSeen) (look : Look) (is_plain : Bool) (firsts : Firsts) (output : List ℕ) where
+module _ (set : BuildConfig) (env : EnvSeen) (listens : Bool) (look : Look) (is_plain : Bool) (firsts : Firsts) (output : List ℕ) where
   archive_links : links_in (list_stages set env look output ++ archive_stages set env look is_plain output) ≡ 0
   unfolding list_stages archive_stages
   archive_links =
       links_then (calls (writings (lists_of_run set env look output))) (written (has_libtool set env look) is_plain (library_commands set env look is_plain output))
       ∙ ap₂ (λ m n. m + n) (links_writings (lists_of_run set env look output)) (links_written (has_libtool set env look) is_plain (library_commands set env look is_plain output))
+
+  abbrev said : List Step
+  said = said_steps listens (quiet_warnings set env look)
 
   abbrev shown : List Step
   shown = line_steps Link (printed_links firsts.links (link_lines set env look output))
@@ -227,24 +231,22 @@ module _ (set : BuildConfig) (env : EnvSeen) (look : Look) (is_plain : Bool) (fi
   abbrev told : List Step
   told = line_steps Rerun (rerun_lines (chosen firsts.names (rerun_names (run_reads set) set env look)))
 
-  ending_links : links_in (Asks ∷ link_stages set env look firsts output) ≡ length (printed_links firsts.links (link_lines set env look output))
+  ending_links : links_in (Asks ∷ link_stages set env listens look firsts output) ≡ length (printed_links firsts.links (link_lines set env look output))
   unfolding link_stages
   ending_links =
-      zero-add (links_in (calls (shown ++ told))) ∙ ap links_in (map-append Calls shown told) ∙ links_then (calls shown) (calls told)
+      zero-add (links_in (calls (said ++ (shown ++ told)))) ∙ ap links_in (map-append Calls said (shown ++ told)) ∙ links_then (calls said) (calls (shown ++ told))
+      ∙ ap (λ n. n + links_in (calls (shown ++ told))) (links_each false listens (quiet_warnings set env look))
+      ∙ zero-add (links_in (calls (shown ++ told))) ∙ ap links_in (map-append Calls shown told) ∙ links_then (calls shown) (calls told)
       ∙ ap₂ (λ m n. m + n) (links_printed (printed_links firsts.links (link_lines set env look output))) (links_told (rerun_lines (chosen firsts.names (rerun_names (run_reads set) set env look))))
       ∙ add-zero (length (printed_links firsts.links (link_lines set env look output)))
 
-  ending_commands : commands_in (Asks ∷ link_stages set env look firsts output) ≡ []
+  ending_commands : commands_in (Asks ∷ link_stages set env listens look firsts output) ≡ []
   unfolding link_stages
-  ending_commands = commands_calls (shown ++ told)
+  ending_commands = commands_calls (said ++ (shown ++ told))
 
-  plain_ending : ArePlain (Asks ∷ link_stages set env look firsts output)
+  plain_ending : ArePlain (Asks ∷ link_stages set env listens look firsts output)
   unfolding link_stages
-  plain_ending = (
-    tt,
-    subst ArePlain (sym (map-append Calls shown told))
-        (plain_then (calls shown) (calls told) (plain_lines Link (printed_links firsts.links (link_lines set env look output))) (plain_lines Rerun (rerun_lines (chosen firsts.names (rerun_names (run_reads set) set env look))))),
-  )
+  plain_ending = (tt, plain_notes (said ++ (shown ++ told)) (ending_notes listens (quiet_warnings set env look) firsts (link_lines set env look output) (rerun_names (run_reads set) set env look)))
 
 -- there is a command of the index, whichever form was taken
 some_index : (archiver : Archiver) (env : EnvSeen) (library : List ℕ) (is_plain : Bool) (paths : List (List ℕ)) → 1 ≤ length (archive.indexes_by archiver env library is_plain paths)
@@ -304,7 +306,7 @@ module _ (count : ℕ) (look : Look) (t : Terms) (log : List Event) (plain : IsP
       let sources : attempts b.runs ≡ map to_attempt (planned Compile compiles) = went_attempts t (first set no_variables b.way.found look) b.runs b.compiled.0 b.compiled.1 (plain_first set no_variables b.way.found look) b.compiled.2 ∙ ap (map to_attempt) (first_commands set no_variables b.way.found look) ∙ attempts_planned set no_variables b.way.found.here look in
       let written_so : attempts b.archives ≡ map to_attempt (library_commands set no_variables look false gen_name) = subst (λ (p : Bool). attempts b.archives ≡ map to_attempt (library_commands set no_variables look p gen_name)) first_form b.writes in
       let both : attempts b.archives ≡ map to_attempt (planned Archive archives) ++ map to_attempt (planned Index indexes) = written_so ∙ map-append to_attempt (planned Archive archives) (planned Index indexes) in
-      let none : attempts b.lines ≡ [] = went_attempts t (Asks ∷ link_stages set no_variables look b.way.firsts gen_name) b.lines b.linked.0 b.linked.1 (plain_ending set no_variables look false b.way.firsts gen_name) b.linked.2 ∙ ap (map to_attempt) (ending_commands set no_variables look false b.way.firsts gen_name) in
+      let none : attempts b.lines ≡ [] = went_attempts t (Asks ∷ link_stages set no_variables (is_some b.way.found.here) look b.way.firsts gen_name) b.lines b.linked.0 b.linked.1 (plain_ending set no_variables (is_some b.way.found.here) look false b.way.firsts gen_name) b.linked.2 ∙ ap (map to_attempt) (ending_commands set no_variables (is_some b.way.found.here) look false b.way.firsts gen_name) in
       ap attempts whole ∙ flat_map-append attempt_of b.runs rest
       ∙ ap₂ (λ u v. u ++ v) sources (flat_map-append attempt_of b.archives b.lines ∙ ap₂ (λ u v. u ++ v) both none ∙ append-nil (map to_attempt (planned Archive archives) ++ map to_attempt (planned Index indexes)))
 
@@ -333,8 +335,8 @@ module _ (count : ℕ) (look : Look) (t : Terms) (log : List Event) (plain : IsP
   log_links : number links log ≡ 2
   log_links =
       let sources : number links b.runs ≡ 0 = went_links t (first set no_variables b.way.found look) b.runs b.compiled.0 b.compiled.1 b.compiled.2 ∙ first_links set no_variables b.way.found look in
-      let library : number links b.archives ≡ 0 = went_links t (list_stages set no_variables look gen_name ++ archive_stages set no_variables look b.way.is_plain gen_name) b.archives b.archived.0 b.archived.1 b.archived.2 ∙ archive_links set no_variables look b.way.is_plain b.way.firsts gen_name in
-      let lines : number links b.lines ≡ 2 = went_links t (Asks ∷ link_stages set no_variables look b.way.firsts gen_name) b.lines b.linked.0 b.linked.1 b.linked.2 ∙ ending_links set no_variables look b.way.is_plain b.way.firsts gen_name ∙ links_count count look b.way.firsts.links in
+      let library : number links b.archives ≡ 0 = went_links t (list_stages set no_variables look gen_name ++ archive_stages set no_variables look b.way.is_plain gen_name) b.archives b.archived.0 b.archived.1 b.archived.2 ∙ archive_links set no_variables (is_some b.way.found.here) look b.way.is_plain b.way.firsts gen_name in
+      let lines : number links b.lines ≡ 2 = went_links t (Asks ∷ link_stages set no_variables (is_some b.way.found.here) look b.way.firsts gen_name) b.lines b.linked.0 b.linked.1 b.linked.2 ∙ ending_links set no_variables (is_some b.way.found.here) look b.way.is_plain b.way.firsts gen_name ∙ links_count count look b.way.firsts.links in
       ap (number links) whole ∙ number_both links b.runs rest
       ∙ ap₂ (λ m n. m + n) sources (number_both links b.archives b.lines ∙ ap₂ (λ m n. m + n) library lines)
 

@@ -8,6 +8,7 @@ use Rattle.cc_host.specs.declared.event.Event.{Event}
 use Rattle.cc_host.specs.declared.question.Outcome.{Outcome}
 use Rattle.cc_host.specs.declared.question.Question.{Question}
 use Rattle.cc_plan.specs.Plan.{library_of, archive_refusal}
+use Rattle.cc_plan.specs.Quiet.{quiet_warnings}
 use Rattle.cc_plan.specs.Refusal.{first_of, path_refusal, link_refusal}
 use Rattle.cc_run.specs.Part.{started}
 use Rattle.cc_run.specs.Planned.{asked}
@@ -39,20 +40,21 @@ alone b = with_objects b []
 abbrev pub library_at : BuildSeen → List ℕ → List ℕ
 library_at b output = library_of (alone b).config (alone b).env output
 
--- the link lines of the library at a path are planned by questions, and printed with those of the variables that were read
-abbrev pub directed_stages : BuildSeen → Look → List ℕ → List Stage
-directed_stages b links library =
-    asked_then (first_of (path_refusal library) (link_refusal b.config b.env links)) (printed_stages all_firsts (links_of b.config b.env (linked_name library) library links) (rerun_names link_reads b.config b.env links))
+-- The link lines of the library at a path are planned by questions, and printed with those of the variables that were read. A host that listens is told
+-- of the compiler that decides on the C++ library.
+abbrev pub directed_stages : BuildSeen → Bool → Look → List ℕ → List Stage
+directed_stages b listens links library =
+    asked_then (first_of (path_refusal library) (link_refusal b.config b.env links)) (printed_stages listens (quiet_warnings b.config b.env links) all_firsts (links_of b.config b.env (linked_name library) library links) (rerun_names link_reads b.config b.env links))
 
 -- behind the library the lines of the variables that were read for it are printed, and then how it is linked
-abbrev pub behind_library : BuildSeen → Look → Look → List ℕ → List Stage
-behind_library b look links output = Asks ∷ (name_stages (alone b).config (alone b).env archive_reads look all_firsts ++ directed_stages b links (library_at b output))
+abbrev pub behind_library : BuildSeen → Bool → Look → Look → List ℕ → List Stage
+behind_library b listens look links output = Asks ∷ (name_stages (alone b).config (alone b).env archive_reads look all_firsts ++ directed_stages b listens links (library_at b output))
 
 -- The stages of an archive and of its link lines. The archive and its lines go by some verdicts, the link lines by those of their own questions.
-abbrev pub archive_stages : BuildSeen → Bool → Look → Look → List ℕ → List Stage
-archive_stages b is_plain look links output =
+abbrev pub archive_stages : BuildSeen → Bool → Bool → Look → Look → List ℕ → List Stage
+archive_stages b listens is_plain look links output =
     if is_some (unarchived_error (alone b).config (alone b).env output) then []
-    else asked_then (archive_refusal (alone b).config (alone b).env look) (library_stages (alone b).config (alone b).env is_plain look output ++ behind_library b look links output)
+    else asked_then (archive_refusal (alone b).config (alone b).env look) (library_stages (alone b).config (alone b).env is_plain look output ++ behind_library b listens look links output)
 
 -- the error of settings that are refused: before the archive, by its plan, or by that of the link lines
 abbrev pub archive_refused : BuildSeen → Look → Look → List ℕ → Option ErrorSeen
@@ -71,15 +73,15 @@ pub record Archiving (listens steady : Bool) (world : Question → Outcome) (b :
   pub cut : part ≡ made ++ linked
   pub made_asks : AsksByRun steady world (alone b) made
   pub linked_asks : AsksByRun steady world b linked
-  pub ends : (look links : Look) → Agree made linked look links → (left : ℕ) × (is_plain : Bool) × Ends (terms_for (alone b) listens (course_alone patience turns left)) (archive_refused b look links output) (archive_stages b is_plain look links output) part result (course_alone patience turns left).before (course_alone patience turns left).after
+  pub ends : (look links : Look) → Agree made linked look links → (left : ℕ) × (is_plain : Bool) × Ends (terms_for (alone b) listens (course_alone patience turns left)) (archive_refused b look links output) (archive_stages b listens is_plain look links output) part result (course_alone patience turns left).before (course_alone patience turns left).after
 
 -- the build of a request with the variables that the host listed
 abbrev pub build_in : Request → List Event → BuildSeen
 build_in request part = record request.1 { env = env_in request part }
 
 -- the host lists its variables, and then come the stages of the archive
-abbrev pub wished_stages : Request → Bool → Look → Look → List Event → List Stage
-wished_stages request is_plain look links part = Calls Lists ∷ archive_stages (build_in request part) is_plain look links request.0
+abbrev pub wished_stages : Request → Bool → Bool → Look → Look → List Event → List Stage
+wished_stages request listens is_plain look links part = Calls Lists ∷ archive_stages (build_in request part) listens is_plain look links request.0
 
 abbrev pub wished_refusal : Request → Look → Look → List Event → Option ErrorSeen
 wished_refusal request look links part = archive_refused (build_in request part) look links request.0
@@ -87,7 +89,7 @@ wished_refusal request look links part = archive_refused (build_in request part)
 -- these stages of a request were done so
 abbrev pub WishEnds : Bool → Request → Option ℕ → ℕ → Result (Unit {0}) ErrorSeen → Look → Look → List Event → Type 0
 WishEnds listens request patience turns result look links part =
-    (left : ℕ) × (is_plain : Bool) × Ends (terms_for (alone (build_in request part)) listens (course_alone patience turns left)) (wished_refusal request look links part) (wished_stages request is_plain look links part) part result (course_alone patience turns left).before (course_alone patience turns left).after
+    (left : ℕ) × (is_plain : Bool) × Ends (terms_for (alone (build_in request part)) listens (course_alone patience turns left)) (wished_refusal request look links part) (wished_stages request listens is_plain look links part) part result (course_alone patience turns left).before (course_alone patience turns left).after
 
 -- what the program answers to a result, with the line that it prints
 abbrev pub Says : Result (Unit {0}) ErrorSeen → List Event → Ended → Type 0
@@ -114,7 +116,7 @@ pub record Written (listens : Bool) (b : BuildSeen) (patience : Option ℕ) (tur
   pub accepted : archive_refused b look links output ≡ None
   pub is_plain : Bool
   pub left : ℕ
-  pub went : Went (terms_for (alone b) listens (course_alone patience turns left)) (Calls Lists ∷ archive_stages b is_plain look links output) part (course_alone patience turns left).before (course_alone patience turns left).after
+  pub went : Went (terms_for (alone b) listens (course_alone patience turns left)) (Calls Lists ∷ archive_stages b listens is_plain look links output) part (course_alone patience turns left).before (course_alone patience turns left).after
   pub writes : attempts part ≡ map to_attempt (library_commands (alone b).config (alone b).env look is_plain output)
   pub others : started part ≡ asked (shows_of (alone b).config (alone b).env listens) (written_children (has_libtool (alone b).config (alone b).env look) (library_commands (alone b).config (alone b).env look is_plain output))
   pub ended : run_from nothing part ≡ all_ended (length (written_children (has_libtool (alone b).config (alone b).env look) (library_commands (alone b).config (alone b).env look is_plain output)))
@@ -126,7 +128,7 @@ pub record ArchivePromises (listens steady : Bool) (world : Question → Outcome
   -- status 0: the library was written, and then the lines of its variables and its link lines were printed
   pub written : ended.status ≡ 0 → (look links : Look) → Agree answer.made answer.linked look links → Written listens (build_in request part) patience turns look links request.0 part
   -- one attempt for each of the first planned commands, and no other
-  pub prefix : (look links : Look) → Agree answer.made answer.linked look links → (is_plain : Bool) × AreFirst (wished_stages request is_plain look links part) part
+  pub prefix : (look links : Look) → Agree answer.made answer.linked look links → (is_plain : Bool) × AreFirst (wished_stages request listens is_plain look links part) part
   -- where nothing is refused, no command failed but the first form, and no call of the host: it is done, the turns are spent, or memory was wanted
   pub complete : (look links : Look) → Agree answer.made answer.linked look links → wished_refusal request look links part ≡ None → (Failed (has_libtool (alone (build_in request part)).config (alone (build_in request part)).env look) part → ⊥) → (HasFault part → ⊥) → (ended ≡ ended_well) ⊎ (EndsSpent turns part ended ⊎ (ended ≡ ended_wanting))
   -- where the host tells its patience, as many times that as there are added objects and two are turns enough

@@ -13,10 +13,7 @@ use Rattle.cc_host.specs.declared.event.HostError.{HostError}
 use Rattle.cc_host.specs.declared.event.HostError.TheVariants.{Fault as Faulted, NoMemory as WantsMemory}
 use Rattle.cc_host.specs.declared.event.Role.TheVariants.{Compile}
 use Rattle.cc_host.specs.declared.event.Why.{Why}
-use Rattle.cc_plan.specs.Compile.{compile_of}
-use Rattle.cc_plan.specs.Plan.{objects_of}
-use Rattle.cc_plan.specs.Planned.{tool_of}
-use Rattle.cc_plan.specs.Target.{target_info}
+use Rattle.cc_plan.specs.Plan.{compile_in, objects_of}
 use Rattle.cc_plan.specs.declared.object.Object.{Object}
 use Rattle.cc_plan.specs.declared.settings.BuildConfig.{BuildConfig}
 use Rattle.cc_build.specs.Error.{ErrorSeen, no_memory}
@@ -26,10 +23,6 @@ use Rattle.cc_build.specs.Went.{IsOf}
 -- the entry of a source with its object, in a folder: the words are those of its compile command
 abbrev pub entry_of : List ℕ → Object → CommandSeen → CompileCommandSeen
 entry_of here object cmd = compile_command cmd object.src object.dst here
-
--- the planned command that compiles a source to its object
-abbrev pub compile_in : BuildConfig → EnvSeen → Look → Object → CommandSeen
-compile_in set env look object = compile_of set (target_info set env) (tool_of set env look) None object
 
 -- one entry for each source, in the order added
 abbrev pub entries_of : BuildConfig → EnvSeen → Look → List ℕ → List CompileCommandSeen

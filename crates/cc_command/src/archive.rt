@@ -5,7 +5,7 @@ ghost use Rattle.cc_command.specs.Archived.{Archiving};
 ghost use Rattle.cc_command.specs.Read.{name_of};
 
 use crate::words::Request;
-use cc_build::{Error, try_emit_link_directives};
+use cc_build::{Error, emit_link_directives};
 use cc_host::{Host, World};
 use cc_text::Words;
 use std::sync::Wait;
@@ -25,10 +25,11 @@ pub(crate) fn archive<W: World, H: Host<W>>(
         (H.patience host.old) turns (name_of request.now.job)
         (part H.log host.old host.new) result }
 {
+    let listens = host.listens();
     let objects = Words::new(request.alloc);
     let name = request.job.name();
     let library = request
         .build
         .try_create_archive(rt, host, turns, name, &objects)?;
-    try_emit_link_directives(rt, &request.build, host, library.as_str())
+    emit_link_directives(rt, &request.build, host, listens, library.as_str())
 }

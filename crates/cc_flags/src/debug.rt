@@ -18,8 +18,9 @@ fn asks_for_debug(text: &str) -> bool
     !(text == "" || text == "0" || text == "false" || text == "none")
 }
 
-// Debug information is wanted.
-pub(crate) fn has_debug(debug: Option<&str>) -> bool
+/// Whether debug information is wanted, by how much of it is: a text that is set and none of the empty text, `0`, `false` and `none`. It
+/// takes no memory.
+pub fn has_debug(debug: Option<&str>) -> bool
     ensures { result ≡ spec.has_debug (option_copied debug.entry) }
 {
     match debug {

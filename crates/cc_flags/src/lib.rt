@@ -28,7 +28,9 @@ mod wanted;
 
 pub use cc_text::{is_among, is_cl, is_clang, is_clang_cl, is_gnu, is_gnu_like, is_visual_studio};
 pub use compiler_names::name_of;
-pub use debug::{keeps_frame_pointers, push_debug_words, push_frame_pointer_words, push_leaf_word};
+pub use debug::{
+    has_debug, keeps_frame_pointers, push_debug_words, push_frame_pointer_words, push_leaf_word,
+};
 pub use defaults::{
     is_qnx, is_wasm_linux, lacks_qnx_variant, needs_target_word, push_clang_target_words,
     push_linkage_words, push_optimisation_words, push_position_independence_words, push_qnx_words,

@@ -5,11 +5,12 @@ use Rattle.cc_env.specs.Snapshot.{child_of}
 use Rattle.cc_host.specs.Question.{Look, Answer, Settles, Holds}
 use Rattle.cc_host.specs.declared.question.Question.{Question}
 use Rattle.cc_tool.proofs.SettleLemmas.{settles_so}
-use Rattle.cc_plan.specs.ArchiveTool.{llvm_name, search_question, version_question, plain_name, gcc_name, set_program, variable_tool}
+use Rattle.cc_plan.specs.ArchiveTool.{llvm_name, version_question, plain_name, gcc_name, set_program, variable_tool}
 use Rattle.cc_plan.specs.Choice.{choice_of, cross_prefix}
 use Rattle.cc_plan.specs.Given.{target_of}
-use Rattle.cc_plan.specs.Questions.{IsForAndroid, IsForWasm, ToolAsks, ArchiveToolAsks, ArchiverAsks, RanlibAsks, NameAsks}
+use Rattle.cc_plan.specs.Questions.{IsForAndroid, IsForWasm, ToolAsks, SearchAsks, ArchiveToolAsks, ArchiverAsks, RanlibAsks, NameAsks}
 use Rattle.cc_plan.specs.Refusal.{target_refusal, qnx_arch_refusal, found_refusal, known_refusal, choice_refusal, look_up_refusal, archive_tool_refusal}
+use Rattle.cc_plan.specs.Searched.{search_question}
 use Rattle.cc_plan.specs.Target.{target_info}
 use Rattle.cc_plan.specs.declared.archive_tool.ArchiveTool.{ArchiveTool}
 use Rattle.cc_plan.specs.declared.archive_tool.ArchiveTool.TheVariants.{Archiver, Ranlib}
@@ -41,7 +42,7 @@ module _ (reads : Reads) (set : BuildConfig) (env : EnvSeen) where
 
   pub ranlib_for_names : reads.ranlib ≡ true → (look : Look) (q : Question) → ArchiveToolAsks Ranlib set env look q → NameAsks reads set env look q
   unfolding NameAsks
-  ranlib_for_names plans look q h = inr (inr (plans, ranlib_asks set env look q h))
+  ranlib_for_names plans look q h = inr (inr (inl (plans, ranlib_asks set env look q h)))
 
 module _ (tool : ArchiveTool) (set : BuildConfig) (env : EnvSeen) where
   -- ---- questions
@@ -55,9 +56,14 @@ module _ (tool : ArchiveTool) (set : BuildConfig) (env : EnvSeen) where
   unfolding ArchiveToolAsks
   on_search look path q wasm is h = inr (inl (wasm, h ∙ ap (search_question env) (sym is)))
 
+  search_asked : (look : Look) (path : List ℕ) (q : Question) → IsForWasm set env → (choice_of set env look).path ≡ path → SearchAsks set env path look q → ArchiveToolAsks tool set env look q
+  unfolding SearchAsks
+  search_asked look path q wasm is (inl h) = tool_for_archive look q h
+  search_asked look path q wasm is (inr h) = on_search look path q wasm is h
+
   -- where the compiler of a settled path looks for programs
-  pub search_for_archive : {known : List Answer} (path : List ℕ) → IsForWasm set env → Settles known (λ look. (choice_of set env look).path) path → Holds known (λ look. (q : Question) → q ≡ search_question env path → ArchiveToolAsks tool set env look q)
-  search_for_archive path wasm s = record { under = λ look a q h. on_search look path q wasm (s.is look a) h }
+  pub search_for_archive : {known : List Answer} (path : List ℕ) → IsForWasm set env → Settles known (λ look. (choice_of set env look).path) path → Holds known (λ look. (q : Question) → SearchAsks set env path look q → ArchiveToolAsks tool set env look q)
+  search_for_archive path wasm s = record { under = λ look a q h. search_asked look path q wasm (s.is look a) h }
 
   -- whether LLVM's tool prints its version
   pub llvm_for_archive : (program : List ℕ) (vars : List (List ℕ × List ℕ)) → program ≡ llvm_name tool → vars ≡ child_of env.inherited env.explicit → IsForAndroid set env → (look : Look) (q : Question) → q ≡ version_question vars program → ArchiveToolAsks tool set env look q

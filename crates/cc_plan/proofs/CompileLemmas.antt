@@ -1,15 +1,73 @@
--- The command of an object without an assembler.
-use Rattle.std.proofs.Common.{◌≡◌, refl, Bool, true, false, None, if◌then◌else◌}
+-- The commands of objects.
+use Rattle.std.proofs.Common.{◌≡◌, refl, sym, ap, ◌∙◌, Bool, true, false, Option, Some, None, List, [], ◌∷◌, ℕ, ◌||◌, map, unwrap_or, if◌then◌else◌}
+use Rattle.std.specs.List.{list_any}
+use Rattle.cc_host.specs.Command.{CommandSeen}
 use Rattle.cc_target.specs.Targets.{Info}
-use Rattle.cc_tool.specs.Tool.{ToolSeen}
-use Rattle.cc_plan.specs.Compile.{tool_for}
+use Rattle.cc_tool.specs.Tool.{ToolSeen, tool_command}
+use Rattle.cc_env.specs.Env.{EnvSeen}
+use Rattle.cc_host.specs.Question.{Look}
+use Rattle.cc_text.specs.declared.family.ToolFamily.{ToolFamily}
+use Rattle.cc_plan.specs.Assembler.{want_assembler, wanted_assembler}
+use Rattle.cc_plan.specs.Compile.{with_object, begun_with, compile_of, compiles_of}
 use Rattle.cc_plan.specs.CompileWords.{is_masm}
+use Rattle.cc_plan.specs.Object.{object_of, objects_of}
+use Rattle.cc_plan.specs.Plan as plan
+use Rattle.cc_plan.specs.Planned.{tool_of}
+use Rattle.cc_plan.specs.Target.{target_info}
 use Rattle.cc_plan.specs.declared.object.Object.{Object}
+use Rattle.cc_plan.specs.declared.settings.BuildConfig.{BuildConfig}
 
-either_same : {X : Type 0} (b : Bool) (x : X) → (if b then x else x) ≡ x
-either_same true x = refl
-either_same false x = refl
+either_of : {X Y : Type 0} (f : X → Y) (b : Bool) (x y : X) → (if b then f x else f y) ≡ f (if b then x else y)
+either_of f true x y = refl
+either_of f false x y = refl
 
--- the tool serves each source
-pub without_assembler : (info : Info) (tool : ToolSeen) (object : Object) → tool_for info tool None object ≡ tool
-without_assembler info tool object = either_same (is_masm info object.src) tool
+-- it begins with the command of the assembler or with that of the tool
+command_of : (set : BuildConfig) (info : Info) (tool : ToolSeen) (assembler : Option ToolSeen) (object : Object) → with_object set info tool.family object (if is_masm info object.src then tool_command (unwrap_or assembler tool) else tool_command tool) ≡ compile_of set info tool assembler object
+command_of set info tool assembler object =
+    ap (with_object set info tool.family object) (either_of tool_command (is_masm info object.src) (unwrap_or assembler tool) tool)
+
+pub commands_begun : (set : BuildConfig) (info : Info) (tool : ToolSeen) (assembler : Option ToolSeen) (objects : List Object) → map (begun_with set info tool.family (tool_command tool) (tool_command (unwrap_or assembler tool))) objects ≡ compiles_of set info tool assembler objects
+commands_begun set info tool assembler [] = refl
+commands_begun set info tool assembler (object ∷ objects) =
+    ap (λ cmd. cmd ∷ map (begun_with set info tool.family (tool_command tool) (tool_command (unwrap_or assembler tool))) objects) (command_of set info tool assembler object)
+    ∙ ap (λ cmds. compile_of set info tool assembler object ∷ cmds) (commands_begun set info tool assembler objects)
+
+either_false : (a b : Bool) → (a || b) ≡ false → (a ≡ false) × (b ≡ false)
+either_false true b h = absurd (cc)
+either_false false b h = (refl, h)
+
+module _ (set : BuildConfig) (info : Info) (tool assembler : ToolSeen) where
+  -- no source is for an assembler
+  without : (b : Bool) (object : Object) → is_masm info object.src ≡ false → compile_of set info tool None object ≡ compile_of set info tool (Some assembler) object
+  without b object h = rw h refl
+
+  none_wants : (env : List (List ℕ × List ℕ)) (root : Option (List ℕ)) (dir : List ℕ) (sources : List (List ℕ)) → want_assembler info sources ≡ false → compiles_of set info tool None (objects_of env root dir sources) ≡ compiles_of set info tool (Some assembler) (objects_of env root dir sources)
+  none_wants env root dir [] h = refl
+  none_wants env root dir (source ∷ sources) h =
+      let parts = either_false (is_masm info source) (want_assembler info sources) h in
+      let rest = none_wants env root dir sources parts.1 in
+      let here = without false (object_of env root dir source) parts.0 in
+      rw (here, rest) refl
+
+  either_wants : (env : List (List ℕ × List ℕ)) (root : Option (List ℕ)) (dir : List ℕ) (sources : List (List ℕ)) (b : Bool) → want_assembler info sources ≡ b → compiles_of set info tool (if b then Some assembler else None) (objects_of env root dir sources) ≡ compiles_of set info tool (Some assembler) (objects_of env root dir sources)
+  either_wants env root dir sources true h = refl
+  either_wants env root dir sources false h = none_wants env root dir sources h
+
+  -- the assembler is wanted only for sources in its language
+  pub wanted_alone : (env : List (List ℕ × List ℕ)) (root : Option (List ℕ)) (dir : List ℕ) (sources : List (List ℕ)) → compiles_of set info tool (if want_assembler info sources then Some assembler else None) (objects_of env root dir sources) ≡ compiles_of set info tool (Some assembler) (objects_of env root dir sources)
+  wanted_alone env root dir sources = either_wants env root dir sources (want_assembler info sources) refl
+
+-- the commands of a plan, of which the target, the tool, the assembler and the objects are known
+pub planned_commands : (set : BuildConfig) (env : EnvSeen) (look : Look) (target : Info) (family : ToolFamily) (path : List ℕ) (tool : ToolSeen) (assembler : Option ToolSeen) (objects : List Object) (cmds : List CommandSeen) → target ≡ target_info set env → family ≡ tool.family → path ≡ tool.path → tool_of set env look ≡ tool → wanted_assembler set env target family path look ≡ assembler → objects ≡ plan.objects_of set env → cmds ≡ compiles_of set target tool assembler objects → plan.compiles_of set env look ≡ cmds
+planned_commands set env look target family path tool assembler objects cmds same f p is wanted placed made =
+    let info = target_info set env in
+    let own = tool_of set env look in
+    let behind : assembler ≡ wanted_assembler set env info own.family own.path look =
+    sym wanted ∙ ap (λ t. wanted_assembler set env t family path look) same
+    ∙ ap (λ x. wanted_assembler set env info x path look) (f ∙ ap (λ (t : ToolSeen). t.family) (sym is))
+    ∙ ap (λ x. wanted_assembler set env info own.family x look) (p ∙ ap (λ (t : ToolSeen). t.path) (sym is)) in
+    sym (made ∙ ap (λ t. compiles_of set t tool assembler objects) same
+    ∙ ap (λ t. compiles_of set info t assembler objects) (sym is)
+    ∙ ap (λ a. compiles_of set info own a objects) behind
+    ∙ ap (compiles_of set info own (wanted_assembler set env info own.family own.path look)) placed
+    ∙ wanted_alone set info own (plan.assembler_in set env look) env.inherited set.source_root (plan.dir_of set env) set.files)

@@ -11,8 +11,10 @@ pub mod LibtoolLaws
 pub mod LineLemmas
 pub mod OwnLemmas
 pub mod PlacesLemmas
+pub mod PredefineLemmas
 pub mod QuestionLemmas
 pub mod ResultLemmas
+pub mod SearchedLemmas
 pub mod SourceLaws
 pub mod StdlibLemmas
 pub mod SupportLemmas
@@ -22,3 +24,4 @@ pub mod VariableLemmas
 pub mod VerdictLemmas
 pub mod WarnLemmas
 pub mod WarnedLemmas
+pub mod WordLemmas

@@ -1,13 +1,14 @@
 -- What is settled of the C++ library, and by which questions.
-use Rattle.std.proofs.Common.{◌≡◌, inl, inr, ℕ, Bool, true, false, List, Option, Some, None, refl, sym, ap, ◌∙◌}
+use Rattle.std.proofs.Common.{◌≡◌, inl, inr, ℕ, Bool, true, false, List, [], Option, Some, None, refl, sym, ap, ◌∙◌}
 use Rattle.cc_env.specs.Env.{EnvSeen}
 use Rattle.cc_host.specs.Question.{Look, Answer, Settles, Holds}
 use Rattle.cc_host.specs.declared.question.Question.{Question}
 use Rattle.cc_tool.specs.Libcxx.{libcxx_question}
 use Rattle.cc_tool.specs.Tool.{ToolSeen}
 use Rattle.cc_tool.proofs.SettleLemmas.{settles_so, settles_two}
-use Rattle.cc_plan.specs.Planned.{tool_of}
+use Rattle.cc_plan.specs.Planned.{tool_of, warnings_of}
 use Rattle.cc_plan.specs.Questions.{PlanAsks, LibraryAsks, IsSought, LinkAsks}
+use Rattle.cc_plan.specs.Quiet.{texts_unless, allowed_warnings, quiet_warnings}
 use Rattle.cc_plan.specs.Refusal.{tool_refusal, links_cpp}
 use Rattle.cc_plan.specs.Link.{lines_by, link_lines}
 use Rattle.cc_plan.specs.Stdlib.{tool_unless, allowed_tool, uses_libcxx, may_ask, library_by, given_library, cpp_library_of, linked_library}
@@ -42,6 +43,30 @@ module _ (set : BuildConfig) (env : EnvSeen) where
   pub asked_linked : {known : List Answer} (library : List ℕ) (uses : Bool) → links_cpp set ≡ true → given_library set env ≡ None → may_ask set env ≡ true → Settles known (λ look. uses_libcxx look (allowed_tool set env look)) uses → library ≡ library_by uses → Settles known (linked_library set env) (Some library)
   unfolding linked_library cpp_library_of
   asked_linked library uses on given may s is = settles_so s (λ look a. rw (on, given, may) (ap (λ b. Some (library_by b)) a ∙ ap (λ l. Some l) (sym is)))
+
+  -- ---- what a user is told of the plan that decides on it
+
+  pub allowed_quiet : {known : List Answer} {texts : List (List ℕ)} → Settles known (tool_refusal set env) None → Settles known (warnings_of set env false) texts → Settles known (allowed_warnings set env) texts
+  allowed_quiet s t = settles_two s t (λ look a b. ap (λ p. texts_unless p (warnings_of set env false look)) a ∙ b)
+
+  pub refused_quiet : {known : List Answer} (error : PlanError) → Settles known (tool_refusal set env) (Some error) → Settles known (allowed_warnings set env) []
+  refused_quiet error s = settles_so s (λ look a. ap (λ p. texts_unless p (warnings_of set env false look)) a)
+
+  pub none_quiet : {known : List Answer} → links_cpp set ≡ false → Settles known (quiet_warnings set env) []
+  unfolding quiet_warnings
+  none_quiet off = record { is = λ look a. rw off refl }
+
+  pub given_quiet : {known : List Answer} (library : Option (List ℕ)) → links_cpp set ≡ true → given_library set env ≡ Some library → Settles known (quiet_warnings set env) []
+  unfolding quiet_warnings
+  given_quiet library on given = record { is = λ look a. rw (on, given) refl }
+
+  pub plain_quiet : {known : List Answer} → links_cpp set ≡ true → given_library set env ≡ None → may_ask set env ≡ false → Settles known (quiet_warnings set env) []
+  unfolding quiet_warnings
+  plain_quiet on given unasked = record { is = λ look a. rw (on, given, unasked) refl }
+
+  pub asked_quiet : {known : List Answer} {texts : List (List ℕ)} → links_cpp set ≡ true → given_library set env ≡ None → may_ask set env ≡ true → Settles known (allowed_warnings set env) texts → Settles known (quiet_warnings set env) texts
+  unfolding quiet_warnings
+  asked_quiet on given may s = settles_so s (λ look a. rw (on, given, may) a)
 
   -- ---- the questions
 

@@ -6,10 +6,8 @@ use Rattle.cc_env.specs.Snapshot.{child_of}
 use Rattle.cc_flags.specs.DefaultWords.{is_qnx}
 use Rattle.cc_flags.specs.Texts.{is}
 use Rattle.cc_host.specs.Question.{Look, is_yes}
-use Rattle.cc_host.specs.declared.question.Ask.TheVariants.{SearchDirs, ToolVersion}
+use Rattle.cc_host.specs.declared.question.Ask.TheVariants.{ToolVersion}
 use Rattle.cc_host.specs.declared.question.Question.{Question}
-use Rattle.cc_host.specs.declared.question.Verdict.{Verdict}
-use Rattle.cc_host.specs.declared.question.Verdict.TheVariants.{Dirs}
 use Rattle.cc_target.specs.Targets.{Info}
 use Rattle.cc_text.specs.Families.{is_clang}
 use Rattle.cc_tool.specs.Family.{question}
@@ -17,7 +15,7 @@ use Rattle.cc_plan.specs.Android.{replaced}
 use Rattle.cc_plan.specs.Choice.{bare, cross_prefix, is_wasm}
 use Rattle.cc_plan.specs.Compiler.{compiler_of}
 use Rattle.cc_plan.specs.EnvTool.{env_tool}
-use Rattle.cc_plan.specs.Search.{which_in}
+use Rattle.cc_plan.specs.Searched.{searched}
 use Rattle.cc_plan.specs.Target.{target_info, target_name}
 use Rattle.cc_plan.specs.declared.archive_tool.ArchiveTool.{ArchiveTool}
 use Rattle.cc_plan.specs.declared.archive_tool.ArchiveTool.TheVariants.{Archiver, Ranlib}
@@ -88,10 +86,6 @@ system_name tool target =
 
 -- ---- questions
 
--- where a compiler looks for programs
-abbrev pub search_question : EnvSeen → List ℕ → Question
-search_question env path = question SearchDirs path [] (child_of env.inherited env.explicit)
-
 -- whether a program prints its version, with these variables
 abbrev pub version_question : List (List ℕ × List ℕ) → List ℕ → Question
 version_question vars program = question ToolVersion program [] vars
@@ -110,14 +104,9 @@ if_versioned env program look = if is_versioned env.inherited program look then 
 
 -- ---- the table
 
--- LLVM's tool in the folders that a compiler names
-abbrev pub tool_in_dirs : ArchiveTool → Verdict → Look → Option (List ℕ)
-tool_in_dirs tool (Dirs list) look = which_in list (llvm_name tool) look
-tool_in_dirs tool verdict look = None
-
--- the same where Clang looks for programs
+-- LLVM's tool where Clang looks for programs
 abbrev pub clang_tool : ArchiveTool → EnvSeen → List ℕ → Look → Option (List ℕ)
-clang_tool tool env path look = tool_in_dirs tool (look (search_question env path)) look
+clang_tool tool env path look = searched env path (llvm_name tool) look
 
 abbrev pub tool_of_clang : ArchiveTool → EnvSeen → Compiler → Look → Option (List ℕ)
 tool_of_clang tool env compiler look = if is_clang compiler.family then clang_tool tool env compiler.choice.path look else None

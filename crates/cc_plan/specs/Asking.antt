@@ -12,12 +12,15 @@ use Rattle.cc_host.specs.declared.event.Why.{Why}
 use Rattle.cc_host.specs.declared.host.World.{Ghosts}
 use Rattle.cc_host.specs.declared.question.Outcome.{Outcome}
 use Rattle.cc_host.specs.declared.question.Question.{Question}
+use Rattle.cc_target.specs.Targets.{info_seen}
+use Rattle.cc_text.specs.declared.family.ToolFamily.{ToolFamily}
 use Rattle.cc_tool.specs.Asked.{question_events}
 use Rattle.cc_tool.specs.Asks.{Asks}
 use Rattle.cc_tool.specs.Own.{AnswersAmong}
 use Rattle.cc_plan.specs.Choice.{choice_of, cross_prefix}
-use Rattle.cc_plan.specs.Questions.{ToolAsks, PlanAsks, ArchiveToolAsks, ArchiverAsks, RanlibAsks, NameAsks, LinkAsks, SupportAsks}
+use Rattle.cc_plan.specs.Questions.{ToolAsks, PlanAsks, SearchAsks, BesideAsks, WantedAsks, CompileAsks, ArchiveToolAsks, ArchiverAsks, RanlibAsks, NameAsks, LinkAsks, SupportAsks}
 use Rattle.cc_plan.specs.declared.archive_tool.ArchiveTool.{ArchiveTool}
+use Rattle.cc_plan.specs.declared.assembly.Assembly.{Assembly}
 use Rattle.cc_plan.specs.declared.choice.Choice.{Choice}
 use Rattle.cc_plan.specs.declared.compilation.Inputs.{Inputs}
 use Rattle.cc_plan.specs.declared.error.PlanError.{PlanError}
@@ -41,7 +44,19 @@ pub record OnlyAsks {W H : Type 0} {ghosts : Ghosts W} (steady : Bool) (world : 
 abbrev pub AsksFor : {W H : Type 0} → {ghosts : Ghosts W} → Bool → (Question → Outcome) → (H → List Event) → (H → Option ℕ) → BuildConfig → EnvSeen → Sight W H ghosts → Sight W H ghosts → Type 0
 AsksFor steady world log patience set env old new = OnlyAsks steady world log patience (ToolAsks set env) old new
 
--- a call asks what a plan for them asks
+-- a call asks what the plan of the commands that compile asks for them
+abbrev pub AsksToCompile : {W H : Type 0} → {ghosts : Ghosts W} → Bool → (Question → Outcome) → (H → List Event) → (H → Option ℕ) → BuildConfig → EnvSeen → Sight W H ghosts → Sight W H ghosts → Type 0
+AsksToCompile steady world log patience set env old new = OnlyAsks steady world log patience (CompileAsks set env) old new
+
+-- a call asks what finds a program where the compiler of a path looks for those that it runs
+abbrev pub AsksWhere : {W H : Type 0} → {ghosts : Ghosts W} → Bool → (Question → Outcome) → (H → List Event) → (H → Option ℕ) → BuildConfig → EnvSeen → List ℕ → Sight W H ghosts → Sight W H ghosts → Type 0
+AsksWhere steady world log patience set env path old new = OnlyAsks steady world log patience (SearchAsks set env path) old new
+
+-- a call asks what finds a program of Visual Studio, or the one that stands in for it next to the compiler of a family and a path
+abbrev pub AsksBeside : {W H : Type 0} → {ghosts : Ghosts W} → Bool → (Question → Outcome) → (H → List Event) → (H → Option ℕ) → BuildConfig → EnvSeen → ToolFamily → List ℕ → Sight W H ghosts → Sight W H ghosts → Type 0
+AsksBeside steady world log patience set env family path old new = OnlyAsks steady world log patience (BesideAsks set env family path) old new
+
+-- a call asks what the plan of a tool for them asks
 abbrev pub AsksToPlan : {W H : Type 0} → {ghosts : Ghosts W} → Bool → (Question → Outcome) → (H → List Event) → (H → Option ℕ) → BuildConfig → EnvSeen → Sight W H ghosts → Sight W H ghosts → Type 0
 AsksToPlan steady world log patience set env old new = OnlyAsks steady world log patience (PlanAsks set env) old new
 
@@ -87,6 +102,15 @@ SettledIn sight value result = IfOk result (Settles sight.answers.now value)
 -- a call asks for these inputs, and does nothing else
 abbrev pub AsksBy : {W H : Type 0} → {ghosts : Ghosts W} → Bool → (Question → Outcome) → (H → List Event) → (H → Option ℕ) → Inputs → Sight W H ghosts → Sight W H ghosts → Type 0
 AsksBy steady world log patience inputs old new = AsksFor steady world log patience inputs.set.now inputs.env.now old new
+
+-- a call asks what finds an assembler, where the sources of these settings want one
+abbrev pub AsksIfWanted : {W H : Type 0} → {ghosts : Ghosts W} → Bool → (Question → Outcome) → (H → List Event) → (H → Option ℕ) → Assembly → Sight W H ghosts → Sight W H ghosts → Type 0
+AsksIfWanted steady world log patience given old new =
+    OnlyAsks steady world log patience (WantedAsks given.set.now given.env.now (info_seen given.target.now) given.family given.path.now) old new
+
+-- a call asks what finds an assembler
+abbrev pub AsksForAssembly : {W H : Type 0} → {ghosts : Ghosts W} → Bool → (Question → Outcome) → (H → List Event) → (H → Option ℕ) → Assembly → Sight W H ghosts → Sight W H ghosts → Type 0
+AsksForAssembly steady world log patience given old new = AsksBeside steady world log patience given.set.now given.env.now given.family given.path.now old new
 
 -- a call asks for these inputs what finds a tool of archives
 abbrev pub AsksForTool : {W H : Type 0} → {ghosts : Ghosts W} → Bool → (Question → Outcome) → (H → List Event) → (H → Option ℕ) → ArchiveTool → Inputs → Sight W H ghosts → Sight W H ghosts → Type 0

@@ -27,10 +27,14 @@ is_masm_extension extension = is (lowered extension) "asm"
 unfoldable pub is_masm : Info → List ℕ → Bool
 is_masm target source = is target.env "msvc" && option_map_or is_masm_extension (path_extension source) false
 
--- the object, which the Visual Studio compilers take in one word, but for assembly for Arm
+-- The object in one word, as the Visual Studio tools take it: their assemblers, and their compilers but for assembly for Arm.
+unfoldable pub takes_one_word : ToolFamily → Info → List ℕ → Bool
+takes_one_word family target source = is_masm target source || (is_visual_studio family && not (is_asm source && is_arm target))
+
+-- the object
 unfoldable pub object_words : ToolFamily → Info → Object → List (List ℕ)
 object_words family target object =
-    if is_visual_studio family && not (is_asm object.src && is_arm target) then (codes "-Fo" ++ object.dst) ∷ []
+    if takes_one_word family target object.src then (codes "-Fo" ++ object.dst) ∷ []
     else codes "-o" ∷ object.dst ∷ []
 
 -- the name that stands for the object
@@ -47,29 +51,29 @@ unfoldable pub codeview_words : ToolFamily → Bool → Object → List (List �
 codeview_words family reproducible object =
     when (reproducible && is_clang_cl family && not (is_asm object.src)) (same_codeview_words object.dst)
 
+-- nothing is linked, which the assemblers for Arm aren't told
+unfoldable pub object_only_words : Info → List ℕ → List (List ℕ)
+object_only_words target source = when (not (is_masm target source && is_arm target)) (word "-c")
+
 -- the extension by which the Visual Studio compiler doesn't know C++
 abbrev pub has_extension_cc : List ℕ → Bool
 has_extension_cc source = option_map_or (λ extension. is extension "cc") (path_extension source) false
 
--- the source, last
-unfoldable pub source_words : ToolFamily → Bool → List ℕ → List (List ℕ)
-source_words family cpp source =
+-- the source, last; `is_bare` says that no dashes stand before it
+unfoldable pub source_words : ToolFamily → Bool → Bool → List ℕ → List (List ℕ)
+source_words family cpp is_bare source =
     if is_cl family && cpp && has_extension_cc source then (codes "-Tp" ++ source) ∷ []
-    else when (is_clang_cl family) (word "--") ++ source ∷ []
+    else when (is_clang_cl family && not is_bare) (word "--") ++ source ∷ []
 
--- the source of a file that is expanded: for assembly no dashes stand before it
-unfoldable pub expanded_source : ToolFamily → Bool → List ℕ → List (List ℕ)
-expanded_source family cpp source = if is_clang_cl family && is_asm source then source ∷ [] else source_words family cpp source
-
--- the words of a command that expands a source, which follow those of the tool
+-- the words of a command that expands a source, which follow those of the tool: before assembly no dashes stand, on any target
 abbrev pub expand_words : ToolFamily → Bool → List ℕ → List (List ℕ)
-expand_words family cpp source = word "-E" ++ expanded_source family cpp source
+expand_words family cpp source = word "-E" ++ source_words family cpp (is_asm source) source
 
--- the words of a compile command that follow those of the tool
+-- the words of a compile command that follow those of the tool; an assembler takes no dashes before the source
 abbrev pub compile_words : BuildConfig → ToolFamily → Info → Object → List (List ℕ)
 compile_words set family target object =
     object_words family target object
     ++ codeview_words family set.reproducible_codeview object
-    ++ word "-c"
+    ++ object_only_words target object.src
     ++ when (is_asm object.src) set.asm_flags
-    ++ source_words family set.cpp object.src
+    ++ source_words family set.cpp (is_masm target object.src) object.src

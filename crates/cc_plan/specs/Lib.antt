@@ -3,7 +3,9 @@ pub mod Android
 pub mod Archive
 pub mod ArchiveTool
 pub mod Asking
+pub mod Assembler
 pub mod Batches
+pub mod Beside
 pub mod Blanks
 pub mod Choice
 pub mod Compilation
@@ -23,11 +25,14 @@ pub mod Object
 pub mod Places
 pub mod Plan
 pub mod Planned
+pub mod Predefine
 pub mod Prefix
 pub mod Questions
+pub mod Quiet
 pub mod Refusal
 pub mod Reruns
 pub mod Search
+pub mod Searched
 pub mod SettingWords
 pub mod Settings
 pub mod Stdlib

@@ -1,5 +1,5 @@
 -- The steps of a compile run, as a function of the settings, the environment and the output.
-use Rattle.std.specs.Prelude.{ℕ, Bool, List, [], ◌∷◌, ◌++◌, map, Option, unwrap_or, codes, if◌then◌else◌}
+use Rattle.std.specs.Prelude.{ℕ, Bool, List, [], ◌∷◌, ◌++◌, map, Option, Some, unwrap_or, codes, if◌then◌else◌}
 use Rattle.std.specs.List.{flat_map}
 use Rattle.std.specs.Path.{path_parent}
 use Rattle.cc_env.specs.Env.{EnvSeen}
@@ -16,7 +16,8 @@ use Rattle.cc_plan.specs.declared.error.PlanError.{PlanError}
 use Rattle.cc_plan.specs.declared.object.Object.{Object}
 use Rattle.cc_plan.specs.declared.settings.BuildConfig.{BuildConfig}
 use Rattle.cc_plan.specs.Archive as archive
-use Rattle.cc_plan.specs.Compile as compile
+use Rattle.cc_plan.specs.Assembler.{assembler_of}
+use Rattle.cc_plan.specs.Compile.{compile_of}
 use Rattle.cc_plan.specs.Given.{out_dir_of}
 use Rattle.cc_plan.specs.Archive.{archiver_of}
 use Rattle.cc_plan.specs.Link.{printed_line, link_lines as lines_of}
@@ -27,6 +28,7 @@ use Rattle.cc_plan.specs.Object as object
 use Rattle.cc_plan.specs.Refusal.{is_empty, library_in, first_of, archiver_refusal}
 use Rattle.cc_plan.specs.Target.{target_info}
 use Rattle.cc_plan.specs.Planned.{tool_of, warnings_of}
+use Rattle.cc_tool.specs.Tool.{ToolSeen}
 
 -- the folder of the objects and of the library
 abbrev pub dir_of : BuildConfig → EnvSeen → List ℕ
@@ -38,8 +40,17 @@ objects_of set env = object.objects_of env.inherited set.source_root (dir_of set
 abbrev pub library_of : BuildConfig → EnvSeen → List ℕ → List ℕ
 library_of set env output = library_in set env output
 
+-- the assembler that goes with the tool
+abbrev pub assembler_in : BuildConfig → EnvSeen → Look → ToolSeen
+assembler_in set env look = assembler_of set env (tool_of set env look) look
+
+-- the command of an object: that of the assembler for a source in its language, else that of the tool
+abbrev pub compile_in : BuildConfig → EnvSeen → Look → Object → CommandSeen
+compile_in set env look object = compile_of set (target_info set env) (tool_of set env look) (Some (assembler_in set env look)) object
+
+-- one an object, in order
 abbrev pub compiles_of : BuildConfig → EnvSeen → Look → List CommandSeen
-compiles_of set env look = compile.compiles_of set (target_info set env) (tool_of set env look) (objects_of set env)
+compiles_of set env look = map (compile_in set env look) (objects_of set env)
 
 -- the paths that the library gets, in order: those of the objects, and then the added ones
 abbrev pub archived_of : BuildConfig → EnvSeen → List (List ℕ)

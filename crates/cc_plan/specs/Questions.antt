@@ -5,15 +5,21 @@ use Rattle.cc_env.specs.Env.{EnvSeen}
 use Rattle.cc_flags.specs.Texts.{is}
 use Rattle.cc_host.specs.Question.{Look, exists_question}
 use Rattle.cc_host.specs.declared.question.Question.{Question}
+use Rattle.cc_target.specs.Targets.{Info}
+use Rattle.cc_text.specs.Families.{is_clang_cl}
+use Rattle.cc_text.specs.declared.family.ToolFamily.{ToolFamily}
 use Rattle.cc_tool.specs.Family.{IsOfFamilyIn}
 use Rattle.cc_tool.specs.Libcxx.{libcxx_question}
 use Rattle.cc_plan.specs.Android.{kit_compiler, older_name, starts_question}
-use Rattle.cc_plan.specs.ArchiveTool.{search_question, llvm_question, version_question, plain_name, gcc_name}
+use Rattle.cc_plan.specs.ArchiveTool.{llvm_question, version_question, plain_name, gcc_name}
+use Rattle.cc_plan.specs.Assembler.{want_assembler}
 use Rattle.cc_plan.specs.Choice.{choice_of, cross_prefix, is_wasm}
 use Rattle.cc_plan.specs.Compilation.{CompilationSeen}
+use Rattle.cc_plan.specs.Compiler.{compiler_of}
 use Rattle.cc_plan.specs.Languages.{gnu_name}
 use Rattle.cc_plan.specs.Planned.{planned, tool_of}
 use Rattle.cc_plan.specs.Refusal.{links_cpp}
+use Rattle.cc_plan.specs.Searched.{search_question}
 use Rattle.cc_plan.specs.Stdlib.{given_library, may_ask}
 use Rattle.cc_plan.specs.Support.{bare_of, flag_question}
 use Rattle.cc_plan.specs.Target.{target_info, target_name}
@@ -57,9 +63,35 @@ FlagAsks c words q = (flag : List ℕ) × (Contains words flag × (q ≡ flag_qu
 unfoldable pub WordAsks : CompilationSeen → List (List ℕ) → Look → Question → Type 0
 WordAsks c words look q = ToolAsks c.set c.env look q ⊎ FlagAsks (bare_of c look) words q
 
--- one that a plan asks: about the words that its tool is given only where the compiler takes them
+-- one that the plan of a tool asks: about the words that it is given only where the compiler takes them
 unfoldable pub PlanAsks : BuildConfig → EnvSeen → Look → Question → Type 0
 PlanAsks set env look q = WordAsks (planned set env look) (asked_words (planned set env look)) look q
+
+-- one that finds a program where the compiler of a path looks for those that it runs
+unfoldable pub SearchAsks : BuildConfig → EnvSeen → List ℕ → Look → Question → Type 0
+SearchAsks set env path look q = ToolAsks set env look q ⊎ (q ≡ search_question env path)
+
+-- where clang-cl looks for programs
+abbrev pub IsOnBeside : EnvSeen → ToolFamily → List ℕ → Question → Type 0
+IsOnBeside env family path q = (is_clang_cl family ≡ true) × (q ≡ search_question env path)
+
+-- one that finds a program of Visual Studio, or that of LLVM which stands in for it next to the compiler of a family and a path
+unfoldable pub BesideAsks : BuildConfig → EnvSeen → ToolFamily → List ℕ → Look → Question → Type 0
+BesideAsks set env family path look q = ToolAsks set env look q ⊎ IsOnBeside env family path q
+
+-- the same, where sources want an assembler for a target
+unfoldable pub WantedAsks : BuildConfig → EnvSeen → Info → ToolFamily → List ℕ → Look → Question → Type 0
+WantedAsks set env target family path look q =
+    ToolAsks set env look q ⊎ ((want_assembler target set.files ≡ true) × IsOnBeside env family path q)
+
+-- the same for the compiler of a plan, where one of its sources wants an assembler
+abbrev pub IsForAssembler : BuildConfig → EnvSeen → Look → Question → Type 0
+IsForAssembler set env look q =
+    (want_assembler (target_info set env) set.files ≡ true) × IsOnBeside env (compiler_of set env look).family (choice_of set env look).path q
+
+-- one that the plan of the commands that compile asks: for their tool, or for their assembler
+unfoldable pub CompileAsks : BuildConfig → EnvSeen → Look → Question → Type 0
+CompileAsks set env look q = PlanAsks set env look q ⊎ IsForAssembler set env look q
 
 -- one that is asked to learn whether the compiler takes a flag: what finds it, and the one on the flag
 unfoldable pub SupportAsks : BuildConfig → EnvSeen → List ℕ → Look → Question → Type 0
@@ -99,10 +131,13 @@ ArchiverAsks set env look q = ArchiveToolAsks Archiver set env look q
 unfoldable pub RanlibAsks : BuildConfig → EnvSeen → Look → Question → Type 0
 RanlibAsks set env look q = ArchiveToolAsks Ranlib set env look q
 
--- one that is asked to learn which variables a call reads: what finds the compiler, and what finds the tools of archives that the call plans
+-- one that is asked to learn which variables a call reads: what finds the compiler, the tools of archives that the call plans, and the assembler
 unfoldable pub NameAsks : Reads → BuildConfig → EnvSeen → Look → Question → Type 0
 NameAsks reads set env look q =
-    ToolAsks set env look q ⊎ (((reads.archiver ≡ true) × ArchiverAsks set env look q) ⊎ ((reads.ranlib ≡ true) × RanlibAsks set env look q))
+    ToolAsks set env look q
+    ⊎ (((reads.archiver ≡ true) × ArchiverAsks set env look q)
+    ⊎ (((reads.ranlib ≡ true) × RanlibAsks set env look q)
+    ⊎ ((reads.assembler ≡ true) × IsForAssembler set env look q)))
 
 -- one that is asked for the C++ library: one that the plan of the tool asks, or the one on its library
 unfoldable pub LibraryAsks : BuildConfig → EnvSeen → Look → Question → Type 0
@@ -118,4 +153,4 @@ LinkAsks set env look q = IsSought set env × LibraryAsks set env look q
 
 -- one that a run asks: for the commands that compile, for those that archive, or for the link lines
 unfoldable pub RunAsks : BuildConfig → EnvSeen → Look → Question → Type 0
-RunAsks set env look q = PlanAsks set env look q ⊎ (ArchiverAsks set env look q ⊎ LinkAsks set env look q)
+RunAsks set env look q = CompileAsks set env look q ⊎ (ArchiverAsks set env look q ⊎ LinkAsks set env look q)

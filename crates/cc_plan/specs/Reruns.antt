@@ -11,12 +11,13 @@ use Rattle.cc_env.specs.Snapshot.{last_value}
 use Rattle.cc_flags.specs.DefaultWords.{is_wasm_linux, needs_target_word}
 use Rattle.cc_flags.specs.Texts.{is}
 use Rattle.cc_host.specs.Question.{Look}
-use Rattle.cc_target.specs.Targets.{Info}
+use Rattle.cc_target.specs.Targets.{Info, is_arm}
 use Rattle.cc_text.specs.Families.{is_gnu, is_clang, is_plain_clang, is_visual_studio, is_clang_cl, is_cl, is_gnu_like}
 use Rattle.cc_text.specs.Pieces.{has_bytes}
 use Rattle.cc_text.specs.Words.{when, choose, entry}
 use Rattle.cc_text.specs.declared.family.ToolFamily.{ToolFamily}
 use Rattle.cc_plan.specs.ArchiveTool.{tool_variable, set_program, system_name, wasm_tool}
+use Rattle.cc_plan.specs.Assembler.{assembler_choice, is_llvm, want_assembler}
 use Rattle.cc_plan.specs.Choice.{is_wasm, fixed_compiler}
 use Rattle.cc_plan.specs.Compiler.{compiler_of}
 use Rattle.cc_plan.specs.EnvTool.{env_tool}
@@ -31,6 +32,7 @@ use Rattle.cc_plan.specs.Support.{flag_settings}
 use Rattle.cc_plan.specs.Target.{target_info}
 use Rattle.cc_plan.specs.declared.archive_tool.ArchiveTool.{ArchiveTool}
 use Rattle.cc_plan.specs.declared.archive_tool.ArchiveTool.TheVariants.{Archiver, Ranlib}
+use Rattle.cc_plan.specs.declared.choice.Choice.{Choice}
 use Rattle.cc_plan.specs.declared.compiler.Compiler.{Compiler}
 use Rattle.cc_plan.specs.declared.variables.Reads.{Reads}
 use Rattle.cc_plan.specs.declared.settings.BuildConfig.{BuildConfig}
@@ -197,6 +199,21 @@ question_names set env compilers = words_names (flag_settings set compilers.0.ch
 abbrev pub trial_names : BuildConfig → EnvSeen → Look → List (List ℕ)
 trial_names set env look = choice_names set env look ++ question_names set env (found set env look)
 
+-- ---- the assembler
+
+-- those of Microsoft for x86 take words from a variable too
+unfoldable pub option_names : Info → List ℕ → List (List ℕ)
+option_names target path = when (not (is_arm target) && not (is_llvm path)) (codes "ML" ∷ [])
+
+-- the one that goes with a compiler
+abbrev pub assembler_with : BuildConfig → EnvSeen → Compiler → Look → Choice
+assembler_with set env compiler look = assembler_choice set env (target_info set env) compiler.family compiler.choice.path look
+
+-- those by which it is planned
+abbrev pub assembler_names : BuildConfig → EnvSeen → Compiler → Look → List (List ℕ)
+assembler_names set env compiler look =
+    tool_names set env (codes "CC_MASM_ASM") look ++ option_names (target_info set env) (assembler_with set env compiler look).path
+
 -- ---- tools of archives
 
 -- the variable of its flags
@@ -300,6 +317,18 @@ ranlib_names reads set env look = if reads.ranlib then archive_names Ranlib set 
 abbrev pub archiving_names : Reads → BuildConfig → EnvSeen → Look → List (List ℕ)
 archiving_names reads set env look = archiver_names reads set env look ++ ranlib_names reads set env look
 
+-- an assembler is planned: for the commands of sources, where one of them wants it
+abbrev pub plans_assembler : Reads → BuildConfig → EnvSeen → Bool
+plans_assembler reads set env = reads.assembler && want_assembler (target_info set env) set.files
+
+-- those of the assembler, where one is planned
+abbrev pub assembling_names : Reads → BuildConfig → EnvSeen → Look → List (List ℕ)
+assembling_names reads set env look = if plans_assembler reads set env then assembler_names set env (compiler_of set env look) look else []
+
+-- those of all tools behind the compiler
+abbrev pub later_names : Reads → BuildConfig → EnvSeen → Look → List (List ℕ)
+later_names reads set env look = assembling_names reads set env look ++ archiving_names reads set env look
+
 -- those of link lines, where some are planned
 abbrev pub linking_names : Reads → BuildConfig → EnvSeen → List (List ℕ)
 linking_names reads set env = if reads.links then link_names set env else []
@@ -310,7 +339,7 @@ joined_names reads set env tools = (run_names reads ++ tools) ++ linking_names r
 
 -- those of the tools that a call plans
 abbrev pub tools_names : Reads → BuildConfig → EnvSeen → Look → List (List ℕ)
-tools_names reads set env look = compiling_names reads set env look ++ archiving_names reads set env look
+tools_names reads set env look = compiling_names reads set env look ++ later_names reads set env look
 
 -- those that a call reads, by what it does
 abbrev pub read_names : Reads → BuildConfig → EnvSeen → Look → List (List ℕ)

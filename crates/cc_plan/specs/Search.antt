@@ -1,5 +1,5 @@
 -- Where programs are: which files are there, and in which folder a tool is found.
-use Rattle.std.specs.Prelude.{ℕ, Bool, nat_lt, ◌==◌, List, [], ◌∷◌, Option, map, find, length, codes, if◌then◌else◌}
+use Rattle.std.specs.Prelude.{ℕ, Bool, nat_lt, ◌==◌, List, [], ◌∷◌, ◌++◌, Option, map, find, length, codes, if◌then◌else◌}
 use Rattle.std.specs.List.{slice_split}
 use Rattle.std.specs.Option.{option_map_or}
 use Rattle.std.specs.Path.{path_components, path_join}
@@ -39,6 +39,10 @@ first_there look paths = find (is_there look) paths
 abbrev pub which : EnvSeen → List ℕ → Look → Option (List ℕ)
 which env tool look = first_there look (places_of (path_folders env) tool)
 
--- where a tool is in the folders of a list
-abbrev pub which_in : List ℕ → List ℕ → Look → Option (List ℕ)
-which_in list tool look = first_there look (places_of (folders_of list) tool)
+-- the folders of a list, where one is given, and behind them those in which a shell looks
+unfoldable pub listed_folders : EnvSeen → Option (List ℕ) → List (List ℕ)
+listed_folders env list = option_map_or folders_of list [] ++ path_folders env
+
+-- where a tool is in those folders
+abbrev pub which_in : EnvSeen → Option (List ℕ) → List ℕ → Look → Option (List ℕ)
+which_in env list tool look = first_there look (places_of (listed_folders env list) tool)

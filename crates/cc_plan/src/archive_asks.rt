@@ -1,7 +1,7 @@
 // The questions by which tools of archives are found.
 ghost use Rattle.std.specs.Prelude.{◌≡◌, ◌++◌, IfOk};
 ghost use Rattle.cc_plan.specs.ArchiveTool as spec;
-ghost use Rattle.cc_plan.specs.Asking.{AsksBy, AsksForTool, AsksThis, IsChosenAt, SettledIn, SettledBy};
+ghost use Rattle.cc_plan.specs.Asking.{AsksForTool, AsksThis, IsChosenAt, SettledIn, SettledBy};
 ghost use Rattle.cc_plan.specs.Questions.{IsForAndroid, IsForWasm};
 
 use crate::Sight;
@@ -9,51 +9,17 @@ use crate::archive_names::behind;
 use crate::archive_tool::ArchiveTool;
 use crate::compilation::Inputs;
 use crate::compiler::compiler_of;
-use crate::search::which_in;
-use cc_env::BuildEnv;
-use cc_host::{Ask, Host, Question, Verdict, World, is_yes};
+use crate::searched::searched;
+use cc_host::{Ask, Host, Question, World, is_yes};
 use cc_text::{Mem, Text, Vars, Words, is_clang};
 use cc_tool::{ask, question_of};
 use std::alloc::Global;
 use std::sync::Wait;
 
-fn search_question(alloc: Global, env: &BuildEnv, path: &str) -> Mem<Question>
-    ensures { IfOk result (λ q. q ≡ spec.search_question env.now path.now) }
-{
-    let vars = env.child_vars(alloc)?;
-    question_of(alloc, Ask::SearchDirs, path, &Words::new(alloc), &vars)
-}
-
 fn version_question(alloc: Global, vars: &Vars, program: &str) -> Mem<Question>
     ensures { IfOk result (λ q. q ≡ spec.version_question vars.now program.now) }
 {
     question_of(alloc, Ask::ToolVersion, program, &Words::new(alloc), vars)
-}
-
-// Where a compiler looks for programs, as it prints it.
-#[tactic(auto, using(crate::proofs::AskingLemmas::only_none))]
-fn search_dirs<W: World, H: Host<W>>(
-    rt: &impl Wait,
-    inputs: &Inputs<'_>,
-    path: &str,
-    sight: &mut Sight<'_, W, H>,
-) -> Mem<Verdict>
-    ensures asks { AsksThis W.steady W.answer H.log H.patience
-        (spec.search_question inputs.now.env.now path.now) sight.old sight.new }
-    ensures settles { SettledIn sight.new
-        (λ look. look (spec.search_question inputs.now.env.now path.now)) result }
-{
-    let question = search_question(inputs.alloc, inputs.env, path)?;
-    let verdict = ask(
-        rt,
-        inputs.alloc,
-        sight.host,
-        sight.caches,
-        sight.answers,
-        &question,
-        sight.dir,
-    )?;
-    Ok(verdict)
 }
 
 // Whether a program prints its version, with these variables.
@@ -83,43 +49,8 @@ fn prints_version<W: World, H: Host<W>>(
     Ok(is_yes(&verdict))
 }
 
-// LLVM's tool in the folders that a compiler names.
-#[tactic(auto, using(crate::proofs::AskingLemmas::only_none))]
-fn tool_in_dirs<W: World, H: Host<W>>(
-    rt: &impl Wait,
-    tool: ArchiveTool,
-    inputs: &Inputs<'_>,
-    verdict: &Verdict,
-    sight: &mut Sight<'_, W, H>,
-) -> Mem<Option<Text>>
-    ensures asks { AsksBy W.steady W.answer H.log H.patience inputs.now sight.old sight.new }
-    ensures settles { SettledIn sight.new (spec.tool_in_dirs tool verdict.now) result }
-{
-    match verdict {
-        Verdict::Unanswered => Ok(None),
-        Verdict::Missing => Ok(None),
-        Verdict::No => Ok(None),
-        Verdict::Yes => Ok(None),
-        Verdict::Marks(_) => Ok(None),
-        Verdict::Dirs(list) => {
-            let alloc = inputs.alloc;
-            let name = behind(alloc, "llvm-", tool)?;
-            let list = list.as_str();
-            let found = which_in(
-                rt,
-                alloc,
-                inputs.set,
-                inputs.env,
-                list,
-                name.as_str(),
-                sight,
-            )?;
-            Ok(found)
-        }
-    }
-}
-
 // LLVM's tool where Clang looks for programs.
+#[tactic(auto, using(crate::proofs::AskingLemmas::only_none))]
 fn clang_tool<W: World, H: Host<W>>(
     rt: &impl Wait,
     tool: ArchiveTool,
@@ -134,8 +65,10 @@ fn clang_tool<W: World, H: Host<W>>(
     ensures settles { SettledIn sight.new
         (spec.clang_tool tool inputs.now.env.now path.now) result }
 {
-    let verdict = search_dirs(rt, inputs, path, sight)?;
-    let found = tool_in_dirs(rt, tool, inputs, &verdict, sight)?;
+    let alloc = inputs.alloc;
+    let name = behind(alloc, "llvm-", tool)?;
+    let name = name.as_str();
+    let found = searched(rt, alloc, inputs.set, inputs.env, path, name, sight)?;
     Ok(found)
 }
 

@@ -1,9 +1,10 @@
 // The compile command of an object.
-ghost use Rattle.std.specs.Prelude.{◌≡◌, IfOk, IfErr, OnOk, None, unwrap_or};
+ghost use Rattle.std.specs.Prelude.{◌≡◌, IfOk, IfErr, OnOk, map, unwrap_or, if◌then◌else◌};
 ghost use Rattle.std.specs.Option.{option_copied};
 ghost use Rattle.cc_target.specs.Targets.{info_seen};
 ghost use Rattle.cc_tool.specs.Tool.{tool_command};
-ghost use Rattle.cc_plan.specs.Compile.{tool_for, with_object, compile_of, compiles_of, expand_of};
+ghost use Rattle.cc_plan.specs.Compile.{tool_for, with_object, begun_with, compile_of, compiles_of, expand_of};
+ghost use Rattle.cc_plan.specs.CompileWords as words;
 ghost use Rattle.cc_plan.specs.declared.error.PlanError.TheVariants.{NoMemory as WantsMemory};
 
 use crate::words::{compile_words, expand_words, is_masm};
@@ -14,7 +15,7 @@ use cc_text::{Mem, ToolFamily};
 use cc_tool::Tool;
 use std::alloc::Global;
 
-// The tool of a source: the assembler, where one is given, for a source in the language of the Visual Studio tools.
+// The tool of a source: the assembler, where one is given, for a source in a language of the Visual Studio assemblers.
 fn tool_for<'a>(
     target: &TargetInfo,
     tool: &'a Tool,
@@ -48,8 +49,8 @@ fn push_object(
 }
 
 /// The command that makes an object from its source: the tool in its whole environment, then the words of the object and the source in
-/// the form of the tool's family. An assembler serves sources in the language of the Visual Studio tools, on a target of those; no such
-/// target is known yet, so no source asks for one. Only want of memory refuses.
+/// the form of the tool's family. The assembler, as `assembler_of` gives it, takes the tool's place for a source whose extension is `asm`
+/// on a target of the Visual Studio tools; without one the tool serves these sources too. Only want of memory refuses.
 pub fn compile_command(
     alloc: Global,
     set: &BuildConfig,
@@ -67,41 +68,90 @@ pub fn compile_command(
     Ok(cmd)
 }
 
-// The command of an object, without an assembler, from that of the tool. It shares the environment of the tool's.
-#[tactic(auto, using(crate::proofs::CompileLemmas::without_assembler))]
+// The command that those of sources for an assembler begin with: without one that of the tool, whose environment it shares.
+fn assembling_start(start: &Command, tool: &Tool, assembler: Option<&Tool>) -> Mem<Command>
+    requires { start.now ≡ tool_command tool.now }
+    ensures { IfOk result (λ cmd.
+        cmd ≡ tool_command (unwrap_or (option_copied assembler.entry) tool.now)) }
+{
+    match assembler {
+        Some(assembler) => assembler.to_command(),
+        None => start.try_clone(),
+    }
+}
+
+// The command that that of an object begins with.
+fn start_for<'a>(
+    target: &TargetInfo,
+    start: &'a Command,
+    assembling: &'a Command,
+    object: &Object,
+) -> &'a Command
+    ensures { result.now ≡ if words.is_masm (info_seen target.now) object.now.src
+        then assembling.now else start.now }
+{
+    if is_masm(target, object.src.as_str()) {
+        assembling
+    } else {
+        start
+    }
+}
+
+// The command of an object from the one that it begins with. It shares the environment of that one.
 fn command_from(
-    start: &Command,
     alloc: Global,
     set: &BuildConfig,
     target: &TargetInfo,
-    tool: &Tool,
+    family: ToolFamily,
+    start: &Command,
+    assembling: &Command,
     object: &Object,
 ) -> Mem<Command>
-    requires { start.now ≡ tool_command tool.now }
-    ensures { IfOk result (λ cmd.
-        cmd ≡ compile_of set.now (info_seen target.now) tool.now None object.now) }
+    ensures { IfOk result (λ cmd. cmd
+        ≡ begun_with set.now (info_seen target.now) family start.now assembling.now object.now) }
 {
-    let mut cmd = start.try_clone()?;
-    push_object(&mut cmd, alloc, set, target, tool.family(), object)?;
+    let mut cmd = start_for(target, start, assembling, object).try_clone()?;
+    push_object(&mut cmd, alloc, set, target, family, object)?;
     Ok(cmd)
 }
 
+// One command an object, in order.
+fn commands_from(
+    alloc: Global,
+    set: &BuildConfig,
+    target: &TargetInfo,
+    family: ToolFamily,
+    start: &Command,
+    assembling: &Command,
+    objects: &[Object],
+) -> Mem<Vec<Command>>
+    ensures { IfOk result (λ cmds. cmds.items ≡ map
+        (begun_with set.now (info_seen target.now) family start.now assembling.now) objects.now) }
+{
+    let mut cmds = Vec::new(alloc);
+    for object in objects {
+        cmds.push(command_from(alloc, set, target, family, start, assembling, object)?)?;
+    }
+    Ok(cmds)
+}
+
 // One command an object, in order. What all have in common, as the environment, is made once.
+#[tactic(auto, using(crate::proofs::CompileLemmas::commands_begun))]
 pub(crate) fn compile_commands(
     alloc: Global,
     set: &BuildConfig,
     target: &TargetInfo,
     tool: &Tool,
+    assembler: Option<&Tool>,
     objects: &[Object],
 ) -> Mem<Vec<Command>>
-    ensures { IfOk result (λ cmds. cmds.items ≡
-        compiles_of set.now (info_seen target.now) tool.now objects.now) }
+    ensures { IfOk result (λ cmds. cmds.items ≡ compiles_of set.now (info_seen target.now)
+        tool.now (option_copied assembler.entry) objects.now) }
 {
+    let family = tool.family();
     let start = tool.to_command()?;
-    let mut cmds = Vec::new(alloc);
-    for object in objects {
-        cmds.push(command_from(&start, alloc, set, target, tool, object)?)?;
-    }
+    let assembling = assembling_start(&start, tool, assembler)?;
+    let cmds = commands_from(alloc, set, target, family, &start, &assembling, objects)?;
     Ok(cmds)
 }
 

@@ -2,7 +2,7 @@
 ghost use Rattle.std.specs.Prelude.{◌≡◌, [], IfOk, Some, None};
 ghost use Rattle.cc_host.specs.Question.{Settles};
 ghost use Rattle.std.specs.Option.{option_copied};
-ghost use Rattle.cc_plan.specs.Asking.{AsksToPlan, AllowedIn, RefusedIn};
+ghost use Rattle.cc_plan.specs.Asking.{AsksToCompile, AllowedIn, RefusedIn};
 ghost use Rattle.cc_plan.specs.Names.{library_name};
 ghost use Rattle.cc_plan.specs.Given.{out_dir_of, probe_folder};
 ghost use Rattle.cc_plan.specs.Planned.{warnings_of};
@@ -10,6 +10,8 @@ ghost use Rattle.cc_plan.specs.Plan.{dir_of, objects_of, library_of, compiles_of
 ghost use Rattle.cc_plan.specs.Refusal.{intermediate_refusal, early_refusal, late_refusal, tool_refusal, platform_refusal, out_dir_refusal, AllowedBy, RefusedBy};
 
 use crate::added::check_added;
+use crate::assembler::wanted_assembler;
+use crate::assembly::Assembly;
 use crate::compile::compile_commands;
 use crate::given::out_dir_of;
 use crate::tool::{check_platform, plan_tool};
@@ -142,7 +144,7 @@ fn no_compiles(alloc: Global, set: &BuildConfig, env: &BuildEnv) -> Result<Plan,
     })
 }
 
-// With sources, those of the tool.
+// With sources, those of the tool, and of the assembler where one wants it.
 fn tool_compiles<W: World, H: Host<W>>(
     rt: &impl Wait,
     alloc: Global,
@@ -152,7 +154,7 @@ fn tool_compiles<W: World, H: Host<W>>(
     sight: &mut Sight<'_, W, H>,
 ) -> Result<Plan, PlanError>
     requires { objects.now ≡ objects_of set.now env.now }
-    ensures asks { AsksToPlan W.steady W.answer H.log H.patience set.now env.now
+    ensures asks { AsksToCompile W.steady W.answer H.log H.patience set.now env.now
         sight.old sight.new }
     ensures warnings { IfOk result (λ plan.
         Settles sight.new.answers.now (warnings_of set.now env.now plan.warns_of_link) plan.warnings) }
@@ -162,7 +164,17 @@ fn tool_compiles<W: World, H: Host<W>>(
     ensures refused { RefusedIn sight.new (tool_refusal set.now env.now) result }
 {
     let plan = plan_tool(rt, alloc, set, env, sight)?;
-    let compiles = compile_commands(alloc, set, &plan.target, &plan.tool, objects)?;
+    let given = Assembly {
+        alloc,
+        set,
+        env,
+        target: &plan.target,
+        family: plan.tool.family(),
+        path: plan.tool.path(),
+    };
+    let assembler = wanted_assembler(rt, &given, sight)?;
+    let assembler = assembler.as_ref();
+    let compiles = compile_commands(alloc, set, &plan.target, &plan.tool, assembler, objects)?;
     Ok(Plan {
         warns_of_link: plan.warned.is_first,
         warnings: plan.warned.warnings,
@@ -171,7 +183,7 @@ fn tool_compiles<W: World, H: Host<W>>(
 }
 
 /// The warnings of a compile run with these sources, which `plan_sources` gave, and the commands that compile. It asks, and prints nothing.
-/// Without a source no tool is wanted, and nothing is asked.
+/// Without a source no tool is wanted, and nothing is asked; an assembler is planned, behind the tool, where a source wants one.
 ///
 /// Refused where the target or the host is set nowhere, the target isn't known or, with sources, the optimisation level is set nowhere, a
 /// word of the target is refused or a flag of Rust code is wrong; and for memory. The answers until then stay in the sight.
@@ -184,7 +196,7 @@ pub fn plan_commands<W: World, H: Host<W>>(
     sight: &mut Sight<'_, W, H>,
 ) -> Result<Plan, PlanError>
     requires { sources.now.objects.items ≡ objects_of set.now env.now }
-    ensures asks { AsksToPlan W.steady W.answer H.log H.patience set.now env.now
+    ensures asks { AsksToCompile W.steady W.answer H.log H.patience set.now env.now
         sight.old sight.new }
     ensures warnings { IfOk result (λ plan.
         Settles sight.new.answers.now (plan_warnings set.now env.now plan.warns_of_link) plan.warnings) }

@@ -6,6 +6,7 @@ ghost use Rattle.cc_plan.specs.Reruns as spec;
 
 use crate::archive_reruns::archive_names;
 use crate::archive_tool::ArchiveTool;
+use crate::assembler_reruns::assembling_names;
 use crate::compilation::Inputs;
 use crate::compiler::{Compiler, compiler_of};
 use crate::env_tool::env_tool;
@@ -293,6 +294,23 @@ fn archiving_names<W: World, H: Host<W>>(
     Ok(names)
 }
 
+// Those of all tools behind the compiler.
+fn later_names<W: World, H: Host<W>>(
+    rt: &impl Wait,
+    reads: Reads,
+    inputs: &Inputs<'_>,
+    sight: &mut Sight<'_, W, H>,
+) -> Mem<Words>
+    ensures asks { AsksForNamesBy W.steady W.answer H.log H.patience reads inputs.now
+        sight.old sight.new }
+    ensures settles { SettledBy sight.new (spec.later_names reads) inputs.now result }
+{
+    let mut names = assembling_names(rt, reads, inputs, sight)?;
+    let archiving = archiving_names(rt, reads, inputs, sight)?;
+    names.append(archiving)?;
+    Ok(names)
+}
+
 // Those of the tools that a call plans.
 fn tools_names<W: World, H: Host<W>>(
     rt: &impl Wait,
@@ -305,8 +323,8 @@ fn tools_names<W: World, H: Host<W>>(
     ensures settles { SettledBy sight.new (spec.tools_names reads) inputs.now result }
 {
     let mut names = compiling_names(rt, reads, inputs, sight)?;
-    let archiving = archiving_names(rt, reads, inputs, sight)?;
-    names.append(archiving)?;
+    let later = later_names(rt, reads, inputs, sight)?;
+    names.append(later)?;
     Ok(names)
 }
 

@@ -1,5 +1,6 @@
 // Where programs are.
 ghost use Rattle.std.specs.Prelude.{◌≡◌, IfOk};
+ghost use Rattle.std.specs.Option.{option_copied};
 ghost use Rattle.cc_text.specs.Words.{texts};
 ghost use Rattle.cc_plan.specs.Asking.{AsksFor, SettledIn};
 ghost use Rattle.cc_plan.specs.Search as spec;
@@ -21,7 +22,7 @@ fn folders_of(alloc: Global, list: &str) -> Mem<Vec<&str>>
 }
 
 // The folders of a list, as words.
-fn listed_folders(alloc: Global, list: &str) -> Mem<Words>
+fn folder_words(alloc: Global, list: &str) -> Mem<Words>
     ensures { IfOk result (λ folders. folders ≡ spec.folders_of list.now) }
 {
     let mut folders = Words::new(alloc);
@@ -35,9 +36,23 @@ pub(crate) fn path_folders(alloc: Global, env: &BuildEnv) -> Mem<Words>
     ensures { IfOk result (λ folders. folders ≡ spec.path_folders env.now) }
 {
     match env.inherited().get("PATH") {
-        Some(list) => listed_folders(alloc, list),
+        Some(list) => folder_words(alloc, list),
         None => Ok(Words::new(alloc)),
     }
+}
+
+// The folders of a list, where one is given, and behind them those in which a shell looks.
+#[tactic(auto, unfolding(crate::specs::Search::listed_folders))]
+fn listed_folders(alloc: Global, env: &BuildEnv, list: Option<&str>) -> Mem<Words>
+    ensures { IfOk result (λ folders.
+        folders ≡ spec.listed_folders env.now (option_copied list.entry)) }
+{
+    let mut folders = match list {
+        Some(list) => folder_words(alloc, list)?,
+        None => Words::new(alloc),
+    };
+    folders.append(path_folders(alloc, env)?)?;
+    Ok(folders)
 }
 
 // The tool is a path of two or more components.
@@ -112,21 +127,22 @@ pub(crate) fn which<W: World, H: Host<W>>(
     first_there(rt, alloc, set, env, paths.as_slice(), sight)
 }
 
-// Where a tool is in the folders of a list.
+// Where a tool is in the folders of a list, where one is given, and then in those in which a shell looks.
 #[tactic(auto, using(crate::proofs::AskingLemmas::only_none))]
 pub(crate) fn which_in<W: World, H: Host<W>>(
     rt: &impl Wait,
     alloc: Global,
     set: &BuildConfig,
     env: &BuildEnv,
-    list: &str,
+    list: Option<&str>,
     tool: &str,
     sight: &mut Sight<'_, W, H>,
 ) -> Mem<Option<Text>>
     ensures asks { AsksFor W.steady W.answer H.log H.patience set.now env.now sight.old sight.new }
-    ensures settles { SettledIn sight.new (spec.which_in list.now tool.now) result }
+    ensures settles { SettledIn sight.new
+        (spec.which_in env.now (option_copied list.entry) tool.now) result }
 {
-    let folders = listed_folders(alloc, list)?;
+    let folders = listed_folders(alloc, env, list)?;
     let paths = places_of(alloc, folders.as_slice(), tool)?;
     first_there(rt, alloc, set, env, paths.as_slice(), sight)
 }

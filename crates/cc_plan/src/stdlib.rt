@@ -1,11 +1,13 @@
 // The C++ library that a library of C++ is linked with, and the lines by which Cargo links it.
-ghost use Rattle.std.specs.Prelude.{◌≡◌, ◌++◌, IfOk, OnOk, Some};
+ghost use Rattle.std.specs.Prelude.{◌≡◌, ◌++◌, [], IfOk, OnOk, Some};
 ghost use Rattle.std.specs.List.{list_any};
 ghost use Rattle.cc_target.specs.Targets.{info_seen};
 ghost use Rattle.cc_tool.specs.Libcxx.{libcxx_question};
+ghost use Rattle.cc_host.specs.Question.{Settles};
 ghost use Rattle.cc_plan.specs.Asking.{OnlyAsks, AsksForLinks, AsksToPlan, SettledIn};
 ghost use Rattle.cc_plan.specs.Blanks.{nonempty};
 ghost use Rattle.cc_plan.specs.Questions.{LibraryAsks};
+ghost use Rattle.cc_plan.specs.Quiet.{allowed_warnings, quiet_warnings};
 ghost use Rattle.cc_plan.specs.Refusal.{AllowedBy, RefusedBy, cpp_refusal};
 ghost use Rattle.cc_plan.specs.Refusal as spec;
 ghost use Rattle.cc_plan.specs.Stdlib as stdlib;
@@ -13,7 +15,7 @@ ghost use Rattle.cc_plan.specs.Target.{target_info};
 
 use crate::given::{is_disabled, prefixed_value, target_name};
 use crate::settings::second;
-use crate::tool::{demand, plan_quietly};
+use crate::tool::{demand, plan_quietly, quiet_warnings};
 use crate::{BuildConfig, LinkLine, PlanError, Sight};
 use cc_env::{BuildEnv, env_value_is_true};
 use cc_flags::is_wasm_linux;
@@ -121,25 +123,44 @@ fn is_memory(error: &PlanError) -> bool
     }
 }
 
-// The tool of these settings, or none where it is refused. It asks, and a user isn't warned.
+// A tool, or none where its plan is refused, and what a user is told of that plan.
+#[derive(Drop)]
+struct Allowed {
+    tool: Option<Tool>,
+    warnings: Words,
+}
+
+// The tool of these settings, with its warnings, or none where it is refused. It asks, and prints nothing.
 fn allowed_tool<W: World, H: Host<W>>(
     rt: &impl Wait,
     alloc: Global,
     set: &BuildConfig,
     env: &BuildEnv,
     sight: &mut Sight<'_, W, H>,
-) -> Mem<Option<Tool>>
+) -> Mem<Allowed>
     ensures asks { AsksToPlan W.steady W.answer H.log H.patience set.now env.now
         sight.old sight.new }
-    ensures settles { SettledIn sight.new (stdlib.allowed_tool set.now env.now) result }
+    ensures tool { IfOk result (λ allowed. Settles sight.new.answers.now
+        (stdlib.allowed_tool set.now env.now) allowed.tool) }
+    ensures warnings { IfOk result (λ allowed. Settles sight.new.answers.now
+        (allowed_warnings set.now env.now) allowed.warnings) }
 {
     match plan_quietly(rt, alloc, set, env, sight) {
-        Ok(plan) => Ok(Some(plan.tool)),
+        Ok(plan) => {
+            let warnings = quiet_warnings(set, plan.unmarked)?;
+            Ok(Allowed {
+                tool: Some(plan.tool),
+                warnings,
+            })
+        }
         Err(error) => {
             if is_memory(&error) {
                 Err(NoMemory)
             } else {
-                Ok(None)
+                Ok(Allowed {
+                    tool: None,
+                    warnings: Words::new(alloc),
+                })
             }
         }
     }
@@ -193,25 +214,43 @@ fn tool_uses_libcxx<W: World, H: Host<W>>(
     Ok(uses)
 }
 
-// Whether the C++ library of the compiler is libc++, where it is Clang and its plan isn't refused.
+// Whether the C++ library of the compiler is libc++, and what a user is told of that compiler's plan.
+#[derive(Drop)]
+struct Decided {
+    is_libcxx: bool,
+    warnings: Words,
+}
+
+// Whether the C++ library of the compiler is libc++, where it is Clang and its plan isn't refused, with the warnings of that plan.
 fn uses_libcxx<W: World, H: Host<W>>(
     rt: &impl Wait,
     alloc: Global,
     set: &BuildConfig,
     env: &BuildEnv,
     sight: &mut Sight<'_, W, H>,
-) -> Mem<bool>
+) -> Mem<Decided>
     ensures asks { OnlyAsks W.steady W.answer H.log H.patience (LibraryAsks set.now env.now)
         sight.old sight.new }
-    ensures settles { SettledIn sight.new
-        (λ look. stdlib.uses_libcxx look (stdlib.allowed_tool set.now env.now look)) result }
+    ensures uses { IfOk result (λ decided. Settles sight.new.answers.now
+        (λ look. stdlib.uses_libcxx look (stdlib.allowed_tool set.now env.now look))
+        decided.is_libcxx) }
+    ensures warnings { IfOk result (λ decided. Settles sight.new.answers.now
+        (allowed_warnings set.now env.now) decided.warnings) }
 {
-    match allowed_tool(rt, alloc, set, env, sight)? {
+    let allowed = allowed_tool(rt, alloc, set, env, sight)?;
+    let (tool, warnings) = (allowed.tool, allowed.warnings);
+    match tool {
         Some(tool) => {
-            let uses = tool_uses_libcxx(rt, alloc, &tool, sight)?;
-            Ok(uses)
+            let is_libcxx = tool_uses_libcxx(rt, alloc, &tool, sight)?;
+            Ok(Decided {
+                is_libcxx,
+                warnings,
+            })
         }
-        None => Ok(false),
+        None => Ok(Decided {
+            is_libcxx: false,
+            warnings,
+        }),
     }
 }
 
@@ -236,9 +275,28 @@ pub(crate) fn links_cpp(set: &BuildConfig) -> bool
     set.cargo_metadata && set.cpp
 }
 
+/// The C++ library that a library of C++ is linked with, or none, and what a user is told of the plan of the compiler that decides on it.
+#[derive(Drop)]
+pub(crate) struct ChosenLibrary {
+    pub library: Option<Text>,
+    pub warnings: Words,
+}
+
+// A library, or none, for which no compiler was planned.
+fn unplanned(alloc: Global, library: Option<Text>) -> ChosenLibrary
+    ensures library { result.library ≡ library }
+    ensures warnings { result.warnings ≡ [] }
+{
+    ChosenLibrary {
+        library,
+        warnings: Words::new(alloc),
+    }
+}
+
 /// The C++ library that a library of C++ is linked with, or none, where there are lines for it: the set one; else `CXXSTDLIB`, where the
 /// empty text is none; else that of the target's system; else libc++ where the compiler is Clang and has that library's headers; else
-/// libstdc++. The compiler's plan is quiet: what it is refused for but memory leaves libstdc++, and no warning of it is given.
+/// libstdc++. The compiler's plan is quiet: what it is refused for but memory leaves libstdc++, and its warnings are handed back as texts,
+/// which are printed nowhere.
 #[tactic(auto, using(crate::proofs::AskingLemmas::only_none))]
 pub(crate) fn linked_library<W: World, H: Host<W>>(
     rt: &impl Wait,
@@ -246,23 +304,30 @@ pub(crate) fn linked_library<W: World, H: Host<W>>(
     set: &BuildConfig,
     env: &BuildEnv,
     sight: &mut Sight<'_, W, H>,
-) -> Mem<Option<Text>>
+) -> Mem<ChosenLibrary>
     ensures asks { AsksForLinks W.steady W.answer H.log H.patience set.now env.now
         sight.old sight.new }
-    ensures settles { SettledIn sight.new (stdlib.linked_library set.now env.now) result }
+    ensures library { IfOk result (λ linked. Settles sight.new.answers.now
+        (stdlib.linked_library set.now env.now) linked.library) }
+    ensures warnings { IfOk result (λ linked. Settles sight.new.answers.now
+        (quiet_warnings set.now env.now) linked.warnings) }
 {
     if !links_cpp(set) {
-        return Ok(None);
+        return Ok(unplanned(alloc, None));
     }
     match given_library(alloc, set, env)? {
-        Some(library) => return Ok(library),
+        Some(library) => return Ok(unplanned(alloc, library)),
         None => {}
     }
     if !may_ask(set, env) {
-        return Ok(Some(Text::of(alloc, library_by(false))?));
+        return Ok(unplanned(alloc, Some(Text::of(alloc, library_by(false))?)));
     }
-    let uses = uses_libcxx(rt, alloc, set, env, sight)?;
-    Ok(Some(Text::of(alloc, library_by(uses))?))
+    let decided = uses_libcxx(rt, alloc, set, env, sight)?;
+    let library = Text::of(alloc, library_by(decided.is_libcxx))?;
+    Ok(ChosenLibrary {
+        library: Some(library),
+        warnings: decided.warnings,
+    })
 }
 
 #[tactic(auto, unfolding(crate::specs::Stdlib::is_static))]

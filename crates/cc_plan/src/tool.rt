@@ -1,5 +1,5 @@
 // The tool of a compile command: the compiler with the words and variables that all sources share.
-ghost use Rattle.std.specs.Prelude.{◌≡◌, ◌++◌, ◌&&◌, ◌||◌, Bool, IfOk, IfErr, OnOk, ◌⊎◌, Some};
+ghost use Rattle.std.specs.Prelude.{◌≡◌, ◌++◌, ◌&&◌, ◌||◌, Bool, false, IfOk, IfErr, OnOk, ◌⊎◌, Some};
 ghost use Rattle.std.specs.Option.{option_copied};
 ghost use Rattle.cc_host.specs.Question.{Settles};
 ghost use Rattle.cc_target.specs.Targets.{info_seen};
@@ -184,7 +184,7 @@ fn push_wrapper_words(tool: &mut Tool, words: &Words) -> Mem<()>
     Ok(())
 }
 
-fn push_args(tool: &mut Tool, words: &Words) -> Mem<()>
+pub(crate) fn push_args(tool: &mut Tool, words: &Words) -> Mem<()>
     ensures { OnOk result (tool.new ≡ record tool.old { args = tool.old.args ++ words.now }) }
 {
     for word in words.as_slice() {
@@ -193,7 +193,7 @@ fn push_args(tool: &mut Tool, words: &Words) -> Mem<()>
     Ok(())
 }
 
-fn push_entries(tool: &mut Tool, env: &BuildEnv) -> Mem<()>
+pub(crate) fn push_entries(tool: &mut Tool, env: &BuildEnv) -> Mem<()>
     ensures { OnOk result (tool.new
         ≡ record tool.old { entries = tool.old.entries ++ env.now.explicit }) }
 {
@@ -346,6 +346,15 @@ fn marked<W: World>(
     let is_first = is_first_warning(rt, caches, set, unmarked.leaves_off);
     push_link_warning(&mut warnings, set, unmarked.leaves_off, is_first)?;
     Ok(Warned { is_first, warnings })
+}
+
+/// What a user is told of a quiet plan: it leaves the mark of the caches, and so is never the first that warns of flags for the linker.
+pub(crate) fn quiet_warnings(set: &BuildConfig, unmarked: Unmarked) -> Mem<Words>
+    ensures { IfOk result (λ warnings. warnings ≡ marked_by set.now unmarked false) }
+{
+    let mut warnings = unmarked.warnings;
+    push_link_warning(&mut warnings, set, unmarked.leaves_off, false)?;
+    Ok(warnings)
 }
 
 /// The tool of these settings in this environment, with its target and what a user may be warned of. It asks, and prints nothing; the

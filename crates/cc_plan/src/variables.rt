@@ -29,6 +29,8 @@ pub struct Reads {
     pub debug: bool,
     /// It plans a compiler.
     pub compiler: bool,
+    /// It plans the commands of sources, with an assembler where one of them wants it.
+    pub assembler: bool,
     /// It asks a compiler whether it takes a flag.
     pub flag: bool,
     /// It plans an archiver.

@@ -68,6 +68,9 @@ lines =
     line "wasm32-wali-linux-musl" (info "wasm32" "wasm32" "wali" "linux" "musl" "") "wasm32-wasi" None [] ∷
     line "x86_64-pc-windows-gnu" (info "x86_64" "x86_64" "pc" "windows" "gnu" "") "x86_64-pc-windows-gnu" (Some "x86_64-w64-mingw32") [] ∷
     line "aarch64-pc-windows-gnullvm" (info "aarch64" "aarch64" "pc" "windows" "gnu" "llvm") "aarch64-pc-windows-gnu" (Some "aarch64-w64-mingw32") [] ∷
+    line "x86_64-pc-windows-msvc" (info "x86_64" "x86_64" "pc" "windows" "msvc" "") "x86_64-pc-windows-msvc" None [] ∷
+    line "i686-pc-windows-msvc" (info "i686" "x86" "pc" "windows" "msvc" "") "i686-pc-windows-msvc" None [] ∷
+    line "aarch64-pc-windows-msvc" (info "aarch64" "aarch64" "pc" "windows" "msvc" "") "aarch64-pc-windows-msvc" None [] ∷
     line "i686-pc-nto-qnx700" (info "i686" "x86" "pc" "nto" "nto70" "") "i586-pc-unknown" None [] ∷
     line "aarch64-unknown-nto-qnx710" (info "aarch64" "aarch64" "unknown" "nto" "nto71" "") "aarch64-unknown-unknown" None [] ∷
     []
@@ -104,9 +107,17 @@ candidates_of name = option_map_or (λ l. l.candidates) (line_of name) []
 abbrev pub is_arm : Info → Bool
 is_arm i = bytes_eq i.arch (codes "aarch64") || bytes_eq i.arch (codes "arm64ec") || bytes_eq i.arch (codes "arm")
 
--- a fixed prefix leaves no candidates, and the target isn't one of the Visual Studio tools
+-- there are no candidates for the prefix of the GNU tools
+abbrev pub has_no_candidates : Line → Bool
+has_no_candidates l = nat_eq (length l.candidates) 0
+
+-- the target is one of the Visual Studio tools
+abbrev pub is_of_visual_studio : Line → Bool
+is_of_visual_studio l = bytes_eq l.info.env (codes "msvc")
+
+-- a fixed prefix leaves no candidates, and a target of the Visual Studio tools has neither
 abbrev pub is_sound : Line → Bool
-is_sound l = not (is_some l.prefix && not (nat_eq (length l.candidates) 0)) && not (bytes_eq l.info.env (codes "msvc"))
+is_sound l = not ((is_some l.prefix || is_of_visual_studio l) && not (has_no_candidates l)) && not (is_of_visual_studio l && is_some l.prefix)
 
 -- no name stands twice
 abbrev pub are_apart : List Line → Bool

@@ -3,7 +3,7 @@
 //! for another.
 //!
 //! Stands on `cc_text`. The crates above use one thing: each call gives what the row of the name says, and no row,
-//! no answer. No call takes memory. Targets of the Visual Studio tools aren't in the table yet.
+//! no answer. No call takes memory.
 #![tactic(auto)]
 
 mod info;

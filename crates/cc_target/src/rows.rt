@@ -51,7 +51,7 @@ macro_rules! row {
     };
 }
 
-static ROWS: [Row; 33] = [
+static ROWS: [Row; 36] = [
     row!(
         "x86_64-unknown-linux-gnu",
         ("x86_64", "x86_64", "unknown", "linux", "gnu", ""),
@@ -278,6 +278,27 @@ static ROWS: [Row; 33] = [
         []
     ),
     row!(
+        "x86_64-pc-windows-msvc",
+        ("x86_64", "x86_64", "pc", "windows", "msvc", ""),
+        "x86_64-pc-windows-msvc",
+        None,
+        []
+    ),
+    row!(
+        "i686-pc-windows-msvc",
+        ("i686", "x86", "pc", "windows", "msvc", ""),
+        "i686-pc-windows-msvc",
+        None,
+        []
+    ),
+    row!(
+        "aarch64-pc-windows-msvc",
+        ("aarch64", "aarch64", "pc", "windows", "msvc", ""),
+        "aarch64-pc-windows-msvc",
+        None,
+        []
+    ),
+    row!(
         "i686-pc-nto-qnx700",
         ("i686", "x86", "pc", "nto", "nto70", ""),
         "i586-pc-unknown",
@@ -315,7 +336,7 @@ pub fn row_named(name: &str) -> Option<&'static Row>
 }
 
 /// Does nothing: its contract states what holds of the whole table. No name stands twice; a row with a fixed prefix
-/// has no candidates; no target is one of the Visual Studio tools.
+/// has no candidates; a target of the Visual Studio tools has neither.
 pub fn table_is_sound()
     ensures apart { IsTrue (are_apart lines) }
     ensures sound { IsTrue (list_all is_sound lines) }

@@ -46,8 +46,16 @@ pub(crate) fn is_masm(target: &TargetInfo, source: &str) -> bool
     }
 }
 
-// The object: `-o` of GCC's "Options Controlling the Kind of Output". The Visual Studio compilers take it in one word, Microsoft's "/Fo
-// (Object File Name)", but for assembly for Arm, whose assembler takes `-o`.
+// The Visual Studio tools take the object in one word: their assemblers, and their compilers but for assembly for Arm.
+#[tactic(auto, unfolding(crate::specs::CompileWords::takes_one_word))]
+fn takes_one_word(family: ToolFamily, target: &TargetInfo, source: &str) -> bool
+    ensures { result ≡ spec.takes_one_word family (info_seen target.now) source.now }
+{
+    is_masm(target, source) || (is_visual_studio(family) && !(is_asm(source) && target.is_arm()))
+}
+
+// The object: `-o` of GCC's "Options Controlling the Kind of Output"; Microsoft's "/Fo (Object File Name)", which "ML and ML64 command-line
+// reference" has too.
 #[tactic(auto, unfolding(crate::specs::CompileWords::object_words))]
 fn push_object_words(
     words: &mut Words,
@@ -58,7 +66,7 @@ fn push_object_words(
     ensures { OnOk result (words.new ≡ words.old
         ++ spec.object_words family (info_seen target.now) object.now) }
 {
-    if is_visual_studio(family) && !(is_asm(object.src.as_str()) && target.is_arm()) {
+    if takes_one_word(family, target, object.src.as_str()) {
         words.push_joined("-Fo", object.dst.as_str())?;
     } else {
         words.push("-o")?;
@@ -107,6 +115,19 @@ fn push_codeview_words(
     Ok(())
 }
 
+// Nothing is linked: `-c` of GCC's "Options Controlling the Kind of Output"; `/c` of Microsoft's compilers and of its assemblers for x86.
+// Those for Arm don't link, and have no such word.
+#[tactic(auto, unfolding(crate::specs::CompileWords::object_only_words))]
+fn push_object_only_words(words: &mut Words, target: &TargetInfo, source: &str) -> Mem<()>
+    ensures { OnOk result (words.new ≡ words.old
+        ++ spec.object_only_words (info_seen target.now) source.now) }
+{
+    if !(is_masm(target, source) && target.is_arm()) {
+        words.push("-c")?;
+    }
+    Ok(())
+}
+
 // The extension of the source is `cc`.
 fn has_extension_cc(source: &str) -> bool
     ensures { result ≡ spec.has_extension_cc source.now }
@@ -119,15 +140,22 @@ fn has_extension_cc(source: &str) -> bool
 
 // The source, last. Visual Studio doesn't know the extension `cc` for C++, and is told by Microsoft's "/Tc, /Tp, /TC, /TP (Specify Source
 // File Type)"; for Clang in its form a path that begins with a slash would be an option, so that `--` ends those (Clang's "Users Manual",
-// "clang-cl").
+// "clang-cl"), unless none is to stand there.
 #[tactic(auto, unfolding(crate::specs::CompileWords::source_words))]
-fn push_source_words(words: &mut Words, family: ToolFamily, cpp: bool, source: &str) -> Mem<()>
-    ensures { OnOk result (words.new ≡ words.old ++ spec.source_words family cpp source.now) }
+fn push_source_words(
+    words: &mut Words,
+    family: ToolFamily,
+    cpp: bool,
+    is_bare: bool,
+    source: &str,
+) -> Mem<()>
+    ensures { OnOk result (words.new ≡ words.old
+        ++ spec.source_words family cpp is_bare source.now) }
 {
     if is_cl(family) && cpp && has_extension_cc(source) {
         words.push_joined("-Tp", source)?;
     } else {
-        if is_clang_cl(family) {
+        if is_clang_cl(family) && !is_bare {
             words.push("--")?;
         }
         words.push(source)?;
@@ -135,31 +163,19 @@ fn push_source_words(words: &mut Words, family: ToolFamily, cpp: bool, source: &
     Ok(())
 }
 
-// The source of a file that is expanded. For assembly no `--` stands before it.
-#[tactic(auto, unfolding(crate::specs::CompileWords::expanded_source))]
-fn push_expanded_source(words: &mut Words, family: ToolFamily, cpp: bool, source: &str) -> Mem<()>
-    ensures { OnOk result (words.new ≡ words.old ++ spec.expanded_source family cpp source.now) }
-{
-    if is_clang_cl(family) && is_asm(source) {
-        words.push(source)
-    } else {
-        push_source_words(words, family, cpp, source)
-    }
-}
-
 /// The words of a command that expands a source, which follow those of the tool: `-E`, which stops behind the preprocessor (GCC's "Options
-/// Controlling the Kind of Output"), and the source. Only want of memory refuses.
+/// Controlling the Kind of Output"), and the source, before which no `--` stands for assembly. Only want of memory refuses.
 pub(crate) fn expand_words(alloc: Global, family: ToolFamily, cpp: bool, source: &str) -> Mem<Words>
     ensures { IfOk result (λ words. words ≡ spec.expand_words family cpp source.now) }
 {
     let mut words = Words::new(alloc);
     words.push("-E")?;
-    push_expanded_source(&mut words, family, cpp, source)?;
+    push_source_words(&mut words, family, cpp, is_asm(source), source)?;
     Ok(words)
 }
 
-/// The words of a compile command that follow those of the tool: the object, `-c`, which compiles and links nothing (GCC's "Options
-/// Controlling the Kind of Output"), the flags of sources in assembly, and the source. Only want of memory refuses.
+/// The words of a compile command that follow those of the tool: the object, `-c`, the flags of sources in assembly, and the source. Only
+/// want of memory refuses.
 pub(crate) fn compile_words(
     alloc: Global,
     set: &BuildConfig,
@@ -173,10 +189,11 @@ pub(crate) fn compile_words(
     let mut words = Words::new(alloc);
     push_object_words(&mut words, family, target, object)?;
     push_codeview_words(&mut words, family, set.reproducible_codeview, object)?;
-    words.push("-c")?;
+    push_object_only_words(&mut words, target, object.src.as_str())?;
     if is_asm(object.src.as_str()) {
         words.extend(&set.asm_flags)?;
     }
-    push_source_words(&mut words, family, set.cpp, object.src.as_str())?;
+    let is_bare = is_masm(target, object.src.as_str());
+    push_source_words(&mut words, family, set.cpp, is_bare, object.src.as_str())?;
     Ok(words)
 }

@@ -3,16 +3,16 @@ use Rattle.cc_host.specs.Part.{since}
 use Rattle.cc_plan.specs.Questions.{RunAsks}
 use Rattle.cc_plan.specs.Refusal.{late_refusal}
 use Rattle.cc_build.proofs.Asking.{plan_cause_under}
-use Rattle.cc_build.proofs.Growing.{asked_for, holds_at, of_plan}
+use Rattle.cc_build.proofs.Growing.{asked_for, holds_at, of_compiles}
 use Rattle.cc_build.proofs.phases.plan_compiles.Goals as goal
 
 pub returns-in-Ok-clause-asks : goal.returns-in-Ok-clause-asks
 returns-in-Ok-clause-asks g c =
-    asked_for _ _ (RunAsks c.args.task.now.set.now c.args.task.now.env.now) g.H.Host.log g.H.Host.patience _ _ _ _ _ _ _ _ (c.as_str.ensures ∙ c.requires.dir) c.plan_commands.ensures.asks.asks (of_plan c.args.task.now.set.now c.args.task.now.env.now (since (g.H.Host.log c.args.host.now) (g.H.Host.log c.plan_commands.new.sight.host.now)) c.plan_commands.new.sight.answers.now c.plan_commands.ensures.asks.own) c.plan_commands.ensures.asks.patient (grind arith) (grind arith)
+    asked_for _ _ (RunAsks c.args.task.now.set.now c.args.task.now.env.now) g.H.Host.log g.H.Host.patience _ _ _ _ _ _ _ _ (c.as_str.ensures ∙ c.requires.dir) c.plan_commands.ensures.asks.asks (of_compiles c.args.task.now.set.now c.args.task.now.env.now (since (g.H.Host.log c.args.host.now) (g.H.Host.log c.plan_commands.new.sight.host.now)) c.plan_commands.new.sight.answers.now c.plan_commands.ensures.asks.own) c.plan_commands.ensures.asks.patient (grind arith) (grind arith)
 
 pub returns-in-Err-clause-asks : goal.returns-in-Err-clause-asks
 returns-in-Err-clause-asks g c =
-    asked_for _ _ (RunAsks c.args.task.now.set.now c.args.task.now.env.now) g.H.Host.log g.H.Host.patience _ _ _ _ _ _ _ _ (c.as_str.ensures ∙ c.requires.dir) c.plan_commands.ensures.asks.asks (of_plan c.args.task.now.set.now c.args.task.now.env.now (since (g.H.Host.log c.args.host.now) (g.H.Host.log c.plan_commands.new.sight.host.now)) c.plan_commands.new.sight.answers.now c.plan_commands.ensures.asks.own) c.plan_commands.ensures.asks.patient (grind arith) (grind arith)
+    asked_for _ _ (RunAsks c.args.task.now.set.now c.args.task.now.env.now) g.H.Host.log g.H.Host.patience _ _ _ _ _ _ _ _ (c.as_str.ensures ∙ c.requires.dir) c.plan_commands.ensures.asks.asks (of_compiles c.args.task.now.set.now c.args.task.now.env.now (since (g.H.Host.log c.args.host.now) (g.H.Host.log c.plan_commands.new.sight.host.now)) c.plan_commands.new.sight.answers.now c.plan_commands.ensures.asks.own) c.plan_commands.ensures.asks.patient (grind arith) (grind arith)
 
 pub returns-in-Ok-clause-planned : goal.returns-in-Ok-clause-planned
 returns-in-Ok-clause-planned g c =

@@ -1,4 +1,4 @@
-use Rattle.std.proofs.Common.{◌∙◌, None, refl, ap}
+use Rattle.std.proofs.Common.{◌∙◌, None, refl, sym, ap}
 use Rattle.std.proofs.lemmas.Result.{err_from_is_err_and}
 use Rattle.cc_host.specs.Part.{since}
 use Rattle.cc_build.specs.Error.{no_memory}
@@ -58,7 +58,7 @@ returns-clause-outcome g c =
             (
               printed.1.0,
               phase_done t (plan_error task.set.now task.env.now task.output.now) None (name_stages task.set.now task.env.now c.args.shared.now.reads look printed.0) old mid new x c.plan_names.ensures.asks.extends c.do_stages.ensures.aside.extends c.plan_names.ensures.quiet refl (stages_seen c.deref.result.now) c.do_stages.result z
-                  (named_stages task.set.now task.env.now c.args.shared.now.reads look printed.0 _ _ (stages_seen c.deref.result.now) (ap stages_seen c.deref.ensures.value ∙ printed.1.1) c.new-links.ensures.items (c.in_ok-names.ensures.planned.is look agree))
+                  (named_stages task.set.now task.env.now c.args.shared.now.reads look _ _ printed.0 _ _ (stages_seen c.deref.result.now) (ap stages_seen c.deref.ensures.value ∙ printed.1.1) c.names_alone-lines.ensures.warnings c.names_alone-lines.ensures.links (c.in_ok-names.ensures.planned.is look agree ∙ sym c.names_alone-lines.ensures.names))
                   (same_patience task.reporting.shows (g.J.Jobs.total c.args.seat.now) (g.H.Host.patience c.plan_names.new.host) patience None (stages_seen c.deref.result.now) (since mid new) c.do_stages.result x z c.plan_names.ensures.asks.patient c.do_stages.ensures.outcome),
             ),
           );

@@ -45,7 +45,7 @@ returns-clause-childless g c =
     let mid = g.H.Host.log c.read_names.new.host in
     let new = g.H.Host.log c.do_stages.new.host in
     let printed = c.in_ok-stages.ensures in
-    let lines = told_lines _ printed.0 _ _ (stages_seen c.deref.result.now) (since mid new) c.do_stages.result _ _ (ap stages_seen c.deref.ensures.value ∙ printed.1.1) c.new-links.ensures.items c.do_stages.ensures.outcome in
+    let lines = told_lines _ _ _ printed.0 _ _ (stages_seen c.deref.result.now) (since mid new) c.do_stages.result _ _ (ap stages_seen c.deref.ensures.value ∙ printed.1.1) c.names_alone-lines.ensures.warnings c.names_alone-lines.ensures.links c.do_stages.ensures.outcome in
     childless_since old mid new c.read_names.ensures.asks.extends c.do_stages.ensures.aside.extends (asked_whole (since old mid) c.read_names.ensures.quiet).1 lines.1
 
 pub returns-clause-told : goal.returns-clause-told
@@ -54,10 +54,10 @@ returns-clause-told g c =
     let mid = g.H.Host.log c.read_names.new.host in
     let new = g.H.Host.log c.do_stages.new.host in
     let printed = c.in_ok-stages.ensures in
-    let lines = told_lines _ printed.0 _ _ (stages_seen c.deref.result.now) (since mid new) c.do_stages.result _ _ (ap stages_seen c.deref.ensures.value ∙ printed.1.1) c.new-links.ensures.items c.do_stages.ensures.outcome in
+    let lines = told_lines _ _ _ printed.0 _ _ (stages_seen c.deref.result.now) (since mid new) c.do_stages.result _ _ (ap stages_seen c.deref.ensures.value ∙ printed.1.1) c.names_alone-lines.ensures.warnings c.names_alone-lines.ensures.links c.do_stages.ensures.outcome in
     record {
       under = λ look agree.
           let steps = name_steps c.args.reads c.args.task.now.set.now c.args.task.now.env.now printed.0 look in
-          let so : Outcome None steps (since mid new) c.do_stages.result = subst (λ (n : List (List ℕ)). Outcome None (prints Rerun (rerun_lines (chosen printed.0.names n))) (since mid new) c.do_stages.result) (sym (c.in_ok-names.ensures.planned.is look agree)) lines.0 in
+          let so : Outcome None steps (since mid new) c.do_stages.result = subst (λ (n : List (List ℕ)). Outcome None (prints Rerun (rerun_lines (chosen printed.0.names n))) (since mid new) c.do_stages.result) (c.names_alone-lines.ensures.names ∙ sym (c.in_ok-names.ensures.planned.is look agree)) lines.0 in
           (printed.0, (printed.1.0, outcome_from None old mid new [] steps c.do_stages.result c.read_names.ensures.asks.extends c.do_stages.ensures.aside.extends (asked_whole (since old mid) c.read_names.ensures.quiet).0 so));
     }

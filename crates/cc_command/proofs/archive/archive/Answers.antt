@@ -1,4 +1,4 @@
-use Rattle.std.proofs.Common.{◌≡◌, ◌∙◌, ℕ, List, [], Ok, Err, sym, ap, subst, refl}
+use Rattle.std.proofs.Common.{◌≡◌, ◌∙◌, ℕ, Bool, List, [], Ok, Err, sym, ap, subst, refl}
 use Rattle.std.proofs.lemmas.Result.{err_from_is_err_and}
 use Rattle.cc_host.specs.Part.{since}
 use Rattle.cc_host.specs.Question.{answers, Holds}
@@ -35,12 +35,12 @@ pub returns-clause-archiving : goal.returns-clause-archiving
 returns-clause-archiving g c =
     let old = g.H.Host.log c.args.host.now in
     let mid = g.H.Host.log c.try_create_archive.new.host in
-    let new = g.H.Host.log c.try_emit_link_directives.new.host in
+    let new = g.H.Host.log c.emit_link_directives.new.host in
     let patience = g.H.Host.patience c.args.host.now in
     let b = c.args.request.now.build in
     let name = name_of c.args.request.now.job in
     let path = c.in_ok-library.library in
-    let r = c.try_emit_link_directives.result in
+    let r = c.emit_link_directives.result in
     let none : c.new-objects.result ≡ [] = c.new-objects.ensures in
     let named : Holds (answers (since old mid)) (λ look. Creates (with_objects b c.new-objects.result) (g.H.Host.listens c.args.host.now) patience c.args.turns name (Ok path) look (since old mid)) =
     subst (λ (n : List ℕ). Holds (answers (since old mid)) (λ look. Creates (with_objects b c.new-objects.result) (g.H.Host.listens c.args.host.now) patience c.args.turns n (Ok path) look (since old mid))) c.name-name.ensures c.in_ok-library.ensures.outcome in
@@ -48,9 +48,10 @@ returns-clause-archiving g c =
     subst (λ (o : List (List ℕ)). Holds (answers (since old mid)) (λ look. Creates (with_objects b o) (g.H.Host.listens c.args.host.now) patience c.args.turns name (Ok path) look (since old mid))) none named in
     let at : c.as_str.result.now ≡ library_at b name =
     c.as_str.ensures ∙ c.in_ok-library.ensures.library ∙ ap (λ (o : List (List ℕ)). library_of (with_objects b o).config b.env c.name-name.result.now) none ∙ ap (library_of (alone b).config b.env) c.name-name.ensures in
-    let linked : Holds (answers (since mid new)) (λ links. DirectivesEnd b (library_at b name) r links (since mid new)) =
-    subst (λ (l : List ℕ). Holds (answers (since mid new)) (λ links. DirectivesEnd b l r links (since mid new))) at c.try_emit_link_directives.ensures.outcome in
-    subst (λ l. Archiving (g.H.Host.listens c.args.host.now) g.W.World.steady g.W.World.answer b patience c.args.turns name l r) (sym (since_since old mid new c.try_create_archive.ensures.extends c.try_emit_link_directives.ensures.extends))
+    let linked : Holds (answers (since mid new)) (λ links. DirectivesEnd b (g.H.Host.listens c.args.host.now) (library_at b name) r links (since mid new)) =
+    subst (λ (l : List ℕ). Holds (answers (since mid new)) (λ links. DirectivesEnd b (g.H.Host.listens c.args.host.now) l r links (since mid new))) at
+    (subst (λ (heard : Bool). Holds (answers (since mid new)) (λ links. DirectivesEnd b heard c.as_str.result.now r links (since mid new))) c.listens-listens.ensures c.emit_link_directives.ensures.outcome) in
+    subst (λ l. Archiving (g.H.Host.listens c.args.host.now) g.W.World.steady g.W.World.answer b patience c.args.turns name l r) (sym (since_since old mid new c.try_create_archive.ensures.extends c.emit_link_directives.ensures.extends))
     (directives_ended (g.H.Host.listens c.args.host.now) g.W.World.steady g.W.World.answer b patience c.args.turns name path (since old mid) (since mid new) r c.requires.repeats
     (subst (λ (o : List (List ℕ)). AsksByRun g.W.World.steady g.W.World.answer (with_objects b o) (since old mid)) none c.try_create_archive.ensures.asked)
-    c.try_emit_link_directives.ensures.asked made linked)
+    c.emit_link_directives.ensures.asked made linked)

@@ -1,15 +1,15 @@
 use Rattle.std.proofs.Common.{◌≡◌, refl, rules}
 use Rattle.cc_tool.proofs.SettleLemmas.{settles_question}
-use Rattle.cc_plan.specs.ArchiveTool.{search_question}
+use Rattle.cc_plan.specs.Searched.{search_question}
 use Rattle.cc_plan.proofs.AskingLemmas.{own_one}
-use Rattle.cc_plan.proofs.archive_asks.search_dirs.Goals as goal
+use Rattle.cc_plan.proofs.searched.search_dirs.Goals as goal
 
 pub returns-clause-settles : goal.returns-clause-settles
 returns-clause-settles g c = settles_question c.in_ok-verdict.ensures.settles c.in_ok-question.ensures refl
 
 pub returns-in_err-verdict-clause-asks : goal.returns-in_err-verdict-clause-asks
 returns-in_err-verdict-clause-asks g c =
-    let question = search_question c.args.inputs.now.env.now c.args.path.now in
+    let question = search_question c.args.env.now c.args.path.now in
     record {
       same_host = refl;
       same_answers = refl;
@@ -21,7 +21,7 @@ returns-in_err-verdict-clause-asks g c =
 
 pub returns-clause-asks : goal.returns-clause-asks
 returns-clause-asks g c =
-    let question = search_question c.args.inputs.now.env.now c.args.path.now in
+    let question = search_question c.args.env.now c.args.path.now in
     record {
       same_host = refl;
       same_answers = refl;

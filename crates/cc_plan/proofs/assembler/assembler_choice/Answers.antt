@@ -1,0 +1,22 @@
+use Rattle.std.proofs.Common.{arith, ap, sym, ◌∙◌}
+use Rattle.std.proofs.lemmas.Grind.{common_steps}
+use Rattle.cc_tool.proofs.AskLemmas.{asks_grows}
+use Rattle.cc_plan.proofs.AskingLemmas.{only_then, only_more}
+use Rattle.cc_tool.proofs.SettleLemmas.{settles_on, settles_so, settles_two, holds_all}
+use Rattle.cc_plan.proofs.SearchedLemmas.{tool_for_beside}
+use Rattle.cc_plan.proofs.assembler.assembler_choice.Goals as goal
+
+pub returns-in_err-choice-clause-asks : goal.returns-in_err-choice-clause-asks
+returns-in_err-choice-clause-asks g c = only_more c.env_tool.ensures.asks (holds_all (tool_for_beside c.args.given.now.set.now c.args.given.now.env.now c.args.given.now.family c.args.given.now.path.now))
+
+pub returns-in-Some-clause-asks : goal.returns-in-Some-clause-asks
+returns-in-Some-clause-asks g c = only_more c.env_tool.ensures.asks (holds_all (tool_for_beside c.args.given.now.set.now c.args.given.now.env.now c.args.given.now.family c.args.given.now.path.now))
+
+pub returns-in_err-choice-in-None-clause-asks : goal.returns-in_err-choice-in-None-clause-asks
+returns-in_err-choice-in-None-clause-asks g c = only_then (only_more c.env_tool.ensures.asks (holds_all (tool_for_beside c.args.given.now.set.now c.args.given.now.env.now c.args.given.now.family c.args.given.now.path.now))) c.own_choice.ensures.asks
+
+pub returns-in_ok-choice-in-None-clause-asks : goal.returns-in_ok-choice-in-None-clause-asks
+returns-in_ok-choice-in-None-clause-asks g c = only_then (only_more c.env_tool.ensures.asks (holds_all (tool_for_beside c.args.given.now.set.now c.args.given.now.env.now c.args.given.now.family c.args.given.now.path.now))) c.own_choice.ensures.asks
+
+pub returns-in_ok-choice-in-None-clause-settles : goal.returns-in_ok-choice-in-None-clause-settles
+returns-in_ok-choice-in-None-clause-settles g c = settles_two (settles_on (asks_grows c.own_choice.ensures.asks.asks) c.in_ok-choice.ensures.settles) c.in_ok-choice-in-None.ensures.settles (λ look a b. grind (arith, common_steps, a, b, c.in-None.is))
