@@ -367,9 +367,9 @@ planned set env way look output =
     (later_stages set env way look output) (no_folder_archives set env)
 
 -- a compile run archives behind the folder, the questions and all sources
-pub ordered : {T : Type 0} (t : Terms) (set : BuildConfig) (env : EnvSeen) (way : Way) (look : Look) (output : List ℕ) (part : List Event) (r : Result T ErrorSeen) (x y : Means) → Ends t (refusal_error set env look output) (planned_stages set env way look output) part r x y → ArchivesLast t set env look part
+pub ordered : {T : Type 0} (t : Terms) (set : BuildConfig) (env : EnvSeen) (way : Way) (look : Look) (output : List ℕ) (part : List Event) (r : Result T ErrorSeen) (x y : Means) → Ends t (refusal_error set env look output) (planned_stages set env way look output) part r x y → ArchivesLast t set env way.found look part
 ordered t set env way look output part r x y o = λ before after event is archives.
     let stages = planned_stages set env way look output in
     let first = folder_stages set env ++ Asks ∷ compile_stages set env way.found look in
     let found = archives_behind t first stages part x y (no_source_archives set env way.found look) (ended_partly t (refusal_error set env look output) stages part r x y o) (planned set env way look output) before after event is archives in
-    (way.found, record { runs = found.0; rest = found.1; cut = found.2.0; compiled = found.2.1 })
+    record { runs = found.0; rest = found.1; cut = found.2.0; compiled = found.2.1 }

@@ -33,5 +33,5 @@ pub record CompiledBefore (t : Terms) (set : BuildConfig) (env : EnvSeen) (found
   pub compiled : Goes t (folder_stages set env ++ Asks ∷ compile_stages set env found look) runs
 
 -- No command of the archive or its index stands in the part unless that stands before it.
-abbrev pub ArchivesLast : Terms → BuildConfig → EnvSeen → Look → List Event → Type 0
-ArchivesLast t set env look part = (before after : List Event) (event : Event) → part ≡ before ++ event ∷ after → is_archive_event event ≡ true → (found : Found) × CompiledBefore t set env found look before
+abbrev pub ArchivesLast : Terms → BuildConfig → EnvSeen → Found → Look → List Event → Type 0
+ArchivesLast t set env found look part = (before after : List Event) (event : Event) → part ≡ before ++ event ∷ after → is_archive_event event ≡ true → CompiledBefore t set env found look before

@@ -93,7 +93,7 @@ pub record Promises {T : Type 0} (b : BuildSeen) (listens : Bool) (output : List
   -- Ok: nothing is refused, and all stages were done. Else the first ones were, and the error has its cause.
   pub outcome : Ends (terms_for b listens c) (refusal_error b.config b.env look output) (stages_for b way look output) part result c.before c.after
   -- no command of the archive stands in the part unless every source was compiled before it
-  pub order : ArchivesLast (terms_for b listens c) b.config b.env look part
+  pub order : ArchivesLast (terms_for b listens c) b.config b.env way.found look part
   -- one attempt for each of the first planned commands, and no other
   pub prefix : AreFirst (stages_for b way look output) part
   -- two sources or more are compiled beside each other, each under a token, and as many at once as there are tokens
