@@ -189,8 +189,8 @@ impl<W: World> Build<W> {
     }
 
     /// The compiler of this build: the program with its wrapper, the words that each source is compiled with, and its variables. To find
-    /// it the compiler is asked for its family and for flags; then the warnings of its plan are printed, where they are on, and behind them
-    /// the lines of the variables that were read, where those are wanted.
+    /// it the compiler is asked for its family and for flags; then the warnings of its plan are printed, where they are on, and said to a
+    /// host that listens, and behind them come the lines of the variables that were read, where those are wanted.
     ///
     /// Refused where the optimisation level, the target or the host is set nowhere (EnvVarNotFound), the target isn't known, a word of
     /// the target or a flag of Rust code is refused, or a line couldn't be printed; and for memory. The build is as before; what was asked
@@ -291,6 +291,8 @@ impl<W: World> Build<W> {
     /// per source, asks for the archiver, removes the old library, archives all objects, writes the index, and asks for and prints the link
     /// lines, and then the lines of the variables that were read, in the order of their bytes and each once, where they are wanted. The first
     /// archive command is tried in a form that not each archiver knows: where it is refused, the same objects are archived by the plain form.
+    /// A host that listens is told each warning, also where none is printed, and asked for the current folder; then it is told each compile
+    /// command right before its start, and before the link lines the warnings of the compiler that decides on the C++ library.
     /// Two or more compile commands run beside each other, each under a token of the pool. The seat is one of the pool and holds none, before
     /// and after. At most `turns` turns are made, each of which asks the host once for the news of the running children; `u64::MAX` is as
     /// good as no bound.

@@ -281,6 +281,9 @@ fn run<W: World, H: Host<W>, J: Jobs>(
 /// tool that writes an index, and then exactly four lines of kind Shown, `family`, `compiler`, `archiver` and `ranlib`, as the plan has them
 /// by the answers to its questions.
 ///
+/// A host that listens is told each warning, also where none is printed, and each compile command right before its start; before the first
+/// of these it is asked for the current folder.
+///
 /// Another status leaves what the first stages did. Its line, `error occurred in cc-rs: <message>` or `word <place>: <cause>`, is the
 /// last event, of kind Fault, or else the fault of its print; want of memory prints none. Each command that was started has ended or was
 /// left alone, and no probe file stays.
