@@ -1,6 +1,6 @@
-// The processes that run as children of this one. A child is young until it was silent for a first rest: so long each turn watches it by
-// itself, and all young ones wait in one `poll(2)`, since the way to a thread and back is an eighth to a fifth of what the program takes of its own
-// for a short command. Then it gets a thread of its own.
+// The processes that run as children of this one. A child is young until it was silent for some rests: so long each turn watches it by itself,
+// and all young ones wait in one `poll(2)`, since the way to a thread and back is an eighth to a fifth of what the program takes of its own for a
+// short command. Then it gets a thread of its own.
 ghost use Rattle.std.specs.Prelude.{◌≡◌, ◌++◌, IfOk, OnErr};
 ghost use Rattle.cc_host.specs.ChildLog.{AreTold, IsPieceBy};
 ghost use Rattle.cc_host.specs.Children.{IsNews};
@@ -25,12 +25,18 @@ pub struct Process<R: Processes + Wait + Copy> {
     id: u64,
     watched: Arc<Watched<R::Started>>,
     taken: Taken,
-    is_young: bool,
+    silent: u32,
     passed: u32,
 }
 
-// How long the young children are waited for in one rest, in milliseconds. What the others did isn't seen meanwhile.
+// How many rests a child is silent before it gets a thread. A rest is of up to ten milliseconds, and the compiler of a small source ends before.
+const YOUNG_RESTS: u32 = 12;
+
+// How long the young children are waited for in one rest where others have threads, in milliseconds. What those did isn't seen meanwhile.
 const YOUNG_MS: u64 = 1;
+
+// How long young children are waited for at most in one rest, in milliseconds.
+const LONGEST_MS: u64 = 1000;
 
 // How often a child without a thread whose pipe was silent is passed over before it is asked whether it ended all the same, as one does that
 // leaves its pipe to another process.
@@ -44,7 +50,7 @@ impl<R: Processes + Wait + Copy> Drop for Process<R> {
             id: _,
             watched,
             taken: _,
-            is_young: _,
+            silent: _,
             passed: _,
         } = self;
         watched.leave(&rt);
@@ -83,9 +89,25 @@ impl<R: Processes + Wait + Copy> Process<R> {
             id,
             watched,
             taken: Taken::none(),
-            is_young: true,
+            silent: 0,
             passed: 0,
         }
+    }
+}
+
+impl<R: Processes + Wait + Copy> Process<R> {
+    // It has no thread yet.
+    fn is_young(&self) -> bool {
+        self.silent < YOUNG_RESTS
+    }
+
+    // It was silent for one rest more. Answers whether it wants a thread from now on.
+    fn was_silent(&mut self) -> bool {
+        if !self.is_young() {
+            return false;
+        }
+        self.silent = self.silent.saturating_add(1);
+        !self.is_young()
     }
 }
 
@@ -187,13 +209,25 @@ fn has_news<R: Processes + Wait + Copy>(processes: &[Process<R>]) -> bool {
     false
 }
 
-// Does what is to be done for the children that have no thread, and answers whether a child has news.
-fn look<R: Processes + Wait + Copy>(processes: &[Process<R>]) -> bool
+// Does what is to be done for the children that have no thread.
+fn look_at_all<R: Processes + Wait + Copy>(processes: &[Process<R>])
 where
     <R::Started as OpenProcess>::Stderr: AsRawFd,
 {
     for process in processes {
         process.watched.attend(&process.rt, false);
+    }
+}
+
+// Does what is to be done for those for which no thread could be made, and answers whether a child has news. Young ones were waited for.
+fn look<R: Processes + Wait + Copy>(processes: &[Process<R>]) -> bool
+where
+    <R::Started as OpenProcess>::Stderr: AsRawFd,
+{
+    for process in processes {
+        if !process.is_young() {
+            process.watched.attend(&process.rt, false);
+        }
     }
     has_news(processes)
 }
@@ -209,7 +243,7 @@ where
 {
     let mut pipes = Vec::new(alloc);
     for process in processes {
-        if process.is_young {
+        if process.is_young() {
             pipes.push(process.watched.pipe(&process.rt)?).ok()?;
         }
     }
@@ -227,7 +261,7 @@ where
 {
     let mut waited = pipes.iter();
     for process in processes {
-        let is_ready = process.is_young
+        let is_ready = process.is_young()
             && match waited.next() {
                 Some(pipe) => pipe.revents != 0,
                 None => false,
@@ -236,8 +270,27 @@ where
     }
 }
 
+// Whether no child has a thread.
+fn are_all_young<R: Processes + Wait + Copy>(processes: &[Process<R>]) -> bool {
+    for process in processes {
+        if !process.is_young() {
+            return false;
+        }
+    }
+    true
+}
+
+// Has each child want a thread at its next silent rest.
+fn age<R: Processes + Wait + Copy>(processes: &mut [Process<R>]) {
+    for process in processes {
+        if process.is_young() {
+            process.silent = YOUNG_RESTS - 1;
+        }
+    }
+}
+
 // Waits until a young child writes or ends, for at most so many milliseconds, does what is to be done for it, and answers how many
-// milliseconds are left to rest.
+// milliseconds are left to rest. Where the young ones can't be waited for together, each gets a thread.
 fn wait_for_young<R: Processes + Wait + Copy>(
     alloc: Global,
     processes: &mut [Process<R>],
@@ -248,32 +301,41 @@ where
 {
     match young_pipes(alloc, processes) {
         Some(mut pipes) => {
-            let young_ms = rest_ms.min(YOUNG_MS);
+            let young_ms = if are_all_young(processes) {
+                rest_ms.min(LONGEST_MS)
+            } else {
+                rest_ms.min(YOUNG_MS)
+            };
             libc::net::poll(&mut pipes, young_ms as i32);
             attend_all(processes, &pipes);
             rest_ms.saturating_sub(young_ms)
         }
         None => {
-            look(processes);
+            look_at_all(processes);
+            age(processes);
             rest_ms
         }
     }
 }
 
-// Gives each young child to a thread.
+// Notes that the young children were silent for one rest more, and gives those to threads that were so long enough. Answers whether none is
+// young any more.
 fn grow<R: Processes + Threads + Wait + Copy>(
     watchers: &Watchers<R>,
     processes: &mut [Process<R>],
-) {
+) -> bool {
+    let mut are_grown = true;
     for process in processes {
-        if process.is_young {
+        if process.was_silent() {
             watchers.add(&process.watched);
-            process.is_young = false;
         }
+        are_grown = are_grown && !process.is_young();
     }
+    are_grown
 }
 
-/// Rests until a child has news, for at most so many milliseconds. A young child that was silent gets a thread.
+/// Rests until a child has news, for at most so many milliseconds, or for less where some children have threads and others none yet. One that was
+/// silent for some rests gets a thread.
 pub fn rest<R: Processes + Threads + Wait + Copy>(
     rt: R,
     alloc: Global,
@@ -290,8 +352,8 @@ where
     if rest_ms == 0 || has_news(processes) || look(processes) {
         return;
     }
-    grow(watchers, processes);
-    if left > 0 {
+    let are_grown = grow(watchers, processes);
+    if left > 0 && are_grown {
         news.park_timeout(&rt, Duration::from_millis(left));
         look(processes);
     }
