@@ -4,14 +4,15 @@ use Rattle.cc_env.specs.Env.{EnvSeen}
 use Rattle.cc_host.specs.Part.{Step}
 use Rattle.cc_host.specs.Question.{Look}
 use Rattle.cc_host.specs.declared.event.Event.{Event}
-use Rattle.cc_plan.specs.Plan.{lists_of_run, removal_steps}
+use Rattle.cc_plan.specs.Plan.{lists_of_run, removal_steps, run_has_one_form, run_asks_folder, copy_steps}
 use Rattle.cc_plan.specs.declared.settings.BuildConfig.{BuildConfig}
 use Rattle.cc_run.specs.declared.error.RunError.{RunError}
 use Rattle.cc_run.specs.declared.planned.Planned.{Planned}
 use Rattle.cc_run.specs.declared.planned.Shows.{Shows}
 use Rattle.cc_build.specs.Error.{ErrorSeen}
-use Rattle.cc_build.specs.Stage.{Stage, calls, in_turn, tried, written, writings, has_libtool, removal_stages, library_commands, list_stages, archive_stages, library_stages}
+use Rattle.cc_build.specs.Stage.{Stage, calls, in_turn, tried, written, writings, removal_stages, library_commands, archive_stages, library_stages, asking_steps, ready_stages, copy_stages, writing_stages}
 use Rattle.cc_build.specs.Stage.Stage.{Calls, Asks, Tries, RunsOne, RunsAll}
+use Rattle.cc_build.specs.Way.{Writing}
 use Rattle.cc_build.specs.Went.{Terms, Means, terms, means, RanOne, Did, Went, Stops, Halts, Halted, Ends}
 
 -- ---- stages that take no token
@@ -53,16 +54,19 @@ alone_tried : (refused : Bool) (ps : List Planned) → AreAlone (tried refused p
 alone_tried refused [] = tt
 alone_tried refused (p ∷ ps) = (tt, alone_in_turn ps)
 
-alone_written : (libtool is_plain : Bool) (ps : List Planned) → AreAlone (written libtool is_plain ps)
+alone_written : (one_form is_plain : Bool) (ps : List Planned) → AreAlone (written one_form is_plain ps)
 alone_written true is_plain ps = alone_in_turn ps
 alone_written false is_plain ps = alone_tried is_plain ps
 
 -- the removal of the old library, the list and the commands of the new one
-pub alone_library : (set : BuildConfig) (env : EnvSeen) (is_plain : Bool) (look : Look) (output : List ℕ) → AreAlone (library_stages set env is_plain look output)
-unfolding removal_stages list_stages archive_stages
-alone_library set env is_plain look output =
+pub alone_library : (set : BuildConfig) (env : EnvSeen) (writing : Writing) (look : Look) (output : List ℕ) → AreAlone (library_stages set env writing look output)
+unfolding removal_stages ready_stages archive_stages copy_stages
+alone_library set env writing look output =
+    let ready = writings (lists_of_run set env look output) ++ asking_steps (run_asks_folder set env look output) writing.here in
+    let cmds = library_commands set env look writing output in
     alone_then (calls (removal_steps set env output)) _ (alone_calls (removal_steps set env output))
-    (alone_then (calls (writings (lists_of_run set env look output))) _ (alone_calls (writings (lists_of_run set env look output))) (alone_written (has_libtool set env look) is_plain (library_commands set env look is_plain output)))
+    (alone_then (calls ready) _ (alone_calls ready)
+    (alone_then (written (run_has_one_form set env look) writing.is_plain cmds) _ (alone_written (run_has_one_form set env look) writing.is_plain cmds) (alone_calls (copy_steps set env output))))
 
 -- what was left of the turns, on a seat with these counts
 abbrev turned : Means → ℕ → ℕ → ℕ → Means

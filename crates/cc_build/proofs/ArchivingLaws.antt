@@ -23,7 +23,7 @@ use Rattle.cc_build.specs.Refusal.{plan_error, disabled_error, archive_error}
 use Rattle.cc_build.specs.Shows.{shows_of}
 use Rattle.cc_build.specs.Stage.{Stage, asked_then, library_stages, name_stages, told_library}
 use Rattle.cc_build.specs.Stage.Stage.{Asks}
-use Rattle.cc_build.specs.Way.{Firsts, Repeats, all_firsts}
+use Rattle.cc_build.specs.Way.{Firsts, Repeats, all_firsts, Writing, writing_of}
 use Rattle.cc_build.specs.Went.{Terms, Means, terms, means, Halted, Ends, Partly}
 use Rattle.cc_tool.proofs.SomeLemmas.{some_agree}
 use Rattle.cc_tool.specs.Asked.{Asked}
@@ -71,29 +71,29 @@ module _ (set : BuildConfig) (env : EnvSeen) (listens : Bool) (patience : Option
   abbrev pub seen : BuildSeen
   seen = record { config = set; env = env }
 
-  abbrev told_with : Look → Bool → Firsts → List Stage
-  told_with look is_plain firsts = asked_then (archive_refusal set env look) (told_library set env archive_reads is_plain look firsts output)
+  abbrev told_with : Look → Writing → Firsts → List Stage
+  told_with look writing firsts = asked_then (archive_refusal set env look) (told_library set env archive_reads writing look firsts output)
 
   -- nothing was asked: the checks refused it, or memory was wanted
   pub uncreated : (T : Type 0) (look : Look) (e : ErrorSeen) → part ≡ [] → (e ≡ no_memory) ⊎ (unarchived_error set env output ≡ Some e) → Creates {T = T} seen listens patience turns output (Err e) look part
   uncreated T look e none cause =
-      let run : List Stage = if is_some (archive_refusal set env look) then [] else told_library set env archive_reads false look all_firsts output in
-      (turns, (false, all_firsts, ((λ _. refl), never_created (terms (shows_of set env listens) (Some 1) patience) (unarchived_error set env output) (archive_error set env look output) run part e (means turns 0 0 0) none cause)))
+      let run : List Stage = if is_some (archive_refusal set env look) then [] else told_library set env archive_reads (writing_of false []) look all_firsts output in
+      (turns, (writing_of false [], all_firsts, ((λ _. refl), never_created (terms (shows_of set env listens) (Some 1) patience) (unarchived_error set env output) (archive_error set env look output) run part e (means turns 0 0 0) none cause)))
 
   module _ (shows : Shows) (c : Course) (reads : Reads) (same : shows ≡ shows_of set env listens) (patient : c.patience ≡ patience) (given : c.before.left ≡ turns) (those : reads ≡ archive_reads) (passed : unarchived_error set env output ≡ None) where
     -- the terms of a run that takes no token of a pool
     abbrev in_run : Shows → Option ℕ → Terms
     in_run shown p = terms shown (Some 1) p
 
-    told_alone : (look : Look) (is_plain : Bool) (firsts : Firsts) → AreAlone (told_with look is_plain firsts)
-    told_alone look is_plain firsts = (
+    told_alone : (look : Look) (writing : Writing) (firsts : Firsts) → AreAlone (told_with look writing firsts)
+    told_alone look writing firsts = (
       tt,
-      alone_unless (is_some (archive_refusal set env look)) (told_library set env archive_reads is_plain look firsts output)
-          (alone_then (library_stages set env is_plain look output) (Asks ∷ name_stages set env archive_reads look firsts) (alone_library set env is_plain look output) (tt, alone_calls _)),
+      alone_unless (is_some (archive_refusal set env look)) (told_library set env archive_reads writing look firsts output)
+          (alone_then (library_stages set env writing look output) (Asks ∷ name_stages set env archive_reads look firsts) (alone_library set env writing look output) (tt, alone_calls _)),
     )
 
     -- the library was written and the lines were printed, or it ended before
-    created : {T : Type 0} (r : Result T ErrorSeen) (look : Look) → (is_plain : Bool) × (firsts : Firsts) × (Repeats set firsts × Ends (terms shows c.total c.patience) (archive_error set env look output) (asked_then (archive_refusal set env look) (told_library set env reads is_plain look firsts output)) part r c.before c.after) → Creates seen listens patience turns output r look part
+    created : {T : Type 0} (r : Result T ErrorSeen) (look : Look) → (writing : Writing) × (firsts : Firsts) × (Repeats set firsts × Ends (terms shows c.total c.patience) (archive_error set env look output) (asked_then (archive_refusal set env look) (told_library set env reads writing look firsts output)) part r c.before c.after) → Creates seen listens patience turns output r look part
     created r look h =
         let error = archive_error set env look output in
         let stages = told_with look h.0 h.1 in
@@ -117,7 +117,7 @@ module _ (set : BuildConfig) (env : EnvSeen) (listens : Bool) (patience : Option
 
     -- the same of a call that began with no answers
     module _ (steady : Bool) (world : Question → Outcome) (fresh known : List Answer) (none : fresh ≡ []) (on : AsksOn steady world (probe_folder set env) (RunAsks set env) part fresh known) where
-      pub created_by : {T : Type 0} (r : Result T ErrorSeen) → Holds known (λ look. (is_plain : Bool) × (firsts : Firsts) × (Repeats set firsts × Ends (terms shows c.total c.patience) (archive_error set env look output) (asked_then (archive_refusal set env look) (told_library set env reads is_plain look firsts output)) part r c.before c.after)) → Holds (answers part) (λ look. Creates seen listens patience turns output r look part)
+      pub created_by : {T : Type 0} (r : Result T ErrorSeen) → Holds known (λ look. (writing : Writing) × (firsts : Firsts) × (Repeats set firsts × Ends (terms shows c.total c.patience) (archive_error set env look output) (asked_then (archive_refusal set env look) (told_library set env reads writing look firsts output)) part r c.before c.after)) → Holds (answers part) (λ look. Creates seen listens patience turns output r look part)
       created_by r h = record { under = λ look agree. created r look (h.under look (subst (Agrees look) (sym (asked_all set env part steady world fresh known none on).1) agree)) }
 
 -- ---- what follows from how it ends

@@ -15,7 +15,7 @@ use Rattle.cc_host.specs.declared.event.Role.{Role}
 use Rattle.cc_host.specs.declared.event.Role.TheVariants.{Compile, Archive, Index}
 use Rattle.cc_host.proofs.Parts.{since_append}
 use Rattle.cc_plan.specs.Given.{is_disabled}
-use Rattle.cc_plan.specs.Plan.{compiles_of, archives_of, indexes_of, lists_of_run, archive_refusal, objects_of, folder_steps, removal_steps, link_lines}
+use Rattle.cc_plan.specs.Plan.{compiles_of, archives_of, indexes_of, lists_of_run, archive_refusal, objects_of, folder_steps, removal_steps, link_lines, run_has_one_form, run_asks_folder, copy_steps}
 use Rattle.cc_plan.specs.Refusal.{early_refusal, late_refusal, link_refusal}
 use Rattle.cc_plan.specs.Quiet.{quiet_warnings}
 use Rattle.cc_plan.specs.declared.settings.BuildConfig.{BuildConfig}
@@ -28,7 +28,7 @@ use Rattle.cc_run.specs.declared.planned.Planned.{Planned}
 use Rattle.cc_build.specs.Attempts.{attempt_of, attempts, to_attempt}
 use Rattle.cc_build.specs.Error.{ErrorSeen}
 use Rattle.cc_build.specs.Promises.{is_compiling, RunBeside}
-use Rattle.cc_build.specs.Stage.{Stage, commands_in, calls, planned, beside, compiles_planned, opening_steps, writings, has_libtool, folder_stages, compile_stages, removal_stages, library_commands, list_stages, archive_stages, link_stages, library_stages, ending_stages, later_stages, late_stages, planned_stages, run_reads, ending_steps}
+use Rattle.cc_build.specs.Stage.{Stage, commands_in, calls, planned, beside, compiles_planned, opening_steps, writings, asking_steps, folder_stages, compile_stages, removal_stages, library_commands, ready_stages, archive_stages, copy_stages, writing_stages, link_stages, library_stages, ending_stages, later_stages, late_stages, planned_stages, run_reads, ending_steps}
 use Rattle.cc_build.specs.Way.{Way}
 use Rattle.cc_build.proofs.SourceLaws.{planned_count}
 use Rattle.cc_build.specs.Stage.Stage.{Calls, Asks, Tries, RunsOne, RunsAll}
@@ -238,20 +238,24 @@ module _ (set : BuildConfig) (env : EnvSeen) (way : Way) (look : Look) (output :
   unfolding removal_stages
   none_removal = none_calls (removal_steps set env output)
 
-  none_list : CompileNone (list_stages set env look output)
-  unfolding list_stages
-  none_list = none_calls (writings (lists_of_run set env look output))
+  none_ready : CompileNone (ready_stages set env look way.writing.here output)
+  unfolding ready_stages
+  none_ready = none_calls (writings (lists_of_run set env look output) ++ asking_steps (run_asks_folder set env look output) way.writing.here)
+
+  none_copy : CompileNone (copy_stages set env output)
+  unfolding copy_stages
+  none_copy = none_calls (copy_steps set env output)
 
   none_links : CompileNone (link_stages set env (is_some way.found.here) look way.firsts output)
   unfolding link_stages
   none_links = none_calls (ending_steps (is_some way.found.here) (quiet_warnings set env look) way.firsts (link_lines set env look output) (rerun_names (run_reads set) set env look))
 
-  none_archives : CompileNone (archive_stages set env look way.is_plain output)
+  none_archives : CompileNone (archive_stages set env look way.writing output)
   unfolding archive_stages
   none_archives =
-      let archives = archives_of set env look way.is_plain output in
-      let indexes = indexes_of set env look way.is_plain output in
-      ap (λ l. list_any is_compiling (map to_attempt l)) (commands_written (has_libtool set env look) way.is_plain (library_commands set env look way.is_plain output))
+      let archives = archives_of set env look way.writing.is_plain way.writing.here output in
+      let indexes = indexes_of set env look way.writing.is_plain output in
+      ap (λ l. list_any is_compiling (map to_attempt l)) (commands_written (run_has_one_form set env look) way.writing.is_plain (library_commands set env look way.writing output))
       ∙ ap (list_any is_compiling) (map-append to_attempt (planned Archive archives) (planned Index indexes))
       ∙ list_any-append is_compiling (map to_attempt (planned Archive archives)) (map to_attempt (planned Index indexes))
       ∙ or_none (list_any is_compiling (map to_attempt (planned Archive archives))) (list_any is_compiling (map to_attempt (planned Index indexes))) (none_archive archives) (none_index indexes)
@@ -259,16 +263,17 @@ module _ (set : BuildConfig) (env : EnvSeen) (way : Way) (look : Look) (output :
   none_ending : CompileNone (ending_stages set env way look output)
   none_ending = none_unless (is_some (link_refusal set env look)) (link_stages set env (is_some way.found.here) look way.firsts output) none_links
 
-  none_library : CompileNone (library_stages set env way.is_plain look output ++ ending_stages set env way look output)
+  none_library : CompileNone (library_stages set env way.writing look output ++ ending_stages set env way look output)
   none_library =
-      none_then (library_stages set env way.is_plain look output) (ending_stages set env way look output)
-      (none_then (removal_stages set env output) (list_stages set env look output ++ archive_stages set env look way.is_plain output) none_removal
-      (none_then (list_stages set env look output) (archive_stages set env look way.is_plain output) none_list none_archives))
+      none_then (library_stages set env way.writing look output) (ending_stages set env way look output)
+      (none_then (removal_stages set env output) (writing_stages set env way.writing look output) none_removal
+      (none_then (ready_stages set env look way.writing.here output) (archive_stages set env look way.writing output ++ copy_stages set env output) none_ready
+      (none_then (archive_stages set env look way.writing output) (copy_stages set env output) none_archives none_copy)))
       none_ending
 
   none_behind : CompileNone (later_stages set env way look output)
   unfolding later_stages
-  none_behind = none_unless (is_some (archive_refusal set env look)) (library_stages set env way.is_plain look output ++ ending_stages set env way look output) none_library
+  none_behind = none_unless (is_some (archive_refusal set env look)) (library_stages set env way.writing look output ++ ending_stages set env way look output) none_library
 
 quiet_folder : (set : BuildConfig) (env : EnvSeen) → AreQuiet (folder_stages set env)
 unfolding folder_stages

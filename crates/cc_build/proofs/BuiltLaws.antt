@@ -5,7 +5,7 @@ use Rattle.std.proofs.lemmas.List.{length-map}
 use Rattle.std.proofs.lemmas.Grind.{flat_map-append}
 use Rattle.cc_env.specs.Env.{EnvSeen}
 use Rattle.cc_host.specs.Command.{CommandSeen}
-use Rattle.cc_host.specs.Part.{step_of}
+use Rattle.cc_host.specs.Part.{step_of, Step}
 use Rattle.cc_host.specs.Part.Step.{Runs, Removes}
 use Rattle.cc_host.specs.Question.{Look}
 use Rattle.cc_host.specs.Status.{is_success}
@@ -16,7 +16,7 @@ use Rattle.cc_host.specs.declared.event.Role.{Role}
 use Rattle.cc_host.specs.declared.event.Role.TheVariants.{Compile}
 use Rattle.cc_host.specs.declared.event.Scope.TheVariants.{Build, Probe as ForProbes}
 use Rattle.cc_plan.specs.Given.{is_disabled}
-use Rattle.cc_plan.specs.Plan.{library_of, compiles_of, archive_refusal, lists_of_run, folder_steps, removal_steps}
+use Rattle.cc_plan.specs.Plan.{library_of, compiles_of, archive_refusal, lists_of_run, folder_steps, removal_steps, run_has_one_form, run_asks_folder, copy_steps}
 use Rattle.cc_plan.specs.Refusal.{early_refusal, late_refusal, link_refusal, first_of}
 use Rattle.cc_plan.specs.declared.settings.BuildConfig.{BuildConfig}
 use Rattle.cc_run.specs.Part.{started}
@@ -26,15 +26,15 @@ use Rattle.cc_run.specs.declared.planned.Planned.{Planned}
 use Rattle.cc_build.specs.Built.{Accepted, Built, ended_well}
 use Rattle.cc_build.specs.Error.{ErrorSeen}
 use Rattle.cc_build.specs.Refusal.{early_error, late_error, archive_error, link_error, refusal_error, plan_error, disabled_error}
-use Rattle.cc_build.specs.Stage.{Stage, commands_in, children_in, calls, planned, beside, compiles_planned, opening_steps, tried, written, written_children, writings, has_libtool, folder_stages, compile_stages, removal_stages, library_commands, list_stages, archive_stages, link_stages, later_stages, late_stages, planned_stages}
-use Rattle.cc_build.specs.Way.{Way, Found, Hears, Repeats}
+use Rattle.cc_build.specs.Stage.{Stage, commands_in, children_in, calls, planned, beside, compiles_planned, opening_steps, tried, written, written_children, writings, folder_stages, compile_stages, removal_stages, library_commands, archive_stages, link_stages, later_stages, late_stages, planned_stages, asking_steps, ready_stages, copy_stages, writing_stages}
+use Rattle.cc_build.specs.Way.{Way, Found, Hears, Repeats, Writing}
 use Rattle.cc_build.proofs.SourceLaws.{asked_planned, planned_count}
 use Rattle.cc_build.specs.Stage.Stage.{Asks}
 use Rattle.cc_build.specs.Went.{Terms, Means, Went, Ends}
 use Rattle.cc_build.specs.Attempts.{attempts, to_attempt, tried_of, all_tried, first_tried, form_tried}
 use Rattle.cc_build.proofs.RunLaws.{commands_then, commands_calls, commands_written, children_then, children_calls, children_beside, children_written, went_started, went_run, went_split}
 use Rattle.cc_build.proofs.SettledLaws.{went_attempts, in_turn_tried}
-use Rattle.cc_build.proofs.StopLaws.{plain_then, plain_list, plain_archive}
+use Rattle.cc_build.proofs.StopLaws.{plain_then, plain_archive, plain_ready, plain_copy, ArePlain}
 use Rattle.cc_build.proofs.Trying.{done_of, done_tried}
 
 first_none : {X : Type 0} (a b : Option X) → first_of a b ≡ None → (a ≡ None) × (b ≡ None)
@@ -72,9 +72,9 @@ module _ (set : BuildConfig) (env : EnvSeen) (way : Way) (look : Look) (output :
   abbrev last_part : List Stage
   last_part = Asks ∷ link_stages set env (is_some way.found.here) look way.firsts output
 
-  -- the list, and the commands behind it
+  -- the commands, what comes before them, and the copy
   abbrev middle_part : List Stage
-  middle_part = list_stages set env look output ++ archive_stages set env look way.is_plain output
+  middle_part = writing_stages set env way.writing look output
 
   -- what is planned where nothing is refused
   accepted_stages : Accepted set env look output → planned_stages set env way look output ≡ first_part ++ (removal_stages set env output ++ (middle_part ++ last_part))
@@ -135,8 +135,8 @@ tried_from t refused (p ∷ ps) part x y w =
     ∙ flat_map-append tried_of w.0 w.1
     ∙ ap₂ (λ u v. u ++ v) (done_tried p refused w.0 (done_of t p w.0 refused w.3.1.0)) (in_turn_tried t ps w.1 w.2 y w.3.2)
 
--- in the form of libtool none was tried
-written_from : (t : Terms) (libtool refused : Bool) (cmds : List Planned) (part : List Event) (x y : Means) → Went t (written libtool refused cmds) part x y → all_tried part ≡ form_tried libtool refused cmds
+-- of an archiver with one form none was tried
+written_from : (t : Terms) (one_form refused : Bool) (cmds : List Planned) (part : List Event) (x y : Means) → Went t (written one_form refused cmds) part x y → all_tried part ≡ form_tried one_form refused cmds
 written_from t true refused cmds part x y w = in_turn_tried t cmds part x y w
 written_from t false refused cmds part x y w = tried_from t refused cmds part x y w
 
@@ -148,51 +148,89 @@ untried (Missing role cmd ∷ part) none = absurd (cc)
 untried (Ran role cmd pipes status out err ∷ part) none = absurd (cc)
 untried (event ∷ part) none = untried part none
 
-module _ (set : BuildConfig) (env : EnvSeen) (look : Look) (output : List ℕ) where
-  list_commands : commands_in (list_stages set env look output) ≡ []
-  unfolding list_stages
-  list_commands = commands_calls (writings (lists_of_run set env look output))
+module _ (set : BuildConfig) (env : EnvSeen) (look : Look) (here output : List ℕ) where
+  abbrev readying : List Step
+  readying = writings (lists_of_run set env look output) ++ asking_steps (run_asks_folder set env look output) here
 
-  list_children : children_in (list_stages set env look output) ≡ []
-  unfolding list_stages
-  list_children = children_calls (writings (lists_of_run set env look output))
+  ready_commands : commands_in (ready_stages set env look here output) ≡ []
+  unfolding ready_stages
+  ready_commands = commands_calls readying
 
-module _ (t : Terms) (set : BuildConfig) (env : EnvSeen) (look : Look) (is_plain : Bool) (output : List ℕ) (part : List Event) (x y : Means) (w : Went t (list_stages set env look output ++ archive_stages set env look is_plain output) part x y) where
+  ready_children : children_in (ready_stages set env look here output) ≡ []
+  unfolding ready_stages
+  ready_children = children_calls readying
+
+module _ (set : BuildConfig) (env : EnvSeen) (output : List ℕ) where
+  copy_commands : commands_in (copy_stages set env output) ≡ []
+  unfolding copy_stages
+  copy_commands = commands_calls (copy_steps set env output)
+
+  copy_children : children_in (copy_stages set env output) ≡ []
+  unfolding copy_stages
+  copy_children = children_calls (copy_steps set env output)
+
+module _ (t : Terms) (set : BuildConfig) (env : EnvSeen) (look : Look) (writing : Writing) (output : List ℕ) (part : List Event) (x y : Means) (w : Went t (writing_stages set env writing look output) part x y) where
   abbrev cmds : List Planned
-  cmds = library_commands set env look is_plain output
+  cmds = library_commands set env look writing output
 
-  abbrev libtool : Bool
-  libtool = has_libtool set env look
+  abbrev one_form : Bool
+  one_form = run_has_one_form set env look
 
-  abbrev list : List Stage
-  list = list_stages set env look output
+  abbrev ready : List Stage
+  ready = ready_stages set env look writing.here output
 
   abbrev archive : List Stage
-  archive = archive_stages set env look is_plain output
+  archive = archive_stages set env look writing output
 
-  all_commands : commands_in (list ++ archive) ≡ cmds
-  unfolding archive_stages
-  all_commands = commands_then list archive ∙ ap₂ (λ u v. u ++ v) (list_commands set env look output) (commands_written libtool is_plain cmds)
+  abbrev copy : List Stage
+  copy = copy_stages set env output
 
-  all_children : children_in (list ++ archive) ≡ written_children libtool cmds
+  archive_commands : commands_in archive ≡ cmds
   unfolding archive_stages
-  all_children = children_then list archive ∙ ap₂ (λ u v. u ++ v) (list_children set env look output) (children_written libtool is_plain cmds)
+  archive_commands = commands_written one_form writing.is_plain cmds
+
+  archive_children : children_in archive ≡ written_children one_form cmds
+  unfolding archive_stages
+  archive_children = children_written one_form writing.is_plain cmds
+
+  all_commands : commands_in (ready ++ (archive ++ copy)) ≡ cmds
+  all_commands =
+      commands_then ready (archive ++ copy) ∙ ap₂ (λ u v. u ++ v) (ready_commands set env look writing.here output) (commands_then archive copy ∙ ap₂ (λ u v. u ++ v) archive_commands (copy_commands set env output))
+      ∙ append-nil cmds
+
+  all_children : children_in (ready ++ (archive ++ copy)) ≡ written_children one_form cmds
+  all_children =
+      children_then ready (archive ++ copy) ∙ ap₂ (λ u v. u ++ v) (ready_children set env look writing.here output) (children_then archive copy ∙ ap₂ (λ u v. u ++ v) archive_children (copy_children set env output))
+      ∙ append-nil (written_children one_form cmds)
+
+  all_plain : ArePlain (ready ++ (archive ++ copy))
+  all_plain =
+      plain_then ready (archive ++ copy) (plain_ready set env look writing.here output)
+      (plain_then archive copy (plain_archive set env look writing output) (plain_copy set env output))
 
   archive_writes : attempts part ≡ map to_attempt cmds
-  archive_writes = went_attempts t (list ++ archive) part x y (plain_then list archive (plain_list set env look output) (plain_archive set env look is_plain output)) w ∙ ap (map to_attempt) all_commands
+  archive_writes = went_attempts t (ready ++ (archive ++ copy)) part x y all_plain w ∙ ap (map to_attempt) all_commands
 
-  archive_first : all_tried part ≡ form_tried libtool is_plain cmds
+  archive_from : (run : List Event) (u v : Means) → Went t archive run u v → all_tried run ≡ form_tried one_form writing.is_plain cmds
   unfolding archive_stages
+  archive_from run u v went = written_from t one_form writing.is_plain cmds run u v went
+
+  archive_first : all_tried part ≡ form_tried one_form writing.is_plain cmds
   archive_first =
-      let k = went_split t list archive part x y w in
-      let none : attempts k.0 ≡ [] = went_attempts t list k.0 x k.2 (plain_list set env look output) k.3.1 ∙ ap (map to_attempt) (list_commands set env look output) in
-      ap all_tried k.3.0 ∙ flat_map-append tried_of k.0 k.1 ∙ ap₂ (λ u v. u ++ v) (untried k.0 none) (written_from t libtool is_plain cmds k.1 k.2 y k.3.2)
+      let k = went_split t ready (archive ++ copy) part x y w in
+      let c = went_split t archive copy k.1 k.2 y k.3.2 in
+      let none : attempts k.0 ≡ [] = went_attempts t ready k.0 x k.2 (plain_ready set env look writing.here output) k.3.1 ∙ ap (map to_attempt) (ready_commands set env look writing.here output) in
+      let last : attempts c.1 ≡ [] = went_attempts t copy c.1 c.2 y (plain_copy set env output) c.3.2 ∙ ap (map to_attempt) (copy_commands set env output) in
+      ap all_tried k.3.0
+      ∙ flat_map-append tried_of k.0 k.1
+      ∙ ap₂ (λ u v. u ++ v) (untried k.0 none) (ap all_tried c.3.0 ∙ flat_map-append tried_of c.0 c.1 ∙ ap₂ (λ u v. u ++ v) (archive_from c.0 k.2 c.2 c.3.1) (untried c.1 last))
+      ∙ append-nil (form_tried one_form writing.is_plain cmds)
 
-  archive_others : started part ≡ asked t.shows (written_children libtool cmds)
-  archive_others = started_from t (list ++ archive) part x y (written_children libtool cmds) w all_children
+  archive_others : started part ≡ asked t.shows (written_children one_form cmds)
+  archive_others = started_from t (ready ++ (archive ++ copy)) part x y (written_children one_form cmds) w all_children
 
-  archive_ended : run_from nothing part ≡ ended_well (length (written_children libtool cmds))
-  archive_ended = ended_from t (list ++ archive) part x y (written_children libtool cmds) (length (written_children libtool cmds)) w all_children refl
+  archive_ended : run_from nothing part ≡ ended_well (length (written_children one_form cmds))
+  archive_ended = ended_from t (ready ++ (archive ++ copy)) part x y (written_children one_form cmds) (length (written_children one_form cmds)) w all_children refl
 
 -- ---- the removal
 
@@ -250,10 +288,10 @@ built t set env way look output part x y repeats hears h w =
       compiles = started_from t sources c1.0 x c1.2 compiles c1.3.1 (source_children set env way look output) ∙ asked_planned t.shows set env way.found.here look;
       ended = ended_from t sources c1.0 x c1.2 compiles (length (compiles_of set env look)) c1.3.1 (source_children set env way look output) (planned_count set env way.found.here look);
       archived = (c2.2, c3.2, c3.3.1);
-      writes = archive_writes t set env look way.is_plain output c3.0 c2.2 c3.2 c3.3.1;
-      first = archive_first t set env look way.is_plain output c3.0 c2.2 c3.2 c3.3.1;
-      others = archive_others t set env look way.is_plain output c3.0 c2.2 c3.2 c3.3.1;
-      written = archive_ended t set env look way.is_plain output c3.0 c2.2 c3.2 c3.3.1;
+      writes = archive_writes t set env look way.writing output c3.0 c2.2 c3.2 c3.3.1;
+      first = archive_first t set env look way.writing output c3.0 c2.2 c3.2 c3.3.1;
+      others = archive_others t set env look way.writing output c3.0 c2.2 c3.2 c3.3.1;
+      written = archive_ended t set env look way.writing output c3.0 c2.2 c3.2 c3.3.1;
       linked = (c3.2, y, c3.3.2);
     }
 

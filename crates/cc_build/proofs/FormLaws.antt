@@ -10,14 +10,17 @@ use Rattle.cc_host.specs.declared.event.Event.{Event}
 use Rattle.cc_host.specs.declared.event.Role.TheVariants.{Archive, Index}
 use Rattle.cc_plan.specs.Given.{is_disabled}
 use Rattle.cc_plan.specs.Quiet.{quiet_warnings}
-use Rattle.cc_plan.specs.Plan.{archives_of, indexes_of, lists_of_run, archive_refusal, link_lines, removal_steps, prints}
+use Rattle.cc_host.specs.Part.{Step}
+use Rattle.cc_plan.specs.ArchiveTool.{is_msvc}
+use Rattle.cc_plan.specs.Target.{target_info}
+use Rattle.cc_plan.specs.Plan.{library_of, run_has_one_form, run_asks_folder, archives_of, indexes_of, lists_of_run, copy_of, copy_by, copy_steps, archive_refusal, link_lines, removal_steps, prints}
 use Rattle.cc_plan.specs.Refusal.{early_refusal, late_refusal, link_refusal}
 use Rattle.cc_plan.specs.declared.settings.BuildConfig.{BuildConfig}
 use Rattle.cc_run.specs.Part.{missing}
 use Rattle.cc_run.specs.declared.planned.Planned.{Planned}
 use Rattle.cc_build.specs.Error.{ErrorSeen}
 use Rattle.cc_build.specs.Failed.{is_form}
-use Rattle.cc_build.specs.Stage.{Stage, calls, planned, tried, written, writings, has_libtool, folder_stages, compile_stages, removal_stages, list_stages, archive_stages, link_stages, library_stages, ending_stages, later_stages, asked_stages, late_stages, planned_stages, run_reads, ending_steps}
+use Rattle.cc_build.specs.Stage.{Stage, calls, planned, tried, written, writings, asking_steps, folder_stages, compile_stages, removal_stages, ready_stages, archive_stages, copy_stages, link_stages, writing_stages, library_stages, ending_stages, later_stages, asked_stages, late_stages, planned_stages, run_reads, ending_steps}
 use Rattle.cc_build.specs.Stage.Stage.{Calls, Asks, Tries, RunsOne, RunsAll}
 use Rattle.cc_build.specs.Way.{Way}
 use Rattle.cc_build.specs.Went.{Terms, Means, Went, Stops, Halts, Halted}
@@ -94,14 +97,22 @@ tried_first refused [] [] more first = first
 tried_first refused [] (index ∷ indexes) more first = inl refl
 tried_first refused (archive ∷ archives) indexes more first = inl refl
 
--- the same of another archiver than libtool
-written_first : (libtool refused : Bool) (archives indexes : List CommandSeen) (more : List Stage) → libtool ≡ false → FormFirst more → FormFirst (written libtool refused (planned Archive archives ++ planned Index indexes) ++ more)
+-- the same of an archiver with two forms
+written_first : (one_form refused : Bool) (archives indexes : List CommandSeen) (more : List Stage) → one_form ≡ false → FormFirst more → FormFirst (written one_form refused (planned Archive archives ++ planned Index indexes) ++ more)
 written_first true refused archives indexes more other first = absurd (cc)
 written_first false refused archives indexes more other first = tried_first refused archives indexes more first
 
-no_writing_archives : (files : List (List ℕ × List ℕ)) → NoArchive (calls (writings files))
-no_writing_archives [] = refl
-no_writing_archives (file ∷ files) = no_writing_archives files
+no_writing_archives : (files : List (List ℕ × List ℕ)) (more : List Step) → NoArchive (calls more) → NoArchive (calls (writings files ++ more))
+no_writing_archives [] more none = none
+no_writing_archives (file ∷ files) more none = no_writing_archives files more none
+
+no_asking_archives : (asks : Bool) (here : List ℕ) → NoArchive (calls (asking_steps asks here))
+no_asking_archives true here = refl
+no_asking_archives false here = refl
+
+no_copying_archives : (copies : Bool) (from to : List ℕ) → NoArchive (calls (copy_by copies from to))
+no_copying_archives true from to = refl
+no_copying_archives false from to = refl
 
 pub none_first : (stages : List Stage) → NoArchive stages → FormFirst stages
 none_first [] none = tt
@@ -112,9 +123,15 @@ none_first (s ∷ ss) none = let k = parts (may_archive s) (list_any may_archive
     parts false q h = (refl, h)
 
 module _ (set : BuildConfig) (env : EnvSeen) (way : Way) (look : Look) (output : List ℕ) where
-  no_list_archives : NoArchive (list_stages set env look output)
-  unfolding list_stages
-  no_list_archives = no_writing_archives (lists_of_run set env look output)
+  no_ready_archives : NoArchive (ready_stages set env look way.writing.here output)
+  unfolding ready_stages
+  no_ready_archives =
+      let asks = run_asks_folder set env look output in
+      no_writing_archives (lists_of_run set env look output) (asking_steps asks way.writing.here) (no_asking_archives asks way.writing.here)
+
+  no_copy_archives : NoArchive (copy_stages set env output)
+  unfolding copy_stages copy_steps
+  no_copy_archives = no_copying_archives (is_msvc (target_info set env)) (library_of set env output) (copy_of set env output)
 
   no_removal_archives : NoArchive (removal_stages set env output)
   unfolding removal_stages removal_steps
@@ -132,26 +149,32 @@ module _ (set : BuildConfig) (env : EnvSeen) (way : Way) (look : Look) (output :
 
   -- the commands of a library, and stages behind them
   module _ (more : List Stage) (first : FormFirst more) where
-    archive_first : has_libtool set env look ≡ false → FormFirst (archive_stages set env look way.is_plain output ++ more)
+    abbrev copied : List Stage
+    copied = copy_stages set env output ++ more
+
+    archive_first : run_has_one_form set env look ≡ false → FormFirst (archive_stages set env look way.writing output ++ copied)
     unfolding archive_stages
-    archive_first other = written_first (has_libtool set env look) way.is_plain (archives_of set env look way.is_plain output) (indexes_of set env look way.is_plain output) more other first
+    archive_first other =
+        written_first (run_has_one_form set env look) way.writing.is_plain (archives_of set env look way.writing.is_plain way.writing.here output) (indexes_of set env look way.writing.is_plain output) copied other
+        (formed_then (copy_stages set env output) more no_copy_archives first)
 
-    -- the list and the commands
-    abbrev listed_archive : List Stage
-    listed_archive = list_stages set env look output ++ archive_stages set env look way.is_plain output
+    -- the commands and the copy
+    abbrev copied_archive : List Stage
+    copied_archive = archive_stages set env look way.writing output ++ copy_stages set env output
 
-    pub library_first : has_libtool set env look ≡ false → FormFirst (library_stages set env way.is_plain look output ++ more)
+    pub library_first : run_has_one_form set env look ≡ false → FormFirst (library_stages set env way.writing look output ++ more)
     library_first other =
-        subst FormFirst (sym (append_assoc (removal_stages set env output) listed_archive more))
-        (formed_then (removal_stages set env output) (listed_archive ++ more) no_removal_archives
-        (subst FormFirst (sym (append_assoc (list_stages set env look output) (archive_stages set env look way.is_plain output) more))
-        (formed_then (list_stages set env look output) (archive_stages set env look way.is_plain output ++ more) no_list_archives (archive_first other))))
+        subst FormFirst (sym (append_assoc (removal_stages set env output) (writing_stages set env way.writing look output) more))
+        (formed_then (removal_stages set env output) (writing_stages set env way.writing look output ++ more) no_removal_archives
+        (subst FormFirst (sym (append_assoc (ready_stages set env look way.writing.here output) copied_archive more))
+        (formed_then (ready_stages set env look way.writing.here output) (copied_archive ++ more) no_ready_archives
+        (subst FormFirst (sym (append_assoc (archive_stages set env look way.writing output) (copy_stages set env output) more)) (archive_first other)))))
 
-  later_first : has_libtool set env look ≡ false → FormFirst (later_stages set env way look output)
+  later_first : run_has_one_form set env look ≡ false → FormFirst (later_stages set env way look output)
   unfolding later_stages
-  later_first other = inr (refl, formed_unless (is_some (archive_refusal set env look)) (library_stages set env way.is_plain look output ++ ending_stages set env way look output) (library_first (ending_stages set env way look output) ending_first other))
+  later_first other = inr (refl, formed_unless (is_some (archive_refusal set env look)) (library_stages set env way.writing look output ++ ending_stages set env way look output) (library_first (ending_stages set env way look output) ending_first other))
 
-  late_first : has_libtool set env look ≡ false → FormFirst (late_stages set env way look output)
+  late_first : run_has_one_form set env look ≡ false → FormFirst (late_stages set env way look output)
   unfolding late_stages
   late_first other =
       formed_unless (is_disabled env) (asked_stages set env way look output)
@@ -161,8 +184,8 @@ module _ (set : BuildConfig) (env : EnvSeen) (way : Way) (look : Look) (output :
             (formed_then (compile_stages set env way.found look) (later_stages set env way look output) (no_compile_archives set env way.found look) (later_first other)),
       ))
 
-  -- the first command of the archive is tried, where the archiver is another than libtool
-  pub planned_first : has_libtool set env look ≡ false → FormFirst (planned_stages set env way look output)
+  -- the first command of the archive is tried, where the archiver has two forms
+  pub planned_first : run_has_one_form set env look ≡ false → FormFirst (planned_stages set env way look output)
   unfolding planned_stages
   planned_first other =
       formed_unless (is_some (early_refusal set env output)) (folder_stages set env ++ late_stages set env way look output)

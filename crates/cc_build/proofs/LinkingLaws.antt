@@ -18,6 +18,7 @@ use Rattle.cc_build.specs.Linking.{link_reads, linked_name, name_or_none, Direct
 use Rattle.cc_build.specs.Refusal.{plan_error}
 use Rattle.cc_build.specs.Stage.{Stage, asked_then, links_of, printed_stages, ending_steps}
 use Rattle.cc_build.specs.Stage.Stage.{Asks}
+use Rattle.cc_plan.specs.Target.{target_info}
 use Rattle.cc_build.specs.Way.{Firsts, Repeats, all_firsts}
 use Rattle.cc_build.specs.Went.{Terms, Means, Ends}
 use Rattle.cc_build.proofs.AloneLaws.{AreStill, still_calls, still_unless, ends_still}
@@ -30,8 +31,8 @@ by_path t f None late run part r x z is o = o
 by_path t f (Some error) late run part r x z is o = absurd (cc)
 
 -- a path that is a library's isn't refused
-pub found_so : (library : List ℕ) (found : List ℕ × List ℕ) → linked_library library ≡ Some found → path_refusal library ≡ None
-found_so library found is = rw is refl
+pub found_so : (set : BuildConfig) (env : EnvSeen) (library : List ℕ) (found : List ℕ × List ℕ) → linked_library (target_info set env) library ≡ Some found → path_refusal set env library ≡ None
+found_so set env library found is = rw is refl
 
 module _ (set : BuildConfig) (env : EnvSeen) (listens : Bool) (look : Look) (library : List ℕ) (part : List Event) where
   abbrev seen : BuildSeen
@@ -44,7 +45,7 @@ module _ (set : BuildConfig) (env : EnvSeen) (listens : Bool) (look : Look) (lib
   names = rerun_names link_reads set env look
 
   abbrev lines : List LinkLine
-  lines = links_of set env (linked_name library) library look
+  lines = links_of set env (linked_name set env library) library look
 
   abbrev texts : List (List ℕ)
   texts = quiet_warnings set env look
@@ -56,21 +57,21 @@ module _ (set : BuildConfig) (env : EnvSeen) (listens : Bool) (look : Look) (lib
   still_lines firsts = still_calls (ending_steps listens texts firsts lines names)
 
   -- nothing was asked: the path is no library's, or memory was wanted
-  pub path_refused : (e : ErrorSeen) (error : PlanError) → part ≡ [] → (e ≡ no_memory) ⊎ (e ≡ plan_error set env library error) → (error ≡ WantsMemory) ⊎ (path_refusal library ≡ Some error) → DirectivesEnd {T = Unit {0}} seen listens library (Err e) look part
+  pub path_refused : (e : ErrorSeen) (error : PlanError) → part ≡ [] → (e ≡ no_memory) ⊎ (e ≡ plan_error set env library error) → (error ≡ WantsMemory) ⊎ (path_refusal set env library ≡ Some error) → DirectivesEnd {T = Unit {0}} seen listens library (Err e) look part
   path_refused e error none made cause = (
     all_firsts,
     (
       (λ _. refl),
-      λ t x. never_begun t (plan_error set env library) late_in [] (run_with all_firsts) (path_refusal library) false part e x none (plan_cause set env library error e (path_refusal library) made cause),
+      λ t x. never_begun t (plan_error set env library) late_in [] (run_with all_firsts) (path_refusal set env library) false part e x none (plan_cause set env library error e (path_refusal set env library) made cause),
     ),
   )
 
   -- the lines were planned and printed so
-  pub lines_ended : {T : Type 0} (t : Terms) (y z : Means) (found : List ℕ × List ℕ) (reads : Reads) (heard : Bool) (name path : List ℕ) (r : Result T ErrorSeen) → reads ≡ link_reads → heard ≡ listens → linked_library library ≡ Some found → name ≡ found.0 → path ≡ library
+  pub lines_ended : {T : Type 0} (t : Terms) (y z : Means) (found : List ℕ × List ℕ) (reads : Reads) (heard : Bool) (name path : List ℕ) (r : Result T ErrorSeen) → reads ≡ link_reads → heard ≡ listens → linked_library (target_info set env) library ≡ Some found → name ≡ found.0 → path ≡ library
       → (firsts : Firsts) × (Repeats set firsts × Ends t late_in (asked_then (link_refusal set env look) (printed_stages heard texts firsts (links_of set env name path look) (rerun_names reads set env look))) part r y z)
       → DirectivesEnd seen listens library r look part
   lines_ended t y z found reads heard name path r those hears is n p h =
-      let named : name ≡ linked_name library = n ∙ ap name_or_none (sym is) in
+      let named : name ≡ linked_name set env library = n ∙ ap name_or_none (sym is) in
       let stages : List ℕ → List ℕ → List Stage = λ m l. asked_then (link_refusal set env look) (printed_stages listens texts h.0 (links_of set env m l look) names) in
       let ends : Ends t late_in (Asks ∷ run_with h.0) part r y z =
       subst (λ (m : List ℕ). Ends t late_in (stages m library) part r y z) named
@@ -81,6 +82,6 @@ module _ (set : BuildConfig) (env : EnvSeen) (listens : Bool) (look : Look) (lib
         h.0,
         (
           h.1.0,
-          λ u v. by_path u (plan_error set env library) (path_refusal library) late_in (run_with h.0) part r v v (found_so library found is) (ends_still t u v late_in (Asks ∷ run_with h.0) part r y z still ends),
+          λ u v. by_path u (plan_error set env library) (path_refusal set env library) late_in (run_with h.0) part r v v (found_so set env library found is) (ends_still t u v late_in (Asks ∷ run_with h.0) part r y z still ends),
         ),
       )

@@ -21,7 +21,7 @@ use Rattle.cc_build.specs.Refusal.{plan_error, disabled_error, archive_error, li
 use Rattle.cc_build.specs.Shows.{shows_of}
 use Rattle.cc_build.specs.Stage.{calls, asked_then, compile_stages, link_stages, asked_stages}
 use Rattle.cc_build.specs.Stage.Stage.{Asks}
-use Rattle.cc_build.specs.Way.{Way, Hears, Repeats, all_firsts}
+use Rattle.cc_build.specs.Way.{Way, Hears, Repeats, all_firsts, writing_of}
 use Rattle.cc_build.proofs.SourceLaws.{unfound, unfound_hears}
 use Rattle.cc_build.specs.Went.{Terms, Means, terms, Went, Halted, Ends}
 use Rattle.cc_build.specs.declared.task.Task.{Task}
@@ -36,7 +36,7 @@ module _ (task : Task) (look : Look) where
   -- the run ended among the sources
   pub sources_stopped : (total patience : Option ℕ) (part : List Event) (e : ErrorSeen) (x z : Means) → CompileEnds {T = Unit {0}} task (Err e) look part (course total patience x z) → AskedEnds {T = Unit {0}} task (Err e) look part (course total patience x z)
   sources_stopped total patience part e x z h =
-      (way_of h.0 false all_firsts, (h.1.0, (λ _. refl), sources_halted (shown total patience) task look h.0 part e x z h.1.1))
+      (way_of h.0 (writing_of false []) all_firsts, (h.1.0, (λ _. refl), sources_halted (shown total patience) task look h.0 part e x z h.1.1))
 
   module _ (total patience : Option ℕ) (old mid : List Event) (x y : Means) (v : Unit {0}) (first : mid ≡ old ++ since old mid) (sources : CompileEnds task (Ok v) look (since old mid) (course total patience x y)) where
     done : (late_refusal task.set.now task.env.now look ≡ None) × Went (shown total patience) (Asks ∷ compile_stages task.set.now task.env.now sources.0 look) (since old mid) x y
@@ -77,7 +77,7 @@ module _ (set : BuildConfig) (env : EnvSeen) (listens : Bool) (look : Look) (out
   in_run = terms (shows_of set env listens) total patience
 
   abbrev first_way : Way
-  first_way = way_of (unfound listens) false all_firsts
+  first_way = way_of (unfound listens) (writing_of false []) all_firsts
 
   pub run_unchecked : (part : List Event) (e : ErrorSeen) (x : Means) (error : PlanError) → part ≡ [] → (e ≡ no_memory) ⊎ (e ≡ plan_error set env output error) → (error ≡ WantsMemory) ⊎ (early_refusal set env output ≡ Some error) → RunEnds {T = Unit {0}} seen listens output (Err e) look part (course total patience x x)
   run_unchecked part e x error none made cause = (first_way, (unfound_hears listens, (λ _. refl), unchecked in_run set env first_way look output part e x error none made cause))

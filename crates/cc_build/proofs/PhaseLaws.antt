@@ -1,8 +1,11 @@
 -- How a part of a run ends, by what it asked and by the stages that it did.
+use Rattle.cc_host.specs.Part.Step.{Removes}
 use Rattle.cc_build.specs.declared.directives.Lines.{Lines}
 use Rattle.cc_plan.specs.declared.variables.Reads.{Reads}
-use Rattle.std.proofs.Common.{◌≡◌, ◌⊎◌, inl, inr, ℕ, List, [], ◌∷◌, ◌++◌, Bool, true, false, Option, Some, None, is_some, Result, Ok, Err, map, slice_get, if◌then◌else◌, refl, sym, ◌∙◌, ap, ap₂, subst, append_assoc, option_map}
+use Rattle.std.proofs.Common.{◌≡◌, ◌⊎◌, inl, inr, ℕ, List, [], ◌∷◌, ◌++◌, Bool, true, false, Option, Some, None, is_some, Result, Ok, Err, map, slice_get, unwrap_or, if◌then◌else◌, refl, sym, ◌∙◌, ap, ap₂, subst, append_assoc, option_map}
 use Rattle.std.specs.List.{list_all}
+use Rattle.std.proofs.lemmas.List.{map-append}
+use Rattle.std.proofs.lemmas.Bool.{or_parts}
 use Rattle.cc_host.specs.Part.{Step, since}
 use Rattle.cc_host.specs.Question.{Look}
 use Rattle.cc_host.specs.declared.event.Event.{Event}
@@ -11,14 +14,18 @@ use Rattle.std.specs.List.{flat_map}
 use Rattle.cc_host.proofs.Parts.{since_since, since_extends}
 use Rattle.cc_plan.specs.Archive as archive
 use Rattle.cc_plan.specs.Archive.{archiver_of}
+use Rattle.cc_plan.specs.ArchiveTool.{is_msvc}
 use Rattle.cc_plan.specs.Batches.{batches_of}
-use Rattle.cc_plan.specs.Libtool.{is_libtool, list_refusal}
+use Rattle.cc_plan.specs.LibForm.{has_one_form, is_lib, copy_path_of}
+use Rattle.cc_plan.specs.Libtool.{is_libtool, list_refusal, lists_of}
 use Rattle.cc_plan.specs.Link.{link_lines as lines_of}
 use Rattle.cc_plan.specs.Names.{library_name}
 use Rattle.cc_plan.specs.declared.settings.BuildConfig.{BuildConfig}
 use Rattle.cc_env.specs.Env.{EnvSeen}
-use Rattle.cc_plan.specs.Plan.{library_of, objects_of, compiles_of, plan_warnings, archived_of, archive_refusal, archives_of, indexes_of, lists_of_run, link_lines, removal_steps}
+use Rattle.cc_plan.specs.Plan.{library_of, objects_of, compiles_of, plan_warnings, archived_of, archive_refusal, archives_of, indexes_of, lists_of_run, run_has_one_form, run_asks_folder, copy_steps, link_lines, removal_steps, copy_by}
 use Rattle.cc_plan.specs.Quiet.{quiet_warnings}
+use Rattle.cc_plan.specs.Target.{target_info}
+use Rattle.cc_target.specs.Targets.{info_seen, Info}
 use Rattle.cc_plan.specs.Refusal.{first_of, late_refusal, archiver_refusal, link_refusal}
 use Rattle.cc_plan.specs.declared.archive.Archiver.{Archiver}
 use Rattle.cc_plan.specs.declared.error.PlanError.{PlanError}
@@ -32,16 +39,16 @@ use Rattle.cc_run.specs.declared.planned.Shows.{Shows}
 use Rattle.cc_tool.specs.Probing.{is_asked}
 use Rattle.cc_build.specs.Error.{ErrorSeen, no_memory}
 use Rattle.cc_build.specs.Course.{Course, course, CallsEnd}
-use Rattle.cc_build.specs.Phases.{error_in, Begins, BeginStops, WriteEnds, LibraryEnds, LinkEnds, LinkedEnds, cargo_stages}
+use Rattle.cc_build.specs.Phases.{error_in, HereEnds, Begins, BeginStops, WriteEnds, LibraryEnds, LinkEnds, LinkedEnds, cargo_stages}
 use Rattle.cc_build.specs.Questions.{Plans, Archives, IsRefusedBy, AreLines}
 use Rattle.cc_build.specs.Refusal.{plan_error}
-use Rattle.cc_build.specs.Seen.{stages_seen, opening_of, compiles_by, stages_of, commands_for, ready_steps, form_stages, library_seen}
-use Rattle.cc_build.specs.Stage.{Stage, calls, planned, beside, in_turn, tried, behind_first, asked_then, compile_stages, removal_stages, list_stages, archive_stages, link_stages, folder_in, links_of, library_stages, ending_stages, later_stages, asked_stages, run_reads, printed_stages}
-use Rattle.cc_build.specs.Way.{Way, Found, Firsts, all_firsts}
+use Rattle.cc_build.specs.Seen.{stages_seen, opening_of, compiles_by, stages_of, commands_for, copying_steps, ready_steps, form_stages, library_seen}
+use Rattle.cc_build.specs.Stage.{Stage, calls, planned, beside, in_turn, tried, behind_first, asked_then, compile_stages, removal_stages, ready_stages, archive_stages, copy_stages, asking_steps, finding_steps, link_stages, folder_in, links_of, library_stages, ending_stages, later_stages, asked_stages, run_reads, printed_stages, written, writings, library_commands}
+use Rattle.cc_build.specs.Way.{Way, Found, Writing, writing_of, Firsts, all_firsts}
 use Rattle.cc_build.proofs.SourceLaws.{compiles_are}
-use Rattle.cc_build.specs.Stage.Stage.{Asks, Tries}
+use Rattle.cc_build.specs.Stage.Stage.{Calls, Asks, Tries}
 use Rattle.cc_build.specs.Went.{Terms, Means, terms, Went, Halted, Ends}
-use Rattle.cc_build.specs.declared.library.Library.{Library}
+use Rattle.cc_plan.specs.declared.archive.Library.{Library}
 use Rattle.cc_build.specs.declared.stage.Stage.{Stage as Coded}
 use Rattle.cc_build.specs.declared.task.Task.{Task}
 use Rattle.cc_build.proofs.Going.{went_none, went_one, went_from, ends_from, halted_none, halted_more, halted_among, halted_from, phase_ends, ends_join, halted_join}
@@ -83,9 +90,64 @@ line_stages task reads name library lines firsts look these is h =
     ∙ ap (printed_stages listens (quiet_warnings task.set.now task.env.now look) firsts (links_of task.set.now task.env.now name library look)) h.names
 
 -- the stages of a library are those of the settings
-pub library_is : (task : Task) (library : Library) (look : Look) (is_plain : Bool) → Archives task library.archiver.now look → library.env.now ≡ task.env.now → library.path.now ≡ library_of task.set.now task.env.now task.output.now → library.paths.now ≡ archived_of task.set.now task.env.now → library_seen library is_plain ≡ library_stages task.set.now task.env.now is_plain look task.output.now
-unfolding archives_of indexes_of lists_of_run removal_stages removal_steps list_stages archive_stages
-library_is task library look is_plain h env path paths = let is = h.is in rw (is, env, path, paths) refl
+module _ (task : Task) (library : Library) (look : Look) (writing : Writing) (h : Archives task library.archiver.now look) (target : info_seen library.target.now ≡ target_info task.set.now task.env.now) (env : library.env.now ≡ task.env.now) (name : library.name.now ≡ library_name task.output.now) (path : library.path.now ≡ library_of task.set.now task.env.now task.output.now) (paths : library.paths.now ≡ archived_of task.set.now task.env.now) where
+  -- its commands for a target
+  abbrev commands_with : Info → List Planned
+  commands_with info =
+      planned Archive (archive.archives_of info library.archiver.now library.env.now library.path.now writing.is_plain writing.here library.paths.now)
+      ++ planned Index (archive.indexes_of info library.archiver.now library.env.now library.path.now writing.is_plain library.paths.now)
+
+  commands_there : commands_with (target_info task.set.now task.env.now) ≡ library_commands task.set.now task.env.now look writing task.output.now
+  unfolding archives_of indexes_of
+  commands_there = let is = h.is in rw (is, env, path, paths) refl
+
+  commands_are : commands_for library writing ≡ library_commands task.set.now task.env.now look writing task.output.now
+  commands_are = ap commands_with target ∙ commands_there
+
+  form_is : has_one_form (info_seen library.target.now) library.archiver.now ≡ run_has_one_form task.set.now task.env.now look
+  unfolding run_has_one_form
+  form_is = let is = h.is in rw (is, target) refl
+
+  asking_is : archive.asks_folder (info_seen library.target.now) library.archiver.now library.path.now library.paths.now ≡ run_asks_folder task.set.now task.env.now look task.output.now
+  unfolding run_asks_folder
+  asking_is = let is = h.is in rw (is, target, path, paths) refl
+
+  lists_are : lists_of library.archiver.now library.path.now library.paths.now ≡ lists_of_run task.set.now task.env.now look task.output.now
+  unfolding lists_of_run
+  lists_are = let is = h.is in rw (is, path, paths) refl
+
+  -- its copy for a target
+  abbrev copies_with : Info → List Step
+  copies_with info = copy_by (is_msvc info) library.path.now (copy_path_of library.path.now library.name.now)
+
+  copies_there : copies_with (target_info task.set.now task.env.now) ≡ copy_steps task.set.now task.env.now task.output.now
+  unfolding copy_steps
+  copies_there = rw (name, path) refl
+
+  copies_are : copying_steps library ≡ copy_steps task.set.now task.env.now task.output.now
+  copies_are = ap copies_with target ∙ copies_there
+
+  -- the stages, by what they are made of
+  abbrev made : List ℕ → List (List ℕ × List ℕ) → Bool → Bool → List Planned → List Step → List Stage
+  made p l a o c k = calls (Removes p ∷ (writings l ++ asking_steps a writing.here)) ++ (written o writing.is_plain c ++ calls k)
+
+  pub library_is : library_seen library writing ≡ library_stages task.set.now task.env.now writing look task.output.now
+  unfolding removal_stages removal_steps ready_stages archive_stages copy_stages
+  library_is =
+      let lists = lists_of library.archiver.now library.path.now library.paths.now in
+      let asks = archive.asks_folder (info_seen library.target.now) library.archiver.now library.path.now library.paths.now in
+      let form = has_one_form (info_seen library.target.now) library.archiver.now in
+      let at = library_of task.set.now task.env.now task.output.now in
+      let listed = lists_of_run task.set.now task.env.now look task.output.now in
+      let asked = run_asks_folder task.set.now task.env.now look task.output.now in
+      let formed = run_has_one_form task.set.now task.env.now look in
+      let cmds = library_commands task.set.now task.env.now look writing task.output.now in
+      ap (λ p. made p lists asks form (commands_for library writing) (copying_steps library)) path
+      ∙ ap (λ l. made at l asks form (commands_for library writing) (copying_steps library)) lists_are
+      ∙ ap (λ a. made at listed a form (commands_for library writing) (copying_steps library)) asking_is
+      ∙ ap (λ o. made at listed asked o (commands_for library writing) (copying_steps library)) form_is
+      ∙ ap (λ c. made at listed asked formed c (copying_steps library)) commands_are
+      ∙ ap (λ k. made at listed asked formed cmds k) copies_are
 
 -- ---- what the archive wants
 
@@ -125,85 +187,134 @@ some_last (s ∷ a) h = cc
 
 -- they begin with the same command
 module _ (library : Library) where
-  abbrev commands_by : Bool → List (List (List ℕ)) → List (List ℕ) → List Planned
-  commands_by is_plain batches paths =
-      planned Archive (archive.archives_by library.archiver.now library.env.now library.path.now is_plain batches)
-      ++ planned Index (archive.indexes_by library.archiver.now library.env.now library.path.now is_plain paths)
+  abbrev indexes_if : Bool → Bool → List (List ℕ) → List Planned
+  indexes_if msvc is_plain paths = planned Index (if msvc then [] else archive.indexes_by library.archiver.now library.env.now library.path.now is_plain paths)
 
-  plain_first : (batches : List (List (List ℕ))) (paths : List (List ℕ)) (p : Planned) (ps : List Planned) → (batches ≡ [] → paths ≡ []) → commands_by false batches paths ≡ p ∷ ps → (more : List Planned) × (commands_by true batches paths ≡ p ∷ more)
-  plain_first (batch ∷ batches) paths p ps none e =
-      let more = planned Archive (map (archive.archive_of library.archiver.now library.env.now library.path.now true) (batch ∷ batches)) ++ planned Index (archive.indexes_by library.archiver.now library.env.now library.path.now true paths) in
+  abbrev commands_by : Bool → Bool → List (List (List ℕ)) → List (List ℕ) → List Planned
+  commands_by msvc is_plain batches paths =
+      planned Archive (archive.archives_by library.archiver.now library.env.now library.path.now is_plain batches) ++ indexes_if msvc is_plain paths
+
+  plain_first : (msvc : Bool) (batches : List (List (List ℕ))) (paths : List (List ℕ)) (p : Planned) (ps : List Planned) → (batches ≡ [] → paths ≡ []) → commands_by msvc false batches paths ≡ p ∷ ps → (more : List Planned) × (commands_by msvc true batches paths ≡ p ∷ more)
+  plain_first msvc (batch ∷ batches) paths p ps none e =
+      let more = planned Archive (map (archive.archive_of library.archiver.now library.env.now library.path.now true) (batch ∷ batches)) ++ indexes_if msvc true paths in
       (more, ap (λ q. q ∷ more) (first_eq e))
-  plain_first [] [] p ps none e =
+  plain_first true [] [] p ps none e = absurd (cc)
+  plain_first false [] [] p ps none e =
       let more = planned Index (archive.plain_index_of library.archiver.now library.env.now library.path.now ∷ []) in
       (more, ap (λ q. q ∷ more) (first_eq e))
-  plain_first [] (path ∷ paths) p ps none e = absurd (let k : path ∷ paths ≡ [] = none refl in cc)
+  plain_first msvc [] (path ∷ paths) p ps none e = absurd (let k : path ∷ paths ≡ [] = none refl in cc)
+
+-- its copy, behind its commands
+abbrev copies_of : Library → List Stage
+copies_of library = calls (copying_steps library)
 
 -- memory was wanted before the commands
-pub begin_wanting : (shows : Shows) (library : Library) (e : ErrorSeen) (part : List Event) → part ≡ [] → e ≡ no_memory → BeginStops shows library e part
-begin_wanting shows library e part none memory = (
-  false,
-  λ total patience x. halted_none (terms shows total patience) None (form_stages library false ++ Asks ∷ []) part e x none memory (λ empty. absurd (some_last (form_stages library false) empty)),
-)
+pub begin_wanting : (shows : Shows) (library : Library) (here : List ℕ) (e : ErrorSeen) (part : List Event) → part ≡ [] → e ≡ no_memory → BeginStops shows library here e part
+begin_wanting shows library here e part none memory =
+    let stages = form_stages library (writing_of false here) in (
+      false,
+      λ total patience x. halted_none (terms shows total patience) None (stages ++ Asks ∷ []) part e x none memory (λ empty. absurd (some_last stages empty)),
+    )
 
--- libtool's commands are all left
-pub begins_libtool : (shows : Shows) (library : Library) (left : List Coded) (forms : List Planned) (part : List Event) → is_libtool library.archiver.now ≡ true → forms ≡ commands_for library false → stages_seen left ≡ in_turn forms → part ≡ [] → Begins shows library left part
-begins_libtool shows library left forms part libtool are is none = (
-  false,
-  [],
-  (ap (λ b. if b then in_turn (commands_for library false) else tried false (commands_for library false)) libtool ∙ sym (is ∙ ap in_turn are), λ total patience x. went_none (terms shows total patience) part x none),
-)
+-- all commands of an archiver with one form are left
+pub begins_one_form : (shows : Shows) (library : Library) (here : List ℕ) (left : List Coded) (forms : List Planned) (part : List Event) → has_one_form (info_seen library.target.now) library.archiver.now ≡ true → forms ≡ commands_for library (writing_of false here) → stages_seen left ≡ in_turn forms ++ copies_of library → part ≡ [] → Begins shows library here left part
+begins_one_form shows library here left forms part one are is none =
+    let cmds = commands_for library (writing_of false here) in (
+      false,
+      [],
+      (ap (λ b. (if b then in_turn cmds else tried false cmds) ++ copies_of library) one ∙ sym (is ∙ ap (λ l. in_turn l ++ copies_of library) are), λ total patience x. went_none (terms shows total patience) part x none),
+    )
 
-module _ (shows : Shows) (library : Library) (other : is_libtool library.archiver.now ≡ false) where
+module _ (shows : Shows) (library : Library) (here : List ℕ) (other : has_one_form (info_seen library.target.now) library.archiver.now ≡ false) where
+  abbrev by : Bool → Writing
+  by is_plain = writing_of is_plain here
+
   -- another archiver's first command is tried
-  forms_tried : (is_plain : Bool) → form_stages library is_plain ≡ tried is_plain (commands_for library is_plain)
-  forms_tried is_plain = ap (λ b. if b then in_turn (commands_for library is_plain) else tried is_plain (commands_for library is_plain)) other
+  forms_tried : (is_plain : Bool) → form_stages library (by is_plain) ≡ tried is_plain (commands_for library (by is_plain)) ++ copies_of library
+  forms_tried is_plain = ap (λ b. (if b then in_turn (commands_for library (by is_plain)) else tried is_plain (commands_for library (by is_plain))) ++ copies_of library) other
 
-  in_batches : (is_plain : Bool) → commands_for library is_plain ≡ commands_by library is_plain (batches_of library.paths.now) library.paths.now
-  in_batches is_plain = rw other refl
+  neither : (is_libtool library.archiver.now ≡ false) × (is_lib (info_seen library.target.now) library.archiver.now ≡ false)
+  unfolding has_one_form
+  neither = or_parts (is_libtool library.archiver.now) (is_lib (info_seen library.target.now) library.archiver.now) other
 
-  form_first : (is_plain : Bool) (p : Planned) (ps : List Planned) → commands_for library false ≡ p ∷ ps → (more : List Planned) × (commands_for library is_plain ≡ p ∷ more)
+  in_batches : (is_plain : Bool) → commands_for library (by is_plain) ≡ commands_by library (is_msvc (info_seen library.target.now)) is_plain (batches_of library.paths.now) library.paths.now
+  in_batches is_plain =
+      let tool : is_libtool library.archiver.now ≡ false = neither.0 in
+      let lib : is_lib (info_seen library.target.now) library.archiver.now ≡ false = neither.1 in
+      rw (tool, lib) refl
+
+  form_first : (is_plain : Bool) (p : Planned) (ps : List Planned) → commands_for library (by false) ≡ p ∷ ps → (more : List Planned) × (commands_for library (by is_plain) ≡ p ∷ more)
   form_first false p ps e = (ps, e)
   form_first true p ps e =
-      let r = plain_first library (batches_of library.paths.now) library.paths.now p ps (no_batches library.paths.now) (sym (in_batches false) ∙ e) in
+      let r = plain_first library (is_msvc (info_seen library.target.now)) (batches_of library.paths.now) library.paths.now p ps (no_batches library.paths.now) (sym (in_batches false) ∙ e) in
       (r.0, in_batches true ∙ r.1)
 
   -- there is no command
-  pub begins_none : (left : List Coded) (forms : List Planned) (part : List Event) → forms ≡ commands_for library false → forms ≡ [] → left ≡ [] → part ≡ [] → Begins shows library left part
-  begins_none left forms part are none nothing still = (
+  pub begins_none : (left : List Coded) (forms : List Planned) (part : List Event) → forms ≡ commands_for library (by false) → forms ≡ [] → stages_seen left ≡ in_turn forms ++ copies_of library → part ≡ [] → Begins shows library here left part
+  begins_none left forms part are none is still = (
     false,
     [],
-    (forms_tried false ∙ ap (tried false) (sym are ∙ none) ∙ sym (ap stages_seen nothing), λ total patience x. went_none (terms shows total patience) part x still),
+    (forms_tried false ∙ ap (λ l. tried false l ++ copies_of library) (sym are ∙ none) ∙ sym (is ∙ ap (λ l. in_turn l ++ copies_of library) none), λ total patience x. went_none (terms shows total patience) part x still),
   )
 
-  module _ (p : Planned) (rest : List Planned) (is : commands_for library false ≡ p ∷ rest) (part : List Event) where
+  module _ (p : Planned) (rest : List Planned) (is : commands_for library (by false) ≡ p ∷ rest) (part : List Event) where
     -- the run ended at the first command
-    pub begin_untried : (e : ErrorSeen) → ((total patience : Option ℕ) (refused : Bool) (x : Means) → Halted (terms shows total patience) None (Tries refused p ∷ []) part e x x) → BeginStops shows library e part
+    pub begin_untried : (e : ErrorSeen) → ((total patience : Option ℕ) (refused : Bool) (x : Means) → Halted (terms shows total patience) None (Tries refused p ∷ []) part e x x) → BeginStops shows library here e part
     begin_untried e h = (
       false,
       λ total patience x.
-          subst (λ (l : List Stage). Halted (terms shows total patience) None (l ++ Asks ∷ []) part e x x) (sym (forms_tried false ∙ ap (tried false) is))
-          (halted_more (terms shows total patience) None (Tries false p ∷ []) (in_turn rest ++ Asks ∷ []) part e x x (h total patience false x)),
+          subst (λ (l : List Stage). Halted (terms shows total patience) None (l ++ Asks ∷ []) part e x x) (sym (forms_tried false ∙ ap (λ l. tried false l ++ copies_of library) is))
+          (halted_more (terms shows total patience) None (Tries false p ∷ []) ((in_turn rest ++ copies_of library) ++ Asks ∷ []) part e x x (h total patience false x)),
     )
 
     module _ (is_plain : Bool) (w : (total patience : Option ℕ) (x : Means) → Went (terms shows total patience) (Tries is_plain p ∷ []) part x x) where
       -- it was tried, and the others are left
-      pub begins_tried : (left : List Coded) → stages_seen left ≡ in_turn (behind_first (commands_for library is_plain)) → Begins shows library left part
+      pub begins_tried : (left : List Coded) → stages_seen left ≡ in_turn (behind_first (commands_for library (by is_plain))) ++ copies_of library → Begins shows library here left part
       begins_tried left others =
           let f = form_first is_plain p rest is in
-          (is_plain, Tries is_plain p ∷ [], (forms_tried is_plain ∙ ap (tried is_plain) f.1 ∙ ap (λ l. Tries is_plain p ∷ l) (sym (others ∙ ap (λ l. in_turn (behind_first l)) f.1)), w))
+          (is_plain, Tries is_plain p ∷ [], (forms_tried is_plain ∙ ap (λ l. tried is_plain l ++ copies_of library) f.1 ∙ ap (λ l. Tries is_plain p ∷ l) (sym (others ∙ ap (λ l. in_turn (behind_first l) ++ copies_of library) f.1)), w))
 
       -- memory was wanted for the others
-      pub begin_stopped : (e : ErrorSeen) → e ≡ no_memory → BeginStops shows library e part
+      pub begin_stopped : (e : ErrorSeen) → e ≡ no_memory → BeginStops shows library here e part
       begin_stopped e memory =
-          let f = form_first is_plain p rest is in (
+          let f = form_first is_plain p rest is in
+          let behind = in_turn f.0 ++ copies_of library in (
             is_plain,
             λ total patience x.
-                subst (λ (l : List Stage). Halted (terms shows total patience) None (l ++ Asks ∷ []) part e x x) (sym (forms_tried is_plain ∙ ap (tried is_plain) f.1))
-                (halted_among (terms shows total patience) None (Tries is_plain p ∷ []) (in_turn f.0 ++ Asks ∷ []) part e x x (w total patience x) memory (λ none. absurd (some_last (in_turn f.0) none))),
+                subst (λ (l : List Stage). Halted (terms shows total patience) None (l ++ Asks ∷ []) part e x x) (sym (forms_tried is_plain ∙ ap (λ l. tried is_plain l ++ copies_of library) f.1))
+                (halted_among (terms shows total patience) None (Tries is_plain p ∷ []) (behind ++ Asks ∷ []) part e x x (w total patience x) memory (λ none. absurd (some_last behind none))),
           )
 
 -- ---- the library is written
+
+-- calls of the host were made, and then others, or weren't
+pub calls_then : {T : Type 0} (a b : List Step) (old mid new : List Event) (r : Result T ErrorSeen) → mid ≡ old ++ since old mid → new ≡ mid ++ since mid new → CallsEnd {T = Unit {0}} a (since old mid) (Ok tt) → CallsEnd b (since mid new) r → CallsEnd (a ++ b) (since old new) r
+calls_then a b old mid new r first last done ends = λ t x.
+    subst (λ (l : List Stage). Ends t None l (since old new) r x x) (sym (map-append Calls a b)) (ends_from t None old mid new (calls a) (calls b) r x x x first last (done t x).1 (ends t x))
+
+-- the first of them weren't
+pub calls_stopped : (a b : List Step) (part : List Event) (e : ErrorSeen) → CallsEnd {T = Unit {0}} a part (Err e) → CallsEnd {T = Unit {0}} (a ++ b) part (Err e)
+calls_stopped a b part e h = λ t x.
+    subst (λ (l : List Stage). Halted t None l part e x x) (sym (map-append Calls a b)) (halted_more t None (calls a) (calls b) part e x x (h t x))
+
+-- memory was wanted before any of them
+pub calls_wanting : (step : Step) (steps : List Step) (part : List Event) (e : ErrorSeen) → part ≡ [] → e ≡ no_memory → CallsEnd {T = Unit {0}} (step ∷ steps) part (Err e)
+calls_wanting step steps part e none memory = λ t x. halted_none t None (calls (step ∷ steps)) part e x none memory (λ empty. absurd (cc))
+
+-- the folder that is asked for, as it is found
+found_steps : (asks : Bool) (here : Option (List ℕ)) → is_some here ≡ asks → finding_steps here ≡ asking_steps asks (unwrap_or here [])
+found_steps true None is = absurd (cc)
+found_steps true (Some path) is = refl
+found_steps false None is = refl
+found_steps false (Some path) is = absurd (cc)
+
+pub asked_here : (asks : Bool) (here : Option (List ℕ)) (part : List Event) → HereEnds asks (Ok here) part → CallsEnd {T = Unit {0}} (asking_steps asks (unwrap_or here [])) part (Ok tt)
+asked_here asks here part h = subst (λ (steps : List Step). CallsEnd {T = Unit {0}} steps part (Ok tt)) (found_steps asks here h.0) h.1
+
+-- it wasn't told
+pub unasked_here : (asks : Bool) (e : ErrorSeen) (part : List Event) → HereEnds asks (Err e) part → (here : List ℕ) → CallsEnd {T = Unit {0}} (asking_steps asks here) part (Err e)
+unasked_here true e part h here = h (Some here) refl
+unasked_here false e part h here = h None refl
 
 -- the old library was removed, and then its list was written, or wasn't
 pub ready_then : {T : Type 0} (step : Step) (steps : List Step) (old mid new : List Event) (r : Result T ErrorSeen) → mid ≡ old ++ since old mid → new ≡ mid ++ since mid new → CallsEnd {T = Unit {0}} (step ∷ []) (since old mid) (Ok tt) → CallsEnd steps (since mid new) r → CallsEnd (step ∷ steps) (since old new) r
@@ -214,52 +325,53 @@ pub unready : (step : Step) (steps : List Step) (part : List Event) (e : ErrorSe
 unready step steps part e h = λ t x. halted_more t None (calls (step ∷ [])) (calls steps) part e x x (h t x)
 
 module _ (shows : Shows) (library : Library) (total patience : Option ℕ) where
-  abbrev readies : List Stage
-  readies = calls (ready_steps library)
+  abbrev readies : List ℕ → List Stage
+  readies here = calls (ready_steps library here)
 
   abbrev of_shows : Option ℕ → Terms
   of_shows m = terms shows total m
 
-  -- memory was wanted before it
-  pub write_unbegun : (part : List Event) (e : ErrorSeen) (x : Means) → part ≡ [] → e ≡ no_memory → WriteEnds {T = Unit {0}} shows library (Err e) part (course total patience x x)
-  write_unbegun part e x none memory = (false, halted_none (of_shows patience) None (library_seen library false ++ Asks ∷ []) part e x none memory (λ empty. absurd (cc)))
-
   -- it wasn't made ready
-  pub write_unready : (part : List Event) (e : ErrorSeen) (x : Means) → CallsEnd {T = Unit {0}} (ready_steps library) part (Err e) → WriteEnds {T = Unit {0}} shows library (Err e) part (course total patience x x)
-  write_unready part e x h = (
-    false,
-    halted_more (of_shows patience) None (library_seen library false) (Asks ∷ []) part e x x (halted_more (of_shows patience) None readies (form_stages library false) part e x x (h (of_shows patience) x)),
-  )
+  pub write_unready : (part : List Event) (e : ErrorSeen) (x : Means) → ((here : List ℕ) → CallsEnd {T = Unit {0}} (ready_steps library here) part (Err e)) → WriteEnds {T = Unit {0}} shows library (Err e) part (course total patience x x)
+  write_unready part e x h =
+      let writing = writing_of false [] in (
+        writing,
+        halted_more (of_shows patience) None (library_seen library writing) (Asks ∷ []) part e x x (halted_more (of_shows patience) None (readies []) (form_stages library writing) part e x x (h [] (of_shows patience) x)),
+      )
 
-  module _ (old made new : List Event) (x : Means) (first : made ≡ old ++ since old made) (last : new ≡ made ++ since made new) (ready : CallsEnd {T = Unit {0}} (ready_steps library) (since old made) (Ok tt)) where
+  module _ (old made new : List Event) (x : Means) (first : made ≡ old ++ since old made) (last : new ≡ made ++ since made new) (here : List ℕ) (ready : CallsEnd {T = Unit {0}} (ready_steps library here) (since old made) (Ok tt)) where
     -- it wasn't begun
-    pub write_stopped : (e : ErrorSeen) → BeginStops shows library e (since made new) → WriteEnds {T = Unit {0}} shows library (Err e) (since old new) (course total patience x x)
-    write_stopped e s = (
-      s.0,
-      subst (λ (l : List Stage). Halted (of_shows patience) None l (since old new) e x x) (sym (append_assoc readies (form_stages library s.0) (Asks ∷ [])))
-          (halted_from (of_shows patience) None old made new readies (form_stages library s.0 ++ Asks ∷ []) e x x x first last (ready (of_shows patience) x).1 (s.1 total patience x)),
-    )
+    pub write_stopped : (e : ErrorSeen) → BeginStops shows library here e (since made new) → WriteEnds {T = Unit {0}} shows library (Err e) (since old new) (course total patience x x)
+    write_stopped e s =
+        let form = form_stages library (writing_of s.0 here) in (
+          writing_of s.0 here,
+          subst (λ (l : List Stage). Halted (of_shows patience) None l (since old new) e x x) (sym (append_assoc (readies here) form (Asks ∷ [])))
+              (halted_from (of_shows patience) None old made new (readies here) (form ++ Asks ∷ []) e x x x first last (ready (of_shows patience) x).1 (s.1 total patience x)),
+        )
 
-    module _ (left : List Coded) (begins : Begins shows library left (since made new)) (end : List Event) (z : Means) (before : Option ℕ) (grew : end ≡ new ++ since new end) (patient : before ≡ patience) where
+    module _ (left : List Coded) (begins : Begins shows library here left (since made new)) (end : List Event) (z : Means) (before : Option ℕ) (grew : end ≡ new ++ since new end) (patient : before ≡ patience) where
       abbrev begun : List Stage
-      begun = readies ++ begins.1
+      begun = readies here ++ begins.1
 
-      split : begun ++ stages_seen left ≡ library_seen library begins.0
-      split = append_assoc readies begins.1 (stages_seen left) ∙ ap (λ l. readies ++ l) (sym begins.2.0)
+      abbrev how : Writing
+      how = writing_of begins.0 here
+
+      split : begun ++ stages_seen left ≡ library_seen library how
+      split = append_assoc (readies here) begins.1 (stages_seen left) ∙ ap (λ l. readies here ++ l) (sym begins.2.0)
 
       went : Went (of_shows patience) begun (since old new) x x
-      went = went_from (of_shows patience) old made new readies begins.1 x x x first last (ready (of_shows patience) x).1 (begins.2.1 total patience x)
+      went = went_from (of_shows patience) old made new (readies here) begins.1 x x x first last (ready (of_shows patience) x).1 (begins.2.1 total patience x)
 
       -- what was left was done, or the run ended among it
       pub write_ends : {T : Type 0} (r : Result T ErrorSeen) → Ends (of_shows before) None (stages_seen left) (since new end) r x z → WriteEnds shows library r (since old end) (course total patience x z)
       write_ends (Ok v) o = (
-        begins.0,
+        how,
         subst (λ (l : List Stage). Went (of_shows patience) l (since old end) x z) split
             (went_from (of_shows patience) old new end begun (stages_seen left) x x z (since_extends old made new first last) grew went (subst (λ (m : Option ℕ). Went (of_shows m) (stages_seen left) (since new end) x z) patient o.1)),
       )
       write_ends (Err e) h = (
-        begins.0,
-        halted_more (of_shows patience) None (library_seen library begins.0) (Asks ∷ []) (since old end) e x z
+        how,
+        halted_more (of_shows patience) None (library_seen library how) (Asks ∷ []) (since old end) e x z
             (subst (λ (l : List Stage). Halted (of_shows patience) None l (since old end) e x z) split
             (halted_from (of_shows patience) None old new end begun (stages_seen left) e x x z (since_extends old made new first last) grew went (subst (λ (m : Option ℕ). Halted (of_shows m) None (stages_seen left) (since new end) e x z) patient h))),
       )
@@ -289,8 +401,8 @@ module _ (t : Terms) (f : PlanError → ErrorSeen) where
 
 -- ---- the whole of the parts
 
-abbrev pub way_of : Found → Bool → Firsts → Way
-way_of found is_plain firsts = record { found = found; is_plain = is_plain; firsts = firsts }
+abbrev pub way_of : Found → Writing → Firsts → Way
+way_of found writing firsts = record { found = found; writing = writing; firsts = firsts }
 
 module _ (t : Terms) (task : Task) (look : Look) where
   abbrev late : Option PlanError
@@ -308,50 +420,50 @@ module _ (t : Terms) (task : Task) (look : Look) where
   abbrev compiles : Found → List Stage
   compiles found = compile_stages task.set.now task.env.now found look
 
-  abbrev writes : Bool → List Stage
-  writes is_plain = library_stages task.set.now task.env.now is_plain look task.output.now
+  abbrev writes : Writing → List Stage
+  writes writing = library_stages task.set.now task.env.now writing look task.output.now
 
   abbrev stages_in : Way → List Stage
   stages_in way = asked_stages task.set.now task.env.now way look task.output.now
 
-  later_is : (way : Way) → asked_then archive_stop (writes way.is_plain ++ ending_stages task.set.now task.env.now way look task.output.now) ≡ later_stages task.set.now task.env.now way look task.output.now
+  later_is : (way : Way) → asked_then archive_stop (writes way.writing ++ ending_stages task.set.now task.env.now way look task.output.now) ≡ later_stages task.set.now task.env.now way look task.output.now
   unfolding later_stages
   later_is way = refl
 
   -- the run ended among the sources
-  pub sources_halted : (found : Found) (part : List Event) (e : ErrorSeen) (x z : Means) → Halted t (error_in task late) (asked_then late (compiles found)) part e x z → Halted t (first_of (error_in task late) behind_sources) (stages_in (way_of found false all_firsts)) part e x z
+  pub sources_halted : (found : Found) (part : List Event) (e : ErrorSeen) (x z : Means) → Halted t (error_in task late) (asked_then late (compiles found)) part e x z → Halted t (first_of (error_in task late) behind_sources) (stages_in (way_of found (writing_of false []) all_firsts)) part e x z
   sources_halted found part e x z h =
-      halted_join t (plan_error task.set.now task.env.now task.output.now) late behind_sources (compiles found) (later_stages task.set.now task.env.now (way_of found false all_firsts) look task.output.now) part e x z h
+      halted_join t (plan_error task.set.now task.env.now task.output.now) late behind_sources (compiles found) (later_stages task.set.now task.env.now (way_of found (writing_of false []) all_firsts) look task.output.now) part e x z h
 
   -- what stands behind the sources ended so
-  pub sources_then : {T : Type 0} (way : Way) (old mid new : List Event) (r : Result T ErrorSeen) (x y z : Means) → mid ≡ old ++ since old mid → new ≡ mid ++ since mid new → late ≡ None → Went t (Asks ∷ compiles way.found) (since old mid) x y → Ends t behind_sources (asked_then archive_stop (writes way.is_plain ++ ending_stages task.set.now task.env.now way look task.output.now)) (since mid new) r y z → Ends t (first_of (error_in task late) behind_sources) (stages_in way) (since old new) r x z
+  pub sources_then : {T : Type 0} (way : Way) (old mid new : List Event) (r : Result T ErrorSeen) (x y z : Means) → mid ≡ old ++ since old mid → new ≡ mid ++ since mid new → late ≡ None → Went t (Asks ∷ compiles way.found) (since old mid) x y → Ends t behind_sources (asked_then archive_stop (writes way.writing ++ ending_stages task.set.now task.env.now way look task.output.now)) (since mid new) r y z → Ends t (first_of (error_in task late) behind_sources) (stages_in way) (since old new) r x z
   sources_then way old mid new r x y z first last allowed w o =
       part_then t (plan_error task.set.now task.env.now task.output.now) late behind_sources (compiles way.found) (later_stages task.set.now task.env.now way look task.output.now) old mid new r x y z first last allowed w
       (subst (λ (l : List Stage). Ends t behind_sources l (since mid new) r y z) (later_is way) o)
 
   -- the run ended at the library
-  pub library_halted : (found : Found) (is_plain : Bool) (old mid new : List Event) (e : ErrorSeen) (x y z : Means) → mid ≡ old ++ since old mid → new ≡ mid ++ since mid new → late ≡ None → Went t (Asks ∷ compiles found) (since old mid) x y → Halted t (error_in task archive_stop) (asked_then archive_stop (writes is_plain ++ Asks ∷ [])) (since mid new) e y z → Halted t (first_of (error_in task late) behind_sources) (stages_in (way_of found is_plain all_firsts)) (since old new) e x z
-  library_halted found is_plain old mid new e x y z first last allowed w h =
-      sources_then {T = Unit {0}} (way_of found is_plain all_firsts) old mid new (Err e) x y z first last allowed w
-      (part_before t (plan_error task.set.now task.env.now task.output.now) archive_stop links (error_in task links) (writes is_plain) (link_stages task.set.now task.env.now (is_some found.here) look all_firsts task.output.now) (since mid new) e y z h)
+  pub library_halted : (found : Found) (writing : Writing) (old mid new : List Event) (e : ErrorSeen) (x y z : Means) → mid ≡ old ++ since old mid → new ≡ mid ++ since mid new → late ≡ None → Went t (Asks ∷ compiles found) (since old mid) x y → Halted t (error_in task archive_stop) (asked_then archive_stop (writes writing ++ Asks ∷ [])) (since mid new) e y z → Halted t (first_of (error_in task late) behind_sources) (stages_in (way_of found writing all_firsts)) (since old new) e x z
+  library_halted found writing old mid new e x y z first last allowed w h =
+      sources_then {T = Unit {0}} (way_of found writing all_firsts) old mid new (Err e) x y z first last allowed w
+      (part_before t (plan_error task.set.now task.env.now task.output.now) archive_stop links (error_in task links) (writes writing) (link_stages task.set.now task.env.now (is_some found.here) look all_firsts task.output.now) (since mid new) e y z h)
 
   -- all of it, to the link lines
-  pub links_end : {T : Type 0} (found : Found) (is_plain : Bool) (firsts : Firsts) (old mid made new : List Event) (r : Result T ErrorSeen) (x y z u : Means) → mid ≡ old ++ since old mid → made ≡ mid ++ since mid made → new ≡ made ++ since made new → late ≡ None → Went t (Asks ∷ compiles found) (since old mid) x y → archive_stop ≡ None → Went t (Asks ∷ writes is_plain) (since mid made) y z → Ends t (error_in task links) (asked_then links (link_stages task.set.now task.env.now (is_some found.here) look firsts task.output.now)) (since made new) r z u → Ends t (first_of (error_in task late) behind_sources) (stages_in (way_of found is_plain firsts)) (since old new) r x u
-  links_end found is_plain firsts old mid made new r x y z u first next last allowed w allowed' w' o =
-      sources_then (way_of found is_plain firsts) old mid new r x y u first (since_extends mid made new next last) allowed w
-      (part_then t (plan_error task.set.now task.env.now task.output.now) archive_stop (error_in task links) (writes is_plain) (ending_stages task.set.now task.env.now (way_of found is_plain firsts) look task.output.now) mid made new r y z u next last allowed' w' o)
+  pub links_end : {T : Type 0} (found : Found) (writing : Writing) (firsts : Firsts) (old mid made new : List Event) (r : Result T ErrorSeen) (x y z u : Means) → mid ≡ old ++ since old mid → made ≡ mid ++ since mid made → new ≡ made ++ since made new → late ≡ None → Went t (Asks ∷ compiles found) (since old mid) x y → archive_stop ≡ None → Went t (Asks ∷ writes writing) (since mid made) y z → Ends t (error_in task links) (asked_then links (link_stages task.set.now task.env.now (is_some found.here) look firsts task.output.now)) (since made new) r z u → Ends t (first_of (error_in task late) behind_sources) (stages_in (way_of found writing firsts)) (since old new) r x u
+  links_end found writing firsts old mid made new r x y z u first next last allowed w allowed' w' o =
+      sources_then (way_of found writing firsts) old mid new r x y u first (since_extends mid made new next last) allowed w
+      (part_then t (plan_error task.set.now task.env.now task.output.now) archive_stop (error_in task links) (writes writing) (ending_stages task.set.now task.env.now (way_of found writing firsts) look task.output.now) mid made new r y z u next last allowed' w' o)
 
 -- ---- the library of a part
 
-module _ (task : Task) (library : Library) (look : Look) (total patience before : Option ℕ) (old mid new : List Event) (x z : Means) (patient : before ≡ patience) (first : mid ≡ old ++ since old mid) (last : new ≡ mid ++ since mid new) (asked : list_all is_asked (since old mid) ≡ true) (plan : Archives task library.archiver.now look) (listed : list_refusal library.archiver.now (archived_of task.set.now task.env.now) ≡ None) (env : library.env.now ≡ task.env.now) (path : library.path.now ≡ library_of task.set.now task.env.now task.output.now) (paths : library.paths.now ≡ archived_of task.set.now task.env.now) where
+module _ (task : Task) (library : Library) (look : Look) (total patience before : Option ℕ) (old mid new : List Event) (x z : Means) (patient : before ≡ patience) (first : mid ≡ old ++ since old mid) (last : new ≡ mid ++ since mid new) (asked : list_all is_asked (since old mid) ≡ true) (plan : Archives task library.archiver.now look) (listed : list_refusal library.archiver.now (archived_of task.set.now task.env.now) ≡ None) (target : info_seen library.target.now ≡ target_info task.set.now task.env.now) (env : library.env.now ≡ task.env.now) (name : library.name.now ≡ library_name task.output.now) (path : library.path.now ≡ library_of task.set.now task.env.now task.output.now) (paths : library.paths.now ≡ archived_of task.set.now task.env.now) where
   abbrev in_terms : Option ℕ → Terms
   in_terms p = terms task.reporting.shows total p
 
   allowed : archive_refusal task.set.now task.env.now look ≡ None
   allowed = archive_allowed task library.archiver.now look plan listed
 
-  same_stages : (is_plain : Bool) → library_seen library is_plain ≡ library_stages task.set.now task.env.now is_plain look task.output.now
-  same_stages is_plain = library_is task library look is_plain plan env path paths
+  same_stages : (writing : Writing) → library_seen library writing ≡ library_stages task.set.now task.env.now writing look task.output.now
+  same_stages writing = library_is task library look writing plan target env name path paths
 
   pub library_ends : {T : Type 0} (r : Result T ErrorSeen) → WriteEnds task.reporting.shows library r (since mid new) (course total before x z) → LibraryEnds task r look (since old new) (course total patience x z)
   library_ends (Ok v) w = (

@@ -18,7 +18,7 @@ use Rattle.cc_build.specs.Phases.{CompileEnds, LibraryEnds, NamesEnd, CompiledEn
 use Rattle.cc_build.specs.Refusal.{plan_error}
 use Rattle.cc_build.specs.Stage.{Stage, calls, commands_in, children_in, asked_then, compile_stages, library_stages, name_stages, printed_stages, rerun_lines}
 use Rattle.cc_build.specs.Stage.Stage.{Asks}
-use Rattle.cc_build.specs.Way.{Firsts, all_firsts, chosen}
+use Rattle.cc_build.specs.Way.{Firsts, all_firsts, chosen, Writing}
 use Rattle.cc_build.specs.Went.{Terms, Means, terms, Went, Halted, Ends}
 use Rattle.cc_build.specs.declared.task.Task.{Task}
 use Rattle.cc_build.proofs.Going.{halted_join, phase_went}

@@ -184,7 +184,7 @@ commands_tried refused [] = refl
 commands_tried refused (p ∷ ps) = ap (λ l. p ∷ l) (commands_in_turn ps)
 
 -- the commands of a library, in either form
-pub commands_written : (libtool refused : Bool) (ps : List Planned) → commands_in (written libtool refused ps) ≡ ps
+pub commands_written : (one_form refused : Bool) (ps : List Planned) → commands_in (written one_form refused ps) ≡ ps
 commands_written true refused ps = commands_in_turn ps
 commands_written false refused ps = commands_tried refused ps
 
@@ -210,7 +210,7 @@ pub children_tried : (refused : Bool) (ps : List Planned) → children_in (tried
 children_tried refused [] = refl
 children_tried refused (p ∷ ps) = children_in_turn ps
 
-pub children_written : (libtool refused : Bool) (ps : List Planned) → children_in (written libtool refused ps) ≡ written_children libtool ps
+pub children_written : (one_form refused : Bool) (ps : List Planned) → children_in (written one_form refused ps) ≡ written_children one_form ps
 children_written true refused ps = children_in_turn ps
 children_written false refused ps = children_tried refused ps
 

@@ -25,7 +25,7 @@ use Rattle.cc_host.proofs.Parts.{since_append}
 use Rattle.cc_jobs.specs.Seats.{Rose}
 use Rattle.cc_plan.specs.Given.{is_disabled}
 use Rattle.cc_plan.specs.Quiet.{quiet_warnings}
-use Rattle.cc_plan.specs.Plan.{dir_of, link_lines, lists_of_run, archive_refusal, prints, folder_steps, removal_steps}
+use Rattle.cc_plan.specs.Plan.{dir_of, link_lines, lists_of_run, archive_refusal, prints, folder_steps, removal_steps, run_has_one_form, run_asks_folder, copy_steps, copy_by, copy_of, library_of}
 use Rattle.cc_plan.specs.Refusal.{early_refusal, late_refusal, link_refusal, is_empty}
 use Rattle.cc_plan.specs.declared.settings.BuildConfig.{BuildConfig}
 use Rattle.cc_run.specs.Outcome.{missing_by, faults_by, IsDone, IsRunError, EndsAt}
@@ -38,14 +38,16 @@ use Rattle.cc_run.specs.declared.error.RunError.TheVariants.{ToolNotFound, Faile
 use Rattle.cc_run.specs.declared.planned.Planned.{Planned}
 use Rattle.cc_run.proofs.Runs.{run_from-append}
 use Rattle.cc_tool.specs.Probing.{is_asked}
+use Rattle.cc_plan.specs.ArchiveTool.{is_msvc}
+use Rattle.cc_plan.specs.Target.{target_info}
 use Rattle.cc_build.specs.Built.{ended_well}
 use Rattle.cc_build.specs.Error.{ErrorSeen, no_memory}
 use Rattle.cc_build.specs.Failed.{Failed, is_fault, is_form, form_aside, unforgiven, HasFault}
 use Rattle.cc_build.specs.Order.{is_archive_role, is_archive_event}
 use Rattle.cc_build.specs.RunErrors.{run_error}
-use Rattle.cc_build.specs.Stage.{Stage, children_in, calls, beside, compiles_planned, opening_steps, in_turn, tried, written, writings, has_libtool, folder_stages, compile_stages, removal_stages, library_commands, list_stages, archive_stages, link_stages, library_stages, ending_stages, later_stages, asked_stages, late_stages, planned_stages, run_reads, ending_steps}
+use Rattle.cc_build.specs.Stage.{Stage, children_in, calls, beside, compiles_planned, opening_steps, in_turn, tried, written, writings, asking_steps, folder_stages, compile_stages, removal_stages, library_commands, ready_stages, archive_stages, copy_stages, writing_stages, link_stages, library_stages, ending_stages, later_stages, asked_stages, late_stages, planned_stages, run_reads, ending_steps}
 use Rattle.cc_build.specs.Stage.Stage.{Calls, Asks, Tries, RunsOne, RunsAll}
-use Rattle.cc_build.specs.Way.{Way, Found, Firsts}
+use Rattle.cc_build.specs.Way.{Way, Found, Firsts, Writing}
 use Rattle.cc_build.proofs.SourceLaws.{AreNotes, opening_notes, ending_notes}
 use Rattle.cc_build.specs.Went.{Terms, Means, RanAll, RanOne, Did, Went, IsOf, Stops, Halts}
 use Rattle.cc_build.specs.declared.error.ErrorKind.TheVariants.{TurnsSpent as SpendsTurns}
@@ -415,13 +417,21 @@ plain_tried : (refused : Bool) (ps : List Planned) → ArePlain (tried refused p
 plain_tried refused [] = tt
 plain_tried refused (p ∷ ps) = (tt, plain_in_turn ps)
 
-plain_written : (libtool refused : Bool) (ps : List Planned) → ArePlain (written libtool refused ps)
+plain_written : (one_form refused : Bool) (ps : List Planned) → ArePlain (written one_form refused ps)
 plain_written true refused ps = plain_in_turn ps
 plain_written false refused ps = plain_tried refused ps
 
-plain_writings : (files : List (List ℕ × List ℕ)) → ArePlain (calls (writings files))
-plain_writings [] = tt
-plain_writings (file ∷ files) = (tt, plain_writings files)
+plain_writings : (files : List (List ℕ × List ℕ)) (more : List Step) → ArePlain (calls more) → ArePlain (calls (writings files ++ more))
+plain_writings [] more plain = plain
+plain_writings (file ∷ files) more plain = (tt, plain_writings files more plain)
+
+plain_asking : (asks : Bool) (here : List ℕ) → ArePlain (calls (asking_steps asks here))
+plain_asking true here = (tt, tt)
+plain_asking false here = tt
+
+plain_copying : (copies : Bool) (from to : List ℕ) → ArePlain (calls (copy_by copies from to))
+plain_copying true from to = (tt, (tt, tt))
+plain_copying false from to = tt
 
 pub plain_unless : (b : Bool) (stages : List Stage) → ArePlain stages → ArePlain (if b then [] else stages)
 plain_unless true stages p = tt
@@ -446,13 +456,19 @@ module _ (set : BuildConfig) (env : EnvSeen) where
   unfolding removal_stages removal_steps
   plain_removal output = (tt, tt)
 
-  pub plain_archive : (look : Look) (is_plain : Bool) (output : List ℕ) → ArePlain (archive_stages set env look is_plain output)
+  pub plain_archive : (look : Look) (writing : Writing) (output : List ℕ) → ArePlain (archive_stages set env look writing output)
   unfolding archive_stages
-  plain_archive look is_plain output = plain_written (has_libtool set env look) is_plain (library_commands set env look is_plain output)
+  plain_archive look writing output = plain_written (run_has_one_form set env look) writing.is_plain (library_commands set env look writing output)
 
-  pub plain_list : (look : Look) (output : List ℕ) → ArePlain (list_stages set env look output)
-  unfolding list_stages
-  plain_list look output = plain_writings (lists_of_run set env look output)
+  pub plain_ready : (look : Look) (here output : List ℕ) → ArePlain (ready_stages set env look here output)
+  unfolding ready_stages
+  plain_ready look here output =
+      let asks = run_asks_folder set env look output in
+      plain_writings (lists_of_run set env look output) (asking_steps asks here) (plain_asking asks here)
+
+  pub plain_copy : (output : List ℕ) → ArePlain (copy_stages set env output)
+  unfolding copy_stages copy_steps
+  plain_copy output = plain_copying (is_msvc (target_info set env)) (library_of set env output) (copy_of set env output)
 
   plain_link : (listens : Bool) (look : Look) (firsts : Firsts) (output : List ℕ) → ArePlain (link_stages set env listens look firsts output)
   unfolding link_stages
@@ -464,16 +480,17 @@ module _ (set : BuildConfig) (env : EnvSeen) where
   plain_ending : (way : Way) (look : Look) (output : List ℕ) → ArePlain (ending_stages set env way look output)
   plain_ending way look output = (tt, plain_unless (is_some (link_refusal set env look)) (link_stages set env (is_some way.found.here) look way.firsts output) (plain_link (is_some way.found.here) look way.firsts output))
 
-  pub plain_library : (is_plain : Bool) (look : Look) (output : List ℕ) (more : List Stage) → ArePlain more → ArePlain (library_stages set env is_plain look output ++ more)
-  plain_library is_plain look output more plain =
-      plain_then (library_stages set env is_plain look output) more
-      (plain_then (removal_stages set env output) (list_stages set env look output ++ archive_stages set env look is_plain output) (plain_removal output)
-      (plain_then (list_stages set env look output) (archive_stages set env look is_plain output) (plain_list look output) (plain_archive look is_plain output)))
+  pub plain_library : (writing : Writing) (look : Look) (output : List ℕ) (more : List Stage) → ArePlain more → ArePlain (library_stages set env writing look output ++ more)
+  plain_library writing look output more plain =
+      plain_then (library_stages set env writing look output) more
+      (plain_then (removal_stages set env output) (writing_stages set env writing look output) (plain_removal output)
+      (plain_then (ready_stages set env look writing.here output) (archive_stages set env look writing output ++ copy_stages set env output) (plain_ready look writing.here output)
+      (plain_then (archive_stages set env look writing output) (copy_stages set env output) (plain_archive look writing output) (plain_copy output))))
       plain
 
   plain_later : (way : Way) (look : Look) (output : List ℕ) → ArePlain (later_stages set env way look output)
   unfolding later_stages
-  plain_later way look output = (tt, plain_unless (is_some (archive_refusal set env look)) (library_stages set env way.is_plain look output ++ ending_stages set env way look output) (plain_library way.is_plain look output (ending_stages set env way look output) (plain_ending way look output)))
+  plain_later way look output = (tt, plain_unless (is_some (archive_refusal set env look)) (library_stages set env way.writing look output ++ ending_stages set env way look output) (plain_library way.writing look output (ending_stages set env way look output) (plain_ending way look output)))
 
   plain_asked : (way : Way) (look : Look) (output : List ℕ) → ArePlain (asked_stages set env way look output)
   plain_asked way look output = (
@@ -495,9 +512,9 @@ module _ (set : BuildConfig) (env : EnvSeen) where
 
 -- ---- the causes of a whole run
 
--- for what cause a run ended before all of its stages were done; `libtool` says whether its archiver is that
+-- for what cause a run ended before all of its stages were done; `one_form` says whether its archiver has one form alone
 abbrev pub HasCause : Bool → Option ErrorSeen → List Event → ErrorSeen → Means → Means → Type 0
-HasCause libtool refusal part e x y = (e ≡ no_memory) ⊎ ((refusal ≡ Some e) ⊎ (HasFault part ⊎ (Failed libtool part ⊎ (Rose x.faults y.faults ⊎ ((e.kind ≡ SpendsTurns) × (y.left ≡ 0))))))
+HasCause one_form refusal part e x y = (e ≡ no_memory) ⊎ ((refusal ≡ Some e) ⊎ (HasFault part ⊎ (Failed one_form part ⊎ (Rose x.faults y.faults ⊎ ((e.kind ≡ SpendsTurns) × (y.left ≡ 0))))))
 
 -- ---- the first form of the archive
 
@@ -572,16 +589,16 @@ missing_aside front rest (inr silent) some none =
     let whole : form_aside (front ++ rest) ≡ front ++ rest = no_form (front ++ rest) (list_any-append is_archive_event front rest ∙ or_none (list_any is_archive_event front) (list_any is_archive_event rest) silent.0 silent.1) in
     some (last_none (missing front) (missing rest) (sym (flat_map-append missing_of front rest) ∙ sym (ap missing whole) ∙ none))
 
--- the same, whether the archiver is libtool, where no form is aside
-missing_unforgiven : (libtool : Bool) (front rest : List Event) → (libtool ≡ false → IsFormed front rest) → missing rest ≢ [] → missing (unforgiven libtool (front ++ rest)) ≢ []
+-- the same, whether the archiver has one form, where none is aside
+missing_unforgiven : (one_form : Bool) (front rest : List Event) → (one_form ≡ false → IsFormed front rest) → missing rest ≢ [] → missing (unforgiven one_form (front ++ rest)) ≢ []
 missing_unforgiven true front rest formed some none = some (last_none (missing front) (missing rest) (sym (flat_map-append missing_of front rest) ∙ none))
 missing_unforgiven false front rest formed some none = missing_aside front rest (formed refl) some none
 
-module _ (t : Terms) (libtool : Bool) (refusal : Option ErrorSeen) (before : List Stage) (front rest part : List Event) (e : ErrorSeen) (x y z : Means) (cut : part ≡ front ++ rest) (w : Went t before front x y) (formed : missing rest ≢ [] → libtool ≡ false → IsFormed front rest) where
-  behind_cause : IsCause (length (children_in before)) rest e y z → HasCause libtool refusal part e x z
+module _ (t : Terms) (one_form : Bool) (refusal : Option ErrorSeen) (before : List Stage) (front rest part : List Event) (e : ErrorSeen) (x y z : Means) (cut : part ≡ front ++ rest) (w : Went t before front x y) (formed : missing rest ≢ [] → one_form ≡ false → IsFormed front rest) where
+  behind_cause : IsCause (length (children_in before)) rest e y z → HasCause one_form refusal part e x z
   behind_cause (inl memory) = inl memory
   behind_cause (inr (inl fault)) = inr (inr (inl (ap (list_any is_fault) cut ∙ list_any-append is_fault front rest ∙ or_right (list_any is_fault front) (list_any is_fault rest) fault)))
-  behind_cause (inr (inr (inl absent))) = inr (inr (inr (inl (inl (subst (λ (l : List Event). missing (unforgiven libtool l) ≢ []) (sym cut) (missing_unforgiven libtool front rest (formed absent) absent))))))
+  behind_cause (inr (inr (inl absent))) = inr (inr (inr (inl (inl (subst (λ (l : List Event). missing (unforgiven one_form l) ≢ []) (sym cut) (missing_unforgiven one_form front rest (formed absent) absent))))))
   behind_cause (inr (inr (inr (inl failed)))) =
       let count = length (children_in before) in
       let begun : run_from nothing front ≡ ended_well count = went_run t before front x y 0 w ∙ ap ended_well (zero-add count) in
@@ -590,11 +607,11 @@ module _ (t : Terms) (libtool : Bool) (refusal : Option ErrorSeen) (before : Lis
   behind_cause (inr (inr (inr (inr (inl rose))))) = let first : x.faults ≤ y.faults = went_faults t before front x y w in inr (inr (inr (inr (inl (λ below. let more : y.faults < z.faults = rose below in omega arith)))))
   behind_cause (inr (inr (inr (inr (inr spent))))) = inr (inr (inr (inr (inr spent))))
 
-  unbegun_cause : (e ≡ no_memory) ⊎ (refusal ≡ Some e) → HasCause libtool refusal part e x z
+  unbegun_cause : (e ≡ no_memory) ⊎ (refusal ≡ Some e) → HasCause one_form refusal part e x z
   unbegun_cause (inl memory) = inl memory
   unbegun_cause (inr refused) = inr (inl refused)
 
-  pub halts_cause : (after : List Stage) → ArePlain after → Halts t refusal after rest e y z → HasCause libtool refusal part e x z
+  pub halts_cause : (after : List Stage) → ArePlain after → Halts t refusal after rest e y z → HasCause one_form refusal part e x z
   halts_cause [] plain h = unbegun_cause h.0
   halts_cause (s ∷ ss) plain (inl h) = inl h.0
   halts_cause (s ∷ ss) plain (inr stop) = behind_cause (stop_cause t s rest e y z (length (children_in before)) plain.0 stop)

@@ -16,7 +16,7 @@ use Rattle.cc_build.specs.Error.{ErrorSeen}
 use Rattle.cc_build.specs.Promises.{terms_for}
 use Rattle.cc_build.specs.Refusal.{plan_error, disabled_error, archive_error}
 use Rattle.cc_build.specs.Stage.{Stage, asked_then, told_library}
-use Rattle.cc_build.specs.Way.{Firsts, Repeats}
+use Rattle.cc_build.specs.Way.{Writing, Firsts, Repeats}
 use Rattle.cc_build.specs.Went.{Ends}
 
 -- what an archive alone reads variables for
@@ -39,15 +39,15 @@ creation_error set env look output = first_of (unarchived_error set env output) 
 
 -- The archiver is asked for, the old library is removed, the new one is written, and the lines of the variables that were read are printed. Settings that
 -- the checks refuse have no stage.
-abbrev pub creation_stages : BuildConfig → EnvSeen → Bool → Look → Firsts → List ℕ → List Stage
-creation_stages set env is_plain look firsts output =
-    if is_some (unarchived_error set env output) then [] else asked_then (archive_refusal set env look) (told_library set env archive_reads is_plain look firsts output)
+abbrev pub creation_stages : BuildConfig → EnvSeen → Writing → Look → Firsts → List ℕ → List Stage
+creation_stages set env writing look firsts output =
+    if is_some (unarchived_error set env output) then [] else asked_then (archive_refusal set env look) (told_library set env archive_reads writing look firsts output)
 
 -- Ok: nothing is refused, the library was written, and behind it exactly those lines were printed. Else the first stages were done, and the error has its
 -- cause.
 abbrev pub CreationEnds : {T : Type 0} → BuildSeen → Bool → List ℕ → Result T ErrorSeen → Look → List Event → Course → Type 0
 CreationEnds b listens output result look part c =
-    (is_plain : Bool) × (firsts : Firsts) × (Repeats b.config firsts × Ends (terms_for b listens c) (creation_error b.config b.env look output) (creation_stages b.config b.env is_plain look firsts output) part result c.before c.after)
+    (writing : Writing) × (firsts : Firsts) × (Repeats b.config firsts × Ends (terms_for b listens c) (creation_error b.config b.env look output) (creation_stages b.config b.env writing look firsts output) part result c.before c.after)
 
 -- so it ended, with this patience of its host, and with some left of these turns
 abbrev pub Creates : {T : Type 0} → BuildSeen → Bool → Option ℕ → ℕ → List ℕ → Result T ErrorSeen → Look → List Event → Type 0

@@ -38,6 +38,6 @@ abbrev pub first_tried : Bool → List Planned → List (CommandSeen × Bool)
 first_tried refused [] = []
 first_tried refused (p ∷ ps) = (p.cmd, not refused) ∷ []
 
--- the same of the commands of a library: none where the archiver is libtool
+-- the same of the commands of a library: none where the archiver has one form alone
 abbrev pub form_tried : Bool → Bool → List Planned → List (CommandSeen × Bool)
-form_tried libtool refused cmds = if libtool then [] else first_tried refused cmds
+form_tried one_form refused cmds = if one_form then [] else first_tried refused cmds

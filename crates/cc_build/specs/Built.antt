@@ -7,14 +7,14 @@ use Rattle.cc_host.specs.declared.event.Event.{Event}
 use Rattle.cc_host.specs.declared.event.Event.TheVariants.{Removed}
 use Rattle.cc_host.specs.declared.event.Role.TheVariants.{Compile}
 use Rattle.cc_plan.specs.declared.settings.BuildConfig.{BuildConfig}
-use Rattle.cc_plan.specs.Plan.{library_of, compiles_of, archive_refusal}
+use Rattle.cc_plan.specs.Plan.{library_of, compiles_of, run_has_one_form, archive_refusal}
 use Rattle.cc_plan.specs.Given.{is_disabled}
 use Rattle.cc_plan.specs.Refusal.{early_refusal, late_refusal, link_refusal}
 use Rattle.cc_run.specs.Part.{started}
 use Rattle.cc_run.specs.Planned.{asked}
 use Rattle.cc_run.specs.Run.{Run, run_from, nothing}
 use Rattle.cc_build.specs.Attempts.{attempts, to_attempt, all_tried, form_tried}
-use Rattle.cc_build.specs.Stage.{planned, written_children, has_libtool, folder_stages, compile_stages, library_commands, list_stages, archive_stages, link_stages}
+use Rattle.cc_build.specs.Stage.{planned, written_children, folder_stages, compile_stages, library_commands, writing_stages, link_stages}
 use Rattle.cc_build.specs.Stage.Stage.{Asks}
 use Rattle.cc_build.specs.Way.{Way, Hears, Repeats}
 use Rattle.cc_build.specs.Went.{Terms, Goes}
@@ -49,16 +49,16 @@ pub record Built (t : Terms) (set : BuildConfig) (env : EnvSeen) (look : Look) (
   pub compiles : started runs ≡ asked t.shows (planned Compile (compiles_of set env look))
   -- and each of them has ended with 0
   pub ended : run_from nothing runs ≡ ended_well (length (compiles_of set env look))
-  -- the list of the objects was written where the archiver is libtool, then the planned archive commands and those of the index were run, one after
-  -- another
-  pub archived : Goes t (list_stages set env look output ++ archive_stages set env look way.is_plain output) archives
+  -- the list of the objects was written where the archiver is libtool, and the current folder was asked for where its commands run in that of the
+  -- library; then the planned archive commands and those of the index were run, one after another; for Visual Studio the library was copied
+  pub archived : Goes t (writing_stages set env way.writing look output) archives
   -- these alone were run
-  pub writes : attempts archives ≡ map to_attempt (library_commands set env look way.is_plain output)
-  -- the first of them was tried, unless it is libtool's: where it was refused the others are those of the plain form, else it has ended with 0
-  pub first : all_tried archives ≡ form_tried (has_libtool set env look) way.is_plain (library_commands set env look way.is_plain output)
+  pub writes : attempts archives ≡ map to_attempt (library_commands set env look way.writing output)
+  -- the first of them was tried, unless the archiver has one form: where it was refused the others are those of the plain form, else it has ended with 0
+  pub first : all_tried archives ≡ form_tried (run_has_one_form set env look) way.writing.is_plain (library_commands set env look way.writing output)
   -- the others were started, and each of them has ended with 0
-  pub others : started archives ≡ asked t.shows (written_children (has_libtool set env look) (library_commands set env look way.is_plain output))
-  pub written : run_from nothing archives ≡ ended_well (length (written_children (has_libtool set env look) (library_commands set env look way.is_plain output)))
+  pub others : started archives ≡ asked t.shows (written_children (run_has_one_form set env look) (library_commands set env look way.writing output))
+  pub written : run_from nothing archives ≡ ended_well (length (written_children (run_has_one_form set env look) (library_commands set env look way.writing output)))
   -- questions were asked, a host that listens was told of the compiler that decides on the C++ library, and then exactly the link lines were printed,
   -- and those of the variables that the run read
   pub linked : Goes t (Asks ∷ link_stages set env (is_some way.found.here) look way.firsts output) lines

@@ -25,14 +25,14 @@ abbrev pub form_aside : List Event → List Event
 form_aside [] = []
 form_aside (event ∷ part) = if is_form event then part else event ∷ form_aside part
 
--- the part without the first form, which an archiver may not know; libtool has one form, which it knows
+-- the part without the first form, which an archiver may not know; one that has one form alone knows it
 abbrev pub unforgiven : Bool → List Event → List Event
-unforgiven libtool part = if libtool then part else form_aside part
+unforgiven one_form part = if one_form then part else form_aside part
 
--- The first form of the archive aside, which libtool hasn't, some command of the part is missing, was started in it and ended with another status
+-- The first form of the archive aside, where there are two, some command of the part is missing, was started in it and ended with another status
 -- than 0, or was run to such an end.
 abbrev pub Failed : Bool → List Event → Type 0
-Failed libtool part = (missing (unforgiven libtool part) ≢ []) ⊎ (((run_from nothing part).failed ≢ None) ⊎ (list_any ran_badly (unforgiven libtool part) ≡ true))
+Failed one_form part = (missing (unforgiven one_form part) ≢ []) ⊎ (((run_from nothing part).failed ≢ None) ⊎ (list_any ran_badly (unforgiven one_form part) ≡ true))
 
 -- a fault, but one of what a question wants
 abbrev pub is_fault : Event → Bool

@@ -8,6 +8,7 @@ use Rattle.cc_plan.specs.Names.{linked_library}
 use Rattle.cc_plan.specs.Quiet.{quiet_warnings}
 use Rattle.cc_plan.specs.Refusal.{first_of, path_refusal, link_refusal}
 use Rattle.cc_plan.specs.Reruns.{rerun_names}
+use Rattle.cc_plan.specs.Target.{target_info}
 use Rattle.cc_plan.specs.declared.variables.Reads.{Reads}
 use Rattle.cc_plan.specs.declared.settings.BuildConfig.{BuildConfig}
 use Rattle.cc_build.specs.Build.{BuildSeen}
@@ -22,8 +23,8 @@ name_or_none None = []
 name_or_none (Some found) = found.0
 
 -- the name of the library at a path
-abbrev pub linked_name : List ℕ → List ℕ
-linked_name library = name_or_none (linked_library library)
+abbrev pub linked_name : BuildConfig → EnvSeen → List ℕ → List ℕ
+linked_name set env library = name_or_none (linked_library (target_info set env) library)
 
 -- what the lines read variables for
 abbrev pub link_reads : Reads
@@ -33,13 +34,13 @@ link_reads = record { disabled = false; debug = false; compiler = false; assembl
 -- is told of the compiler that decides on the C++ library.
 abbrev pub directive_stages : BuildConfig → EnvSeen → Bool → Look → Firsts → List ℕ → List Stage
 directive_stages set env listens look firsts library =
-    if is_some (path_refusal library) then []
-    else asked_then (link_refusal set env look) (printed_stages listens (quiet_warnings set env look) firsts (links_of set env (linked_name library) library look) (rerun_names link_reads set env look))
+    if is_some (path_refusal set env library) then []
+    else asked_then (link_refusal set env look) (printed_stages listens (quiet_warnings set env look) firsts (links_of set env (linked_name set env library) library look) (rerun_names link_reads set env look))
 
 -- the error of a path that is no library's, or of settings that are refused
 abbrev pub directive_error : BuildConfig → EnvSeen → Look → List ℕ → Option ErrorSeen
 directive_error set env look library =
-    first_of (option_map (plan_error set env library) (path_refusal library)) (option_map (plan_error set env library) (link_refusal set env look))
+    first_of (option_map (plan_error set env library) (path_refusal set env library)) (option_map (plan_error set env library) (link_refusal set env look))
 
 -- Ok: nothing is refused, and the lines were printed. Else the first were, and the error has its cause. No child is started, so this holds on any terms
 -- and uses nothing up.

@@ -1,5 +1,5 @@
 -- How the parts of a run end: each asks what it wants to know, and then does its stages.
-use Rattle.std.specs.Prelude.{◌≡◌, ℕ, Bool, List, ◌∷◌, [], ◌++◌, Option, None, is_some, Result, Ok, Err}
+use Rattle.std.specs.Prelude.{◌≡◌, ℕ, Bool, List, ◌∷◌, [], ◌++◌, Option, None, is_some, unwrap_or, Result, Ok, Err}
 use Rattle.std.specs.Option.{option_map}
 use Rattle.cc_host.specs.Question.{Look, Answer, Holds}
 use Rattle.cc_host.specs.declared.event.Event.{Event}
@@ -16,12 +16,12 @@ use Rattle.cc_run.specs.declared.planned.Shows.{Shows}
 use Rattle.cc_build.specs.Course.{Course, OnCourse, CallsEnd}
 use Rattle.cc_build.specs.Error.{ErrorSeen}
 use Rattle.cc_build.specs.Refusal.{plan_error}
-use Rattle.cc_build.specs.Seen.{stages_seen, opening_of, stages_of, form_stages, library_seen}
+use Rattle.cc_build.specs.Seen.{stages_seen, opening_of, stages_of, ready_steps, form_stages, library_seen}
 use Rattle.cc_build.specs.Stage.{Stage, calls, finding_steps, asked_then, compile_stages, library_stages, link_stages, links_of, name_stages, printed_stages, asked_stages, told_sources, told_library}
 use Rattle.cc_build.specs.Stage.Stage.{Asks, Tries}
-use Rattle.cc_build.specs.Way.{Way, Found, Firsts, Hears, Repeats}
+use Rattle.cc_build.specs.Way.{Way, Found, Writing, writing_of, Firsts, Hears, Repeats}
 use Rattle.cc_build.specs.Went.{Terms, Means, terms, Went, Halted, Ends}
-use Rattle.cc_build.specs.declared.library.Library.{Library}
+use Rattle.cc_plan.specs.declared.archive.Library.{Library}
 use Rattle.cc_build.specs.declared.stage.Stage.{Stage as Coded}
 use Rattle.cc_build.specs.declared.task.Task.{Task}
 
@@ -60,9 +60,9 @@ CompileEnds task result look part c = (found : Found) × (Hears task.reporting.s
 -- the library was written; or the run ended before the questions behind it
 abbrev pub LibraryEnds : {T : Type 0} → Task → Result T ErrorSeen → Look → List Event → Course → Type 0
 LibraryEnds task (Ok _) look part c =
-    (is_plain : Bool) × ((archive_refusal task.set.now task.env.now look ≡ None) × Went (task_terms task c) (Asks ∷ library_stages task.set.now task.env.now is_plain look task.output.now) part c.before c.after)
+    (writing : Writing) × ((archive_refusal task.set.now task.env.now look ≡ None) × Went (task_terms task c) (Asks ∷ library_stages task.set.now task.env.now writing look task.output.now) part c.before c.after)
 LibraryEnds task (Err e) look part c =
-    (is_plain : Bool) × Halted (task_terms task c) (error_in task (archive_refusal task.set.now task.env.now look)) (asked_then (archive_refusal task.set.now task.env.now look) (library_stages task.set.now task.env.now is_plain look task.output.now ++ Asks ∷ [])) part e c.before c.after
+    (writing : Writing) × Halted (task_terms task c) (error_in task (archive_refusal task.set.now task.env.now look)) (asked_then (archive_refusal task.set.now task.env.now look) (library_stages task.set.now task.env.now writing look task.output.now ++ Asks ∷ [])) part e c.before c.after
 
 -- the lines for Cargo were printed
 abbrev pub LinkEnds : {T : Type 0} → Task → Result T ErrorSeen → Look → List Event → Course → Type 0
@@ -91,7 +91,7 @@ CompiledEnds task reads result look part c =
 -- the library was written, and then those lines were printed
 abbrev pub WrittenEnds : {T : Type 0} → Task → Reads → Result T ErrorSeen → Look → List Event → Course → Type 0
 WrittenEnds task reads result look part c =
-    (is_plain : Bool) × (firsts : Firsts) × (Repeats task.set.now firsts × PhaseEnds task (archive_refusal task.set.now task.env.now look) (told_library task.set.now task.env.now reads is_plain look firsts task.output.now) result part c)
+    (writing : Writing) × (firsts : Firsts) × (Repeats task.set.now firsts × PhaseEnds task (archive_refusal task.set.now task.env.now look) (told_library task.set.now task.env.now reads writing look firsts task.output.now) result part c)
 
 -- all of this, one after another
 abbrev pub AskedEnds : {T : Type 0} → Task → Result T ErrorSeen → Look → List Event → Course → Type 0
@@ -108,16 +108,21 @@ abbrev pub TryEnds : Shows → Planned → Result Bool ErrorSeen → List Event 
 TryEnds shows p (Ok refused) part = (total patience : Option ℕ) (x : Means) → Went (terms shows total patience) (Tries refused p ∷ []) part x x
 TryEnds shows p (Err e) part = (total patience : Option ℕ) (refused : Bool) (x : Means) → Halted (terms shows total patience) None (Tries refused p ∷ []) part e x x
 
+-- the old library was removed, its list was written, and the current folder was told where it is wanted; or the error has its cause
+abbrev pub ReadyEnds : Library → Result (Option (List ℕ)) ErrorSeen → List Event → Type 0
+ReadyEnds library (Ok here) part = CallsEnd {T = Unit {0}} (ready_steps library (unwrap_or here [])) part (Ok tt)
+ReadyEnds library (Err e) part = (here : List ℕ) → CallsEnd {T = Unit {0}} (ready_steps library here) part (Err e)
+
 -- The commands of a library were begun: the first of their stages were done, which is the command that is tried or none, and those stages are left.
-abbrev pub Begins : Shows → Library → List Coded → List Event → Type 0
-Begins shows library left part =
-    (is_plain : Bool) × (first : List Stage) × ((form_stages library is_plain ≡ first ++ stages_seen left) × ((total patience : Option ℕ) (x : Means) → Went (terms shows total patience) first part x x))
+abbrev pub Begins : Shows → Library → List ℕ → List Coded → List Event → Type 0
+Begins shows library here left part =
+    (is_plain : Bool) × (first : List Stage) × ((form_stages library (writing_of is_plain here) ≡ first ++ stages_seen left) × ((total patience : Option ℕ) (x : Means) → Went (terms shows total patience) first part x x))
 
 -- or the run ended there, before the questions behind them
-abbrev pub BeginStops : Shows → Library → ErrorSeen → List Event → Type 0
-BeginStops shows library e part = (is_plain : Bool) × ((total patience : Option ℕ) (x : Means) → Halted (terms shows total patience) None (form_stages library is_plain ++ Asks ∷ []) part e x x)
+abbrev pub BeginStops : Shows → Library → List ℕ → ErrorSeen → List Event → Type 0
+BeginStops shows library here e part = (is_plain : Bool) × ((total patience : Option ℕ) (x : Means) → Halted (terms shows total patience) None (form_stages library (writing_of is_plain here) ++ Asks ∷ []) part e x x)
 
 -- the library was written, in the first form or in the plain one; or the run ended before the questions behind it
 abbrev pub WriteEnds : {T : Type 0} → Shows → Library → Result T ErrorSeen → List Event → Course → Type 0
-WriteEnds shows library (Ok _) part c = (is_plain : Bool) × Went (terms shows c.total c.patience) (library_seen library is_plain) part c.before c.after
-WriteEnds shows library (Err e) part c = (is_plain : Bool) × Halted (terms shows c.total c.patience) None (library_seen library is_plain ++ Asks ∷ []) part e c.before c.after
+WriteEnds shows library (Ok _) part c = (writing : Writing) × Went (terms shows c.total c.patience) (library_seen library writing) part c.before c.after
+WriteEnds shows library (Err e) part c = (writing : Writing) × Halted (terms shows c.total c.patience) None (library_seen library writing ++ Asks ∷ []) part e c.before c.after

@@ -12,11 +12,9 @@ use Rattle.cc_host.specs.Question.{Look}
 use Rattle.cc_host.specs.declared.event.LineKind.TheVariants.{Link, Rerun}
 use Rattle.cc_host.specs.declared.event.Role.{Role}
 use Rattle.cc_host.specs.declared.event.Role.TheVariants.{Compile, Archive, Index}
-use Rattle.cc_plan.specs.Archive.{archiver_of}
 use Rattle.cc_plan.specs.Given.{is_disabled}
-use Rattle.cc_plan.specs.Libtool.{is_libtool}
 use Rattle.cc_plan.specs.Link.{printed_links, link_lines as lines_of}
-use Rattle.cc_plan.specs.Plan.{compile_in, compiles_of, archives_of, indexes_of, lists_of_run, archive_refusal, link_lines, plan_warnings, warned_steps, objects_of, prints, warning_steps, folder_steps, removal_steps}
+use Rattle.cc_plan.specs.Plan.{compile_in, compiles_of, run_has_one_form, run_asks_folder, archives_of, indexes_of, lists_of_run, copy_steps, archive_refusal, link_lines, plan_warnings, warned_steps, objects_of, prints, warning_steps, folder_steps, removal_steps}
 use Rattle.cc_plan.specs.Quiet.{quiet_warnings}
 use Rattle.cc_plan.specs.Refusal.{is_empty, early_refusal, late_refusal, link_refusal}
 use Rattle.cc_plan.specs.Reruns.{rerun_line, rerun_names}
@@ -26,7 +24,8 @@ use Rattle.cc_plan.specs.declared.object.Object.{Object}
 use Rattle.cc_plan.specs.declared.variables.Reads.{Reads}
 use Rattle.cc_plan.specs.declared.settings.BuildConfig.{BuildConfig}
 use Rattle.cc_run.specs.declared.planned.Planned.{Planned}
-use Rattle.cc_build.specs.Way.{Way, Found, Firsts, chosen}
+use Rattle.cc_text.specs.Words.{when}
+use Rattle.cc_build.specs.Way.{Way, Found, Writing, Firsts, chosen}
 
 -- A call of the host, questions, a command that is tried, a command that runs alone, or commands that run beside each other. One that is tried
 -- runs to its end, and says whether it was refused: the run goes on either way.
@@ -88,13 +87,13 @@ tried refused [] = []
 tried refused (p ∷ ps) = Tries refused p ∷ in_turn ps
 
 -- The commands of a library. They run one after another, and the first is tried, since the archiver may not know its form: where it is refused,
--- those of the plain form follow. Libtool has one form, of which none is tried.
+-- those of the plain form follow. Of an archiver that has one form none is tried.
 abbrev pub written : Bool → Bool → List Planned → List Stage
-written libtool is_plain cmds = if libtool then in_turn cmds else tried is_plain cmds
+written one_form is_plain cmds = if one_form then in_turn cmds else tried is_plain cmds
 
 -- those of them that are started as children
 abbrev pub written_children : Bool → List Planned → List Planned
-written_children libtool cmds = if libtool then cmds else behind_first cmds
+written_children one_form cmds = if one_form then cmds else behind_first cmds
 
 -- these files are written, each with its bytes
 abbrev pub writings : List (List ℕ × List ℕ) → List Step
@@ -133,20 +132,26 @@ unfoldable pub removal_stages : BuildConfig → EnvSeen → List ℕ → List St
 removal_stages set env output = calls (removal_steps set env output)
 
 -- the commands that write the library, and then its index
-abbrev pub library_commands : BuildConfig → EnvSeen → Look → Bool → List ℕ → List Planned
-library_commands set env look is_plain output = planned Archive (archives_of set env look is_plain output) ++ planned Index (indexes_of set env look is_plain output)
+abbrev pub library_commands : BuildConfig → EnvSeen → Look → Writing → List ℕ → List Planned
+library_commands set env look writing output =
+    planned Archive (archives_of set env look writing.is_plain writing.here output) ++ planned Index (indexes_of set env look writing.is_plain output)
 
--- the archiver of a run is libtool
-abbrev pub has_libtool : BuildConfig → EnvSeen → Look → Bool
-has_libtool set env look = is_libtool (archiver_of set env look)
+-- the current folder, which is asked for or not
+abbrev pub asking_steps : Bool → List ℕ → List Step
+asking_steps asks here = when asks (Finds here ∷ [])
 
--- the list of the paths of all objects is written, where the archiver is libtool
-unfoldable pub list_stages : BuildConfig → EnvSeen → Look → List ℕ → List Stage
-list_stages set env look output = calls (writings (lists_of_run set env look output))
+-- before them the list of the paths of all objects is written, where the archiver is libtool, and the current folder is asked for, where they run in
+-- that of the library
+unfoldable pub ready_stages : BuildConfig → EnvSeen → Look → List ℕ → List ℕ → List Stage
+ready_stages set env look here output = calls (writings (lists_of_run set env look output) ++ asking_steps (run_asks_folder set env look output) here)
 
 -- those commands are run
-unfoldable pub archive_stages : BuildConfig → EnvSeen → Look → Bool → List ℕ → List Stage
-archive_stages set env look is_plain output = written (has_libtool set env look) is_plain (library_commands set env look is_plain output)
+unfoldable pub archive_stages : BuildConfig → EnvSeen → Look → Writing → List ℕ → List Stage
+archive_stages set env look writing output = written (run_has_one_form set env look) writing.is_plain (library_commands set env look writing output)
+
+-- for Visual Studio the library is copied to the file that its linkers look for
+unfoldable pub copy_stages : BuildConfig → EnvSeen → List ℕ → List Stage
+copy_stages set env output = calls (copy_steps set env output)
 
 -- the folder that a library's path has
 abbrev pub folder_in : List ℕ → List ℕ
@@ -193,21 +198,26 @@ link_stages set env listens look firsts output =
 abbrev pub ending_stages : BuildConfig → EnvSeen → Way → Look → List ℕ → List Stage
 ending_stages set env way look output = asked_then (link_refusal set env look) (link_stages set env (is_some way.found.here) look way.firsts output)
 
--- the old library is removed, and the new one is written
-abbrev pub library_stages : BuildConfig → EnvSeen → Bool → Look → List ℕ → List Stage
-library_stages set env is_plain look output = removal_stages set env output ++ (list_stages set env look output ++ archive_stages set env look is_plain output)
+-- the library is written and copied
+abbrev pub writing_stages : BuildConfig → EnvSeen → Writing → Look → List ℕ → List Stage
+writing_stages set env writing look output =
+    ready_stages set env look writing.here output ++ (archive_stages set env look writing output ++ copy_stages set env output)
+
+-- the old library is removed before
+abbrev pub library_stages : BuildConfig → EnvSeen → Writing → Look → List ℕ → List Stage
+library_stages set env writing look output = removal_stages set env output ++ writing_stages set env writing look output
 
 -- the sources are compiled, and by questions the lines of the variables that the call reads are printed
 abbrev pub told_sources : BuildConfig → EnvSeen → Reads → Found → Look → Firsts → List Stage
 told_sources set env reads found look firsts = compile_stages set env found look ++ Asks ∷ name_stages set env reads look firsts
 
 -- the same of the library, which is written
-abbrev pub told_library : BuildConfig → EnvSeen → Reads → Bool → Look → Firsts → List ℕ → List Stage
-told_library set env reads is_plain look firsts output = library_stages set env is_plain look output ++ Asks ∷ name_stages set env reads look firsts
+abbrev pub told_library : BuildConfig → EnvSeen → Reads → Writing → Look → Firsts → List ℕ → List Stage
+told_library set env reads writing look firsts output = library_stages set env writing look output ++ Asks ∷ name_stages set env reads look firsts
 
 -- the stages behind the sources
 unfoldable pub later_stages : BuildConfig → EnvSeen → Way → Look → List ℕ → List Stage
-later_stages set env way look output = asked_then (archive_refusal set env look) (library_stages set env way.is_plain look output ++ ending_stages set env way look output)
+later_stages set env way look output = asked_then (archive_refusal set env look) (library_stages set env way.writing look output ++ ending_stages set env way look output)
 
 -- The stages where commands may run. The questions of each part come right before it, and behind what the answers refuse comes nothing.
 abbrev pub asked_stages : BuildConfig → EnvSeen → Way → Look → List ℕ → List Stage

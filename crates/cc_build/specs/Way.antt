@@ -25,10 +25,19 @@ pub record Found : Type 0 where
 abbrev pub Hears : Bool → Found → Type 0
 Hears listens found = is_some found.here ≡ listens
 
-pub record Way : Type 0 where
-  pub found : Found
+-- what it finds out as it writes the library
+pub record Writing : Type 0 where
   -- whether the first form of its archive was refused, so that the plain form took its place
   pub is_plain : Bool
+  -- the current folder, where it is asked for before the archive commands, and of no matter else
+  pub here : List ℕ
+
+abbrev pub writing_of : Bool → List ℕ → Writing
+writing_of is_plain here = record { is_plain = is_plain; here = here }
+
+pub record Way : Type 0 where
+  pub found : Found
+  pub writing : Writing
   -- which of the lines that are printed once it prints
   pub firsts : Firsts
 

@@ -2,6 +2,7 @@
 ghost use Rattle.std.specs.Prelude.{◌≡◌, ◌++◌, ◌⊎◌, ◌+◌, ◌<◌, ◌^◌, Some, None, IfOk, IfErr, OnOk, false};
 ghost use Rattle.cc_host.specs.Call.{part};
 ghost use Rattle.cc_plan.specs.Given.{probe_folder};
+ghost use Rattle.cc_plan.specs.Names.{library_name};
 ghost use Rattle.cc_plan.specs.Plan.{objects_of, library_of};
 ghost use Rattle.cc_build.specs.Archiving.{archive_reads as reads_of, with_objects, unarchived_error, Creates};
 ghost use Rattle.cc_build.specs.Build.{AsksByRun};
@@ -56,6 +57,7 @@ fn check_archive(
     output: &str,
 ) -> Result<Sources, Error>
     ensures probes { IfOk result (λ sources. sources.dir ≡ probe_folder set.now env.now) }
+    ensures name { IfOk result (λ sources. sources.name ≡ library_name output.now) }
     ensures library { IfOk result (λ sources.
         sources.library ≡ library_of set.now env.now output.now) }
     ensures objects { IfOk result (λ sources. sources.objects.items ≡ objects_of set.now env.now) }
@@ -91,6 +93,7 @@ fn archive_and_tell<W: World, H: Host<W>, J: Jobs>(
     requires plain { shared.now.reads.ranlib ≡ false }
     requires dir { shared.now.sources.now.dir
         ≡ probe_folder shared.now.task.set.now shared.now.task.env.now }
+    requires name { shared.now.sources.now.name ≡ library_name shared.now.task.output.now }
     requires library { shared.now.sources.now.library ≡ library_of
         shared.now.task.set.now shared.now.task.env.now shared.now.task.output.now }
     requires objects { shared.now.sources.now.objects.items

@@ -181,9 +181,9 @@ fn compiling(
     Ok(stages)
 }
 
-// Asks for the current folder, where the host listens.
+/// Asks for the current folder, where it is wanted, as where the host listens.
 #[tactic(auto, using(cc_host::proofs::Parts::since_append))]
-fn find_here<W: World, H: Host<W>>(
+pub(crate) fn find_here<W: World, H: Host<W>>(
     alloc: Global,
     host: &mut H,
     listens: bool,

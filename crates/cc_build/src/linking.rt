@@ -52,7 +52,7 @@ pub fn emit_link_directives<W: World, H: Host<W>>(
         (DirectivesEnd build.now listens library.now result) }
 {
     let (alloc, set, env) = (build.alloc, &build.config, &build.env);
-    let (name, _) = match library_and_dir(alloc, library) {
+    let (name, _) = match library_and_dir(alloc, set, env, library) {
         Ok(found) => found,
         Err(error) => return Err(or_no_memory(plan_error(alloc, set, env, library, error))),
     };
@@ -83,7 +83,7 @@ pub fn emit_link_directives<W: World, H: Host<W>>(
     print_links(rt, &shared, host, &mut seat, &mut turns, &mut answers)
 }
 
-/// Prints the link lines of the library at a path, `lib<name>.a` with its folder, as `try_compile` does behind the library that it
+/// Prints the link lines of the library at a path, `lib<name>.a` with its folder, or `<name>.lib` for a target of Visual Studio, as `try_compile` does behind the library that it
 /// builds: by which name Cargo links it, where it is sought, and the C++ library that it wants. They are wanted where `cargo_metadata` is
 /// on; to find the C++ library the compiler may be asked, of whose plan a host that listens is told the warnings. Behind them are the lines
 /// of the variables that were read for them. The library itself isn't looked at.

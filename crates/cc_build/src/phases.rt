@@ -6,6 +6,7 @@ ghost use Rattle.cc_host.specs.Call.{part};
 ghost use Rattle.cc_host.specs.Question.{Holds, Settles};
 ghost use Rattle.cc_plan.specs.Given.{probe_folder};
 ghost use Rattle.cc_plan.specs.Libtool.{list_refusal};
+ghost use Rattle.cc_plan.specs.Names.{library_name};
 ghost use Rattle.cc_plan.specs.Plan.{objects_of, library_of, archived_of};
 ghost use Rattle.cc_plan.specs.Refusal.{late_refusal, archiver_refusal, link_refusal};
 ghost use Rattle.cc_plan.specs.Reruns.{rerun_names};
@@ -20,7 +21,7 @@ ghost use Rattle.cc_build.specs.Stage.{folder_in};
 use crate::Error;
 use crate::compiles::do_plan;
 use crate::directives::{Lines, first_stages};
-use crate::library::{Library, write_library};
+use crate::library::write_library;
 use crate::message::or_no_memory;
 use crate::refusal::plan_error;
 use crate::reruns::read_names;
@@ -29,8 +30,8 @@ use crate::task::{Shared, Task};
 use cc_host::{Host, World};
 use cc_jobs::Jobs;
 use cc_plan::{
-    Archiver, LinkPlan, Plan, PlanError, Sight, Sources, archived_paths, archiver_of, check_list,
-    plan_commands, plan_links as plan_of_links,
+    Archiver, Library, LinkPlan, Plan, PlanError, Sight, Sources, archived_paths, archiver_of,
+    check_list, plan_commands, plan_links as plan_of_links, target_info,
 };
 use cc_run::Turns;
 use cc_text::{Mem, Words, parent};
@@ -235,6 +236,7 @@ pub(crate) fn archive_objects<W: World, H: Host<W>, J: Jobs>(
     requires few { turns.old.left + turns.old.used < 2 ^ 64 }
     requires dir { shared.now.sources.now.dir
         ≡ probe_folder shared.now.task.set.now shared.now.task.env.now }
+    requires name { shared.now.sources.now.name ≡ library_name shared.now.task.output.now }
     requires library { shared.now.sources.now.library ≡ library_of
         shared.now.task.set.now shared.now.task.env.now shared.now.task.output.now }
     requires objects { shared.now.sources.now.objects.items
@@ -261,10 +263,15 @@ pub(crate) fn archive_objects<W: World, H: Host<W>, J: Jobs>(
     };
     let (task, sources) = (&shared.task, shared.sources);
     let paths = read_paths(task, &archiver, sources)?;
+    let target = target_info(task.set, task.env);
+    let name = sources.name.as_str();
+    let path = sources.library.as_str();
     let library = Library {
+        target: &target,
         archiver: &archiver,
         env: task.env,
-        path: sources.library.as_str(),
+        name,
+        path,
         paths: &paths,
     };
     write_library(task.reporting, host, shared.jobs, seat, turns, &library)

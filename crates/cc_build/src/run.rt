@@ -2,7 +2,7 @@
 ghost use Rattle.std.specs.Prelude.{◌≡◌, ◌+◌, ◌<◌, ◌≤◌, ◌^◌, [], ◌∷◌, length, IfOk};
 ghost use Rattle.std.specs.List.{All};
 ghost use Rattle.cc_host.specs.Call.{part};
-ghost use Rattle.cc_host.specs.Part.Step.{Makes, Removes, Writes, Prints, Says, Lists};
+ghost use Rattle.cc_host.specs.Part.Step.{Makes, Removes, Writes, Copies, Prints, Says, Lists};
 ghost use Rattle.cc_host.specs.declared.event.Event.TheVariants.{Listed};
 ghost use Rattle.cc_host.specs.declared.event.Role.TheVariants.{Compile};
 ghost use Rattle.cc_host.specs.declared.event.Scope.TheVariants.{Build};
@@ -136,7 +136,7 @@ pub(crate) fn make_folder<W: World, H: Host<W>>(
     }
 }
 
-/// Removes the old library, if there is one.
+/// Removes an old library, if there is one.
 #[tactic(auto, using(cc_host::proofs::Parts::since_append))]
 pub(crate) fn remove_library<W: World, H: Host<W>>(
     alloc: Global,
@@ -149,6 +149,24 @@ pub(crate) fn remove_library<W: World, H: Host<W>>(
     match host.remove_file(path) {
         Ok(_) => Ok(()),
         Err(error) => Err(or_no_memory(host_error(alloc, error, path))),
+    }
+}
+
+/// Copies the library.
+#[tactic(auto, using(cc_host::proofs::Parts::since_append))]
+pub(crate) fn copy_library<W: World, H: Host<W>>(
+    alloc: Global,
+    host: &mut H,
+    from: &str,
+    to: &str,
+) -> Result<(), Error>
+    ensures aside { Aside H.log H.patience host.old host.new }
+    ensures outcome { CallsEnd (Copies from.now to.now ∷ [])
+        (part H.log host.old host.new) result }
+{
+    match host.copy_file(from, to) {
+        Ok(()) => Ok(()),
+        Err(error) => Err(or_no_memory(host_error(alloc, error, to))),
     }
 }
 

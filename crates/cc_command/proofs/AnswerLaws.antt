@@ -47,10 +47,10 @@ answers_refused listens look q run line part e ended c cut refused (inr wanting)
 
 -- the variables were not listed, or memory for their snapshot was wanted
 pub uncaptured : (listens : Bool) (look : Look) (q : Request) (run : List Event) (e : ErrorSeen) (t : Terms) (x : Means) → CaptureEnds run (Err e) → (finds : Findings listens) × Halted t (error_of look q run) (stages_of listens look q finds run) run e x x
-uncaptured listens look q run e t x (inl h) = (unfound listens, halted_more t (error_of look q run) (Calls Lists ∷ []) (planned_stages q.1.config (env_in q run) (repeating (unfound listens).here (unfound listens).is_plain) look q.0) run e x x (h t x))
+uncaptured listens look q run e t x (inl h) = (unfound listens, halted_more t (error_of look q run) (Calls Lists ∷ []) (planned_stages q.1.config (env_in q run) (repeating (unfound listens).here (unfound listens).writing) look q.0) run e x x (h t x))
 uncaptured listens look q run e t x (inr w) = (
   unfound listens,
-  halted_among t (error_of look q run) (Calls Lists ∷ []) (planned_stages q.1.config (env_in q run) (repeating (unfound listens).here (unfound listens).is_plain) look q.0) run e x x (w.1 t x).1 w.0 (planned_open q.1.config (env_in q run) (repeating (unfound listens).here (unfound listens).is_plain) look q.0),
+  halted_among t (error_of look q run) (Calls Lists ∷ []) (planned_stages q.1.config (env_in q run) (repeating (unfound listens).here (unfound listens).writing) look q.0) run e x x (w.1 t x).1 w.0 (planned_open q.1.config (env_in q run) (repeating (unfound listens).here (unfound listens).writing) look q.0),
 )
 
 -- the host listed its variables
@@ -84,8 +84,8 @@ module _ (listens : Bool) (look : Look) (name : List ℕ) (before after : BuildS
   answers_built ended is built h =
       let promises = as_taken {T = Unit {0}} (Ok tt) h in
       let way = promises.way in
-      let run : Went t (planned_stages before.config taken.env (repeating way.found.here way.is_plain) look name) (since mid new) x y = went_same before.config taken.env way look name t (since mid new) x y repeats promises.repeats promises.outcome.1 in
-      let went : Went t (Calls Lists ∷ planned_stages before.config taken.env (repeating way.found.here way.is_plain) look name) (Listed k.vars ∷ since mid new) x y = (Listed k.vars ∷ [], since mid new, x, (refl, listing_done t k.vars x, run)) in
+      let run : Went t (planned_stages before.config taken.env (repeating way.found.here way.writing) look name) (since mid new) x y = went_same before.config taken.env way look name t (since mid new) x y repeats promises.repeats promises.outcome.1 in
+      let went : Went t (Calls Lists ∷ planned_stages before.config taken.env (repeating way.found.here way.writing) look name) (Listed k.vars ∷ since mid new) x y = (Listed k.vars ∷ [], since mid new, x, (refl, listing_done t k.vars x, run)) in
       subst (λ (part : List Event). Answers listens look (name, before) part ended (course total q x y)) (sym listed)
       (inl (is, (record { vars = k.vars; run = since mid new; cut = refl; built = built_taken built }, (finds_of listens way promises.hears, went))))
 
@@ -95,10 +95,10 @@ module _ (listens : Bool) (look : Look) (name : List ℕ) (before after : BuildS
       let promises = as_taken {T = Unit {0}} (Err e) h in
       let way = promises.way in
       let refusal = refusal_error before.config taken.env look name in
-      let run : Halted t refusal (planned_stages before.config taken.env (repeating way.found.here way.is_plain) look name) (since mid new) e x y = halted_same before.config taken.env way look name t refusal (since mid new) e x y repeats promises.repeats promises.outcome in (
+      let run : Halted t refusal (planned_stages before.config taken.env (repeating way.found.here way.writing) look name) (since mid new) e x y = halted_same before.config taken.env way look name t refusal (since mid new) e x y repeats promises.repeats promises.outcome in (
         finds_of listens way promises.hears,
         subst (λ (part : List Event). Halted (terms_in listens (name, before) part (course total q x y)) (error_of look (name, before) part) (stages_of listens look (name, before) (finds_of listens way promises.hears) part) part e x y) (sym listed)
-            (halted_then t refusal (Calls Lists ∷ []) (planned_stages before.config taken.env (repeating way.found.here way.is_plain) look name) (Listed k.vars ∷ []) (since mid new) e x x y (called t Lists (Listed k.vars) (Listed k.vars ∷ []) x refl refl) run),
+            (halted_then t refusal (Calls Lists ∷ []) (planned_stages before.config taken.env (repeating way.found.here way.writing) look name) (Listed k.vars ∷ []) (since mid new) e x x y (called t Lists (Listed k.vars) (Listed k.vars ∷ []) x refl refl) run),
       )
 
 -- the same request, by its name

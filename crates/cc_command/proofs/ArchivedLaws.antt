@@ -1,5 +1,5 @@
 -- What an archive alone answers, and what follows from it.
-use Rattle.cc_build.specs.Way.{all_firsts}
+use Rattle.cc_build.specs.Way.{all_firsts, Writing}
 use Rattle.cc_plan.specs.Reruns.{rerun_names}
 use Rattle.std.proofs.Common.{◌≡◌, ◌⊎◌, inl, inr, ℕ, ◌+◌, ◌<◌, List, [], ◌∷◌, ◌++◌, length, map, Bool, true, false, if◌then◌else◌, is_some, Option, Some, None, option_map, Result, Ok, Err, refl, sym, ◌∙◌, ap, ap₂, subst, append_assoc, append-nil, zero-add, arith}
 use Rattle.std.specs.Prelude.{◌≤◌, ◌*◌}
@@ -15,7 +15,7 @@ use Rattle.cc_host.specs.declared.question.Outcome.{Outcome}
 use Rattle.cc_host.specs.declared.question.Question.{Question}
 use Rattle.cc_jobs.specs.Seats.{Rose}
 use Rattle.cc_plan.specs.Given.{is_disabled, probe_folder}
-use Rattle.cc_plan.specs.Plan.{archive_refusal, lists_of_run, removal_steps}
+use Rattle.cc_plan.specs.Plan.{archive_refusal, lists_of_run, removal_steps, run_asks_folder, copy_steps, run_has_one_form}
 use Rattle.cc_plan.specs.Questions.{RunAsks, PlanAsks, ArchiverAsks, RanlibAsks}
 use Rattle.cc_plan.specs.Quiet.{quiet_warnings}
 use Rattle.cc_plan.specs.Refusal.{first_of, name_refusal, early_refusal, path_refusal, link_refusal}
@@ -39,7 +39,7 @@ use Rattle.cc_build.specs.Linking.{linked_name, link_reads}
 use Rattle.cc_build.specs.Promises.{terms_for, AreFirst, NothingRuns}
 use Rattle.cc_build.specs.Refusal.{plan_error}
 use Rattle.cc_build.specs.Shows.{shows_of}
-use Rattle.cc_build.specs.Stage.{Stage, asked_then, archive_stages as library_archive, calls, commands_in, children_in, has_libtool, removal_stages, list_stages, library_commands, library_stages, links_of, name_stages, printed_stages, written, written_children, writings, ending_steps, rerun_lines}
+use Rattle.cc_build.specs.Stage.{Stage, asked_then, archive_stages as library_archive, calls, commands_in, children_in, removal_stages, library_commands, library_stages, links_of, name_stages, printed_stages, written, written_children, writings, ending_steps, rerun_lines, ready_stages, copy_stages, asking_steps}
 use Rattle.cc_build.specs.Stage.Stage.{Asks, Calls}
 use Rattle.cc_build.specs.Went.{Terms, Means, Ends, Partly}
 use Rattle.cc_build.proofs.FormLaws.{FormFirst, formed_then, formed_unless, library_first, none_first}
@@ -69,8 +69,8 @@ use Rattle.cc_command.proofs.SettledPromises.{stages_settled, attempts_same}
 -- ---- what was done for it
 
 -- stages that are none go with a refusal
-archive_open : (b : BuildSeen) (listens : Bool) (look links : Look) (output : List ℕ) (is_plain : Bool) → archive_stages b listens is_plain look links output ≡ [] → is_some (archive_refused b look links output) ≡ true
-archive_open b listens look links output is_plain = by_early (unarchived_error (alone b).config (alone b).env output) _ _
+archive_open : (b : BuildSeen) (listens : Bool) (look links : Look) (output : List ℕ) (writing : Writing) → archive_stages b listens writing look links output ≡ [] → is_some (archive_refused b look links output) ≡ true
+archive_open b listens look links output writing = by_early (unarchived_error (alone b).config (alone b).env output) _ _
   where
     by_early : (early late : Option ErrorSeen) (run : List Stage) → (if is_some early then [] else Asks ∷ run) ≡ [] → is_some (first_of early late) ≡ true
     by_early None late run h = absurd (cc)
@@ -137,10 +137,10 @@ module _ (listens : Bool) (steady : Bool) (world : Question → Outcome) (patien
     abbrev taken : BuildSeen
     taken = record before { env = with_vars before.env k.vars }
 
-    listed_ends : (look links : Look) (left : ℕ) (is_plain : Bool) → Ends (terms_for (alone taken) listens (course_alone patience turns left)) (archive_refused taken look links name) (archive_stages taken listens is_plain look links name) part result (course_alone patience turns left).before (course_alone patience turns left).after → Ends (terms_for (alone taken) listens (course_alone patience turns left)) (archive_refused taken look links name) (Calls Lists ∷ archive_stages taken listens is_plain look links name) listed_run result (course_alone patience turns left).before (course_alone patience turns left).after
-    listed_ends look links left is_plain o =
+    listed_ends : (look links : Look) (left : ℕ) (writing : Writing) → Ends (terms_for (alone taken) listens (course_alone patience turns left)) (archive_refused taken look links name) (archive_stages taken listens writing look links name) part result (course_alone patience turns left).before (course_alone patience turns left).after → Ends (terms_for (alone taken) listens (course_alone patience turns left)) (archive_refused taken look links name) (Calls Lists ∷ archive_stages taken listens writing look links name) listed_run result (course_alone patience turns left).before (course_alone patience turns left).after
+    listed_ends look links left writing o =
         let c = course_alone patience turns left in
-        ends_then (terms_for (alone taken) listens c) (archive_refused taken look links name) (Calls Lists ∷ []) (archive_stages taken listens is_plain look links name) (Listed k.vars ∷ []) part result c.before c.before c.after (called (terms_for (alone taken) listens c) Lists (Listed k.vars) (Listed k.vars ∷ []) c.before refl refl) o
+        ends_then (terms_for (alone taken) listens c) (archive_refused taken look links name) (Calls Lists ∷ []) (archive_stages taken listens writing look links name) (Listed k.vars ∷ []) part result c.before c.before c.after (called (terms_for (alone taken) listens c) Lists (Listed k.vars) (Listed k.vars ∷ []) c.before refl refl) o
 
     of_taken : Archiving listens steady world after patience turns name part result → Archiving listens steady world taken patience turns name part result
     of_taken h = subst (λ (b : BuildSeen). Archiving listens steady world b patience turns name part result) k.is h
@@ -174,40 +174,49 @@ archived_wanting listens steady world patience turns log (Err bad) ended is = tt
 
 -- ---- the commands of a library
 
-module _ (set : BuildConfig) (env : EnvSeen) (is_plain : Bool) (look : Look) (output : List ℕ) where
+module _ (set : BuildConfig) (env : EnvSeen) (writing : Writing) (look : Look) (output : List ℕ) where
   abbrev old : List Stage
   old = calls (removal_steps set env output)
 
-  abbrev listed : List Stage
-  listed = calls (writings (lists_of_run set env look output))
+  abbrev readying : List Step
+  readying = writings (lists_of_run set env look output) ++ asking_steps (run_asks_folder set env look output) writing.here
 
-  commands_library : commands_in (library_stages set env is_plain look output) ≡ library_commands set env look is_plain output
-  unfolding removal_stages list_stages library_archive
+  abbrev ready : List Stage
+  ready = calls readying
+
+  abbrev run : List Stage
+  run = written (run_has_one_form set env look) writing.is_plain (library_commands set env look writing output)
+
+  abbrev copy : List Stage
+  copy = calls (copy_steps set env output)
+
+  commands_library : commands_in (library_stages set env writing look output) ≡ library_commands set env look writing output
+  unfolding removal_stages ready_stages library_archive copy_stages
   commands_library =
-      let run = written (has_libtool set env look) is_plain (library_commands set env look is_plain output) in
-      commands_then old (listed ++ run) ∙ ap (λ l. l ++ commands_in (listed ++ run)) (commands_calls (removal_steps set env output))
-      ∙ commands_then listed run ∙ ap (λ l. l ++ commands_in run) (commands_calls (writings (lists_of_run set env look output)))
-      ∙ commands_written (has_libtool set env look) is_plain (library_commands set env look is_plain output)
+      commands_then old (ready ++ (run ++ copy)) ∙ ap (λ l. l ++ commands_in (ready ++ (run ++ copy))) (commands_calls (removal_steps set env output))
+      ∙ commands_then ready (run ++ copy) ∙ ap (λ l. l ++ commands_in (run ++ copy)) (commands_calls readying)
+      ∙ commands_then run copy ∙ ap (λ l. commands_in run ++ l) (commands_calls (copy_steps set env output)) ∙ append-nil (commands_in run)
+      ∙ commands_written (run_has_one_form set env look) writing.is_plain (library_commands set env look writing output)
 
-  children_library : children_in (library_stages set env is_plain look output) ≡ written_children (has_libtool set env look) (library_commands set env look is_plain output)
-  unfolding removal_stages list_stages library_archive
+  children_library : children_in (library_stages set env writing look output) ≡ written_children (run_has_one_form set env look) (library_commands set env look writing output)
+  unfolding removal_stages ready_stages library_archive copy_stages
   children_library =
-      let run = written (has_libtool set env look) is_plain (library_commands set env look is_plain output) in
-      children_then old (listed ++ run) ∙ ap (λ l. l ++ children_in (listed ++ run)) (children_calls (removal_steps set env output))
-      ∙ children_then listed run ∙ ap (λ l. l ++ children_in run) (children_calls (writings (lists_of_run set env look output)))
-      ∙ children_written (has_libtool set env look) is_plain (library_commands set env look is_plain output)
+      children_then old (ready ++ (run ++ copy)) ∙ ap (λ l. l ++ children_in (ready ++ (run ++ copy))) (children_calls (removal_steps set env output))
+      ∙ children_then ready (run ++ copy) ∙ ap (λ l. l ++ children_in (run ++ copy)) (children_calls readying)
+      ∙ children_then run copy ∙ ap (λ l. children_in run ++ l) (children_calls (copy_steps set env output)) ∙ append-nil (children_in run)
+      ∙ children_written (run_has_one_form set env look) writing.is_plain (library_commands set env look writing output)
 
 -- ---- its stages
 
-module _ (b : BuildSeen) (listens is_plain : Bool) (look links : Look) (output : List ℕ) where
+module _ (b : BuildSeen) (listens : Bool) (writing : Writing) (look links : Look) (output : List ℕ) where
   abbrev texts : List (List ℕ)
   texts = quiet_warnings b.config b.env links
 
   abbrev lines : List Stage
-  lines = printed_stages listens texts all_firsts (links_of b.config b.env (linked_name (library_at b output)) (library_at b output) links) (rerun_names link_reads b.config b.env links)
+  lines = printed_stages listens texts all_firsts (links_of b.config b.env (linked_name b.config b.env (library_at b output)) (library_at b output) links) (rerun_names link_reads b.config b.env links)
 
   abbrev unlinked : Bool
-  unlinked = is_some (first_of (path_refusal (library_at b output)) (link_refusal b.config b.env links))
+  unlinked = is_some (first_of (path_refusal b.config b.env (library_at b output)) (link_refusal b.config b.env links))
 
   abbrev names : List Stage
   names = name_stages (alone b).config (alone b).env archive_reads look all_firsts
@@ -216,10 +225,10 @@ module _ (b : BuildSeen) (listens is_plain : Bool) (look links : Look) (output :
   read = rerun_lines (rerun_names archive_reads (alone b).config (alone b).env look)
 
   abbrev shown : List Step
-  shown = ending_steps listens texts all_firsts (links_of b.config b.env (linked_name (library_at b output)) (library_at b output) links) (rerun_names link_reads b.config b.env links)
+  shown = ending_steps listens texts all_firsts (links_of b.config b.env (linked_name b.config b.env (library_at b output)) (library_at b output) links) (rerun_names link_reads b.config b.env links)
 
   shown_notes : AreNotes shown
-  shown_notes = ending_notes listens texts all_firsts (links_of b.config b.env (linked_name (library_at b output)) (library_at b output) links) (rerun_names link_reads b.config b.env links)
+  shown_notes = ending_notes listens texts all_firsts (links_of b.config b.env (linked_name b.config b.env (library_at b output)) (library_at b output) links) (rerun_names link_reads b.config b.env links)
 
   abbrev behind : List Stage
   behind = behind_library b listens look links output
@@ -227,21 +236,21 @@ module _ (b : BuildSeen) (listens is_plain : Bool) (look links : Look) (output :
   behind_plain : ArePlain behind
   behind_plain = (tt, plain_then names (directed_stages b listens links (library_at b output)) (plain_lines Rerun read) (tt, plain_unless unlinked lines (plain_notes shown shown_notes)))
 
-  alone_plain : ArePlain (Calls Lists ∷ archive_stages b listens is_plain look links output)
+  alone_plain : ArePlain (Calls Lists ∷ archive_stages b listens writing look links output)
   alone_plain = (
     tt,
     plain_unless (is_some (unarchived_error (alone b).config (alone b).env output)) _
-        (tt, plain_unless (is_some (archive_refusal (alone b).config (alone b).env look)) _ (plain_library (alone b).config (alone b).env is_plain look output behind behind_plain)),
+        (tt, plain_unless (is_some (archive_refusal (alone b).config (alone b).env look)) _ (plain_library (alone b).config (alone b).env writing look output behind behind_plain)),
   )
 
   behind_first : FormFirst behind
   behind_first = inr (refl, formed_then names (directed_stages b listens links (library_at b output)) (no_line_archives Rerun read) (inr (refl, formed_unless unlinked lines (none_first lines (no_note_archives shown shown_notes)))))
 
-  alone_first : has_libtool (alone b).config (alone b).env look ≡ false → FormFirst (Calls Lists ∷ archive_stages b listens is_plain look links output)
+  alone_first : run_has_one_form (alone b).config (alone b).env look ≡ false → FormFirst (Calls Lists ∷ archive_stages b listens writing look links output)
   alone_first other = inr (
     refl,
     formed_unless (is_some (unarchived_error (alone b).config (alone b).env output)) _
-        (inr (refl, formed_unless (is_some (archive_refusal (alone b).config (alone b).env look)) _ (library_first (alone b).config (alone b).env (repeating None is_plain) look output behind behind_first other))),
+        (inr (refl, formed_unless (is_some (archive_refusal (alone b).config (alone b).env look)) _ (library_first (alone b).config (alone b).env (repeating None writing) look output behind behind_first other))),
   )
 
   unless_commands : (d : Bool) (stages : List Stage) → commands_in stages ≡ [] → commands_in (if d then [] else stages) ≡ []
@@ -259,12 +268,12 @@ module _ (b : BuildSeen) (listens is_plain : Bool) (look links : Look) (output :
   behind_children : children_in behind ≡ []
   behind_children = children_then names (directed_stages b listens links (library_at b output)) ∙ ap₂ (λ u v. u ++ v) (name_children (alone b).config (alone b).env archive_reads look all_firsts) (unless_children unlinked lines (children_calls shown))
 
-  alone_count : count (Calls Lists ∷ archive_stages b listens is_plain look links output) ≤ length b.config.objects + 2
+  alone_count : count (Calls Lists ∷ archive_stages b listens writing look links output) ≤ length b.config.objects + 2
   alone_count =
-      let few : count (archive_stages b listens is_plain look links output) ≤ 0 + length b.config.objects + 2 =
+      let few : count (archive_stages b listens writing look links output) ≤ 0 + length b.config.objects + 2 =
       unless_few (is_some (unarchived_error (alone b).config (alone b).env output)) _ (0 + length b.config.objects + 2)
       (unless_few (is_some (archive_refusal (alone b).config (alone b).env look)) _ (0 + length b.config.objects + 2)
-      (ended_count (alone b).config (alone b).env look is_plain output behind (ap length behind_commands))) in
+      (ended_count (alone b).config (alone b).env look writing output behind (ap length behind_commands))) in
       omega arith
 
   -- no settings that are refused spend the turns
@@ -273,7 +282,7 @@ module _ (b : BuildSeen) (listens is_plain : Bool) (look links : Look) (output :
       let set = (alone b).config in
       let env = (alone b).env in
       first_never (unarchived_error set env output) _ (first_never _ _ (mapped set env output (name_refusal output)) (disabled_or (is_disabled env) _ (mapped set env output (early_refusal set env output))))
-      (first_never _ _ (mapped set env output (archive_refusal set env look)) (first_never _ _ (mapped b.config b.env (library_at b output) (path_refusal (library_at b output))) (mapped b.config b.env (library_at b output) (link_refusal b.config b.env links))))
+      (first_never _ _ (mapped set env output (archive_refusal set env look)) (first_never _ _ (mapped b.config b.env (library_at b output) (path_refusal b.config b.env (library_at b output))) (mapped b.config b.env (library_at b output) (link_refusal b.config b.env links))))
 
   -- ---- those of settings that nothing refuses
 
@@ -283,21 +292,21 @@ module _ (b : BuildSeen) (listens is_plain : Bool) (look links : Look) (output :
   all_stages None None f late run none = refl
 
   module _ (accepted : archive_refused b look links output ≡ None) where
-    stages_are : archive_stages b listens is_plain look links output ≡ Asks ∷ (library_stages (alone b).config (alone b).env is_plain look output ++ behind)
-    stages_are = all_stages (unarchived_error (alone b).config (alone b).env output) (archive_refusal (alone b).config (alone b).env look) (plan_error (alone b).config (alone b).env output) _ (library_stages (alone b).config (alone b).env is_plain look output ++ behind) accepted
+    stages_are : archive_stages b listens writing look links output ≡ Asks ∷ (library_stages (alone b).config (alone b).env writing look output ++ behind)
+    stages_are = all_stages (unarchived_error (alone b).config (alone b).env output) (archive_refusal (alone b).config (alone b).env look) (plan_error (alone b).config (alone b).env output) _ (library_stages (alone b).config (alone b).env writing look output ++ behind) accepted
 
     abbrev commands : List Planned
-    commands = library_commands (alone b).config (alone b).env look is_plain output
+    commands = library_commands (alone b).config (alone b).env look writing output
 
-    commands_are : commands_in (Calls Lists ∷ archive_stages b listens is_plain look links output) ≡ commands
+    commands_are : commands_in (Calls Lists ∷ archive_stages b listens writing look links output) ≡ commands
     commands_are =
-        ap commands_in stages_are ∙ commands_then (library_stages (alone b).config (alone b).env is_plain look output) behind ∙ ap (λ l. commands_in (library_stages (alone b).config (alone b).env is_plain look output) ++ l) behind_commands
-        ∙ append-nil (commands_in (library_stages (alone b).config (alone b).env is_plain look output)) ∙ commands_library (alone b).config (alone b).env is_plain look output
+        ap commands_in stages_are ∙ commands_then (library_stages (alone b).config (alone b).env writing look output) behind ∙ ap (λ l. commands_in (library_stages (alone b).config (alone b).env writing look output) ++ l) behind_commands
+        ∙ append-nil (commands_in (library_stages (alone b).config (alone b).env writing look output)) ∙ commands_library (alone b).config (alone b).env writing look output
 
-    children_are : children_in (Calls Lists ∷ archive_stages b listens is_plain look links output) ≡ written_children (has_libtool (alone b).config (alone b).env look) commands
+    children_are : children_in (Calls Lists ∷ archive_stages b listens writing look links output) ≡ written_children (run_has_one_form (alone b).config (alone b).env look) commands
     children_are =
-        ap children_in stages_are ∙ children_then (library_stages (alone b).config (alone b).env is_plain look output) behind ∙ ap (λ l. children_in (library_stages (alone b).config (alone b).env is_plain look output) ++ l) behind_children
-        ∙ append-nil (children_in (library_stages (alone b).config (alone b).env is_plain look output)) ∙ children_library (alone b).config (alone b).env is_plain look output
+        ap children_in stages_are ∙ children_then (library_stages (alone b).config (alone b).env writing look output) behind ∙ ap (λ l. children_in (library_stages (alone b).config (alone b).env writing look output) ++ l) behind_children
+        ∙ append-nil (children_in (library_stages (alone b).config (alone b).env writing look output)) ∙ children_library (alone b).config (alone b).env writing look output
 
 -- ---- its line
 
@@ -320,7 +329,7 @@ too_few p n objects most turned few counted enough same =
     let more : p * n ≤ p * (objects + 2) = mul-le-mul_left p (omega (arith, counted)) in
     omega arith
 
-module _ (listens : Bool) (q : Request) (patience : Option ℕ) (turned : ℕ) (part run line : List Event) (ended : Ended) (look links : Look) (left : ℕ) (is_plain : Bool) (cut : part ≡ run ++ line) where
+module _ (listens : Bool) (q : Request) (patience : Option ℕ) (turned : ℕ) (part run line : List Event) (ended : Ended) (look links : Look) (left : ℕ) (writing : Writing) (cut : part ≡ run ++ line) where
   abbrev b : BuildSeen
   b = build_in q run
 
@@ -337,7 +346,7 @@ module _ (listens : Bool) (q : Request) (patience : Option ℕ) (turned : ℕ) (
   refusal = wished_refusal q look links run
 
   abbrev stages : List Stage
-  stages = wished_stages q listens is_plain look links run
+  stages = wished_stages q listens writing look links run
 
   -- status 0: nothing was refused, and the library was written
   written_of : (result : Result (Unit {0}) ErrorSeen) → Says result line ended → ended.status ≡ 0 → Ends t refusal stages run result x y → (line ≡ []) × Written listens b patience turned look links q.0 run
@@ -345,23 +354,23 @@ module _ (listens : Bool) (q : Request) (patience : Option ℕ) (turned : ℕ) (
     says.1,
     record {
       accepted = o.0;
-      is_plain = is_plain;
+      writing = writing;
       left = left;
       went = o.1;
-      writes = went_attempts t stages run x y (alone_plain b listens is_plain look links q.0) o.1 ∙ ap (map to_attempt) (commands_are b listens is_plain look links q.0 o.0);
-      others = went_started t stages run x y o.1 ∙ ap (asked (shows_of (alone b).config (alone b).env listens)) (children_are b listens is_plain look links q.0 o.0);
-      ended = went_run t stages run x y 0 o.1 ∙ ap all_ended (zero-add (length (children_in stages))) ∙ ap (λ l. all_ended (length l)) (children_are b listens is_plain look links q.0 o.0);
+      writes = went_attempts t stages run x y (alone_plain b listens writing look links q.0) o.1 ∙ ap (map to_attempt) (commands_are b listens writing look links q.0 o.0);
+      others = went_started t stages run x y o.1 ∙ ap (asked (shows_of (alone b).config (alone b).env listens)) (children_are b listens writing look links q.0 o.0);
+      ended = went_run t stages run x y 0 o.1 ∙ ap all_ended (zero-add (length (children_in stages))) ∙ ap (λ l. all_ended (length l)) (children_are b listens writing look links q.0 o.0);
     },
   )
   written_of (Err e) (inl printed) zero_is o = let s : ended.status ≡ 1 = ap (λ (v : Ended). v.status) printed.0 in absurd (cc)
   written_of (Err e) (inr wanting) zero_is o = let s : ended.status ≡ 3 = ap (λ (v : Ended). v.status) wanting.0 in absurd (cc)
 
   -- what is done where nothing is refused and nothing failed
-  complete_of : (result : Result (Unit {0}) ErrorSeen) → Says result line ended → Ends t refusal stages run result x y → refusal ≡ None → (Failed (has_libtool (alone b).config (alone b).env look) part → ⊥) → (HasFault part → ⊥) → (ended ≡ ended_well) ⊎ (EndsSpent turned part ended ⊎ (ended ≡ ended_wanting))
+  complete_of : (result : Result (Unit {0}) ErrorSeen) → Says result line ended → Ends t refusal stages run result x y → refusal ≡ None → (Failed (run_has_one_form (alone b).config (alone b).env look) part → ⊥) → (HasFault part → ⊥) → (ended ≡ ended_well) ⊎ (EndsSpent turned part ended ⊎ (ended ≡ ended_wanting))
   complete_of (Ok done) says o allowed failed fault = inl says.0
   complete_of (Err e) (inr wanting) o allowed failed fault = inr (inr wanting.0)
   complete_of (Err e) (inl printed) o allowed failed fault =
-      inr (inl (spends t (has_libtool (alone b).config (alone b).env look) refusal stages part run line e ended x y cut (line_of (error_line e) line printed.2) o printed.1 printed.0 (alone_plain b listens is_plain look links q.0) (alone_first b listens is_plain look links q.0)
+      inr (inl (spends t (run_has_one_form (alone b).config (alone b).env look) refusal stages part run line e ended x y cut (line_of (error_line e) line printed.2) o printed.1 printed.0 (alone_plain b listens writing look links q.0) (alone_first b listens writing look links q.0)
       (λ is. let clash : None ≡ Some e = sym allowed ∙ is in cc) failed fault never_rose))
 
   -- the turns are enough
@@ -376,8 +385,8 @@ module _ (listens : Bool) (q : Request) (patience : Option ℕ) (turned : ℕ) (
       cc
   enough_of (Err e) (inl printed) o p patient enough spent =
       let same : e ≡ spent.0 = same_error e spent.0 ended printed.0 spent.1.0 in
-      let few : turns run < p * length (commands_in stages) = halted_bound t refusal stages run e x y 1 p refl patient (alone_never b listens is_plain look links q.0) o (ap (λ (v : ErrorSeen). v.kind) same ∙ spent.1.1) in
-      too_few p (length (commands_in stages)) (length q.1.config.objects) turned (turns run) few (alone_count b listens is_plain look links q.0) enough
+      let few : turns run < p * length (commands_in stages) = halted_bound t refusal stages run e x y 1 p refl patient (alone_never b listens writing look links q.0) o (ap (λ (v : ErrorSeen). v.kind) same ∙ spent.1.1) in
+      too_few p (length (commands_in stages)) (length q.1.config.objects) turned (turns run) few (alone_count b listens writing look links q.0) enough
       (sym (turns_same part run line cut (line_of (error_line e) line printed.2)) ∙ spent.1.2)
 
 -- ---- what it promises
@@ -431,7 +440,7 @@ module _ (listens : Bool) (steady : Bool) (world : Question → Outcome) (q : Re
       let same : part ≡ h.run = h.cut ∙ ap (λ l. h.run ++ l) w.0 ∙ append-nil h.run in
       subst (λ (p : List Event). Written listens (build_in q p) patience turned look links q.0 p) (sym same) w.1
 
-  its_prefix : (look links : Look) → Agree h.made h.linked look links → (is_plain : Bool) × AreFirst (wished_stages q listens is_plain look links part) part
+  its_prefix : (look links : Look) → Agree h.made h.linked look links → (writing : Writing) × AreFirst (wished_stages q listens writing look links part) part
   its_prefix look links agree =
       let o = h.ends look links agree in
       let c = course_alone patience turned o.0 in
@@ -445,12 +454,12 @@ module _ (listens : Bool) (steady : Bool) (world : Question → Outcome) (q : Re
         ),
       )
 
-  its_complete : (look links : Look) → Agree h.made h.linked look links → wished_refusal q look links part ≡ None → (Failed (has_libtool (alone (build_in q part)).config (alone (build_in q part)).env look) part → ⊥) → (HasFault part → ⊥) → (ended ≡ ended_well) ⊎ (EndsSpent turned part ended ⊎ (ended ≡ ended_wanting))
+  its_complete : (look links : Look) → Agree h.made h.linked look links → wished_refusal q look links part ≡ None → (Failed (run_has_one_form (alone (build_in q part)).config (alone (build_in q part)).env look) part → ⊥) → (HasFault part → ⊥) → (ended ≡ ended_well) ⊎ (EndsSpent turned part ended ⊎ (ended ≡ ended_wanting))
   its_complete look links agree allowed failed fault =
       let o = h.ends look links agree in
       complete_of listens q patience turned part h.run h.line ended look links o.0 o.1 h.cut h.result h.says o.2
       (subst (λ (vars : List (List ℕ × List ℕ)). archive_refused (with_heard vars) look links q.0 ≡ None) heard_too allowed)
-      (subst (λ (vars : List (List ℕ × List ℕ)). Failed (has_libtool (alone (with_heard vars)).config (alone (with_heard vars)).env look) part → ⊥) heard_too failed) fault
+      (subst (λ (vars : List (List ℕ × List ℕ)). Failed (run_has_one_form (alone (with_heard vars)).config (alone (with_heard vars)).env look) part → ⊥) heard_too failed) fault
 
   its_enough : (p : ℕ) → patience ≡ Some p → p * (length q.1.config.objects + 2) ≤ turned → EndsSpent turned part ended → ⊥
   its_enough p patient enough spent =

@@ -105,7 +105,7 @@ module _ (listens : Bool) (steady : Bool) (world : Question → Outcome) (b : Bu
   link_error = plan_error b.config b.env (library_at b output)
 
   abbrev lines_by : Look → List Stage
-  lines_by links = printed_stages listens (quiet_warnings b.config b.env links) all_firsts (links_of b.config b.env (linked_name (library_at b output)) (library_at b output) links) (rerun_names link_reads b.config b.env links)
+  lines_by links = printed_stages listens (quiet_warnings b.config b.env links) all_firsts (links_of b.config b.env (linked_name b.config b.env (library_at b output)) (library_at b output) links) (rerun_names link_reads b.config b.env links)
 
   abbrev names_by : Look → List Stage
   names_by look = name_stages (alone b).config (alone b).env archive_reads look all_firsts
@@ -133,7 +133,7 @@ module _ (listens : Bool) (steady : Bool) (world : Question → Outcome) (b : Bu
           k.0,
           k.1.0,
           halted_made (terms_for (alone b) listens (course_alone patience turns k.0)) (unarchived_error (alone b).config (alone b).env output) first_error link_error (library_stages (alone b).config (alone b).env k.1.0 look output) (names_by look) (lines_by links)
-              (archive_refusal (alone b).config (alone b).env look) (path_refusal (library_at b output)) (link_refusal b.config b.env links) part e (course_alone patience turns k.0).before (course_alone patience turns k.0).after (made_so {P = List ℕ} (Err e) repeats look part k),
+              (archive_refusal (alone b).config (alone b).env look) (path_refusal b.config b.env (library_at b output)) (link_refusal b.config b.env links) part e (course_alone patience turns k.0).before (course_alone patience turns k.0).after (made_so {P = List ℕ} (Err e) repeats look part k),
         );
   }
 
@@ -154,7 +154,7 @@ module _ (listens : Bool) (steady : Bool) (world : Question → Outcome) (b : Bu
           c.0,
           c.1.0,
           linked_then t (unarchived_error (alone b).config (alone b).env output) first_error link_error (library_stages (alone b).config (alone b).env c.1.0 look output) (names_by look) (lines_by links)
-              (archive_refusal (alone b).config (alone b).env look) (path_refusal (library_at b output)) (link_refusal b.config b.env links) made linked path r (course_alone patience turns c.0).before y y (made_so (Ok path) repeats look made c)
-              (subst (λ (firsts : Firsts). Ends t (first_of (option_map link_error (path_refusal (library_at b output))) (option_map link_error (link_refusal b.config b.env links))) (directive_stages b.config b.env listens links firsts (library_at b output)) linked r y y) all (d.1.1 t y)),
+              (archive_refusal (alone b).config (alone b).env look) (path_refusal b.config b.env (library_at b output)) (link_refusal b.config b.env links) made linked path r (course_alone patience turns c.0).before y y (made_so (Ok path) repeats look made c)
+              (subst (λ (firsts : Firsts). Ends t (first_of (option_map link_error (path_refusal b.config b.env (library_at b output))) (option_map link_error (link_refusal b.config b.env links))) (directive_stages b.config b.env listens links firsts (library_at b output)) linked r y y) all (d.1.1 t y)),
         );
   }

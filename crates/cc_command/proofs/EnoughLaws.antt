@@ -1,7 +1,10 @@
 -- How many commands a request has at most, and that refused settings spend no turns.
+use Rattle.cc_plan.specs.Target.{target_info}
+use Rattle.cc_plan.specs.ArchiveTool.{is_msvc}
+use Rattle.cc_plan.specs.LibForm.{is_lib}
 use Rattle.cc_plan.specs.Quiet.{quiet_warnings}
 use Rattle.cc_plan.specs.Reruns.{rerun_names}
-use Rattle.std.proofs.Common.{◌≡◌, ℕ, ◌+◌, ◌*◌, List, [], ◌∷◌, ◌++◌, length, Bool, true, false, Option, Some, None, if◌then◌else◌, is_some, map, refl, ◌∙◌, ap, zero-add, arith}
+use Rattle.std.proofs.Common.{◌≡◌, ℕ, suc, ◌+◌, ◌*◌, List, [], ◌∷◌, ◌++◌, length, Bool, true, false, ◌||◌, Option, Some, None, if◌then◌else◌, is_some, map, refl, ◌∙◌, ap, zero-add, arith}
 use Rattle.std.specs.Prelude.{◌≤◌}
 use Rattle.std.specs.Option.{option_map}
 use Rattle.std.proofs.lemmas.List.{length-append, length-map}
@@ -15,7 +18,7 @@ use Rattle.cc_plan.specs.Archive.{paths_of, archiver_of}
 use Rattle.cc_plan.specs.Batches.{batches_of}
 use Rattle.cc_plan.specs.Given.{is_disabled}
 use Rattle.cc_plan.specs.Libtool.{is_libtool}
-use Rattle.cc_plan.specs.Plan.{objects_of, library_of, archived_of, archive_refusal, archives_of, indexes_of, lists_of_run, folder_steps, removal_steps, link_lines}
+use Rattle.cc_plan.specs.Plan.{objects_of, library_of, archived_of, archive_refusal, archives_of, indexes_of, lists_of_run, folder_steps, removal_steps, link_lines, run_has_one_form, run_asks_folder, copy_steps}
 use Rattle.cc_plan.specs.Refusal.{first_of, early_refusal, late_refusal, link_refusal}
 use Rattle.cc_plan.specs.declared.error.ArgumentCause.TheVariants.{Output, OutDir, NoFileName, SameObject, LibraryIsObject, LineFeed, Library}
 use Rattle.cc_plan.specs.declared.error.PlanError.{PlanError}
@@ -25,8 +28,8 @@ use Rattle.cc_plan.specs.declared.settings.BuildConfig.{BuildConfig}
 use Rattle.cc_plan.proofs.BatchLaws.{few}
 use Rattle.cc_build.specs.Error.{ErrorSeen}
 use Rattle.cc_build.specs.Refusal.{plan_error, disabled_error, early_error, late_error, archive_error, link_error, refusal_error}
-use Rattle.cc_build.specs.Stage.{Stage, commands_in, calls, planned, beside, compiles_planned, opening_steps, written, writings, has_libtool, folder_stages, compile_stages, removal_stages, library_commands, list_stages, archive_stages, link_stages, library_stages, ending_stages, later_stages, late_stages, planned_stages, ending_steps, run_reads}
-use Rattle.cc_build.specs.Way.{Way, Found, Firsts}
+use Rattle.cc_build.specs.Stage.{Stage, commands_in, calls, planned, beside, compiles_planned, opening_steps, written, writings, folder_stages, compile_stages, removal_stages, library_commands, archive_stages, link_stages, library_stages, ending_stages, later_stages, late_stages, planned_stages, ending_steps, run_reads, ready_stages, copy_stages, asking_steps}
+use Rattle.cc_build.specs.Way.{Way, Found, Firsts, Writing}
 use Rattle.cc_build.specs.Stage.Stage.{Asks}
 use Rattle.cc_build.specs.Stop.{fault_error}
 use Rattle.cc_build.specs.declared.error.ErrorKind.TheVariants.{TurnsSpent}
@@ -71,33 +74,49 @@ commands_few archiver env library true [] (path ∷ paths) h = omega arith
 commands_few archiver env library true (batch ∷ batches) [] h = absurd (omega (arith, h))
 commands_few archiver env library true (batch ∷ batches) (path ∷ paths) h = let a : length (map (archive.archive_of archiver env library true) batches) ≡ length batches = length-map batches _ in omega arith
 
--- the one of libtool is no more than those
-by_archiver : (libtool : Bool) (one many indexes : List CommandSeen) (most : ℕ) → length one ≤ most → length many + length indexes ≤ most → length (if libtool then one else many) + length (if libtool then [] else indexes) ≤ most
-by_archiver true one many indexes most a b = omega (arith, a)
-by_archiver false one many indexes most a b = b
+-- one a batch in the form of the library manager
+libs_count : (archiver : Archiver) (library here : List ℕ) (batches : List (List (List ℕ))) → length (archive.libs_of archiver library here batches) ≡ length batches
+libs_count archiver library here [] = refl
+libs_count archiver library here (batch ∷ batches) = ap (λ n. suc n) (length-map batches _)
 
-object_commands : (set : BuildConfig) (env : EnvSeen) (look : Look) (is_plain : Bool) (output : List ℕ) → length (archives_of set env look is_plain output) + length (indexes_of set env look is_plain output) ≤ length set.files + length set.objects + 2
+-- the one of libtool is no more than those, nor are those of the library manager
+by_archiver : (libtool lib msvc : Bool) (one libs many indexes : List CommandSeen) (most : ℕ) → length one ≤ most → length libs ≤ most → length indexes ≤ 2 → length libs + 2 ≤ most → length many + length indexes ≤ most → length (if libtool then one else (if lib then libs else many)) + length (if libtool || msvc then [] else indexes) ≤ most
+by_archiver true lib msvc one libs many indexes most a b d f g = omega (arith, a)
+by_archiver false true true one libs many indexes most a b d f g = omega (arith, b)
+by_archiver false true false one libs many indexes most a b d f g = omega (arith, d, f)
+by_archiver false false true one libs many indexes most a b d f g = omega (arith, g)
+by_archiver false false false one libs many indexes most a b d f g = g
+
+-- no more than two write the index
+indexes_few : (archiver : Archiver) (env : EnvSeen) (library : List ℕ) (is_plain : Bool) (paths : List (List ℕ)) → length (archive.indexes_by archiver env library is_plain paths) ≤ 2
+indexes_few archiver env library false paths = omega arith
+indexes_few archiver env library true [] = omega arith
+indexes_few archiver env library true (path ∷ paths) = omega arith
+
+object_commands : (set : BuildConfig) (env : EnvSeen) (look : Look) (is_plain : Bool) (here output : List ℕ) → length (archives_of set env look is_plain here output) + length (indexes_of set env look is_plain output) ≤ length set.files + length set.objects + 2
 unfolding archives_of indexes_of
-object_commands set env look is_plain output =
+object_commands set env look is_plain here output =
     let a : length (archive.archives_by (archiver_of set env look) env (library_of set env output) is_plain (batches_of (archived_of set env))) + length (archive.indexes_by (archiver_of set env look) env (library_of set env output) is_plain (archived_of set env)) ≤ length (batches_of (archived_of set env)) + 2 =
     commands_few (archiver_of set env look) env (library_of set env output) is_plain (batches_of (archived_of set env)) (archived_of set env) (few (archived_of set env)) in
     let b : length (batches_of (archived_of set env)) ≤ length (archived_of set env) = few (archived_of set env) in
     let d : length (archived_of set env) ≡ length set.files + length set.objects = object_count set env in
-    by_archiver (is_libtool (archiver_of set env look)) (archive.libtool_of (archiver_of set env look) (library_of set env output) ∷ []) (archive.archives_by (archiver_of set env look) env (library_of set env output) is_plain (batches_of (archived_of set env)))
+    let m : length (archive.libs_of (archiver_of set env look) (library_of set env output) here (batches_of (archived_of set env))) ≡ length (batches_of (archived_of set env)) = libs_count (archiver_of set env look) (library_of set env output) here (batches_of (archived_of set env)) in
+    by_archiver (is_libtool (archiver_of set env look)) (is_lib (target_info set env) (archiver_of set env look)) (is_msvc (target_info set env)) (archive.libtool_of (archiver_of set env look) (library_of set env output) ∷ [])
+    (archive.libs_of (archiver_of set env look) (library_of set env output) here (batches_of (archived_of set env))) (archive.archives_by (archiver_of set env look) env (library_of set env output) is_plain (batches_of (archived_of set env)))
     (archive.indexes_by (archiver_of set env look) env (library_of set env output) is_plain (archived_of set env)) (length set.files + length set.objects + 2)
-    (omega arith) (omega arith)
+    (omega arith) (omega arith) (indexes_few (archiver_of set env look) env (library_of set env output) is_plain (archived_of set env)) (omega arith) (omega arith)
 
 -- the archive commands, and those of the index
-archive_count : (set : BuildConfig) (env : EnvSeen) (look : Look) (is_plain : Bool) (output : List ℕ) → count (archive_stages set env look is_plain output) ≤ length set.files + length set.objects + 2
+archive_count : (set : BuildConfig) (env : EnvSeen) (look : Look) (writing : Writing) (output : List ℕ) → count (archive_stages set env look writing output) ≤ length set.files + length set.objects + 2
 unfolding archive_stages
-archive_count set env look is_plain output =
-    let archives = archives_of set env look is_plain output in
-    let indexes = indexes_of set env look is_plain output in
-    let a : count (written (has_libtool set env look) is_plain (library_commands set env look is_plain output)) ≡ length (planned Archive archives ++ planned Index indexes) = ap length (commands_written (has_libtool set env look) is_plain (library_commands set env look is_plain output)) in
+archive_count set env look writing output =
+    let archives = archives_of set env look writing.is_plain writing.here output in
+    let indexes = indexes_of set env look writing.is_plain output in
+    let a : count (written (run_has_one_form set env look) writing.is_plain (library_commands set env look writing output)) ≡ length (planned Archive archives ++ planned Index indexes) = ap length (commands_written (run_has_one_form set env look) writing.is_plain (library_commands set env look writing output)) in
     let b : length (planned Archive archives ++ planned Index indexes) ≡ length (planned Archive archives) + length (planned Index indexes) = length-append (planned Archive archives) (planned Index indexes) in
     let d : length (planned Archive archives) ≡ length archives = length-map archives _ in
     let e : length (planned Index indexes) ≡ length indexes = length-map indexes _ in
-    let f : length archives + length indexes ≤ length set.files + length set.objects + 2 = object_commands set env look is_plain output in
+    let f : length archives + length indexes ≤ length set.files + length set.objects + 2 = object_commands set env look writing.is_plain writing.here output in
     omega arith
 
 folder_count : (set : BuildConfig) (env : EnvSeen) → count (folder_stages set env) ≡ 0
@@ -108,9 +127,13 @@ removal_count : (set : BuildConfig) (env : EnvSeen) (output : List ℕ) → coun
 unfolding removal_stages
 removal_count set env output = calls_none (removal_steps set env output)
 
-list_count : (set : BuildConfig) (env : EnvSeen) (look : Look) (output : List ℕ) → count (list_stages set env look output) ≡ 0
-unfolding list_stages
-list_count set env look output = calls_none (writings (lists_of_run set env look output))
+ready_count : (set : BuildConfig) (env : EnvSeen) (look : Look) (here output : List ℕ) → count (ready_stages set env look here output) ≡ 0
+unfolding ready_stages
+ready_count set env look here output = calls_none (writings (lists_of_run set env look output) ++ asking_steps (run_asks_folder set env look output) here)
+
+copy_count : (set : BuildConfig) (env : EnvSeen) (output : List ℕ) → count (copy_stages set env output) ≡ 0
+unfolding copy_stages
+copy_count set env output = calls_none (copy_steps set env output)
 
 link_count : (set : BuildConfig) (env : EnvSeen) (listens : Bool) (look : Look) (firsts : Firsts) (output : List ℕ) → count (link_stages set env listens look firsts output) ≡ 0
 unfolding link_stages
@@ -124,30 +147,31 @@ pub unless_none : (b : Bool) (stages : List Stage) → count stages ≡ 0 → co
 unless_none true stages h = refl
 unless_none false stages h = h
 
-three : (b l d : List Stage) (n m : ℕ) → count b ≡ 0 → count l ≡ 0 → count d ≤ n + m + 2 → count (b ++ (l ++ d)) ≤ n + m + 2
-three b l d n m q k r =
-    let y : count (b ++ (l ++ d)) ≡ count b + count (l ++ d) = both b (l ++ d) in
-    let z : count (l ++ d) ≡ count l + count d = both l d in
+four : (b l d r : List Stage) (n m : ℕ) → count b ≡ 0 → count l ≡ 0 → count d ≤ n + m + 2 → count r ≡ 0 → count (b ++ (l ++ (d ++ r))) ≤ n + m + 2
+four b l d r n m none still few last =
+    let x : count (b ++ (l ++ (d ++ r))) ≡ count b + count (l ++ (d ++ r)) = both b (l ++ (d ++ r)) in
+    let y : count (l ++ (d ++ r)) ≡ count l + count (d ++ r) = both l (d ++ r) in
+    let z : count (d ++ r) ≡ count d + count r = both d r in
     omega arith
 
 -- those of a library, from its removal on
-library_count : (set : BuildConfig) (env : EnvSeen) (look : Look) (is_plain : Bool) (output : List ℕ) → count (library_stages set env is_plain look output) ≤ length set.files + length set.objects + 2
-library_count set env look is_plain output =
-    three (removal_stages set env output) (list_stages set env look output) (archive_stages set env look is_plain output) (length set.files) (length set.objects)
-    (removal_count set env output) (list_count set env look output) (archive_count set env look is_plain output)
+library_count : (set : BuildConfig) (env : EnvSeen) (look : Look) (writing : Writing) (output : List ℕ) → count (library_stages set env writing look output) ≤ length set.files + length set.objects + 2
+library_count set env look writing output =
+    four (removal_stages set env output) (ready_stages set env look writing.here output) (archive_stages set env look writing output) (copy_stages set env output) (length set.files) (length set.objects)
+    (removal_count set env output) (ready_count set env look writing.here output) (archive_count set env look writing output) (copy_count set env output)
 
 -- and no more with stages behind them that have none
-pub ended_count : (set : BuildConfig) (env : EnvSeen) (look : Look) (is_plain : Bool) (output : List ℕ) (more : List Stage) → count more ≡ 0 → count (library_stages set env is_plain look output ++ more) ≤ length set.files + length set.objects + 2
-ended_count set env look is_plain output more none =
-    let x : count (library_stages set env is_plain look output ++ more) ≡ count (library_stages set env is_plain look output) + count more = both (library_stages set env is_plain look output) more in
-    let few : count (library_stages set env is_plain look output) ≤ length set.files + length set.objects + 2 = library_count set env look is_plain output in
+pub ended_count : (set : BuildConfig) (env : EnvSeen) (look : Look) (writing : Writing) (output : List ℕ) (more : List Stage) → count more ≡ 0 → count (library_stages set env writing look output ++ more) ≤ length set.files + length set.objects + 2
+ended_count set env look writing output more none =
+    let x : count (library_stages set env writing look output ++ more) ≡ count (library_stages set env writing look output) + count more = both (library_stages set env writing look output) more in
+    let few : count (library_stages set env writing look output) ≤ length set.files + length set.objects + 2 = library_count set env look writing output in
     omega arith
 
 later_count : (set : BuildConfig) (env : EnvSeen) (way : Way) (look : Look) (output : List ℕ) → count (later_stages set env way look output) ≤ length set.files + length set.objects + 2
 unfolding later_stages
 later_count set env way look output =
-    unless_few (is_some (archive_refusal set env look)) (library_stages set env way.is_plain look output ++ ending_stages set env way look output) (length set.files + length set.objects + 2)
-    (ended_count set env look way.is_plain output (ending_stages set env way look output)
+    unless_few (is_some (archive_refusal set env look)) (library_stages set env way.writing look output ++ ending_stages set env way look output) (length set.files + length set.objects + 2)
+    (ended_count set env look way.writing output (ending_stages set env way look output)
     (unless_none (is_some (link_refusal set env look)) (link_stages set env (is_some way.found.here) look way.firsts output) (link_count set env (is_some way.found.here) look way.firsts output)))
 
 two : (a b : List Stage) (n m : ℕ) → count a ≡ n → count b ≤ n + m + 2 → count (a ++ b) ≤ 2 * n + m + 2

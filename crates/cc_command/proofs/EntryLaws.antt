@@ -17,7 +17,7 @@ use Rattle.cc_host.specs.declared.event.HostCall.{HostCall}
 use Rattle.cc_host.specs.declared.event.HostError.{HostError}
 use Rattle.cc_host.specs.declared.event.HostError.TheVariants.{Fault as Faulted, NoMemory as WantsMemory}
 use Rattle.cc_host.specs.declared.event.Role.TheVariants.{Compile, Archive, Index}
-use Rattle.cc_plan.specs.Plan.{archives_of, compile_in, compiles_of, indexes_of, library_of, objects_of}
+use Rattle.cc_plan.specs.Plan.{archives_of, compile_in, compiles_of, indexes_of, library_of, objects_of, run_has_one_form}
 use Rattle.cc_plan.specs.declared.object.Object.{Object}
 use Rattle.cc_plan.specs.declared.settings.BuildConfig.{BuildConfig}
 use Rattle.cc_run.specs.Part.{started, started_of}
@@ -26,7 +26,7 @@ use Rattle.cc_run.specs.declared.planned.Planned.{Planned}
 use Rattle.cc_run.specs.declared.planned.Shows.{Shows}
 use Rattle.cc_build.specs.Built.{Built}
 use Rattle.cc_build.specs.Error.{ErrorSeen, no_memory}
-use Rattle.cc_build.specs.Stage.{planned, written_children, link_stages, library_commands, has_libtool, ending_steps}
+use Rattle.cc_build.specs.Stage.{planned, written_children, link_stages, library_commands, ending_steps}
 use Rattle.cc_build.specs.Stage.Stage.{Asks}
 use Rattle.cc_build.specs.Stage.{children_in}
 use Rattle.cc_build.specs.Went.{Terms}
@@ -88,7 +88,7 @@ back_empty : {X : Type 0} (a b : List X) → a ++ b ≡ [] → b ≡ []
 back_empty [] b h = h
 back_empty (x ∷ a) b h = absurd (cc)
 
-written_none : (libtool : Bool) (ps : List Planned) → flat_map compiling ps ≡ [] → flat_map compiling (written_children libtool ps) ≡ []
+written_none : (one_form : Bool) (ps : List Planned) → flat_map compiling ps ≡ [] → flat_map compiling (written_children one_form ps) ≡ []
 written_none true ps none = none
 written_none false [] none = none
 written_none false (p ∷ ps) none = back_empty (compiling p) (flat_map compiling ps) none
@@ -99,11 +99,11 @@ module _ (t : Terms) (set : BuildConfig) (env : EnvSeen) (look : Look) (output :
 
   archives_starts : compile_starts b.archives ≡ []
   archives_starts =
-      let cmds = library_commands set env look b.way.is_plain output in
-      let archives = archives_of set env look b.way.is_plain output in
-      let indexes = indexes_of set env look b.way.is_plain output in
-      all_started b.archives ∙ ap (flat_map compiled) b.others ∙ asked_compile t.shows (written_children (has_libtool set env look) cmds)
-      ∙ written_none (has_libtool set env look) cmds (flat_map-append compiling (planned Archive archives) (planned Index indexes) ∙ ap₂ (λ u v. u ++ v) (archives_planned archives) (indexes_planned indexes))
+      let cmds = library_commands set env look b.way.writing output in
+      let archives = archives_of set env look b.way.writing.is_plain b.way.writing.here output in
+      let indexes = indexes_of set env look b.way.writing.is_plain output in
+      all_started b.archives ∙ ap (flat_map compiled) b.others ∙ asked_compile t.shows (written_children (run_has_one_form set env look) cmds)
+      ∙ written_none (run_has_one_form set env look) cmds (flat_map-append compiling (planned Archive archives) (planned Index indexes) ∙ ap₂ (λ u v. u ++ v) (archives_planned archives) (indexes_planned indexes))
 
   link_children : children_in (link_stages set env (is_some b.way.found.here) look b.way.firsts output) ≡ []
   unfolding link_stages

@@ -5,6 +5,8 @@ use Rattle.std.specs.Path.{path_file_name, split_last_component, trim_trailing, 
 use Rattle.std.proofs.lemmas.Bool.{false≢true}
 use Rattle.std.proofs.Math.Numerals.{add-one}
 use Rattle.std.proofs.lemmas.List.{map-append, length-append, length-map}
+use Rattle.cc_plan.specs.LibForm.{is_lib, has_one_form}
+use Rattle.cc_plan.specs.ArchiveTool.{is_msvc}
 use Rattle.cc_env.specs.Snapshot.{last_value}
 use Rattle.cc_flags.specs.DefaultWords.{is_qnx, is_wasm_linux}
 use Rattle.cc_host.specs.Question.{Look}
@@ -16,7 +18,7 @@ use Rattle.cc_plan.specs.Batches.{batches_of}
 use Rattle.cc_plan.specs.Link.{link_lines as lines_of, lines_by, printed_links}
 use Rattle.cc_plan.specs.Names.{is_output_name}
 use Rattle.cc_plan.specs.Object.{object_path}
-use Rattle.cc_plan.specs.Plan.{objects_of, compiles_of, archives_of, indexes_of, link_lines}
+use Rattle.cc_plan.specs.Plan.{objects_of, compiles_of, archives_of, indexes_of, link_lines, run_has_one_form}
 use Rattle.cc_plan.specs.Target.{target_info}
 use Rattle.cc_plan.specs.Valid.{IsNoneOf, AreApart, Valid}
 use Rattle.cc_command.specs.Generated.{gen_source, gen_sources, gen_settings, gen_name, gen_objects, no_variables}
@@ -78,6 +80,19 @@ pub not_libtool : (count : ℕ) (look : Look) → is_libtool (archiver_of (gen_s
 unfolding is_libtool archiver_of path_file_name split_last_component trim_trailing rsplit_once is_within
 not_libtool count look = refl
 
+pub not_msvc : (count : ℕ) → is_msvc (target_info (gen_settings count) no_variables) ≡ false
+unfolding line_of lines
+not_msvc count = refl
+
+not_lib : (count : ℕ) (look : Look) → is_lib (target_info (gen_settings count) no_variables) (archiver_of (gen_settings count) no_variables look) ≡ false
+unfolding is_lib
+not_lib count look = rw (not_msvc count) refl
+
+-- its archiver has two forms
+pub has_two_forms : (count : ℕ) (look : Look) → run_has_one_form (gen_settings count) no_variables look ≡ false
+unfolding run_has_one_form has_one_form
+has_two_forms count look = rw (not_libtool count look, not_lib count look) refl
+
 -- the settings of so many sources are valid, whatever the verdicts
 pub gen_valid : (count : ℕ) (look : Look) → count < 2 ^ 64 → Valid (gen_settings count) no_variables look gen_name
 unfolding is_output_name line_of lines last_value
@@ -117,14 +132,14 @@ compiles_count count look =
     length-map (objects_of (gen_settings count) no_variables) _ ∙ length-map (gen_sources count) _ ∙ sources_count count
 
 -- one archive command a batch, where the first form is taken
-pub archives_count : (count : ℕ) (look : Look) → length (archives_of (gen_settings count) no_variables look false gen_name) ≡ length (batches_of (gen_objects count))
+pub archives_count : (count : ℕ) (look : Look) (here : List ℕ) → length (archives_of (gen_settings count) no_variables look false here gen_name) ≡ length (batches_of (gen_objects count))
 unfolding archives_of
-archives_count count look = rw (not_libtool count look) (length-map (batches_of (gen_objects count)) _)
+archives_count count look here = rw (not_libtool count look, not_lib count look) (length-map (batches_of (gen_objects count)) _)
 
 -- one command of the index
 pub indexes_count : (count : ℕ) (look : Look) → length (indexes_of (gen_settings count) no_variables look false gen_name) ≡ 1
 unfolding indexes_of
-indexes_count count look = rw (not_libtool count look) refl
+indexes_count count look = rw (not_libtool count look, not_msvc count) refl
 
 -- two link lines, which are printed whether or not other runs printed them
 pub links_count : (count : ℕ) (look : Look) (is_first : Bool) → length (printed_links is_first (link_lines (gen_settings count) no_variables look gen_name)) ≡ 2

@@ -1,6 +1,7 @@
 -- What a large run from a number comes to, over a host on which nothing is set.
 use Rattle.std.proofs.Common.{◌≡◌, ◌⊎◌, inl, inr, refl, sym, ◌∙◌, ap, subst, ℕ, ◌+◌, ◌^◌, ◌<◌, List, [], ◌∷◌, ◌++◌, append_assoc, append-nil, length, Bool, Option, Some, Result, Ok, Err, arith, false}
 use Rattle.std.specs.Prelude.{◌≤◌, ◌*◌}
+use Rattle.cc_plan.specs.Plan.{run_has_one_form}
 use Rattle.cc_host.specs.Bench.{BenchSeen, fresh}
 use Rattle.cc_host.specs.Part.{since}
 use Rattle.cc_host.specs.Question.{Look, answers, Holds, NoTwice}
@@ -15,7 +16,7 @@ use Rattle.cc_build.specs.Course.{Course, course}
 use Rattle.cc_build.specs.Error.{ErrorSeen, no_memory}
 use Rattle.cc_build.specs.Promises.{IsBuilt, Promises, terms_for, stages_for}
 use Rattle.cc_build.specs.Refusal.{refusal_error}
-use Rattle.cc_build.specs.Stage.{Stage, commands_in, has_libtool}
+use Rattle.cc_build.specs.Stage.{Stage, commands_in}
 use Rattle.cc_build.specs.Way.{Way}
 use Rattle.cc_build.specs.Went.{Terms, Means, means, Halted}
 use Rattle.cc_build.specs.declared.error.ErrorKind.TheVariants.{TurnsSpent}
@@ -69,8 +70,8 @@ module _ (count turned left taken load : ℕ) (log : List Event) (e : ErrorSeen)
   abbrev t : Terms
   t = terms_for (gen_build count) false c
 
-  abbrev libtool : Bool
-  libtool = has_libtool (gen_settings count) no_variables look
+  abbrev one_form : Bool
+  one_form = run_has_one_form (gen_settings count) no_variables look
 
   abbrev refusal : Option ErrorSeen
   refusal = refusal_error (gen_settings count) no_variables look gen_name
@@ -84,18 +85,18 @@ module _ (count turned left taken load : ℕ) (log : List Event) (e : ErrorSeen)
       let sources : length (gen_sources count) ≡ count = sources_count count in
       omega arith
 
-  by_cause : Halted t refusal stages log e c.before c.after → HasCause libtool refusal log e c.before c.after → e ≡ no_memory
+  by_cause : Halted t refusal stages log e c.before c.after → HasCause one_form refusal log e c.before c.after → e ≡ no_memory
   by_cause halted (inl memory) = memory
   by_cause halted (inr (inl refused)) = absurd (no_refusal look (gen_settings count) no_variables gen_name e (gen_valid count look small) refused)
   by_cause halted (inr (inr (inl fault))) = absurd (plain_faultless log plain fault)
-  by_cause halted (inr (inr (inr (inl failed)))) = absurd (plain_sound libtool log plain failed)
+  by_cause halted (inr (inr (inr (inl failed)))) = absurd (plain_sound one_form log plain failed)
   by_cause halted (inr (inr (inr (inr (inl rose))))) = absurd (let less : 0 < 0 = rose (omega arith) in omega arith)
   by_cause halted (inr (inr (inr (inr (inr spent))))) =
       absurd (too_few (halted_bound t refusal stages log e c.before c.after 4 1 refl refl (never_spent (gen_settings count) no_variables look gen_name) halted spent.0) (halted_turns t refusal stages log e c.before c.after halted) spent.1)
 
   wanted_memory : Halted t refusal stages log e c.before c.after → e ≡ no_memory
   wanted_memory halted =
-      by_cause halted (halted_cause t libtool refusal stages log e c.before c.after (planned_plain (gen_settings count) no_variables way look gen_name) (λ other. planned_first (gen_settings count) no_variables way look gen_name other) halted)
+      by_cause halted (halted_cause t one_form refusal stages log e c.before c.after (planned_plain (gen_settings count) no_variables way look gen_name) (λ other. planned_first (gen_settings count) no_variables way look gen_name other) halted)
 
 is_enough : (count turned : ℕ) (log : List Event) (result : Result (Unit {0}) ErrorSeen) → count < 2 ^ 64 → PlainRun (gen_build count) turned log result → 2 * count + 2 ≤ turned → (result ≡ Ok tt) ⊎ (result ≡ Err no_memory)
 is_enough count turned log (Ok done) small run enough = inl refl
@@ -110,13 +111,13 @@ is_enough count turned log (Err e) small run enough =
 -- a run for which the turns were too few made as many
 spent_of : (count turned left taken load : ℕ) (log : List Event) (e : ErrorSeen) (look : Look) (way : Way) → count < 2 ^ 64 → IsPlainLog log → e.kind ≡ TurnsSpent → Halted (terms_for (gen_build count) false (gen_course turned left taken load)) (refusal_error (gen_settings count) no_variables look gen_name) (stages_for (gen_build count) way look gen_name) log e (gen_course turned left taken load).before (gen_course turned left taken load).after → turns log ≡ turned
 spent_of count turned left taken load log e look way small plain kind halted =
-    by_cause (halted_cause run_terms libtool refused_by run_stages log e x y (planned_plain (gen_settings count) no_variables way look gen_name) (λ other. planned_first (gen_settings count) no_variables way look gen_name other) halted)
+    by_cause (halted_cause run_terms one_form refused_by run_stages log e x y (planned_plain (gen_settings count) no_variables way look gen_name) (λ other. planned_first (gen_settings count) no_variables way look gen_name other) halted)
   where
     run_terms : Terms
     run_terms = terms_for (gen_build count) false (gen_course turned left taken load)
 
-    libtool : Bool
-    libtool = has_libtool (gen_settings count) no_variables look
+    one_form : Bool
+    one_form = run_has_one_form (gen_settings count) no_variables look
 
     refused_by : Option ErrorSeen
     refused_by = refusal_error (gen_settings count) no_variables look gen_name
@@ -130,11 +131,11 @@ spent_of count turned left taken load log e look way small plain kind halted =
     y : Means
     y = (gen_course turned left taken load).after
 
-    by_cause : HasCause libtool refused_by log e x y → turns log ≡ turned
+    by_cause : HasCause one_form refused_by log e x y → turns log ≡ turned
     by_cause (inl memory) = absurd (let none : (no_memory).kind ≡ TurnsSpent = ap (λ (v : ErrorSeen). v.kind) (sym memory) ∙ kind in cc)
     by_cause (inr (inl refused)) = absurd (no_refusal look (gen_settings count) no_variables gen_name e (gen_valid count look small) refused)
     by_cause (inr (inr (inl fault))) = absurd (plain_faultless log plain fault)
-    by_cause (inr (inr (inr (inl failed)))) = absurd (plain_sound libtool log plain failed)
+    by_cause (inr (inr (inr (inl failed)))) = absurd (plain_sound one_form log plain failed)
     by_cause (inr (inr (inr (inr (inl rose))))) = absurd (let less : 0 < 0 = rose (omega arith) in omega arith)
     by_cause (inr (inr (inr (inr (inr spent))))) =
         let sum : left + turns log ≡ turned = halted_turns run_terms refused_by run_stages log e x y halted in

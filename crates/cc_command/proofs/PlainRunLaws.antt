@@ -53,15 +53,15 @@ plain_aside (event ∷ part) p =
     at true rest cut = cut.1
     at false rest cut = rw cut.0 rest
 
-plain_unforgiven : (libtool : Bool) (part : List Event) → IsPlainLog part → IsPlainLog (unforgiven libtool part)
+plain_unforgiven : (one_form : Bool) (part : List Event) → IsPlainLog part → IsPlainLog (unforgiven one_form part)
 plain_unforgiven true part p = p
 plain_unforgiven false part p = plain_aside part p
 
 -- no command failed or is missing
-pub plain_sound : (libtool : Bool) (part : List Event) → IsPlainLog part → Failed libtool part → ⊥
-plain_sound libtool part p (inl lost) = lost (no_missing (unforgiven libtool part) (plain_unforgiven libtool part p))
-plain_sound libtool part p (inr (inl failed)) = failed (none_failed nothing part refl p)
-plain_sound libtool part p (inr (inr badly)) = false≢true (sym (none_badly (unforgiven libtool part) (plain_unforgiven libtool part p)) ∙ badly)
+pub plain_sound : (one_form : Bool) (part : List Event) → IsPlainLog part → Failed one_form part → ⊥
+plain_sound one_form part p (inl lost) = lost (no_missing (unforgiven one_form part) (plain_unforgiven one_form part p))
+plain_sound one_form part p (inr (inl failed)) = failed (none_failed nothing part refl p)
+plain_sound one_form part p (inr (inr badly)) = false≢true (sym (none_badly (unforgiven one_form part) (plain_unforgiven one_form part p)) ∙ badly)
 
 none_faulted : (part : List Event) → IsPlainLog part → list_any is_fault part ≡ false
 none_faulted [] p = refl

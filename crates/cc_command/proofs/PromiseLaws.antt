@@ -5,6 +5,7 @@ use Rattle.std.specs.List.{list_any}
 use Rattle.std.proofs.Math.Nat.{mul-le-mul_left}
 use Rattle.std.proofs.lemmas.Grind.{flat_map-append}
 use Rattle.std.proofs.lemmas.List.Sums.{sum_by-append}
+use Rattle.cc_plan.specs.Plan.{run_has_one_form}
 use Rattle.cc_env.specs.Env.{EnvSeen}
 use Rattle.cc_host.specs.Question.{Look}
 use Rattle.cc_host.specs.Part.{listings}
@@ -27,7 +28,7 @@ use Rattle.cc_build.specs.Course.{Course}
 use Rattle.cc_build.specs.Failed.{Failed, HasFault, is_fault, is_form, form_aside, unforgiven, ran_badly}
 use Rattle.cc_build.specs.Order.{is_archive_event}
 use Rattle.cc_build.specs.Refusal.{refusal_error}
-use Rattle.cc_build.specs.Stage.{Stage, commands_in, folder_stages, compile_stages, planned_stages, has_libtool}
+use Rattle.cc_build.specs.Stage.{Stage, commands_in, folder_stages, compile_stages, planned_stages}
 use Rattle.cc_build.specs.Stage.Stage.{Asks, Calls}
 use Rattle.cc_build.specs.Went.{Terms, Means, Halted, Partly, Goes}
 use Rattle.cc_build.specs.declared.error.ErrorKind.TheVariants.{TurnsSpent}
@@ -195,7 +196,7 @@ listed_first first stages (inr none) = inr none
 order_in : (listens : Bool) (look : Look) (q : Request) (finds : Findings listens) (run : List Event) (c : Course) → Partly (terms_in listens q run c) (stages_of listens look q finds run) run c.before c.after → Behind (terms_in listens q run c) (first_stages finds.here look q (heard run)) run
 order_in listens look q finds run c p =
     archives_behind (terms_in listens q run c) (first_stages finds.here look q (heard run)) (stages_of listens look q finds run) run c.before c.after (no_source_archives q.1.config (env_in q run) (warning finds.here) look) p
-    (listed_first (folder_stages q.1.config (env_in q run) ++ Asks ∷ compile_stages q.1.config (env_in q run) (warning finds.here) look) (planned_stages q.1.config (env_in q run) (repeating finds.here finds.is_plain) look q.0) (planned q.1.config (env_in q run) (repeating finds.here finds.is_plain) look q.0))
+    (listed_first (folder_stages q.1.config (env_in q run) ++ Asks ∷ compile_stages q.1.config (env_in q run) (warning finds.here) look) (planned_stages q.1.config (env_in q run) (repeating finds.here finds.writing) look q.0) (planned q.1.config (env_in q run) (repeating finds.here finds.writing) look q.0))
 
 order_of : (listens : Bool) (look : Look) (q : Request) (part : List Event) (c : Course) → Begun listens look q part c → ArchivesBehind listens look q part c
 order_of listens look q part c b before after event is archive =
@@ -284,9 +285,9 @@ valid_in : (listens : Bool) (look : Look) (q : Request) (part : List Event) (end
 valid_in listens look q part ended c r valid =
     subst (λ (vars : List (List ℕ × List ℕ)). Valid q.1.config (with_vars q.1.env vars) look q.0) (heard_same part r.run r.line r.cut (line_of (error_line r.error) r.line r.printed)) valid
 
-failed_then : (listens : Bool) (look : Look) (q : Request) (part : List Event) (ended : Ended) (c : Course) (r : Refused listens look q part ended c) → (Failed (has_libtool q.1.config (env_in q part) look) part → ⊥) → Failed (has_libtool q.1.config (env_in q r.run) look) part → ⊥
+failed_then : (listens : Bool) (look : Look) (q : Request) (part : List Event) (ended : Ended) (c : Course) (r : Refused listens look q part ended c) → (Failed (run_has_one_form q.1.config (env_in q part) look) part → ⊥) → Failed (run_has_one_form q.1.config (env_in q r.run) look) part → ⊥
 failed_then listens look q part ended c r none =
-    subst (λ (vars : List (List ℕ × List ℕ)). Failed (has_libtool q.1.config (with_vars q.1.env vars) look) part → ⊥) (heard_same part r.run r.line r.cut (line_of (error_line r.error) r.line r.printed)) none
+    subst (λ (vars : List (List ℕ × List ℕ)). Failed (run_has_one_form q.1.config (with_vars q.1.env vars) look) part → ⊥) (heard_same part r.run r.line r.cut (line_of (error_line r.error) r.line r.printed)) none
 
 pub known_memory : (e : ErrorSeen) → is_wanting e.kind ≡ false → e ≡ no_memory → ⊥
 known_memory e known memory = let t : true ≡ false = sym (ap (λ (x : ErrorSeen). is_wanting x.kind) memory) ∙ known in cc
@@ -306,23 +307,23 @@ aside_line (event ∷ run) line printed = by_form (is_form event) (aside_line ru
     by_form false e = ap (λ l. event ∷ l) e
 
 -- nor is what can't be forgiven
-pub unforgiven_line : (libtool : Bool) (run line : List Event) → IsLine line → unforgiven libtool (run ++ line) ≡ unforgiven libtool run ++ line
+pub unforgiven_line : (one_form : Bool) (run line : List Event) → IsLine line → unforgiven one_form (run ++ line) ≡ unforgiven one_form run ++ line
 unforgiven_line true run line printed = refl
 unforgiven_line false run line printed = aside_line run line printed
 
 -- stages that ended so, with a line behind them, ended for want of turns where nothing else is a cause
-module _ (t : Terms) (libtool : Bool) (refusal : Option ErrorSeen) (stages : List Stage) (part run line : List Event) (e : ErrorSeen) (ended : Ended) (x y : Means) (cut : part ≡ run ++ line) (printed : IsLine line) (halted : Halted t refusal stages run e x y) (known : is_wanting e.kind ≡ false) (is : ended ≡ ended_refused e) (plain : ArePlain stages) (first : libtool ≡ false → FormFirst stages) (allowed : refusal ≡ Some e → ⊥) (nothing_failed : Failed libtool part → ⊥) (no_fault : HasFault part → ⊥) (none_rose : Rose x.faults y.faults → ⊥) where
+module _ (t : Terms) (one_form : Bool) (refusal : Option ErrorSeen) (stages : List Stage) (part run line : List Event) (e : ErrorSeen) (ended : Ended) (x y : Means) (cut : part ≡ run ++ line) (printed : IsLine line) (halted : Halted t refusal stages run e x y) (known : is_wanting e.kind ≡ false) (is : ended ≡ ended_refused e) (plain : ArePlain stages) (first : one_form ≡ false → FormFirst stages) (allowed : refusal ≡ Some e → ⊥) (nothing_failed : Failed one_form part → ⊥) (no_fault : HasFault part → ⊥) (none_rose : Rose x.faults y.faults → ⊥) where
   -- what the run has, the part with its line has
   fault_in : HasFault run → HasFault part
   fault_in h = ap (list_any is_fault) cut ∙ any_before is_fault run line h
 
-  aside : unforgiven libtool part ≡ unforgiven libtool run ++ line
-  aside = ap (unforgiven libtool) cut ∙ unforgiven_line libtool run line printed
+  aside : unforgiven one_form part ≡ unforgiven one_form run ++ line
+  aside = ap (unforgiven one_form) cut ∙ unforgiven_line one_form run line printed
 
-  failed_in : Failed libtool run → Failed libtool part
-  failed_in (inl some) = inl (λ none. some (front_empty (missing (unforgiven libtool run)) (missing line) (sym (flat_map-append missing_of (unforgiven libtool run) line) ∙ sym (ap missing aside) ∙ none)))
+  failed_in : Failed one_form run → Failed one_form part
+  failed_in (inl some) = inl (λ none. some (front_empty (missing (unforgiven one_form run)) (missing line) (sym (flat_map-append missing_of (unforgiven one_form run) line) ∙ sym (ap missing aside) ∙ none)))
   failed_in (inr (inl some)) = inr (inl (λ none. some (sym (ap (λ (s : Run). s.failed) (run_same part run line cut printed)) ∙ none)))
-  failed_in (inr (inr some)) = inr (inr (ap (list_any ran_badly) aside ∙ any_before ran_badly (unforgiven libtool run) line some))
+  failed_in (inr (inr some)) = inr (inr (ap (list_any ran_badly) aside ∙ any_before ran_badly (unforgiven one_form run) line some))
 
   spent_of : (e.kind ≡ TurnsSpent) × (y.left ≡ 0) → EndsSpent x.left part ended
   spent_of spent =
@@ -331,7 +332,7 @@ module _ (t : Terms) (libtool : Bool) (refusal : Option ErrorSeen) (stages : Lis
       let none : y.left ≡ 0 = spent.1 in
       (e, (is, spent.0, omega arith))
 
-  by_cause : HasCause libtool refusal run e x y → EndsSpent x.left part ended
+  by_cause : HasCause one_form refusal run e x y → EndsSpent x.left part ended
   by_cause (inl memory) = absurd (known_memory e known memory)
   by_cause (inr (inl refused)) = absurd (allowed refused)
   by_cause (inr (inr (inl fault))) = absurd (no_fault (fault_in fault))
@@ -340,16 +341,16 @@ module _ (t : Terms) (libtool : Bool) (refusal : Option ErrorSeen) (stages : Lis
   by_cause (inr (inr (inr (inr (inr spent))))) = spent_of spent
 
   pub spends : EndsSpent x.left part ended
-  spends = by_cause (halted_cause t libtool refusal stages run e x y plain first halted)
+  spends = by_cause (halted_cause t one_form refusal stages run e x y plain first halted)
 
 -- so does a refused request with valid settings
-request_spends : (listens : Bool) (look : Look) (q : Request) (part : List Event) (ended : Ended) (c : Course) (r : Refused listens look q part ended c) → Valid q.1.config (env_in q r.run) look q.0 → (Failed (has_libtool q.1.config (env_in q r.run) look) part → ⊥) → (HasFault part → ⊥) → (Rose c.before.faults c.after.faults → ⊥) → EndsSpent c.before.left part ended
+request_spends : (listens : Bool) (look : Look) (q : Request) (part : List Event) (ended : Ended) (c : Course) (r : Refused listens look q part ended c) → Valid q.1.config (env_in q r.run) look q.0 → (Failed (run_has_one_form q.1.config (env_in q r.run) look) part → ⊥) → (HasFault part → ⊥) → (Rose c.before.faults c.after.faults → ⊥) → EndsSpent c.before.left part ended
 request_spends listens look q part ended c r valid nothing_failed no_fault none_rose =
-    spends (terms_in listens q r.run c) (has_libtool q.1.config (env_in q r.run) look) (error_of look q r.run) (stages_of listens look q r.finds r.run) part r.run r.line r.error ended c.before c.after r.cut (line_of (error_line r.error) r.line r.printed) r.refused r.known r.is
-    (tt, planned_plain q.1.config (env_in q r.run) (repeating r.finds.here r.finds.is_plain) look q.0) (λ other. inr (refl, planned_first q.1.config (env_in q r.run) (repeating r.finds.here r.finds.is_plain) look q.0 other))
+    spends (terms_in listens q r.run c) (run_has_one_form q.1.config (env_in q r.run) look) (error_of look q r.run) (stages_of listens look q r.finds r.run) part r.run r.line r.error ended c.before c.after r.cut (line_of (error_line r.error) r.line r.printed) r.refused r.known r.is
+    (tt, planned_plain q.1.config (env_in q r.run) (repeating r.finds.here r.finds.writing) look q.0) (λ other. inr (refl, planned_first q.1.config (env_in q r.run) (repeating r.finds.here r.finds.writing) look q.0 other))
     (no_refusal look q.1.config (env_in q r.run) q.0 r.error valid) nothing_failed no_fault none_rose
 
-complete_of : (listens : Bool) (look : Look) (q : Request) (part : List Event) (ended : Ended) (c : Course) → Answers listens look q part ended c → Valid q.1.config (env_in q part) look q.0 → (Failed (has_libtool q.1.config (env_in q part) look) part → ⊥) → (HasFault part → ⊥) → (Rose c.before.faults c.after.faults → ⊥) → (ended ≡ ended_well) ⊎ (EndsSpent c.before.left part ended ⊎ (ended ≡ ended_wanting))
+complete_of : (listens : Bool) (look : Look) (q : Request) (part : List Event) (ended : Ended) (c : Course) → Answers listens look q part ended c → Valid q.1.config (env_in q part) look q.0 → (Failed (run_has_one_form q.1.config (env_in q part) look) part → ⊥) → (HasFault part → ⊥) → (Rose c.before.faults c.after.faults → ⊥) → (ended ≡ ended_well) ⊎ (EndsSpent c.before.left part ended ⊎ (ended ≡ ended_wanting))
 complete_of listens look q part ended c (inl well) valid failed fault rose = inl well.0
 complete_of listens look q part ended c (inr (inl r)) valid failed fault rose = inr (inl (request_spends listens look q part ended c r (valid_in listens look q part ended c r valid) (failed_then listens look q part ended c r failed) fault rose))
 complete_of listens look q part ended c (inr (inr wanting)) valid failed fault rose = inr (inr wanting.0)
@@ -388,7 +389,7 @@ enough_of listens look q part ended c (inr (inl r)) total p one patient enough s
     let few : turns r.run < p * length (commands_in (stages_of listens look q r.finds r.run)) =
     halted_bound (terms_in listens q r.run c) (error_of look q r.run) (stages_of listens look q r.finds r.run) r.run r.error c.before c.after total p one patient
     (never_spent q.1.config (env_in q r.run) look q.0) r.refused (ap (λ (x : ErrorSeen). x.kind) same ∙ spent.1.1) in
-    too_few p (length (commands_in (stages_of listens look q r.finds r.run))) (length q.1.config.files) (length q.1.config.objects) c.before.left (turns r.run) few (planned_count q.1.config (env_in q r.run) (repeating r.finds.here r.finds.is_plain) look q.0) enough
+    too_few p (length (commands_in (stages_of listens look q r.finds r.run))) (length q.1.config.files) (length q.1.config.objects) c.before.left (turns r.run) few (planned_count q.1.config (env_in q r.run) (repeating r.finds.here r.finds.writing) look q.0) enough
     (sym (turns_same part r.run r.line r.cut (line_of (error_line r.error) r.line r.printed)) ∙ spent.1.2)
 
 pub enough : (listens : Bool) (look : Look) (words : Result Wish BadWord) (part : List Event) (ended : Ended) (c : Course) → AnswersWords listens look words part ended c → IsEnough look words part ended c

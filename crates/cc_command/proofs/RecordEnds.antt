@@ -3,6 +3,7 @@ use Rattle.std.proofs.Common.{◌≡◌, ◌⊎◌, inl, inr, ℕ, ◌+◌, ◌<
 use Rattle.std.specs.List.{list_any}
 use Rattle.std.proofs.lemmas.List.Sums.{sum_by-append}
 use Rattle.std.specs.Prelude.{◌≢◌}
+use Rattle.cc_plan.specs.Plan.{run_has_one_form}
 use Rattle.cc_host.specs.Part.{is_probing}
 use Rattle.cc_host.specs.Part.Step.{Lists}
 use Rattle.cc_host.specs.Question.{Look}
@@ -18,7 +19,6 @@ use Rattle.cc_build.specs.Error.{ErrorSeen, no_memory}
 use Rattle.cc_build.specs.Failed.{Failed, HasFault, is_fault}
 use Rattle.cc_build.specs.Outcome.{IsCausedBy}
 use Rattle.cc_build.specs.Shows.{shows_of}
-use Rattle.cc_build.specs.Stage.{has_libtool}
 use Rattle.cc_build.specs.Stage.Stage.{Calls}
 use Rattle.cc_build.specs.Stop.{fault_error}
 use Rattle.cc_build.specs.Went.{terms, means}
@@ -84,7 +84,7 @@ error_unspent e line ended most part (inr wanting) spent =
 -- ---- a run with the folder told behind its listing
 
 module _ (vars : List (List ℕ × List ℕ)) (here : List ℕ) (run : List Event) where
-  failed_told : (libtool : Bool) → Failed libtool (Listed vars ∷ run) → Failed libtool (Listed vars ∷ Here here ∷ run)
+  failed_told : (one_form : Bool) → Failed one_form (Listed vars ∷ run) → Failed one_form (Listed vars ∷ Here here ∷ run)
   failed_told true h = h
   failed_told false h = h
 
@@ -103,7 +103,7 @@ module _ (vars : List (List ℕ × List ℕ)) (here : List ℕ) (run : List Even
   spent_untold most ended s = (s.0, (s.1.0, s.1.1, sym turns_told ∙ s.1.2))
 
   complete_told : (look : Look) (q : Request) (ended : Ended) (c : Course) → IsComplete look (Ok (Compiles q)) (Listed vars ∷ run) ended c → IsComplete look (Ok (Compiles q)) (Listed vars ∷ Here here ∷ run) ended c
-  complete_told look q ended c so = λ valid failed fault rose. by_end (so valid (λ h. failed (failed_told (has_libtool q.1.config (env_in q (Listed vars ∷ run)) look) h)) fault rose)
+  complete_told look q ended c so = λ valid failed fault rose. by_end (so valid (λ h. failed (failed_told (run_has_one_form q.1.config (env_in q (Listed vars ∷ run)) look) h)) fault rose)
     where
       by_end : (ended ≡ ended_well) ⊎ (EndsSpent c.before.left (Listed vars ∷ run) ended ⊎ (ended ≡ ended_wanting)) → (ended ≡ ended_well) ⊎ (EndsSpent c.before.left (Listed vars ∷ Here here ∷ run) ended ⊎ (ended ≡ ended_wanting))
       by_end (inl well) = inl well

@@ -149,7 +149,7 @@ module _ (listens : Bool) (look : Look) (path : List ℕ) (q : Request) (part : 
       refused h =
           let b = begun_of listens look q (Listed r.vars ∷ r.run) r.ran c r.answer in
           let t = terms_in listens q b.run c in
-          let planned = planned_stages q.1.config (env_in q b.run) (repeating b.finds.here b.finds.is_plain) look q.0 in
+          let planned = planned_stages q.1.config (env_in q b.run) (repeating b.finds.here b.finds.writing) look q.0 in
           let more = behind_listing t r.vars planned r.run b.run b.line c.before c.after b.cut b.printed b.partly in
           record {
             t = t;
@@ -168,7 +168,7 @@ module _ (listens : Bool) (look : Look) (path : List ℕ) (q : Request) (part : 
           by_answer : Answers listens look q (Listed r.vars ∷ r.run) r.ran c → Gone part c
           by_answer (inl a) =
               let t = terms_in listens q (Listed r.vars ∷ r.run) c in
-              let planned = planned_stages q.1.config (env_in q (Listed r.vars ∷ r.run)) (repeating a.1.1.0.here a.1.1.0.is_plain) look q.0 in
+              let planned = planned_stages q.1.config (env_in q (Listed r.vars ∷ r.run)) (repeating a.1.1.0.here a.1.1.0.writing) look q.0 in
               let w : Went t (Calls Lists ∷ planned) (Listed r.vars ∷ r.run) c.before c.after = a.1.1.1 in
               let here : Went t (Calls Lists ∷ Calls (Finds r.here) ∷ planned) (Listed r.vars ∷ Here r.here ∷ r.run) c.before c.after = told_went t r.vars r.here planned r.run c.before c.after w in
               record {

@@ -11,7 +11,7 @@ use Rattle.cc_plan.specs.Tool.{link_warnings, other_warnings}
 use Rattle.cc_plan.specs.declared.settings.BuildConfig.{BuildConfig}
 use Rattle.cc_build.specs.Error.{ErrorSeen}
 use Rattle.cc_build.specs.Stage.{Stage, calls, beside, finding_steps, compiles_planned, compile_stages, later_stages, late_stages, planned_stages}
-use Rattle.cc_build.specs.Way.{Way, Found, Hears, Repeats, all_firsts}
+use Rattle.cc_build.specs.Way.{Way, Found, Hears, Repeats, all_firsts, writing_of}
 use Rattle.cc_command.specs.Answer.{warning, repeating, Findings}
 use Rattle.cc_build.specs.Went.{Terms, Means, Went, Halted}
 
@@ -33,14 +33,14 @@ compile_same set env found look repeats =
 
 -- what such a run finds out
 abbrev pub finds_of : (listens : Bool) (way : Way) → Hears listens way.found → Findings listens
-finds_of listens way hears = record { here = way.found.here; hears = hears; is_plain = way.is_plain }
+finds_of listens way hears = record { here = way.found.here; hears = hears; writing = way.writing }
 
 -- a run that ended before it found anything out
 pub unfound : (listens : Bool) → Findings listens
-unfound true = record { here = Some []; hears = refl; is_plain = false }
-unfound false = record { here = None; hears = refl; is_plain = false }
+unfound true = record { here = Some []; hears = refl; writing = writing_of false [] }
+unfound false = record { here = None; hears = refl; writing = writing_of false [] }
 
-pub stages_same : (set : BuildConfig) (env : EnvSeen) (way : Way) (look : Look) (output : List ℕ) → set.repeat_lines ≡ true → Repeats set way.firsts → planned_stages set env way look output ≡ planned_stages set env (repeating way.found.here way.is_plain) look output
+pub stages_same : (set : BuildConfig) (env : EnvSeen) (way : Way) (look : Look) (output : List ℕ) → set.repeat_lines ≡ true → Repeats set way.firsts → planned_stages set env way look output ≡ planned_stages set env (repeating way.found.here way.writing) look output
 unfolding planned_stages late_stages later_stages
 stages_same set env way look output repeats all =
     let same = compile_same set env way.found look repeats in
@@ -48,8 +48,8 @@ stages_same set env way look output repeats all =
     rw (same, first) refl
 
 -- a run of such settings, whether it warns or not
-pub went_same : (set : BuildConfig) (env : EnvSeen) (way : Way) (look : Look) (output : List ℕ) (t : Terms) (part : List Event) (x y : Means) → set.repeat_lines ≡ true → Repeats set way.firsts → Went t (planned_stages set env way look output) part x y → Went t (planned_stages set env (repeating way.found.here way.is_plain) look output) part x y
+pub went_same : (set : BuildConfig) (env : EnvSeen) (way : Way) (look : Look) (output : List ℕ) (t : Terms) (part : List Event) (x y : Means) → set.repeat_lines ≡ true → Repeats set way.firsts → Went t (planned_stages set env way look output) part x y → Went t (planned_stages set env (repeating way.found.here way.writing) look output) part x y
 went_same set env way look output t part x y repeats all w = subst (λ (stages : List Stage). Went t stages part x y) (stages_same set env way look output repeats all) w
 
-pub halted_same : (set : BuildConfig) (env : EnvSeen) (way : Way) (look : Look) (output : List ℕ) (t : Terms) (refusal : Option ErrorSeen) (part : List Event) (e : ErrorSeen) (x y : Means) → set.repeat_lines ≡ true → Repeats set way.firsts → Halted t refusal (planned_stages set env way look output) part e x y → Halted t refusal (planned_stages set env (repeating way.found.here way.is_plain) look output) part e x y
+pub halted_same : (set : BuildConfig) (env : EnvSeen) (way : Way) (look : Look) (output : List ℕ) (t : Terms) (refusal : Option ErrorSeen) (part : List Event) (e : ErrorSeen) (x y : Means) → set.repeat_lines ≡ true → Repeats set way.firsts → Halted t refusal (planned_stages set env way look output) part e x y → Halted t refusal (planned_stages set env (repeating way.found.here way.writing) look output) part e x y
 halted_same set env way look output t refusal part e x y repeats all h = subst (λ (stages : List Stage). Halted t refusal stages part e x y) (stages_same set env way look output repeats all) h

@@ -54,12 +54,12 @@ first listens look (Ok (Expands b)) part ended c a = tt
 first listens look (Ok (Shows b)) part ended c a = tt
 first listens look (Ok (Compiles q)) part ended c a =
     let b : Begun listens look q part c = is_begun listens look (Ok (Compiles q)) part ended c a in
-    let p = partly_first (terms_in listens q b.run c) (stages_of listens look q b.finds b.run) b.run c.before c.after (tt, planned_plain q.1.config (env_in q b.run) (repeating b.finds.here b.finds.is_plain) look q.0) b.partly in
+    let p = partly_first (terms_in listens q b.run c) (stages_of listens look q b.finds b.run) b.run c.before c.after (tt, planned_plain q.1.config (env_in q b.run) (repeating b.finds.here b.finds.writing) look q.0) b.partly in
     let same = attempts_same part b.run b.line b.cut b.printed in (
       b.finds,
       (
         p.0,
-        ap (λ (vars : List (List ℕ × List ℕ)). map to_attempt (commands_in (Calls Lists ∷ planned_stages q.1.config (with_vars q.1.env vars) (repeating b.finds.here b.finds.is_plain) look q.0))) (heard_same part b.run b.line b.cut b.printed)
+        ap (λ (vars : List (List ℕ × List ℕ)). map to_attempt (commands_in (Calls Lists ∷ planned_stages q.1.config (with_vars q.1.env vars) (repeating b.finds.here b.finds.writing) look q.0))) (heard_same part b.run b.line b.cut b.printed)
             ∙ p.1
             ∙ ap (λ l. l ++ p.0) (sym same),
       ),

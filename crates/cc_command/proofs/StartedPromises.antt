@@ -56,9 +56,9 @@ beside_of listens look q part c b many =
     let set = q.1.config in
     let env = env_in q b.run in
     beside_line c.total (length set.files) part b.run b.line b.cut b.printed
-    (subst (λ (n : ℕ). RunBeside c.total n b.run) (source_count set env (repeating b.finds.here b.finds.is_plain) look q.0)
-    (shaped_beside (terms_in listens q b.run c) (sources set env (repeating b.finds.here b.finds.is_plain) look q.0) (stages_of listens look q b.finds b.run) b.run c.before c.after (tt, planned_plain set env (repeating b.finds.here b.finds.is_plain) look q.0)
-    (shape_behind (sources set env (repeating b.finds.here b.finds.is_plain) look q.0) Lists (planned_stages set env (repeating b.finds.here b.finds.is_plain) look q.0) (shape_of set env (repeating b.finds.here b.finds.is_plain) look q.0 many)) b.partly))
+    (subst (λ (n : ℕ). RunBeside c.total n b.run) (source_count set env (repeating b.finds.here b.finds.writing) look q.0)
+    (shaped_beside (terms_in listens q b.run c) (sources set env (repeating b.finds.here b.finds.writing) look q.0) (stages_of listens look q b.finds b.run) b.run c.before c.after (tt, planned_plain set env (repeating b.finds.here b.finds.writing) look q.0)
+    (shape_behind (sources set env (repeating b.finds.here b.finds.writing) look q.0) Lists (planned_stages set env (repeating b.finds.here b.finds.writing) look q.0) (shape_of set env (repeating b.finds.here b.finds.writing) look q.0 many)) b.partly))
 
 pub beside : (listens : Bool) (look : Look) (words : Result Wish BadWord) (part : List Event) (ended : Ended) (c : Course) → AnswersWords listens look words part ended c → IsBeside words part c
 beside listens look (Ok (Compiles q)) part ended c a = beside_of listens look q part c (is_begun listens look (Ok (Compiles q)) part ended c a)
@@ -85,10 +85,10 @@ failed_of : (listens : Bool) (look : Look) (q : Request) (part : List Event) (en
 failed_of listens look q part ended c r many badly sound =
     let set = q.1.config in
     let env = env_in q r.run in
-    let ps = sources set env (repeating r.finds.here r.finds.is_plain) look q.0 in
+    let ps = sources set env (repeating r.finds.here r.finds.writing) look q.0 in
     let printed = line_of (error_line r.error) r.line r.printed in
-    let s = all_started (terms_in listens q r.run c) ps (error_of look q r.run) (stages_of listens look q r.finds r.run) r.run r.error c.before c.after (never_ran set env look q.0) (tt, planned_plain set env (repeating r.finds.here r.finds.is_plain) look q.0)
-    (shape_behind ps Lists (planned_stages set env (repeating r.finds.here r.finds.is_plain) look q.0) (shape_of set env (repeating r.finds.here r.finds.is_plain) look q.0 many)) r.refused badly
+    let s = all_started (terms_in listens q r.run c) ps (error_of look q r.run) (stages_of listens look q r.finds r.run) r.run r.error c.before c.after (never_ran set env look q.0) (tt, planned_plain set env (repeating r.finds.here r.finds.writing) look q.0)
+    (shape_behind ps Lists (planned_stages set env (repeating r.finds.here r.finds.writing) look q.0) (shape_of set env (repeating r.finds.here r.finds.writing) look q.0 many)) r.refused badly
     (λ fault. sound (ap (list_any is_fault) r.cut ∙ any_before is_fault r.run r.line fault)) in
     subst (λ (vars : List (List ℕ × List ℕ)). AllStarted (shows_of set (with_vars q.1.env vars) listens) (compiles_of set (with_vars q.1.env vars) look) part) (sym (heard_same part r.run r.line r.cut printed)) (
       (

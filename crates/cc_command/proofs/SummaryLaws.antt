@@ -3,6 +3,8 @@ use Rattle.std.proofs.Common.{◌≡◌, ◌∙◌, refl, sym, ap, ap₂, subst,
 use Rattle.std.specs.List.{flat_map}
 use Rattle.std.proofs.lemmas.Grind.{flat_map-append}
 use Rattle.std.proofs.lemmas.List.{map-append, length-map}
+use Rattle.cc_plan.specs.Target.{target_info}
+use Rattle.cc_plan.specs.ArchiveTool.{is_msvc}
 use Rattle.cc_env.specs.Env.{EnvSeen}
 use Rattle.cc_host.specs.Command.{CommandSeen}
 use Rattle.cc_host.specs.Part.{Step, step_of}
@@ -21,7 +23,7 @@ use Rattle.cc_plan.specs.Archive as archive
 use Rattle.cc_plan.specs.Archive.{archiver_of}
 use Rattle.cc_plan.specs.Batches.{batches_of}
 use Rattle.cc_plan.specs.Link.{printed_links}
-use Rattle.cc_plan.specs.Plan.{compiles_of, archives_of, indexes_of, archived_of, library_of, lists_of_run, link_lines, plan_warnings, warning_steps, warned_steps, prints as line_steps, folder_steps}
+use Rattle.cc_plan.specs.Plan.{compiles_of, archives_of, indexes_of, archived_of, library_of, lists_of_run, link_lines, plan_warnings, warning_steps, warned_steps, prints as line_steps, folder_steps, run_has_one_form, run_asks_folder, copy_steps, copy_by, copy_of}
 use Rattle.cc_plan.specs.Quiet.{quiet_warnings}
 use Rattle.cc_plan.specs.Reruns.{rerun_names}
 use Rattle.cc_plan.specs.declared.archive.Archiver.{Archiver}
@@ -29,9 +31,9 @@ use Rattle.cc_plan.specs.declared.settings.BuildConfig.{BuildConfig}
 use Rattle.cc_run.specs.declared.planned.Planned.{Planned}
 use Rattle.cc_build.specs.Attempts.{attempt_of, attempts, to_attempt, all_tried, first_tried, form_tried}
 use Rattle.cc_build.specs.Built.{Built}
-use Rattle.cc_build.specs.Stage.{Stage, rerun_lines, run_reads, calls, planned, beside, opening_steps, finding_steps, said_steps, compiles_planned, in_turn, written, writings, commands_in, library_commands, has_libtool, folder_stages, compile_stages, list_stages, archive_stages, link_stages}
+use Rattle.cc_build.specs.Stage.{Stage, rerun_lines, run_reads, calls, planned, beside, opening_steps, finding_steps, said_steps, compiles_planned, in_turn, written, writings, commands_in, library_commands, folder_stages, compile_stages, archive_stages, link_stages, ready_stages, copy_stages, writing_stages, asking_steps}
 use Rattle.cc_build.specs.Stage.Stage.{Calls, Asks, Tries, RunsOne, RunsAll}
-use Rattle.cc_build.specs.Way.{Found, Firsts, chosen}
+use Rattle.cc_build.specs.Way.{Found, Firsts, chosen, Writing}
 use Rattle.cc_build.specs.Went.{Terms, Means, Did, Went}
 use Rattle.cc_build.proofs.RunLaws.{commands_then, commands_calls, commands_beside}
 use Rattle.cc_build.proofs.SettledLaws.{went_attempts}
@@ -39,7 +41,7 @@ use Rattle.cc_build.proofs.SourceLaws.{opening_notes, ending_notes, attempts_pla
 use Rattle.cc_build.proofs.StopLaws.{ArePlain, plain_then, plain_notes}
 use Rattle.cc_command.specs.Generated.{gen_settings, gen_name, gen_objects, no_variables, counted_lines, summary}
 use Rattle.cc_command.specs.Summary.{begins, links, number, log_lines}
-use Rattle.cc_command.proofs.GeneratedLaws.{not_libtool, compiles_count, archives_count, indexes_count, links_count}
+use Rattle.cc_command.proofs.GeneratedLaws.{not_libtool, compiles_count, archives_count, indexes_count, links_count, not_msvc, has_two_forms}
 use Rattle.cc_command.proofs.PlainRunLaws.{plain_cut, plain_form, plain_both}
 use Rattle.cc_command.proofs.CountLaws.{number_both, begun_attempts, is_for, one_more, planned_all, planned_none, asked_links, own_links, tried_links}
 
@@ -139,15 +141,23 @@ links_beside [] = refl
 links_beside (p ∷ []) = refl
 links_beside (p ∷ q ∷ ps) = refl
 
-links_writings : (files : List (List ℕ × List ℕ)) → links_in (calls (writings files)) ≡ 0
-links_writings [] = refl
-links_writings (file ∷ files) = zero-add (links_in (calls (writings files))) ∙ links_writings files
+links_writings : (files : List (List ℕ × List ℕ)) (more : List Step) → links_in (calls more) ≡ 0 → links_in (calls (writings files ++ more)) ≡ 0
+links_writings [] more none = none
+links_writings (file ∷ files) more none = zero-add (links_in (calls (writings files ++ more))) ∙ links_writings files more none
+
+links_asking : (asks : Bool) (here : List ℕ) → links_in (calls (asking_steps asks here)) ≡ 0
+links_asking true here = refl
+links_asking false here = refl
+
+links_copying : (copies : Bool) (from to : List ℕ) → links_in (calls (copy_by copies from to)) ≡ 0
+links_copying true from to = refl
+links_copying false from to = refl
 
 links_in_turn : (ps : List Planned) → links_in (in_turn ps) ≡ 0
 links_in_turn [] = refl
 links_in_turn (p ∷ ps) = zero-add (links_in (in_turn ps)) ∙ links_in_turn ps
 
-links_written : (libtool refused : Bool) (ps : List Planned) → links_in (written libtool refused ps) ≡ 0
+links_written : (one_form refused : Bool) (ps : List Planned) → links_in (written one_form refused ps) ≡ 0
 links_written true refused ps = links_in_turn ps
 links_written false refused [] = refl
 links_written false refused (p ∷ ps) = zero-add (links_in (in_turn ps)) ∙ links_in_turn ps
@@ -215,12 +225,25 @@ module _ (set : BuildConfig) (env : EnvSeen) (found : Found) (look : Look) where
 
 -- ---- the stages of the library and of its link lines
 
-module _ (set : BuildConfig) (env : EnvSeen) (listens : Bool) (look : Look) (is_plain : Bool) (firsts : Firsts) (output : List ℕ) where
-  archive_links : links_in (list_stages set env look output ++ archive_stages set env look is_plain output) ≡ 0
-  unfolding list_stages archive_stages
+module _ (set : BuildConfig) (env : EnvSeen) (listens : Bool) (look : Look) (writing : Writing) (firsts : Firsts) (output : List ℕ) where
+  ready_links : links_in (ready_stages set env look writing.here output) ≡ 0
+  unfolding ready_stages
+  ready_links =
+      let asks = run_asks_folder set env look output in
+      links_writings (lists_of_run set env look output) (asking_steps asks writing.here) (links_asking asks writing.here)
+
+  written_links : links_in (archive_stages set env look writing output) ≡ 0
+  unfolding archive_stages
+  written_links = links_written (run_has_one_form set env look) writing.is_plain (library_commands set env look writing output)
+
+  copy_links : links_in (copy_stages set env output) ≡ 0
+  unfolding copy_stages copy_steps
+  copy_links = links_copying (is_msvc (target_info set env)) (library_of set env output) (copy_of set env output)
+
+  archive_links : links_in (writing_stages set env writing look output) ≡ 0
   archive_links =
-      links_then (calls (writings (lists_of_run set env look output))) (written (has_libtool set env look) is_plain (library_commands set env look is_plain output))
-      ∙ ap₂ (λ m n. m + n) (links_writings (lists_of_run set env look output)) (links_written (has_libtool set env look) is_plain (library_commands set env look is_plain output))
+      links_then (ready_stages set env look writing.here output) (archive_stages set env look writing output ++ copy_stages set env output)
+      ∙ ap₂ (λ m n. m + n) ready_links (links_then (archive_stages set env look writing output) (copy_stages set env output) ∙ ap₂ (λ m n. m + n) written_links copy_links)
 
   abbrev said : List Step
   said = said_steps listens (quiet_warnings set env look)
@@ -270,13 +293,13 @@ module _ (count : ℕ) (look : Look) (t : Terms) (log : List Event) (plain : IsP
   whole : log ≡ b.runs ++ rest
   whole = b.cut ∙ append_assoc b.runs (Removed (library_of set no_variables gen_name) b.how ∷ b.archives) b.lines
 
-  some_command : (is_plain : Bool) → 1 ≤ length (library_commands set no_variables look is_plain gen_name)
+  some_command : (writing : Writing) → 1 ≤ length (library_commands set no_variables look writing gen_name)
   unfolding indexes_of
-  some_command is_plain =
-      let archives = archives_of set no_variables look is_plain gen_name in
-      let indexes = indexes_of set no_variables look is_plain gen_name in
-      let same : indexes ≡ archive.indexes_by (archiver_of set no_variables look) no_variables (library_of set no_variables gen_name) is_plain (archived_of set no_variables) = rw (not_libtool count look) refl in
-      let some : 1 ≤ length indexes = subst (λ (l : List CommandSeen). 1 ≤ length l) (sym same) (some_index (archiver_of set no_variables look) no_variables (library_of set no_variables gen_name) is_plain (archived_of set no_variables)) in
+  some_command writing =
+      let archives = archives_of set no_variables look writing.is_plain writing.here gen_name in
+      let indexes = indexes_of set no_variables look writing.is_plain gen_name in
+      let same : indexes ≡ archive.indexes_by (archiver_of set no_variables look) no_variables (library_of set no_variables gen_name) writing.is_plain (archived_of set no_variables) = rw (not_libtool count look, not_msvc count) refl in
+      let some : 1 ≤ length indexes = subst (λ (l : List CommandSeen). 1 ≤ length l) (sym same) (some_index (archiver_of set no_variables look) no_variables (library_of set no_variables gen_name) writing.is_plain (archived_of set no_variables)) in
       let all : length (planned Archive archives ++ planned Index indexes) ≡ length (planned Archive archives) + length (planned Index indexes) = length-append (planned Archive archives) (planned Index indexes) in
       let as_many : length (planned Index indexes) ≡ length indexes = length-map indexes _ in
       omega arith
@@ -287,16 +310,16 @@ module _ (count : ℕ) (look : Look) (t : Terms) (log : List Event) (plain : IsP
       let behind = (plain_cut (Removed (library_of set no_variables gen_name) b.how) (b.archives ++ b.lines) (plain_both b.runs rest cut).1).1 in
       (plain_both b.archives b.lines behind).0
 
-  first_form : b.way.is_plain ≡ false
+  first_form : b.way.writing.is_plain ≡ false
   first_form =
-      form_taken b.way.is_plain (library_commands set no_variables look b.way.is_plain gen_name) b.archives (some_command b.way.is_plain) plain_archives
-      (b.first ∙ ap (λ libtool. form_tried libtool b.way.is_plain (library_commands set no_variables look b.way.is_plain gen_name)) (not_libtool count look))
+      form_taken b.way.writing.is_plain (library_commands set no_variables look b.way.writing gen_name) b.archives (some_command b.way.writing) plain_archives
+      (b.first ∙ ap (λ one_form. form_tried one_form b.way.writing.is_plain (library_commands set no_variables look b.way.writing gen_name)) (has_two_forms count look))
 
   abbrev compiles : List CommandSeen
   compiles = compiles_of set no_variables look
 
   abbrev archives : List CommandSeen
-  archives = archives_of set no_variables look false gen_name
+  archives = archives_of set no_variables look false b.way.writing.here gen_name
 
   abbrev indexes : List CommandSeen
   indexes = indexes_of set no_variables look false gen_name
@@ -304,9 +327,10 @@ module _ (count : ℕ) (look : Look) (t : Terms) (log : List Event) (plain : IsP
   log_attempts : attempts log ≡ map to_attempt (planned Compile compiles) ++ (map to_attempt (planned Archive archives) ++ map to_attempt (planned Index indexes))
   log_attempts =
       let sources : attempts b.runs ≡ map to_attempt (planned Compile compiles) = went_attempts t (first set no_variables b.way.found look) b.runs b.compiled.0 b.compiled.1 (plain_first set no_variables b.way.found look) b.compiled.2 ∙ ap (map to_attempt) (first_commands set no_variables b.way.found look) ∙ attempts_planned set no_variables b.way.found.here look in
-      let written_so : attempts b.archives ≡ map to_attempt (library_commands set no_variables look false gen_name) = subst (λ (p : Bool). attempts b.archives ≡ map to_attempt (library_commands set no_variables look p gen_name)) first_form b.writes in
+      let written_so : attempts b.archives ≡ map to_attempt (planned Archive archives ++ planned Index indexes) =
+      subst (λ (p : Bool). attempts b.archives ≡ map to_attempt (planned Archive (archives_of set no_variables look p b.way.writing.here gen_name) ++ planned Index (indexes_of set no_variables look p gen_name))) first_form b.writes in
       let both : attempts b.archives ≡ map to_attempt (planned Archive archives) ++ map to_attempt (planned Index indexes) = written_so ∙ map-append to_attempt (planned Archive archives) (planned Index indexes) in
-      let none : attempts b.lines ≡ [] = went_attempts t (Asks ∷ link_stages set no_variables (is_some b.way.found.here) look b.way.firsts gen_name) b.lines b.linked.0 b.linked.1 (plain_ending set no_variables (is_some b.way.found.here) look false b.way.firsts gen_name) b.linked.2 ∙ ap (map to_attempt) (ending_commands set no_variables (is_some b.way.found.here) look false b.way.firsts gen_name) in
+      let none : attempts b.lines ≡ [] = went_attempts t (Asks ∷ link_stages set no_variables (is_some b.way.found.here) look b.way.firsts gen_name) b.lines b.linked.0 b.linked.1 (plain_ending set no_variables (is_some b.way.found.here) look b.way.writing b.way.firsts gen_name) b.linked.2 ∙ ap (map to_attempt) (ending_commands set no_variables (is_some b.way.found.here) look b.way.writing b.way.firsts gen_name) in
       ap attempts whole ∙ flat_map-append attempt_of b.runs rest
       ∙ ap₂ (λ u v. u ++ v) sources (flat_map-append attempt_of b.archives b.lines ∙ ap₂ (λ u v. u ++ v) both none ∙ append-nil (map to_attempt (planned Archive archives) ++ map to_attempt (planned Index indexes)))
 
@@ -326,7 +350,7 @@ module _ (count : ℕ) (look : Look) (t : Terms) (log : List Event) (plain : IsP
 
   log_archives : number (begins Archive) log ≡ length (batches_of (gen_objects count))
   log_archives =
-      role_number Archive ∙ sum_of _ _ _ 0 (length (batches_of (gen_objects count))) 0 (length (batches_of (gen_objects count))) (planned_none Compile Archive refl compiles) (planned_all Archive Archive refl archives ∙ archives_count count look) (planned_none Index Archive refl indexes) (omega arith)
+      role_number Archive ∙ sum_of _ _ _ 0 (length (batches_of (gen_objects count))) 0 (length (batches_of (gen_objects count))) (planned_none Compile Archive refl compiles) (planned_all Archive Archive refl archives ∙ archives_count count look b.way.writing.here) (planned_none Index Archive refl indexes) (omega arith)
 
   log_indexes : number (begins Index) log ≡ 1
   log_indexes =
@@ -335,8 +359,8 @@ module _ (count : ℕ) (look : Look) (t : Terms) (log : List Event) (plain : IsP
   log_links : number links log ≡ 2
   log_links =
       let sources : number links b.runs ≡ 0 = went_links t (first set no_variables b.way.found look) b.runs b.compiled.0 b.compiled.1 b.compiled.2 ∙ first_links set no_variables b.way.found look in
-      let library : number links b.archives ≡ 0 = went_links t (list_stages set no_variables look gen_name ++ archive_stages set no_variables look b.way.is_plain gen_name) b.archives b.archived.0 b.archived.1 b.archived.2 ∙ archive_links set no_variables (is_some b.way.found.here) look b.way.is_plain b.way.firsts gen_name in
-      let lines : number links b.lines ≡ 2 = went_links t (Asks ∷ link_stages set no_variables (is_some b.way.found.here) look b.way.firsts gen_name) b.lines b.linked.0 b.linked.1 b.linked.2 ∙ ending_links set no_variables (is_some b.way.found.here) look b.way.is_plain b.way.firsts gen_name ∙ links_count count look b.way.firsts.links in
+      let library : number links b.archives ≡ 0 = went_links t (writing_stages set no_variables b.way.writing look gen_name) b.archives b.archived.0 b.archived.1 b.archived.2 ∙ archive_links set no_variables (is_some b.way.found.here) look b.way.writing b.way.firsts gen_name in
+      let lines : number links b.lines ≡ 2 = went_links t (Asks ∷ link_stages set no_variables (is_some b.way.found.here) look b.way.firsts gen_name) b.lines b.linked.0 b.linked.1 b.linked.2 ∙ ending_links set no_variables (is_some b.way.found.here) look b.way.writing b.way.firsts gen_name ∙ links_count count look b.way.firsts.links in
       ap (number links) whole ∙ number_both links b.runs rest
       ∙ ap₂ (λ m n. m + n) sources (number_both links b.archives b.lines ∙ ap₂ (λ m n. m + n) library lines)
 

@@ -20,7 +20,7 @@ use Rattle.cc_build.specs.Error.{ErrorSeen}
 use Rattle.cc_build.specs.Shows.{shows_of}
 use Rattle.cc_build.specs.Stage.{Stage, planned_stages}
 use Rattle.cc_build.specs.Stage.Stage.{Calls}
-use Rattle.cc_build.specs.Way.{Way, Found, Hears, all_firsts}
+use Rattle.cc_build.specs.Way.{Way, Found, Hears, all_firsts, Writing}
 use Rattle.cc_build.specs.Went.{Terms, Means, terms, Went, Halted}
 use Rattle.cc_build.specs.declared.error.ErrorKind.{ErrorKind}
 use Rattle.cc_build.specs.declared.error.ErrorKind.TheVariants.{NoMemory}
@@ -108,19 +108,18 @@ abbrev pub warning : Option (List ℕ) → Found
 warning here = record { warns_of_link = true; here = here }
 
 -- it prints all lines for Cargo, too
-abbrev pub repeating : Option (List ℕ) → Bool → Way
-repeating here is_plain = record { found = warning here; is_plain = is_plain; firsts = all_firsts }
+abbrev pub repeating : Option (List ℕ) → Writing → Way
+repeating here writing = record { found = warning here; writing = writing; firsts = all_firsts }
 
--- What is left to be found out as it goes: the current folder, which a host that listens is asked for, and whether the first form of the archive was
--- refused.
+-- What is left to be found out as it goes: the current folder, which a host that listens is asked for, and what is found out as the library is written.
 pub record Findings (listens : Bool) : Type 0 where
   pub here : Option (List ℕ)
   pub hears : Hears listens (warning here)
-  pub is_plain : Bool
+  pub writing : Writing
 
 -- The stages of a request: the host lists its variables, then come those of the compile run.
 abbrev pub stages_of : (listens : Bool) → Look → Request → Findings listens → List Event → List Stage
-stages_of listens look request finds part = Calls Lists ∷ planned_stages request.1.config (env_in request part) (repeating finds.here finds.is_plain) look request.0
+stages_of listens look request finds part = Calls Lists ∷ planned_stages request.1.config (env_in request part) (repeating finds.here finds.writing) look request.0
 
 -- the terms of a request's run
 abbrev pub terms_in : Bool → Request → List Event → Course → Terms

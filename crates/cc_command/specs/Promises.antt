@@ -10,7 +10,7 @@ use Rattle.cc_host.specs.declared.event.HostCall.TheVariants.{Print}
 use Rattle.cc_host.specs.declared.event.LineKind.TheVariants.{Fault as FaultLine}
 use Rattle.cc_host.specs.declared.event.Why.{Why}
 use Rattle.cc_jobs.specs.Seats.{Rose}
-use Rattle.cc_plan.specs.Plan.{compiles_of}
+use Rattle.cc_plan.specs.Plan.{compiles_of, run_has_one_form}
 use Rattle.cc_plan.specs.Valid.{Valid}
 use Rattle.cc_run.specs.Part.{turns}
 use Rattle.cc_build.specs.Course.{Course}
@@ -19,7 +19,7 @@ use Rattle.cc_build.specs.Failed.{Failed, HasFault}
 use Rattle.cc_build.specs.Order.{is_archive_event}
 use Rattle.cc_build.specs.Promises.{AreFirst, RunBeside, AllStarted}
 use Rattle.cc_build.specs.Shows.{shows_of}
-use Rattle.cc_build.specs.Stage.{folder_stages, compile_stages, has_libtool}
+use Rattle.cc_build.specs.Stage.{folder_stages, compile_stages}
 use Rattle.cc_build.specs.Stage.Stage.{Asks, Calls}
 use Rattle.cc_build.specs.Way.{Hears}
 use Rattle.cc_build.specs.Went.{Goes, Partly}
@@ -109,10 +109,10 @@ StartsAll listens look words part ended = IfCompiles words (λ request. (e : Err
 abbrev pub EndsSpent : ℕ → List Event → Ended → Type 0
 EndsSpent most part ended = (e : ErrorSeen) × ((ended ≡ ended_refused e) × (e.kind ≡ TurnsSpent) × (turns part ≡ most))
 
--- Valid settings, no failed or missing command but the first form of the archive, which libtool hasn't, no fault of the host and none of the pool: it is done, or the turns
+-- Valid settings, no failed or missing command but the first form of the archive, which one_form hasn't, no fault of the host and none of the pool: it is done, or the turns
 -- are spent, or memory was wanted.
 abbrev pub IsComplete : Look → Result Wish BadWord → List Event → Ended → Course → Type 0
-IsComplete look words part ended c = IfCompiles words (λ request. Valid request.1.config (env_in request part) look request.0 → (Failed (has_libtool request.1.config (env_in request part) look) part → ⊥) → (HasFault part → ⊥) → (Rose c.before.faults c.after.faults → ⊥) → (ended ≡ ended_well) ⊎ (EndsSpent c.before.left part ended ⊎ (ended ≡ ended_wanting)))
+IsComplete look words part ended c = IfCompiles words (λ request. Valid request.1.config (env_in request part) look request.0 → (Failed (run_has_one_form request.1.config (env_in request part) look) part → ⊥) → (HasFault part → ⊥) → (Rose c.before.faults c.after.faults → ⊥) → (ended ≡ ended_well) ⊎ (EndsSpent c.before.left part ended ⊎ (ended ≡ ended_wanting)))
 
 -- The turns are enough where one caller owns the pool, the host tells its patience, and there are as many times that as twice the sources, the added objects and two.
 abbrev pub IsEnough : Look → Result Wish BadWord → List Event → Ended → Course → Type 0

@@ -1,5 +1,5 @@
 -- How a tool of archives is found: which questions are asked, and what is refused.
-use Rattle.std.proofs.Common.{◌≡◌, ◌⊎◌, inl, inr, ℕ, true, List, Option, Some, None, refl, sym, ap, ◌∙◌}
+use Rattle.std.proofs.Common.{◌≡◌, ◌⊎◌, inl, inr, ℕ, true, List, Option, Some, None, refl, sym, ap, ◌∙◌, subst}
 use Rattle.cc_env.specs.Env.{EnvSeen}
 use Rattle.cc_env.specs.Snapshot.{child_of}
 use Rattle.cc_host.specs.Question.{Look, Answer, Settles, Holds}
@@ -8,7 +8,9 @@ use Rattle.cc_tool.proofs.SettleLemmas.{settles_so}
 use Rattle.cc_plan.specs.ArchiveTool.{llvm_name, version_question, plain_name, gcc_name, set_program, variable_tool}
 use Rattle.cc_plan.specs.Choice.{choice_of, cross_prefix}
 use Rattle.cc_plan.specs.Given.{target_of}
-use Rattle.cc_plan.specs.Questions.{IsForAndroid, IsForWasm, ToolAsks, SearchAsks, ArchiveToolAsks, ArchiverAsks, RanlibAsks, NameAsks}
+use Rattle.cc_plan.specs.Compiler.{compiler_of}
+use Rattle.cc_plan.specs.Questions.{IsForAndroid, IsForWasm, IsForStudio, IsOnBeside, ToolAsks, SearchAsks, BesideAsks, ArchiveToolAsks, ArchiverAsks, RanlibAsks, NameAsks}
+use Rattle.cc_plan.specs.declared.compiler.Compiler.{Compiler}
 use Rattle.cc_plan.specs.Refusal.{target_refusal, qnx_arch_refusal, found_refusal, known_refusal, choice_refusal, look_up_refusal, archive_tool_refusal}
 use Rattle.cc_plan.specs.Searched.{search_question}
 use Rattle.cc_plan.specs.Target.{target_info}
@@ -65,18 +67,27 @@ module _ (tool : ArchiveTool) (set : BuildConfig) (env : EnvSeen) where
   pub search_for_archive : {known : List Answer} (path : List ℕ) → IsForWasm set env → Settles known (λ look. (choice_of set env look).path) path → Holds known (λ look. (q : Question) → SearchAsks set env path look q → ArchiveToolAsks tool set env look q)
   search_for_archive path wasm s = record { under = λ look a q h. search_asked look path q wasm (s.is look a) h }
 
+  lib_asked : (look : Look) (compiler : Compiler) (q : Question) → IsForStudio set env → compiler_of set env look ≡ compiler → BesideAsks set env compiler.family compiler.choice.path look q → ArchiveToolAsks tool set env look q
+  unfolding BesideAsks ArchiveToolAsks
+  lib_asked look compiler q studio is (inl h) = inl h
+  lib_asked look compiler q studio is (inr h) = inr (inr (inl (studio, subst (λ (k : Compiler). IsOnBeside env k.family k.choice.path q) (sym is) h)))
+
+  -- where a settled compiler looks for LLVM's tool in the place of Visual Studio's
+  pub lib_for_archive : {known : List Answer} (compiler : Compiler) → IsForStudio set env → Settles known (compiler_of set env) compiler → Holds known (λ look. (q : Question) → BesideAsks set env compiler.family compiler.choice.path look q → ArchiveToolAsks tool set env look q)
+  lib_for_archive compiler studio s = record { under = λ look a q h. lib_asked look compiler q studio (s.is look a) h }
+
   -- whether LLVM's tool prints its version
   pub llvm_for_archive : (program : List ℕ) (vars : List (List ℕ × List ℕ)) → program ≡ llvm_name tool → vars ≡ child_of env.inherited env.explicit → IsForAndroid set env → (look : Look) (q : Question) → q ≡ version_question vars program → ArchiveToolAsks tool set env look q
   unfolding ArchiveToolAsks
-  llvm_for_archive program vars name child android look q h = inr (inr (inl (android, h ∙ ap (λ (v : List (List ℕ × List ℕ)). version_question v program) child ∙ ap (version_question (child_of env.inherited env.explicit)) name)))
+  llvm_for_archive program vars name child android look q h = inr (inr (inr (inl (android, h ∙ ap (λ (v : List (List ℕ × List ℕ)). version_question v program) child ∙ ap (version_question (child_of env.inherited env.explicit)) name))))
 
   on_plain : (look : Look) (prefix : List ℕ) (q : Question) → cross_prefix set env look ≡ Some prefix → q ≡ version_question env.inherited (plain_name tool prefix) → ArchiveToolAsks tool set env look q
   unfolding ArchiveToolAsks
-  on_plain look prefix q is h = inr (inr (inr (prefix, (is, inl h))))
+  on_plain look prefix q is h = inr (inr (inr (inr (prefix, (is, inl h)))))
 
   on_gcc : (look : Look) (prefix : List ℕ) (q : Question) → cross_prefix set env look ≡ Some prefix → q ≡ version_question env.inherited (gcc_name tool prefix) → ArchiveToolAsks tool set env look q
   unfolding ArchiveToolAsks
-  on_gcc look prefix q is h = inr (inr (inr (prefix, (is, inr h))))
+  on_gcc look prefix q is h = inr (inr (inr (inr (prefix, (is, inr h)))))
 
   -- whether the tools behind a settled prefix do
   pub plain_for_archive : {known : List Answer} (prefix program : List ℕ) → program ≡ plain_name tool prefix → Settles known (cross_prefix set env) (Some prefix) → Holds known (λ look. (q : Question) → q ≡ version_question env.inherited program → ArchiveToolAsks tool set env look q)

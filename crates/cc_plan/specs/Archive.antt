@@ -1,13 +1,15 @@
 -- The planned archiver, and the archive and index commands, in the words of `ar`: `c` makes the library, `q` adds members last, `s` writes its
 -- index, and `D` leaves out times and owners, so that one build gives the same bytes as the next.
-use Rattle.std.specs.Prelude.{ℕ, Bool, false, true, ◌||◌, List, [], ◌∷◌, ◌++◌, map, take, None, unwrap_or, is_some, codes, if◌then◌else◌}
+use Rattle.std.specs.Prelude.{ℕ, Bool, false, true, ◌&&◌, ◌||◌, List, [], ◌∷◌, ◌++◌, map, take, Some, None, unwrap_or, is_some, codes, if◌then◌else◌}
 use Rattle.cc_env.specs.Env.{EnvSeen}
 use Rattle.cc_env.specs.Snapshot.{child_of}
 use Rattle.cc_host.specs.Command.{CommandSeen}
 use Rattle.cc_host.specs.Question.{Look}
-use Rattle.cc_plan.specs.ArchiveTool.{archive_tool}
+use Rattle.cc_target.specs.Targets.{Info}
+use Rattle.cc_plan.specs.ArchiveTool.{archive_tool, is_msvc}
 use Rattle.cc_plan.specs.Batches.{batches_of}
 use Rattle.cc_plan.specs.Given.{variable_flags}
+use Rattle.cc_plan.specs.LibForm.{folder_of, is_lib, lib_words, members_of, runs_in_folder}
 use Rattle.cc_plan.specs.Libtool.{is_libtool, libtool_words}
 use Rattle.cc_plan.specs.declared.archive.Archiver.{Archiver}
 use Rattle.cc_plan.specs.declared.archive_tool.ArchiveTool.TheVariants.{Archiver as ForMembers, Ranlib as ForIndex}
@@ -87,10 +89,29 @@ archives_by archiver env library plain batches = refused_of archiver env library
 abbrev pub libtool_of : Archiver → List ℕ → CommandSeen
 libtool_of archiver library = with_words archiver (libtool_words library)
 
--- by the archiver's name: libtool has no second form
-abbrev pub archives_of : Archiver → EnvSeen → List ℕ → Bool → List (List ℕ) → List CommandSeen
-archives_of archiver env library plain paths =
-    if is_libtool archiver then libtool_of archiver library ∷ [] else archives_by archiver env library plain (batches_of paths)
+-- a command in the library's folder, where it runs there
+abbrev pub in_folder : Archiver → List ℕ → CommandSeen → CommandSeen
+in_folder archiver library cmd = if runs_in_folder archiver library then record cmd { dir = Some (folder_of library) } else cmd
+
+-- the library manager's command of a batch, which makes the library or adds to it
+abbrev pub lib_of : Archiver → List ℕ → List ℕ → Bool → List (List ℕ) → CommandSeen
+lib_of archiver library here adds batch = in_folder archiver library (with_words archiver (lib_words archiver library adds ++ members_of archiver library here batch))
+
+-- one a batch: the first makes the library, and each later one adds to it
+abbrev pub libs_of : Archiver → List ℕ → List ℕ → List (List (List ℕ)) → List CommandSeen
+libs_of archiver library here [] = []
+libs_of archiver library here (batch ∷ batches) = lib_of archiver library here false batch ∷ map (lib_of archiver library here true) batches
+
+-- the current folder is asked for before the commands that archive these paths
+unfoldable pub asks_folder : Info → Archiver → List ℕ → List (List ℕ) → Bool
+asks_folder target archiver library paths = is_lib target archiver && (runs_in_folder archiver library && has_words paths)
+
+-- by the words that the archiver takes: libtool and the library manager have no second form
+abbrev pub archives_of : Info → Archiver → EnvSeen → List ℕ → Bool → List ℕ → List (List ℕ) → List CommandSeen
+archives_of target archiver env library plain here paths =
+    if is_libtool archiver then libtool_of archiver library ∷ []
+    else (if is_lib target archiver then libs_of archiver library here (batches_of paths)
+    else archives_by archiver env library plain (batches_of paths))
 
 -- the command that writes the index without the time
 abbrev pub index_of : Archiver → List ℕ → CommandSeen
@@ -106,6 +127,6 @@ indexes_by archiver env library false paths = index_of archiver library ∷ []
 indexes_by archiver env library true [] = index_of archiver library ∷ plain_index_of archiver env library ∷ []
 indexes_by archiver env library true (path ∷ paths) = plain_index_of archiver env library ∷ []
 
--- libtool writes the index with the library
-abbrev pub indexes_of : Archiver → EnvSeen → List ℕ → Bool → List (List ℕ) → List CommandSeen
-indexes_of archiver env library plain paths = if is_libtool archiver then [] else indexes_by archiver env library plain paths
+-- libtool writes the index with the library, and for Visual Studio it needs no command
+abbrev pub indexes_of : Info → Archiver → EnvSeen → List ℕ → Bool → List (List ℕ) → List CommandSeen
+indexes_of target archiver env library plain paths = if is_libtool archiver || is_msvc target then [] else indexes_by archiver env library plain paths

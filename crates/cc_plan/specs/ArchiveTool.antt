@@ -1,5 +1,5 @@
 -- The tools of archives, the archiver and the one that writes their index, and how they are found: one table, in which each has its own name.
-use Rattle.std.specs.Prelude.{ℕ, Bool, ◌&&◌, ◌||◌, List, [], ◌++◌, Option, Some, None, is_none, unwrap_or, codes, if◌then◌else◌}
+use Rattle.std.specs.Prelude.{ℕ, Bool, ◌&&◌, ◌||◌, List, [], ◌∷◌, ◌++◌, Option, Some, None, is_none, unwrap_or, codes, if◌then◌else◌}
 use Rattle.std.specs.Option.{option_map, option_or}
 use Rattle.cc_env.specs.Env.{EnvSeen}
 use Rattle.cc_env.specs.Snapshot.{child_of}
@@ -10,8 +10,10 @@ use Rattle.cc_host.specs.declared.question.Ask.TheVariants.{ToolVersion}
 use Rattle.cc_host.specs.declared.question.Question.{Question}
 use Rattle.cc_target.specs.Targets.{Info}
 use Rattle.cc_text.specs.Families.{is_clang}
+use Rattle.cc_text.specs.Words.{when}
 use Rattle.cc_tool.specs.Family.{question}
 use Rattle.cc_plan.specs.Android.{replaced}
+use Rattle.cc_plan.specs.Beside.{beside}
 use Rattle.cc_plan.specs.Choice.{bare, cross_prefix, is_wasm}
 use Rattle.cc_plan.specs.Compiler.{compiler_of}
 use Rattle.cc_plan.specs.EnvTool.{env_tool}
@@ -58,6 +60,10 @@ gcc_name tool prefix = behind (prefix ++ codes "-gcc-") tool
 -- that of older kits for Android: behind the target's name, where Arm has no version
 abbrev pub android_name : ArchiveTool → List ℕ → List ℕ
 android_name tool name = plain_name tool (replaced (codes "armv7") (codes "arm") name)
+
+-- the target is one of Visual Studio
+abbrev pub is_msvc : Info → Bool
+is_msvc target = is target.env "msvc"
 
 -- the architecture as the names of QNX's tools have it
 unfoldable pub qnx_arch : Info → Option (List ℕ)
@@ -148,13 +154,28 @@ cross_tool tool set env look = tool_behind tool env (cross_prefix set env look) 
 abbrev pub gnu_tool : ArchiveTool → BuildConfig → EnvSeen → Look → List ℕ
 gnu_tool tool set env look = unwrap_or (cross_tool tool set env look) (tool_name tool)
 
+-- LLVM's in the place of Visual Studio's, next to a compiler
+abbrev pub lib_beside : EnvSeen → Compiler → Look → Option (List ℕ)
+lib_beside env compiler look = beside env compiler.family compiler.choice.path (codes "llvm-lib") look
+
+abbrev pub compiler_lib : BuildConfig → EnvSeen → Look → Option (List ℕ)
+compiler_lib set env look = lib_beside env (compiler_of set env look) look
+
+-- for Visual Studio: LLVM's next to clang-cl, else Microsoft's library manager, which stands for both tools, as an index needs none there
+abbrev pub studio_tool : BuildConfig → EnvSeen → Look → List ℕ
+studio_tool set env look = unwrap_or (compiler_lib set env look) (codes "lib.exe")
+
 -- that of the system, else one of GNU's
 abbrev pub named_tool : ArchiveTool → BuildConfig → EnvSeen → Look → List ℕ
 named_tool tool set env look = unwrap_or (system_name tool (target_info set env)) (gnu_tool tool set env look)
 
+-- that of Visual Studio, of a system or of GNU's
+abbrev pub studio_or_named : ArchiveTool → BuildConfig → EnvSeen → Look → List ℕ
+studio_or_named tool set env look = if is_msvc (target_info set env) then studio_tool set env look else named_tool tool set env look
+
 -- the one that the target wants
 abbrev pub target_tool : ArchiveTool → BuildConfig → EnvSeen → Look → List ℕ
-target_tool tool set env look = if is (target_info set env).os "android" then android_tool tool set env look else named_tool tool set env look
+target_tool tool set env look = if is (target_info set env).os "android" then android_tool tool set env look else studio_or_named tool set env look
 
 -- that of Clang for WebAssembly comes before
 abbrev pub wasm_or_target : ArchiveTool → BuildConfig → EnvSeen → Look → List ℕ
@@ -164,9 +185,13 @@ wasm_or_target tool set env look = unwrap_or (wasm_tool tool set env look) (targ
 abbrev pub own_tool : ArchiveTool → BuildConfig → EnvSeen → Look → List ℕ
 own_tool tool set env look = if is (target_info set env).os "emscripten" then behind (codes "em") tool else wasm_or_target tool set env look
 
--- the same without words
+-- Microsoft's is told of the architecture that mixes the two instruction sets of Windows on Arm
+unfoldable pub machine_words : Info → List ℕ → List (List ℕ)
+machine_words target path = when (is target.full_arch "arm64ec" && is path "lib.exe") (codes "/machine:arm64ec" ∷ [])
+
+-- the same with its words
 abbrev pub own_choice : ArchiveTool → BuildConfig → EnvSeen → Look → Choice
-own_choice tool set env look = bare (own_tool tool set env look)
+own_choice tool set env look = record (bare (own_tool tool set env look)) { words = machine_words (target_info set env) (own_tool tool set env look) }
 
 -- the one that the environment names, with its words
 abbrev pub variable_tool : ArchiveTool → BuildConfig → EnvSeen → Look → Option Choice

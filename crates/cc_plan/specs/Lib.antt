@@ -18,6 +18,7 @@ pub mod Flags
 pub mod Given
 pub mod Inherited
 pub mod Languages
+pub mod LibForm
 pub mod Libtool
 pub mod Link
 pub mod Names

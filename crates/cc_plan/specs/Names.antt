@@ -1,7 +1,10 @@
 -- The names of a static library, as a linker looks for it: `foo` is in the file `libfoo.a`.
 use Rattle.std.specs.Prelude.{ℕ, List, [], ◌++◌, Bool, not, ◌&&◌, ◌||◌, ◌==◌, Option, Some, None, option_and_then, unwrap_or, is_some, codes, bytes_eq, if◌then◌else◌}
 use Rattle.std.specs.List.{list_any}
+use Rattle.std.specs.Option.{option_or}
 use Rattle.std.specs.Path.{path_parent, path_file_name}
+use Rattle.cc_flags.specs.Texts.{is}
+use Rattle.cc_target.specs.Targets.{Info}
 use Rattle.cc_text.specs.Cuts.{after_prefix, before_suffix}
 use Rattle.cc_plan.specs.Blanks.{nonempty}
 
@@ -34,6 +37,18 @@ pair_of None second = None
 pair_of (Some x) None = None
 pair_of (Some x) (Some y) = Some (x, y)
 
--- the name and the folder of a library by its path, where the file is `lib<name>.a` and both are not empty
-unfoldable pub linked_library : List ℕ → Option (List ℕ × List ℕ)
-linked_library path = pair_of (option_and_then inner_name (path_file_name path)) (nonempty (path_parent path))
+-- the name of the second file of a library for Visual Studio
+abbrev pub copy_file : List ℕ → List ℕ
+copy_file name = name ++ codes ".lib"
+
+-- what stands before `.lib`, where that is not empty
+abbrev pub copied_name : List ℕ → Option (List ℕ)
+copied_name file = nonempty (before_suffix file (codes ".lib"))
+
+-- the name of a library by that of its file, which for Visual Studio may be its second one
+unfoldable pub file_library : Info → List ℕ → Option (List ℕ)
+file_library target file = option_or (inner_name file) (if is target.env "msvc" then copied_name file else None)
+
+-- the name and the folder of a library by its path, where both are not empty
+unfoldable pub linked_library : Info → List ℕ → Option (List ℕ × List ℕ)
+linked_library target path = pair_of (option_and_then (file_library target) (path_file_name path)) (nonempty (path_parent path))

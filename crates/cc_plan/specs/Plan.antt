@@ -7,7 +7,7 @@ use Rattle.cc_text.specs.Words.{when}
 use Rattle.cc_host.specs.Command.{CommandSeen}
 use Rattle.cc_host.specs.Part.{Step}
 use Rattle.cc_host.specs.Question.{Look}
-use Rattle.cc_host.specs.Part.Step.{Makes, Removes, Prints, Says}
+use Rattle.cc_host.specs.Part.Step.{Makes, Removes, Copies, Prints, Says}
 use Rattle.cc_host.specs.declared.event.Scope.TheVariants.{Build}
 use Rattle.cc_host.specs.declared.event.LineKind.{LineKind}
 use Rattle.cc_host.specs.declared.event.LineKind.TheVariants.{Warning}
@@ -16,12 +16,15 @@ use Rattle.cc_plan.specs.declared.error.PlanError.{PlanError}
 use Rattle.cc_plan.specs.declared.object.Object.{Object}
 use Rattle.cc_plan.specs.declared.settings.BuildConfig.{BuildConfig}
 use Rattle.cc_plan.specs.Archive as archive
+use Rattle.cc_plan.specs.ArchiveTool.{is_msvc}
 use Rattle.cc_plan.specs.Assembler.{assembler_of}
 use Rattle.cc_plan.specs.Compile.{compile_of}
 use Rattle.cc_plan.specs.Given.{out_dir_of}
 use Rattle.cc_plan.specs.Archive.{archiver_of}
 use Rattle.cc_plan.specs.Link.{printed_line, link_lines as lines_of}
 use Rattle.cc_plan.specs.declared.link.LinkLine.{LinkLine}
+use Rattle.cc_plan.specs.LibForm as form
+use Rattle.cc_plan.specs.LibForm.{copy_path_of}
 use Rattle.cc_plan.specs.Names.{library_name}
 use Rattle.cc_plan.specs.Libtool.{lists_of, list_refusal}
 use Rattle.cc_plan.specs.Object as object
@@ -64,13 +67,34 @@ archive_refusal set env look = first_of (archiver_refusal set env look) (list_re
 unfoldable pub lists_of_run : BuildConfig → EnvSeen → Look → List ℕ → List (List ℕ × List ℕ)
 lists_of_run set env look output = lists_of (archiver_of set env look) (library_of set env output) (archived_of set env)
 
--- the commands that write the library; `plain` says that the first one was refused, so that the plain form took its place
-unfoldable pub archives_of : BuildConfig → EnvSeen → Look → Bool → List ℕ → List CommandSeen
-archives_of set env look plain output = archive.archives_of (archiver_of set env look) env (library_of set env output) plain (archived_of set env)
+-- the archiver of a run has one form alone
+unfoldable pub run_has_one_form : BuildConfig → EnvSeen → Look → Bool
+run_has_one_form set env look = form.has_one_form (target_info set env) (archiver_of set env look)
+
+-- the current folder is asked for before the library is written
+unfoldable pub run_asks_folder : BuildConfig → EnvSeen → Look → List ℕ → Bool
+run_asks_folder set env look output = archive.asks_folder (target_info set env) (archiver_of set env look) (library_of set env output) (archived_of set env)
+
+-- the commands that write the library; `plain` says that the first one was refused, so that the plain form took its place, and `here` is the current
+-- folder, where that is asked for
+unfoldable pub archives_of : BuildConfig → EnvSeen → Look → Bool → List ℕ → List ℕ → List CommandSeen
+archives_of set env look plain here output = archive.archives_of (target_info set env) (archiver_of set env look) env (library_of set env output) plain here (archived_of set env)
 
 -- the commands that write its index
 unfoldable pub indexes_of : BuildConfig → EnvSeen → Look → Bool → List ℕ → List CommandSeen
-indexes_of set env look plain output = archive.indexes_of (archiver_of set env look) env (library_of set env output) plain (archived_of set env)
+indexes_of set env look plain output = archive.indexes_of (target_info set env) (archiver_of set env look) env (library_of set env output) plain (archived_of set env)
+
+-- the library's second file, by the name that a linker for Visual Studio looks for
+abbrev pub copy_of : BuildConfig → EnvSeen → List ℕ → List ℕ
+copy_of set env output = copy_path_of (library_of set env output) (library_name output)
+
+-- a file is copied to a path, of which an old file is removed, or not
+abbrev pub copy_by : Bool → List ℕ → List ℕ → List Step
+copy_by copies from to = when copies (Removes to ∷ Copies from to ∷ [])
+
+-- there the library is copied to that file
+unfoldable pub copy_steps : BuildConfig → EnvSeen → List ℕ → List Step
+copy_steps set env output = copy_by (is_msvc (target_info set env)) (library_of set env output) (copy_of set env output)
 
 -- the library is linked by its name, and sought in the folder that its path has, where link lines are wanted
 unfoldable pub link_lines : BuildConfig → EnvSeen → Look → List ℕ → List LinkLine

@@ -11,7 +11,7 @@ use Rattle.cc_text.specs.declared.family.ToolFamily.{ToolFamily}
 use Rattle.cc_tool.specs.Family.{IsOfFamilyIn}
 use Rattle.cc_tool.specs.Libcxx.{libcxx_question}
 use Rattle.cc_plan.specs.Android.{kit_compiler, older_name, starts_question}
-use Rattle.cc_plan.specs.ArchiveTool.{llvm_question, version_question, plain_name, gcc_name}
+use Rattle.cc_plan.specs.ArchiveTool.{is_msvc, llvm_question, version_question, plain_name, gcc_name}
 use Rattle.cc_plan.specs.Assembler.{want_assembler}
 use Rattle.cc_plan.specs.Choice.{choice_of, cross_prefix, is_wasm}
 use Rattle.cc_plan.specs.Compilation.{CompilationSeen}
@@ -105,6 +105,14 @@ IsForWasm set env = is_wasm (target_info set env) ≡ true
 abbrev pub IsOnSearch : BuildConfig → EnvSeen → Look → Question → Type 0
 IsOnSearch set env look q = IsForWasm set env × (q ≡ search_question env (choice_of set env look).path)
 
+-- the target is one of Visual Studio
+abbrev pub IsForStudio : BuildConfig → EnvSeen → Type 0
+IsForStudio set env = is_msvc (target_info set env) ≡ true
+
+-- where clang-cl looks for programs, among which LLVM's may be that stands in for Microsoft's
+abbrev pub IsForLib : BuildConfig → EnvSeen → Look → Question → Type 0
+IsForLib set env look q = IsForStudio set env × IsOnBeside env (compiler_of set env look).family (choice_of set env look).path q
+
 -- whether LLVM's tool prints its version
 abbrev pub IsOnLlvm : ArchiveTool → BuildConfig → EnvSeen → Question → Type 0
 IsOnLlvm tool set env q = IsForAndroid set env × (q ≡ llvm_question tool env)
@@ -121,7 +129,7 @@ IsOnCross tool set env look q = (prefix : List ℕ) × ((cross_prefix set env lo
 -- one that finds a tool of archives: for a file, or one that finds the compiler; where it looks for programs; or whether a program prints its version
 unfoldable pub ArchiveToolAsks : ArchiveTool → BuildConfig → EnvSeen → Look → Question → Type 0
 ArchiveToolAsks tool set env look q =
-    ToolAsks set env look q ⊎ (IsOnSearch set env look q ⊎ (IsOnLlvm tool set env q ⊎ IsOnCross tool set env look q))
+    ToolAsks set env look q ⊎ (IsOnSearch set env look q ⊎ (IsForLib set env look q ⊎ (IsOnLlvm tool set env q ⊎ IsOnCross tool set env look q)))
 
 -- one that is asked to find the archiver
 unfoldable pub ArchiverAsks : BuildConfig → EnvSeen → Look → Question → Type 0

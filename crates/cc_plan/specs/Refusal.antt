@@ -61,8 +61,8 @@ abbrev pub name_refusal : List ℕ → Option PlanError
 name_refusal output = if is_output_name output then None else Some (Argument Output)
 
 -- what link lines by the path of a library want
-abbrev pub path_refusal : List ℕ → Option PlanError
-path_refusal path = if is_none (linked_library path) then Some (Argument Library) else None
+abbrev pub path_refusal : BuildConfig → EnvSeen → List ℕ → Option PlanError
+path_refusal set env path = if is_none (linked_library (target_info set env) path) then Some (Argument Library) else None
 
 abbrev pub out_dir_refusal : Option (List ℕ) → Option PlanError
 out_dir_refusal None = Some (NotSet (codes "OUT_DIR"))

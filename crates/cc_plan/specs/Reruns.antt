@@ -16,7 +16,7 @@ use Rattle.cc_text.specs.Families.{is_gnu, is_clang, is_plain_clang, is_visual_s
 use Rattle.cc_text.specs.Pieces.{has_bytes}
 use Rattle.cc_text.specs.Words.{when, choose, entry}
 use Rattle.cc_text.specs.declared.family.ToolFamily.{ToolFamily}
-use Rattle.cc_plan.specs.ArchiveTool.{tool_variable, set_program, system_name, wasm_tool}
+use Rattle.cc_plan.specs.ArchiveTool.{is_msvc, tool_variable, set_program, system_name, wasm_tool}
 use Rattle.cc_plan.specs.Assembler.{assembler_choice, is_llvm, want_assembler}
 use Rattle.cc_plan.specs.Choice.{is_wasm, fixed_compiler}
 use Rattle.cc_plan.specs.Compiler.{compiler_of}
@@ -221,21 +221,28 @@ abbrev pub tool_flags : ArchiveTool → List ℕ
 tool_flags Archiver = codes "ARFLAGS"
 tool_flags Ranlib = codes "RANLIBFLAGS"
 
+-- the target has a name for it
+abbrev pub has_own_name : ArchiveTool → Info → Bool
+has_own_name tool target = is target.os "android" || (is_msvc target || is_some (system_name tool target))
+
 -- a prefix of the GNU tools is sought for it: no other rule applies, and the target is another than the host
 abbrev pub seeks_prefix : ArchiveTool → BuildConfig → EnvSeen → Look → Bool
 seeks_prefix tool set env look =
-    is_none (wasm_tool tool set env look) && (not (is (target_info set env).os "android") && (is_none (system_name tool (target_info set env)) && is_cross set env))
+    is_none (wasm_tool tool set env look) && (not (has_own_name tool (target_info set env)) && is_cross set env)
 
--- for WebAssembly the compiler is chosen first
-abbrev pub wasm_names : BuildConfig → EnvSeen → Look → List (List ℕ)
-wasm_names set env look = if is_wasm (target_info set env) then choice_names set env look else []
+-- it may be that of the compiler, which is chosen first
+abbrev pub follows_compiler : Info → Bool
+follows_compiler target = is_wasm target || is_msvc target
 
-abbrev pub wasm_or_prefix_names : ArchiveTool → BuildConfig → EnvSeen → Look → List (List ℕ)
-wasm_or_prefix_names tool set env look = wasm_names set env look ++ when (seeks_prefix tool set env look) (codes "CROSS_COMPILE" ∷ [])
+abbrev pub compiler_first_names : BuildConfig → EnvSeen → Look → List (List ℕ)
+compiler_first_names set env look = if follows_compiler (target_info set env) then choice_names set env look else []
+
+abbrev pub compiler_or_prefix_names : ArchiveTool → BuildConfig → EnvSeen → Look → List (List ℕ)
+compiler_or_prefix_names tool set env look = compiler_first_names set env look ++ when (seeks_prefix tool set env look) (codes "CROSS_COMPILE" ∷ [])
 
 -- Emscripten has its own
 abbrev pub target_tool_names : ArchiveTool → BuildConfig → EnvSeen → Look → List (List ℕ)
-target_tool_names tool set env look = if is (target_info set env).os "emscripten" then [] else wasm_or_prefix_names tool set env look
+target_tool_names tool set env look = if is (target_info set env).os "emscripten" then [] else compiler_or_prefix_names tool set env look
 
 -- unless the environment names it
 abbrev pub own_tool_names : ArchiveTool → BuildConfig → EnvSeen → Look → List (List ℕ)

@@ -1,22 +1,24 @@
 // The archiver, and the archive and index commands.
-ghost use Rattle.std.specs.Prelude.{◌≡◌, [], ◌∷◌, ◌++◌, map, take, Bool, true, false, IfOk, IfErr, if◌then◌else◌};
-ghost use Rattle.cc_plan.specs.Archive.{archiver_of, archiver_by, has_words, archive_tool_cmd, ranlib_flags, ranlib_cmd_of, archive_env, with_words as worded, timeless, adding, archive_of, archives_by, archives_of, index_of, plain_index_of, indexes_by, indexes_of, paths_of};
+ghost use Rattle.std.specs.Prelude.{◌≡◌, ◌++◌, IfOk};
+ghost use Rattle.cc_plan.specs.Archive.{archiver_of, archiver_by, has_words, archive_tool_cmd, ranlib_flags, ranlib_cmd_of, archives_of, indexes_of, paths_of};
 ghost use Rattle.cc_plan.specs.ArchiveTool.{archive_tool};
-ghost use Rattle.cc_plan.specs.Batches.{batches_of};
+ghost use Rattle.cc_target.specs.Targets.{info_seen};
 ghost use Rattle.cc_plan.specs.Asking.{AsksForArchiver, AsksForRanlib, AsksForEither, SettledIn, AllowedIn, RefusedIn};
 ghost use Rattle.cc_plan.specs.Refusal.{AllowedBy, RefusedBy, look_up_refusal, archive_tool_refusal, archiver_refusal, ranlib_refusal};
 
+use crate::ar_form::{batch_commands, batch_index_commands};
+use crate::archive_names::is_msvc;
 use crate::archive_tool::{ArchiveTool, archive_tool};
+use crate::lib_form::{is_lib, lib_commands};
 use crate::libtool::libtool_command;
 use crate::{
-    BuildConfig, Choice, Object, PlanError, Sight, batches, host_of, is_libtool, target_of,
-    variable_flags,
+    BuildConfig, Choice, Object, PlanError, Sight, host_of, is_libtool, target_of, variable_flags,
 };
 use cc_env::BuildEnv;
 use cc_host::{Command, Host, World};
-use cc_text::{Mem, Text, Vars, Words};
+use cc_target::TargetInfo;
+use cc_text::{Mem, Text, Words};
 use std::alloc::Global;
-use std::slice;
 use std::sync::Wait;
 
 /// An archiver.
@@ -31,6 +33,23 @@ pub struct Archiver {
     pub any_flags: bool,
     /// Whether there are words behind its name in `AR`.
     pub any_args: bool,
+}
+
+/// What a library is written by: its target, its archiver in the environment, its name and its path, and the paths of its objects.
+#[derive(Clone, Copy)]
+pub struct Library<'a> {
+    /// What it is for: by this the archiver takes words in one form or another.
+    pub target: &'a TargetInfo,
+    /// Its archiver.
+    pub archiver: &'a Archiver,
+    /// The environment that the archiver runs in.
+    pub env: &'a BuildEnv,
+    /// What a linker is given for it.
+    pub name: &'a str,
+    /// Its path.
+    pub path: &'a str,
+    /// The paths of the objects that it gets, in order.
+    pub paths: &'a Words,
 }
 
 // The command of a tool of archives.
@@ -159,127 +178,16 @@ pub fn ranlib_of<W: World, H: Host<W>>(
     Ok(cmd)
 }
 
-// The environment of a command that writes no times into members.
-fn archive_env(alloc: Global, env: &BuildEnv) -> Mem<Vars>
-    ensures { IfOk result (λ vars. vars ≡ archive_env env.now) }
-{
-    let mut entries = env.explicit().try_clone()?;
-    entries.push("ZERO_AR_DATE", "1")?;
-    env.inherited().child_vars(alloc, &entries)
-}
-
-// A second command with the words of the first, and then these. They share their environment.
-fn with_words(start: &Command, words: &Words) -> Mem<Command>
-    ensures { IfOk result (λ cmd.
-        cmd ≡ record start.now { args = start.now.args ++ words.now }) }
-{
-    let mut cmd = start.try_clone()?;
-    cmd.args(words)?;
-    Ok(cmd)
-}
-
-// A command of the archiver that writes no times into members, with a form and the library.
-fn timeless(
-    alloc: Global,
-    archiver: &Archiver,
-    env: &BuildEnv,
-    form: &str,
-    library: &str,
-) -> Mem<Command>
-    ensures { IfOk result (λ cmd.
-        cmd ≡ timeless archiver.now env.now (form.now ∷ library.now ∷ [])) }
-{
-    let mut cmd = Command::new(alloc, archiver.cmd.get_program())?;
-    cmd.envs(&archive_env(alloc, env)?)?;
-    cmd.args(archiver.cmd.get_args())?;
-    cmd.arg(form)?;
-    cmd.arg(library)?;
-    Ok(cmd)
-}
-
-fn adding(plain: bool) -> &'static str
-    ensures { result.now ≡ adding plain }
-{
-    if plain { "cq" } else { "cqD" }
-}
-
-// The command that adds no member yet.
-fn archive_start(
-    alloc: Global,
-    archiver: &Archiver,
-    env: &BuildEnv,
-    library: &str,
-    plain: bool,
-) -> Mem<Command>
-    ensures { IfOk result (λ cmd. cmd ≡ archive_of archiver.now env.now library.now plain []) }
-{
-    let cmd = timeless(alloc, archiver, env, adding(plain), library)?;
-    Ok(cmd)
-}
-
-// Adds a command of each batch. They share their environment.
-fn push_batches(
-    cmds: &mut Vec<Command>,
-    archiver: &Archiver,
-    env: &BuildEnv,
-    library: &str,
-    plain: bool,
-    batches: &[Words],
-) -> Mem<()>
-    ensures { IfOk result (λ _. cmds.new.items ≡ cmds.old.items
-        ++ map (archive_of archiver.now env.now library.now plain) batches.now) }
-{
-    let start = archive_start(*cmds.allocator(), archiver, env, library, plain)?;
-    for batch in batches {
-        cmds.push(with_words(&start, batch)?)?;
-    }
-    Ok(())
-}
-
-// The command that was refused: that of the first batch, where there is one.
-fn push_refused(
-    cmds: &mut Vec<Command>,
-    archiver: &Archiver,
-    env: &BuildEnv,
-    library: &str,
-    batches: &[Words],
-) -> Mem<()>
-    ensures { IfOk result (λ _. cmds.new.items ≡ cmds.old.items
-        ++ map (archive_of archiver.now env.now library.now false) (take 1 batches.now)) }
-{
-    match batches {
-        [first, ..] => {
-            push_batches(cmds, archiver, env, library, false, slice::from_ref(first))
-        },
-        [] => Ok(()),
-    }
-}
-
-// The commands of an archiver in the form of `ar`.
-fn batch_commands(
-    alloc: Global,
-    archiver: &Archiver,
-    env: &BuildEnv,
-    library: &str,
-    paths: &Words,
-    plain: bool,
-) -> Mem<Vec<Command>>
-    ensures { IfOk result (λ cmds. cmds.items
-        ≡ archives_by archiver.now env.now library.now plain (batches_of paths.now)) }
-{
-    let batches = batches(alloc, paths)?;
-    let mut cmds = Vec::new(alloc);
-    if plain {
-        push_refused(&mut cmds, archiver, env, library, batches.as_slice())?;
-    }
-    push_batches(&mut cmds, archiver, env, library, plain, batches.as_slice())?;
-    Ok(cmds)
-}
-
 /// The commands that write objects of these paths into the library, in order: one a batch, and none where there is no path. The words of the
 /// archiver's command come first. Only want of memory refuses.
 ///
 /// Where the archiver is libtool it is one command, which reads the paths from the file that `list_file` gives; `plain` changes nothing.
+///
+/// For a target of Visual Studio all other archivers but LLVM's `ar` take the words of Microsoft's library manager ("LIB Reference"): `-out:` names
+/// the library, which stands among the words again from the second batch on, and `-nologo` leaves out the banner where no flags were given.
+/// There too `plain` changes nothing. Such a command runs in the library's folder where that is a whole path and nothing that was given
+/// with the archiver may name a file; then objects below the folder are named from there, and other relative ones from `here`, which is
+/// wanted where `asks_folder` says so and is of no matter else.
 ///
 /// By the manual of GNU `ar`, `c` makes the library without saying so, `q` adds members last without a look at those that are there, and
 /// `D` writes zero for times and owners, so that the same objects give the same bytes. `ZERO_AR_DATE` has Apple's archiver do so for times.
@@ -289,87 +197,57 @@ fn batch_commands(
 /// refused command then comes first.
 pub fn archive_commands(
     alloc: Global,
-    archiver: &Archiver,
-    env: &BuildEnv,
-    library: &str,
-    paths: &Words,
+    library: &Library<'_>,
     plain: bool,
+    here: &str,
 ) -> Mem<Vec<Command>>
-    ensures { IfOk result (λ cmds.
-        cmds.items ≡ archives_of archiver.now env.now library.now plain paths.now) }
+    ensures { IfOk result (λ cmds. cmds.items ≡ archives_of (info_seen library.now.target.now)
+        library.now.archiver.now library.now.env.now library.now.path.now plain here.now
+        library.now.paths.now) }
 {
+    let Library {
+        target,
+        archiver,
+        env,
+        path,
+        paths,
+        ..
+    } = *library;
     if is_libtool(archiver) {
         let mut cmds = Vec::new(alloc);
-        cmds.push(libtool_command(alloc, archiver, library)?)?;
+        cmds.push(libtool_command(alloc, archiver, path)?)?;
         return Ok(cmds);
     }
-    batch_commands(alloc, archiver, env, library, paths, plain)
-}
-
-fn index_command(archiver: &Archiver, library: &str) -> Mem<Command>
-    ensures { IfOk result (λ cmd. cmd ≡ index_of archiver.now library.now) }
-{
-    let mut cmd = archiver.cmd.try_clone()?;
-    cmd.arg("sD")?;
-    cmd.arg(library)?;
-    Ok(cmd)
-}
-
-fn plain_index_command(
-    alloc: Global,
-    archiver: &Archiver,
-    env: &BuildEnv,
-    library: &str,
-) -> Mem<Command>
-    ensures { IfOk result (λ cmd. cmd ≡ plain_index_of archiver.now env.now library.now) }
-{
-    timeless(alloc, archiver, env, "s", library)
-}
-
-// The commands of the index of an archiver in the form of `ar`.
-fn batch_index_commands(
-    alloc: Global,
-    archiver: &Archiver,
-    env: &BuildEnv,
-    library: &str,
-    paths: &Words,
-    plain: bool,
-) -> Mem<Vec<Command>>
-    ensures { IfOk result (λ cmds.
-        cmds.items ≡ indexes_by archiver.now env.now library.now plain paths.now) }
-{
-    let mut cmds = Vec::new(alloc);
-    if !plain || paths.is_empty() {
-        cmds.push(index_command(archiver, library)?)?;
+    if is_lib(target, archiver) {
+        return lib_commands(alloc, archiver, path, here, paths);
     }
-    if plain {
-        cmds.push(plain_index_command(alloc, archiver, env, library)?)?;
-    }
-    Ok(cmds)
+    batch_commands(alloc, archiver, env, path, paths, plain)
 }
 
 /// The commands that write the index of the library of these paths, by which a linker finds symbols: one, whose words are behind those of the
 /// archiver's command. By the manual of GNU `ar`, `s` writes it, and `D` without the time. Only want of memory refuses.
 ///
-/// None where the archiver is libtool, which writes it with the library.
+/// None where the archiver is libtool, which writes it with the library, and for a target of Visual Studio, whose archivers do so too.
 ///
 /// Where the first command with `D` was refused, `plain` has it written by `s`. Without a path the index is the first command, and the
 /// refused one then comes first.
-pub fn index_commands(
-    alloc: Global,
-    archiver: &Archiver,
-    env: &BuildEnv,
-    library: &str,
-    paths: &Words,
-    plain: bool,
-) -> Mem<Vec<Command>>
-    ensures { IfOk result (λ cmds.
-        cmds.items ≡ indexes_of archiver.now env.now library.now plain paths.now) }
+pub fn index_commands(alloc: Global, library: &Library<'_>, plain: bool) -> Mem<Vec<Command>>
+    ensures { IfOk result (λ cmds. cmds.items ≡ indexes_of (info_seen library.now.target.now)
+        library.now.archiver.now library.now.env.now library.now.path.now plain
+        library.now.paths.now) }
 {
-    if is_libtool(archiver) {
+    let Library {
+        target,
+        archiver,
+        env,
+        path,
+        paths,
+        ..
+    } = *library;
+    if is_libtool(archiver) || is_msvc(target) {
         return Ok(Vec::new(alloc));
     }
-    batch_index_commands(alloc, archiver, env, library, paths, plain)
+    batch_index_commands(alloc, archiver, env, path, paths, plain)
 }
 
 /// The paths that the library gets: those of the objects of the sources, and then the added ones, in order. Only want of memory refuses.

@@ -2,11 +2,12 @@
 ghost use Rattle.std.specs.Prelude.{◌≡◌, ◌++◌, IfOk};
 ghost use Rattle.cc_plan.specs.ArchiveTool as spec;
 ghost use Rattle.cc_plan.specs.Asking.{AsksForTool, AsksThis, IsChosenAt, SettledIn, SettledBy};
-ghost use Rattle.cc_plan.specs.Questions.{IsForAndroid, IsForWasm};
+ghost use Rattle.cc_plan.specs.Questions.{IsForAndroid, IsForStudio, IsForWasm};
 
 use crate::Sight;
 use crate::archive_names::behind;
 use crate::archive_tool::ArchiveTool;
+use crate::beside::beside;
 use crate::compilation::Inputs;
 use crate::compiler::compiler_of;
 use crate::searched::searched;
@@ -91,6 +92,32 @@ pub(crate) fn compiler_tool<W: World, H: Host<W>>(
     }
     let path = compiler.choice.path.as_str();
     let found = clang_tool(rt, tool, inputs, path, sight)?;
+    Ok(found)
+}
+
+// LLVM's in the place of Visual Studio's, next to the compiler.
+#[tactic(auto, using(crate::proofs::QuestionLemmas::chosen_at))]
+pub(crate) fn lib_beside<W: World, H: Host<W>>(
+    rt: &impl Wait,
+    tool: ArchiveTool,
+    inputs: &Inputs<'_>,
+    sight: &mut Sight<'_, W, H>,
+) -> Mem<Option<Text>>
+    requires { IsForStudio inputs.now.set.now inputs.now.env.now }
+    ensures asks { AsksForTool W.steady W.answer H.log H.patience tool inputs.now
+        sight.old sight.new }
+    ensures settles { SettledBy sight.new spec.compiler_lib inputs.now result }
+{
+    let compiler = compiler_of(rt, inputs, sight)?;
+    let Inputs {
+        alloc,
+        set,
+        env,
+        ..
+    } = *inputs;
+    let family = compiler.family;
+    let path = compiler.choice.path.as_str();
+    let found = beside(rt, alloc, set, env, family, path, "llvm-lib", sight)?;
     Ok(found)
 }
 

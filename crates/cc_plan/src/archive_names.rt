@@ -1,5 +1,5 @@
 // The names of the tools of archives: those of LLVM, of GNU, of kits and of systems that have their own.
-ghost use Rattle.std.specs.Prelude.{◌≡◌, ◌++◌, IfOk};
+ghost use Rattle.std.specs.Prelude.{◌≡◌, ◌++◌, IfOk, OnOk};
 ghost use Rattle.std.specs.Option.{option_copied};
 ghost use Rattle.cc_target.specs.Targets.{info_seen};
 ghost use Rattle.cc_plan.specs.ArchiveTool as spec;
@@ -10,7 +10,7 @@ use crate::archive_tool::ArchiveTool;
 use crate::{BuildConfig, PlanError};
 use cc_flags::is_qnx;
 use cc_target::TargetInfo;
-use cc_text::{Mem, Text};
+use cc_text::{Mem, Text, Words};
 use std::alloc::Global;
 
 pub(crate) fn tool_name(tool: ArchiveTool) -> &'static str
@@ -78,6 +78,25 @@ pub(crate) fn android_name(alloc: Global, tool: ArchiveTool, name: &str) -> Mem<
 {
     let plain = replaced(alloc, name, "armv7", "arm")?;
     plain_name(alloc, tool, plain.as_str())
+}
+
+/// Whether the target is one of Visual Studio. It takes no memory.
+pub fn is_msvc(target: &TargetInfo) -> bool
+    ensures { result ≡ spec.is_msvc (info_seen target.now) }
+{
+    target.env == "msvc"
+}
+
+// Microsoft's library manager is told of the architecture that mixes the two instruction sets of Windows on Arm ("LIB Reference", `/MACHINE`).
+#[tactic(auto, unfolding(crate::specs::ArchiveTool::machine_words))]
+pub(crate) fn push_machine_words(words: &mut Words, target: &TargetInfo, path: &str) -> Mem<()>
+    ensures { OnOk result (words.new
+        ≡ words.old ++ spec.machine_words (info_seen target.now) path.now) }
+{
+    if target.full_arch == "arm64ec" && path == "lib.exe" {
+        words.push("/machine:arm64ec")?;
+    }
+    Ok(())
 }
 
 // The architecture as the names of QNX's tools have it, as its Utilities Reference lists them at `ar`.

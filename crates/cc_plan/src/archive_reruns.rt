@@ -1,10 +1,11 @@
 // The names of the variables by which the tools of archives are found.
-ghost use Rattle.std.specs.Prelude.{is_some};
+ghost use Rattle.std.specs.Prelude.{◌≡◌, is_some};
+ghost use Rattle.cc_target.specs.Targets.{info_seen};
 ghost use Rattle.cc_plan.specs.Asking.{AsksBy, AsksForTool, SettledBy};
 ghost use Rattle.cc_plan.specs.Reruns as spec;
 
 use crate::Sight;
-use crate::archive_names::{set_program, system_name, tool_variable};
+use crate::archive_names::{is_msvc, set_program, system_name, tool_variable};
 use crate::archive_tool::{ArchiveTool, wasm_tool};
 use crate::choice::is_wasm;
 use crate::compilation::Inputs;
@@ -12,6 +13,7 @@ use crate::prefix::is_cross;
 use crate::reruns::{choice_names, is_named, tool_names};
 use crate::variables::{flags_names, push_if, tool_flags};
 use cc_host::{Host, World};
+use cc_target::TargetInfo;
 use cc_text::{Mem, Words};
 use std::sync::Wait;
 
@@ -29,27 +31,35 @@ fn seeks_prefix<W: World, H: Host<W>>(
     let found = wasm_tool(rt, tool, inputs, sight)?;
     let system = system_name(inputs.alloc, tool, inputs.target)?;
     let cross = is_cross(inputs.set, inputs.env);
-    Ok(found.is_none() && inputs.target.os != "android" && system.is_none() && cross)
+    let target = inputs.target;
+    let is_named = target.os == "android" || is_msvc(target) || system.is_some();
+    Ok(found.is_none() && !is_named && cross)
 }
 
-// For WebAssembly the compiler is chosen first.
+// It may be that of the compiler, which is chosen first.
+fn follows_compiler(target: &TargetInfo) -> bool
+    ensures { result ≡ spec.follows_compiler (info_seen target.now) }
+{
+    is_wasm(target) || is_msvc(target)
+}
+
 #[tactic(auto, using(crate::proofs::AskingLemmas::only_none))]
-fn wasm_names<W: World, H: Host<W>>(
+fn compiler_first_names<W: World, H: Host<W>>(
     rt: &impl Wait,
     inputs: &Inputs<'_>,
     sight: &mut Sight<'_, W, H>,
 ) -> Mem<Words>
     ensures asks { AsksBy W.steady W.answer H.log H.patience inputs.now sight.old sight.new }
-    ensures settles { SettledBy sight.new spec.wasm_names inputs.now result }
+    ensures settles { SettledBy sight.new spec.compiler_first_names inputs.now result }
 {
-    if is_wasm(inputs.target) {
+    if follows_compiler(inputs.target) {
         choice_names(rt, inputs, sight)
     } else {
         Ok(Words::new(inputs.alloc))
     }
 }
 
-fn wasm_or_prefix_names<W: World, H: Host<W>>(
+fn compiler_or_prefix_names<W: World, H: Host<W>>(
     rt: &impl Wait,
     tool: ArchiveTool,
     inputs: &Inputs<'_>,
@@ -57,10 +67,10 @@ fn wasm_or_prefix_names<W: World, H: Host<W>>(
 ) -> Mem<Words>
     ensures asks { AsksForTool W.steady W.answer H.log H.patience tool inputs.now
         sight.old sight.new }
-    ensures settles { SettledBy sight.new (spec.wasm_or_prefix_names tool) inputs.now result }
+    ensures settles { SettledBy sight.new (spec.compiler_or_prefix_names tool) inputs.now result }
 {
     let seeks = seeks_prefix(rt, tool, inputs, sight)?;
-    let mut names = wasm_names(rt, inputs, sight)?;
+    let mut names = compiler_first_names(rt, inputs, sight)?;
     push_if(&mut names, seeks, "CROSS_COMPILE")?;
     Ok(names)
 }
@@ -80,7 +90,7 @@ fn target_tool_names<W: World, H: Host<W>>(
     if inputs.target.os == "emscripten" {
         Ok(Words::new(inputs.alloc))
     } else {
-        wasm_or_prefix_names(rt, tool, inputs, sight)
+        compiler_or_prefix_names(rt, tool, inputs, sight)
     }
 }
 

@@ -3,13 +3,13 @@
 ghost use Rattle.std.specs.Prelude.{◌≡◌, ◌++◌};
 ghost use Rattle.cc_plan.specs.ArchiveTool as spec;
 ghost use Rattle.cc_plan.specs.Asking.{AsksForEither, AsksForTool, IsPrefix, SettledIn, SettledBy, AllowedIn, RefusedIn};
-ghost use Rattle.cc_plan.specs.Questions.{IsForAndroid};
+ghost use Rattle.cc_plan.specs.Questions.{IsForAndroid, IsForStudio};
 ghost use Rattle.cc_plan.specs.Refusal.{choice_refusal, known_refusal, found_refusal};
 
-use crate::archive_asks::{compiler_tool, if_versioned, llvm_is_there};
+use crate::archive_asks::{compiler_tool, if_versioned, lib_beside, llvm_is_there};
 use crate::archive_names::{
-    android_name, behind, check_qnx_arch, gcc_name, plain_name, set_program, system_name,
-    tool_name, tool_variable,
+    android_name, behind, check_qnx_arch, gcc_name, is_msvc, plain_name, push_machine_words,
+    set_program, system_name, tool_name, tool_variable,
 };
 use crate::choice::{bare, cross_prefix, is_wasm};
 use crate::compilation::Inputs;
@@ -191,6 +191,45 @@ fn named_tool<W: World, H: Host<W>>(
     }
 }
 
+// For Visual Studio: LLVM's next to clang-cl, else Microsoft's library manager, which stands for both tools, as an index needs none there.
+fn studio_tool<W: World, H: Host<W>>(
+    rt: &impl Wait,
+    tool: ArchiveTool,
+    inputs: &Inputs<'_>,
+    sight: &mut Sight<'_, W, H>,
+) -> Mem<Text>
+    requires { IsForStudio inputs.now.set.now inputs.now.env.now }
+    ensures asks { AsksForTool W.steady W.answer H.log H.patience tool inputs.now
+        sight.old sight.new }
+    ensures settles { SettledBy sight.new spec.studio_tool inputs.now result }
+{
+    match lib_beside(rt, tool, inputs, sight)? {
+        Some(path) => Ok(path),
+        None => {
+            let path = Text::of(inputs.alloc, "lib.exe")?;
+            Ok(path)
+        }
+    }
+}
+
+// That of Visual Studio, of a system or of GNU's.
+fn studio_or_named<W: World, H: Host<W>>(
+    rt: &impl Wait,
+    tool: ArchiveTool,
+    inputs: &Inputs<'_>,
+    sight: &mut Sight<'_, W, H>,
+) -> Mem<Text>
+    ensures asks { AsksForTool W.steady W.answer H.log H.patience tool inputs.now
+        sight.old sight.new }
+    ensures settles { SettledBy sight.new (spec.studio_or_named tool) inputs.now result }
+{
+    if is_msvc(inputs.target) {
+        studio_tool(rt, tool, inputs, sight)
+    } else {
+        named_tool(rt, tool, inputs, sight)
+    }
+}
+
 // The one that the target wants.
 fn target_tool<W: World, H: Host<W>>(
     rt: &impl Wait,
@@ -205,7 +244,7 @@ fn target_tool<W: World, H: Host<W>>(
     if inputs.target.os == "android" {
         android_tool(rt, tool, inputs, sight)
     } else {
-        named_tool(rt, tool, inputs, sight)
+        studio_or_named(rt, tool, inputs, sight)
     }
 }
 
@@ -248,7 +287,7 @@ fn own_tool<W: World, H: Host<W>>(
     }
 }
 
-// The same without words.
+// The same with its words.
 fn own_choice<W: World, H: Host<W>>(
     rt: &impl Wait,
     tool: ArchiveTool,
@@ -260,7 +299,8 @@ fn own_choice<W: World, H: Host<W>>(
     ensures settles { SettledBy sight.new (spec.own_choice tool) inputs.now result }
 {
     let path = own_tool(rt, tool, inputs, sight)?;
-    let choice = bare(inputs.alloc, path.as_str())?;
+    let mut choice = bare(inputs.alloc, path.as_str())?;
+    push_machine_words(&mut choice.words, inputs.target, path.as_str())?;
     Ok(choice)
 }
 

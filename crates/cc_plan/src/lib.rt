@@ -8,6 +8,7 @@
 
 mod added;
 mod android;
+mod ar_form;
 mod archive;
 mod archive_asks;
 mod archive_names;
@@ -30,6 +31,7 @@ mod flags;
 mod given;
 mod inherited;
 mod languages;
+mod lib_form;
 mod libtool;
 mod link;
 mod link_warning;
@@ -52,8 +54,9 @@ mod variables;
 mod words;
 
 pub use archive::{
-    Archiver, archive_commands, archived_paths, archiver_of, index_commands, ranlib_of,
+    Archiver, Library, archive_commands, archived_paths, archiver_of, index_commands, ranlib_of,
 };
+pub use archive_names::is_msvc;
 pub use assembler::assembler_of;
 pub use batch::batches;
 pub use choice::Choice;
@@ -63,14 +66,16 @@ pub use error::{ArgumentCause, PlanError};
 pub use flag_verdict::{FlagSupport, flag_support};
 pub use flags::{BuildFlag, Definition, Definitions, Flags};
 pub use given::{host_of, is_disabled, out_dir_of, probe_folder, target_of, variable_flags};
+pub use lib_form::{asks_folder, has_one_form};
 pub use libtool::{check_list, is_libtool, list_file};
 pub use link::{LinkLine, LinkPlan, link_lines, plan_links};
-pub use names::{lib_and_archive_names, library_and_dir};
+pub use names::{copy_path, lib_and_archive_names, library_and_dir};
 pub use object::{Object, object_path, objects_from_files};
 pub use plan::{Plan, Sources, plan_commands, plan_objects, plan_sources};
 pub use printing::{printed_line, warning_line};
 pub use reruns::rerun_names;
 pub use settings::{BuildConfig, archive_settings};
 pub use sight::Sight;
+pub use stdlib::target_info;
 pub use tool::tool_of;
 pub use variables::Reads;

@@ -2,12 +2,19 @@
 ghost use Rattle.std.specs.Prelude.{◌≡◌, IfOk, None, ◌++◌, Some, codes, option_and_then};
 ghost use Rattle.std.specs.Option.{option_copied};
 ghost use Rattle.std.specs.Path.{path_file_name};
-ghost use Rattle.cc_plan.specs.Names.{is_nameless, has_slash, is_output_name, inner_name, library_name, library_file, linked_library};
+ghost use Rattle.cc_plan.specs.Names.{is_nameless, has_slash, is_output_name, inner_name, library_name, library_file, copied_name, file_library, linked_library};
+ghost use Rattle.cc_plan.specs.LibForm.{copy_path_of};
+ghost use Rattle.cc_plan.specs.Target.{target_info};
+ghost use Rattle.cc_target.specs.Targets.{info_seen};
 ghost use Rattle.cc_plan.specs.Refusal.{name_refusal, path_refusal, AllowedBy, RefusedBy};
 
 use crate::blanks::nonempty;
-use crate::{ArgumentCause, PlanError};
-use cc_text::{Mem, Text, after_prefix, before_suffix, file_name, parent};
+use crate::lib_form::folder_of;
+use crate::stdlib::target_info as info;
+use crate::{ArgumentCause, BuildConfig, PlanError};
+use cc_env::BuildEnv;
+use cc_target::TargetInfo;
+use cc_text::{Mem, Text, after_prefix, before_suffix, file_name, join, parent};
 use std::alloc::Global;
 
 // An output that names no library.
@@ -66,23 +73,64 @@ pub fn lib_and_archive_names(alloc: Global, output: &str) -> Result<(Text, Text)
     }
 }
 
-// What a linker is given for the library at a path.
-fn name_in(path: &str) -> Option<&str>
-    ensures { option_copied result ≡ option_and_then inner_name (path_file_name path.now) }
+// What stands before `.lib`, where that is not empty.
+fn copied_name(file: &str) -> Option<&str>
+    ensures { option_copied result ≡ copied_name file.now }
 {
-    inner_name(file_name(path)?)
+    nonempty(before_suffix(file, ".lib"))
+}
+
+// What a linker is given for a library by the name of its file.
+#[tactic(auto, unfolding(crate::specs::Names::file_library))]
+fn file_library<'a>(target: &TargetInfo, file: &'a str) -> Option<&'a str>
+    ensures { option_copied result ≡ file_library (info_seen target.now) file.now }
+{
+    match inner_name(file) {
+        Some(name) => Some(name),
+        None => {
+            if target.env == "msvc" {
+                copied_name(file)
+            } else {
+                None
+            }
+        }
+    }
+}
+
+// The same for the library at a path.
+fn name_in<'a>(target: &TargetInfo, path: &'a str) -> Option<&'a str>
+    ensures { option_copied result
+        ≡ option_and_then (file_library (info_seen target.now)) (path_file_name path.now) }
+{
+    file_library(target, file_name(path)?)
+}
+
+/// The path of the second file of a library of this name for Visual Studio, `<name>.lib` beside the library, as its linkers look for it ("LINK
+/// Input Files"). Only want of memory refuses.
+pub fn copy_path(alloc: Global, library: &str, name: &str) -> Mem<Text>
+    ensures { IfOk result (λ path. path ≡ copy_path_of library.now name.now) }
+{
+    let mut file = Text::of(alloc, name)?;
+    file.push_str(".lib")?;
+    join(alloc, folder_of(library), file.as_str())
 }
 
 /// The name of the library at a path, as a linker takes it behind `-l`, and its folder.
 ///
-/// Refused where the file isn't `lib<name>.a` with a name, as linkers look for it by the manual of GNU `ld`, or the path has no folder, in
-/// which they would look; and for memory.
+/// Refused where the file isn't `lib<name>.a` with a name, as linkers look for it by the manual of GNU `ld`, nor, for a target of Visual Studio,
+/// `<name>.lib`, or where the path has no folder, in which they would look; and for memory.
 #[tactic(auto, unfolding(crate::specs::Names::linked_library))]
-pub fn library_and_dir(alloc: Global, library: &str) -> Result<(Text, Text), PlanError>
-    ensures found { IfOk result (λ found. linked_library library.now ≡ Some found) }
-    ensures refused { RefusedBy (path_refusal library.now) result }
+pub fn library_and_dir(
+    alloc: Global,
+    set: &BuildConfig,
+    env: &BuildEnv,
+    library: &str,
+) -> Result<(Text, Text), PlanError>
+    ensures found { IfOk result (λ found.
+        linked_library (target_info set.now env.now) library.now ≡ Some found) }
+    ensures refused { RefusedBy (path_refusal set.now env.now library.now) result }
 {
-    match name_in(library) {
+    match name_in(&info(set, env), library) {
         Some(name) => match nonempty(parent(library)) {
             Some(dir) => Ok((Text::of(alloc, name)?, Text::of(alloc, dir)?)),
             None => Err(PlanError::Argument(ArgumentCause::Library)),

@@ -57,7 +57,7 @@ fn listed_folders(alloc: Global, env: &BuildEnv, list: Option<&str>) -> Mem<Word
 
 // The tool is a path of two or more components.
 #[tactic(auto, unfolding(crate::specs::Search::is_path))]
-fn is_path(alloc: Global, tool: &str) -> Mem<bool>
+pub(crate) fn is_path(alloc: Global, tool: &str) -> Mem<bool>
     ensures { IfOk result (λ b. b ≡ spec.is_path tool.now) }
 {
     Ok(1 < components(alloc, tool)?.len())

@@ -26,8 +26,8 @@ use cc_tool::{Tool, ask_libcxx};
 use std::alloc::Global;
 use std::sync::Wait;
 
-// What is known of the target: empty texts where nothing is.
-pub(crate) fn target_info(set: &BuildConfig, env: &BuildEnv) -> TargetInfo
+/// What is known of the target of these settings in this environment: empty texts where it is set nowhere, or not known. It takes no memory.
+pub fn target_info(set: &BuildConfig, env: &BuildEnv) -> TargetInfo
     ensures { info_seen result ≡ target_info set.now env.now }
 {
     match TargetInfo::from_rustc_target(target_name(set, env)) {

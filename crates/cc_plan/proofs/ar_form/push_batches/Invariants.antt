@@ -1,6 +1,6 @@
 use Rattle.std.proofs.Common.{◌≡◌, ◌++◌, take, map}
 use Rattle.cc_plan.specs.Archive.{archive_of}
-use Rattle.cc_plan.proofs.archive.push_batches.Given as goal
+use Rattle.cc_plan.proofs.ar_form.push_batches.Given as goal
 
 -- the commands so far are those of the batches so far
 abbrev pub invariant-loop-batch : goal.invariant-loop-batch
