@@ -1,13 +1,13 @@
-// The processes that run as children of this one. A child is young until it was silent for some rests: so long each turn watches it by itself,
-// and all young ones wait in one `poll(2)`, since the way to a thread and back is an eighth to a fifth of what the program takes of its own for a
-// short command. Then it gets a thread of its own.
+// The processes that run as children of this one. A child is young until rests in which none had news took so long: up to then each turn watches
+// it by itself, and all young ones wait in one `poll(2)`, since the way to a thread and back is an eighth to a fifth of what the program takes of
+// its own for a short command. Then it gets a thread of its own.
 ghost use Rattle.std.specs.Prelude.{◌≡◌, ◌++◌, IfOk, OnErr};
 ghost use Rattle.cc_host.specs.ChildLog.{AreTold, IsPieceBy};
 ghost use Rattle.cc_host.specs.Children.{IsNews};
 ghost use Rattle.cc_host.specs.Event.{turned};
 
 use crate::heard::Taken;
-use crate::watched::Watched;
+use crate::watched::{Watched, is_left_out};
 use crate::watchers::Watchers;
 use cc_host::{ChildLog, News, RunningChild, Status};
 use cc_text::Mem;
@@ -25,14 +25,15 @@ pub struct Process<R: Processes + Wait + Copy> {
     id: u64,
     watched: Arc<Watched<R::Started>>,
     taken: Taken,
-    silent: u32,
+    silent_ms: u64,
     passed: u32,
 }
 
-// How many rests a child is silent before it gets a thread. A rest is of up to ten milliseconds, and the compiler of a small source ends before.
-const YOUNG_RESTS: u32 = 12;
+// How long rests without news are, all in all, before a child gets a thread, in milliseconds. The compiler of a small source ends before.
+const SILENT_MS: u64 = 100;
 
-// How long the young children are waited for in one rest where others have threads, in milliseconds. What those did isn't seen meanwhile.
+// How long the young children are waited for in one rest where others have threads, or closed their pipes, in milliseconds. What those did isn't
+// seen meanwhile.
 const YOUNG_MS: u64 = 1;
 
 // How long young children are waited for at most in one rest, in milliseconds.
@@ -50,7 +51,7 @@ impl<R: Processes + Wait + Copy> Drop for Process<R> {
             id: _,
             watched,
             taken: _,
-            silent: _,
+            silent_ms: _,
             passed: _,
         } = self;
         watched.leave(&rt);
@@ -89,7 +90,7 @@ impl<R: Processes + Wait + Copy> Process<R> {
             id,
             watched,
             taken: Taken::none(),
-            silent: 0,
+            silent_ms: 0,
             passed: 0,
         }
     }
@@ -98,15 +99,15 @@ impl<R: Processes + Wait + Copy> Process<R> {
 impl<R: Processes + Wait + Copy> Process<R> {
     // It has no thread yet.
     fn is_young(&self) -> bool {
-        self.silent < YOUNG_RESTS
+        self.silent_ms < SILENT_MS
     }
 
-    // It was silent for one rest more. Answers whether it wants a thread from now on.
-    fn was_silent(&mut self) -> bool {
+    // It was silent for so many milliseconds more. Answers whether it wants a thread from now on.
+    fn was_silent(&mut self, rest_ms: u64) -> bool {
         if !self.is_young() {
             return false;
         }
-        self.silent = self.silent.saturating_add(1);
+        self.silent_ms = self.silent_ms.saturating_add(rest_ms);
         !self.is_young()
     }
 }
@@ -209,16 +210,6 @@ fn has_news<R: Processes + Wait + Copy>(processes: &[Process<R>]) -> bool {
     false
 }
 
-// Does what is to be done for the children that have no thread.
-fn look_at_all<R: Processes + Wait + Copy>(processes: &[Process<R>])
-where
-    <R::Started as OpenProcess>::Stderr: AsRawFd,
-{
-    for process in processes {
-        process.watched.attend(&process.rt, false);
-    }
-}
-
 // Does what is to be done for those for which no thread could be made, and answers whether a child has news. Young ones were waited for.
 fn look<R: Processes + Wait + Copy>(processes: &[Process<R>]) -> bool
 where
@@ -232,29 +223,25 @@ where
     has_news(processes)
 }
 
-// The pipes of the young children, to be waited for. None where there is none, where one of them can't be waited for, or where memory is
-// wanting.
+// The pipes of the young children, to be waited for.
 fn young_pipes<R: Processes + Wait + Copy>(
     alloc: Global,
     processes: &[Process<R>],
-) -> Option<Vec<pollfd>>
+) -> Mem<Vec<pollfd>>
 where
     <R::Started as OpenProcess>::Stderr: AsRawFd,
 {
     let mut pipes = Vec::new(alloc);
     for process in processes {
         if process.is_young() {
-            pipes.push(process.watched.pipe(&process.rt)?).ok()?;
+            pipes.push(process.watched.pipe(&process.rt))?;
         }
     }
-    if pipes.is_empty() {
-        return None;
-    }
-    Some(pipes)
+    Ok(pipes)
 }
 
 // Does what is to be done for the children that have no thread: the young ones, of which these pipes were waited for, and those for which
-// none could be made.
+// none could be made. One whose pipe is closed is mostly about to end.
 fn attend_all<R: Processes + Wait + Copy>(processes: &mut [Process<R>], pipes: &[pollfd])
 where
     <R::Started as OpenProcess>::Stderr: AsRawFd,
@@ -263,34 +250,28 @@ where
     for process in processes {
         let is_ready = process.is_young()
             && match waited.next() {
-                Some(pipe) => pipe.revents != 0,
+                Some(pipe) => pipe.revents != 0 || is_left_out(pipe),
                 None => false,
             };
         process.attend(is_ready);
     }
 }
 
-// Whether no child has a thread.
-fn are_all_young<R: Processes + Wait + Copy>(processes: &[Process<R>]) -> bool {
-    for process in processes {
-        if !process.is_young() {
-            return false;
-        }
-    }
-    true
-}
-
-// Has each child want a thread at its next silent rest.
-fn age<R: Processes + Wait + Copy>(processes: &mut [Process<R>]) {
+// Does what is to be done for the young children, and has each want a thread at its next silent rest.
+fn age<R: Processes + Wait + Copy>(processes: &mut [Process<R>])
+where
+    <R::Started as OpenProcess>::Stderr: AsRawFd,
+{
     for process in processes {
         if process.is_young() {
-            process.silent = YOUNG_RESTS - 1;
+            process.watched.attend(&process.rt, false);
+            process.silent_ms = SILENT_MS - 1;
         }
     }
 }
 
 // Waits until a young child writes or ends, for at most so many milliseconds, does what is to be done for it, and answers how many
-// milliseconds are left to rest. Where the young ones can't be waited for together, each gets a thread.
+// milliseconds are left to rest. Where memory is wanting to wait for the young ones together, each gets a thread.
 fn wait_for_young<R: Processes + Wait + Copy>(
     alloc: Global,
     processes: &mut [Process<R>],
@@ -300,33 +281,30 @@ where
     <R::Started as OpenProcess>::Stderr: AsRawFd,
 {
     match young_pipes(alloc, processes) {
-        Some(mut pipes) => {
-            let young_ms = if are_all_young(processes) {
-                rest_ms.min(LONGEST_MS)
-            } else {
-                rest_ms.min(YOUNG_MS)
-            };
+        Ok(mut pipes) if !pipes.is_empty() => {
+            let hears_all = pipes.len() == processes.len() && !pipes.iter().any(is_left_out);
+            let young_ms = rest_ms.min(if hears_all { LONGEST_MS } else { YOUNG_MS });
             libc::net::poll(&mut pipes, young_ms as i32);
             attend_all(processes, &pipes);
             rest_ms.saturating_sub(young_ms)
         }
-        None => {
-            look_at_all(processes);
+        _ => {
             age(processes);
             rest_ms
         }
     }
 }
 
-// Notes that the young children were silent for one rest more, and gives those to threads that were so long enough. Answers whether none is
-// young any more.
+// Notes that the young children were silent for so many milliseconds more, and gives those to threads that were so long enough. Answers whether
+// none is young any more.
 fn grow<R: Processes + Threads + Wait + Copy>(
     watchers: &Watchers<R>,
     processes: &mut [Process<R>],
+    rest_ms: u64,
 ) -> bool {
     let mut are_grown = true;
     for process in processes {
-        if process.was_silent() {
+        if process.was_silent(rest_ms) {
             watchers.add(&process.watched);
         }
         are_grown = are_grown && !process.is_young();
@@ -334,8 +312,8 @@ fn grow<R: Processes + Threads + Wait + Copy>(
     are_grown
 }
 
-/// Rests until a child has news, for at most so many milliseconds, or for less where some children have threads and others none yet. One that was
-/// silent for some rests gets a thread.
+/// Rests until a child has news, for at most so many milliseconds, or for less where some children have threads, or closed their pipes, and others
+/// have none yet. One that was silent for long gets a thread.
 pub fn rest<R: Processes + Threads + Wait + Copy>(
     rt: R,
     alloc: Global,
@@ -352,7 +330,7 @@ where
     if rest_ms == 0 || has_news(processes) || look(processes) {
         return;
     }
-    let are_grown = grow(watchers, processes);
+    let are_grown = grow(watchers, processes, rest_ms.saturating_sub(left).max(1));
     if left > 0 && are_grown {
         news.park_timeout(&rt, Duration::from_millis(left));
         look(processes);

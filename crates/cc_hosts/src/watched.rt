@@ -95,6 +95,11 @@ fn awaited(file: &impl AsRawFd) -> pollfd {
     }
 }
 
+/// Whether `poll(2)` leaves out a file, since its descriptor is below zero.
+pub fn is_left_out(file: &pollfd) -> bool {
+    file.fd < 0
+}
+
 // Whether a file can be read without waiting, or has an end to tell, within so many milliseconds.
 fn is_ready(file: &impl AsRawFd, most_ms: i32) -> bool {
     let mut asked = [awaited(file)];
@@ -313,16 +318,20 @@ where
         }
     }
 
-    /// Its standard error, to be waited for. None where it is closed, or read by a thread.
-    pub fn pipe(&self, rt: &impl Wait) -> Option<pollfd> {
+    /// Its standard error, to be waited for. One that is closed, or read by a thread, is left out.
+    pub fn pipe(&self, rt: &impl Wait) -> pollfd {
         match &*self.ear.lock(rt) {
             Some(
                 Ear {
                     pipe: Some(pipe),
                     ..
                 },
-            ) => Some(awaited(pipe)),
-            _ => None,
+            ) => awaited(pipe),
+            _ => pollfd {
+                fd: -1,
+                events: 0,
+                revents: 0,
+            },
         }
     }
 
