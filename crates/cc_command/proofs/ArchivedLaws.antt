@@ -1,5 +1,5 @@
 -- What an archive alone answers, and what follows from it.
-use Rattle.cc_build.specs.Way.{all_firsts, Writing}
+use Rattle.cc_build.specs.Way.{all_firsts, Writing, writing_of}
 use Rattle.cc_plan.specs.Reruns.{rerun_names}
 use Rattle.std.proofs.Common.{◌≡◌, ◌⊎◌, inl, inr, ℕ, ◌+◌, ◌<◌, List, [], ◌∷◌, ◌++◌, length, map, Bool, true, false, if◌then◌else◌, is_some, Option, Some, None, option_map, Result, Ok, Err, refl, sym, ◌∙◌, ap, ap₂, subst, append_assoc, append-nil, zero-add, arith}
 use Rattle.std.specs.Prelude.{◌≤◌, ◌*◌}
@@ -76,6 +76,10 @@ archive_open b listens look links output writing = by_early (unarchived_error (a
     by_early None late run h = absurd (cc)
     by_early (Some e) late run h = refl
 
+-- nothing of a library was found out
+abbrev unwritten : Writing
+unwritten = writing_of false []
+
 module _ (listens : Bool) (steady : Bool) (world : Question → Outcome) (patience : Option ℕ) (turns : ℕ) where
   none_asked : (b : BuildSeen) → AsksByRun steady world b []
   none_asked b = asked_none steady world (probes b) (RunAsks b.config b.env) [] refl
@@ -86,7 +90,7 @@ module _ (listens : Bool) (steady : Bool) (world : Question → Outcome) (patien
     idle = (course_alone patience turns turns).before
 
     unlisted_ends : (look links : Look) → CaptureEnds run (Err e) → WishEnds listens request patience turns (Err e) look links run
-    unlisted_ends look links h = (turns, false, stopped h)
+    unlisted_ends look links h = (turns, unwritten, stopped h)
       where
         b : BuildSeen
         b = build_in request run
@@ -94,9 +98,9 @@ module _ (listens : Bool) (steady : Bool) (world : Question → Outcome) (patien
         t : Terms
         t = terms_for (alone b) listens (course_alone patience turns turns)
 
-        stopped : CaptureEnds run (Err e) → Ends {T = Unit {0}} t (archive_refused b look links request.0) (Calls Lists ∷ archive_stages b listens false look links request.0) run (Err e) idle idle
-        stopped (inl k) = halted_more t (archive_refused b look links request.0) (Calls Lists ∷ []) (archive_stages b listens false look links request.0) run e idle idle (k t idle)
-        stopped (inr k) = halted_among t (archive_refused b look links request.0) (Calls Lists ∷ []) (archive_stages b listens false look links request.0) run e idle idle (k.1 t idle).1 k.0 (archive_open b listens look links request.0 false)
+        stopped : CaptureEnds run (Err e) → Ends {T = Unit {0}} t (archive_refused b look links request.0) (Calls Lists ∷ archive_stages b listens unwritten look links request.0) run (Err e) idle idle
+        stopped (inl k) = halted_more t (archive_refused b look links request.0) (Calls Lists ∷ []) (archive_stages b listens unwritten look links request.0) run e idle idle (k t idle)
+        stopped (inr k) = halted_among t (archive_refused b look links request.0) (Calls Lists ∷ []) (archive_stages b listens unwritten look links request.0) run e idle idle (k.1 t idle).1 k.0 (archive_open b listens look links request.0 unwritten)
 
     pub unlisted : (line part : List Event) (ended : Ended) → part ≡ run ++ line → question_events run ≡ [] → CaptureEnds run (Err e) → AnswersError e line ended → Archived listens steady world request patience turns part ended
     unlisted line part ended cut none h says = record {
@@ -125,7 +129,7 @@ module _ (listens : Bool) (steady : Bool) (world : Question → Outcome) (patien
     made_asks = none_asked (alone (build_in request []));
     linked_asks = none_asked (build_in request []);
     result = Err no_memory;
-    ends = λ look links agree. (turns, false, halted_none (terms_for (alone (build_in request [])) listens (course_alone patience turns turns)) (wished_refusal request look links []) (wished_stages request listens false look links []) [] no_memory (course_alone patience turns turns).before refl refl (λ empty. absurd (cc)));
+    ends = λ look links agree. (turns, unwritten, halted_none (terms_for (alone (build_in request [])) listens (course_alone patience turns turns)) (wished_refusal request look links []) (wished_stages request listens unwritten look links []) [] no_memory (course_alone patience turns turns).before refl refl (λ empty. absurd (cc)));
     says = inr (is, refl);
   }
 
