@@ -30,7 +30,6 @@ fn kit_compiler(name: &str) -> Option<&'static str>
         _ => None,
     }
 }
-
 // The text with another in place of each needle, which has a byte.
 pub(crate) fn replaced(alloc: Global, text: &str, needle: &str, to: &str) -> Mem<Text>
     requires { needle.now ≢ [] }
@@ -46,7 +45,6 @@ pub(crate) fn replaced(alloc: Global, text: &str, needle: &str, to: &str) -> Mem
     out.push_str(rest)?;
     Ok(out)
 }
-
 // The target as older tools spell it.
 #[tactic(auto, unfolding(crate::specs::Android::plain_arm))]
 fn plain_arm(alloc: Global, name: &str) -> Mem<Text>
@@ -57,7 +55,6 @@ fn plain_arm(alloc: Global, name: &str) -> Mem<Text>
     let plain = replaced(alloc, plain.as_str(), "thumbv7neon", "arm")?;
     replaced(alloc, plain.as_str(), "thumbv7", "arm")
 }
-
 // A name behind the target's.
 fn older_name(alloc: Global, name: &str, compiler: &str) -> Mem<Text>
     ensures { IfOk result (λ path. path ≡ spec.older_name name.now compiler.now) }
@@ -67,7 +64,6 @@ fn older_name(alloc: Global, name: &str, compiler: &str) -> Mem<Text>
     path.push_str(compiler)?;
     Ok(path)
 }
-
 // GCC by the target's name where it can be run, else Clang. Kits up to release 17 had GCC.
 #[tactic(auto, using(crate::proofs::AskingLemmas::only_none))]
 fn older_compiler<W: World, H: Host<W>>(
@@ -89,7 +85,6 @@ fn older_compiler<W: World, H: Host<W>>(
     }
     older_name(alloc, name, clang_name(set.cpp))
 }
-
 // The compiler of the development kit, where it has one for the target, and that can be run.
 #[tactic(auto, using(crate::proofs::AskingLemmas::only_none))]
 fn started_kit<W: World, H: Host<W>>(
@@ -114,7 +109,6 @@ fn started_kit<W: World, H: Host<W>>(
     }
     Ok(None)
 }
-
 // The compiler for a target: that of the development kit, else an older one.
 pub(crate) fn android_compiler<W: World, H: Host<W>>(
     rt: &impl Wait,

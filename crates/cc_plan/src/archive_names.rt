@@ -30,7 +30,6 @@ pub(crate) fn tool_variable(tool: ArchiveTool) -> &'static str
         ArchiveTool::Ranlib => "RANLIB",
     }
 }
-
 // The one that the settings name.
 pub(crate) fn set_program(tool: ArchiveTool, set: &BuildConfig) -> Option<&str>
     ensures { option_copied result ≡ spec.set_program tool set.now }
@@ -44,7 +43,6 @@ pub(crate) fn set_program(tool: ArchiveTool, set: &BuildConfig) -> Option<&str>
         None => None,
     }
 }
-
 // Its name behind a text.
 pub(crate) fn behind(alloc: Global, front: &str, tool: ArchiveTool) -> Mem<Text>
     ensures { IfOk result (λ name. name ≡ spec.behind front.now tool) }
@@ -53,7 +51,6 @@ pub(crate) fn behind(alloc: Global, front: &str, tool: ArchiveTool) -> Mem<Text>
     name.push_str(tool_name(tool))?;
     Ok(name)
 }
-
 // That of the GNU tools behind a prefix.
 pub(crate) fn plain_name(alloc: Global, tool: ArchiveTool, prefix: &str) -> Mem<Text>
     ensures { IfOk result (λ name. name ≡ spec.plain_name tool prefix.now) }
@@ -62,7 +59,6 @@ pub(crate) fn plain_name(alloc: Global, tool: ArchiveTool, prefix: &str) -> Mem<
     front.push_str("-")?;
     behind(alloc, front.as_str(), tool)
 }
-
 // GCC's own there.
 pub(crate) fn gcc_name(alloc: Global, tool: ArchiveTool, prefix: &str) -> Mem<Text>
     ensures { IfOk result (λ name. name ≡ spec.gcc_name tool prefix.now) }
@@ -71,7 +67,6 @@ pub(crate) fn gcc_name(alloc: Global, tool: ArchiveTool, prefix: &str) -> Mem<Te
     front.push_str("-gcc-")?;
     behind(alloc, front.as_str(), tool)
 }
-
 // That of kits for Android up to release 22, which had GNU tools behind the target's name.
 pub(crate) fn android_name(alloc: Global, tool: ArchiveTool, name: &str) -> Mem<Text>
     ensures { IfOk result (λ path. path ≡ spec.android_name tool name.now) }
@@ -79,14 +74,12 @@ pub(crate) fn android_name(alloc: Global, tool: ArchiveTool, name: &str) -> Mem<
     let plain = replaced(alloc, name, "armv7", "arm")?;
     plain_name(alloc, tool, plain.as_str())
 }
-
 /// Whether the target is one of Visual Studio. It takes no memory.
 pub fn is_msvc(target: &TargetInfo) -> bool
     ensures { result ≡ spec.is_msvc (info_seen target.now) }
 {
     target.env == "msvc"
 }
-
 // Microsoft's library manager is told of the architecture that mixes the two instruction sets of Windows on Arm ("LIB Reference", `/MACHINE`).
 #[tactic(auto, unfolding(crate::specs::ArchiveTool::machine_words))]
 pub(crate) fn push_machine_words(words: &mut Words, target: &TargetInfo, path: &str) -> Mem<()>
@@ -98,7 +91,6 @@ pub(crate) fn push_machine_words(words: &mut Words, target: &TargetInfo, path: &
     }
     Ok(())
 }
-
 // The architecture as the names of QNX's tools have it, as its Utilities Reference lists them at `ar`.
 #[tactic(auto, unfolding(crate::specs::ArchiveTool::qnx_arch))]
 fn qnx_arch(target: &TargetInfo) -> Option<&'static str>
@@ -118,7 +110,6 @@ fn qnx_name(alloc: Global, tool: ArchiveTool, arch: &str) -> Mem<Text>
     front.push_str(arch)?;
     plain_name(alloc, tool, front.as_str())
 }
-
 // QNX has a name for the architecture, where its tools are wanted.
 #[tactic(auto, unfolding(crate::specs::Refusal::qnx_arch_refusal, crate::specs::ArchiveTool::lacks_qnx_arch))]
 pub(crate) fn check_qnx_arch(alloc: Global, target: &TargetInfo) -> Result<(), PlanError>
@@ -140,7 +131,6 @@ fn qnx_tool(alloc: Global, tool: ArchiveTool, target: &TargetInfo) -> Mem<Option
         None => Ok(None),
     }
 }
-
 // That of a system that has its own. illumos has tools of its own in place of GNU's, which take other words; theirs are behind a `g`.
 #[tactic(auto, unfolding(crate::specs::ArchiveTool::system_name))]
 pub(crate) fn system_name(

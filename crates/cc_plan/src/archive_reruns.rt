@@ -35,7 +35,6 @@ fn seeks_prefix<W: World, H: Host<W>>(
     let is_named = target.os == "android" || is_msvc(target) || system.is_some();
     Ok(found.is_none() && !is_named && cross)
 }
-
 // It may be that of the compiler, which is chosen first.
 fn follows_compiler(target: &TargetInfo) -> bool
     ensures { result ≡ spec.follows_compiler (info_seen target.now) }
@@ -74,7 +73,6 @@ fn compiler_or_prefix_names<W: World, H: Host<W>>(
     push_if(&mut names, seeks, "CROSS_COMPILE")?;
     Ok(names)
 }
-
 // Emscripten has its own.
 #[tactic(auto, using(crate::proofs::AskingLemmas::only_none))]
 fn target_tool_names<W: World, H: Host<W>>(
@@ -93,7 +91,6 @@ fn target_tool_names<W: World, H: Host<W>>(
         compiler_or_prefix_names(rt, tool, inputs, sight)
     }
 }
-
 // Unless the environment names it.
 fn own_tool_names<W: World, H: Host<W>>(
     rt: &impl Wait,
@@ -112,7 +109,6 @@ fn own_tool_names<W: World, H: Host<W>>(
     let names = target_tool_names(rt, tool, inputs, sight)?;
     Ok(names)
 }
-
 // Those that are read where the settings name no such tool.
 fn found_tool_names<W: World, H: Host<W>>(
     rt: &impl Wait,
@@ -129,7 +125,6 @@ fn found_tool_names<W: World, H: Host<W>>(
     names.append(own)?;
     Ok(names)
 }
-
 // Those by which a tool of archives is chosen.
 #[tactic(auto, using(crate::proofs::AskingLemmas::only_none))]
 fn tool_choice_names<W: World, H: Host<W>>(
@@ -147,7 +142,6 @@ fn tool_choice_names<W: World, H: Host<W>>(
         None => found_tool_names(rt, tool, inputs, sight),
     }
 }
-
 /// The names by which a tool of archives is planned: those by which it is chosen, and those of its flags.
 pub(crate) fn archive_names<W: World, H: Host<W>>(
     rt: &impl Wait,

@@ -32,7 +32,6 @@ pub(crate) enum ArchiveTool {
     /// `ranlib`, which writes the index.
     Ranlib,
 }
-
 // LLVM's tool for WebAssembly: the folders of Clang come first, as a kit for it has tools that fit.
 #[tactic(auto, using(crate::proofs::AskingLemmas::only_none))]
 pub(crate) fn wasm_tool<W: World, H: Host<W>>(
@@ -51,7 +50,6 @@ pub(crate) fn wasm_tool<W: World, H: Host<W>>(
         Ok(None)
     }
 }
-
 // LLVM's tool for Android, which newer kits have, where it prints its version; else that of older ones.
 fn android_tool<W: World, H: Host<W>>(
     rt: &impl Wait,
@@ -69,7 +67,6 @@ fn android_tool<W: World, H: Host<W>>(
     }
     android_name(inputs.alloc, tool, target_name(inputs.set, inputs.env))
 }
-
 // That of binutils behind a prefix.
 #[tactic(auto, using(crate::proofs::AskingLemmas::only_none))]
 fn plain_tool<W: World, H: Host<W>>(
@@ -89,7 +86,6 @@ fn plain_tool<W: World, H: Host<W>>(
     let found = if_versioned(rt, inputs, name, sight)?;
     Ok(found)
 }
-
 // GCC's own there, which loads its plugin for link time optimisation.
 #[tactic(auto, using(crate::proofs::AskingLemmas::only_none))]
 fn gcc_tool<W: World, H: Host<W>>(
@@ -109,7 +105,6 @@ fn gcc_tool<W: World, H: Host<W>>(
     let found = if_versioned(rt, inputs, name, sight)?;
     Ok(found)
 }
-
 // Behind the prefix of the GNU tools: the first of the two that prints its version.
 fn prefixed_tool<W: World, H: Host<W>>(
     rt: &impl Wait,
@@ -132,7 +127,6 @@ fn prefixed_tool<W: World, H: Host<W>>(
         }
     }
 }
-
 // For another target than the host, where there is a prefix.
 fn cross_tool<W: World, H: Host<W>>(
     rt: &impl Wait,
@@ -152,7 +146,6 @@ fn cross_tool<W: World, H: Host<W>>(
         None => Ok(None),
     }
 }
-
 // Behind a prefix, else by its name alone.
 fn gnu_tool<W: World, H: Host<W>>(
     rt: &impl Wait,
@@ -172,7 +165,6 @@ fn gnu_tool<W: World, H: Host<W>>(
         }
     }
 }
-
 // That of the system, else one of GNU's.
 #[tactic(auto, using(crate::proofs::AskingLemmas::only_none))]
 fn named_tool<W: World, H: Host<W>>(
@@ -190,7 +182,6 @@ fn named_tool<W: World, H: Host<W>>(
         None => gnu_tool(rt, tool, inputs, sight),
     }
 }
-
 // For Visual Studio: LLVM's next to clang-cl, else Microsoft's library manager, which stands for both tools, as an index needs none there.
 fn studio_tool<W: World, H: Host<W>>(
     rt: &impl Wait,
@@ -211,7 +202,6 @@ fn studio_tool<W: World, H: Host<W>>(
         }
     }
 }
-
 // That of Visual Studio, of a system or of GNU's.
 fn studio_or_named<W: World, H: Host<W>>(
     rt: &impl Wait,
@@ -229,7 +219,6 @@ fn studio_or_named<W: World, H: Host<W>>(
         named_tool(rt, tool, inputs, sight)
     }
 }
-
 // The one that the target wants.
 fn target_tool<W: World, H: Host<W>>(
     rt: &impl Wait,
@@ -247,7 +236,6 @@ fn target_tool<W: World, H: Host<W>>(
         studio_or_named(rt, tool, inputs, sight)
     }
 }
-
 // That of Clang for WebAssembly, else the one that the target wants.
 fn wasm_or_target<W: World, H: Host<W>>(
     rt: &impl Wait,
@@ -267,7 +255,6 @@ fn wasm_or_target<W: World, H: Host<W>>(
         }
     }
 }
-
 // The one where neither settings nor environment name one. Emscripten has its own.
 #[tactic(auto, using(crate::proofs::AskingLemmas::only_none))]
 fn own_tool<W: World, H: Host<W>>(
@@ -286,7 +273,6 @@ fn own_tool<W: World, H: Host<W>>(
         wasm_or_target(rt, tool, inputs, sight)
     }
 }
-
 // The same with its words.
 fn own_choice<W: World, H: Host<W>>(
     rt: &impl Wait,
@@ -303,7 +289,6 @@ fn own_choice<W: World, H: Host<W>>(
     push_machine_words(&mut choice.words, inputs.target, path.as_str())?;
     Ok(choice)
 }
-
 // The one where the settings name none.
 #[tactic(auto, using(crate::proofs::AskingLemmas::only_none))]
 fn found_tool<W: World, H: Host<W>>(
@@ -331,7 +316,6 @@ fn found_tool<W: World, H: Host<W>>(
         }
     }
 }
-
 // The same for a target that is known.
 #[tactic(auto, using(crate::proofs::AskingLemmas::only_none))]
 fn known_tool<W: World, H: Host<W>>(
@@ -360,7 +344,6 @@ fn known_tool<W: World, H: Host<W>>(
     let choice = found_tool(rt, tool, &inputs, sight)?;
     Ok(choice)
 }
-
 /// A tool of archives: the set one, else that of the environment with its words, else the one that the target wants.
 ///
 /// Where the settings name none, refused where the target is set nowhere or isn't known, or where it is QNX on an architecture for which

@@ -38,7 +38,6 @@ fn studio_assembler(target: &TargetInfo) -> &'static str
         "ml.exe"
     }
 }
-
 // An architecture that that of LLVM knows (LLVM's "llvm-ml - LLVM assembler for MASM").
 #[tactic(auto, unfolding(crate::specs::Assembler::is_x86))]
 fn is_x86(target: &TargetInfo) -> bool
@@ -46,7 +45,6 @@ fn is_x86(target: &TargetInfo) -> bool
 {
     target.arch == "x86" || target.arch == "x86_64"
 }
-
 // Where a tool is that a command would find, whose `PATH` may be another than the one that was inherited.
 fn which_in_command<W: World, H: Host<W>>(
     rt: &impl Wait,
@@ -63,7 +61,6 @@ fn which_in_command<W: World, H: Host<W>>(
     let found = which_in(rt, given.alloc, given.set, given.env, list, tool, sight)?;
     Ok(found)
 }
-
 // Whether a command would find a tool.
 fn is_in_command<W: World, H: Host<W>>(
     rt: &impl Wait,
@@ -79,7 +76,6 @@ fn is_in_command<W: World, H: Host<W>>(
     let found = which_in_command(rt, given, tool, sight)?;
     Ok(found.is_some())
 }
-
 // That of LLVM: next to clang-cl, else where a command would find it.
 fn llvm_assembler<W: World, H: Host<W>>(
     rt: &impl Wait,
@@ -110,7 +106,6 @@ fn llvm_assembler<W: World, H: Host<W>>(
         }
     }
 }
-
 // That of LLVM, where a command wouldn't find this one.
 fn unless_found<W: World, H: Host<W>>(
     rt: &impl Wait,
@@ -130,7 +125,6 @@ fn unless_found<W: World, H: Host<W>>(
     let found = llvm_assembler(rt, given, sight)?;
     Ok(found)
 }
-
 // It stands in for that of Visual Studio, as where a machine without Visual Studio compiles for Windows.
 #[tactic(auto, using(crate::proofs::AskingLemmas::only_none))]
 fn stand_in<W: World, H: Host<W>>(
@@ -151,7 +145,6 @@ fn stand_in<W: World, H: Host<W>>(
         Ok(None)
     }
 }
-
 // That of Visual Studio, or the one that stands in for it.
 fn own_assembler<W: World, H: Host<W>>(
     rt: &impl Wait,
@@ -172,7 +165,6 @@ fn own_assembler<W: World, H: Host<W>>(
         }
     }
 }
-
 // The one where the environment names none.
 fn own_choice<W: World, H: Host<W>>(
     rt: &impl Wait,
@@ -189,7 +181,6 @@ fn own_choice<W: World, H: Host<W>>(
     let choice = bare(given.alloc, path.as_str())?;
     Ok(choice)
 }
-
 /// The assembler: that of `CC_MASM_ASM` with its words, else that of Visual Studio for the architecture, for which on x86 that of LLVM
 /// stands in where a command wouldn't find it. No wrapper runs it.
 pub(crate) fn assembler_choice<W: World, H: Host<W>>(
@@ -211,7 +202,6 @@ pub(crate) fn assembler_choice<W: World, H: Host<W>>(
         }
     }
 }
-
 // The tool of a choice, with its words, in the environment of a child.
 fn chosen_assembler(given: &Assembly<'_>, choice: &Choice) -> Mem<Tool>
     ensures { IfOk result (λ tool. tool ≡ spec.chosen_assembler given.now.set.now given.now.env.now
@@ -225,7 +215,6 @@ fn chosen_assembler(given: &Assembly<'_>, choice: &Choice) -> Mem<Tool>
     push_entries(&mut tool, given.env)?;
     Ok(tool)
 }
-
 // The assembler.
 fn assembler_by<W: World, H: Host<W>>(
     rt: &impl Wait,
@@ -242,7 +231,6 @@ fn assembler_by<W: World, H: Host<W>>(
     let tool = chosen_assembler(given, &choice)?;
     Ok(tool)
 }
-
 /// Whether one of the sources is in a language of the Visual Studio assemblers. It takes no memory.
 pub(crate) fn want_assembler(target: &TargetInfo, sources: &[Text]) -> bool
     ensures { result ≡ spec.want_assembler (info_seen target.now) sources.now }
@@ -251,7 +239,6 @@ pub(crate) fn want_assembler(target: &TargetInfo, sources: &[Text]) -> bool
         .iter()
         .any(|source| is_masm(target, source.as_str()))
 }
-
 /// The assembler that the sources want, if any.
 #[tactic(auto, using(crate::proofs::AskingLemmas::only_none))]
 pub(crate) fn wanted_assembler<W: World, H: Host<W>>(
@@ -272,7 +259,6 @@ pub(crate) fn wanted_assembler<W: World, H: Host<W>>(
     let assembler = assembler_by(rt, given, sight)?;
     Ok(Some(assembler))
 }
-
 /// The assembler of sources in MASM, or in the language of Microsoft's assembler for Arm, for the compiler that this tool is: that of
 /// `CC_MASM_ASM` with its words, else that of Visual Studio for the architecture, for which on x86 `llvm-ml` stands in where a command
 /// wouldn't find it; then the words of the settings in its form (Microsoft's "ML and ML64 command-line reference" and "ARM Assembler

@@ -13,7 +13,6 @@ struct Batch {
     paths: Words,
     left: usize,
 }
-
 // A batch with its first path, however long that is.
 fn begun(alloc: Global, path: &str) -> Mem<Batch>
     ensures paths { IfOk result (λ b. b.paths ≡ path.now ∷ []) }
@@ -26,7 +25,6 @@ fn begun(alloc: Global, path: &str) -> Mem<Batch>
         left: ROOM.saturating_sub(path.len()),
     })
 }
-
 // Takes a path into the batch that is begun where it fits, and else into the next one. Cutting goes on so, whatever the other paths are.
 fn taken(full: &mut Vec<Words>, mut last: Batch, path: &str) -> Mem<Batch>
     ensures { IfOk result (λ b. (rest : List (List ℕ)) →
@@ -54,7 +52,6 @@ fn cut(alloc: Global, first: &str, rest: &[Text]) -> Mem<Vec<Words>>
     batches.push(last.paths)?;
     Ok(batches)
 }
-
 /// The paths, in order, in batches: the first path of a batch is always taken, and later ones while their lengths fit what is left of 4000
 /// bytes. So no batch is empty, and no paths make no batch. Only want of memory refuses; nothing is kept then.
 ///

@@ -35,7 +35,6 @@ pub struct Choice {
     /// The words that it is given first: those behind its name in `CC` or `CXX`.
     pub words: Words,
 }
-
 // A tool alone.
 pub(crate) fn bare(alloc: Global, path: &str) -> Mem<Choice>
     ensures { IfOk result (λ choice. choice ≡ spec.bare path.now) }
@@ -53,7 +52,6 @@ pub(crate) fn is_wasm(target: &TargetInfo) -> bool
 {
     target.arch == "wasm32" || target.arch == "wasm64"
 }
-
 // Clang in the kit of WASI, which has one for each target by its name, as the readme of the WASI SDK says.
 #[tactic(auto, unfolding(crate::specs::Choice::wasi_path))]
 fn wasi_path(alloc: Global, kit: &str, name: &str) -> Mem<Text>
@@ -64,7 +62,6 @@ fn wasi_path(alloc: Global, kit: &str, name: &str) -> Mem<Text>
     file.push_str("-clang")?;
     join(alloc, folder.as_str(), file.as_str())
 }
-
 // Clang in the kit of WASI, where that has it.
 #[tactic(auto, using(crate::proofs::AskingLemmas::only_none))]
 fn wasi_kit_compiler<W: World, H: Host<W>>(
@@ -93,7 +90,6 @@ fn wasi_kit_compiler<W: World, H: Host<W>>(
         None => Ok(None),
     }
 }
-
 // Clang for WASI.
 fn wasi_compiler<W: World, H: Host<W>>(
     rt: &impl Wait,
@@ -123,7 +119,6 @@ fn compiler_behind(cpp: bool, target: &TargetInfo) -> &'static str
         gnu_name(cpp)
     }
 }
-
 // GCC behind a prefix, or Clang on targets of LLVM's own.
 #[tactic(auto, unfolding(crate::specs::Choice::prefixed_compiler))]
 fn prefixed_compiler(alloc: Global, cpp: bool, target: &TargetInfo, prefix: &str) -> Mem<Text>
@@ -135,7 +130,6 @@ fn prefixed_compiler(alloc: Global, cpp: bool, target: &TargetInfo, prefix: &str
     name.push_str(compiler_behind(cpp, target))?;
     Ok(name)
 }
-
 // The linker optimises by its plugin, which reads what Clang writes: rustc's book on linker-plugin-based LTO asks for Clang.
 #[tactic(auto, unfolding(crate::specs::Choice::links_by_plugin))]
 fn links_by_plugin(inputs: &Inputs<'_>) -> bool
@@ -146,7 +140,6 @@ fn links_by_plugin(inputs: &Inputs<'_>) -> bool
         None => false,
     }
 }
-
 // Clang, where it is wanted for the linker's plugin and found.
 #[tactic(auto, using(crate::proofs::AskingLemmas::only_none))]
 fn plugin_compiler<W: World, H: Host<W>>(
@@ -165,7 +158,6 @@ fn plugin_compiler<W: World, H: Host<W>>(
         Ok(None)
     }
 }
-
 // The compiler of the system.
 fn default_compiler<W: World, H: Host<W>>(
     rt: &impl Wait,
@@ -184,7 +176,6 @@ fn default_compiler<W: World, H: Host<W>>(
         }
     }
 }
-
 // The prefix of compilers for another target than the host.
 #[tactic(auto, using(crate::proofs::AskingLemmas::only_none))]
 pub(crate) fn cross_prefix<W: World, H: Host<W>>(
@@ -202,7 +193,6 @@ pub(crate) fn cross_prefix<W: World, H: Host<W>>(
         Ok(None)
     }
 }
-
 // The compiler for another target than the host, where it has a prefix; else that of the system.
 fn cross_compiler<W: World, H: Host<W>>(
     rt: &impl Wait,
@@ -228,7 +218,6 @@ fn cross_compiler<W: World, H: Host<W>>(
         }
     }
 }
-
 // The compiler of targets that have one name for it: Clang for WebAssembly, and what the systems' own kits have for VxWorks and QNX, as
 // rustc's pages on platform support say.
 #[tactic(auto, unfolding(crate::specs::Choice::fixed_compiler))]
@@ -260,7 +249,6 @@ fn fixed_or_cross<W: World, H: Host<W>>(
         None => cross_compiler(rt, inputs, sight),
     }
 }
-
 // The compiler that the target wants.
 fn target_compiler<W: World, H: Host<W>>(
     rt: &impl Wait,
@@ -279,7 +267,6 @@ fn target_compiler<W: World, H: Host<W>>(
         fixed_or_cross(rt, inputs, sight)
     }
 }
-
 // The compiler where neither settings nor environment name one.
 #[tactic(auto, using(crate::proofs::AskingLemmas::only_none))]
 fn own_choice<W: World, H: Host<W>>(
@@ -297,7 +284,6 @@ fn own_choice<W: World, H: Host<W>>(
     let path = target_compiler(rt, inputs, sight)?;
     in_rustc_wrapper(alloc, inputs.env, path.as_str(), Words::new(alloc))
 }
-
 // The compiler where the settings name none.
 fn found_choice<W: World, H: Host<W>>(
     rt: &impl Wait,
@@ -316,7 +302,6 @@ fn found_choice<W: World, H: Host<W>>(
         }
     }
 }
-
 /// The compiler: the set one, else that of the environment, else the one that the target wants.
 #[tactic(auto, using(crate::proofs::AskingLemmas::only_none))]
 pub(crate) fn choose<W: World, H: Host<W>>(

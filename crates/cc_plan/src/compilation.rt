@@ -24,7 +24,6 @@ pub(crate) struct Inputs<'a> {
     ghost read: { handed.now ≡ handed_down env.now.inherited },
     ghost known: { info_seen target.now ≡ target_info set.now env.now },
 }
-
 /// The same with a compiler.
 #[derive(Clone, Copy)]
 pub(crate) struct Compilation<'a> {

@@ -22,7 +22,6 @@ pub struct Compiler {
     /// How the family was found: a user is warned of one that no mark showed.
     pub detected: Detected,
 }
-
 // The family of the chosen compiler.
 fn family_in<W: World, H: Host<W>>(
     rt: &impl Wait,
@@ -48,7 +47,6 @@ fn family_in<W: World, H: Host<W>>(
         sight.dir,
     )
 }
-
 /// The compiler of these settings in this environment, with its family.
 pub(crate) fn compiler_of<W: World, H: Host<W>>(
     rt: &impl Wait,

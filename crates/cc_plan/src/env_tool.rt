@@ -33,7 +33,6 @@ fn is_name_among(names: &[&str], stem: &str) -> bool
 {
     some_name_is(names, stem)
 }
-
 // The file stem of the path is one of some names.
 #[tactic(auto, unfolding(crate::specs::EnvTool::has_stem_among))]
 fn has_stem_among(names: &[&str], path: &str) -> bool
@@ -64,7 +63,6 @@ fn rustc_wrapper_names() -> &'static [&'static str]
 {
     &["sccache", "cachepot", "buildcache", "kache"]
 }
-
 // The program is the one that the environment names as a wrapper.
 #[tactic(auto, unfolding(crate::specs::EnvTool::is_custom_wrapper))]
 fn is_custom_wrapper(env: &BuildEnv, path: &str) -> bool
@@ -75,7 +73,6 @@ fn is_custom_wrapper(env: &BuildEnv, path: &str) -> bool
         None => false,
     }
 }
-
 // The program is known to run compilers.
 #[tactic(auto, unfolding(crate::specs::EnvTool::is_wrapper))]
 fn is_wrapper(env: &BuildEnv, path: &str) -> bool
@@ -83,7 +80,6 @@ fn is_wrapper(env: &BuildEnv, path: &str) -> bool
 {
     has_stem_among(wrapper_names(), path) || is_custom_wrapper(env, path)
 }
-
 // The wrapper of Rust's compiler (Cargo's book, `RUSTC_WRAPPER`), where it serves other compilers.
 #[tactic(auto, unfolding(crate::specs::EnvTool::rustc_wrapper))]
 fn rustc_wrapper(env: &BuildEnv) -> Option<&str>
@@ -96,7 +92,6 @@ fn rustc_wrapper(env: &BuildEnv) -> Option<&str>
         None
     }
 }
-
 // A text of its own, where there is one.
 fn owned(alloc: Global, text: Option<&str>) -> Mem<Option<Text>>
     ensures { IfOk result (λ owned. owned ≡ option_copied text.entry) }
@@ -106,7 +101,6 @@ fn owned(alloc: Global, text: Option<&str>) -> Mem<Option<Text>>
         None => Ok(None),
     }
 }
-
 // A tool with its words, run through the wrapper of Rust's compiler.
 #[tactic(auto, unfolding(crate::specs::EnvTool::in_rustc_wrapper))]
 pub(crate) fn in_rustc_wrapper(
@@ -134,7 +128,6 @@ fn words_of(alloc: Global, words: &[Text]) -> Mem<Words>
     }
     Ok(list)
 }
-
 // A wrapper with the tool behind it.
 fn behind_wrapper(alloc: Global, wrapper: &str, path: &str, words: &[Text]) -> Mem<Choice>
     ensures { IfOk result (λ choice. choice ≡ spec.behind_wrapper wrapper.now path.now words.now) }
@@ -145,7 +138,6 @@ fn behind_wrapper(alloc: Global, wrapper: &str, path: &str, words: &[Text]) -> M
         words: words_of(alloc, words)?,
     })
 }
-
 // The first word is the tool, unless it is a wrapper and a second word follows.
 #[tactic(auto, unfolding(crate::specs::EnvTool::tool_of_words))]
 fn tool_of_words(alloc: Global, env: &BuildEnv, first: &str, rest: &[Text]) -> Mem<Choice>
@@ -158,7 +150,6 @@ fn tool_of_words(alloc: Global, env: &BuildEnv, first: &str, rest: &[Text]) -> M
     }
     in_rustc_wrapper(alloc, env, first, words_of(alloc, rest)?)
 }
-
 // What the words of a text say. A first word without a file stem names no tool.
 #[tactic(auto, unfolding(crate::specs::EnvTool::tool_in_words))]
 fn tool_in_words(alloc: Global, env: &BuildEnv, words: &[Text]) -> Mem<Option<Choice>>
@@ -175,7 +166,6 @@ fn tool_in_words(alloc: Global, env: &BuildEnv, words: &[Text]) -> Mem<Option<Ch
         }
     }
 }
-
 // The tool in a text: the whole text where that is a file, else what its words say.
 #[tactic(auto, using(crate::proofs::AskingLemmas::only_none))]
 fn tool_in_text<W: World, H: Host<W>>(
@@ -200,7 +190,6 @@ fn tool_in_text<W: World, H: Host<W>>(
     let choice = tool_in_words(alloc, env, words.as_slice())?;
     Ok(choice)
 }
-
 // The tool of a variable of the prefixes.
 #[tactic(auto, using(crate::proofs::AskingLemmas::only_none))]
 pub(crate) fn env_tool<W: World, H: Host<W>>(

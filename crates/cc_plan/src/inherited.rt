@@ -21,7 +21,6 @@ pub(crate) struct Rustflags {
     /// What is wrong with them, where one is.
     pub wrong: Option<FlagError>,
 }
-
 /// Reads the flags from `CARGO_ENCODED_RUSTFLAGS`: Cargo's book says in "Environment variables",
 /// "Environment variables Cargo sets for build scripts", that a build script finds them there, with a
 /// byte 0x1f between each two. Want of memory refuses.
@@ -47,7 +46,6 @@ fn read_rustflags(alloc: Global, env: &EnvSnapshot) -> Mem<Rustflags>
         },
     }
 }
-
 /// What Cargo hands down, as it is read once a run, whether or not it is taken: flags of Rust code, and
 /// paths that are shown as others.
 #[derive(Drop, Debug)]
@@ -59,7 +57,6 @@ pub(crate) struct Handed {
     /// The paths, each as `FROM=TO`.
     pub pairs: Words,
 }
-
 /// Reads them from the environment. Want of memory refuses.
 pub(crate) fn read_handed(alloc: Global, env: &EnvSnapshot) -> Mem<Handed>
     ensures { IfOk result (λ handed. handed ≡ spec.handed env.now) }
@@ -72,7 +69,6 @@ pub(crate) fn read_handed(alloc: Global, env: &EnvSnapshot) -> Mem<Handed>
         pairs,
     })
 }
-
 /// The flags, where they are taken: none where they aren't, none is set, or one is wrong. It takes no
 /// memory.
 #[tactic(auto, unfolding(crate::specs::Inherited::inherited_flags))]
@@ -86,7 +82,6 @@ pub(crate) fn taken_flags<'a>(given: &Compilation<'a>) -> Option<&'a RustcCodege
         None
     }
 }
-
 /// Whether the flags have no wrong one, where they are taken. The refusal has the key of the first
 /// wrong one.
 #[tactic(auto, unfolding(crate::specs::Inherited::inherited_refusal))]
@@ -105,7 +100,6 @@ pub(crate) fn check_rustflags(given: &Compilation<'_>) -> Result<(), PlanError>
         Some(FlagError::NoMemory) => Err(PlanError::NoMemory),
     }
 }
-
 /// Adds those of some words that the compiler takes: a compiler older than rustc may not know a flag that says the same. Refused for
 /// memory.
 pub(crate) fn push_taken(words: &mut Words, supported: &Supported, wanted: &[Text]) -> Mem<()>
@@ -118,7 +112,6 @@ pub(crate) fn push_taken(words: &mut Words, supported: &Supported, wanted: &[Tex
     }
     Ok(())
 }
-
 // The warning of a word that the compiler doesn't take.
 fn lost_word(alloc: Global, word: &str) -> Mem<Text>
     ensures { IfOk result (λ text. text ≡ spec.lost_word word.now) }
@@ -128,7 +121,6 @@ fn lost_word(alloc: Global, word: &str) -> Mem<Text>
     text.push_str(" is not supported by the currently used CC")?;
     Ok(text)
 }
-
 /// Adds a warning of each that it doesn't take. Refused for memory.
 pub(crate) fn push_lost(
     warnings: &mut Words,

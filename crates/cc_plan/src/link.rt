@@ -47,7 +47,6 @@ fn search_line(alloc: Global, folder: &str) -> Mem<Text>
     line.push_str(folder)?;
     Ok(line)
 }
-
 /// A line for Cargo, without its line feed.
 #[derive(Drop, Debug)]
 pub struct LinkLine {
@@ -56,14 +55,12 @@ pub struct LinkLine {
     /// Whether it is printed once for all builds that share what they know, unless lines are repeated.
     pub once: bool,
 }
-
 // A line that is printed at each call.
 fn always(text: Text) -> LinkLine
     ensures { result ≡ always text }
 {
     LinkLine { text, once: false }
 }
-
 // The lines for the library and its folder, where they are wanted.
 fn push_library_lines(
     lines: &mut Vec<LinkLine>,
@@ -81,7 +78,6 @@ fn push_library_lines(
     }
     Ok(())
 }
-
 // The lines for a C++ library, where they are wanted.
 fn push_wanted_cpp_lines(
     lines: &mut Vec<LinkLine>,
@@ -98,7 +94,6 @@ fn push_wanted_cpp_lines(
     }
     Ok(())
 }
-
 // The lines for a library that is linked with this C++ library.
 #[tactic(auto, unfolding(crate::specs::Link::lines_by))]
 fn lines_by(
@@ -117,7 +112,6 @@ fn lines_by(
     push_wanted_cpp_lines(&mut lines, alloc, set, env, library)?;
     Ok(lines)
 }
-
 /// What is planned of link lines.
 #[derive(Drop, Debug)]
 pub struct LinkPlan {
@@ -127,7 +121,6 @@ pub struct LinkPlan {
     /// none of them is printed, since such a plan is quiet. None where no compiler is planned for it, or its plan is refused.
     pub warnings: Words,
 }
-
 /// The lines by which a build script asks Cargo to link a static library: its name behind the modifiers of the settings, and the folder
 /// that has it, without line feeds; for C++ also the C++ library, and for WebAssembly the folder that has that one. None where the
 /// settings want none. With them are the warnings of the quiet plan that decides on the C++ library. It asks, and prints nothing. Refused
@@ -164,7 +157,6 @@ pub fn plan_links<W: World, H: Host<W>>(
         warnings: linked.warnings,
     })
 }
-
 /// The link lines alone, as `plan_links` has them: for a caller whose user isn't told of the compiler that decides on the C++ library.
 pub fn link_lines<W: World, H: Host<W>>(
     rt: &impl Wait,

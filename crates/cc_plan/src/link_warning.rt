@@ -36,7 +36,6 @@ fn has_link_among(environment: Option<&Words>) -> bool
         None => false,
     }
 }
-
 // Flags are left off that are for the linker.
 #[tactic(auto, unfolding(crate::specs::SettingWords::leaves_off))]
 pub(crate) fn leaves_off(
@@ -54,7 +53,6 @@ pub(crate) fn leaves_off(
     let environment = environment_flags(alloc, set, env)?;
     Ok(has_link_flag(set.flags.as_slice()) || has_link_among(environment.as_ref()))
 }
-
 /// Whether this call, of those that share its caches, is the one that warns of flags that are left off. No clause says which call it is,
 /// since the mark stands behind a lock.
 pub(crate) fn is_first_warning<W: World>(

@@ -36,7 +36,6 @@ fn is_output_name(output: &str) -> bool
 {
     !is_nameless(output) && !has_slash(output)
 }
-
 // What stands between `lib` and `.a`, where that is not empty.
 #[tactic(auto, unfolding(crate::specs::Names::inner_name))]
 fn inner_name(output: &str) -> Option<&str>
@@ -53,7 +52,6 @@ fn file_of(alloc: Global, name: &str) -> Mem<Text>
     file.push_str(".a")?;
     Ok(file)
 }
-
 /// The name of the library, as a linker takes it behind `-l`, and the name of its file, for an output such as `foo` or `libfoo.a`.
 ///
 /// Refused where the output is no single component of a path, or is `lib.a`, which leaves the library without a name; and for memory.
@@ -72,14 +70,12 @@ pub fn lib_and_archive_names(alloc: Global, output: &str) -> Result<(Text, Text)
         None => Ok((Text::of(alloc, output)?, file_of(alloc, output)?)),
     }
 }
-
 // What stands before `.lib`, where that is not empty.
 fn copied_name(file: &str) -> Option<&str>
     ensures { option_copied result ≡ copied_name file.now }
 {
     nonempty(before_suffix(file, ".lib"))
 }
-
 // What a linker is given for a library by the name of its file.
 #[tactic(auto, unfolding(crate::specs::Names::file_library))]
 fn file_library<'a>(target: &TargetInfo, file: &'a str) -> Option<&'a str>
@@ -96,7 +92,6 @@ fn file_library<'a>(target: &TargetInfo, file: &'a str) -> Option<&'a str>
         }
     }
 }
-
 // The same for the library at a path.
 fn name_in<'a>(target: &TargetInfo, path: &'a str) -> Option<&'a str>
     ensures { option_copied result
@@ -104,7 +99,6 @@ fn name_in<'a>(target: &TargetInfo, path: &'a str) -> Option<&'a str>
 {
     file_library(target, file_name(path)?)
 }
-
 /// The path of the second file of a library of this name for Visual Studio, `<name>.lib` beside the library, as its linkers look for it ("LINK
 /// Input Files"). Only want of memory refuses.
 pub fn copy_path(alloc: Global, library: &str, name: &str) -> Mem<Text>
@@ -114,7 +108,6 @@ pub fn copy_path(alloc: Global, library: &str, name: &str) -> Mem<Text>
     file.push_str(".lib")?;
     join(alloc, folder_of(library), file.as_str())
 }
-
 /// The name of the library at a path, as a linker takes it behind `-l`, and its folder.
 ///
 /// Refused where the file isn't `lib<name>.a` with a name, as linkers look for it by the manual of GNU `ld`, nor, for a target of Visual Studio,

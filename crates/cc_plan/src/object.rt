@@ -23,14 +23,12 @@ pub struct Object {
     /// The path of the object.
     pub dst: Text,
 }
-
 // One part of what is hashed: a text and the byte FF.
 fn hash_part(start: u64, text: &str) -> u64
     ensures { result ≡ fnv1a_from start (ended text.now) }
 {
     fnv1a_from(fnv1a_from(start, text.as_bytes()), b"\xff")
 }
-
 // What folders may count from: the texts of two variables, which are looked up once, and a root.
 #[derive(Clone, Copy)]
 struct Roots<'a> {
@@ -53,7 +51,6 @@ fn roots_of<'a>(env: &'a EnvSnapshot, root: Option<&'a str>) -> Roots<'a>
         root,
     }
 }
-
 // The folder less a text that it begins with.
 fn after_text<'a>(start: Option<&str>, folder: &'a str) -> Option<&'a str>
     ensures { option_copied result ≡ after_text (option_copied start.entry) folder.now }
@@ -63,7 +60,6 @@ fn after_text<'a>(start: Option<&str>, folder: &'a str) -> Option<&'a str>
         None => None,
     }
 }
-
 // The folder from a root on, by components.
 fn after_root<'a>(root: Option<&str>, folder: &'a str) -> Option<&'a str>
     ensures { option_copied result ≡ after_root (option_copied root.entry) folder.now }
@@ -73,7 +69,6 @@ fn after_root<'a>(root: Option<&str>, folder: &'a str) -> Option<&'a str>
         None => None,
     }
 }
-
 // Where a folder counts from, and the folder from there on.
 #[tactic(auto, unfolding(crate::specs::Object::placed))]
 fn placed<'a>(roots: &Roots<'_>, folder: &'a str) -> (&'static str, &'a str)
@@ -91,7 +86,6 @@ fn placed<'a>(roots: &Roots<'_>, folder: &'a str) -> (&'static str, &'a str)
         None => ("absolute", folder),
     }
 }
-
 // The hash of where a source lies.
 fn source_hash(roots: &Roots<'_>, source: &str) -> u64
     ensures { result ≡
@@ -104,7 +98,6 @@ fn source_hash(roots: &Roots<'_>, source: &str) -> u64
         None => hash,
     }
 }
-
 // The name of an object: the digits of the hash, and the file name of the source.
 #[tactic(auto, unfolding(crate::specs::Object::object_name))]
 fn object_name(alloc: Global, roots: &Roots<'_>, source: &str) -> Mem<Text>
@@ -116,7 +109,6 @@ fn object_name(alloc: Global, roots: &Roots<'_>, source: &str) -> Mem<Text>
     name.push_str(file_name(source).unwrap_or(""))?;
     Ok(name)
 }
-
 // The object of a source in a folder.
 #[tactic(auto, unfolding(crate::specs::Object::object_path))]
 fn object_in(alloc: Global, roots: &Roots<'_>, dst: &str, source: &str) -> Mem<Text>
@@ -127,7 +119,6 @@ fn object_in(alloc: Global, roots: &Roots<'_>, dst: &str, source: &str) -> Mem<T
     let path = join(alloc, dst, name.as_str())?;
     with_extension(alloc, path.as_str(), "o")
 }
-
 /// The object of a source in the folder `dst`: sixteen digits, a `-`, and the source's file name with the extension `o`.
 ///
 /// The digits are FNV-1a of 64 bits over where the source's folder counts from, the folder from there on, and the source's extension. A
@@ -145,7 +136,6 @@ pub fn object_path(
 {
     object_in(alloc, &roots_of(env, source_root), dst, source)
 }
-
 /// The object of each source in the folder `dst`, in the order of the sources.
 ///
 /// Refused at the first source that has no file name, or the object of an earlier one: two commands would write one file. Places count

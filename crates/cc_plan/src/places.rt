@@ -16,7 +16,6 @@ use std::collections::BTreeMap;
 pub struct Places {
     by_path: BTreeMap<Vec<u8>, u64, Global>,
 }
-
 // The bytes of a text, from the last on.
 fn reversed(alloc: Global, text: &str) -> Mem<Vec<u8>>
     ensures { IfOk result (λ bytes. bytes.items ≡ reverse text.now) }

@@ -25,7 +25,6 @@ fn differ(target: Option<&str>, host: Option<&str>) -> bool
         _ => false,
     }
 }
-
 // Code is built for another target than the host.
 #[tactic(auto, unfolding(crate::specs::Prefix::is_cross))]
 pub(crate) fn is_cross(set: &BuildConfig, env: &BuildEnv) -> bool
@@ -33,7 +32,6 @@ pub(crate) fn is_cross(set: &BuildConfig, env: &BuildEnv) -> bool
 {
     differ(target_of(set, env), host_of(set, env))
 }
-
 // The text without the `-` signs at its end.
 fn without_last_dashes(text: &str) -> &str
     ensures { result.now ≡ spec.without_last_dashes text.now }
@@ -44,7 +42,6 @@ fn without_last_dashes(text: &str) -> &str
     }
     rest
 }
-
 // The prefix that the environment names outright, as builds of Linux take it.
 #[tactic(auto, unfolding(crate::specs::Prefix::named_prefix))]
 fn named_prefix(env: &BuildEnv) -> Option<&str>
@@ -52,7 +49,6 @@ fn named_prefix(env: &BuildEnv) -> Option<&str>
 {
     Some(without_last_dashes(env.inherited().get("CROSS_COMPILE")?))
 }
-
 // The prefix of the linker that Rust's compiler is given, which Cargo's book lists among the variables of build scripts.
 #[tactic(auto, unfolding(crate::specs::Prefix::linker_prefix))]
 fn linker_prefix(env: &BuildEnv) -> Option<&str>
@@ -60,7 +56,6 @@ fn linker_prefix(env: &BuildEnv) -> Option<&str>
 {
     before_suffix(env.inherited().get("RUSTC_LINKER")?, "-gcc")
 }
-
 // The prefix that is known without a question.
 #[tactic(auto, unfolding(crate::specs::Prefix::known_prefix))]
 fn known_prefix<'a>(env: &'a BuildEnv, name: &str) -> Option<&'a str>
@@ -74,7 +69,6 @@ fn known_prefix<'a>(env: &'a BuildEnv, name: &str) -> Option<&'a str>
     }
     gnu_prefix(name)
 }
-
 // A compiler with a candidate as its prefix.
 fn tried_path(alloc: Global, cpp: bool, folder: &str, candidate: &str) -> Mem<Text>
     ensures { IfOk result (λ path. path ≡ spec.tried_path cpp folder.now candidate.now) }
@@ -101,7 +95,6 @@ fn push_tried(
     }
     Ok(())
 }
-
 // The compilers that are looked for, folder by folder and then candidate by candidate.
 #[tactic(auto, unfolding(crate::specs::Prefix::tried_compilers))]
 fn tried_compilers(alloc: Global, cpp: bool, folders: &[Text], candidates: &[&str]) -> Mem<Vars>
@@ -114,7 +107,6 @@ fn tried_compilers(alloc: Global, cpp: bool, folders: &[Text], candidates: &[&st
     }
     Ok(tries)
 }
-
 // The candidate of the first of these compilers that is there.
 #[tactic(auto, using(crate::proofs::AskingLemmas::only_none))]
 fn shown_candidate<W: World, H: Host<W>>(
@@ -144,7 +136,6 @@ fn first_text(alloc: Global, candidates: &[&str]) -> Mem<Option<Text>>
         [first, ..] => Ok(Some(Text::of(alloc, first)?)),
     }
 }
-
 // The candidate of the first compiler that is there, else the first candidate.
 #[tactic(auto, using(crate::proofs::AskingLemmas::only_none))]
 fn candidate_prefix<W: World, H: Host<W>>(
@@ -166,7 +157,6 @@ fn candidate_prefix<W: World, H: Host<W>>(
         None => first_text(alloc, candidates),
     }
 }
-
 // The prefix of the GNU tools' names for a target, where there is one.
 #[tactic(auto, using(crate::proofs::AskingLemmas::only_none))]
 pub(crate) fn prefix_for<W: World, H: Host<W>>(

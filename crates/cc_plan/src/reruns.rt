@@ -45,7 +45,6 @@ fn is_parted<W: World, H: Host<W>>(
     let found = is_there(rt, inputs.alloc, inputs.set, inputs.env, text, sight)?;
     Ok(!found)
 }
-
 // The same of the value of a variable of the prefixes.
 #[tactic(auto, using(crate::proofs::AskingLemmas::only_none))]
 fn parts_value<W: World, H: Host<W>>(
@@ -63,7 +62,6 @@ fn parts_value<W: World, H: Host<W>>(
         None => Ok(false),
     }
 }
-
 /// The names by which a tool of the environment is found.
 pub(crate) fn tool_names<W: World, H: Host<W>>(
     rt: &impl Wait,
@@ -82,7 +80,6 @@ pub(crate) fn tool_names<W: World, H: Host<W>>(
     }
     Ok(names)
 }
-
 /// The environment names such a tool.
 pub(crate) fn is_named<W: World, H: Host<W>>(
     rt: &impl Wait,
@@ -97,7 +94,6 @@ pub(crate) fn is_named<W: World, H: Host<W>>(
     let tool = env_tool(rt, inputs.alloc, inputs.set, inputs.env, variable, sight)?;
     Ok(tool.is_some())
 }
-
 // Those that are read where the settings name no compiler.
 fn found_names<W: World, H: Host<W>>(
     rt: &impl Wait,
@@ -115,7 +111,6 @@ fn found_names<W: World, H: Host<W>>(
     push_target_names(&mut names, named, cpp, inputs.target, cross)?;
     Ok(names)
 }
-
 /// The names by which the compiler is chosen.
 #[tactic(auto, using(crate::proofs::AskingLemmas::only_none))]
 pub(crate) fn choice_names<W: World, H: Host<W>>(
@@ -131,7 +126,6 @@ pub(crate) fn choice_names<W: World, H: Host<W>>(
         None => found_names(rt, inputs, sight),
     }
 }
-
 // Those that the plan of a compiler reads.
 fn compiler_names<W: World, H: Host<W>>(
     rt: &impl Wait,
@@ -153,7 +147,6 @@ fn compiler_names<W: World, H: Host<W>>(
     names.append(more)?;
     Ok(names)
 }
-
 // Those of a question on a flag: its settings name the compiler that was found, and bring its words.
 fn question_names(inputs: &Inputs<'_>, compilers: &(Compiler, Compiler)) -> Mem<Words>
     ensures { IfOk result (λ names. names
@@ -170,7 +163,6 @@ fn question_names(inputs: &Inputs<'_>, compilers: &(Compiler, Compiler)) -> Mem<
     )?;
     Ok(names)
 }
-
 // Those by which a compiler is chosen, and asked whether it takes a flag.
 fn trial_names<W: World, H: Host<W>>(
     rt: &impl Wait,
@@ -186,7 +178,6 @@ fn trial_names<W: World, H: Host<W>>(
     names.append(more)?;
     Ok(names)
 }
-
 // Those of the compiler, where one is planned.
 #[tactic(auto, using(crate::proofs::AskingLemmas::only_none))]
 fn planned_names<W: World, H: Host<W>>(
@@ -204,7 +195,6 @@ fn planned_names<W: World, H: Host<W>>(
         Ok(Words::new(inputs.alloc))
     }
 }
-
 // Those of a question on a flag, where one is asked.
 #[tactic(auto, using(crate::proofs::AskingLemmas::only_none))]
 fn tried_names<W: World, H: Host<W>>(
@@ -222,7 +212,6 @@ fn tried_names<W: World, H: Host<W>>(
         Ok(Words::new(inputs.alloc))
     }
 }
-
 // Both.
 fn compiling_names<W: World, H: Host<W>>(
     rt: &impl Wait,
@@ -238,7 +227,6 @@ fn compiling_names<W: World, H: Host<W>>(
     names.append(tried)?;
     Ok(names)
 }
-
 // Those of the archiver, where one is planned.
 #[tactic(auto, using(crate::proofs::AskingLemmas::only_none))]
 fn archiver_names<W: World, H: Host<W>>(
@@ -257,7 +245,6 @@ fn archiver_names<W: World, H: Host<W>>(
     let names = archive_names(rt, ArchiveTool::Archiver, inputs, sight)?;
     Ok(names)
 }
-
 // Those of the tool that writes an archive's index, where one is planned.
 #[tactic(auto, using(crate::proofs::AskingLemmas::only_none))]
 fn ranlib_names<W: World, H: Host<W>>(
@@ -276,7 +263,6 @@ fn ranlib_names<W: World, H: Host<W>>(
     let names = archive_names(rt, ArchiveTool::Ranlib, inputs, sight)?;
     Ok(names)
 }
-
 // Both.
 fn archiving_names<W: World, H: Host<W>>(
     rt: &impl Wait,
@@ -293,7 +279,6 @@ fn archiving_names<W: World, H: Host<W>>(
     names.append(ranlib)?;
     Ok(names)
 }
-
 // Those of all tools behind the compiler.
 fn later_names<W: World, H: Host<W>>(
     rt: &impl Wait,
@@ -310,7 +295,6 @@ fn later_names<W: World, H: Host<W>>(
     names.append(archiving)?;
     Ok(names)
 }
-
 // Those of the tools that a call plans.
 fn tools_names<W: World, H: Host<W>>(
     rt: &impl Wait,
@@ -327,7 +311,6 @@ fn tools_names<W: World, H: Host<W>>(
     names.append(later)?;
     Ok(names)
 }
-
 // Those that a call reads.
 fn read_names<W: World, H: Host<W>>(
     rt: &impl Wait,
@@ -343,7 +326,6 @@ fn read_names<W: World, H: Host<W>>(
     let names = joined_names(inputs.alloc, inputs.set, inputs.env, reads, tools)?;
     Ok(names)
 }
-
 /// The names of the variables that Cargo is told of at the end of a call, in the order of their bytes, each once: those that the call reads, and
 /// those that its compiler reads by itself and that change what it compiles. `PATH` and the variables that Cargo sets aren't among them. There are
 /// none where `cargo_metadata` or `emit_rerun_if_env_changed` is off.

@@ -20,7 +20,6 @@ fn folders_of(alloc: Global, list: &str) -> Mem<Vec<&str>>
     let folders = list.split(':').collect(alloc)?;
     Ok(folders)
 }
-
 // The folders of a list, as words.
 fn folder_words(alloc: Global, list: &str) -> Mem<Words>
     ensures { IfOk result (λ folders. folders ≡ spec.folders_of list.now) }
@@ -29,7 +28,6 @@ fn folder_words(alloc: Global, list: &str) -> Mem<Words>
     folders.push_all(&folders_of(alloc, list)?)?;
     Ok(folders)
 }
-
 // The folders in which a shell looks for programs.
 #[tactic(auto, unfolding(crate::specs::Search::path_folders))]
 pub(crate) fn path_folders(alloc: Global, env: &BuildEnv) -> Mem<Words>
@@ -40,7 +38,6 @@ pub(crate) fn path_folders(alloc: Global, env: &BuildEnv) -> Mem<Words>
         None => Ok(Words::new(alloc)),
     }
 }
-
 // The folders of a list, where one is given, and behind them those in which a shell looks.
 #[tactic(auto, unfolding(crate::specs::Search::listed_folders))]
 fn listed_folders(alloc: Global, env: &BuildEnv, list: Option<&str>) -> Mem<Words>
@@ -54,7 +51,6 @@ fn listed_folders(alloc: Global, env: &BuildEnv, list: Option<&str>) -> Mem<Word
     folders.append(path_folders(alloc, env)?)?;
     Ok(folders)
 }
-
 // The tool is a path of two or more components.
 #[tactic(auto, unfolding(crate::specs::Search::is_path))]
 pub(crate) fn is_path(alloc: Global, tool: &str) -> Mem<bool>
@@ -62,7 +58,6 @@ pub(crate) fn is_path(alloc: Global, tool: &str) -> Mem<bool>
 {
     Ok(1 < components(alloc, tool)?.len())
 }
-
 // A name in each of some folders.
 #[tactic(auto, unfolding(crate::specs::Search::in_folders))]
 fn in_folders(alloc: Global, folders: &[Text], name: &str) -> Mem<Words>
@@ -74,7 +69,6 @@ fn in_folders(alloc: Global, folders: &[Text], name: &str) -> Mem<Words>
     }
     Ok(paths)
 }
-
 // Where a tool may be.
 #[tactic(auto, unfolding(crate::specs::Search::places_of))]
 fn places_of(alloc: Global, folders: &[Text], tool: &str) -> Mem<Words>
@@ -87,7 +81,6 @@ fn places_of(alloc: Global, folders: &[Text], tool: &str) -> Mem<Words>
     }
     in_folders(alloc, folders, tool)
 }
-
 // The first of some paths that is there.
 #[tactic(auto, using(crate::proofs::AskingLemmas::only_none))]
 fn first_there<W: World, H: Host<W>>(
@@ -108,7 +101,6 @@ fn first_there<W: World, H: Host<W>>(
     }
     Ok(None)
 }
-
 // Where a tool is.
 #[tactic(auto, using(crate::proofs::AskingLemmas::only_none))]
 pub(crate) fn which<W: World, H: Host<W>>(
@@ -126,7 +118,6 @@ pub(crate) fn which<W: World, H: Host<W>>(
     let paths = places_of(alloc, folders.as_slice(), tool)?;
     first_there(rt, alloc, set, env, paths.as_slice(), sight)
 }
-
 // Where a tool is in the folders of a list, where one is given, and then in those in which a shell looks.
 #[tactic(auto, using(crate::proofs::AskingLemmas::only_none))]
 pub(crate) fn which_in<W: World, H: Host<W>>(

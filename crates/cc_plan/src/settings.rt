@@ -209,7 +209,6 @@ impl BuildConfig {
         })
     }
 }
-
 /// The settings of an archive alone: without sources, and with these objects before the added ones. Only want of memory refuses; the
 /// settings stay as they are.
 pub fn archive_settings(alloc: Global, set: &BuildConfig, objects: &Words) -> Mem<BuildConfig>
@@ -221,7 +220,6 @@ pub fn archive_settings(alloc: Global, set: &BuildConfig, objects: &Words) -> Me
     archive.objects.extend(&set.objects)?;
     Ok(archive)
 }
-
 // A second text, equal to this one, or none.
 pub(crate) fn second(text: &Option<Text>) -> Mem<Option<Text>>
     ensures { IfOk result (λ t. t ≡ text.now) }
@@ -231,7 +229,6 @@ pub(crate) fn second(text: &Option<Text>) -> Mem<Option<Text>>
         None => Ok(None),
     }
 }
-
 // The same of a text that may be chosen as none.
 fn second_choice(choice: &Option<Option<Text>>) -> Mem<Option<Option<Text>>>
     ensures { IfOk result (λ c. c ≡ choice.now) }

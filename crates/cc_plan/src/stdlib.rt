@@ -52,7 +52,6 @@ fn has_bytes(value: Text) -> Option<Text>
         Some(value)
     }
 }
-
 // The library of the environment, or that there is none.
 #[tactic(auto, unfolding(crate::specs::Stdlib::environment_library))]
 fn environment_library(
@@ -67,7 +66,6 @@ fn environment_library(
         None => Ok(None),
     }
 }
-
 // The system of the target has libc++.
 #[tactic(auto, unfolding(crate::specs::Stdlib::has_libcxx))]
 fn has_libcxx(target: &TargetInfo) -> bool
@@ -78,7 +76,6 @@ fn has_libcxx(target: &TargetInfo) -> bool
         || target.os == "wasi"
         || (target.os == "linux" && target.env == "ohos")
 }
-
 // The library of the target's system, or that there is none, where that is so for all its compilers.
 #[tactic(auto, unfolding(crate::specs::Stdlib::target_library))]
 fn target_library(alloc: Global, target: &TargetInfo) -> Mem<Option<Option<Text>>>
@@ -94,7 +91,6 @@ fn target_library(alloc: Global, target: &TargetInfo) -> Mem<Option<Option<Text>
         Ok(None)
     }
 }
-
 // The library that is known without a compiler, or that there is none.
 #[tactic(auto, unfolding(crate::specs::Stdlib::given_library))]
 pub(crate) fn given_library(
@@ -112,7 +108,6 @@ pub(crate) fn given_library(
         None => target_library(alloc, &target_info(set, env)),
     }
 }
-
 // Want of memory.
 fn is_memory(error: &PlanError) -> bool
     ensures { result ≡ stdlib.is_memory error.now }
@@ -122,14 +117,12 @@ fn is_memory(error: &PlanError) -> bool
         _ => false,
     }
 }
-
 // A tool, or none where its plan is refused, and what a user is told of that plan.
 #[derive(Drop)]
 struct Allowed {
     tool: Option<Tool>,
     warnings: Words,
 }
-
 // The tool of these settings, with its warnings, or none where it is refused. It asks, and prints nothing.
 fn allowed_tool<W: World, H: Host<W>>(
     rt: &impl Wait,
@@ -177,7 +170,6 @@ fn is_without_headers(args: &Words) -> bool
 {
     args.as_slice().iter().any(is_headerless)
 }
-
 // Clang, with the headers of its own C++ library.
 #[tactic(auto, unfolding(crate::specs::Stdlib::has_own_headers))]
 fn has_own_headers(tool: &Tool) -> bool
@@ -185,7 +177,6 @@ fn has_own_headers(tool: &Tool) -> bool
 {
     tool.is_like_clang() && !is_without_headers(tool.args())
 }
-
 // Whether the C++ library of a tool is libc++, where it is Clang.
 #[tactic(auto, using(crate::proofs::AskingLemmas::only_none))]
 fn tool_uses_libcxx<W: World, H: Host<W>>(
@@ -213,14 +204,12 @@ fn tool_uses_libcxx<W: World, H: Host<W>>(
     )?;
     Ok(uses)
 }
-
 // Whether the C++ library of the compiler is libc++, and what a user is told of that compiler's plan.
 #[derive(Drop)]
 struct Decided {
     is_libcxx: bool,
     warnings: Words,
 }
-
 // Whether the C++ library of the compiler is libc++, where it is Clang and its plan isn't refused, with the warnings of that plan.
 fn uses_libcxx<W: World, H: Host<W>>(
     rt: &impl Wait,
@@ -253,7 +242,6 @@ fn uses_libcxx<W: World, H: Host<W>>(
         }),
     }
 }
-
 // A compiler may be asked.
 #[tactic(auto, unfolding(crate::specs::Stdlib::may_ask))]
 fn may_ask(set: &BuildConfig, env: &BuildEnv) -> bool
@@ -267,21 +255,18 @@ fn library_by(is_libcxx: bool) -> &'static str
 {
     if is_libcxx { "c++" } else { "stdc++" }
 }
-
 /// Whether lines for a library of C++ are wanted. It takes no memory.
 pub(crate) fn links_cpp(set: &BuildConfig) -> bool
     ensures { result ≡ spec.links_cpp set.now }
 {
     set.cargo_metadata && set.cpp
 }
-
 /// The C++ library that a library of C++ is linked with, or none, and what a user is told of the plan of the compiler that decides on it.
 #[derive(Drop)]
 pub(crate) struct ChosenLibrary {
     pub library: Option<Text>,
     pub warnings: Words,
 }
-
 // A library, or none, for which no compiler was planned.
 fn unplanned(alloc: Global, library: Option<Text>) -> ChosenLibrary
     ensures library { result.library ≡ library }
@@ -292,7 +277,6 @@ fn unplanned(alloc: Global, library: Option<Text>) -> ChosenLibrary
         warnings: Words::new(alloc),
     }
 }
-
 /// The C++ library that a library of C++ is linked with, or none, where there are lines for it: the set one; else `CXXSTDLIB`, where the
 /// empty text is none; else that of the target's system; else libc++ where the compiler is Clang and has that library's headers; else
 /// libstdc++. The compiler's plan is quiet: what it is refused for but memory leaves libstdc++, and its warnings are handed back as texts,
@@ -342,7 +326,6 @@ fn is_static(alloc: Global, set: &BuildConfig, env: &BuildEnv) -> Mem<bool>
         None => Ok(false),
     }
 }
-
 // A library behind its kind.
 fn linked(alloc: Global, once: bool, kind: &str, library: &str) -> Mem<LinkLine>
     ensures { IfOk result (λ line. line ≡ stdlib.linked once kind.now library.now) }
@@ -391,7 +374,6 @@ pub(crate) fn is_wasm_wasi(target: &TargetInfo) -> bool
 {
     target.arch == "wasm32" && target.os == "wasi"
 }
-
 // A folder in the sysroot that a variable has.
 fn folder_in(alloc: Global, env: &BuildEnv, variable: &str, behind: &str) -> Mem<Option<Text>>
     ensures { IfOk result (λ folder. folder ≡ stdlib.folder_in env.now variable.now behind.now) }
@@ -405,7 +387,6 @@ fn folder_in(alloc: Global, env: &BuildEnv, variable: &str, behind: &str) -> Mem
         None => Ok(None),
     }
 }
-
 // The folder of WebAssembly's C++ library, where the sysroot is known.
 #[tactic(auto, unfolding(crate::specs::Stdlib::wasm_folder))]
 fn wasm_folder(alloc: Global, set: &BuildConfig, env: &BuildEnv) -> Mem<Option<Text>>
@@ -440,7 +421,6 @@ fn push_wasm_line(lines: &mut Vec<LinkLine>, alloc: Global, folder: &Option<Text
     }
     Ok(())
 }
-
 /// Adds the line for a C++ library and, for WebAssembly, that for the folder of its own. Only want of memory refuses.
 #[tactic(auto, unfolding(crate::specs::Stdlib::cpp_lines))]
 pub(crate) fn push_cpp_lines(
@@ -458,7 +438,6 @@ pub(crate) fn push_cpp_lines(
     push_wasm_line(lines, alloc, &folder)?;
     Ok(())
 }
-
 /// Refused where lines for a library of C++ for WebAssembly's threads name a sysroot that isn't set, with the variable, and for memory.
 #[tactic(auto, unfolding(crate::specs::Refusal::cpp_refusal))]
 pub(crate) fn check_cpp(alloc: Global, set: &BuildConfig, env: &BuildEnv) -> Result<(), PlanError>

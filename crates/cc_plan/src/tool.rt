@@ -41,21 +41,18 @@ pub(crate) struct ToolPlan {
     pub tool: Tool,
     pub warned: Warned,
 }
-
 /// Warnings, and whether the call is the first of its caches that leaves off flags for the linker, which warns of it for all.
 #[derive(Drop, Debug)]
 pub(crate) struct Warned {
     pub is_first: bool,
     pub warnings: Words,
 }
-
 /// Warnings, but for that of flags for the linker, and whether such flags are left off.
 #[derive(Drop, Debug)]
 pub(crate) struct Unmarked {
     pub warnings: Words,
     pub leaves_off: bool,
 }
-
 /// A tool with what it is for and what a user may be warned of.
 #[derive(Drop)]
 pub(crate) struct QuietPlan {
@@ -72,7 +69,6 @@ fn not_set(alloc: Global, name: &str) -> PlanError
         Err(_) => PlanError::NoMemory,
     }
 }
-
 // A value that is set, or else the refusal by its variable.
 pub(crate) fn demand<'a>(
     alloc: Global,
@@ -88,7 +84,6 @@ pub(crate) fn demand<'a>(
         None => Err(not_set(alloc, name)),
     }
 }
-
 /// What is known of the target. Refused where it is set nowhere or isn't known, and for memory.
 pub(crate) fn known_target(
     alloc: Global,
@@ -108,7 +103,6 @@ pub(crate) fn known_target(
         Err(_) => Err(PlanError::UnknownTarget(Text::of(alloc, name)?)),
     }
 }
-
 /// Whether the target is set and known, and the host set. Refused where one isn't, with the variable or the name, and for memory.
 #[tactic(auto, unfolding(crate::specs::Refusal::platform_refusal))]
 pub(crate) fn check_platform(
@@ -123,7 +117,6 @@ pub(crate) fn check_platform(
     demand(alloc, "HOST", host_of(set, env))?;
     Ok(())
 }
-
 // The level, and the target with what is known of it.
 #[tactic(auto, unfolding(crate::specs::Refusal::given_refusal))]
 fn given_target(alloc: Global, set: &BuildConfig, env: &BuildEnv) -> Result<TargetInfo, PlanError>
@@ -135,7 +128,6 @@ fn given_target(alloc: Global, set: &BuildConfig, env: &BuildEnv) -> Result<Targ
     let target = known_target(alloc, set, env)?;
     Ok(target)
 }
-
 /// The variable with its value by which a compiler writes its messages in English, as they are read: `LC_ALL` of GCC's "Environment Variables
 /// Affecting GCC", and `VSLANG` for Visual Studio.
 pub(crate) fn language_variable(family: ToolFamily) -> (&'static str, &'static str)
@@ -147,7 +139,6 @@ pub(crate) fn language_variable(family: ToolFamily) -> (&'static str, &'static s
         ("LC_ALL", "C")
     }
 }
-
 /// Whether a compiler has words. Refused by the words of the target and the level; then where the host is set nowhere, which flags of the
 /// environment are looked up by; then by a wrong flag of Rust code; and for memory.
 #[tactic(auto, unfolding(crate::specs::Refusal::refusal_by, crate::specs::Tool::defaults_refusal_by))]
@@ -160,7 +151,6 @@ pub(crate) fn check_compiler(given: &Compilation<'_>) -> Result<(), PlanError>
     check_rustflags(given)?;
     Ok(())
 }
-
 // A tool of the compiler, with its wrapper.
 fn wrapped_tool(alloc: Global, env: &BuildEnv, compiler: &Compiler) -> Mem<Tool>
     ensures { IfOk result (λ tool. tool ≡ wrapped_tool env.now compiler.now) }
@@ -202,7 +192,6 @@ pub(crate) fn push_entries(tool: &mut Tool, env: &BuildEnv) -> Mem<()>
     }
     Ok(())
 }
-
 // The tool of a compiler, where these words are supported.
 fn tool_by(given: &Compilation<'_>, supported: &Supported) -> Mem<Tool>
     ensures { IfOk result (λ tool. tool ≡ tool_by (seen given.now) supported.now) }
@@ -217,7 +206,6 @@ fn tool_by(given: &Compilation<'_>, supported: &Supported) -> Mem<Tool>
     push_entries(&mut tool, given.env)?;
     Ok(tool)
 }
-
 // GCC was found for a target of the Visual Studio tools.
 #[tactic(auto, unfolding(crate::specs::Tool::gnu_warnings))]
 fn push_gnu_warning(warnings: &mut Words, given: &Compilation<'_>) -> Mem<()>
@@ -229,7 +217,6 @@ fn push_gnu_warning(warnings: &mut Words, given: &Compilation<'_>) -> Mem<()>
     }
     Ok(())
 }
-
 // How the family of the compiler was found, where a user is warned of it.
 fn detection_warnings(alloc: Global, compiler: &Compiler) -> Mem<Words>
     ensures { IfOk result (λ warnings. warnings ≡ detected_warnings compiler.now) }
@@ -246,7 +233,6 @@ fn detection_warnings(alloc: Global, compiler: &Compiler) -> Mem<Words>
     warnings.push_joined("Compiler family detection failed for ", path.as_str())?;
     Ok(warnings)
 }
-
 /// How the compiler was found, and that it isn't one for the target, where a user is warned of it. Only want of memory refuses.
 pub(crate) fn found_warnings(given: &Compilation<'_>) -> Mem<Words>
     ensures { IfOk result (λ warnings. warnings ≡ found_warnings (seen given.now)) }
@@ -255,7 +241,6 @@ pub(crate) fn found_warnings(given: &Compilation<'_>) -> Mem<Words>
     push_gnu_warning(&mut warnings, given)?;
     Ok(warnings)
 }
-
 // What the compiler lacks of some maps of paths.
 fn push_lacks_of(
     warnings: &mut Words,
@@ -276,7 +261,6 @@ fn push_lacks_of(
         maps,
     )
 }
-
 // What the compiler lacks of what it is asked about.
 #[tactic(auto, unfolding(crate::specs::Tool::lacks_by))]
 fn push_lacks(warnings: &mut Words, given: &Compilation<'_>, supported: &Supported) -> Mem<()>
@@ -288,7 +272,6 @@ fn push_lacks(warnings: &mut Words, given: &Compilation<'_>, supported: &Support
     push_lacks_of(warnings, given, supported, remapped(given))?;
     Ok(())
 }
-
 // Flags are left off, and a user is told of it.
 #[tactic(auto, unfolding(crate::specs::Tool::link_warnings))]
 fn push_link_warning(
@@ -305,7 +288,6 @@ fn push_link_warning(
     }
     Ok(())
 }
-
 // What a user is warned of, but for flags that are left off.
 fn other_warnings(given: &Compilation<'_>, supported: &Supported) -> Mem<Words>
     ensures { IfOk result (λ warnings. warnings ≡ other_warnings (seen given.now) supported.now) }
@@ -316,7 +298,6 @@ fn other_warnings(given: &Compilation<'_>, supported: &Supported) -> Mem<Words>
     push_lacks(&mut warnings, given, supported)?;
     Ok(warnings)
 }
-
 // What a user may be warned of.
 #[tactic(auto, unfolding(crate::specs::Tool::link_warnings))]
 fn unmarked_by(given: &Compilation<'_>, supported: &Supported) -> Mem<Unmarked>
@@ -331,7 +312,6 @@ fn unmarked_by(given: &Compilation<'_>, supported: &Supported) -> Mem<Unmarked>
         leaves_off,
     })
 }
-
 // What a user is warned of, where the caches are asked whether the call is the first that warns of flags for the linker.
 fn marked<W: World>(
     rt: &impl Wait,
@@ -347,7 +327,6 @@ fn marked<W: World>(
     push_link_warning(&mut warnings, set, unmarked.leaves_off, is_first)?;
     Ok(Warned { is_first, warnings })
 }
-
 /// What a user is told of a quiet plan: it leaves the mark of the caches, and so is never the first that warns of flags for the linker.
 pub(crate) fn quiet_warnings(set: &BuildConfig, unmarked: Unmarked) -> Mem<Words>
     ensures { IfOk result (λ warnings. warnings ≡ marked_by set.now unmarked false) }
@@ -356,7 +335,6 @@ pub(crate) fn quiet_warnings(set: &BuildConfig, unmarked: Unmarked) -> Mem<Words
     push_link_warning(&mut warnings, set, unmarked.leaves_off, false)?;
     Ok(warnings)
 }
-
 /// The tool of these settings in this environment, with its target and what a user may be warned of. It asks, and prints nothing; the
 /// mark of the caches that flags for the linker were warned of stays.
 #[tactic(auto, using(crate::proofs::QuestionLemmas::chosen_at, crate::proofs::AskingLemmas::only_none))]
@@ -406,7 +384,6 @@ pub(crate) fn plan_quietly<W: World, H: Host<W>>(
         unmarked,
     })
 }
-
 /// The tool of these settings in this environment, with its target and its warnings. It asks, and prints nothing.
 pub(crate) fn plan_tool<W: World, H: Host<W>>(
     rt: &impl Wait,
@@ -434,7 +411,6 @@ pub(crate) fn plan_tool<W: World, H: Host<W>>(
         warned,
     })
 }
-
 /// The tool of these settings in this environment: the program with its wrapper, the words that each source is compiled with, and the
 /// variables that its commands get besides. Its warnings are printed last, where they are wanted.
 ///

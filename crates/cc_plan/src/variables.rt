@@ -40,7 +40,6 @@ pub struct Reads {
     /// It plans link lines.
     pub links: bool,
 }
-
 /// Adds a name, where it is read.
 pub(crate) fn push_if(names: &mut Words, is_read: bool, name: &str) -> Mem<()>
     ensures { OnOk result (names.new ≡ names.old ++ when is_read (name.now ∷ [])) }
@@ -50,7 +49,6 @@ pub(crate) fn push_if(names: &mut Words, is_read: bool, name: &str) -> Mem<()>
     }
     Ok(())
 }
-
 // The names of a variable of the prefixes. Without a target and a host there is none.
 fn prefixed_names(alloc: Global, set: &BuildConfig, env: &BuildEnv, variable: &str) -> Mem<Words>
     ensures { IfOk result (λ names. names ≡ spec.prefixed_names set.now env.now variable.now) }
@@ -60,7 +58,6 @@ fn prefixed_names(alloc: Global, set: &BuildConfig, env: &BuildEnv, variable: &s
         _ => Ok(Words::new(alloc)),
     }
 }
-
 // The names up to the first that is set.
 fn looked_at(alloc: Global, env: &BuildEnv, names: &[Text]) -> Mem<Words>
     ensures { IfOk result (λ read. read ≡ spec.looked_at env.now names.now) }
@@ -74,7 +71,6 @@ fn looked_at(alloc: Global, env: &BuildEnv, names: &[Text]) -> Mem<Words>
     }
     Ok(read)
 }
-
 /// The names by which one value of the prefixes is read.
 #[tactic(auto, unfolding(crate::specs::Reruns::value_names))]
 pub(crate) fn value_names(
@@ -95,7 +91,6 @@ fn asks_for_quotes(alloc: Global, set: &BuildConfig, env: &BuildEnv, variable: &
     let flags = variable_flags(alloc, set, env, variable)?;
     Ok(flags.is_some() && set.shell_escaped_flags.is_none())
 }
-
 /// The names by which a list of flags is read: each of its four, and the one that says how flags are quoted.
 #[tactic(auto, unfolding(crate::specs::Reruns::flags_names))]
 pub(crate) fn flags_names(
@@ -112,7 +107,6 @@ pub(crate) fn flags_names(
     }
     Ok(names)
 }
-
 // Adds those by which the compiler that a target wants is found.
 #[tactic(auto, unfolding(crate::specs::Reruns::target_choice_names))]
 fn push_target_choice_names(
@@ -135,7 +129,6 @@ fn push_target_choice_names(
     }
     Ok(())
 }
-
 // Adds whether Clang's form of the Visual Studio compiler is preferred, which is read for its targets.
 #[tactic(auto, unfolding(crate::specs::Reruns::preference_names))]
 fn push_preference_names(names: &mut Words, target: &TargetInfo) -> Mem<()>
@@ -146,7 +139,6 @@ fn push_preference_names(names: &mut Words, target: &TargetInfo) -> Mem<()>
     }
     Ok(())
 }
-
 // Adds those by which the compiler that a target wants is found, unless one is named.
 fn push_choice_unless(
     names: &mut Words,
@@ -163,7 +155,6 @@ fn push_choice_unless(
     }
     push_target_choice_names(names, cpp, target, cross)
 }
-
 /// Adds those that are read beside the compiler's own variable, unless that names one.
 #[tactic(auto, using(std::proofs::Common::append_assoc))]
 pub(crate) fn push_target_names(
@@ -234,7 +225,6 @@ fn reads_paths(family: ToolFamily) -> bool
 {
     is_gnu(family) || is_any_clang(family)
 }
-
 // What GCC and Clang read by themselves: GCC's "Environment Variables Affecting GCC", and Clang's and Zig's drivers.
 #[tactic(auto, unfolding(crate::specs::Reruns::gnu_like_names))]
 fn push_gnu_like_names(names: &mut Words, family: ToolFamily) -> Mem<()>
@@ -274,7 +264,6 @@ fn reads_includes(family: ToolFamily, target: &TargetInfo) -> bool
 {
     is_cl(family) || seeks_visual_studio(family, target)
 }
-
 // What the Visual Studio compiler and what stands in for it read by themselves: its "CL environment variables", and LLVM's search for it.
 #[tactic(auto, unfolding(crate::specs::Reruns::visual_studio_names))]
 fn push_visual_studio_names(names: &mut Words, family: ToolFamily, target: &TargetInfo) -> Mem<()>
@@ -295,7 +284,6 @@ fn push_visual_studio_names(names: &mut Words, family: ToolFamily, target: &Targ
     ])?;
     Ok(())
 }
-
 // What Emscripten reads by itself: its `emcc.py` and `config.py`.
 #[tactic(auto, unfolding(crate::specs::Reruns::emscripten_names))]
 fn push_emscripten_names(names: &mut Words, target: &TargetInfo) -> Mem<()>
@@ -317,7 +305,6 @@ fn push_emscripten_names(names: &mut Words, target: &TargetInfo) -> Mem<()>
     )])?;
     Ok(())
 }
-
 // What a compiler reads by itself, or a program that it runs.
 #[tactic(auto, unfolding(crate::specs::Reruns::family_names), using(std::proofs::Common::append_assoc))]
 fn push_family_names(names: &mut Words, family: ToolFamily, target: &TargetInfo) -> Mem<()>
@@ -329,7 +316,6 @@ fn push_family_names(names: &mut Words, family: ToolFamily, target: &TargetInfo)
     push_emscripten_names(names, target)?;
     Ok(())
 }
-
 // Unless the words of a target are left out.
 fn push_default_sysroots(
     names: &mut Words,
@@ -346,7 +332,6 @@ fn push_default_sysroots(
     }
     push_sysroot_names(names, set, target, compiler)
 }
-
 /// Those by which the words of a compiler are planned.
 #[tactic(auto, unfolding(crate::specs::Reruns::words_names))]
 pub(crate) fn words_names(
@@ -366,7 +351,6 @@ pub(crate) fn words_names(
     push_family_names(&mut names, compiler.family, target)?;
     Ok(names)
 }
-
 /// The variable of the flags of a tool of archives.
 pub(crate) fn tool_flags(tool: ArchiveTool) -> &'static str
     ensures { result.now ≡ spec.tool_flags tool }
@@ -385,7 +369,6 @@ fn links_some(library: &Option<Option<Text>>) -> bool
         None => true,
     }
 }
-
 // Those of the variable of the C++ library, where none is set.
 fn stdlib_names(alloc: Global, set: &BuildConfig, env: &BuildEnv) -> Mem<Words>
     ensures { IfOk result (λ names. names ≡ spec.stdlib_names set.now env.now) }
@@ -395,7 +378,6 @@ fn stdlib_names(alloc: Global, set: &BuildConfig, env: &BuildEnv) -> Mem<Words>
         None => value_names(alloc, set, env, "CXXSTDLIB"),
     }
 }
-
 // Those of the variable by which it is a static one.
 fn static_names(
     alloc: Global,
@@ -448,7 +430,6 @@ fn push_wasm_library_names(
     ])?;
     Ok(())
 }
-
 // Those by which link lines are planned.
 fn link_names(alloc: Global, set: &BuildConfig, env: &BuildEnv) -> Mem<Words>
     ensures { IfOk result (λ names. names ≡ spec.link_names set.now env.now) }
@@ -461,7 +442,6 @@ fn link_names(alloc: Global, set: &BuildConfig, env: &BuildEnv) -> Mem<Words>
     push_wasm_library_names(&mut names, &library, &target_info(set, env))?;
     Ok(names)
 }
-
 // Those by which link lines are planned, where some are.
 fn linking_names(alloc: Global, set: &BuildConfig, env: &BuildEnv, reads: Reads) -> Mem<Words>
     ensures { IfOk result (λ names. names ≡ spec.linking_names reads set.now env.now) }
@@ -472,7 +452,6 @@ fn linking_names(alloc: Global, set: &BuildConfig, env: &BuildEnv, reads: Reads)
         Ok(Words::new(alloc))
     }
 }
-
 // Those of a run itself.
 #[tactic(auto, unfolding(crate::specs::Reruns::run_names))]
 fn run_names(alloc: Global, reads: Reads) -> Mem<Words>
@@ -483,7 +462,6 @@ fn run_names(alloc: Global, reads: Reads) -> Mem<Words>
     push_if(&mut names, reads.debug, "CC_ENABLE_DEBUG_OUTPUT")?;
     Ok(names)
 }
-
 /// Those that a call reads: those of a run itself, of the tools that it plans, and of its link lines.
 pub(crate) fn joined_names(
     alloc: Global,
@@ -499,7 +477,6 @@ pub(crate) fn joined_names(
     names.append(linking_names(alloc, set, env, reads)?)?;
     Ok(names)
 }
-
 /// Whether lines of such names are wanted. It takes no memory.
 pub(crate) fn wants_reruns(set: &BuildConfig) -> bool
     ensures { result ≡ spec.wants_reruns set.now }
@@ -516,7 +493,6 @@ fn sorted(alloc: Global, names: &[Text]) -> Mem<BTreeSet<Text>>
     }
     Ok(set)
 }
-
 /// Texts in the order of their bytes, each once.
 pub(crate) fn in_order(alloc: Global, names: &Words) -> Mem<Words>
     ensures { IfOk result (λ list. list ≡ spec.in_order names.now) }

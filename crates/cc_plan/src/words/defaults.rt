@@ -31,14 +31,12 @@ fn level_name<'a>(given: &Compilation<'a>) -> &'a str
 {
     level_of(given.set, given.env).unwrap_or("")
 }
-
 // The name of the target, empty where it is set nowhere.
 fn target_name<'a>(given: &Compilation<'a>) -> &'a str
     ensures { result.now ≡ spec.name_of (seen given.now) }
 {
     target_of(given.set, given.env).unwrap_or("")
 }
-
 // The name that LLVM has for the target, else its own.
 fn llvm_name<'a>(given: &Compilation<'a>) -> &'a str
     ensures { result.now ≡ spec.llvm_name (seen given.now) }
@@ -46,7 +44,6 @@ fn llvm_name<'a>(given: &Compilation<'a>) -> &'a str
     let name = target_name(given);
     llvm_target(name).unwrap_or(name)
 }
-
 // Cargo's target wants its C library linked statically, by the Rust reference, "Linkage", "Static and dynamic C runtimes". Cargo's book says in
 // "Environment Variables", "Environment variables Cargo sets for build scripts", that the features stand in `CARGO_CFG_TARGET_FEATURE`.
 #[tactic(auto, unfolding(crate::specs::ToolWords::has_static_crt))]
@@ -60,7 +57,6 @@ fn has_static_crt(given: &Compilation<'_>) -> bool
             "crt-static",
         )
 }
-
 // What GCC and Clang take: the level, position independence, and the sysroots of WASI and the variants of QNX.
 #[tactic(auto, unfolding(crate::specs::ToolWords::gnu_like_words))]
 fn push_gnu_like_words(words: &mut Words, given: &Compilation<'_>) -> Mem<()>
@@ -77,7 +73,6 @@ fn push_gnu_like_words(words: &mut Words, given: &Compilation<'_>) -> Mem<()>
     }
     Ok(())
 }
-
 // Whether the compiler is Clang, and the target is named to it: one program serves all targets (Clang's "Cross-compilation using Clang",
 // "Target Triple"), while each GCC has its own.
 fn names_target(given: &Compilation<'_>) -> bool
@@ -87,14 +82,12 @@ fn names_target(given: &Compilation<'_>) -> bool
     let path = given.compiler.choice.path.as_str();
     needs_target_word(given.compiler.family, set_compiler, given.target, path)
 }
-
 // The sysroot of musl for WebAssembly's threads, where it is set: Clang brings no C library for that target.
 fn musl_sysroot<'a>(given: &Compilation<'a>) -> Option<&'a str>
     ensures { option_copied result ≡ spec.musl_sysroot (seen given.now) }
 {
     given.env.inherited().get("WASM_MUSL_SYSROOT")
 }
-
 // What Clang takes, where the target is named to it.
 #[tactic(auto, unfolding(crate::specs::ToolWords::clang_words))]
 fn push_clang_words(words: &mut Words, given: &Compilation<'_>) -> Mem<()>
@@ -109,7 +102,6 @@ fn push_clang_words(words: &mut Words, given: &Compilation<'_>) -> Mem<()>
     }
     Ok(())
 }
-
 // The words for the processor, which the flags of Rust code may name: `-C target-cpu` of rustc's "Codegen Options".
 #[tactic(auto, unfolding(crate::specs::Inherited::inherited_cpu))]
 fn push_wanted_processor(words: &mut Words, given: &Compilation<'_>) -> Mem<()>
@@ -121,7 +113,6 @@ fn push_wanted_processor(words: &mut Words, given: &Compilation<'_>) -> Mem<()>
     }
     Ok(())
 }
-
 // What GCC alone takes, which knows the target by its own name and its processor by `-m` words: GCC's "Machine-Dependent Options".
 #[tactic(auto, unfolding(crate::specs::ToolWords::gcc_words))]
 fn push_gcc_words(words: &mut Words, given: &Compilation<'_>) -> Mem<()>
@@ -136,7 +127,6 @@ fn push_gcc_words(words: &mut Words, given: &Compilation<'_>) -> Mem<()>
     }
     Ok(())
 }
-
 // How much debug information is wanted: as it is set, else as Cargo says in `DEBUG`, which is what `debug` of the profile comes to (Cargo's
 // book, "Environment Variables").
 fn debug_of<'a>(given: &Compilation<'a>) -> Option<&'a str>
@@ -144,7 +134,6 @@ fn debug_of<'a>(given: &Compilation<'a>) -> Option<&'a str>
 {
     or_variable(&given.set.debug, given.env, "DEBUG")
 }
-
 /// Whether frame pointers are kept, which profilers walk a stack by: where it isn't set, with debug information.
 pub(super) fn keeps_frames(given: &Compilation<'_>) -> bool
     ensures { result ≡ spec.keeps_frames (seen given.now) }
@@ -152,7 +141,6 @@ pub(super) fn keeps_frames(given: &Compilation<'_>) -> bool
     let force = given.set.force_frame_pointer;
     keeps_frame_pointers(given.compiler.family, force, debug_of(given))
 }
-
 // Debug information and frame pointers: GCC's "Options for Debugging Your Program", and `-fno-omit-frame-pointer` of its "Options That Control
 // Optimization". Not each compiler knows the word for leaves, so that one is asked about.
 #[tactic(auto, unfolding(crate::specs::ToolWords::debugging_words))]
@@ -172,7 +160,6 @@ fn push_debugging_words(
     push_frame_pointer_words(words, family, force, debug, takes_leaf)?;
     Ok(())
 }
-
 // The groups of the target and the level, in order.
 #[tactic(auto, unfolding(crate::specs::ToolWords::default_words))]
 fn push_default_words(words: &mut Words, given: &Compilation<'_>, supported: &Supported) -> Mem<()>
@@ -205,7 +192,6 @@ fn push_default_words(words: &mut Words, given: &Compilation<'_>, supported: &Su
     push_sanitizer_words(words, family, target, is_cargos, env)?;
     Ok(())
 }
-
 // The words of the target and the level, unless they are left out.
 #[tactic(auto, unfolding(crate::specs::ToolWords::wanted_defaults))]
 pub(super) fn push_wanted_defaults(
@@ -221,7 +207,6 @@ pub(super) fn push_wanted_defaults(
     }
     Ok(())
 }
-
 // QNX is refused on an architecture for which its compiler has no variant: `-V` of "qcc" in QNX's "Utilities Reference".
 #[tactic(auto, unfolding(crate::specs::ToolWords::qnx_refusal))]
 fn check_qnx(alloc: Global, target: &TargetInfo, family: ToolFamily) -> Result<(), PlanError>
@@ -233,7 +218,6 @@ fn check_qnx(alloc: Global, target: &TargetInfo, family: ToolFamily) -> Result<(
     }
     Ok(())
 }
-
 // Clang is refused a target whose sysroot isn't set, rather than left to fail at the first header.
 #[tactic(auto, unfolding(crate::specs::ToolWords::clang_refusal, crate::specs::ToolWords::sysroot_refusal))]
 fn check_sysroot(given: &Compilation<'_>) -> Result<(), PlanError>
@@ -247,7 +231,6 @@ fn check_sysroot(given: &Compilation<'_>) -> Result<(), PlanError>
     }
     Ok(())
 }
-
 /// Whether there are the words that a target and a level bring, or they are left out.
 ///
 /// Refused where QNX has no compiler for the architecture, or the sysroot of WebAssembly's threads isn't set, and for memory. The refusal
