@@ -35,10 +35,10 @@ error_in task refusal = option_map (plan_error task.set.now task.env.now task.ou
 abbrev pub PhaseEnds : {T : Type 0} → Task → Option PlanError → List Stage → Result T ErrorSeen → List Event → Course → Type 0
 PhaseEnds task refusal stages result part c = Ends (task_terms task c) (error_in task refusal) (asked_then refusal stages) part result c.before c.after
 
--- the folder was told, where the host listens; or the error has its cause
+-- the current folder was told, where it is wanted; or the error has its cause
 abbrev pub HereEnds : Bool → Result (Option (List ℕ)) ErrorSeen → List Event → Type 0
-HereEnds listens (Ok here) part = (is_some here ≡ listens) × CallsEnd {T = Unit {0}} (finding_steps here) part (Ok tt)
-HereEnds listens (Err e) part = (here : Option (List ℕ)) → is_some here ≡ listens → CallsEnd {T = Unit {0}} (finding_steps here) part (Err e)
+HereEnds is_wanted (Ok here) part = (is_some here ≡ is_wanted) × CallsEnd {T = Unit {0}} (finding_steps here) part (Ok tt)
+HereEnds is_wanted (Err e) part = (here : Option (List ℕ)) → is_some here ≡ is_wanted → CallsEnd {T = Unit {0}} (finding_steps here) part (Err e)
 
 -- the warnings were given to the host, and the folder was told, where the host listens; or the error has its cause. The questions right before it
 -- are the stage at which memory is wanted for the warnings.

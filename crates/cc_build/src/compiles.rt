@@ -181,17 +181,17 @@ fn compiling(
     Ok(stages)
 }
 
-/// Asks for the current folder, where it is wanted, as where the host listens.
+/// Asks for the current folder, where it is wanted: of a host that listens, and before commands that run in the library's folder.
 #[tactic(auto, using(cc_host::proofs::Parts::since_append))]
 pub(crate) fn find_here<W: World, H: Host<W>>(
     alloc: Global,
     host: &mut H,
-    listens: bool,
+    is_wanted: bool,
 ) -> Result<Option<Text>, Error>
     ensures aside { Aside H.log H.patience host.old host.new }
-    ensures outcome { HereEnds listens result (part H.log host.old host.new) }
+    ensures outcome { HereEnds is_wanted result (part H.log host.old host.new) }
 {
-    if !listens {
+    if !is_wanted {
         return Ok(None);
     }
     match host.current_dir() {

@@ -109,7 +109,7 @@ StartsAll listens look words part ended = IfCompiles words (λ request. (e : Err
 abbrev pub EndsSpent : ℕ → List Event → Ended → Type 0
 EndsSpent most part ended = (e : ErrorSeen) × ((ended ≡ ended_refused e) × (e.kind ≡ TurnsSpent) × (turns part ≡ most))
 
--- Valid settings, no failed or missing command but the first form of the archive, which one_form hasn't, no fault of the host and none of the pool: it is done, or the turns
+-- Valid settings, no failed or missing command but the first form of the archive, which an archiver with one form alone hasn't, no fault of the host and none of the pool: it is done, or the turns
 -- are spent, or memory was wanted.
 abbrev pub IsComplete : Look → Result Wish BadWord → List Event → Ended → Course → Type 0
 IsComplete look words part ended c = IfCompiles words (λ request. Valid request.1.config (env_in request part) look request.0 → (Failed (run_has_one_form request.1.config (env_in request part) look) part → ⊥) → (HasFault part → ⊥) → (Rose c.before.faults c.after.faults → ⊥) → (ended ≡ ended_well) ⊎ (EndsSpent c.before.left part ended ⊎ (ended ≡ ended_wanting)))
