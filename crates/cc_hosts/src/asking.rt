@@ -5,6 +5,7 @@ ghost use Rattle.cc_host.specs.Given.{is_answered};
 ghost use Rattle.cc_host.specs.declared.question.Outcome.TheVariants.{Done};
 
 use crate::child::{self, Ended, Streams};
+use crate::found::Found;
 use cc_host::{Outcome, OutputKind, Pipes, ProbeFiles, Question, Why, probe_command};
 use cc_text::Mem;
 use std::alloc::Global;
@@ -25,11 +26,12 @@ pub fn ask<R: Processes + Files + Env + AllocGlobal>(
     q: &Question,
     files: &ProbeFiles,
     streams: Streams,
+    found: &mut Option<Found>,
 ) -> Mem<child::Outcome>
     requires { q.now.ask ≢ AsksExists }
 {
     let cmd = probe_command(alloc, q, files)?;
-    child::run(rt, &cmd, streams)
+    child::run(rt, &cmd, streams, found)
 }
 
 /// What a question comes to by the end of its command, and a second outcome that equals it; or why it isn't answered.

@@ -6,6 +6,7 @@ ghost use Rattle.cc_host.specs.declared.event.Pipes.{Pipes};
 ghost use Rattle.cc_hosts.specs.Child.{status_of, kept, IsSilentEnd, IsLostEnd};
 
 use crate::command::{child_of, script_of};
+use crate::found::Found;
 use crate::look_up::{Place, look_up, path_in};
 use crate::reason::why_of;
 use cc_host::{Command, OutputKind, Pipes, Status, Why};
@@ -313,28 +314,36 @@ fn is_passed_over(kind: ErrorKind) -> bool {
 }
 
 // Starts the first program of a command's name in these folders that can be started, as `execvp` does: what mayn't be run is the error only
-// where nothing else is found.
+// where nothing else is found. Where each folder that was looked at is absolute, it is remembered where that was.
 fn search<R: Processes + Files + AllocGlobal>(
     rt: &R,
     folders: &str,
     absolute: bool,
     cmd: &Command,
     streams: Streams,
+    found: &mut Option<Found>,
 ) -> Mem<Begun<R::Started>> {
     let mut is_denied = false;
+    let mut are_absolute = true;
     for folder in folders.split(':') {
-        if absolute && !folder.starts_with('/') {
+        let is_absolute = folder.starts_with('/');
+        if absolute && !is_absolute {
             continue;
         }
+        are_absolute = are_absolute && is_absolute;
         let path = path_in(rt.alloc(), folder, cmd.get_program())?;
         if is_absent(rt, path.as_str(), cmd) {
             continue;
         }
+        let here = Found::of(rt.alloc(), cmd, folders, &path)?;
         match start_found(rt, path.as_str(), cmd, streams)? {
             Err(error) if is_passed_over(error.kind()) => {
                 is_denied = is_denied || error.kind() == ErrorKind::PermissionDenied;
             }
-            started => return begun_by(rt, cmd, started),
+            started => {
+                *found = if are_absolute { Some(here) } else { None };
+                return begun_by(rt, cmd, started);
+            }
         }
     }
     if is_denied {
@@ -343,19 +352,41 @@ fn search<R: Processes + Files + AllocGlobal>(
     Ok(not_found(rt, cmd))
 }
 
-/// Starts a command. Its standard error goes nowhere where it isn't heard. Want of memory means that nothing was started.
+// Starts a command's program in these folders, first where it was found last.
+fn start_in<R: Processes + Files + AllocGlobal>(
+    rt: &R,
+    folders: &str,
+    absolute: bool,
+    cmd: &Command,
+    streams: Streams,
+    found: &mut Option<Found>,
+) -> Mem<Begun<R::Started>> {
+    if let Some(here) = found
+        && let Some(path) = here.path_for(cmd, folders)
+    {
+        match start_found(rt, path, cmd, streams)? {
+            Err(error) if is_passed_over(error.kind()) => {}
+            started => return begun_by(rt, cmd, started),
+        }
+    }
+    search(rt, folders, absolute, cmd, streams, found)
+}
+
+/// Starts a command. Its standard error goes nowhere where it isn't heard. Want of memory means that nothing was started. A program that is
+/// searched is looked for first where it was found last.
 pub fn begin<R: Processes + Files + Env + AllocGlobal>(
     rt: &R,
     cmd: &Command,
     streams: Streams,
+    found: &mut Option<Found>,
 ) -> Mem<Begun<R::Started>> {
     match look_up(rt, cmd)? {
         Place::Named => {
             let started = start_at(rt, cmd.get_program(), cmd, streams)?;
             begun_by(rt, cmd, started)
         }
-        Place::Own(folders) => search(rt, folders.as_str(), false, cmd, streams),
-        Place::Absolute(folders) => search(rt, folders.as_str(), true, cmd, streams),
+        Place::Own(folders) => start_in(rt, folders.as_str(), false, cmd, streams, found),
+        Place::Absolute(folders) => start_in(rt, folders.as_str(), true, cmd, streams, found),
     }
 }
 
@@ -365,11 +396,12 @@ pub fn run<R: Processes + Files + Env + AllocGlobal>(
     rt: &R,
     cmd: &Command,
     streams: Streams,
+    found: &mut Option<Found>,
 ) -> Mem<Outcome>
     ensures silent { IfOk result (IsSilentEnd streams.pipes) }
     ensures lost { IfOk result IsLostEnd }
 {
-    match begin(rt, cmd, streams)? {
+    match begin(rt, cmd, streams, found)? {
         Begun::Missing => Ok(Outcome::Missing),
         Begun::Failed(why) => Ok(Outcome::Failed(why)),
         Begun::Child(child) => finish(rt.alloc(), child, streams.pipes),

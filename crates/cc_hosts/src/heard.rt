@@ -10,7 +10,7 @@ use std::alloc::Global;
 pub const KEPT: usize = 65536;
 
 // For how many there is room from the start. Most children write less.
-const FIRST: usize = 8192;
+const FIRST: usize = 1024;
 
 /// What was heard of a child and not yet taken, how it ended, and whether it was left.
 #[derive(Drop)]

@@ -6,11 +6,13 @@
 #![tactic(auto)]
 
 mod asking;
+mod bell;
 mod child;
 mod command;
 mod disk;
 mod entry;
 mod fixed_host;
+mod found;
 mod heard;
 mod look_up;
 mod plain;

@@ -3,9 +3,11 @@ ghost use Rattle.std.specs.Prelude.{◌≡◌, None, IfOk, false};
 ghost use Rattle.cc_hosts.specs.HostSeen.{HostSeen, fresh};
 
 use crate::asking::{KEPT, ask, outcome_of};
+use crate::bell::Bell;
 use crate::child::{self, Begun, Closed, Ended, Streams};
 use crate::disk::{create_new, remove};
 use crate::entry::list_vars;
+use crate::found::Found;
 use crate::reason::why_of;
 use crate::replaced::{name_beside, replace};
 use crate::running::{self, Process};
@@ -26,7 +28,7 @@ use std::process::{OpenProcess, Processes};
 use std::random::RandomSource;
 use std::rt::Files;
 use std::sync::{Arc, Wait};
-use std::thread::{Parker, Threads};
+use std::thread::Threads;
 use std::{env, fs, io};
 
 /// The world of `ProcessHost`. It isn't steady: the machine may change.
@@ -44,9 +46,9 @@ impl World for Real {
 /// A host over the processes, the files and the streams of the machine, by its runtime. It keeps the trait `Host`, and no
 /// more is proved of it: no proof can say what a process did.
 ///
-/// Each child that was started has a thread that reads its standard error as it comes and sees its end; within a child's first millisecond
-/// of rest, and where no thread can be made, each turn does that itself. Of each child at most 64 KiB are kept until a turn takes them, and
-/// a child that writes more waits for that. A turn takes what is there, of every child, and rests before only as long as there is nothing. A
+/// Each child that was started and is silent for long has a thread that reads its standard error as it comes and sees its end; up to then, and
+/// where no thread can be made, each turn does that itself. Of each child at most 64 KiB are kept until a turn takes them, and a child that
+/// writes more waits for that. A turn takes what is there, of every child, and rests before only as long as there is nothing. A
 /// child that was left alone is ended, and its thread with it. With the host all threads are joined, and children that run are left to run.
 ///
 /// A child whose standard error isn't heard writes it nowhere. Refused for memory, a call that started nothing did nothing, and a turn
@@ -62,7 +64,8 @@ pub struct ProcessHost<R: Processes + Threads + Wait + Copy> {
     log: ChildLog,
     processes: Vec<Process<R>>,
     watchers: Watchers<R>,
-    news: Arc<Parker>,
+    bell: Arc<Bell>,
+    found: Option<Found>,
     drawn: u64,
     closed: Closed,
     warned: bool,
@@ -74,7 +77,7 @@ impl<R: Processes + Threads + Wait + Copy> Model for ProcessHost<R> {
     ghost view = { λ h. record { log = h.log.log; faults = h.log.faults } };
 }
 
-impl<R: Processes + Threads + Wait + Copy + Send + 'static + AllocGlobal> ProcessHost<R>
+impl<R: Processes + Files + Threads + Wait + Copy + Send + 'static + AllocGlobal> ProcessHost<R>
 where
     R::Started: Send + 'static,
     <R::Started as OpenProcess>::Stdin: Send + 'static,
@@ -86,15 +89,16 @@ where
         ensures { IfOk result (λ h. h ≡ fresh) }
     {
         let alloc = rt.alloc();
-        let news = Arc::new(alloc, Parker::new())?;
-        let watchers = Watchers::new(rt, alloc)?;
+        let bell = Arc::new(alloc, Bell::new(&rt))?;
+        let watchers = Watchers::new(rt, alloc, bell.is_heard())?;
         Ok(ProcessHost {
             rt,
             alloc,
             log: ChildLog::new(alloc),
             processes: Vec::new(alloc),
             watchers,
-            news,
+            bell,
+            found: None,
             drawn: 0,
             closed: Closed {
                 input: false,
@@ -187,9 +191,9 @@ where
         self.log.reserve_child()?;
         self.processes.reserve(1)?;
         let command = cmd.try_clone()?;
-        let place = Watched::new(self.alloc, &self.news)?;
+        let place = Watched::new(self.alloc, &self.bell)?;
         let streams = self.streams(child::heard_only(pipes));
-        match child::begin(&self.rt, cmd, streams)? {
+        match child::begin(&self.rt, cmd, streams, &mut self.found)? {
             Begun::Missing => {
                 self.log.note(Event::Missing { role, cmd: command });
                 Ok(Start::Missing)
@@ -208,7 +212,7 @@ where
         running::rest(
             self.rt,
             self.alloc,
-            &self.news,
+            &self.bell,
             &self.watchers,
             &mut self.processes,
             rest_ms,
@@ -228,7 +232,9 @@ where
         let question = Boxed::new(self.alloc, q.try_clone()?)?;
         let with = Boxed::new(self.alloc, Some(files.try_clone()?))?;
         let unanswered = Boxed::new(self.alloc, Outcome::Unanswered)?;
-        match outcome_of(ask(self.alloc, &self.rt, q, files, self.streams(KEPT))?)? {
+        let streams = self.streams(KEPT);
+        let end = ask(self.alloc, &self.rt, q, files, streams, &mut self.found)?;
+        match outcome_of(end)? {
             Ok((outcome, copy)) => {
                 let copy = Boxed::new(self.alloc, copy)?;
                 self.log.note(Event::Answered {
@@ -313,7 +319,8 @@ where
     fn output(&mut self, role: Role, cmd: &Command, pipes: Pipes) -> Result<Ran, HostError> {
         self.log.reserve(1)?;
         let command = cmd.try_clone()?;
-        match child::run(&self.rt, cmd, self.streams(pipes))? {
+        let streams = self.streams(pipes);
+        match child::run(&self.rt, cmd, streams, &mut self.found)? {
             child::Outcome::Missing => {
                 self.log.note(Event::Missing { role, cmd: command });
                 Ok(Ran::Missing)

@@ -1,23 +1,23 @@
-// The processes that run as children of this one. A child is young until rests in which none had news took so long: up to then each turn watches
-// it by itself, and all young ones wait in one `poll(2)`, since the way to a thread and back is an eighth to a fifth of what the program takes of
-// its own for a short command. Then it gets a thread of its own.
+// The processes that run as children of this one. A child is young until it was silent for so long: up to then each turn watches it by itself, and one
+// `poll(2)` waits for all young ones and for the bell of the threads, since the way to a thread and back is an eighth to a fifth of what the program takes
+// of its own for a short command. Then it gets a thread of its own.
 ghost use Rattle.std.specs.Prelude.{◌≡◌, ◌++◌, IfOk, OnErr};
 ghost use Rattle.cc_host.specs.ChildLog.{AreTold, IsPieceBy};
 ghost use Rattle.cc_host.specs.Children.{IsNews};
 ghost use Rattle.cc_host.specs.Event.{turned};
 
+use crate::bell::Bell;
 use crate::heard::Taken;
 use crate::watched::{Watched, is_left_out};
 use crate::watchers::Watchers;
 use cc_host::{ChildLog, News, RunningChild, Status};
-use cc_text::Mem;
+use cc_text::{Mem, NoMemory};
 use libc::types::pollfd;
 use std::alloc::Global;
 use std::os::fd::AsRawFd;
 use std::process::{Child, OpenProcess, Processes};
 use std::sync::{Arc, Wait};
-use std::thread::{Parker, Threads};
-use std::time::Duration;
+use std::thread::Threads;
 
 /// A process that runs, as its child is watched.
 pub struct Process<R: Processes + Wait + Copy> {
@@ -26,22 +26,26 @@ pub struct Process<R: Processes + Wait + Copy> {
     watched: Arc<Watched<R::Started>>,
     taken: Taken,
     silent_ms: u64,
-    passed: u32,
+    unasked_ms: u64,
+    is_closed: bool,
+    is_grown: bool,
 }
 
-// How long rests without news are, all in all, before a child gets a thread, in milliseconds. The compiler of a small source ends before.
-const SILENT_MS: u64 = 100;
+// How long a child is silent, all in all, before it gets a thread, in milliseconds. While its pipe is open the wait for all young ones has it, and a
+// thread is of little use; where it is closed there is nothing to wait for, and rests are short until a thread asks for the end.
+const SILENT_MS: u64 = 1000;
 
-// How long the young children are waited for in one rest where others have threads, or closed their pipes, in milliseconds. What those did isn't
-// seen meanwhile.
-const YOUNG_MS: u64 = 1;
+const CLOSED_MS: u64 = 100;
 
-// How long young children are waited for at most in one rest, in milliseconds.
+// How long the young children are waited for in one rest where one of them closed its pipe, in milliseconds. Its end isn't seen meanwhile.
+const SHORT_MS: u64 = 1;
+
+// How long they are waited for at most in one rest, in milliseconds.
 const LONGEST_MS: u64 = 1000;
 
-// How often a child without a thread whose pipe was silent is passed over before it is asked whether it ended all the same, as one does that
-// leaves its pipe to another process.
-const MOST_PASSED: u32 = 64;
+// How long a child whose pipe is silent isn't asked whether it ended all the same, in milliseconds of rest, as one does that leaves its pipe to another
+// process. A turn without a rest counts as one.
+const UNASKED_MS: u64 = 50;
 
 /// Lets the child's thread end. The process runs on.
 impl<R: Processes + Wait + Copy> Drop for Process<R> {
@@ -52,7 +56,9 @@ impl<R: Processes + Wait + Copy> Drop for Process<R> {
             watched,
             taken: _,
             silent_ms: _,
-            passed: _,
+            unasked_ms: _,
+            is_closed: _,
+            is_grown: _,
         } = self;
         watched.leave(&rt);
         drop(watched);
@@ -91,24 +97,19 @@ impl<R: Processes + Wait + Copy> Process<R> {
             watched,
             taken: Taken::none(),
             silent_ms: 0,
-            passed: 0,
+            unasked_ms: 0,
+            is_closed: false,
+            is_grown: false,
         }
     }
 }
 
 impl<R: Processes + Wait + Copy> Process<R> {
-    // It has no thread yet.
-    fn is_young(&self) -> bool {
-        self.silent_ms < SILENT_MS
-    }
-
-    // It was silent for so many milliseconds more. Answers whether it wants a thread from now on.
-    fn was_silent(&mut self, rest_ms: u64) -> bool {
-        if !self.is_young() {
-            return false;
-        }
-        self.silent_ms = self.silent_ms.saturating_add(rest_ms);
-        !self.is_young()
+    // It was silent for so many milliseconds more. Answers whether it wants a thread.
+    fn was_silent(&mut self, rested_ms: u64) -> bool {
+        self.silent_ms = self.silent_ms.saturating_add(rested_ms);
+        let most_ms = if self.is_closed { CLOSED_MS } else { SILENT_MS };
+        !self.is_grown && self.silent_ms >= most_ms
     }
 }
 
@@ -116,13 +117,13 @@ impl<R: Processes + Wait + Copy> Process<R>
 where
     <R::Started as OpenProcess>::Stderr: AsRawFd,
 {
-    // Does what is to be done for a child that may have no thread, of which is known whether its pipe is ready.
-    fn attend(&mut self, is_ready: bool) {
-        if is_ready || self.passed >= MOST_PASSED {
-            self.passed = 0;
+    // Does what is to be done behind a rest of so many milliseconds for a child that has no thread, of which is known whether its pipe is ready.
+    fn attend(&mut self, is_ready: bool, rested_ms: u64) {
+        if is_ready || self.unasked_ms >= UNASKED_MS {
+            self.unasked_ms = 0;
             self.watched.attend(&self.rt, is_ready);
         } else {
-            self.passed = self.passed.saturating_add(1);
+            self.unasked_ms = self.unasked_ms.saturating_add(rested_ms.max(1));
         }
     }
 }
@@ -210,114 +211,96 @@ fn has_news<R: Processes + Wait + Copy>(processes: &[Process<R>]) -> bool {
     false
 }
 
-// Does what is to be done for those for which no thread could be made, and answers whether a child has news. Young ones were waited for.
-fn look<R: Processes + Wait + Copy>(processes: &[Process<R>]) -> bool
-where
-    <R::Started as OpenProcess>::Stderr: AsRawFd,
-{
-    for process in processes {
-        if !process.is_young() {
-            process.watched.attend(&process.rt, false);
-        }
-    }
-    has_news(processes)
-}
-
-// The pipes of the young children, to be waited for.
-fn young_pipes<R: Processes + Wait + Copy>(
+// The bell, and the pipes of the young children, to be waited for.
+fn pipes_of<R: Processes + Wait + Copy>(
     alloc: Global,
+    bell: &Bell,
     processes: &[Process<R>],
 ) -> Mem<Vec<pollfd>>
 where
     <R::Started as OpenProcess>::Stderr: AsRawFd,
 {
-    let mut pipes = Vec::new(alloc);
+    let mut pipes = Vec::with_capacity(alloc, processes.len().saturating_add(1))?;
+    pipes.push(bell.pipe())?;
     for process in processes {
-        if process.is_young() {
+        if !process.is_grown {
             pipes.push(process.watched.pipe(&process.rt))?;
         }
     }
     Ok(pipes)
 }
 
-// Does what is to be done for the children that have no thread: the young ones, of which these pipes were waited for, and those for which
-// none could be made. One whose pipe is closed is mostly about to end.
-fn attend_all<R: Processes + Wait + Copy>(processes: &mut [Process<R>], pipes: &[pollfd])
+// Does what is to be done behind a rest of so many milliseconds for the children that have no thread: the young ones, of which these pipes were waited
+// for, and those for which none could be made. One whose pipe is closed is mostly about to end.
+fn attend_all<R: Processes + Wait + Copy>(
+    processes: &mut [Process<R>],
+    pipes: &[pollfd],
+    rested_ms: u64,
+)
 where
     <R::Started as OpenProcess>::Stderr: AsRawFd,
 {
     let mut waited = pipes.iter();
     for process in processes {
-        let is_ready = process.is_young()
-            && match waited.next() {
-                Some(pipe) => pipe.revents != 0 || is_left_out(pipe),
-                None => false,
-            };
-        process.attend(is_ready);
-    }
-}
-
-// Does what is to be done for the young children, and has each want a thread at its next silent rest.
-fn age<R: Processes + Wait + Copy>(processes: &mut [Process<R>])
-where
-    <R::Started as OpenProcess>::Stderr: AsRawFd,
-{
-    for process in processes {
-        if process.is_young() {
+        if !process.is_grown
+            && let Some(pipe) = waited.next()
+        {
+            process.is_closed = is_left_out(pipe);
+            process.attend(process.is_closed || pipe.revents != 0, rested_ms);
+        } else {
             process.watched.attend(&process.rt, false);
-            process.silent_ms = SILENT_MS - 1;
         }
     }
 }
 
-// Waits until a young child writes or ends, for at most so many milliseconds, does what is to be done for it, and answers how many
-// milliseconds are left to rest. Where memory is wanting to wait for the young ones together, each gets a thread.
-fn wait_for_young<R: Processes + Wait + Copy>(
+// Waits until a thread rings, or a young child writes or ends, for at most so many milliseconds, does what is to be done for those without a thread, and
+// answers how many milliseconds were to be waited. Where memory is wanting to wait for them together, the bell alone is waited for, for a short rest.
+fn wait_for_all<R: Processes + Wait + Copy>(
     alloc: Global,
+    bell: &Bell,
     processes: &mut [Process<R>],
     rest_ms: u64,
 ) -> u64
 where
     <R::Started as OpenProcess>::Stderr: AsRawFd,
 {
-    match young_pipes(alloc, processes) {
-        Ok(mut pipes) if !pipes.is_empty() => {
-            let hears_all = pipes.len() == processes.len() && !pipes.iter().any(is_left_out);
-            let young_ms = rest_ms.min(if hears_all { LONGEST_MS } else { YOUNG_MS });
-            libc::net::poll(&mut pipes, young_ms as i32);
-            attend_all(processes, &pipes);
-            rest_ms.saturating_sub(young_ms)
+    match pipes_of(alloc, bell, processes) {
+        Ok(mut pipes) => {
+            let hears_all = !pipes.iter().skip(1).any(is_left_out);
+            let rested_ms = rest_ms.min(if hears_all { LONGEST_MS } else { SHORT_MS });
+            libc::net::poll(&mut pipes, rested_ms as i32);
+            attend_all(processes, pipes.get(1..).unwrap_or(&[]), rested_ms);
+            rested_ms
         }
-        _ => {
-            age(processes);
-            rest_ms
+        Err(NoMemory) => {
+            let rested_ms = rest_ms.min(SHORT_MS);
+            libc::net::poll(&mut [bell.pipe()], rested_ms as i32);
+            attend_all(processes, &[], rested_ms);
+            rested_ms
         }
     }
 }
 
-// Notes that the young children were silent for so many milliseconds more, and gives those to threads that were so long enough. Answers whether
-// none is young any more.
+// Notes that the children were silent for so many milliseconds more, and has those watched by threads that were so for long.
 fn grow<R: Processes + Threads + Wait + Copy>(
     watchers: &Watchers<R>,
     processes: &mut [Process<R>],
-    rest_ms: u64,
-) -> bool {
-    let mut are_grown = true;
+    rested_ms: u64,
+) {
     for process in processes {
-        if process.was_silent(rest_ms) {
-            watchers.add(&process.watched);
+        if process.was_silent(rested_ms) {
+            process.silent_ms = 0;
+            process.is_grown = watchers.add(&process.watched);
         }
-        are_grown = are_grown && !process.is_young();
     }
-    are_grown
 }
 
-/// Rests until a child has news, for at most so many milliseconds, or for less where some children have threads, or closed their pipes, and others
-/// have none yet. One that was silent for long gets a thread.
+/// Rests until a child has news, for at most so many milliseconds, or for less where a child closed its pipe and has no thread yet. One that was silent for
+/// long gets a thread.
 pub fn rest<R: Processes + Threads + Wait + Copy>(
     rt: R,
     alloc: Global,
-    news: &Parker,
+    bell: &Bell,
     watchers: &Watchers<R>,
     processes: &mut [Process<R>],
     rest_ms: u64,
@@ -325,14 +308,10 @@ pub fn rest<R: Processes + Threads + Wait + Copy>(
 where
     <R::Started as OpenProcess>::Stderr: AsRawFd,
 {
+    bell.hush(&rt);
     let rest_ms = if has_news(processes) { 0 } else { rest_ms };
-    let left = wait_for_young(alloc, processes, rest_ms);
-    if rest_ms == 0 || has_news(processes) || look(processes) {
-        return;
-    }
-    let are_grown = grow(watchers, processes, rest_ms.saturating_sub(left).max(1));
-    if left > 0 && are_grown {
-        news.park_timeout(&rt, Duration::from_millis(left));
-        look(processes);
+    let rested_ms = wait_for_all(alloc, bell, processes, rest_ms);
+    if rested_ms > 0 && !has_news(processes) {
+        grow(watchers, processes, rested_ms);
     }
 }

@@ -8,11 +8,11 @@ ghost use Rattle.std.specs.Prelude.{◌≡◌, IfOk};
 ghost use Rattle.cc_host.specs.ChildLog.{IsPieceBy};
 ghost use Rattle.cc_hosts.specs.Running.{ended_by};
 
+use crate::bell::{Bell, awaited, left_out};
 use crate::child::status_of;
 use crate::heard::{Heard, Taken};
 use cc_host::{News, RunningChild, Status};
 use cc_text::Mem;
-use libc::net::POLLIN;
 use libc::types::pollfd;
 use std::alloc::Global;
 use std::io::{self, ErrorKind, Read};
@@ -55,7 +55,7 @@ pub struct Watched<P: OpenProcess + Drop> {
     ear: Mutex<Option<Ear<P::Stderr>>>,
     heard: Mutex<Heard>,
     rest: Parker,
-    news: Arc<Parker>,
+    bell: Arc<Bell>,
 }
 
 // What one read of a child's pipe gave.
@@ -84,15 +84,6 @@ enum Step {
 enum Patience {
     Within(i32),
     Known,
-}
-
-// A file to be waited for, until it can be read or has an end to tell.
-fn awaited(file: &impl AsRawFd) -> pollfd {
-    pollfd {
-        fd: file.as_raw_fd(),
-        events: POLLIN,
-        revents: 0,
-    }
 }
 
 /// Whether `poll(2)` leaves out a file, since its descriptor is below zero.
@@ -165,15 +156,15 @@ impl<E: Drop> Ear<E> {
 }
 
 impl<P: OpenProcess + Drop> Watched<P> {
-    /// The place of a child that is to be started, whose news end the rest of this host.
-    pub fn new(alloc: Global, news: &Arc<Parker>) -> Mem<Arc<Watched<P>>> {
+    /// The place of a child that is to be started, whose thread rings this bell.
+    pub fn new(alloc: Global, bell: &Arc<Bell>) -> Mem<Arc<Watched<P>>> {
         let heard = Heard::new(alloc)?;
         let watched = Watched {
             process: Mutex::new(None),
             ear: Mutex::new(None),
             heard: Mutex::new(heard),
             rest: Parker::new(),
-            news: Arc::try_clone(news)?,
+            bell: Arc::try_clone(bell)?,
         };
         Ok(Arc::new(alloc, watched)?)
     }
@@ -292,6 +283,7 @@ where
         let step = ear.note(hearing);
         if matches!(step, Step::Silent) && self.ended(rt).is_some() {
             ear.is_gone = true;
+            return Step::Again;
         }
         step
     }
@@ -327,11 +319,7 @@ where
                     ..
                 },
             ) => awaited(pipe),
-            _ => pollfd {
-                fd: -1,
-                events: 0,
-                revents: 0,
-            },
+            _ => left_out(),
         }
     }
 
@@ -350,7 +338,7 @@ where
                 return;
             }
             match self.step(rt, ear, Patience::Within(PATIENCE)) {
-                Step::News => self.news.unpark(),
+                Step::News => self.bell.ring(rt),
                 Step::Again | Step::Silent => {}
                 Step::Full => self
                     .rest
@@ -360,7 +348,7 @@ where
                     rest = rest.saturating_mul(2).min(LONGEST_REST);
                 }
                 Step::Over => {
-                    self.news.unpark();
+                    self.bell.ring(rt);
                     return;
                 }
             }

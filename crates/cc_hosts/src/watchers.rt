@@ -230,13 +230,18 @@ impl<R: Processes + Threads + Wait + Copy> Drop for Watchers<R> {
 }
 
 impl<R: Processes + Threads + Wait + Copy> Watchers<R> {
-    /// Has a child watched by a thread, which is made where none is free. Where none can be made, the child has none.
-    pub fn add(&self, child: &Arc<Watched<R::Started>>) {
+    /// Has a child watched by a thread, which is made where none is free. Answers whether that is asked for: where the thread is missing that makes
+    /// them, it isn't. Where none can be made, the child has none.
+    pub fn add(&self, child: &Arc<Watched<R::Started>>) -> bool {
         if self.thread.is_none() {
-            return;
+            return false;
         }
-        if let Ok(child) = Arc::try_clone(child) {
-            self.queue.add(&self.rt, child);
+        match Arc::try_clone(child) {
+            Ok(child) => {
+                self.queue.add(&self.rt, child);
+                true
+            }
+            Err(_) => false,
         }
     }
 }
@@ -248,11 +253,15 @@ where
     <R::Started as OpenProcess>::Stdout: Send + 'static,
     <R::Started as OpenProcess>::Stderr: AsRawFd + Send + 'static,
 {
-    /// No child yet. Where no thread can be made, no child gets one.
-    pub fn new(rt: R, alloc: Global) -> Mem<Watchers<R>> {
+    /// No child yet. Where no thread can be made, or none is wanted, no child gets one.
+    pub fn new(rt: R, alloc: Global, are_wanted: bool) -> Mem<Watchers<R>> {
         let queue = Arc::new(alloc, Queue::new(alloc))?;
         let theirs = Arc::try_clone(&queue)?;
-        let thread = thread::spawn(&rt, move || make_threads(rt, alloc, &theirs)).ok();
+        let thread = if are_wanted {
+            thread::spawn(&rt, move || make_threads(rt, alloc, &theirs)).ok()
+        } else {
+            None
+        };
         Ok(Watchers { rt, queue, thread })
     }
 }
