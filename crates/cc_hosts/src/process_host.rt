@@ -51,6 +51,9 @@ impl World for Real {
 /// writes more waits for that. A turn takes what is there, of every child, and rests before only as long as there is nothing. A
 /// child that was left alone is ended, and its thread with it. With the host all threads are joined, and children that run are left to run.
 ///
+/// A program that is looked for on a `PATH` is started from where one of its name was found last on the same `PATH`, as a shell does (POSIX, `hash`), and looked
+/// for again where that can't be started.
+///
 /// A child whose standard error isn't heard writes it nowhere. Refused for memory, a call that started nothing did nothing, and a turn
 /// loses nothing: the next one has it. A command of `output` or `probe` whose end can't be kept did run: its end is lost, and no event is
 /// noted.
