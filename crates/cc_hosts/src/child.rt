@@ -314,7 +314,7 @@ fn is_passed_over(kind: ErrorKind) -> bool {
 }
 
 // Starts the first program of a command's name in these folders that can be started, as `execvp` does: what mayn't be run is the error only
-// where nothing else is found. Where each folder that was looked at is absolute, it is remembered where that was.
+// where nothing else is found. Where each folder up to it is absolute, it is remembered where that was.
 fn search<R: Processes + Files + AllocGlobal>(
     rt: &R,
     folders: &str,
@@ -327,10 +327,10 @@ fn search<R: Processes + Files + AllocGlobal>(
     let mut are_absolute = true;
     for folder in folders.split(':') {
         let is_absolute = folder.starts_with('/');
+        are_absolute = are_absolute && is_absolute;
         if absolute && !is_absolute {
             continue;
         }
-        are_absolute = are_absolute && is_absolute;
         let path = path_in(rt.alloc(), folder, cmd.get_program())?;
         if is_absent(rt, path.as_str(), cmd) {
             continue;

@@ -28,9 +28,11 @@ const READ: usize = 8192;
 // How long the thread waits for a child that is silent, in milliseconds.
 const PATIENCE: i32 = 50;
 
-// How many steps are made in a turn for a child that has no thread. One whose pipe was closed is mostly about to end, so it is asked for as
-// often.
+// How many steps are made in a turn for a child that has no thread. One whose pipe closes in it is mostly about to end, so its end is asked for as often; where
+// the pipe was closed before, a few times.
 const STEPS: u32 = 64;
+
+const CLOSED_STEPS: u32 = 4;
 
 // How many reads may follow the end of a child. A pipe holds no more of what it wrote.
 const LAST_READS: u32 = 128;
@@ -302,7 +304,12 @@ where
         } else {
             Patience::Within(0)
         };
-        for _ in 0..STEPS {
+        let steps = if ear.pipe.is_none() {
+            CLOSED_STEPS
+        } else {
+            STEPS
+        };
+        for _ in 0..steps {
             match self.step(rt, ear, patience) {
                 Step::News | Step::Again | Step::Closed => patience = Patience::Within(0),
                 Step::Silent | Step::Full | Step::Over => return,
