@@ -15,7 +15,7 @@ use Rattle.cc_host.proofs.Parts.{since_since, since_extends}
 use Rattle.cc_plan.specs.Archive as archive
 use Rattle.cc_plan.specs.Archive.{archiver_of}
 use Rattle.cc_plan.specs.ArchiveTool.{is_msvc}
-use Rattle.cc_plan.specs.Batches.{batches_of}
+use Rattle.cc_text.specs.Batches.{batches_of}
 use Rattle.cc_plan.specs.LibForm.{has_one_form, is_lib, copy_path_of}
 use Rattle.cc_plan.specs.Libtool.{is_libtool, list_refusal, lists_of}
 use Rattle.cc_plan.specs.Link.{link_lines as lines_of}
@@ -33,7 +33,7 @@ use Rattle.cc_plan.specs.declared.link.LinkLine.{LinkLine}
 use Rattle.cc_plan.specs.declared.object.Object.{Object}
 use Rattle.cc_plan.specs.declared.plan.Plan.{Plan}
 use Rattle.cc_host.specs.Command.{CommandSeen}
-use Rattle.cc_plan.proofs.BatchLaws.{joined}
+use Rattle.cc_text.proofs.BatchLaws.{joined}
 use Rattle.cc_run.specs.declared.planned.Planned.{Planned}
 use Rattle.cc_run.specs.declared.planned.Shows.{Shows}
 use Rattle.cc_tool.specs.Probing.{is_asked}

@@ -15,7 +15,7 @@ use Rattle.cc_host.specs.Question.{Look}
 use Rattle.cc_host.specs.declared.event.Role.TheVariants.{Archive, Index}
 use Rattle.cc_plan.specs.Archive as archive
 use Rattle.cc_plan.specs.Archive.{paths_of, archiver_of}
-use Rattle.cc_plan.specs.Batches.{batches_of}
+use Rattle.cc_text.specs.Batches.{batches_of}
 use Rattle.cc_plan.specs.Given.{is_disabled}
 use Rattle.cc_plan.specs.Libtool.{is_libtool}
 use Rattle.cc_plan.specs.Plan.{objects_of, library_of, archived_of, archive_refusal, archives_of, indexes_of, lists_of_run, folder_steps, removal_steps, link_lines, run_has_one_form, run_asks_folder, copy_steps}
@@ -25,7 +25,7 @@ use Rattle.cc_plan.specs.declared.error.PlanError.{PlanError}
 use Rattle.cc_plan.specs.declared.error.PlanError.TheVariants.{Argument, NotSet, UnknownTarget, QnxArch, Flag, Host, NoMemory as WantsMemory}
 use Rattle.cc_plan.specs.declared.archive.Archiver.{Archiver}
 use Rattle.cc_plan.specs.declared.settings.BuildConfig.{BuildConfig}
-use Rattle.cc_plan.proofs.BatchLaws.{few}
+use Rattle.cc_text.proofs.BatchLaws.{few}
 use Rattle.cc_build.specs.Error.{ErrorSeen}
 use Rattle.cc_build.specs.Refusal.{plan_error, disabled_error, early_error, late_error, archive_error, link_error, refusal_error}
 use Rattle.cc_build.specs.Stage.{Stage, commands_in, calls, planned, beside, compiles_planned, opening_steps, written, writings, folder_stages, compile_stages, removal_stages, library_commands, archive_stages, link_stages, library_stages, ending_stages, later_stages, late_stages, planned_stages, ending_steps, run_reads, ready_stages, copy_stages, asking_steps}

@@ -14,7 +14,7 @@ use Rattle.cc_target.specs.Targets.{line_of, lines}
 use Rattle.cc_text.specs.Within.{is_within}
 use Rattle.cc_plan.specs.Archive.{archiver_of}
 use Rattle.cc_plan.specs.Libtool.{is_libtool}
-use Rattle.cc_plan.specs.Batches.{batches_of}
+use Rattle.cc_text.specs.Batches.{batches_of}
 use Rattle.cc_plan.specs.Link.{link_lines as lines_of, lines_by, printed_links}
 use Rattle.cc_plan.specs.Names.{is_output_name}
 use Rattle.cc_plan.specs.Object.{object_path}

@@ -21,7 +21,7 @@ use Rattle.cc_host.specs.declared.event.Scope.TheVariants.{Build, Probe as ForPr
 use Rattle.cc_hosts.specs.Plain.{IsPlainLog}
 use Rattle.cc_plan.specs.Archive as archive
 use Rattle.cc_plan.specs.Archive.{archiver_of}
-use Rattle.cc_plan.specs.Batches.{batches_of}
+use Rattle.cc_text.specs.Batches.{batches_of}
 use Rattle.cc_plan.specs.Link.{printed_links}
 use Rattle.cc_plan.specs.Plan.{compiles_of, archives_of, indexes_of, archived_of, library_of, lists_of_run, link_lines, plan_warnings, warning_steps, warned_steps, prints as line_steps, folder_steps, run_has_one_form, run_asks_folder, copy_steps, copy_by, copy_of}
 use Rattle.cc_plan.specs.Quiet.{quiet_warnings}

@@ -5,7 +5,7 @@ use Rattle.cc_env.specs.Env.{EnvSeen}
 use Rattle.cc_host.specs.Question.{Look, answers, Holds, NoTwice}
 use Rattle.cc_host.specs.declared.event.Event.{Event}
 use Rattle.cc_hosts.specs.Plain.{IsPlainLog}
-use Rattle.cc_plan.specs.Batches.{batches_of}
+use Rattle.cc_text.specs.Batches.{batches_of}
 use Rattle.cc_plan.specs.Plan.{archived_of}
 use Rattle.cc_plan.specs.Settings.{unset_settings}
 use Rattle.cc_plan.specs.declared.settings.BuildConfig.{BuildConfig}

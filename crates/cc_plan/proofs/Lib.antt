@@ -1,7 +1,6 @@
 pub mod AddedLaws
 pub mod ArchiveToolLemmas
 pub mod AskingLemmas
-pub mod BatchLaws
 pub mod BeforeLemmas
 pub mod CompilationLemmas
 pub mod CompileLemmas
@@ -10,7 +9,6 @@ pub mod FindLemmas
 pub mod LibtoolLaws
 pub mod LineLemmas
 pub mod OwnLemmas
-pub mod PlacesLemmas
 pub mod PredefineLemmas
 pub mod QuestionLemmas
 pub mod ResultLemmas

@@ -7,7 +7,7 @@ use Rattle.cc_host.specs.Command.{CommandSeen}
 use Rattle.cc_host.specs.Question.{Look}
 use Rattle.cc_target.specs.Targets.{Info}
 use Rattle.cc_plan.specs.ArchiveTool.{archive_tool, is_msvc}
-use Rattle.cc_plan.specs.Batches.{batches_of}
+use Rattle.cc_text.specs.Batches.{batches_of}
 use Rattle.cc_plan.specs.Given.{variable_flags}
 use Rattle.cc_plan.specs.LibForm.{folder_of, is_lib, lib_words, members_of, runs_in_folder}
 use Rattle.cc_plan.specs.Libtool.{is_libtool, libtool_words}

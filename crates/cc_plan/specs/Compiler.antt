@@ -4,7 +4,7 @@ use Rattle.cc_env.specs.Snapshot.{child_of}
 use Rattle.cc_host.specs.Question.{Look}
 use Rattle.cc_text.specs.declared.family.ToolFamily.{ToolFamily}
 use Rattle.cc_tool.specs.Family.{family_of}
-use Rattle.cc_tool.specs.declared.family.Detected.{Detected}
+use Rattle.cc_text.specs.declared.family.Detected.{Detected}
 use Rattle.cc_plan.specs.Choice.{choice_of}
 use Rattle.cc_plan.specs.declared.choice.Choice.{Choice}
 use Rattle.cc_plan.specs.declared.compiler.Compiler.{Compiler}

@@ -4,7 +4,6 @@ pub mod Archive
 pub mod ArchiveTool
 pub mod Asking
 pub mod Assembler
-pub mod Batches
 pub mod Beside
 pub mod Blanks
 pub mod Choice
@@ -23,7 +22,6 @@ pub mod Libtool
 pub mod Link
 pub mod Names
 pub mod Object
-pub mod Places
 pub mod Plan
 pub mod Planned
 pub mod Predefine

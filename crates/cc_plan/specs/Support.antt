@@ -7,7 +7,7 @@ use Rattle.cc_host.specs.declared.question.Ask.TheVariants.{Flag}
 use Rattle.cc_host.specs.declared.question.Question.{Question}
 use Rattle.cc_text.specs.declared.family.ToolFamily.{ToolFamily}
 use Rattle.cc_tool.specs.Family.{family_of}
-use Rattle.cc_tool.specs.declared.family.Detected.TheVariants.{Marks as ByMarks}
+use Rattle.cc_text.specs.declared.family.Detected.TheVariants.{Marks as ByMarks}
 use Rattle.cc_plan.specs.Choice.{bare}
 use Rattle.cc_text.specs.Families.{is_clang, is_visual_studio}
 use Rattle.cc_plan.specs.Compilation.{CompilationSeen}

@@ -1,12 +1,12 @@
 // The commands of an archiver in the form of `ar`.
 ghost use Rattle.std.specs.Prelude.{◌≡◌, [], ◌∷◌, ◌++◌, map, take, true, false, IfOk};
 ghost use Rattle.cc_plan.specs.Archive.{archive_env, timeless, adding, archive_of, archives_by, index_of, plain_index_of, indexes_by};
-ghost use Rattle.cc_plan.specs.Batches.{batches_of};
+ghost use Rattle.cc_text.specs.Batches.{batches_of};
 
-use crate::{Archiver, batches};
+use crate::Archiver;
 use cc_env::BuildEnv;
 use cc_host::Command;
-use cc_text::{Mem, Vars, Words};
+use cc_text::{Mem, Vars, Words, batches};
 use std::alloc::Global;
 use std::slice;
 

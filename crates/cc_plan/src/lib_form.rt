@@ -2,17 +2,17 @@
 // the commands run in the library's folder where they can: then no folder of the build is written into the library.
 ghost use Rattle.std.specs.Prelude.{◌≡◌, ◌++◌, map, true, IfOk};
 ghost use Rattle.cc_plan.specs.Archive.{asks_folder, in_folder, lib_of, libs_of};
-ghost use Rattle.cc_plan.specs.Batches.{batches_of};
+ghost use Rattle.cc_text.specs.Batches.{batches_of};
 ghost use Rattle.cc_plan.specs.LibForm as spec;
 ghost use Rattle.cc_target.specs.Targets.{info_seen};
 
 use crate::archive_names::is_msvc;
 use crate::search::is_path;
-use crate::{Archiver, Library, batches, is_libtool};
+use crate::{Archiver, Library, is_libtool};
 use cc_host::Command;
 use cc_target::TargetInfo;
 use cc_text::{
-    Mem, Text, Words, begins_with, contains_ignore_ascii_case, file_name, join, parent,
+    Mem, Text, Words, batches, begins_with, contains_ignore_ascii_case, file_name, join, parent,
     strip_prefix,
 };
 use std::alloc::Global;

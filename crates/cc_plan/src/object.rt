@@ -6,11 +6,10 @@ ghost use Rattle.cc_env.specs.Snapshot.{last_value};
 ghost use Rattle.cc_plan.specs.Object.{after_text, after_root, placed, ended, hashed, object_name as name_of, object_path as path_of, objects_of};
 ghost use Rattle.cc_plan.specs.Refusal.{objects_refusal, AllowedBy, RefusedBy};
 
-use crate::places::Places;
 use crate::{ArgumentCause, PlanError};
 use cc_env::EnvSnapshot;
 use cc_text::{
-    Mem, Text, Words, after_prefix, extension, file_name, fnv1a, fnv1a_from, hex16, join, parent,
+    Mem, PathPlaces, Text, Words, after_prefix, extension, file_name, fnv1a, fnv1a_from, hex16, join, parent,
     strip_prefix, with_extension,
 };
 use std::alloc::Global;
@@ -156,7 +155,7 @@ pub fn objects_from_files(
 {
     let roots = roots_of(env, source_root);
     let mut objects = Vec::new(alloc);
-    let mut places = Places::new(alloc);
+    let mut places = PathPlaces::new(alloc);
     for (place, src) in files.as_slice().iter().enumerate() {
         let src = src.as_str();
         let place = place as u64;

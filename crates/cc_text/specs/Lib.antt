@@ -1,3 +1,4 @@
+pub mod Batches
 pub mod Case
 pub mod Components
 pub mod Cuts
@@ -9,6 +10,7 @@ pub mod MapLends
 pub mod Numbers
 pub mod Paths
 pub mod Pieces
+pub mod Places
 pub mod Quoted
 pub mod Shell
 pub mod Vars

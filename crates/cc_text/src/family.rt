@@ -15,6 +15,17 @@ pub enum ToolFamily {
     Msvc { clang_cl: bool },
 }
 
+/// How the family of a compiler was detected, which decides what is warned of.
+#[derive(Clone, Copy, Debug, PartialEq, Eq)]
+pub enum Detected {
+    /// The preprocessor showed a known macro. No warning follows.
+    Marks,
+    /// The preprocessor showed nothing, so the name of the file tells. A warning names the path.
+    NoMarks,
+    /// The preprocessor showed no known macro, so the name of the file tells. A warning tells so, and one names the path.
+    Failed,
+}
+
 /// Whether it is GCC, or what takes GCC's words and isn't Clang.
 pub fn is_gnu(family: ToolFamily) -> bool
     ensures { result ≡ families.is_gnu family }

@@ -10,6 +10,7 @@
 #![tactic(auto)]
 
 mod among;
+mod batch;
 mod case;
 mod cuts;
 mod family;
@@ -21,6 +22,7 @@ mod pairs;
 mod parts;
 mod paths;
 mod pieces;
+mod places;
 mod prefix;
 mod quoting;
 mod shell;
@@ -31,12 +33,14 @@ mod within;
 mod words;
 
 pub use among::{is_among, is_one_of};
+pub use batch::batches;
 pub use case::{
     contains_ignore_ascii_case, ends_with_ignore_ascii_case, starts_with_ignore_ascii_case,
 };
 pub use cuts::{after_prefix, before_suffix, key_and_value};
 pub use family::{
-    ToolFamily, is_cl, is_clang, is_clang_cl, is_gnu, is_gnu_like, is_plain_clang, is_visual_studio,
+    Detected, ToolFamily, is_cl, is_clang, is_clang_cl, is_gnu, is_gnu_like, is_plain_clang,
+    is_visual_studio,
 };
 pub use hash::{fnv1a, fnv1a_from, hex16};
 pub use map::VecMap;
@@ -45,6 +49,7 @@ pub use numbers::u32_of;
 pub use parts::{Component, components, keeps_components};
 pub use paths::{extension, file_name, file_stem, join, parent, same_path, with_extension};
 pub use pieces::{ascii_words, join_texts};
+pub use places::PathPlaces;
 pub use prefix::strip_prefix;
 pub use quoting::quoted;
 pub use shell::shell_words;

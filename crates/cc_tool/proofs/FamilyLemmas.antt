@@ -10,8 +10,8 @@ use Rattle.cc_host.specs.declared.question.Verdict.{Verdict}
 use Rattle.cc_host.specs.declared.question.Verdict.TheVariants.{Marks as Shows}
 use Rattle.cc_host.specs.Question.{Answer, Settles, is_yes}
 use Rattle.cc_tool.specs.Known.{asked}
-use Rattle.cc_tool.specs.declared.family.Detected.{Detected}
-use Rattle.cc_tool.specs.declared.family.Detected.TheVariants.{NoMarks}
+use Rattle.cc_text.specs.declared.family.Detected.{Detected}
+use Rattle.cc_text.specs.declared.family.Detected.TheVariants.{NoMarks}
 use Rattle.cc_tool.specs.Family as families
 use Rattle.cc_tool.specs.Family.{Vars, question, name_of, has_either, family_of_file, again, shown, reads_option, marks_in, family_of_marks, found, detected, detection, family_or, with_zig, is_zig, takes_help, settled_family, family_of}
 use Rattle.cc_text.specs.Families.{is_plain_clang}

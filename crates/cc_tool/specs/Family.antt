@@ -15,9 +15,9 @@ use Rattle.cc_host.specs.declared.question.Verdict.TheVariants.{Marks as Shows}
 use Rattle.cc_host.specs.Question.{Look, is_yes}
 use Rattle.cc_env.specs.Snapshot.{child_of}
 use Rattle.cc_env.specs.Env.{EnvSeen}
-use Rattle.cc_tool.specs.declared.family.Detected.{Detected}
+use Rattle.cc_text.specs.declared.family.Detected.{Detected}
 use Rattle.cc_tool.specs.declared.family.Program.{Program}
-use Rattle.cc_tool.specs.declared.family.Detected.TheVariants.{Marks as ByMarks, NoMarks, Failed}
+use Rattle.cc_text.specs.declared.family.Detected.TheVariants.{Marks as ByMarks, NoMarks, Failed}
 use Prim.Native.String.{String}
 
 abbrev pub Vars : Type 0

@@ -14,22 +14,11 @@ use crate::{Answers, Caches, ask, question_of};
 use cc_env::BuildEnv;
 use cc_host::{Ask, Host, Marks, Verdict, World, is_yes};
 use cc_text::{
-    Mem, Text, ToolFamily, Vars, Words, contains_ignore_ascii_case, ends_with_ignore_ascii_case,
+    Detected, Mem, Text, ToolFamily, Vars, Words, contains_ignore_ascii_case, ends_with_ignore_ascii_case,
     file_name, is_plain_clang,
 };
 use std::alloc::Global;
 use std::sync::Wait;
-
-/// How a family was detected, which decides what is warned of.
-#[derive(Clone, Copy, Debug, PartialEq, Eq)]
-pub enum Detected {
-    /// The preprocessor showed a known macro. No warning follows.
-    Marks,
-    /// The preprocessor showed nothing, so the name of the file tells. A warning names the path.
-    NoMarks,
-    /// The preprocessor showed no known macro, so the name of the file tells. A warning tells so, and one names the path.
-    Failed,
-}
 
 // The needle stands in the name, whatever the case of ASCII letters.
 fn has_either(name: &str, needle: &str) -> bool

@@ -21,13 +21,14 @@ mod probes;
 mod question;
 mod tool;
 
+pub use cc_text::Detected;
 pub use answers::Answers;
 pub use asking::{ask, ask_flag};
 pub use caches::Caches;
 pub use digest::question_digest;
 pub use emitted::Emitted;
 pub use envs::Envs;
-pub use family::{Detected, ask_family};
+pub use family::ask_family;
 pub use files::NamedTempfile;
 pub use kinds::FileKind;
 pub use known::Known;

@@ -5,7 +5,7 @@ use Rattle.std.specs.Map.{update}
 use Rattle.std.specs.Option.{option_copied}
 use Rattle.std.specs.Path.{path_file_name}
 use Rattle.cc_plan.specs.Object.{object_path}
-use Rattle.cc_plan.specs.Places.{place_at}
+use Rattle.cc_text.specs.Places.{place_at}
 use Rattle.cc_plan.specs.Refusal.{place_from}
 use Rattle.cc_plan.proofs.SourceLaws.{refused_source, taken_source, nameless_source, doubled_source, fresh_source, places_more}
 use Rattle.cc_plan.proofs.object.objects_from_files.Goals as goal

@@ -1,7 +1,7 @@
 use Rattle.std.proofs.Common.{◌≡◌, List, ℕ, map, take, drop, []}
 use Rattle.std.specs.Option.{option_copied}
 use Rattle.cc_plan.specs.Object.{object_path, objects_of}
-use Rattle.cc_plan.specs.Places.{place_at}
+use Rattle.cc_text.specs.Places.{place_at}
 use Rattle.cc_plan.specs.Refusal.{place_from, sources_after}
 use Rattle.cc_plan.proofs.object.objects_from_files.Given as goal
 

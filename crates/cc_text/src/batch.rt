@@ -1,8 +1,8 @@
 // Paths in batches, for command lines that don't grow long.
 ghost use Rattle.std.specs.Prelude.{◌≡◌, ◌++◌, ◌-◌, [], ◌∷◌, List, ℕ, length, IfOk};
-ghost use Rattle.cc_plan.specs.Batches.{room, cut_from, batches_of, AreBatchesOf};
+ghost use Rattle.cc_text.specs.Batches.{room, cut_from, batches_of, AreBatchesOf};
 
-use cc_text::{Mem, Text, Words};
+use crate::{Mem, Text, Words};
 use std::alloc::Global;
 
 const ROOM: usize = 4000;

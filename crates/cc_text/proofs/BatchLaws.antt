@@ -3,7 +3,7 @@ use Rattle.std.proofs.Common.{◌≡◌, ℕ, ◌+◌, ◌-◌, ◌<◌, ◌≤�
 use Rattle.std.specs.List.{flat_map, sum_by}
 use Rattle.std.proofs.lemmas.Bool.{leb-true, leb-false, le-leb, lt-leb}
 use Rattle.std.proofs.lemmas.List.Sums.{sum_by-append}
-use Rattle.cc_plan.specs.Batches.{room, cut_from, batches_of, filled, IsFull, AreBatches, AreBatchesOf}
+use Rattle.cc_text.specs.Batches.{room, cut_from, batches_of, filled, IsFull, AreBatches, AreBatchesOf}
 
 -- ---- joined they are the paths
 

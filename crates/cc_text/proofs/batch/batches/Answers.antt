@@ -1,8 +1,8 @@
 use Rattle.std.proofs.Common.{◌≡◌, arith}
 use Rattle.std.proofs.lemmas.Grind.{common_steps}
-use Rattle.cc_plan.specs.Batches.{batches_of}
-use Rattle.cc_plan.proofs.BatchLaws.{batches_are}
-use Rattle.cc_plan.proofs.batch.batches.Goals as goal
+use Rattle.cc_text.specs.Batches.{batches_of}
+use Rattle.cc_text.proofs.BatchLaws.{batches_are}
+use Rattle.cc_text.proofs.batch.batches.Goals as goal
 
 pub returns-in_ok-batches-in-len1-up-clause-law : goal.returns-in_ok-batches-in-len1-up-clause-law
 returns-in_ok-batches-in-len1-up-clause-law c =

@@ -1,7 +1,7 @@
 use Rattle.std.proofs.Common.{Some}
-use Rattle.cc_plan.specs.Places.{place_at}
-use Rattle.cc_plan.proofs.PlacesLemmas.{put_at}
-use Rattle.cc_plan.proofs.places.Places.put.Goals as goal
+use Rattle.cc_text.specs.Places.{place_at}
+use Rattle.cc_text.proofs.PlacesLemmas.{put_at}
+use Rattle.cc_text.proofs.places.PathPlaces.put.Goals as goal
 
 pub returns-clause-new : goal.returns-clause-new
 unfolding place_at

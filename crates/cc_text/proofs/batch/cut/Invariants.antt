@@ -1,6 +1,6 @@
 use Rattle.std.proofs.Common.{◌≡◌, ◌++◌, ◌∷◌, drop}
-use Rattle.cc_plan.specs.Batches.{cut_from, batches_of}
-use Rattle.cc_plan.proofs.batch.cut.Given as goal
+use Rattle.cc_text.specs.Batches.{cut_from, batches_of}
+use Rattle.cc_text.proofs.batch.cut.Given as goal
 
 -- the batches so far, and those of the paths that are left, are all
 abbrev pub invariant-loop-path : goal.invariant-loop-path

@@ -2,9 +2,9 @@
 ghost use Rattle.std.specs.Prelude.{◌≡◌, IfOk, OnOk, Some, None, List, ℕ, reverse};
 ghost use Rattle.std.specs.Map.{update};
 ghost use Rattle.std.specs.Str.{bytes_eq};
-ghost use Rattle.cc_plan.specs.Places.{place_at};
+ghost use Rattle.cc_text.specs.Places.{place_at};
 
-use cc_text::Mem;
+use crate::Mem;
 use std::alloc::Global;
 use std::collections::BTreeMap;
 
@@ -13,7 +13,7 @@ use std::collections::BTreeMap;
 /// A path is kept from its end on: objects mostly lie in one folder and begin with one number, so two paths differ soonest from there, and
 /// a search compares few bytes of each.
 #[derive(Drop)]
-pub struct Places {
+pub struct PathPlaces {
     by_path: BTreeMap<Vec<u8>, u64, Global>,
 }
 // The bytes of a text, from the last on.
@@ -25,13 +25,13 @@ fn reversed(alloc: Global, text: &str) -> Mem<Vec<u8>>
     Ok(bytes)
 }
 
-impl Places {
+impl PathPlaces {
     /// No place.
     #[tactic(auto, unfolding(crate::specs::Places::place_at))]
-    pub fn new(alloc: Global) -> Places
+    pub fn new(alloc: Global) -> PathPlaces
         ensures { (path : List ℕ) → place_at result path ≡ None }
     {
-        Places {
+        PathPlaces {
             by_path: BTreeMap::new(alloc),
         }
     }
