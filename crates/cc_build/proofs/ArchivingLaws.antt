@@ -6,12 +6,13 @@ use Rattle.cc_host.specs.declared.question.Outcome.{Outcome}
 use Rattle.cc_host.specs.declared.question.Question.{Question}
 use Rattle.cc_host.specs.declared.event.Event.{Event}
 use Rattle.cc_host.specs.declared.event.Event.TheVariants.{Fault}
-use Rattle.cc_plan.specs.Given.{is_disabled, probe_folder}
+use Rattle.cc_flags.specs.Given.{is_disabled, probe_folder}
 use Rattle.cc_plan.specs.Plan.{archive_refusal}
 use Rattle.cc_plan.specs.Questions.{RunAsks}
-use Rattle.cc_plan.specs.Refusal.{first_of, name_refusal, early_refusal}
-use Rattle.cc_plan.specs.declared.settings.BuildConfig.{BuildConfig}
-use Rattle.cc_plan.specs.declared.variables.Reads.{Reads}
+use Rattle.cc_plan.specs.Refusal.{name_refusal, early_refusal}
+use Rattle.cc_flags.specs.Given.{first_of}
+use Rattle.cc_flags.specs.declared.settings.BuildConfig.{BuildConfig}
+use Rattle.cc_flags.specs.declared.variables.Reads.{Reads}
 use Rattle.cc_run.specs.declared.planned.Shows.{Shows}
 use Rattle.cc_build.specs.Archiving.{archive_reads, unarchived_error, creation_error, creation_stages, Creates}
 use Rattle.cc_build.specs.Build.{BuildSeen}

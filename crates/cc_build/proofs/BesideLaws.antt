@@ -14,11 +14,11 @@ use Rattle.cc_host.specs.declared.event.Event.{Event}
 use Rattle.cc_host.specs.declared.event.Role.{Role}
 use Rattle.cc_host.specs.declared.event.Role.TheVariants.{Compile, Archive, Index}
 use Rattle.cc_host.proofs.Parts.{since_append}
-use Rattle.cc_plan.specs.Given.{is_disabled}
+use Rattle.cc_flags.specs.Given.{is_disabled}
 use Rattle.cc_plan.specs.Plan.{compiles_of, archives_of, indexes_of, lists_of_run, archive_refusal, objects_of, folder_steps, removal_steps, link_lines, run_has_one_form, run_asks_folder, copy_steps}
 use Rattle.cc_plan.specs.Refusal.{early_refusal, late_refusal, link_refusal}
 use Rattle.cc_plan.specs.Quiet.{quiet_warnings}
-use Rattle.cc_plan.specs.declared.settings.BuildConfig.{BuildConfig}
+use Rattle.cc_flags.specs.declared.settings.BuildConfig.{BuildConfig}
 use Rattle.cc_host.specs.declared.event.LineKind.TheVariants.{Warning}
 use Rattle.cc_run.specs.Part.{turns, turns_of, Within, Greedy}
 use Rattle.cc_run.specs.Planned.{asked, asked_by}

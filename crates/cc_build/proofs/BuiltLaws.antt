@@ -15,10 +15,11 @@ use Rattle.cc_host.specs.declared.event.Removal.{Removal}
 use Rattle.cc_host.specs.declared.event.Role.{Role}
 use Rattle.cc_host.specs.declared.event.Role.TheVariants.{Compile}
 use Rattle.cc_host.specs.declared.event.Scope.TheVariants.{Build, Probe as ForProbes}
-use Rattle.cc_plan.specs.Given.{is_disabled}
+use Rattle.cc_flags.specs.Given.{is_disabled}
 use Rattle.cc_plan.specs.Plan.{library_of, compiles_of, archive_refusal, lists_of_run, folder_steps, removal_steps, run_has_one_form, run_asks_folder, copy_steps}
-use Rattle.cc_plan.specs.Refusal.{early_refusal, late_refusal, link_refusal, first_of}
-use Rattle.cc_plan.specs.declared.settings.BuildConfig.{BuildConfig}
+use Rattle.cc_plan.specs.Refusal.{early_refusal, late_refusal, link_refusal}
+use Rattle.cc_flags.specs.Given.{first_of}
+use Rattle.cc_flags.specs.declared.settings.BuildConfig.{BuildConfig}
 use Rattle.cc_run.specs.Part.{started}
 use Rattle.cc_run.specs.Planned.{asked}
 use Rattle.cc_run.specs.Run.{run_from, nothing}

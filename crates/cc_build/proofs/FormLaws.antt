@@ -8,14 +8,14 @@ use Rattle.cc_host.specs.Command.{CommandSeen}
 use Rattle.cc_host.specs.Question.{Look}
 use Rattle.cc_host.specs.declared.event.Event.{Event}
 use Rattle.cc_host.specs.declared.event.Role.TheVariants.{Archive, Index}
-use Rattle.cc_plan.specs.Given.{is_disabled}
+use Rattle.cc_flags.specs.Given.{is_disabled}
 use Rattle.cc_plan.specs.Quiet.{quiet_warnings}
 use Rattle.cc_host.specs.Part.{Step}
-use Rattle.cc_plan.specs.ArchiveTool.{is_msvc}
-use Rattle.cc_plan.specs.Target.{target_info}
+use Rattle.cc_flags.specs.ArchiveNames.{is_msvc}
+use Rattle.cc_flags.specs.Target.{target_info}
 use Rattle.cc_plan.specs.Plan.{library_of, run_has_one_form, run_asks_folder, archives_of, indexes_of, lists_of_run, copy_of, copy_by, copy_steps, archive_refusal, link_lines, removal_steps, prints}
 use Rattle.cc_plan.specs.Refusal.{early_refusal, late_refusal, link_refusal}
-use Rattle.cc_plan.specs.declared.settings.BuildConfig.{BuildConfig}
+use Rattle.cc_flags.specs.declared.settings.BuildConfig.{BuildConfig}
 use Rattle.cc_run.specs.Part.{missing}
 use Rattle.cc_run.specs.declared.planned.Planned.{Planned}
 use Rattle.cc_build.specs.Error.{ErrorSeen}

@@ -15,7 +15,7 @@ use Rattle.cc_build.specs.Error.{ErrorSeen, no_memory}
 use Rattle.cc_build.specs.Stage.{Stage, asked_then}
 use Rattle.cc_build.specs.Stage.Stage.{Calls, Asks}
 use Rattle.cc_build.specs.Stop.{stop_error, fault_error, host_error}
-use Rattle.cc_plan.specs.Refusal.{first_of}
+use Rattle.cc_flags.specs.Given.{first_of}
 use Rattle.cc_plan.specs.declared.error.PlanError.{PlanError}
 use Rattle.cc_run.specs.declared.planned.Shows.{Shows}
 use Rattle.cc_tool.specs.Probing.{is_asked}

@@ -12,7 +12,7 @@ use Rattle.cc_host.specs.declared.question.Outcome.{Outcome}
 use Rattle.cc_host.specs.declared.question.Question.{Question}
 use Rattle.cc_host.proofs.Parts.{since_since, since_extends}
 use Rattle.cc_plan.specs.Questions.{CompileAsks, ArchiverAsks, LinkAsks, RunAsks}
-use Rattle.cc_plan.specs.declared.settings.BuildConfig.{BuildConfig}
+use Rattle.cc_flags.specs.declared.settings.BuildConfig.{BuildConfig}
 use Rattle.cc_tool.specs.Asked.{Asked, question_events}
 use Rattle.cc_tool.specs.Asks.{Asks, IsWorlds}
 use Rattle.cc_tool.specs.Own.{AnswersAmong}

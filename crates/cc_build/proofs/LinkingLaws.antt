@@ -1,24 +1,25 @@
 -- How the printing of link lines by a library's path ends.
-use Rattle.cc_plan.specs.declared.variables.Reads.{Reads}
+use Rattle.cc_flags.specs.declared.variables.Reads.{Reads}
 use Rattle.std.proofs.Common.{◌≡◌, ◌⊎◌, ℕ, List, [], ◌∷◌, Bool, true, false, if◌then◌else◌, is_some, Option, Some, None, option_map, Result, Err, refl, sym, ◌∙◌, ap, subst}
 use Rattle.cc_env.specs.Env.{EnvSeen}
 use Rattle.cc_host.specs.Question.{Look}
 use Rattle.cc_host.specs.declared.event.Event.{Event}
-use Rattle.cc_plan.specs.Names.{linked_library}
+use Rattle.cc_flags.specs.Names.{linked_library}
 use Rattle.cc_plan.specs.Quiet.{quiet_warnings}
 use Rattle.cc_plan.specs.Reruns.{rerun_names}
-use Rattle.cc_plan.specs.declared.link.LinkLine.{LinkLine}
-use Rattle.cc_plan.specs.Refusal.{first_of, path_refusal, link_refusal}
+use Rattle.cc_flags.specs.declared.link.LinkLine.{LinkLine}
+use Rattle.cc_plan.specs.Refusal.{path_refusal, link_refusal}
+use Rattle.cc_flags.specs.Given.{first_of}
 use Rattle.cc_plan.specs.declared.error.PlanError.{PlanError}
 use Rattle.cc_plan.specs.declared.error.PlanError.TheVariants.{NoMemory as WantsMemory}
-use Rattle.cc_plan.specs.declared.settings.BuildConfig.{BuildConfig}
+use Rattle.cc_flags.specs.declared.settings.BuildConfig.{BuildConfig}
 use Rattle.cc_build.specs.Build.{BuildSeen}
 use Rattle.cc_build.specs.Error.{ErrorSeen, no_memory}
 use Rattle.cc_build.specs.Linking.{link_reads, linked_name, name_or_none, DirectivesEnd}
 use Rattle.cc_build.specs.Refusal.{plan_error}
 use Rattle.cc_build.specs.Stage.{Stage, asked_then, links_of, printed_stages, ending_steps}
 use Rattle.cc_build.specs.Stage.Stage.{Asks}
-use Rattle.cc_plan.specs.Target.{target_info}
+use Rattle.cc_flags.specs.Target.{target_info}
 use Rattle.cc_build.specs.Way.{Firsts, Repeats, all_firsts}
 use Rattle.cc_build.specs.Went.{Terms, Means, Ends}
 use Rattle.cc_build.proofs.AloneLaws.{AreStill, still_calls, still_unless, ends_still}

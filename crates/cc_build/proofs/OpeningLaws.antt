@@ -10,9 +10,9 @@ use Rattle.cc_host.specs.declared.event.Event.{Event}
 use Rattle.cc_host.proofs.Parts.{since_since}
 use Rattle.cc_plan.specs.Plan.{warned_steps, warning_steps}
 use Rattle.cc_plan.specs.declared.error.PlanError.{PlanError}
-use Rattle.cc_plan.specs.declared.object.Object.{Object}
+use Rattle.cc_flags.specs.declared.object.Object.{Object}
 use Rattle.cc_plan.specs.declared.plan.Plan.{Plan}
-use Rattle.cc_plan.specs.declared.settings.BuildConfig.{BuildConfig}
+use Rattle.cc_flags.specs.declared.settings.BuildConfig.{BuildConfig}
 use Rattle.cc_tool.specs.Probing.{is_asked}
 use Rattle.cc_build.specs.Course.{course}
 use Rattle.cc_build.specs.Error.{ErrorSeen, no_memory}

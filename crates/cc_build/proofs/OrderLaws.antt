@@ -18,11 +18,11 @@ use Rattle.cc_host.specs.declared.event.Role.{Role}
 use Rattle.cc_host.specs.declared.event.Role.TheVariants.{Compile}
 use Rattle.cc_host.specs.declared.event.Scope.TheVariants.{Build}
 use Rattle.cc_host.proofs.Parts.{since_append}
-use Rattle.cc_plan.specs.Given.{is_disabled}
+use Rattle.cc_flags.specs.Given.{is_disabled}
 use Rattle.cc_plan.specs.Plan.{compile_in, dir_of, objects_of, prints, folder_steps}
 use Rattle.cc_plan.specs.Refusal.{early_refusal, late_refusal, is_empty}
-use Rattle.cc_plan.specs.declared.object.Object.{Object}
-use Rattle.cc_plan.specs.declared.settings.BuildConfig.{BuildConfig}
+use Rattle.cc_flags.specs.declared.object.Object.{Object}
+use Rattle.cc_flags.specs.declared.settings.BuildConfig.{BuildConfig}
 use Rattle.cc_run.specs.Outcome.{missing_in, missing_by}
 use Rattle.cc_run.specs.Own.{is_of_run}
 use Rattle.cc_run.specs.Part.{started, started_of, missing}

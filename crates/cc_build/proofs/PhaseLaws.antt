@@ -1,7 +1,7 @@
 -- How a part of a run ends, by what it asked and by the stages that it did.
 use Rattle.cc_host.specs.Part.Step.{Removes}
 use Rattle.cc_build.specs.declared.directives.Lines.{Lines}
-use Rattle.cc_plan.specs.declared.variables.Reads.{Reads}
+use Rattle.cc_flags.specs.declared.variables.Reads.{Reads}
 use Rattle.std.proofs.Common.{◌≡◌, ◌⊎◌, inl, inr, ℕ, List, [], ◌∷◌, ◌++◌, Bool, true, false, Option, Some, None, is_some, Result, Ok, Err, map, slice_get, unwrap_or, if◌then◌else◌, refl, sym, ◌∙◌, ap, ap₂, subst, append_assoc, option_map}
 use Rattle.std.specs.List.{list_all}
 use Rattle.std.proofs.lemmas.List.{map-append}
@@ -14,23 +14,24 @@ use Rattle.std.specs.List.{flat_map}
 use Rattle.cc_host.proofs.Parts.{since_since, since_extends}
 use Rattle.cc_plan.specs.Archive as archive
 use Rattle.cc_plan.specs.Archive.{archiver_of}
-use Rattle.cc_plan.specs.ArchiveTool.{is_msvc}
+use Rattle.cc_flags.specs.ArchiveNames.{is_msvc}
 use Rattle.cc_text.specs.Batches.{batches_of}
 use Rattle.cc_plan.specs.LibForm.{has_one_form, is_lib, copy_path_of}
 use Rattle.cc_plan.specs.Libtool.{is_libtool, list_refusal, lists_of}
 use Rattle.cc_plan.specs.Link.{link_lines as lines_of}
-use Rattle.cc_plan.specs.Names.{library_name}
-use Rattle.cc_plan.specs.declared.settings.BuildConfig.{BuildConfig}
+use Rattle.cc_flags.specs.Names.{library_name}
+use Rattle.cc_flags.specs.declared.settings.BuildConfig.{BuildConfig}
 use Rattle.cc_env.specs.Env.{EnvSeen}
 use Rattle.cc_plan.specs.Plan.{library_of, objects_of, compiles_of, plan_warnings, archived_of, archive_refusal, archives_of, indexes_of, lists_of_run, run_has_one_form, run_asks_folder, copy_steps, link_lines, removal_steps, copy_by}
 use Rattle.cc_plan.specs.Quiet.{quiet_warnings}
-use Rattle.cc_plan.specs.Target.{target_info}
+use Rattle.cc_flags.specs.Target.{target_info}
 use Rattle.cc_target.specs.Targets.{info_seen, Info}
-use Rattle.cc_plan.specs.Refusal.{first_of, late_refusal, archiver_refusal, link_refusal}
+use Rattle.cc_plan.specs.Refusal.{late_refusal, archiver_refusal, link_refusal}
+use Rattle.cc_flags.specs.Given.{first_of}
 use Rattle.cc_plan.specs.declared.archive.Archiver.{Archiver}
 use Rattle.cc_plan.specs.declared.error.PlanError.{PlanError}
-use Rattle.cc_plan.specs.declared.link.LinkLine.{LinkLine}
-use Rattle.cc_plan.specs.declared.object.Object.{Object}
+use Rattle.cc_flags.specs.declared.link.LinkLine.{LinkLine}
+use Rattle.cc_flags.specs.declared.object.Object.{Object}
 use Rattle.cc_plan.specs.declared.plan.Plan.{Plan}
 use Rattle.cc_host.specs.Command.{CommandSeen}
 use Rattle.cc_text.proofs.BatchLaws.{joined}

@@ -15,7 +15,7 @@ use Rattle.cc_host.specs.declared.event.Why.{Why}
 use Rattle.cc_host.proofs.Parts.{kind_is, IsKind, stops_stop, left_more, left_stop, partly_more, partly_stop, partly_whole, partly_none, whole_step, whole_then}
 use Rattle.cc_plan.specs.Asking.{is_of_children}
 use Rattle.cc_plan.specs.Plan.{prints, warning_steps, warned_steps}
-use Rattle.cc_plan.specs.declared.settings.BuildConfig.{BuildConfig}
+use Rattle.cc_flags.specs.declared.settings.BuildConfig.{BuildConfig}
 use Rattle.cc_tool.specs.Probing.{is_asked}
 use Rattle.cc_build.specs.Build.{BuildSeen}
 use Rattle.cc_build.specs.Course.{CallsEnd}

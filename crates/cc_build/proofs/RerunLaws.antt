@@ -6,12 +6,13 @@ use Rattle.cc_host.specs.Question.{Look}
 use Rattle.cc_host.specs.declared.event.Event.{Event}
 use Rattle.cc_host.specs.declared.event.LineKind.TheVariants.{Rerun}
 use Rattle.cc_plan.specs.Plan.{archive_refusal, prints}
-use Rattle.cc_plan.specs.Refusal.{first_of, late_refusal}
+use Rattle.cc_plan.specs.Refusal.{late_refusal}
+use Rattle.cc_flags.specs.Given.{first_of}
 use Rattle.cc_plan.specs.Reruns.{rerun_names}
 use Rattle.cc_plan.specs.declared.error.PlanError.{PlanError}
-use Rattle.cc_plan.specs.declared.link.LinkLine.{LinkLine}
-use Rattle.cc_plan.specs.declared.settings.BuildConfig.{BuildConfig}
-use Rattle.cc_plan.specs.declared.variables.Reads.{Reads}
+use Rattle.cc_flags.specs.declared.link.LinkLine.{LinkLine}
+use Rattle.cc_flags.specs.declared.settings.BuildConfig.{BuildConfig}
+use Rattle.cc_flags.specs.declared.variables.Reads.{Reads}
 use Rattle.cc_build.specs.Course.{course}
 use Rattle.cc_build.specs.Error.{ErrorSeen}
 use Rattle.cc_build.specs.Phases.{CompileEnds, LibraryEnds, NamesEnd, CompiledEnds, WrittenEnds}

@@ -23,11 +23,11 @@ use Rattle.cc_host.specs.declared.event.Status.{Status}
 use Rattle.cc_host.specs.declared.event.Why.{Why}
 use Rattle.cc_host.proofs.Parts.{since_append}
 use Rattle.cc_jobs.specs.Seats.{Rose}
-use Rattle.cc_plan.specs.Given.{is_disabled}
+use Rattle.cc_flags.specs.Given.{is_disabled}
 use Rattle.cc_plan.specs.Quiet.{quiet_warnings}
 use Rattle.cc_plan.specs.Plan.{dir_of, link_lines, lists_of_run, archive_refusal, prints, folder_steps, removal_steps, run_has_one_form, run_asks_folder, copy_steps, copy_by, copy_of, library_of}
 use Rattle.cc_plan.specs.Refusal.{early_refusal, late_refusal, link_refusal, is_empty}
-use Rattle.cc_plan.specs.declared.settings.BuildConfig.{BuildConfig}
+use Rattle.cc_flags.specs.declared.settings.BuildConfig.{BuildConfig}
 use Rattle.cc_run.specs.Outcome.{missing_by, faults_by, IsDone, IsRunError, EndsAt}
 use Rattle.cc_run.specs.Own.{is_of_run}
 use Rattle.cc_run.specs.Part.{started, missing, missing_of, faults, fault_of, abandoned, abandoned_of}
@@ -38,8 +38,8 @@ use Rattle.cc_run.specs.declared.error.RunError.TheVariants.{ToolNotFound, Faile
 use Rattle.cc_run.specs.declared.planned.Planned.{Planned}
 use Rattle.cc_run.proofs.Runs.{run_from-append}
 use Rattle.cc_tool.specs.Probing.{is_asked}
-use Rattle.cc_plan.specs.ArchiveTool.{is_msvc}
-use Rattle.cc_plan.specs.Target.{target_info}
+use Rattle.cc_flags.specs.ArchiveNames.{is_msvc}
+use Rattle.cc_flags.specs.Target.{target_info}
 use Rattle.cc_build.specs.Built.{ended_well}
 use Rattle.cc_build.specs.Error.{ErrorSeen, no_memory}
 use Rattle.cc_build.specs.Failed.{Failed, is_fault, is_form, form_aside, unforgiven, HasFault}

@@ -7,9 +7,9 @@ use Rattle.cc_host.specs.Question.{Look, Answer, Agrees, Settles}
 use Rattle.cc_host.specs.declared.event.Event.{Event}
 use Rattle.cc_host.proofs.Parts.{partly_whole}
 use Rattle.cc_plan.specs.Asking.{Warns}
-use Rattle.cc_plan.specs.Refusal.{first_of}
+use Rattle.cc_flags.specs.Given.{first_of}
 use Rattle.cc_plan.specs.declared.error.PlanError.{PlanError}
-use Rattle.cc_plan.specs.declared.settings.BuildConfig.{BuildConfig}
+use Rattle.cc_flags.specs.declared.settings.BuildConfig.{BuildConfig}
 use Rattle.cc_host.specs.declared.question.Verdict.{Verdict}
 use Rattle.cc_build.specs.Error.{ErrorSeen, no_memory}
 use Rattle.cc_build.specs.FlagSupport.{is_untried, verdict_error}

@@ -24,7 +24,7 @@ use Rattle.cc_tool.proofs.Asides.{aside_answers, asked_by, asked_before, asks_qu
 use Rattle.cc_plan.specs.Asking.{AsksThen, Warns, AreSteps, Warned, EndsWarning, IsNotice, IsPrintFault, is_of_children}
 use Rattle.cc_plan.specs.declared.error.PlanError.{PlanError}
 use Rattle.cc_plan.specs.declared.error.PlanError.TheVariants.{Host, NoMemory as WantsMemory}
-use Rattle.cc_plan.specs.declared.settings.BuildConfig.{BuildConfig}
+use Rattle.cc_flags.specs.declared.settings.BuildConfig.{BuildConfig}
 use Rattle.cc_build.specs.Error.{ErrorSeen, no_memory}
 use Rattle.cc_build.specs.Outcome.{IsCausedBy, Outcome}
 use Rattle.cc_build.specs.Refusal.{plan_error}

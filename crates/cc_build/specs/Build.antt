@@ -5,11 +5,11 @@ use Rattle.cc_env.specs.Snapshot.{snapshot_of}
 use Rattle.cc_host.specs.declared.event.Event.{Event}
 use Rattle.cc_host.specs.declared.question.Outcome.{Outcome}
 use Rattle.cc_host.specs.declared.question.Question.{Question}
-use Rattle.cc_plan.specs.Given.{variable_flags, probe_folder}
+use Rattle.cc_flags.specs.Given.{variable_flags, probe_folder}
 use Rattle.cc_plan.specs.Questions.{PlanAsks, RunAsks, SupportAsks}
-use Rattle.cc_plan.specs.Settings.{unset_settings}
-use Rattle.cc_plan.specs.declared.flags.Definition.{Definition}
-use Rattle.cc_plan.specs.declared.settings.BuildConfig.{BuildConfig}
+use Rattle.cc_flags.specs.Settings.{unset_settings}
+use Rattle.cc_flags.specs.declared.build_flags.Definition.{Definition}
+use Rattle.cc_flags.specs.declared.settings.BuildConfig.{BuildConfig}
 use Rattle.cc_tool.specs.Asked.{Asked}
 
 -- its plain settings, and the variables that it inherits and sets

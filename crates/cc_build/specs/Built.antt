@@ -6,9 +6,9 @@ use Rattle.cc_host.specs.declared.event.Removal.{Removal}
 use Rattle.cc_host.specs.declared.event.Event.{Event}
 use Rattle.cc_host.specs.declared.event.Event.TheVariants.{Removed}
 use Rattle.cc_host.specs.declared.event.Role.TheVariants.{Compile}
-use Rattle.cc_plan.specs.declared.settings.BuildConfig.{BuildConfig}
+use Rattle.cc_flags.specs.declared.settings.BuildConfig.{BuildConfig}
 use Rattle.cc_plan.specs.Plan.{library_of, compiles_of, run_has_one_form, archive_refusal}
-use Rattle.cc_plan.specs.Given.{is_disabled}
+use Rattle.cc_flags.specs.Given.{is_disabled}
 use Rattle.cc_plan.specs.Refusal.{early_refusal, late_refusal, link_refusal}
 use Rattle.cc_run.specs.Part.{started}
 use Rattle.cc_run.specs.Planned.{asked}

@@ -5,7 +5,7 @@ use Rattle.cc_env.specs.Env.{EnvSeen}
 use Rattle.cc_host.specs.Question.{Look}
 use Rattle.cc_host.specs.Part.{Step}
 use Rattle.cc_host.specs.declared.event.Event.{Event}
-use Rattle.cc_plan.specs.declared.settings.BuildConfig.{BuildConfig}
+use Rattle.cc_flags.specs.declared.settings.BuildConfig.{BuildConfig}
 use Rattle.cc_plan.specs.Plan.{tool_warnings}
 use Rattle.cc_plan.specs.Planned.{tool_of}
 use Rattle.cc_plan.specs.Refusal.{tool_refusal}

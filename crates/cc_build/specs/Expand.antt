@@ -10,9 +10,9 @@ use Rattle.cc_host.specs.declared.event.OutputKind.TheVariants.{Capture}
 use Rattle.cc_host.specs.declared.event.Role.TheVariants.{Expand}
 use Rattle.cc_tool.specs.Tool.{ToolSeen}
 use Rattle.cc_plan.specs.Compile.{expand_of}
-use Rattle.cc_plan.specs.Given.{is_disabled}
+use Rattle.cc_flags.specs.Given.{is_disabled}
 use Rattle.cc_plan.specs.Planned.{tool_of}
-use Rattle.cc_plan.specs.declared.settings.BuildConfig.{BuildConfig}
+use Rattle.cc_flags.specs.declared.settings.BuildConfig.{BuildConfig}
 use Rattle.cc_run.specs.Output.{IsOutput}
 use Rattle.cc_run.specs.declared.error.RunError.{RunError}
 use Rattle.cc_run.specs.declared.planned.Planned.{Planned}

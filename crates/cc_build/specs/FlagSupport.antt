@@ -10,8 +10,8 @@ use Rattle.cc_host.specs.declared.question.Verdict.TheVariants.{Unanswered, Miss
 use Rattle.cc_text.specs.Quoted.{quoted}
 use Rattle.cc_plan.specs.FlagSupport.{path_of, flag_verdict, support_refusal, support_warnings}
 use Rattle.cc_plan.specs.Plan.{warned_steps}
-use Rattle.cc_plan.specs.Refusal.{first_of}
-use Rattle.cc_plan.specs.declared.settings.BuildConfig.{BuildConfig}
+use Rattle.cc_flags.specs.Given.{first_of}
+use Rattle.cc_flags.specs.declared.settings.BuildConfig.{BuildConfig}
 use Rattle.cc_build.specs.Error.{ErrorSeen}
 use Rattle.cc_build.specs.Outcome.{Outcome}
 use Rattle.cc_build.specs.Refusal.{plan_error}

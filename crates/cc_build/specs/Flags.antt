@@ -1,11 +1,11 @@
 -- The flags that a build takes from its environment.
 use Rattle.std.specs.Prelude.{ℕ, List, ◌++◌, map, Option, Some, None, codes}
 use Rattle.cc_env.specs.Env.{EnvSeen}
-use Rattle.cc_plan.specs.Given.{target_of, host_of, variable_flags}
-use Rattle.cc_plan.specs.Refusal.{first_of}
-use Rattle.cc_plan.specs.declared.flags.BuildFlag.{BuildFlag}
-use Rattle.cc_plan.specs.declared.flags.BuildFlag.TheVariants.{Always}
-use Rattle.cc_plan.specs.declared.settings.BuildConfig.{BuildConfig}
+use Rattle.cc_flags.specs.Given.{target_of, host_of, variable_flags}
+use Rattle.cc_flags.specs.Given.{first_of}
+use Rattle.cc_flags.specs.declared.build_flags.BuildFlag.{BuildFlag}
+use Rattle.cc_flags.specs.declared.build_flags.BuildFlag.TheVariants.{Always}
+use Rattle.cc_flags.specs.declared.settings.BuildConfig.{BuildConfig}
 use Rattle.cc_build.specs.declared.error.ErrorKind.TheVariants.{EnvVarNotFound}
 use Rattle.cc_build.specs.Error.{ErrorSeen}
 use Rattle.cc_build.specs.Refusal.{unset_error}

@@ -5,11 +5,12 @@ use Rattle.cc_env.specs.Env.{EnvSeen}
 use Rattle.cc_host.specs.Question.{Look}
 use Rattle.cc_host.specs.declared.event.Event.{Event}
 use Rattle.cc_host.specs.declared.event.Role.TheVariants.{Compile}
-use Rattle.cc_plan.specs.Given.{is_disabled}
+use Rattle.cc_flags.specs.Given.{is_disabled}
 use Rattle.cc_plan.specs.Plan.{compiles_of}
-use Rattle.cc_plan.specs.declared.variables.Reads.{Reads}
-use Rattle.cc_plan.specs.Refusal.{is_empty, first_of, intermediate_refusal, late_refusal}
-use Rattle.cc_plan.specs.declared.settings.BuildConfig.{BuildConfig}
+use Rattle.cc_flags.specs.declared.variables.Reads.{Reads}
+use Rattle.cc_plan.specs.Refusal.{is_empty, intermediate_refusal, late_refusal}
+use Rattle.cc_flags.specs.Given.{first_of}
+use Rattle.cc_flags.specs.declared.settings.BuildConfig.{BuildConfig}
 use Rattle.cc_run.specs.Part.{started}
 use Rattle.cc_run.specs.Planned.{asked}
 use Rattle.cc_run.specs.Run.{run_from, nothing}

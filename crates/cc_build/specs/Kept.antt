@@ -7,9 +7,9 @@ use Rattle.cc_host.specs.Probe.{opens, drops}
 use Rattle.cc_host.specs.Question.{Look, Answer, answers, NoTwice, Holds}
 use Rattle.cc_host.specs.declared.question.Outcome.{Outcome}
 use Rattle.cc_host.specs.declared.question.Question.{Question}
-use Rattle.cc_plan.specs.Given.{probe_folder}
+use Rattle.cc_flags.specs.Given.{probe_folder}
 use Rattle.cc_plan.specs.Questions.{RunAsks, NameAsks}
-use Rattle.cc_plan.specs.declared.variables.Reads.{Reads}
+use Rattle.cc_flags.specs.declared.variables.Reads.{Reads}
 use Rattle.cc_run.specs.declared.planned.Turns.{Turns}
 use Rattle.cc_tool.specs.Asked.{question_events, start}
 use Rattle.cc_tool.specs.Asks.{IsWorlds}

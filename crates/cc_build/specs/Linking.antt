@@ -4,13 +4,14 @@ use Rattle.std.specs.Option.{option_map}
 use Rattle.cc_env.specs.Env.{EnvSeen}
 use Rattle.cc_host.specs.Question.{Look}
 use Rattle.cc_host.specs.declared.event.Event.{Event}
-use Rattle.cc_plan.specs.Names.{linked_library}
+use Rattle.cc_flags.specs.Names.{linked_library}
 use Rattle.cc_plan.specs.Quiet.{quiet_warnings}
-use Rattle.cc_plan.specs.Refusal.{first_of, path_refusal, link_refusal}
+use Rattle.cc_plan.specs.Refusal.{path_refusal, link_refusal}
+use Rattle.cc_flags.specs.Given.{first_of}
 use Rattle.cc_plan.specs.Reruns.{rerun_names}
-use Rattle.cc_plan.specs.Target.{target_info}
-use Rattle.cc_plan.specs.declared.variables.Reads.{Reads}
-use Rattle.cc_plan.specs.declared.settings.BuildConfig.{BuildConfig}
+use Rattle.cc_flags.specs.Target.{target_info}
+use Rattle.cc_flags.specs.declared.variables.Reads.{Reads}
+use Rattle.cc_flags.specs.declared.settings.BuildConfig.{BuildConfig}
 use Rattle.cc_build.specs.Build.{BuildSeen}
 use Rattle.cc_build.specs.Error.{ErrorSeen}
 use Rattle.cc_build.specs.Refusal.{plan_error}

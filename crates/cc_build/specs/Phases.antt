@@ -5,12 +5,13 @@ use Rattle.cc_host.specs.Question.{Look, Answer, Holds}
 use Rattle.cc_host.specs.declared.event.Event.{Event}
 use Rattle.cc_plan.specs.Plan.{archive_refusal}
 use Rattle.cc_plan.specs.Quiet.{quiet_warnings}
-use Rattle.cc_plan.specs.Refusal.{first_of, late_refusal, link_refusal}
+use Rattle.cc_plan.specs.Refusal.{late_refusal, link_refusal}
+use Rattle.cc_flags.specs.Given.{first_of}
 use Rattle.cc_plan.specs.Reruns.{rerun_names}
 use Rattle.cc_plan.specs.declared.error.PlanError.{PlanError}
-use Rattle.cc_plan.specs.declared.object.Object.{Object}
+use Rattle.cc_flags.specs.declared.object.Object.{Object}
 use Rattle.cc_plan.specs.declared.plan.Plan.{Plan}
-use Rattle.cc_plan.specs.declared.variables.Reads.{Reads}
+use Rattle.cc_flags.specs.declared.variables.Reads.{Reads}
 use Rattle.cc_run.specs.declared.planned.Planned.{Planned}
 use Rattle.cc_run.specs.declared.planned.Shows.{Shows}
 use Rattle.cc_build.specs.Course.{Course, OnCourse, CallsEnd}

@@ -10,8 +10,8 @@ use Rattle.cc_plan.specs.Refusal.{late_refusal, archiver_refusal, link_refusal}
 use Rattle.cc_plan.specs.declared.archive.Archiver.{Archiver}
 use Rattle.cc_plan.specs.Quiet.{quiet_warnings}
 use Rattle.cc_plan.specs.Reruns.{rerun_names}
-use Rattle.cc_plan.specs.declared.variables.Reads.{Reads}
-use Rattle.cc_plan.specs.declared.settings.BuildConfig.{BuildConfig}
+use Rattle.cc_flags.specs.declared.variables.Reads.{Reads}
+use Rattle.cc_flags.specs.declared.settings.BuildConfig.{BuildConfig}
 use Rattle.cc_plan.specs.declared.error.PlanError.{PlanError}
 use Rattle.cc_plan.specs.declared.link.LinkPlan.{LinkPlan}
 use Rattle.cc_plan.specs.declared.plan.Plan.{Plan}

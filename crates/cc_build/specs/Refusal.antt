@@ -8,10 +8,11 @@ use Rattle.cc_plan.specs.declared.error.ArgumentCause.{ArgumentCause}
 use Rattle.cc_plan.specs.declared.error.ArgumentCause.TheVariants.{Output, OutDir, NoFileName, SameObject, LibraryIsObject, LineFeed, Library}
 use Rattle.cc_plan.specs.declared.error.PlanError.{PlanError}
 use Rattle.cc_plan.specs.declared.error.PlanError.TheVariants.{Argument, NotSet, UnknownTarget, QnxArch, Flag, Host, NoMemory as WantsMemory}
-use Rattle.cc_plan.specs.declared.settings.BuildConfig.{BuildConfig}
-use Rattle.cc_plan.specs.Given.{is_disabled}
+use Rattle.cc_flags.specs.declared.settings.BuildConfig.{BuildConfig}
+use Rattle.cc_flags.specs.Given.{is_disabled}
 use Rattle.cc_plan.specs.Plan.{archive_refusal}
-use Rattle.cc_plan.specs.Refusal.{first_of, object_in, early_refusal, late_refusal, link_refusal}
+use Rattle.cc_plan.specs.Refusal.{object_in, early_refusal, late_refusal, link_refusal}
+use Rattle.cc_flags.specs.Given.{first_of}
 use Rattle.cc_build.specs.declared.error.ErrorKind.TheVariants.{InvalidArgument, InvalidTarget, InvalidFlag, EnvVarNotFound, Disabled, UnknownTarget as IsUnknown}
 use Rattle.cc_build.specs.Error.{ErrorSeen, no_memory}
 use Rattle.cc_build.specs.Stop.{fault_error}

@@ -5,14 +5,14 @@ use Rattle.cc_host.specs.Part.{Step}
 use Rattle.cc_host.specs.Part.Step.{Removes, Copies, Prints, Says}
 use Rattle.cc_host.specs.declared.event.Role.TheVariants.{Archive, Index}
 use Rattle.cc_plan.specs.Archive as archive
-use Rattle.cc_plan.specs.ArchiveTool.{is_msvc}
+use Rattle.cc_flags.specs.ArchiveNames.{is_msvc}
 use Rattle.cc_plan.specs.LibForm.{copy_path_of, has_one_form}
 use Rattle.cc_plan.specs.Libtool.{lists_of}
 use Rattle.cc_plan.specs.Link.{printed_line}
 use Rattle.cc_plan.specs.Plan.{copy_by, warned_steps}
-use Rattle.cc_plan.specs.declared.object.Object.{Object}
+use Rattle.cc_flags.specs.declared.object.Object.{Object}
 use Rattle.cc_plan.specs.declared.plan.Plan.{Plan}
-use Rattle.cc_plan.specs.declared.settings.BuildConfig.{BuildConfig}
+use Rattle.cc_flags.specs.declared.settings.BuildConfig.{BuildConfig}
 use Rattle.cc_run.specs.declared.planned.Planned.{Planned}
 use Rattle.cc_target.specs.Targets.{info_seen}
 use Rattle.cc_build.specs.Stage.{Stage, calls, planned, beside, compile_planned, finding_steps, asking_steps, written, writings}

@@ -5,7 +5,7 @@ use Rattle.cc_env.specs.Env.{EnvSeen}
 use Rattle.cc_env.specs.Snapshot.{last_value}
 use Rattle.cc_host.specs.declared.event.OutputKind.{OutputKind}
 use Rattle.cc_host.specs.declared.event.OutputKind.TheVariants.{Forward, Discard}
-use Rattle.cc_plan.specs.declared.settings.BuildConfig.{BuildConfig}
+use Rattle.cc_flags.specs.declared.settings.BuildConfig.{BuildConfig}
 use Rattle.cc_run.specs.declared.planned.Shows.{Shows}
 
 -- a value that asks for lines for debugging: any does but the empty text, `0` and `false`

@@ -7,8 +7,8 @@ use Rattle.cc_host.specs.declared.event.Event.{Event}
 use Rattle.cc_host.specs.declared.event.LineKind.TheVariants.{Rerun}
 use Rattle.cc_plan.specs.Plan.{prints}
 use Rattle.cc_plan.specs.Reruns.{rerun_names}
-use Rattle.cc_plan.specs.declared.settings.BuildConfig.{BuildConfig}
-use Rattle.cc_plan.specs.declared.variables.Reads.{Reads}
+use Rattle.cc_flags.specs.declared.settings.BuildConfig.{BuildConfig}
+use Rattle.cc_flags.specs.declared.variables.Reads.{Reads}
 use Rattle.cc_build.specs.Error.{ErrorSeen}
 use Rattle.cc_build.specs.Outcome.{Outcome}
 use Rattle.cc_build.specs.Stage.{rerun_lines}

@@ -11,7 +11,7 @@ use Rattle.cc_plan.specs.Archive.{archiver_of, ranlib_cmd_of}
 use Rattle.cc_plan.specs.Questions.{ArchiverAsks, RanlibAsks}
 use Rattle.cc_plan.specs.Refusal.{archiver_refusal, ranlib_refusal}
 use Rattle.cc_plan.specs.declared.error.PlanError.{PlanError}
-use Rattle.cc_plan.specs.declared.settings.BuildConfig.{BuildConfig}
+use Rattle.cc_flags.specs.declared.settings.BuildConfig.{BuildConfig}
 use Rattle.cc_tool.specs.Asked.{Asked}
 use Rattle.cc_build.specs.Build.{BuildSeen, probes}
 use Rattle.cc_build.specs.Error.{ErrorSeen, no_memory}

@@ -1,7 +1,7 @@
 -- What a run finds out as it goes, beside the answers to its questions.
 use Rattle.std.specs.Prelude.{◌≡◌, ℕ, Bool, true, List, [], ◌∷◌, ◌++◌, Option, is_some}
 use Rattle.cc_text.specs.Words.{when}
-use Rattle.cc_plan.specs.declared.settings.BuildConfig.{BuildConfig}
+use Rattle.cc_flags.specs.declared.settings.BuildConfig.{BuildConfig}
 
 -- which of the lines that builds which share what they know print once between them a run prints
 pub record Firsts : Type 0 where

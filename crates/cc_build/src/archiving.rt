@@ -1,8 +1,8 @@
 // An archive alone.
 ghost use Rattle.std.specs.Prelude.{◌≡◌, ◌++◌, ◌⊎◌, ◌+◌, ◌<◌, ◌^◌, Some, None, IfOk, IfErr, OnOk, false};
 ghost use Rattle.cc_host.specs.Call.{part};
-ghost use Rattle.cc_plan.specs.Given.{probe_folder};
-ghost use Rattle.cc_plan.specs.Names.{library_name};
+ghost use Rattle.cc_flags.specs.Given.{probe_folder};
+ghost use Rattle.cc_flags.specs.Names.{library_name};
 ghost use Rattle.cc_plan.specs.Plan.{objects_of, library_of};
 ghost use Rattle.cc_build.specs.Archiving.{archive_reads as reads_of, with_objects, unarchived_error, Creates};
 ghost use Rattle.cc_build.specs.Build.{AsksByRun};

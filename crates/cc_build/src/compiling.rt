@@ -1,8 +1,8 @@
 // A compile run, part by part.
 ghost use Rattle.std.specs.Prelude.{◌≡◌, ◌+◌, ◌<◌, ◌^◌, ◌++◌, IfOk};
 ghost use Rattle.cc_host.specs.Call.{part};
-ghost use Rattle.cc_plan.specs.Names.{library_name};
-ghost use Rattle.cc_plan.specs.Given.{probe_folder};
+ghost use Rattle.cc_flags.specs.Names.{library_name};
+ghost use Rattle.cc_flags.specs.Given.{probe_folder};
 ghost use Rattle.cc_plan.specs.Plan.{dir_of, objects_of, library_of, folder_steps};
 ghost use Rattle.cc_run.specs.Keeping.{IsIdle};
 ghost use Rattle.cc_build.specs.Build.{AsksByRun};

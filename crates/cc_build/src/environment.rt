@@ -1,7 +1,7 @@
 // The flags that a build takes from its environment.
 ghost use Rattle.std.specs.Prelude.{◌≡◌, IfOk, IfErr, OnOk, ◌⊎◌, Some, None};
 ghost use Rattle.std.specs.Option.{option_copied};
-ghost use Rattle.cc_plan.specs.Given.{variable_flags};
+ghost use Rattle.cc_flags.specs.Given.{variable_flags};
 ghost use Rattle.cc_build.specs.Error.{no_memory};
 ghost use Rattle.cc_build.specs.Flags.{absent_error, wanted_error, flags_error};
 

@@ -2,7 +2,7 @@
 ghost use Rattle.std.specs.Prelude.{◌≡◌, ◌++◌, ◌+◌, ◌<◌, ◌^◌, IfOk, false};
 ghost use Rattle.cc_host.specs.Call.{part};
 ghost use Rattle.cc_plan.specs.Archive.{paths_of};
-ghost use Rattle.cc_plan.specs.Given.{probe_folder};
+ghost use Rattle.cc_flags.specs.Given.{probe_folder};
 ghost use Rattle.cc_plan.specs.Plan.{objects_of};
 ghost use Rattle.cc_build.specs.Build.{AsksByRun};
 ghost use Rattle.cc_build.specs.Course.{ByRun};

@@ -1,8 +1,8 @@
 // The setters of one item more, and of several.
 ghost use Rattle.std.specs.Prelude.{◌≡◌, ◌++◌, [], ◌∷◌, true, IfOk, IfErr, OnOk, OnErr};
 ghost use Rattle.std.specs.Option.{option_copied};
-ghost use Rattle.cc_plan.specs.Flags.{without};
-ghost use Rattle.cc_plan.specs.declared.flags.BuildFlag.TheVariants.{Always, IfSupported};
+ghost use Rattle.cc_flags.specs.BuildFlags.{without};
+ghost use Rattle.cc_flags.specs.declared.build_flags.BuildFlag.TheVariants.{Always, IfSupported};
 ghost use Rattle.cc_build.specs.Build.{Sets, AddsVariable, defined};
 ghost use Rattle.cc_build.specs.Error.{no_memory};
 ghost use Rattle.cc_build.specs.Flags.{always};

@@ -4,9 +4,9 @@ ghost use Rattle.std.specs.Prelude.{◌≡◌, ◌⊎◌, ◌+◌, ◌<◌, ◌^
 ghost use Rattle.std.specs.Option.{option_map};
 ghost use Rattle.cc_host.specs.Call.{part};
 ghost use Rattle.cc_host.specs.Question.{Holds, Settles};
-ghost use Rattle.cc_plan.specs.Given.{probe_folder};
+ghost use Rattle.cc_flags.specs.Given.{probe_folder};
 ghost use Rattle.cc_plan.specs.Libtool.{list_refusal};
-ghost use Rattle.cc_plan.specs.Names.{library_name};
+ghost use Rattle.cc_flags.specs.Names.{library_name};
 ghost use Rattle.cc_plan.specs.Plan.{objects_of, library_of, archived_of};
 ghost use Rattle.cc_plan.specs.Refusal.{late_refusal, archiver_refusal, link_refusal};
 ghost use Rattle.cc_plan.specs.Reruns.{rerun_names};

@@ -4,7 +4,7 @@ ghost use Rattle.std.specs.List.{list_any};
 ghost use Rattle.cc_host.specs.Call.{part};
 ghost use Rattle.cc_host.specs.Question.{Holds, Settles};
 ghost use Rattle.cc_plan.specs.Asking.{is_of_children};
-ghost use Rattle.cc_plan.specs.Given.{probe_folder};
+ghost use Rattle.cc_flags.specs.Given.{probe_folder};
 ghost use Rattle.cc_plan.specs.Reruns.{rerun_names};
 ghost use Rattle.cc_run.specs.Keeping.{IsIdle};
 ghost use Rattle.cc_build.specs.Kept.{AsksFor, AsksForNames};

@@ -4,7 +4,7 @@ ghost use Rattle.std.specs.List.{list_any};
 ghost use Rattle.cc_host.specs.Call.{part, ByAnswers};
 ghost use Rattle.cc_host.specs.Question.{answers};
 ghost use Rattle.cc_plan.specs.Asking.{is_of_children};
-ghost use Rattle.cc_plan.specs.Given.{probe_folder};
+ghost use Rattle.cc_flags.specs.Given.{probe_folder};
 ghost use Rattle.cc_plan.specs.Questions.{ArchiverAsks, RanlibAsks};
 ghost use Rattle.cc_plan.specs.Refusal.{archiver_refusal, ranlib_refusal};
 ghost use Rattle.cc_tool.specs.Asked.{Asked};

@@ -22,7 +22,7 @@ use Rattle.cc_host.specs.declared.question.Outcome.{Outcome}
 use Rattle.cc_host.specs.declared.question.Question.{Question}
 use Rattle.cc_tool.specs.Asked.{Asked}
 use Rattle.cc_tool.proofs.Asides.{asked_around}
-use Rattle.cc_plan.specs.Given.{probe_folder}
+use Rattle.cc_flags.specs.Given.{probe_folder}
 use Rattle.cc_plan.specs.Questions.{RunAsks}
 use Rattle.cc_command.specs.Asks.{AsksFor}
 use Rattle.cc_command.specs.Answer.{IsHalted, Answers, AnswersError, AnswersWords, Unbegun, env_in, terms_in, error_of, repeating, Findings, stages_of, ended_well, ended_wanting}

@@ -14,13 +14,14 @@ use Rattle.cc_host.specs.declared.event.LineKind.TheVariants.{Link, Rerun}
 use Rattle.cc_host.specs.declared.question.Outcome.{Outcome}
 use Rattle.cc_host.specs.declared.question.Question.{Question}
 use Rattle.cc_jobs.specs.Seats.{Rose}
-use Rattle.cc_plan.specs.Given.{is_disabled, probe_folder}
+use Rattle.cc_flags.specs.Given.{is_disabled, probe_folder}
 use Rattle.cc_plan.specs.Plan.{archive_refusal, lists_of_run, removal_steps, run_asks_folder, copy_steps, run_has_one_form}
 use Rattle.cc_plan.specs.Questions.{RunAsks, PlanAsks, ArchiverAsks, RanlibAsks}
 use Rattle.cc_plan.specs.Quiet.{quiet_warnings}
-use Rattle.cc_plan.specs.Refusal.{first_of, name_refusal, early_refusal, path_refusal, link_refusal}
+use Rattle.cc_plan.specs.Refusal.{name_refusal, early_refusal, path_refusal, link_refusal}
+use Rattle.cc_flags.specs.Given.{first_of}
 use Rattle.cc_plan.specs.declared.error.PlanError.{PlanError}
-use Rattle.cc_plan.specs.declared.settings.BuildConfig.{BuildConfig}
+use Rattle.cc_flags.specs.declared.settings.BuildConfig.{BuildConfig}
 use Rattle.cc_run.specs.Part.{turns}
 use Rattle.cc_run.specs.Planned.{asked}
 use Rattle.cc_run.specs.declared.planned.Planned.{Planned}

@@ -8,7 +8,8 @@ use Rattle.cc_host.specs.declared.event.Event.{Event}
 use Rattle.cc_host.specs.declared.question.Outcome.{Outcome}
 use Rattle.cc_host.specs.declared.question.Question.{Question}
 use Rattle.cc_plan.specs.Plan.{archive_refusal}
-use Rattle.cc_plan.specs.Refusal.{first_of, path_refusal, link_refusal}
+use Rattle.cc_plan.specs.Refusal.{path_refusal, link_refusal}
+use Rattle.cc_flags.specs.Given.{first_of}
 use Rattle.cc_plan.specs.declared.error.PlanError.{PlanError}
 use Rattle.cc_build.specs.Archiving.{archive_reads, unarchived_error, creation_stages, Creates}
 use Rattle.cc_build.specs.Build.{BuildSeen, AsksByRun}

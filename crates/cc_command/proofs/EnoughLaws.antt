@@ -1,6 +1,6 @@
 -- How many commands a request has at most, and that refused settings spend no turns.
-use Rattle.cc_plan.specs.Target.{target_info}
-use Rattle.cc_plan.specs.ArchiveTool.{is_msvc}
+use Rattle.cc_flags.specs.Target.{target_info}
+use Rattle.cc_flags.specs.ArchiveNames.{is_msvc}
 use Rattle.cc_plan.specs.LibForm.{is_lib}
 use Rattle.cc_plan.specs.Quiet.{quiet_warnings}
 use Rattle.cc_plan.specs.Reruns.{rerun_names}
@@ -16,15 +16,16 @@ use Rattle.cc_host.specs.declared.event.Role.TheVariants.{Archive, Index}
 use Rattle.cc_plan.specs.Archive as archive
 use Rattle.cc_plan.specs.Archive.{paths_of, archiver_of}
 use Rattle.cc_text.specs.Batches.{batches_of}
-use Rattle.cc_plan.specs.Given.{is_disabled}
+use Rattle.cc_flags.specs.Given.{is_disabled}
 use Rattle.cc_plan.specs.Libtool.{is_libtool}
 use Rattle.cc_plan.specs.Plan.{objects_of, library_of, archived_of, archive_refusal, archives_of, indexes_of, lists_of_run, folder_steps, removal_steps, link_lines, run_has_one_form, run_asks_folder, copy_steps}
-use Rattle.cc_plan.specs.Refusal.{first_of, early_refusal, late_refusal, link_refusal}
+use Rattle.cc_plan.specs.Refusal.{early_refusal, late_refusal, link_refusal}
+use Rattle.cc_flags.specs.Given.{first_of}
 use Rattle.cc_plan.specs.declared.error.ArgumentCause.TheVariants.{Output, OutDir, NoFileName, SameObject, LibraryIsObject, LineFeed, Library}
 use Rattle.cc_plan.specs.declared.error.PlanError.{PlanError}
 use Rattle.cc_plan.specs.declared.error.PlanError.TheVariants.{Argument, NotSet, UnknownTarget, QnxArch, Flag, Host, NoMemory as WantsMemory}
 use Rattle.cc_plan.specs.declared.archive.Archiver.{Archiver}
-use Rattle.cc_plan.specs.declared.settings.BuildConfig.{BuildConfig}
+use Rattle.cc_flags.specs.declared.settings.BuildConfig.{BuildConfig}
 use Rattle.cc_text.proofs.BatchLaws.{few}
 use Rattle.cc_build.specs.Error.{ErrorSeen}
 use Rattle.cc_build.specs.Refusal.{plan_error, disabled_error, early_error, late_error, archive_error, link_error, refusal_error}

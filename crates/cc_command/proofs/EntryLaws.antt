@@ -18,8 +18,8 @@ use Rattle.cc_host.specs.declared.event.HostError.{HostError}
 use Rattle.cc_host.specs.declared.event.HostError.TheVariants.{Fault as Faulted, NoMemory as WantsMemory}
 use Rattle.cc_host.specs.declared.event.Role.TheVariants.{Compile, Archive, Index}
 use Rattle.cc_plan.specs.Plan.{archives_of, compile_in, compiles_of, indexes_of, library_of, objects_of, run_has_one_form}
-use Rattle.cc_plan.specs.declared.object.Object.{Object}
-use Rattle.cc_plan.specs.declared.settings.BuildConfig.{BuildConfig}
+use Rattle.cc_flags.specs.declared.object.Object.{Object}
+use Rattle.cc_flags.specs.declared.settings.BuildConfig.{BuildConfig}
 use Rattle.cc_run.specs.Part.{started, started_of}
 use Rattle.cc_run.specs.Planned.{Asked, asked}
 use Rattle.cc_run.specs.declared.planned.Planned.{Planned}

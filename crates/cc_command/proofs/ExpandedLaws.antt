@@ -19,7 +19,7 @@ use Rattle.cc_host.proofs.Parts.{partly_whole}
 use Rattle.cc_plan.specs.Asking.{is_of_children}
 use Rattle.cc_plan.specs.Questions.{PlanAsks}
 use Rattle.cc_plan.specs.Planned.{warnings_of}
-use Rattle.cc_plan.specs.Refusal.{first_of}
+use Rattle.cc_flags.specs.Given.{first_of}
 use Rattle.cc_plan.specs.Reruns.{rerun_names}
 use Rattle.cc_run.specs.Part.{missing, missing_of}
 use Rattle.cc_run.specs.Run.{Run, nothing}

@@ -4,9 +4,9 @@ use Rattle.std.specs.List.{flat_map}
 use Rattle.std.proofs.lemmas.Grind.{flat_map-append}
 use Rattle.std.proofs.lemmas.Slice.Eq.{bytes_eq-Decides}
 use Rattle.cc_text.specs.Cuts.{key_and_value}
-use Rattle.cc_plan.specs.Flags.{is_always, without}
-use Rattle.cc_plan.specs.declared.flags.BuildFlag.{BuildFlag}
-use Rattle.cc_plan.specs.declared.flags.BuildFlag.TheVariants.{Always, IfSupported}
+use Rattle.cc_flags.specs.BuildFlags.{is_always, without}
+use Rattle.cc_flags.specs.declared.build_flags.BuildFlag.{BuildFlag}
+use Rattle.cc_flags.specs.declared.build_flags.BuildFlag.TheVariants.{Always, IfSupported}
 use Rattle.cc_command.specs.Read.{is, by, values, pair_value, is_among, flag_of, flags_of}
 use Rattle.cc_command.specs.Step.{flags_behind}
 

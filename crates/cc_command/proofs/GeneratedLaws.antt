@@ -6,7 +6,7 @@ use Rattle.std.proofs.lemmas.Bool.{false≢true}
 use Rattle.std.proofs.Math.Numerals.{add-one}
 use Rattle.std.proofs.lemmas.List.{map-append, length-append, length-map}
 use Rattle.cc_plan.specs.LibForm.{is_lib, has_one_form}
-use Rattle.cc_plan.specs.ArchiveTool.{is_msvc}
+use Rattle.cc_flags.specs.ArchiveNames.{is_msvc}
 use Rattle.cc_env.specs.Snapshot.{last_value}
 use Rattle.cc_flags.specs.DefaultWords.{is_qnx, is_wasm_linux}
 use Rattle.cc_host.specs.Question.{Look}
@@ -15,11 +15,12 @@ use Rattle.cc_text.specs.Within.{is_within}
 use Rattle.cc_plan.specs.Archive.{archiver_of}
 use Rattle.cc_plan.specs.Libtool.{is_libtool}
 use Rattle.cc_text.specs.Batches.{batches_of}
-use Rattle.cc_plan.specs.Link.{link_lines as lines_of, lines_by, printed_links}
-use Rattle.cc_plan.specs.Names.{is_output_name}
-use Rattle.cc_plan.specs.Object.{object_path}
+use Rattle.cc_plan.specs.Link.{link_lines as lines_of, printed_links}
+use Rattle.cc_flags.specs.LinkLines.{lines_by}
+use Rattle.cc_flags.specs.Names.{is_output_name}
+use Rattle.cc_flags.specs.Object.{object_path}
 use Rattle.cc_plan.specs.Plan.{objects_of, compiles_of, archives_of, indexes_of, link_lines, run_has_one_form}
-use Rattle.cc_plan.specs.Target.{target_info}
+use Rattle.cc_flags.specs.Target.{target_info}
 use Rattle.cc_plan.specs.Valid.{IsNoneOf, AreApart, Valid}
 use Rattle.cc_command.specs.Generated.{gen_source, gen_sources, gen_settings, gen_name, gen_objects, no_variables}
 use Rattle.cc_command.proofs.GeneratedObjects.{source_name, object_injective}

@@ -16,7 +16,7 @@ use Rattle.cc_host.specs.declared.event.Event.TheVariants.{Printed, Fault, Aband
 use Rattle.cc_host.specs.declared.event.HostCall.TheVariants.{Print}
 use Rattle.cc_host.specs.declared.event.LineKind.TheVariants.{Fault as FaultLine}
 use Rattle.cc_jobs.specs.Seats.{Rose}
-use Rattle.cc_plan.specs.declared.settings.BuildConfig.{BuildConfig}
+use Rattle.cc_flags.specs.declared.settings.BuildConfig.{BuildConfig}
 use Rattle.cc_plan.specs.Valid.{Valid}
 use Rattle.cc_plan.proofs.ValidLaws.{early_accepted, late_accepted, archive_accepted, links_accepted}
 use Rattle.cc_run.specs.Part.{missing, missing_of, turns, turns_of}

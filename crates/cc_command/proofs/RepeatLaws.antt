@@ -7,8 +7,9 @@ use Rattle.cc_text.specs.declared.family.ToolFamily.{ToolFamily}
 use Rattle.cc_plan.specs.Compiler.{compiler_of}
 use Rattle.cc_plan.specs.Plan.{plan_warnings, warned_steps}
 use Rattle.cc_plan.specs.Planned.{planned, warnings_of, supported_of}
-use Rattle.cc_plan.specs.Tool.{link_warnings, other_warnings}
-use Rattle.cc_plan.specs.declared.settings.BuildConfig.{BuildConfig}
+use Rattle.cc_plan.specs.Tool.{other_warnings}
+use Rattle.cc_flags.specs.Warnings.{link_warnings}
+use Rattle.cc_flags.specs.declared.settings.BuildConfig.{BuildConfig}
 use Rattle.cc_build.specs.Error.{ErrorSeen}
 use Rattle.cc_build.specs.Stage.{Stage, calls, beside, finding_steps, compiles_planned, compile_stages, later_stages, late_stages, planned_stages}
 use Rattle.cc_build.specs.Way.{Way, Found, Hears, Repeats, all_firsts, writing_of}

@@ -3,9 +3,9 @@ use Rattle.std.proofs.Common.{◌≡◌, ℕ, ◌+◌, ◌<◌, List, [], ◌∷
 use Rattle.std.proofs.lemmas.Grind.{fold-append, take_at_read}
 use Rattle.std.proofs.lemmas.List.{map-append}
 use Rattle.cc_text.specs.Cuts.{key_and_value}
-use Rattle.cc_plan.specs.declared.flags.BuildFlag.{BuildFlag}
-use Rattle.cc_plan.specs.declared.flags.Definition.{Definition}
-use Rattle.cc_plan.specs.declared.settings.BuildConfig.{BuildConfig}
+use Rattle.cc_flags.specs.declared.build_flags.BuildFlag.{BuildFlag}
+use Rattle.cc_flags.specs.declared.build_flags.Definition.{Definition}
+use Rattle.cc_flags.specs.declared.settings.BuildConfig.{BuildConfig}
 use Rattle.cc_build.specs.Build.{BuildSeen}
 use Rattle.cc_command.specs.Read.{is, by, by_either, values, pair_value, latest, latest_truth, latest_choice, latest_nonempty, latest_library, unless_empty, definition_of, variable_of, settings_of, database_in, database_of}
 use Rattle.cc_command.specs.Step.{added, with_pair, with_word}

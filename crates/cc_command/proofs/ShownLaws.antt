@@ -20,7 +20,7 @@ use Rattle.cc_plan.specs.Planned.{tool_of, warnings_of}
 use Rattle.cc_plan.specs.Questions.{PlanAsks, ArchiverAsks, RanlibAsks}
 use Rattle.cc_plan.specs.Refusal.{archiver_refusal, ranlib_refusal}
 use Rattle.cc_plan.specs.Reruns.{rerun_names}
-use Rattle.cc_plan.specs.declared.variables.Reads.{Reads}
+use Rattle.cc_flags.specs.declared.variables.Reads.{Reads}
 use Rattle.cc_run.specs.Run.{Run, run_after, run_from, nothing}
 use Rattle.cc_tool.proofs.Asides.{asked_around, asked_none, none_then}
 use Rattle.cc_tool.proofs.SomeLemmas.{some_agree}

@@ -3,8 +3,8 @@ use Rattle.std.proofs.Common.{◌≡◌, ◌∙◌, refl, sym, ap, ap₂, subst,
 use Rattle.std.specs.List.{flat_map}
 use Rattle.std.proofs.lemmas.Grind.{flat_map-append}
 use Rattle.std.proofs.lemmas.List.{map-append, length-map}
-use Rattle.cc_plan.specs.Target.{target_info}
-use Rattle.cc_plan.specs.ArchiveTool.{is_msvc}
+use Rattle.cc_flags.specs.Target.{target_info}
+use Rattle.cc_flags.specs.ArchiveNames.{is_msvc}
 use Rattle.cc_env.specs.Env.{EnvSeen}
 use Rattle.cc_host.specs.Command.{CommandSeen}
 use Rattle.cc_host.specs.Part.{Step, step_of}
@@ -27,7 +27,7 @@ use Rattle.cc_plan.specs.Plan.{compiles_of, archives_of, indexes_of, archived_of
 use Rattle.cc_plan.specs.Quiet.{quiet_warnings}
 use Rattle.cc_plan.specs.Reruns.{rerun_names}
 use Rattle.cc_plan.specs.declared.archive.Archiver.{Archiver}
-use Rattle.cc_plan.specs.declared.settings.BuildConfig.{BuildConfig}
+use Rattle.cc_flags.specs.declared.settings.BuildConfig.{BuildConfig}
 use Rattle.cc_run.specs.declared.planned.Planned.{Planned}
 use Rattle.cc_build.specs.Attempts.{attempt_of, attempts, to_attempt, all_tried, first_tried, form_tried}
 use Rattle.cc_build.specs.Built.{Built}

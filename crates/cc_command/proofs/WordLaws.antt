@@ -5,7 +5,7 @@ use Rattle.std.specs.Str.Parse.{digits_value}
 use Rattle.std.proofs.lemmas.Fmt.{decimal_is_IsNumeral}
 use Rattle.std.proofs.lemmas.Grind.{take_at_read}
 use Rattle.std.proofs.lemmas.List.{map-append}
-use Rattle.cc_plan.specs.Settings.{unset_settings}
+use Rattle.cc_flags.specs.Settings.{unset_settings}
 use Rattle.cc_build.specs.Build.{BuildSeen}
 use Rattle.cc_command.specs.Read.{bad_at, bad_or, bad_word, first_bad, word_cause, values, settings_of, IsJobOf, is, database_of, wish_by, wish_of, is_count, IsCountOf, IsNumberOf, taken, further, read_named, read_count, read_build, refusal_of}
 use Rattle.cc_command.specs.SetsKey.{ReadsSettings}

@@ -11,7 +11,7 @@ use Rattle.cc_host.specs.declared.event.Event.TheVariants.{Printed, Fault, Liste
 use Rattle.cc_host.specs.declared.event.HostCall.TheVariants.{Print, CurrentDir, Write}
 use Rattle.cc_host.specs.declared.event.LineKind.TheVariants.{Fault as FaultLine}
 use Rattle.cc_host.specs.declared.event.Why.{Why}
-use Rattle.cc_plan.specs.declared.settings.BuildConfig.{BuildConfig}
+use Rattle.cc_flags.specs.declared.settings.BuildConfig.{BuildConfig}
 use Rattle.cc_build.specs.Build.{BuildSeen}
 use Rattle.cc_build.specs.Built.{Built}
 use Rattle.cc_build.specs.Captured.{with_vars, CaptureEnds}

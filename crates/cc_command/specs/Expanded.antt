@@ -16,7 +16,7 @@ use Rattle.cc_host.specs.declared.question.Outcome.{Outcome as Verdicts}
 use Rattle.cc_host.specs.declared.question.Question.{Question}
 use Rattle.cc_plan.specs.Asking.{is_of_children}
 use Rattle.cc_plan.specs.Planned.{tool_of}
-use Rattle.cc_plan.specs.Refusal.{first_of}
+use Rattle.cc_flags.specs.Given.{first_of}
 use Rattle.cc_run.specs.Output.{IsRanTo}
 use Rattle.cc_run.specs.Part.{missing}
 use Rattle.cc_run.specs.declared.planned.Planned.{Planned}

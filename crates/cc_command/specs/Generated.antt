@@ -7,8 +7,8 @@ use Rattle.cc_host.specs.declared.event.Event.{Event}
 use Rattle.cc_hosts.specs.Plain.{IsPlainLog}
 use Rattle.cc_text.specs.Batches.{batches_of}
 use Rattle.cc_plan.specs.Plan.{archived_of}
-use Rattle.cc_plan.specs.Settings.{unset_settings}
-use Rattle.cc_plan.specs.declared.settings.BuildConfig.{BuildConfig}
+use Rattle.cc_flags.specs.Settings.{unset_settings}
+use Rattle.cc_flags.specs.declared.settings.BuildConfig.{BuildConfig}
 use Rattle.cc_run.specs.Part.{turns as turns_of}
 use Rattle.cc_build.specs.Build.{BuildSeen}
 use Rattle.cc_build.specs.Course.{Course, course}

@@ -6,9 +6,9 @@ use Rattle.std.specs.Fmt.{decimal}
 use Rattle.std.specs.List.{flat_map, list_any}
 use Rattle.std.specs.Str.Parse.{digits_value}
 use Rattle.cc_text.specs.Cuts.{key_and_value}
-use Rattle.cc_plan.specs.declared.flags.BuildFlag.{BuildFlag}
-use Rattle.cc_plan.specs.declared.flags.BuildFlag.TheVariants.{Always, IfSupported}
-use Rattle.cc_plan.specs.declared.flags.Definition.{Definition}
+use Rattle.cc_flags.specs.declared.build_flags.BuildFlag.{BuildFlag}
+use Rattle.cc_flags.specs.declared.build_flags.BuildFlag.TheVariants.{Always, IfSupported}
+use Rattle.cc_flags.specs.declared.build_flags.Definition.{Definition}
 use Rattle.cc_build.specs.Build.{BuildSeen}
 use Rattle.cc_command.specs.declared.words.BadWord.{BadWord}
 use Rattle.cc_command.specs.declared.words.WordCause.{WordCause}

@@ -15,8 +15,9 @@ use Rattle.cc_host.specs.declared.question.Question.{Question}
 use Rattle.cc_plan.specs.Archive.{archiver_of, ranlib_cmd_of}
 use Rattle.cc_plan.specs.Asking.{is_of_children}
 use Rattle.cc_plan.specs.Planned.{tool_of}
-use Rattle.cc_plan.specs.Refusal.{first_of, archiver_refusal, ranlib_refusal}
-use Rattle.cc_plan.specs.declared.variables.Reads.{Reads}
+use Rattle.cc_plan.specs.Refusal.{archiver_refusal, ranlib_refusal}
+use Rattle.cc_flags.specs.Given.{first_of}
+use Rattle.cc_flags.specs.declared.variables.Reads.{Reads}
 use Rattle.cc_tool.specs.Asked.{question_events}
 use Rattle.cc_tool.specs.Tool.{ToolSeen, tool_command}
 use Rattle.cc_build.specs.Build.{BuildSeen, AsksByPlan}

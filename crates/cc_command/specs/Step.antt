@@ -1,9 +1,9 @@
 -- What one word more does to the settings.
 use Rattle.std.specs.Prelude.{ℕ, List, [], ◌∷◌, ◌++◌, Option, Some, None, map, if◌then◌else◌}
 use Rattle.cc_text.specs.Cuts.{key_and_value}
-use Rattle.cc_plan.specs.Flags.{without}
-use Rattle.cc_plan.specs.declared.flags.BuildFlag.{BuildFlag}
-use Rattle.cc_plan.specs.declared.flags.BuildFlag.TheVariants.{Always, IfSupported}
+use Rattle.cc_flags.specs.BuildFlags.{without}
+use Rattle.cc_flags.specs.declared.build_flags.BuildFlag.{BuildFlag}
+use Rattle.cc_flags.specs.declared.build_flags.BuildFlag.TheVariants.{Always, IfSupported}
 use Rattle.cc_build.specs.Build.{BuildSeen}
 use Rattle.cc_command.specs.Read.{is, by, by_either, value_of, latest, latest_truth, latest_choice, latest_nonempty, latest_library, definition_of, variable_of}
 

@@ -1,3 +1,10 @@
+pub mod BeforeLemmas
+pub mod CompilationLemmas
+pub mod CutTextLemmas
 pub mod DashLemmas
 pub mod FlagLemmas
 pub mod PairLemmas
+pub mod PredefineLemmas
+pub mod SupportedLemmas
+pub mod VariableLemmas
+pub mod WordLemmas

@@ -1,7 +1,7 @@
 -- The fields that pairs give: each is made from the last pair of its keys, and the features from all pairs in order.
-use Rattle.std.specs.Prelude.{ℕ, Bool, true, false, List, [], ◌∷◌, ◌==◌, ◌^◌, Option, Some, None, map, find, reverse, flat_map, codes, length, nat_lt, is_none, is_some, unwrap_or, ◌&&◌, ◌||◌, if◌then◌else◌}
+use Rattle.std.specs.Prelude.{ℕ, Bool, true, false, List, [], ◌∷◌, ◌==◌, Option, Some, None, map, find, reverse, flat_map, codes, length, nat_lt, is_none, is_some, unwrap_or, ◌&&◌, ◌||◌, if◌then◌else◌}
 use Rattle.std.specs.Option.{option_map, option_and_then}
-use Rattle.std.specs.List.{list_all, filter, slice_split}
+use Rattle.std.specs.List.{filter, slice_split}
 use Rattle.cc_text.specs.Numbers.{u32_of}
 use Prim.Native.String.{String}
 use Rattle.cc_text.specs.Words.{when, is_one_of}

@@ -4,11 +4,10 @@ use Rattle.std.specs.List.{flat_map, list_any, slice_split}
 use Rattle.cc_env.specs.Snapshot.{last_value}
 use Rattle.cc_text.specs.Pieces.{has_bytes}
 use Rattle.cc_text.specs.Quoted.{quoted}
-use Rattle.cc_text.specs.Words.{when}
+use Rattle.cc_text.specs.Words.{when, is_among}
 use Rattle.cc_text.specs.declared.family.ToolFamily.{ToolFamily}
 use Rattle.cc_flags.specs.declared.maps.Maps.{Maps}
 use Rattle.cc_text.specs.Families.{is_cl, is_clang_cl}
-use Rattle.cc_text.specs.Words.{is_among}
 use Rattle.cc_flags.specs.Texts.{is}
 
 abbrev pub no_maps : Maps

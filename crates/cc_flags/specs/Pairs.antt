@@ -1,7 +1,7 @@
 -- Rustflags as a list of pairs of a key and its value.
 use Rattle.std.specs.Prelude.{ℕ, Bool, List, [], ◌∷◌, ◌++◌, ◌==◌, Option, Some, None, map, codes, bytes_eq, if◌then◌else◌}
 use Rattle.std.specs.Option.{option_map_or}
-use Rattle.std.specs.List.{list_any, slice_split}
+use Rattle.std.specs.List.{slice_split}
 use Prim.Native.String.{String}
 use Rattle.cc_text.specs.Words.{is_one_of}
 use Rattle.cc_text.specs.Cuts.{after_prefix, key_and_value}

@@ -1,6 +1,6 @@
 -- Tests of a text against a literal. Case counts.
 use Rattle.std.specs.Prelude.{ℕ, Bool, nat_eq, List, [], ◌∷◌, codes, bytes_eq}
-use Rattle.std.specs.List.{starts_with, list_any}
+use Rattle.std.specs.List.{starts_with}
 use Rattle.cc_text.specs.Within.{is_within}
 use Prim.Native.String.{String}
 

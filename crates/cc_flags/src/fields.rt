@@ -1,6 +1,6 @@
 // The fields that pairs give: rustc's book, "Codegen Options", says of each option which values it takes. Of
 // several pairs with one key the last counts.
-ghost use Rattle.std.specs.Prelude.{◌≡◌, ◌++◌, IfOk, OnOk, find, flat_map, filter};
+ghost use Rattle.std.specs.Prelude.{◌≡◌, ◌++◌, IfOk, OnOk};
 ghost use Rattle.std.specs.Option.{option_copied};
 ghost use Rattle.cc_text.specs.Words.{texts};
 ghost use Rattle.cc_flags.specs.Fields.{is_yes, is_no, truth_of, last_of, is_given, text_of, text_or_true_of, switch, switch_of, is_on, plugin_of, number_in, number_of, feature_names, features_in, features_of, needs_text, is_invalid, invalid_pair};

@@ -1,7 +1,6 @@
 // The words that the Visual Studio compilers take for a target and an optimisation level: Microsoft's page "MSVC
 // Compiler Options", and a page of its own for each; `-` stands for `/`, which both drivers read so.
 ghost use Rattle.std.specs.Prelude.{◌≡◌, ◌++◌, OnOk};
-ghost use Rattle.std.specs.Option.{option_copied};
 ghost use Rattle.cc_target.specs.Targets.{info_seen};
 ghost use Rattle.cc_flags.specs.VisualStudioWords as spec;
 

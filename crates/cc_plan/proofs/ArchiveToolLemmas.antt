@@ -5,22 +5,23 @@ use Rattle.cc_env.specs.Snapshot.{child_of}
 use Rattle.cc_host.specs.Question.{Look, Answer, Settles, Holds}
 use Rattle.cc_host.specs.declared.question.Question.{Question}
 use Rattle.cc_tool.proofs.SettleLemmas.{settles_so}
-use Rattle.cc_plan.specs.ArchiveTool.{llvm_name, version_question, plain_name, gcc_name, set_program, variable_tool}
+use Rattle.cc_plan.specs.ArchiveTool.{version_question, variable_tool}
+use Rattle.cc_flags.specs.ArchiveNames.{llvm_name, plain_name, gcc_name, set_program}
 use Rattle.cc_plan.specs.Choice.{choice_of, cross_prefix}
-use Rattle.cc_plan.specs.Given.{target_of}
+use Rattle.cc_flags.specs.Given.{target_of}
 use Rattle.cc_plan.specs.Compiler.{compiler_of}
 use Rattle.cc_plan.specs.Questions.{IsForAndroid, IsForWasm, IsForStudio, IsOnBeside, ToolAsks, SearchAsks, BesideAsks, ArchiveToolAsks, ArchiverAsks, RanlibAsks, NameAsks}
-use Rattle.cc_plan.specs.declared.compiler.Compiler.{Compiler}
+use Rattle.cc_flags.specs.declared.compiler.Compiler.{Compiler}
 use Rattle.cc_plan.specs.Refusal.{target_refusal, qnx_arch_refusal, found_refusal, known_refusal, choice_refusal, look_up_refusal, archive_tool_refusal}
 use Rattle.cc_plan.specs.Searched.{search_question}
-use Rattle.cc_plan.specs.Target.{target_info}
-use Rattle.cc_plan.specs.declared.archive_tool.ArchiveTool.{ArchiveTool}
-use Rattle.cc_plan.specs.declared.archive_tool.ArchiveTool.TheVariants.{Archiver, Ranlib}
-use Rattle.cc_plan.specs.declared.choice.Choice.{Choice}
+use Rattle.cc_flags.specs.Target.{target_info}
+use Rattle.cc_flags.specs.declared.archive_names.ArchiveTool.{ArchiveTool}
+use Rattle.cc_flags.specs.declared.archive_names.ArchiveTool.TheVariants.{Archiver, Ranlib}
+use Rattle.cc_flags.specs.declared.choice.Choice.{Choice}
 use Rattle.cc_plan.specs.declared.error.PlanError.{PlanError}
 use Rattle.cc_plan.specs.declared.error.PlanError.TheVariants.{NoMemory as WantsMemory}
-use Rattle.cc_plan.specs.declared.settings.BuildConfig.{BuildConfig}
-use Rattle.cc_plan.specs.declared.variables.Reads.{Reads}
+use Rattle.cc_flags.specs.declared.settings.BuildConfig.{BuildConfig}
+use Rattle.cc_flags.specs.declared.variables.Reads.{Reads}
 
 -- what finds the archiver is what its plan asks
 pub archiver_asks : (set : BuildConfig) (env : EnvSeen) (look : Look) (q : Question) → ArchiveToolAsks Archiver set env look q → ArchiverAsks set env look q

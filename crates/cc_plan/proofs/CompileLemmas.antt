@@ -7,15 +7,16 @@ use Rattle.cc_tool.specs.Tool.{ToolSeen, tool_command}
 use Rattle.cc_env.specs.Env.{EnvSeen}
 use Rattle.cc_host.specs.Question.{Look}
 use Rattle.cc_text.specs.declared.family.ToolFamily.{ToolFamily}
-use Rattle.cc_plan.specs.Assembler.{want_assembler, wanted_assembler}
+use Rattle.cc_plan.specs.Assembler.{wanted_assembler}
+use Rattle.cc_flags.specs.AssemblerWords.{want_assembler}
 use Rattle.cc_plan.specs.Compile.{with_object, begun_with, compile_of, compiles_of}
-use Rattle.cc_plan.specs.CompileWords.{is_masm}
-use Rattle.cc_plan.specs.Object.{object_of, objects_of}
+use Rattle.cc_flags.specs.CompileWords.{is_masm}
+use Rattle.cc_flags.specs.Object.{object_of, objects_of}
 use Rattle.cc_plan.specs.Plan as plan
 use Rattle.cc_plan.specs.Planned.{tool_of}
-use Rattle.cc_plan.specs.Target.{target_info}
-use Rattle.cc_plan.specs.declared.object.Object.{Object}
-use Rattle.cc_plan.specs.declared.settings.BuildConfig.{BuildConfig}
+use Rattle.cc_flags.specs.Target.{target_info}
+use Rattle.cc_flags.specs.declared.object.Object.{Object}
+use Rattle.cc_flags.specs.declared.settings.BuildConfig.{BuildConfig}
 
 either_of : {X Y : Type 0} (f : X → Y) (b : Bool) (x y : X) → (if b then f x else f y) ≡ f (if b then x else y)
 either_of f true x y = refl

@@ -7,20 +7,23 @@ use Rattle.std.specs.Option.{option_map, option_and_then}
 use Rattle.cc_flags.specs.Fields.{refusal_of as flags_refusal}
 use Rattle.cc_flags.specs.declared.error.FlagError.{FlagError}
 use Rattle.cc_flags.specs.declared.error.FlagError.TheVariants.{InvalidFlag, NoMemory as FlagMemory}
-use Rattle.cc_plan.specs.Inherited.{inherited_refusal, inherited_text, plan_refusal}
+use Rattle.cc_flags.specs.Inherited.{inherited_text}
+use Rattle.cc_plan.specs.Checks.{inherited_refusal, plan_refusal}
 use Rattle.cc_plan.specs.Asking.{IsOwn}
 use Rattle.cc_flags.specs.DefaultWords.{lacks_qnx_variant, is_wasm_linux}
-use Rattle.cc_plan.specs.Given.{target_of, host_of, level_of, has_no_defaults}
-use Rattle.cc_plan.specs.Compilation.{CompilationSeen, compilation_of}
-use Rattle.cc_plan.specs.Refusal.{first_of, unset, target_refusal, given_refusal, refusal_by}
+use Rattle.cc_flags.specs.Given.{target_of, host_of, level_of, has_no_defaults}
+use Rattle.cc_flags.specs.Compilation.{CompilationSeen, compilation_of}
+use Rattle.cc_plan.specs.Refusal.{unset, target_refusal, given_refusal, refusal_by}
+use Rattle.cc_flags.specs.Given.{first_of}
 use Rattle.cc_plan.specs.FlagSupport.{question_refusal, verdict_refusal}
 use Rattle.cc_plan.specs.Support.{is_for_linker, plain_of}
 use Rattle.cc_plan.specs.Tool.{defaults_refusal_by}
-use Rattle.cc_plan.specs.ToolWords.{qnx_refusal, sysroot_refusal, first_refusal, clang_refusal, defaults_refusal, musl_sysroot, names_target}
-use Rattle.cc_plan.specs.declared.compiler.Compiler.{Compiler}
+use Rattle.cc_flags.specs.ToolWords.{musl_sysroot, names_target}
+use Rattle.cc_plan.specs.Checks.{qnx_refusal, sysroot_refusal, first_refusal, clang_refusal, defaults_refusal}
+use Rattle.cc_flags.specs.declared.compiler.Compiler.{Compiler}
 use Rattle.cc_plan.specs.declared.error.PlanError.{PlanError}
 use Rattle.cc_plan.specs.declared.error.PlanError.TheVariants.{NotSet, UnknownTarget, QnxArch, NoMemory as WantsMemory}
-use Rattle.cc_plan.specs.declared.settings.BuildConfig.{BuildConfig}
+use Rattle.cc_flags.specs.declared.settings.BuildConfig.{BuildConfig}
 
 abbrev AreOwn : Option PlanError → Type 0
 AreOwn None = Unit {0}

@@ -11,17 +11,17 @@ use Rattle.cc_tool.proofs.SettleLemmas.{settles_on}
 use Rattle.cc_plan.specs.Android.{starts_question}
 use Rattle.cc_plan.specs.Choice.{choice_of}
 use Rattle.cc_target.specs.Targets.{Info}
-use Rattle.cc_plan.proofs.CompilationLemmas.{with_target}
-use Rattle.cc_plan.specs.Compilation.{CompilationSeen, compilation_of}
+use Rattle.cc_flags.proofs.CompilationLemmas.{with_target}
+use Rattle.cc_flags.specs.Compilation.{CompilationSeen, compilation_of}
 use Rattle.cc_plan.specs.Compiler.{compiler_of}
 use Rattle.cc_plan.specs.FlagSupport.{found}
 use Rattle.cc_plan.specs.Planned.{planned}
 use Rattle.cc_plan.specs.Questions.{IsAndroidCompiler, ToolAsks, FlagAsks, WordAsks, PlanAsks, SupportAsks}
 use Rattle.cc_plan.specs.Support.{bare_compiler, bare_of, flag_question}
-use Rattle.cc_plan.specs.ToolWords.{asked_words}
-use Rattle.cc_plan.specs.declared.choice.Choice.{Choice}
-use Rattle.cc_plan.specs.declared.compiler.Compiler.{Compiler}
-use Rattle.cc_plan.specs.declared.settings.BuildConfig.{BuildConfig}
+use Rattle.cc_flags.specs.ToolWords.{asked_words}
+use Rattle.cc_flags.specs.declared.choice.Choice.{Choice}
+use Rattle.cc_flags.specs.declared.compiler.Compiler.{Compiler}
+use Rattle.cc_flags.specs.declared.settings.BuildConfig.{BuildConfig}
 
 -- ---- what finds the compiler
 

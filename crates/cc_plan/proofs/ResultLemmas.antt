@@ -8,10 +8,10 @@ use Rattle.cc_plan.specs.Compiler.{compiler_of}
 use Rattle.cc_plan.specs.Plan.{compiles_of, plan_warnings}
 use Rattle.cc_plan.specs.Planned.{warnings_of}
 use Rattle.cc_plan.specs.Refusal.{given_refusal, refusal_by, tool_refusal, platform_refusal, late_refusal, is_empty}
-use Rattle.cc_plan.specs.declared.compiler.Compiler.{Compiler}
+use Rattle.cc_flags.specs.declared.compiler.Compiler.{Compiler}
 use Rattle.cc_plan.specs.declared.error.PlanError.{PlanError}
 use Rattle.cc_plan.specs.declared.error.PlanError.TheVariants.{NoMemory as WantsMemory}
-use Rattle.cc_plan.specs.declared.settings.BuildConfig.{BuildConfig}
+use Rattle.cc_flags.specs.declared.settings.BuildConfig.{BuildConfig}
 
 pub ok_so : {T E : Type 0} {P Q : T → Type 0} (r : Result T E) → IfOk r P → ((x : T) → P x → Q x) → IfOk r Q
 ok_so (Ok x) h so = so x h

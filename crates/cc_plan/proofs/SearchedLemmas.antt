@@ -7,16 +7,16 @@ use Rattle.cc_host.specs.declared.question.Question.{Question}
 use Rattle.cc_target.specs.Targets.{Info}
 use Rattle.cc_text.specs.Families.{is_clang_cl}
 use Rattle.cc_text.specs.declared.family.ToolFamily.{ToolFamily}
-use Rattle.cc_plan.specs.Assembler.{want_assembler}
+use Rattle.cc_flags.specs.AssemblerWords.{want_assembler}
 use Rattle.cc_plan.specs.Compiler.{compiler_of}
 use Rattle.cc_plan.specs.Planned.{tool_of}
 use Rattle.cc_plan.specs.Questions.{ToolAsks, PlanAsks, IsOnBeside, SearchAsks, BesideAsks, WantedAsks, CompileAsks, NameAsks}
 use Rattle.cc_plan.specs.Reruns.{plans_assembler}
 use Rattle.cc_plan.specs.Searched.{search_question}
-use Rattle.cc_plan.specs.Target.{target_info}
-use Rattle.cc_plan.specs.declared.compiler.Compiler.{Compiler}
-use Rattle.cc_plan.specs.declared.settings.BuildConfig.{BuildConfig}
-use Rattle.cc_plan.specs.declared.variables.Reads.{Reads}
+use Rattle.cc_flags.specs.Target.{target_info}
+use Rattle.cc_flags.specs.declared.compiler.Compiler.{Compiler}
+use Rattle.cc_flags.specs.declared.settings.BuildConfig.{BuildConfig}
+use Rattle.cc_flags.specs.declared.variables.Reads.{Reads}
 use Rattle.cc_tool.specs.Tool.{ToolSeen}
 use Rattle.cc_plan.proofs.QuestionLemmas.{tool_for_plan}
 

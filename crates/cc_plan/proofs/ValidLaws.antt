@@ -14,25 +14,30 @@ use Rattle.cc_flags.specs.Pairs.{pairs_of}
 use Rattle.cc_flags.specs.declared.pairs.Pair.{Pair}
 use Rattle.cc_target.specs.Targets.{Info}
 use Rattle.cc_plan.specs.Archive.{archiver_of}
-use Rattle.cc_plan.specs.ArchiveTool.{qnx_arch, lacks_qnx_arch, variable_tool}
-use Rattle.cc_plan.specs.Compilation.{CompilationSeen}
-use Rattle.cc_plan.specs.Given.{out_dir_of, target_of, host_of, level_of, has_no_defaults}
-use Rattle.cc_plan.specs.Inherited.{inherited_text, inherited_refusal, plan_refusal}
+use Rattle.cc_plan.specs.ArchiveTool.{variable_tool}
+use Rattle.cc_flags.specs.ArchiveNames.{qnx_arch, lacks_qnx_arch}
+use Rattle.cc_flags.specs.Compilation.{CompilationSeen}
+use Rattle.cc_flags.specs.Given.{out_dir_of, target_of, host_of, level_of, has_no_defaults}
+use Rattle.cc_flags.specs.Inherited.{inherited_text}
+use Rattle.cc_plan.specs.Checks.{inherited_refusal, plan_refusal}
 use Rattle.cc_plan.specs.Libtool.{list_refusal}
 use Rattle.cc_plan.specs.Plan.{archived_of, archive_refusal}
 use Rattle.cc_plan.specs.Planned.{planned, defaults_refusal_of}
-use Rattle.cc_plan.specs.Target.{target_info}
+use Rattle.cc_flags.specs.Target.{target_info}
 use Rattle.cc_plan.specs.Tool.{defaults_refusal_by}
-use Rattle.cc_plan.specs.ToolWords.{first_refusal, names_target, musl_sysroot, qnx_refusal, sysroot_refusal, clang_refusal, defaults_refusal}
-use Rattle.cc_plan.specs.declared.archive_tool.ArchiveTool.TheVariants.{Archiver}
+use Rattle.cc_flags.specs.ToolWords.{names_target, musl_sysroot}
+use Rattle.cc_plan.specs.Checks.{first_refusal, qnx_refusal, sysroot_refusal, clang_refusal, defaults_refusal}
+use Rattle.cc_flags.specs.declared.archive_names.ArchiveTool.TheVariants.{Archiver}
 use Rattle.cc_plan.specs.declared.error.PlanError.{PlanError}
 use Rattle.cc_plan.specs.declared.error.PlanError.TheVariants.{QnxArch, NotSet}
-use Rattle.cc_plan.specs.Refusal.{place_from, earlier_place, source_refusal, sources_after, out_dir_refusal, unset, target_refusal, platform_refusal, given_refusal, refusal_by, tool_refusal, intermediate_refusal, early_refusal, late_refusal, object_in, library_in, is_empty, archiver_refusal, links_cpp, musl_variable, cpp_refusal, link_refusal, qnx_arch_refusal, found_refusal, known_refusal, choice_refusal, look_up_refusal, first_of}
+use Rattle.cc_plan.specs.Refusal.{place_from, earlier_place, source_refusal, sources_after, out_dir_refusal, unset, target_refusal, platform_refusal, given_refusal, refusal_by, tool_refusal, intermediate_refusal, early_refusal, late_refusal, object_in, library_in, is_empty, archiver_refusal, musl_variable, cpp_refusal, link_refusal, qnx_arch_refusal, found_refusal, known_refusal, choice_refusal, look_up_refusal}
+use Rattle.cc_flags.specs.Given.{first_of}
+use Rattle.cc_flags.specs.StdlibLines.{links_cpp}
 use Rattle.cc_plan.specs.Added.{added_refusal}
 use Rattle.cc_plan.proofs.AddedLaws.{added_accepted}
 use Rattle.cc_plan.proofs.LibtoolLaws.{list_accepted}
 use Rattle.cc_plan.specs.Valid.{IsNoneOf, AreApart, IsKnown, IsSetNonempty, HasVariant, HasSysroot, Parse, Valid}
-use Rattle.cc_plan.specs.declared.settings.BuildConfig.{BuildConfig}
+use Rattle.cc_flags.specs.declared.settings.BuildConfig.{BuildConfig}
 
 differs : (xs ys : List ℕ) → xs ≢ ys → bytes_eq xs ys ≡ false
 differs xs ys apart =

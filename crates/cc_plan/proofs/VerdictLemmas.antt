@@ -4,14 +4,14 @@ use Rattle.cc_env.specs.Env.{EnvSeen}
 use Rattle.cc_host.specs.Question.{Answer, Settles}
 use Rattle.cc_host.specs.declared.question.Verdict.{Verdict}
 use Rattle.cc_tool.proofs.SettleLemmas.{settles_so, settles_two}
-use Rattle.cc_plan.specs.Compilation.{compilation_of}
+use Rattle.cc_flags.specs.Compilation.{compilation_of}
 use Rattle.cc_plan.specs.FlagSupport.{found, verdict_on, verdict_refusal, flag_verdict, support_refusal}
-use Rattle.cc_plan.specs.Given.{target_of}
+use Rattle.cc_flags.specs.Given.{target_of}
 use Rattle.cc_plan.specs.Refusal.{target_refusal}
-use Rattle.cc_plan.specs.declared.compiler.Compiler.{Compiler}
+use Rattle.cc_flags.specs.declared.compiler.Compiler.{Compiler}
 use Rattle.cc_plan.specs.declared.error.PlanError.{PlanError}
 use Rattle.cc_plan.specs.declared.error.PlanError.TheVariants.{NoMemory as WantsMemory}
-use Rattle.cc_plan.specs.declared.settings.BuildConfig.{BuildConfig}
+use Rattle.cc_flags.specs.declared.settings.BuildConfig.{BuildConfig}
 
 -- the compiler, and the one that is asked
 abbrev pub Found : List Answer → BuildConfig → EnvSeen → Compiler → Compiler → Type 0

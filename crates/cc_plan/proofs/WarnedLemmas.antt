@@ -14,7 +14,7 @@ use Rattle.cc_plan.specs.Asking.{Gives, Warned, EndsWarning, IsNotice, IsPrintFa
 use Rattle.cc_plan.specs.Plan.{warning_steps, warned_steps}
 use Rattle.cc_plan.specs.declared.error.PlanError.{PlanError}
 use Rattle.cc_plan.specs.declared.error.PlanError.TheVariants.{Argument, NotSet, UnknownTarget, QnxArch, Flag, Host, NoMemory}
-use Rattle.cc_plan.specs.declared.settings.BuildConfig.{BuildConfig}
+use Rattle.cc_flags.specs.declared.settings.BuildConfig.{BuildConfig}
 
 -- the host was given one thing
 pub gives_whole : {X : Type 0} (call : HostCall) (step : Step) (event : Event) (part : List Event) (x : X) → step_of event ≡ step ∷ [] → stop_of event ≡ [] → Gives call event part (Ok x) → IsWhole (step ∷ []) part

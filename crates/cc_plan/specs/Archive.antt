@@ -6,16 +6,17 @@ use Rattle.cc_env.specs.Snapshot.{child_of}
 use Rattle.cc_host.specs.Command.{CommandSeen}
 use Rattle.cc_host.specs.Question.{Look}
 use Rattle.cc_target.specs.Targets.{Info}
-use Rattle.cc_plan.specs.ArchiveTool.{archive_tool, is_msvc}
+use Rattle.cc_plan.specs.ArchiveTool.{archive_tool}
+use Rattle.cc_flags.specs.ArchiveNames.{is_msvc}
 use Rattle.cc_text.specs.Batches.{batches_of}
-use Rattle.cc_plan.specs.Given.{variable_flags}
+use Rattle.cc_flags.specs.Given.{variable_flags}
 use Rattle.cc_plan.specs.LibForm.{folder_of, is_lib, lib_words, members_of, runs_in_folder}
 use Rattle.cc_plan.specs.Libtool.{is_libtool, libtool_words}
 use Rattle.cc_plan.specs.declared.archive.Archiver.{Archiver}
-use Rattle.cc_plan.specs.declared.archive_tool.ArchiveTool.TheVariants.{Archiver as ForMembers, Ranlib as ForIndex}
-use Rattle.cc_plan.specs.declared.choice.Choice.{Choice}
-use Rattle.cc_plan.specs.declared.object.Object.{Object}
-use Rattle.cc_plan.specs.declared.settings.BuildConfig.{BuildConfig}
+use Rattle.cc_flags.specs.declared.archive_names.ArchiveTool.TheVariants.{Archiver as ForMembers, Ranlib as ForIndex}
+use Rattle.cc_flags.specs.declared.choice.Choice.{Choice}
+use Rattle.cc_flags.specs.declared.object.Object.{Object}
+use Rattle.cc_flags.specs.declared.settings.BuildConfig.{BuildConfig}
 
 abbrev pub paths_of : List Object → List (List ℕ)
 paths_of objects = map (λ o. o.dst) objects

@@ -1,94 +1,26 @@
 -- The tools of archives, the archiver and the one that writes their index, and how they are found: one table, in which each has its own name.
-use Rattle.std.specs.Prelude.{ℕ, Bool, ◌&&◌, ◌||◌, List, [], ◌∷◌, ◌++◌, Option, Some, None, is_none, unwrap_or, codes, if◌then◌else◌}
-use Rattle.std.specs.Option.{option_map, option_or}
+use Rattle.std.specs.Prelude.{ℕ, Bool, List, [], Option, Some, None, unwrap_or, codes, if◌then◌else◌}
+use Rattle.std.specs.Option.{option_or}
 use Rattle.cc_env.specs.Env.{EnvSeen}
 use Rattle.cc_env.specs.Snapshot.{child_of}
-use Rattle.cc_flags.specs.DefaultWords.{is_qnx}
 use Rattle.cc_flags.specs.Texts.{is}
 use Rattle.cc_host.specs.Question.{Look, is_yes}
 use Rattle.cc_host.specs.declared.question.Ask.TheVariants.{ToolVersion}
 use Rattle.cc_host.specs.declared.question.Question.{Question}
-use Rattle.cc_target.specs.Targets.{Info}
 use Rattle.cc_text.specs.Families.{is_clang}
-use Rattle.cc_text.specs.Words.{when}
 use Rattle.cc_tool.specs.Family.{question}
-use Rattle.cc_plan.specs.Android.{replaced}
 use Rattle.cc_plan.specs.Beside.{beside}
-use Rattle.cc_plan.specs.Choice.{bare, cross_prefix, is_wasm}
+use Rattle.cc_plan.specs.Choice.{cross_prefix}
+use Rattle.cc_flags.specs.Compilers.{bare, is_wasm}
 use Rattle.cc_plan.specs.Compiler.{compiler_of}
 use Rattle.cc_plan.specs.EnvTool.{env_tool}
 use Rattle.cc_plan.specs.Searched.{searched}
-use Rattle.cc_plan.specs.Target.{target_info, target_name}
-use Rattle.cc_plan.specs.declared.archive_tool.ArchiveTool.{ArchiveTool}
-use Rattle.cc_plan.specs.declared.archive_tool.ArchiveTool.TheVariants.{Archiver, Ranlib}
-use Rattle.cc_plan.specs.declared.choice.Choice.{Choice}
-use Rattle.cc_plan.specs.declared.compiler.Compiler.{Compiler}
-use Rattle.cc_plan.specs.declared.settings.BuildConfig.{BuildConfig}
-
--- its name
-abbrev pub tool_name : ArchiveTool → List ℕ
-tool_name Archiver = codes "ar"
-tool_name Ranlib = codes "ranlib"
-
--- the variable that names it
-abbrev pub tool_variable : ArchiveTool → List ℕ
-tool_variable Archiver = codes "AR"
-tool_variable Ranlib = codes "RANLIB"
-
--- the one that the settings name
-abbrev pub set_program : ArchiveTool → BuildConfig → Option (List ℕ)
-set_program Archiver set = set.archiver
-set_program Ranlib set = set.ranlib
-
--- ---- names
-
--- its name behind a text
-abbrev pub behind : List ℕ → ArchiveTool → List ℕ
-behind front tool = front ++ tool_name tool
-
--- that of LLVM
-abbrev pub llvm_name : ArchiveTool → List ℕ
-llvm_name tool = behind (codes "llvm-") tool
-
--- that of the GNU tools behind a prefix, and GCC's own there
-abbrev pub plain_name : ArchiveTool → List ℕ → List ℕ
-plain_name tool prefix = behind (prefix ++ codes "-") tool
-
-abbrev pub gcc_name : ArchiveTool → List ℕ → List ℕ
-gcc_name tool prefix = behind (prefix ++ codes "-gcc-") tool
-
--- that of older kits for Android: behind the target's name, where Arm has no version
-abbrev pub android_name : ArchiveTool → List ℕ → List ℕ
-android_name tool name = plain_name tool (replaced (codes "armv7") (codes "arm") name)
-
--- the target is one of Visual Studio
-abbrev pub is_msvc : Info → Bool
-is_msvc target = is target.env "msvc"
-
--- the architecture as the names of QNX's tools have it
-unfoldable pub qnx_arch : Info → Option (List ℕ)
-qnx_arch target =
-    if is target.full_arch "i686" || is target.full_arch "i586" then Some (codes "x86")
-    else (if is target.full_arch "x86" || is target.full_arch "aarch64" || is target.full_arch "x86_64" then Some target.arch
-    else None)
-
-abbrev pub qnx_name : ArchiveTool → List ℕ → List ℕ
-qnx_name tool arch = plain_name tool (codes "nto" ++ arch)
-
-abbrev pub qnx_tool : ArchiveTool → Info → Option (List ℕ)
-qnx_tool tool target = option_map (qnx_name tool) (qnx_arch target)
-
--- QNX on an architecture for which its tools have no name
-unfoldable pub lacks_qnx_arch : Info → Bool
-lacks_qnx_arch target = is_qnx target && is_none (qnx_arch target)
-
--- that of a system that has its own
-unfoldable pub system_name : ArchiveTool → Info → Option (List ℕ)
-system_name tool target =
-    if is target.os "illumos" then Some (behind (codes "g") tool)
-    else (if is target.os "vxworks" then Some (behind (codes "wr-") tool)
-    else (if is_qnx target then qnx_tool tool target
-    else None))
+use Rattle.cc_flags.specs.Target.{target_info, target_name}
+use Rattle.cc_flags.specs.declared.archive_names.ArchiveTool.{ArchiveTool}
+use Rattle.cc_flags.specs.declared.choice.Choice.{Choice}
+use Rattle.cc_flags.specs.declared.compiler.Compiler.{Compiler}
+use Rattle.cc_flags.specs.declared.settings.BuildConfig.{BuildConfig}
+use Rattle.cc_flags.specs.ArchiveNames.{android_name, behind, gcc_name, is_msvc, llvm_name, machine_words, plain_name, set_program, system_name, tool_name, tool_variable}
 
 -- ---- questions
 
@@ -184,10 +116,6 @@ wasm_or_target tool set env look = unwrap_or (wasm_tool tool set env look) (targ
 -- the one where neither settings nor environment name one
 abbrev pub own_tool : ArchiveTool → BuildConfig → EnvSeen → Look → List ℕ
 own_tool tool set env look = if is (target_info set env).os "emscripten" then behind (codes "em") tool else wasm_or_target tool set env look
-
--- Microsoft's is told of the architecture that mixes the two instruction sets of Windows on Arm
-unfoldable pub machine_words : Info → List ℕ → List (List ℕ)
-machine_words target path = when (is target.full_arch "arm64ec" && is path "lib.exe") (codes "/machine:arm64ec" ∷ [])
 
 -- the same with its words
 abbrev pub own_choice : ArchiveTool → BuildConfig → EnvSeen → Look → Choice

@@ -19,15 +19,15 @@ use Rattle.cc_tool.specs.Asks.{Asks}
 use Rattle.cc_tool.specs.Own.{AnswersAmong}
 use Rattle.cc_plan.specs.Choice.{choice_of, cross_prefix}
 use Rattle.cc_plan.specs.Questions.{ToolAsks, PlanAsks, SearchAsks, BesideAsks, WantedAsks, CompileAsks, ArchiveToolAsks, ArchiverAsks, RanlibAsks, NameAsks, LinkAsks, SupportAsks}
-use Rattle.cc_plan.specs.declared.archive_tool.ArchiveTool.{ArchiveTool}
-use Rattle.cc_plan.specs.declared.assembly.Assembly.{Assembly}
-use Rattle.cc_plan.specs.declared.choice.Choice.{Choice}
-use Rattle.cc_plan.specs.declared.compilation.Inputs.{Inputs}
+use Rattle.cc_flags.specs.declared.archive_names.ArchiveTool.{ArchiveTool}
+use Rattle.cc_flags.specs.declared.assembly.Assembly.{Assembly}
+use Rattle.cc_flags.specs.declared.choice.Choice.{Choice}
+use Rattle.cc_flags.specs.declared.compilation.Inputs.{Inputs}
 use Rattle.cc_plan.specs.declared.error.PlanError.{PlanError}
 use Rattle.cc_plan.specs.declared.error.PlanError.TheVariants.{Host, NoMemory}
-use Rattle.cc_plan.specs.declared.settings.BuildConfig.{BuildConfig}
+use Rattle.cc_flags.specs.declared.settings.BuildConfig.{BuildConfig}
 use Rattle.cc_plan.specs.declared.sight.Sight.{Sight}
-use Rattle.cc_plan.specs.declared.variables.Reads.{Reads}
+use Rattle.cc_flags.specs.declared.variables.Reads.{Reads}
 
 -- A call asks, and does nothing else: its host, its answers and its folder are those that it was lent, log and answers went on by its questions,
 -- whose probe files are in the folder, and the host is as patient as before. Whichever verdicts agree with its answers, each question is one that is

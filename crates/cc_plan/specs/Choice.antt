@@ -1,28 +1,19 @@
 -- The choice of the compiler: the set one, else that of the environment, else the one that the target wants.
-use Rattle.std.specs.Prelude.{ℕ, Bool, true, false, ◌||◌, List, [], ◌++◌, Option, Some, None, unwrap_or, option_and_then, codes, if◌then◌else◌}
-use Rattle.std.specs.Option.{option_map_or}
-use Rattle.std.specs.Path.{path_join}
+use Rattle.std.specs.Prelude.{ℕ, Bool, List, [], Option, Some, None, unwrap_or, option_and_then, codes, if◌then◌else◌}
 use Rattle.cc_env.specs.Env.{EnvSeen, overridable}
 use Rattle.cc_host.specs.Question.{Look}
-use Rattle.cc_target.specs.Targets.{Info}
 use Rattle.cc_plan.specs.Android.{android_compiler}
-use Rattle.cc_flags.specs.DefaultWords.{is_qnx}
-use Rattle.cc_plan.specs.EnvTool.{env_tool, in_rustc_wrapper}
-use Rattle.cc_plan.specs.Inherited.{inherited_flags}
-use Rattle.cc_plan.specs.Languages.{compiler_variable, gnu_name, traditional_name, clang_name, emscripten_name, vxworks_name, qnx_name}
-use Rattle.cc_plan.specs.Prefix.{is_cross, gnu_prefix}
+use Rattle.cc_plan.specs.EnvTool.{env_tool}
+use Rattle.cc_flags.specs.Wrappers.{in_rustc_wrapper}
+use Rattle.cc_flags.specs.Languages.{compiler_variable, traditional_name, clang_name, emscripten_name}
+use Rattle.cc_plan.specs.Prefix.{gnu_prefix}
+use Rattle.cc_flags.specs.Prefixes.{is_cross}
 use Rattle.cc_plan.specs.Search.{which}
-use Rattle.cc_plan.specs.Target.{target_name, target_info}
+use Rattle.cc_flags.specs.Target.{target_name, target_info}
 use Rattle.cc_flags.specs.Texts.{is}
-use Rattle.cc_plan.specs.declared.choice.Choice.{Choice}
-use Rattle.cc_plan.specs.declared.settings.BuildConfig.{BuildConfig}
-
-unfoldable pub is_wasm : Info → Bool
-is_wasm target = is target.arch "wasm32" || is target.arch "wasm64"
-
--- Clang in the kit of WASI
-unfoldable pub wasi_path : List ℕ → List ℕ → List ℕ
-wasi_path kit name = path_join (path_join kit (codes "bin")) (name ++ codes "-clang")
+use Rattle.cc_flags.specs.declared.choice.Choice.{Choice}
+use Rattle.cc_flags.specs.declared.settings.BuildConfig.{BuildConfig}
+use Rattle.cc_flags.specs.Compilers.{bare, fixed_compiler, links_by_plugin, prefixed_compiler, wasi_path}
 
 -- where that kit has it
 abbrev pub wasi_kit_compiler : EnvSeen → List ℕ → Look → Option (List ℕ)
@@ -30,18 +21,6 @@ wasi_kit_compiler env name look = option_and_then (λ kit. which env (wasi_path 
 
 abbrev pub wasi_compiler : Bool → EnvSeen → List ℕ → Look → List ℕ
 wasi_compiler cpp env name look = unwrap_or (wasi_kit_compiler env name look) (clang_name cpp)
-
--- GCC, or Clang on targets of LLVM's own
-abbrev pub compiler_behind : Bool → Info → List ℕ
-compiler_behind cpp target = if is target.abi "llvm" then clang_name cpp else gnu_name cpp
-
--- the same behind a prefix
-unfoldable pub prefixed_compiler : Bool → Info → List ℕ → List ℕ
-prefixed_compiler cpp target prefix = prefix ++ codes "-" ++ compiler_behind cpp target
-
--- The linker optimises by its plugin, as the flags of Rust code say, whether or not they are inherited.
-unfoldable pub links_by_plugin : EnvSeen → Bool
-links_by_plugin env = option_map_or (λ flags. unwrap_or flags.linker_plugin_lto false) (inherited_flags true env.inherited) false
 
 -- Clang, where it is wanted for that and found
 abbrev pub plugin_compiler : Bool → EnvSeen → Look → Option (List ℕ)
@@ -63,14 +42,6 @@ prefixed_or_default set env look (Some prefix) = prefixed_compiler set.cpp (targ
 abbrev pub cross_compiler : BuildConfig → EnvSeen → Look → List ℕ
 cross_compiler set env look = prefixed_or_default set env look (cross_prefix set env look)
 
--- the compiler of targets that have one name for it
-unfoldable pub fixed_compiler : Bool → Info → Option (List ℕ)
-fixed_compiler cpp target =
-    if is_wasm target then Some (clang_name cpp)
-    else (if is target.os "vxworks" then Some (vxworks_name cpp)
-    else (if is_qnx target then Some (qnx_name cpp)
-    else None))
-
 abbrev pub fixed_or_cross : BuildConfig → EnvSeen → Look → List ℕ
 fixed_or_cross set env look = unwrap_or (fixed_compiler set.cpp (target_info set env)) (cross_compiler set env look)
 
@@ -80,10 +51,6 @@ target_compiler set env look =
     if is (target_info set env).os "android" then android_compiler set.cpp env (target_name set env) look
     else (if is (target_info set env).os "wasi" then wasi_compiler set.cpp env (target_name set env) look
     else fixed_or_cross set env look)
-
--- a tool alone
-abbrev pub bare : List ℕ → Choice
-bare path = record { path = path; wrapper = None; words = [] }
 
 -- the compiler where neither settings nor environment name one
 abbrev pub own_choice : BuildConfig → EnvSeen → Look → Choice

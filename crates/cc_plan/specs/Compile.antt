@@ -4,9 +4,9 @@ use Rattle.cc_host.specs.Command.{CommandSeen}
 use Rattle.cc_target.specs.Targets.{Info}
 use Rattle.cc_text.specs.declared.family.ToolFamily.{ToolFamily}
 use Rattle.cc_tool.specs.Tool.{ToolSeen, tool_command}
-use Rattle.cc_plan.specs.CompileWords.{compile_words, expand_words, is_masm}
-use Rattle.cc_plan.specs.declared.object.Object.{Object}
-use Rattle.cc_plan.specs.declared.settings.BuildConfig.{BuildConfig}
+use Rattle.cc_flags.specs.CompileWords.{compile_words, expand_words, is_masm}
+use Rattle.cc_flags.specs.declared.object.Object.{Object}
+use Rattle.cc_flags.specs.declared.settings.BuildConfig.{BuildConfig}
 
 -- the tool of a source: the assembler, where one is given, for a source in a language of the Visual Studio assemblers
 abbrev pub tool_for : Info → ToolSeen → Option ToolSeen → Object → ToolSeen

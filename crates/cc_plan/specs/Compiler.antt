@@ -6,9 +6,9 @@ use Rattle.cc_text.specs.declared.family.ToolFamily.{ToolFamily}
 use Rattle.cc_tool.specs.Family.{family_of}
 use Rattle.cc_text.specs.declared.family.Detected.{Detected}
 use Rattle.cc_plan.specs.Choice.{choice_of}
-use Rattle.cc_plan.specs.declared.choice.Choice.{Choice}
-use Rattle.cc_plan.specs.declared.compiler.Compiler.{Compiler}
-use Rattle.cc_plan.specs.declared.settings.BuildConfig.{BuildConfig}
+use Rattle.cc_flags.specs.declared.choice.Choice.{Choice}
+use Rattle.cc_flags.specs.declared.compiler.Compiler.{Compiler}
+use Rattle.cc_flags.specs.declared.settings.BuildConfig.{BuildConfig}
 
 abbrev pub with_family : Choice → ToolFamily × Detected → Compiler
 with_family choice found = record { choice = choice; family = found.0; detected = found.1 }

@@ -4,16 +4,16 @@ use Rattle.cc_env.specs.Env.{EnvSeen}
 use Rattle.cc_host.specs.Question.{Look}
 use Rattle.cc_host.specs.declared.question.Verdict.{Verdict}
 use Rattle.cc_host.specs.declared.question.Verdict.TheVariants.{No}
-use Rattle.cc_plan.specs.Compilation.{CompilationSeen}
+use Rattle.cc_flags.specs.Compilation.{CompilationSeen}
 use Rattle.cc_plan.specs.Compiler.{compiler_of}
-use Rattle.cc_plan.specs.Given.{target_of}
+use Rattle.cc_flags.specs.Given.{target_of, first_of}
 use Rattle.cc_plan.specs.Planned.{planned}
-use Rattle.cc_plan.specs.Refusal.{first_of, target_refusal}
+use Rattle.cc_plan.specs.Refusal.{target_refusal}
 use Rattle.cc_plan.specs.Support.{bare_compiler, bare_of, compiler_refusal, flag_question, is_for_linker, plain_of}
 use Rattle.cc_plan.specs.Tool.{found_warnings}
-use Rattle.cc_plan.specs.declared.compiler.Compiler.{Compiler}
+use Rattle.cc_flags.specs.declared.compiler.Compiler.{Compiler}
 use Rattle.cc_plan.specs.declared.error.PlanError.{PlanError}
-use Rattle.cc_plan.specs.declared.settings.BuildConfig.{BuildConfig}
+use Rattle.cc_flags.specs.declared.settings.BuildConfig.{BuildConfig}
 
 -- why there is no command that tries a flag
 abbrev pub question_refusal : CompilationSeen → List ℕ → Option PlanError

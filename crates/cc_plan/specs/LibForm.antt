@@ -8,10 +8,10 @@ use Rattle.cc_text.specs.Case.{lowered}
 use Rattle.cc_text.specs.Components.{strip_prefix}
 use Rattle.cc_text.specs.Within.{is_within}
 use Rattle.cc_text.specs.Words.{when}
-use Rattle.cc_plan.specs.ArchiveTool.{is_msvc}
+use Rattle.cc_flags.specs.ArchiveNames.{is_msvc}
 use Rattle.cc_plan.specs.Libtool.{is_libtool}
-use Rattle.cc_plan.specs.Names.{copy_file}
-use Rattle.cc_plan.specs.Search.{is_path}
+use Rattle.cc_flags.specs.Names.{copy_file}
+use Rattle.cc_flags.specs.Folders.{is_path}
 use Rattle.cc_plan.specs.declared.archive.Archiver.{Archiver}
 
 -- the name has it, whatever the case of ASCII letters

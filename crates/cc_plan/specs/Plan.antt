@@ -13,23 +13,23 @@ use Rattle.cc_host.specs.declared.event.LineKind.{LineKind}
 use Rattle.cc_host.specs.declared.event.LineKind.TheVariants.{Warning}
 use Rattle.cc_host.specs.declared.event.Message.TheVariants.{GeneralWarning}
 use Rattle.cc_plan.specs.declared.error.PlanError.{PlanError}
-use Rattle.cc_plan.specs.declared.object.Object.{Object}
-use Rattle.cc_plan.specs.declared.settings.BuildConfig.{BuildConfig}
+use Rattle.cc_flags.specs.declared.object.Object.{Object}
+use Rattle.cc_flags.specs.declared.settings.BuildConfig.{BuildConfig}
 use Rattle.cc_plan.specs.Archive as archive
-use Rattle.cc_plan.specs.ArchiveTool.{is_msvc}
+use Rattle.cc_flags.specs.ArchiveNames.{is_msvc}
 use Rattle.cc_plan.specs.Assembler.{assembler_of}
 use Rattle.cc_plan.specs.Compile.{compile_of}
-use Rattle.cc_plan.specs.Given.{out_dir_of}
+use Rattle.cc_flags.specs.Given.{out_dir_of, first_of}
 use Rattle.cc_plan.specs.Archive.{archiver_of}
 use Rattle.cc_plan.specs.Link.{printed_line, link_lines as lines_of}
-use Rattle.cc_plan.specs.declared.link.LinkLine.{LinkLine}
+use Rattle.cc_flags.specs.declared.link.LinkLine.{LinkLine}
 use Rattle.cc_plan.specs.LibForm as form
 use Rattle.cc_plan.specs.LibForm.{copy_path_of}
-use Rattle.cc_plan.specs.Names.{library_name}
+use Rattle.cc_flags.specs.Names.{library_name}
 use Rattle.cc_plan.specs.Libtool.{lists_of, list_refusal}
-use Rattle.cc_plan.specs.Object as object
-use Rattle.cc_plan.specs.Refusal.{is_empty, library_in, first_of, archiver_refusal}
-use Rattle.cc_plan.specs.Target.{target_info}
+use Rattle.cc_flags.specs.Object as object
+use Rattle.cc_plan.specs.Refusal.{is_empty, library_in, archiver_refusal}
+use Rattle.cc_flags.specs.Target.{target_info}
 use Rattle.cc_plan.specs.Planned.{tool_of, warnings_of}
 use Rattle.cc_tool.specs.Tool.{ToolSeen}
 

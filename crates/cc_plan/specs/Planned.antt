@@ -3,12 +3,12 @@ use Rattle.std.specs.Prelude.{ℕ, Bool, List, Option}
 use Rattle.cc_env.specs.Env.{EnvSeen}
 use Rattle.cc_host.specs.Question.{Look}
 use Rattle.cc_tool.specs.Tool.{ToolSeen}
-use Rattle.cc_plan.specs.Compilation.{CompilationSeen, compilation_of}
+use Rattle.cc_flags.specs.Compilation.{CompilationSeen, compilation_of}
 use Rattle.cc_plan.specs.Compiler.{compiler_of}
 use Rattle.cc_plan.specs.Support.{supported}
 use Rattle.cc_plan.specs.Tool.{tool_by, warnings_by, defaults_refusal_by}
 use Rattle.cc_plan.specs.declared.error.PlanError.{PlanError}
-use Rattle.cc_plan.specs.declared.settings.BuildConfig.{BuildConfig}
+use Rattle.cc_flags.specs.declared.settings.BuildConfig.{BuildConfig}
 
 -- the compilation of these settings, with the compiler of these verdicts
 abbrev pub planned : BuildConfig → EnvSeen → Look → CompilationSeen

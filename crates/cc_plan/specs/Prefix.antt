@@ -1,73 +1,21 @@
 -- The prefix of the GNU tools' names for a target, when the host is another.
-use Rattle.std.specs.Prelude.{ℕ, Bool, true, false, not, ◌&&◌, ◌==◌, List, [], ◌∷◌, ◌++◌, Option, Some, None, map, find, option_map, option_and_then, codes, bytes_eq, if◌then◌else◌}
-use Rattle.std.specs.List.{flat_map}
+use Rattle.std.specs.Prelude.{ℕ, List, Option, find, option_map}
 use Rattle.std.specs.Option.{option_or}
-use Rattle.std.specs.Path.{path_join}
 use Rattle.cc_env.specs.Env.{EnvSeen}
-use Rattle.cc_env.specs.Snapshot.{last_value}
 use Rattle.cc_host.specs.Question.{Look}
-use Rattle.cc_target.specs.Targets.{candidates_of, prefix_of}
-use Rattle.cc_text.specs.Cuts.{before_suffix}
-use Rattle.cc_plan.specs.Given.{target_of, host_of}
-use Rattle.cc_plan.specs.Languages.{gnu_name}
-use Rattle.cc_plan.specs.Search.{is_there, path_folders}
-use Rattle.cc_plan.specs.declared.settings.BuildConfig.{BuildConfig}
-
--- both are set, and differ
-abbrev pub differ : Option (List ℕ) → Option (List ℕ) → Bool
-differ None host = false
-differ (Some target) None = false
-differ (Some target) (Some host) = not (bytes_eq target host)
-
--- code is built for another target than the host
-unfoldable pub is_cross : BuildConfig → EnvSeen → Bool
-is_cross set env = differ (target_of set env) (host_of set env)
-
--- the text has no byte
-abbrev pub is_blank : List ℕ → Bool
-is_blank [] = true
-is_blank (b ∷ text) = false
-
--- the text without the `-` signs at its end
-unfoldable pub without_last_dashes : List ℕ → List ℕ
-without_last_dashes [] = []
-without_last_dashes (b ∷ text) = if b == 45 && is_blank (without_last_dashes text) then [] else b ∷ without_last_dashes text
-
--- the prefix that the environment names outright
-unfoldable pub named_prefix : EnvSeen → Option (List ℕ)
-named_prefix env = option_map without_last_dashes (last_value env.inherited (codes "CROSS_COMPILE"))
-
--- the prefix of the linker that Rust's compiler is given
-unfoldable pub linker_prefix : EnvSeen → Option (List ℕ)
-linker_prefix env = option_and_then (λ linker. before_suffix linker (codes "-gcc")) (last_value env.inherited (codes "RUSTC_LINKER"))
-
--- a compiler with a candidate as its prefix
-abbrev pub tried_path : Bool → List ℕ → List ℕ → List ℕ
-tried_path cpp folder candidate = path_join folder (candidate ++ codes "-" ++ gnu_name cpp)
-
--- the same with the candidate
-abbrev pub tried_compiler : Bool → List ℕ → List ℕ → List ℕ × List ℕ
-tried_compiler cpp folder candidate = (tried_path cpp folder candidate, candidate)
-
--- the compilers that are looked for, folder by folder and then candidate by candidate
-unfoldable pub tried_compilers : Bool → List (List ℕ) → List (List ℕ) → List (List ℕ × List ℕ)
-tried_compilers cpp folders candidates = flat_map (λ folder. map (tried_compiler cpp folder) candidates) folders
+use Rattle.cc_target.specs.Targets.{candidates_of}
+use Rattle.cc_plan.specs.Search.{is_there}
+use Rattle.cc_flags.specs.Folders.{path_folders}
+use Rattle.cc_flags.specs.declared.settings.BuildConfig.{BuildConfig}
+use Rattle.cc_flags.specs.Prefixes.{first_text, known_prefix, tried_compilers}
 
 -- the candidate of the first of these compilers that is there
 abbrev pub shown_candidate : Look → List (List ℕ × List ℕ) → Option (List ℕ)
 shown_candidate look tries = option_map (λ t. t.1) (find (λ t. is_there look t.0) tries)
 
-abbrev pub first_text : List (List ℕ) → Option (List ℕ)
-first_text [] = None
-first_text (text ∷ texts) = Some text
-
 -- the candidate of the first compiler that is there, else the first candidate
 abbrev pub candidate_prefix : BuildConfig → EnvSeen → List (List ℕ) → Look → Option (List ℕ)
 candidate_prefix set env candidates look = option_or (shown_candidate look (tried_compilers set.cpp (path_folders env) candidates)) (first_text candidates)
-
--- the prefix that is known without a question
-unfoldable pub known_prefix : EnvSeen → List ℕ → Option (List ℕ)
-known_prefix env name = option_or (named_prefix env) (option_or (linker_prefix env) (prefix_of name))
 
 -- the prefix, where there is one
 abbrev pub gnu_prefix : BuildConfig → EnvSeen → List ℕ → Look → Option (List ℕ)

@@ -10,25 +10,27 @@ use Rattle.cc_text.specs.Families.{is_clang_cl}
 use Rattle.cc_text.specs.declared.family.ToolFamily.{ToolFamily}
 use Rattle.cc_tool.specs.Family.{IsOfFamilyIn}
 use Rattle.cc_tool.specs.Libcxx.{libcxx_question}
-use Rattle.cc_plan.specs.Android.{kit_compiler, older_name, starts_question}
-use Rattle.cc_plan.specs.ArchiveTool.{is_msvc, llvm_question, version_question, plain_name, gcc_name}
-use Rattle.cc_plan.specs.Assembler.{want_assembler}
-use Rattle.cc_plan.specs.Choice.{choice_of, cross_prefix, is_wasm}
-use Rattle.cc_plan.specs.Compilation.{CompilationSeen}
+use Rattle.cc_plan.specs.Android.{starts_question}
+use Rattle.cc_flags.specs.AndroidNames.{kit_compiler, older_name}
+use Rattle.cc_plan.specs.ArchiveTool.{llvm_question, version_question}
+use Rattle.cc_flags.specs.ArchiveNames.{is_msvc, plain_name, gcc_name}
+use Rattle.cc_flags.specs.AssemblerWords.{want_assembler}
+use Rattle.cc_plan.specs.Choice.{choice_of, cross_prefix}
+use Rattle.cc_flags.specs.Compilers.{is_wasm}
+use Rattle.cc_flags.specs.Compilation.{CompilationSeen}
 use Rattle.cc_plan.specs.Compiler.{compiler_of}
-use Rattle.cc_plan.specs.Languages.{gnu_name}
+use Rattle.cc_flags.specs.Languages.{gnu_name}
 use Rattle.cc_plan.specs.Planned.{planned, tool_of}
-use Rattle.cc_plan.specs.Refusal.{links_cpp}
+use Rattle.cc_flags.specs.StdlibLines.{links_cpp, given_library, may_ask}
 use Rattle.cc_plan.specs.Searched.{search_question}
-use Rattle.cc_plan.specs.Stdlib.{given_library, may_ask}
 use Rattle.cc_plan.specs.Support.{bare_of, flag_question}
-use Rattle.cc_plan.specs.Target.{target_info, target_name}
-use Rattle.cc_plan.specs.ToolWords.{asked_words}
-use Rattle.cc_plan.specs.declared.archive_tool.ArchiveTool.{ArchiveTool}
-use Rattle.cc_plan.specs.declared.archive_tool.ArchiveTool.TheVariants.{Archiver, Ranlib}
-use Rattle.cc_plan.specs.declared.choice.Choice.{Choice}
-use Rattle.cc_plan.specs.declared.settings.BuildConfig.{BuildConfig}
-use Rattle.cc_plan.specs.declared.variables.Reads.{Reads}
+use Rattle.cc_flags.specs.Target.{target_info, target_name}
+use Rattle.cc_flags.specs.ToolWords.{asked_words}
+use Rattle.cc_flags.specs.declared.archive_names.ArchiveTool.{ArchiveTool}
+use Rattle.cc_flags.specs.declared.archive_names.ArchiveTool.TheVariants.{Archiver, Ranlib}
+use Rattle.cc_flags.specs.declared.choice.Choice.{Choice}
+use Rattle.cc_flags.specs.declared.settings.BuildConfig.{BuildConfig}
+use Rattle.cc_flags.specs.declared.variables.Reads.{Reads}
 
 -- whether a file is there: it runs no program
 abbrev pub IsForFile : Question → Type 0

@@ -4,10 +4,10 @@ use Rattle.cc_env.specs.Env.{EnvSeen}
 use Rattle.cc_host.specs.Question.{Look}
 use Rattle.cc_text.specs.Words.{when}
 use Rattle.cc_plan.specs.Planned.{warnings_of}
-use Rattle.cc_plan.specs.Refusal.{tool_refusal, links_cpp}
-use Rattle.cc_plan.specs.Stdlib.{given_library, may_ask}
+use Rattle.cc_plan.specs.Refusal.{tool_refusal}
+use Rattle.cc_flags.specs.StdlibLines.{links_cpp, given_library, may_ask}
 use Rattle.cc_plan.specs.declared.error.PlanError.{PlanError}
-use Rattle.cc_plan.specs.declared.settings.BuildConfig.{BuildConfig}
+use Rattle.cc_flags.specs.declared.settings.BuildConfig.{BuildConfig}
 
 -- these texts, unless the plan is refused
 abbrev pub texts_unless : Option PlanError → List (List ℕ) → List (List ℕ)

@@ -3,27 +3,29 @@ use Rattle.std.specs.Prelude.{◌≡◌, ◌⊎◌, Result, OnOk, IfErr, ℕ, �
 use Rattle.std.specs.Option.{option_map}
 use Rattle.std.specs.Path.{path_file_name, path_join}
 use Rattle.cc_plan.specs.Added.{added_refusal}
-use Rattle.cc_plan.specs.Names.{is_output_name, library_file, linked_library}
+use Rattle.cc_flags.specs.Names.{is_output_name, library_file, linked_library}
 use Rattle.cc_env.specs.Env.{EnvSeen}
 use Rattle.cc_env.specs.Snapshot.{last_value}
 use Rattle.cc_flags.specs.DefaultWords.{is_wasm_linux}
 use Rattle.cc_host.specs.Question.{Look}
 use Rattle.cc_target.specs.Targets.{Info, is_known}
-use Rattle.cc_plan.specs.ArchiveTool.{lacks_qnx_arch, set_program, variable_tool}
-use Rattle.cc_plan.specs.Given.{out_dir_of, target_of, host_of, level_of}
-use Rattle.cc_plan.specs.Object.{object_path}
+use Rattle.cc_plan.specs.ArchiveTool.{variable_tool}
+use Rattle.cc_flags.specs.ArchiveNames.{lacks_qnx_arch, set_program}
+use Rattle.cc_flags.specs.Given.{out_dir_of, target_of, host_of, level_of, first_of}
+use Rattle.cc_flags.specs.Object.{object_path}
 use Rattle.cc_plan.specs.Compiler.{compiler_of}
-use Rattle.cc_plan.specs.Inherited.{inherited_refusal}
-use Rattle.cc_plan.specs.Target.{target_info}
+use Rattle.cc_plan.specs.Checks.{inherited_refusal}
+use Rattle.cc_flags.specs.Target.{target_info}
 use Rattle.cc_plan.specs.Tool.{defaults_refusal_by}
-use Rattle.cc_plan.specs.declared.archive_tool.ArchiveTool.{ArchiveTool}
-use Rattle.cc_plan.specs.declared.archive_tool.ArchiveTool.TheVariants.{Archiver, Ranlib}
-use Rattle.cc_plan.specs.declared.compiler.Compiler.{Compiler}
+use Rattle.cc_flags.specs.declared.archive_names.ArchiveTool.{ArchiveTool}
+use Rattle.cc_flags.specs.declared.archive_names.ArchiveTool.TheVariants.{Archiver, Ranlib}
+use Rattle.cc_flags.specs.declared.compiler.Compiler.{Compiler}
 use Rattle.cc_plan.specs.declared.error.ArgumentCause.{ArgumentCause}
 use Rattle.cc_plan.specs.declared.error.ArgumentCause.TheVariants.{Output, OutDir, NoFileName, SameObject, Library}
 use Rattle.cc_plan.specs.declared.error.PlanError.{PlanError}
 use Rattle.cc_plan.specs.declared.error.PlanError.TheVariants.{Argument, NotSet, UnknownTarget, QnxArch, NoMemory}
-use Rattle.cc_plan.specs.declared.settings.BuildConfig.{BuildConfig}
+use Rattle.cc_flags.specs.declared.settings.BuildConfig.{BuildConfig}
+use Rattle.cc_flags.specs.StdlibLines.{links_cpp}
 
 -- the place of the first equal text, where the first of them counts as n
 abbrev pub place_from : ℕ → List ℕ → List (List ℕ) → Option ℕ
@@ -39,11 +41,6 @@ unfoldable pub source_refusal : (List ℕ → List ℕ) → List (List ℕ) → 
 source_refusal path earlier source =
     if is_none (path_file_name source) then Some (NoFileName (length earlier))
     else option_map (λ place. SameObject place (length earlier)) (earlier_place path earlier source)
-
--- the one of two refusals that comes first
-abbrev pub first_of : {X : Type 0} → Option X → Option X → Option X
-first_of None second = second
-first_of (Some refusal) second = Some refusal
 
 -- the first source, in order, with something wrong
 abbrev pub sources_after : (List ℕ → List ℕ) → List (List ℕ) → List (List ℕ) → Option ArgumentCause
@@ -149,10 +146,6 @@ archiver_refusal set env look = archive_tool_refusal Archiver set env look
 -- what the tool that writes an archive's index wants
 unfoldable pub ranlib_refusal : BuildConfig → EnvSeen → Look → Option PlanError
 ranlib_refusal set env look = archive_tool_refusal Ranlib set env look
-
--- lines for a library of C++ are wanted
-abbrev pub links_cpp : BuildConfig → Bool
-links_cpp set = set.cargo_metadata && set.cpp
 
 -- the variable of the sysroot that WebAssembly's threads want
 abbrev pub musl_variable : List ℕ

@@ -1,69 +1,34 @@
 -- The variables whose change asks for another run of the build script: those that a call reads, and those that its compiler reads by itself.
-use Rattle.std.specs.Prelude.{ℕ, Bool, true, false, not, ◌&&◌, ◌||◌, List, [], ◌∷◌, ◌++◌, fold, Option, Some, None, is_some, is_none, codes, if◌then◌else◌}
-use Rattle.std.specs.BTreeSet.{insert_key}
-use Rattle.std.specs.Cmp.Lexicographic.{slice_cmp}
+use Rattle.std.specs.Prelude.{ℕ, Bool, false, not, ◌&&◌, ◌||◌, List, [], ◌∷◌, ◌++◌, is_some, is_none, codes, if◌then◌else◌}
 use Rattle.std.specs.Option.{option_map_or}
-use Rattle.std.specs.Ordering.{nat_cmp}
 use Rattle.std.specs.Str.{trim}
 use Rattle.cc_env.specs.Env.{EnvSeen}
-use Rattle.cc_env.specs.Names.{target_names}
-use Rattle.cc_env.specs.Snapshot.{last_value}
-use Rattle.cc_flags.specs.DefaultWords.{is_wasm_linux, needs_target_word}
 use Rattle.cc_flags.specs.Texts.{is}
 use Rattle.cc_host.specs.Question.{Look}
-use Rattle.cc_target.specs.Targets.{Info, is_arm}
-use Rattle.cc_text.specs.Families.{is_gnu, is_clang, is_plain_clang, is_visual_studio, is_clang_cl, is_cl, is_gnu_like}
+use Rattle.cc_target.specs.Targets.{Info}
 use Rattle.cc_text.specs.Pieces.{has_bytes}
-use Rattle.cc_text.specs.Words.{when, choose, entry}
-use Rattle.cc_text.specs.declared.family.ToolFamily.{ToolFamily}
-use Rattle.cc_plan.specs.ArchiveTool.{is_msvc, tool_variable, set_program, system_name, wasm_tool}
-use Rattle.cc_plan.specs.Assembler.{assembler_choice, is_llvm, want_assembler}
-use Rattle.cc_plan.specs.Choice.{is_wasm, fixed_compiler}
+use Rattle.cc_text.specs.Words.{when}
+use Rattle.cc_plan.specs.ArchiveTool.{wasm_tool}
+use Rattle.cc_flags.specs.ArchiveNames.{is_msvc, tool_variable, set_program, system_name}
+use Rattle.cc_plan.specs.Assembler.{assembler_choice}
+use Rattle.cc_flags.specs.AssemblerWords.{want_assembler}
+use Rattle.cc_flags.specs.Compilers.{is_wasm}
 use Rattle.cc_plan.specs.Compiler.{compiler_of}
 use Rattle.cc_plan.specs.EnvTool.{env_tool}
 use Rattle.cc_plan.specs.FlagSupport.{found}
-use Rattle.cc_plan.specs.Given.{target_of, host_of, prefixed_value, variable_flags, flags_variable, has_no_defaults}
-use Rattle.cc_plan.specs.Languages.{compiler_variable}
-use Rattle.cc_plan.specs.Prefix.{is_cross}
-use Rattle.cc_plan.specs.Refusal.{links_cpp}
+use Rattle.cc_flags.specs.Given.{prefixed_value}
+use Rattle.cc_flags.specs.Languages.{compiler_variable}
+use Rattle.cc_flags.specs.Prefixes.{is_cross}
 use Rattle.cc_plan.specs.Search.{is_there}
-use Rattle.cc_plan.specs.Stdlib.{given_library, is_wasm_wasi}
 use Rattle.cc_plan.specs.Support.{flag_settings}
-use Rattle.cc_plan.specs.Target.{target_info}
-use Rattle.cc_plan.specs.declared.archive_tool.ArchiveTool.{ArchiveTool}
-use Rattle.cc_plan.specs.declared.archive_tool.ArchiveTool.TheVariants.{Archiver, Ranlib}
-use Rattle.cc_plan.specs.declared.choice.Choice.{Choice}
-use Rattle.cc_plan.specs.declared.compiler.Compiler.{Compiler}
-use Rattle.cc_plan.specs.declared.variables.Reads.{Reads}
-use Rattle.cc_plan.specs.declared.settings.BuildConfig.{BuildConfig}
-
--- ---- the names of one variable
-
-abbrev pub names_for : List ℕ → Option (List ℕ) → Option (List ℕ) → List (List ℕ)
-names_for variable None host = []
-names_for variable (Some target) None = []
-names_for variable (Some target) (Some host) = target_names variable target host
-
--- those of a variable of the prefixes. Without a target and a host there is none.
-abbrev pub prefixed_names : BuildConfig → EnvSeen → List ℕ → List (List ℕ)
-prefixed_names set env variable = names_for variable (target_of set env) (host_of set env)
-
--- the names up to the first that is set, which is the last that is looked at
-abbrev pub looked_at : EnvSeen → List (List ℕ) → List (List ℕ)
-looked_at env [] = []
-looked_at env (name ∷ names) = name ∷ (if is_some (last_value env.inherited name) then [] else looked_at env names)
-
--- those by which one value is read
-unfoldable pub value_names : BuildConfig → EnvSeen → List ℕ → List (List ℕ)
-value_names set env variable = looked_at env (prefixed_names set env variable)
-
--- the variable that says how flags are quoted is read: there are some, and the settings don't say it
-abbrev pub asks_for_quotes : BuildConfig → EnvSeen → List ℕ → Bool
-asks_for_quotes set env variable = is_some (variable_flags set env variable) && is_none set.shell_escaped_flags
-
--- those by which a list of flags is read
-unfoldable pub flags_names : BuildConfig → EnvSeen → List ℕ → List (List ℕ)
-flags_names set env variable = prefixed_names set env variable ++ when (asks_for_quotes set env variable) (codes "CC_SHELL_ESCAPED_FLAGS" ∷ [])
+use Rattle.cc_flags.specs.Target.{target_info}
+use Rattle.cc_flags.specs.declared.archive_names.ArchiveTool.{ArchiveTool}
+use Rattle.cc_flags.specs.declared.archive_names.ArchiveTool.TheVariants.{Archiver, Ranlib}
+use Rattle.cc_flags.specs.declared.choice.Choice.{Choice}
+use Rattle.cc_flags.specs.declared.compiler.Compiler.{Compiler}
+use Rattle.cc_flags.specs.declared.variables.Reads.{Reads}
+use Rattle.cc_flags.specs.declared.settings.BuildConfig.{BuildConfig}
+use Rattle.cc_flags.specs.Variables.{flags_names, in_order, joined_names, option_names, target_names_unless, tool_flags, value_names, wants_reruns, words_names}
 
 -- ---- a tool that the environment names
 
@@ -83,25 +48,6 @@ is_named set env variable look = is_some (env_tool set env variable look)
 
 -- ---- the compiler
 
--- a prefix of the GNU tools is sought for a compiler: no other rule applies, and the target is another than the host
-unfoldable pub target_choice_names : Bool → Info → Bool → List (List ℕ)
-target_choice_names cpp target cross =
-    if is target.os "emscripten" || is target.os "android" then []
-    else (if is target.os "wasi" then codes "WASI_SDK_PATH" ∷ []
-    else when (is_none (fixed_compiler cpp target) && cross) (codes "CROSS_COMPILE" ∷ []))
-
--- whether Clang's form of the Visual Studio compiler is preferred
-unfoldable pub preference_names : Info → List (List ℕ)
-preference_names target = when (is target.env "msvc") (codes "CC_PREFER_CLANG_CL_OVER_MSVC" ∷ [])
-
--- unless one is named
-abbrev pub choice_unless : Bool → Bool → Info → Bool → List (List ℕ)
-choice_unless is_named cpp target cross = if is_named then [] else target_choice_names cpp target cross
-
--- those that are read beside the compiler's own variable, unless that names one
-abbrev pub target_names_unless : Bool → Bool → Info → Bool → List (List ℕ)
-target_names_unless is_named cpp target cross = preference_names target ++ choice_unless is_named cpp target cross
-
 -- those that are read where the settings name no compiler
 abbrev pub found_names : BuildConfig → EnvSeen → Look → List (List ℕ)
 found_names set env look =
@@ -111,81 +57,6 @@ found_names set env look =
 -- those by which it is chosen
 abbrev pub choice_names : BuildConfig → EnvSeen → Look → List (List ℕ)
 choice_names set env look = if is_some set.compiler then [] else found_names set env look
-
--- the compiler is given the sysroot of WASI, where that is set
-abbrev pub takes_wasi_sysroot : ToolFamily → Info → Bool
-takes_wasi_sysroot family target = is_gnu_like family && is target.os "wasi"
-
--- it is given that of musl for WebAssembly
-abbrev pub takes_musl_sysroot : BuildConfig → Info → Compiler → Bool
-takes_musl_sysroot set target compiler = needs_target_word compiler.family set.compiler target compiler.choice.path && is_wasm_linux target
-
--- where the headers of a C library for WebAssembly are, where it is told that
-unfoldable pub sysroot_names : BuildConfig → Info → Compiler → List (List ℕ)
-sysroot_names set target compiler = choose (
-    entry (takes_wasi_sysroot compiler.family target) ("WASI_SYSROOT" ∷ [])
-    ∷ entry (takes_musl_sysroot set target compiler) ("WASM_MUSL_SYSROOT" ∷ [])
-    ∷ [])
-
--- Clang, in every form
-abbrev pub is_any_clang : ToolFamily → Bool
-is_any_clang family = is_clang family || is_clang_cl family
-
--- that of Zig
-abbrev pub is_zig : ToolFamily → Bool
-is_zig family = is_clang family && not (is_plain_clang family)
-
--- GCC or Clang
-abbrev pub reads_paths : ToolFamily → Bool
-reads_paths family = is_gnu family || is_any_clang family
-
--- what GCC and Clang read by themselves
-unfoldable pub gnu_like_names : ToolFamily → List (List ℕ)
-gnu_like_names family = choose (
-    entry (reads_paths family)
-    ("CPATH" ∷ "C_INCLUDE_PATH" ∷ "CPLUS_INCLUDE_PATH" ∷ "OBJC_INCLUDE_PATH" ∷ "OBJCPLUS_INCLUDE_PATH" ∷ "COMPILER_PATH" ∷ "SOURCE_DATE_EPOCH" ∷ [])
-    ∷ entry (is_gnu family) ("GCC_EXEC_PREFIX" ∷ [])
-    ∷ entry (is_any_clang family) ("CCC_OVERRIDE_OPTIONS" ∷ "CLANG_NO_DEFAULT_CONFIG" ∷ [])
-    ∷ entry (is_zig family) ("ZIG_LIB_DIR" ∷ "ZIG_LIBC" ∷ [])
-    ∷ [])
-
--- Clang for a target of Visual Studio, which it looks for
-abbrev pub seeks_visual_studio : ToolFamily → Info → Bool
-seeks_visual_studio family target = is_any_clang family && is target.env "msvc"
-
--- it reads the folders of headers that a prompt of Visual Studio sets
-abbrev pub reads_includes : ToolFamily → Info → Bool
-reads_includes family target = is_cl family || seeks_visual_studio family target
-
--- what the Visual Studio compiler and what stands in for it read by themselves
-unfoldable pub visual_studio_names : ToolFamily → Info → List (List ℕ)
-visual_studio_names family target = choose (
-    entry (reads_includes family target) ("INCLUDE" ∷ "EXTERNAL_INCLUDE" ∷ [])
-    ∷ entry (seeks_visual_studio family target) ("VCToolsInstallDir" ∷ "VCINSTALLDIR" ∷ [])
-    ∷ entry (is_visual_studio family) ("CL" ∷ "_CL_" ∷ [])
-    ∷ entry (is_cl family) ("LIBPATH" ∷ [])
-    ∷ [])
-
--- what Emscripten reads by itself
-unfoldable pub emscripten_names : Info → List (List ℕ)
-emscripten_names target = choose (
-    entry (is target.os "emscripten")
-    ("EMCC_CFLAGS" ∷ "EMCC_LOCAL_PORTS" ∷ "EM_CONFIG" ∷ "EM_CACHE" ∷ "EM_PORTS" ∷ "EM_LLVM_ROOT" ∷ "EM_CLANG_ADD_VERSION" ∷ "EM_COMPILER_WRAPPER" ∷ [])
-    ∷ [])
-
--- what a compiler of a family reads by itself for a target
-unfoldable pub family_names : ToolFamily → Info → List (List ℕ)
-family_names family target = gnu_like_names family ++ (visual_studio_names family target ++ emscripten_names target)
-
--- unless the words of a target are left out
-abbrev pub default_sysroots : BuildConfig → EnvSeen → Info → Compiler → List (List ℕ)
-default_sysroots set env target compiler = if has_no_defaults set env then [] else sysroot_names set target compiler
-
--- those by which the words of a compiler are planned
-unfoldable pub words_names : BuildConfig → EnvSeen → Info → Compiler → List (List ℕ)
-words_names set env target compiler =
-    ((when (not set.no_default_flags) (codes "CRATE_CC_NO_DEFAULTS" ∷ []) ++ default_sysroots set env target compiler) ++ flags_names set env (flags_variable set))
-    ++ family_names compiler.family target
 
 -- those that the plan of a compiler reads
 abbrev pub compiler_names : BuildConfig → EnvSeen → Look → List (List ℕ)
@@ -201,10 +72,6 @@ trial_names set env look = choice_names set env look ++ question_names set env (
 
 -- ---- the assembler
 
--- those of Microsoft for x86 take words from a variable too
-unfoldable pub option_names : Info → List ℕ → List (List ℕ)
-option_names target path = when (not (is_arm target) && not (is_llvm path)) (codes "ML" ∷ [])
-
 -- the one that goes with a compiler
 abbrev pub assembler_with : BuildConfig → EnvSeen → Compiler → Look → Choice
 assembler_with set env compiler look = assembler_choice set env (target_info set env) compiler.family compiler.choice.path look
@@ -215,11 +82,6 @@ assembler_names set env compiler look =
     tool_names set env (codes "CC_MASM_ASM") look ++ option_names (target_info set env) (assembler_with set env compiler look).path
 
 -- ---- tools of archives
-
--- the variable of its flags
-abbrev pub tool_flags : ArchiveTool → List ℕ
-tool_flags Archiver = codes "ARFLAGS"
-tool_flags Ranlib = codes "RANLIBFLAGS"
 
 -- the target has a name for it
 abbrev pub has_own_name : ArchiveTool → Info → Bool
@@ -260,45 +122,7 @@ tool_choice_names tool set env look = if is_some (set_program tool set) then [] 
 abbrev pub archive_names : ArchiveTool → BuildConfig → EnvSeen → Look → List (List ℕ)
 archive_names tool set env look = tool_choice_names tool set env look ++ flags_names set env (tool_flags tool)
 
--- ---- link lines
-
--- a library of C++ is linked, whichever it is
-abbrev pub links_some : Option (Option (List ℕ)) → Bool
-links_some None = true
-links_some (Some library) = is_some library
-
--- those by which it is found, where none is set
-abbrev pub stdlib_names : BuildConfig → EnvSeen → List (List ℕ)
-stdlib_names set env = if is_some set.cpp_link_stdlib then [] else value_names set env (codes "CXXSTDLIB")
-
--- those by which it is a static one
-abbrev pub static_names : BuildConfig → EnvSeen → Option (Option (List ℕ)) → List (List ℕ)
-static_names set env library = when (links_some library && not set.cpp_link_stdlib_static) (value_names set env (codes "CXXSTDLIB_STATIC"))
-
-unfoldable pub library_names : BuildConfig → EnvSeen → Option (Option (List ℕ)) → List (List ℕ)
-library_names set env library = stdlib_names set env ++ static_names set env library
-
--- the compiler would be asked for it, if commands may run
-abbrev pub would_ask : Option (Option (List ℕ)) → Info → Bool
-would_ask library target = is_none library && not (is target.arch "wasm32")
-
--- whether commands may run, and where that of WebAssembly is
-unfoldable pub wasm_library_names : Option (Option (List ℕ)) → Info → List (List ℕ)
-wasm_library_names library target = choose (
-    entry (would_ask library target) ("CC_FORCE_DISABLE" ∷ [])
-    ∷ entry (is_wasm_wasi target) ("WASI_SYSROOT" ∷ [])
-    ∷ entry (is_wasm_linux target) ("WASM_MUSL_SYSROOT" ∷ [])
-    ∷ [])
-
--- those by which link lines are planned
-abbrev pub link_names : BuildConfig → EnvSeen → List (List ℕ)
-link_names set env = when (links_cpp set) (library_names set env (given_library set env) ++ wasm_library_names (given_library set env) (target_info set env))
-
 -- ---- a call
-
--- those of a run itself
-unfoldable pub run_names : Reads → List (List ℕ)
-run_names reads = when reads.disabled (codes "CC_FORCE_DISABLE" ∷ []) ++ when reads.debug (codes "CC_ENABLE_DEBUG_OUTPUT" ∷ [])
 
 -- those of the compiler, where one is planned
 abbrev pub planned_names : Reads → BuildConfig → EnvSeen → Look → List (List ℕ)
@@ -336,14 +160,6 @@ assembling_names reads set env look = if plans_assembler reads set env then asse
 abbrev pub later_names : Reads → BuildConfig → EnvSeen → Look → List (List ℕ)
 later_names reads set env look = assembling_names reads set env look ++ archiving_names reads set env look
 
--- those of link lines, where some are planned
-abbrev pub linking_names : Reads → BuildConfig → EnvSeen → List (List ℕ)
-linking_names reads set env = if reads.links then link_names set env else []
-
--- those of a run itself, of the tools that it plans, and of its link lines
-abbrev pub joined_names : Reads → BuildConfig → EnvSeen → List (List ℕ) → List (List ℕ)
-joined_names reads set env tools = (run_names reads ++ tools) ++ linking_names reads set env
-
 -- those of the tools that a call plans
 abbrev pub tools_names : Reads → BuildConfig → EnvSeen → Look → List (List ℕ)
 tools_names reads set env look = compiling_names reads set env look ++ later_names reads set env look
@@ -351,14 +167,6 @@ tools_names reads set env look = compiling_names reads set env look ++ later_nam
 -- those that a call reads, by what it does
 abbrev pub read_names : Reads → BuildConfig → EnvSeen → Look → List (List ℕ)
 read_names reads set env look = joined_names reads set env (tools_names reads set env look)
-
--- texts in the order of their bytes, each once
-abbrev pub in_order : List (List ℕ) → List (List ℕ)
-in_order names = fold (insert_key (slice_cmp nat_cmp)) [] names
-
--- such lines are wanted
-abbrev pub wants_reruns : BuildConfig → Bool
-wants_reruns set = set.cargo_metadata && set.emit_rerun_if_env_changed
 
 -- the variables that Cargo is told of
 unfoldable pub rerun_names : Reads → BuildConfig → EnvSeen → Look → List (List ℕ)

@@ -8,19 +8,19 @@ use Rattle.cc_host.specs.declared.question.Question.{Question}
 use Rattle.cc_text.specs.declared.family.ToolFamily.{ToolFamily}
 use Rattle.cc_tool.specs.Family.{family_of}
 use Rattle.cc_text.specs.declared.family.Detected.TheVariants.{Marks as ByMarks}
-use Rattle.cc_plan.specs.Choice.{bare}
+use Rattle.cc_flags.specs.Compilers.{bare}
 use Rattle.cc_text.specs.Families.{is_clang, is_visual_studio}
-use Rattle.cc_plan.specs.Compilation.{CompilationSeen}
+use Rattle.cc_flags.specs.Compilation.{CompilationSeen}
 use Rattle.cc_plan.specs.Refusal.{refusal_by}
-use Rattle.cc_plan.specs.SettingWords.{is_link}
-use Rattle.cc_plan.specs.Settings.{unset_settings}
+use Rattle.cc_flags.specs.SettingWords.{is_link}
+use Rattle.cc_flags.specs.Settings.{unset_settings}
 use Rattle.cc_flags.specs.Texts.{word}
-use Rattle.cc_plan.specs.Tool.{language_variable}
-use Rattle.cc_plan.specs.ToolWords.{asked_words, tool_words}
-use Rattle.cc_plan.specs.declared.compiler.Compiler.{Compiler}
+use Rattle.cc_flags.specs.Warnings.{language_variable}
+use Rattle.cc_flags.specs.ToolWords.{asked_words, tool_words}
+use Rattle.cc_flags.specs.declared.compiler.Compiler.{Compiler}
 use Rattle.cc_plan.specs.declared.error.PlanError.{PlanError}
-use Rattle.cc_plan.specs.declared.flags.BuildFlag.TheVariants.{Always}
-use Rattle.cc_plan.specs.declared.settings.BuildConfig.{BuildConfig}
+use Rattle.cc_flags.specs.declared.build_flags.BuildFlag.TheVariants.{Always}
+use Rattle.cc_flags.specs.declared.settings.BuildConfig.{BuildConfig}
 
 -- the settings of a question on a flag: the compiler and the flag, level 0, no debug information, and nothing that Cargo hands down
 abbrev pub flag_settings : BuildConfig → List ℕ → List ℕ → BuildConfig

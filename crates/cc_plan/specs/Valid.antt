@@ -2,7 +2,7 @@
 use Rattle.std.specs.Prelude.{◌≡◌, ◌≢◌, ℕ, List, [], ◌∷◌, map, true, false, not, Option, Some, None, IsSome}
 use Rattle.std.specs.List.{AllByRecursion, list_all}
 use Rattle.std.specs.Path.{path_file_name, path_components}
-use Rattle.cc_plan.specs.Names.{is_output_name}
+use Rattle.cc_flags.specs.Names.{is_output_name}
 use Rattle.cc_env.specs.Env.{EnvSeen}
 use Rattle.cc_env.specs.Snapshot.{last_value}
 use Rattle.cc_host.specs.Question.{Look}
@@ -11,19 +11,21 @@ use Rattle.cc_text.specs.Families.{is_gnu_like}
 use Rattle.cc_flags.specs.DefaultWords.{is_qnx, qnx_variant, is_wasm_linux}
 use Rattle.cc_flags.specs.Fields.{is_invalid}
 use Rattle.cc_flags.specs.Pairs.{pairs_of}
-use Rattle.cc_plan.specs.Given.{out_dir_of, target_of, host_of, level_of, is_disabled, has_no_defaults}
-use Rattle.cc_plan.specs.Refusal.{is_empty, object_in, library_in, links_cpp, musl_variable}
-use Rattle.cc_plan.specs.ArchiveTool.{qnx_arch, variable_tool}
-use Rattle.cc_plan.specs.Compilation.{CompilationSeen}
-use Rattle.cc_plan.specs.Inherited.{inherited_text}
+use Rattle.cc_flags.specs.Given.{out_dir_of, target_of, host_of, level_of, is_disabled, has_no_defaults}
+use Rattle.cc_plan.specs.Refusal.{is_empty, object_in, library_in, musl_variable}
+use Rattle.cc_flags.specs.StdlibLines.{links_cpp}
+use Rattle.cc_plan.specs.ArchiveTool.{variable_tool}
+use Rattle.cc_flags.specs.ArchiveNames.{qnx_arch}
+use Rattle.cc_flags.specs.Compilation.{CompilationSeen}
+use Rattle.cc_flags.specs.Inherited.{inherited_text}
 use Rattle.cc_plan.specs.Archive.{archiver_of}
 use Rattle.cc_plan.specs.Libtool.{is_libtool, has_line_feed}
 use Rattle.cc_plan.specs.Plan.{archived_of}
 use Rattle.cc_plan.specs.Planned.{planned}
-use Rattle.cc_plan.specs.ToolWords.{names_target, musl_sysroot}
-use Rattle.cc_plan.specs.Target.{target_info}
-use Rattle.cc_plan.specs.declared.archive_tool.ArchiveTool.TheVariants.{Archiver}
-use Rattle.cc_plan.specs.declared.settings.BuildConfig.{BuildConfig}
+use Rattle.cc_flags.specs.ToolWords.{names_target, musl_sysroot}
+use Rattle.cc_flags.specs.Target.{target_info}
+use Rattle.cc_flags.specs.declared.archive_names.ArchiveTool.TheVariants.{Archiver}
+use Rattle.cc_flags.specs.declared.settings.BuildConfig.{BuildConfig}
 
 -- a text is none of these
 abbrev pub IsNoneOf : List ℕ → List (List ℕ) → Type 0

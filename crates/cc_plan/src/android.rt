@@ -1,69 +1,19 @@
 // The compiler for Android.
-ghost use Rattle.std.specs.Prelude.{◌≡◌, ◌≢◌, [], IfOk, Some};
-ghost use Rattle.std.specs.Option.{option_copied};
+ghost use Rattle.std.specs.Prelude.{Some};
 ghost use Rattle.cc_plan.specs.Asking.{AsksFor, SettledIn};
 ghost use Rattle.cc_plan.specs.Android as spec;
 ghost use Rattle.cc_plan.specs.Questions.{IsForAndroid};
-ghost use Rattle.cc_plan.specs.Target.{target_name};
+ghost use Rattle.cc_flags.specs.Target.{target_name};
 
-use crate::given::target_name;
-use crate::languages::{clang_name, gnu_name};
+use crate::Sight;
 use crate::sight::can_start;
-use crate::{BuildConfig, Sight};
 use cc_env::BuildEnv;
+use cc_flags::{BuildConfig, clang_name, gnu_name, kit_compiler, older_name, target_name};
 use cc_host::{Host, World};
 use cc_text::{Mem, Text};
 use std::alloc::Global;
 use std::sync::Wait;
 
-// The compiler that the development kit has for a target. By the NDK's guide for other build systems its name has the oldest level of
-// the system that is built for: the kit's oldest with 64 bits is 21; Arm of 32 bits is called `armv7a`.
-#[tactic(auto, unfolding(crate::specs::Android::kit_compiler))]
-fn kit_compiler(name: &str) -> Option<&'static str>
-    ensures { option_copied result ≡ spec.kit_compiler name.now }
-{
-    match name {
-        "aarch64-linux-android" => Some("aarch64-linux-android21-clang"),
-        "armv7-linux-androideabi" => Some("armv7a-linux-androideabi16-clang"),
-        "i686-linux-android" => Some("i686-linux-android16-clang"),
-        "x86_64-linux-android" => Some("x86_64-linux-android21-clang"),
-        _ => None,
-    }
-}
-// The text with another in place of each needle, which has a byte.
-pub(crate) fn replaced(alloc: Global, text: &str, needle: &str, to: &str) -> Mem<Text>
-    requires { needle.now ≢ [] }
-    ensures { IfOk result (λ out. out ≡ spec.replaced needle.now to.now text.now) }
-{
-    let mut out = Text::new(alloc);
-    let mut rest = text;
-    while let Some((before, after)) = rest.split_once(needle) {
-        out.push_str(before)?;
-        out.push_str(to)?;
-        rest = after;
-    }
-    out.push_str(rest)?;
-    Ok(out)
-}
-// The target as older tools spell it.
-#[tactic(auto, unfolding(crate::specs::Android::plain_arm))]
-fn plain_arm(alloc: Global, name: &str) -> Mem<Text>
-    ensures { IfOk result (λ plain. plain ≡ spec.plain_arm name.now) }
-{
-    let plain = replaced(alloc, name, "armv7neon", "arm")?;
-    let plain = replaced(alloc, plain.as_str(), "armv7", "arm")?;
-    let plain = replaced(alloc, plain.as_str(), "thumbv7neon", "arm")?;
-    replaced(alloc, plain.as_str(), "thumbv7", "arm")
-}
-// A name behind the target's.
-fn older_name(alloc: Global, name: &str, compiler: &str) -> Mem<Text>
-    ensures { IfOk result (λ path. path ≡ spec.older_name name.now compiler.now) }
-{
-    let mut path = plain_arm(alloc, name)?;
-    path.push_str("-")?;
-    path.push_str(compiler)?;
-    Ok(path)
-}
 // GCC by the target's name where it can be run, else Clang. Kits up to release 17 had GCC.
 #[tactic(auto, using(crate::proofs::AskingLemmas::only_none))]
 fn older_compiler<W: World, H: Host<W>>(
@@ -85,6 +35,7 @@ fn older_compiler<W: World, H: Host<W>>(
     }
     older_name(alloc, name, clang_name(set.cpp))
 }
+
 // The compiler of the development kit, where it has one for the target, and that can be run.
 #[tactic(auto, using(crate::proofs::AskingLemmas::only_none))]
 fn started_kit<W: World, H: Host<W>>(
@@ -109,6 +60,7 @@ fn started_kit<W: World, H: Host<W>>(
     }
     Ok(None)
 }
+
 // The compiler for a target: that of the development kit, else an older one.
 pub(crate) fn android_compiler<W: World, H: Host<W>>(
     rt: &impl Wait,

@@ -1,5 +1,5 @@
 // The commands of an archiver in the form of `ar`.
-ghost use Rattle.std.specs.Prelude.{◌≡◌, [], ◌∷◌, ◌++◌, map, take, true, false, IfOk};
+ghost use Rattle.std.specs.Prelude.{◌≡◌, [], ◌∷◌, ◌++◌, map, take, false, IfOk};
 ghost use Rattle.cc_plan.specs.Archive.{archive_env, timeless, adding, archive_of, archives_by, index_of, plain_index_of, indexes_by};
 ghost use Rattle.cc_text.specs.Batches.{batches_of};
 

@@ -7,14 +7,14 @@ ghost use Rattle.cc_plan.specs.Asking.{AsksForArchiver, AsksForRanlib, AsksForEi
 ghost use Rattle.cc_plan.specs.Refusal.{AllowedBy, RefusedBy, look_up_refusal, archive_tool_refusal, archiver_refusal, ranlib_refusal};
 
 use crate::ar_form::{batch_commands, batch_index_commands};
-use crate::archive_names::is_msvc;
-use crate::archive_tool::{ArchiveTool, archive_tool};
+use crate::archive_tool::archive_tool;
 use crate::lib_form::{is_lib, lib_commands};
 use crate::libtool::libtool_command;
-use crate::{
-    BuildConfig, Choice, Object, PlanError, Sight, host_of, is_libtool, target_of, variable_flags,
-};
+use crate::{PlanError, Sight, is_libtool};
 use cc_env::BuildEnv;
+use cc_flags::{
+    ArchiveTool, BuildConfig, Choice, Object, host_of, is_msvc, target_of, variable_flags,
+};
 use cc_host::{Command, Host, World};
 use cc_target::TargetInfo;
 use cc_text::{Mem, Text, Words};

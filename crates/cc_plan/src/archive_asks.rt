@@ -1,16 +1,14 @@
 // The questions by which tools of archives are found.
-ghost use Rattle.std.specs.Prelude.{◌≡◌, ◌++◌, IfOk};
+ghost use Rattle.std.specs.Prelude.{◌≡◌, IfOk};
 ghost use Rattle.cc_plan.specs.ArchiveTool as spec;
 ghost use Rattle.cc_plan.specs.Asking.{AsksForTool, AsksThis, IsChosenAt, SettledIn, SettledBy};
 ghost use Rattle.cc_plan.specs.Questions.{IsForAndroid, IsForStudio, IsForWasm};
 
 use crate::Sight;
-use crate::archive_names::behind;
-use crate::archive_tool::ArchiveTool;
 use crate::beside::beside;
-use crate::compilation::Inputs;
 use crate::compiler::compiler_of;
 use crate::searched::searched;
+use cc_flags::{ArchiveTool, Inputs, behind};
 use cc_host::{Ask, Host, Question, World, is_yes};
 use cc_text::{Mem, Text, Vars, Words, is_clang};
 use cc_tool::{ask, question_of};

@@ -1,17 +1,16 @@
 // The names of the variables by which the tools of archives are found.
-ghost use Rattle.std.specs.Prelude.{◌≡◌, is_some};
+ghost use Rattle.std.specs.Prelude.{◌≡◌};
 ghost use Rattle.cc_target.specs.Targets.{info_seen};
 ghost use Rattle.cc_plan.specs.Asking.{AsksBy, AsksForTool, SettledBy};
 ghost use Rattle.cc_plan.specs.Reruns as spec;
 
 use crate::Sight;
-use crate::archive_names::{is_msvc, set_program, system_name, tool_variable};
-use crate::archive_tool::{ArchiveTool, wasm_tool};
-use crate::choice::is_wasm;
-use crate::compilation::Inputs;
-use crate::prefix::is_cross;
+use crate::archive_tool::wasm_tool;
 use crate::reruns::{choice_names, is_named, tool_names};
-use crate::variables::{flags_names, push_if, tool_flags};
+use cc_flags::{
+    ArchiveTool, Inputs, flags_names, is_cross, is_msvc, is_wasm, push_if, set_program,
+    system_name, tool_flags, tool_variable,
+};
 use cc_host::{Host, World};
 use cc_target::TargetInfo;
 use cc_text::{Mem, Words};

@@ -1,37 +1,27 @@
 // The tools of archives, the archiver and the one that writes their index, and how they are found: one table, in which each has its own
 // name.
-ghost use Rattle.std.specs.Prelude.{◌≡◌, ◌++◌};
 ghost use Rattle.cc_plan.specs.ArchiveTool as spec;
 ghost use Rattle.cc_plan.specs.Asking.{AsksForEither, AsksForTool, IsPrefix, SettledIn, SettledBy, AllowedIn, RefusedIn};
 ghost use Rattle.cc_plan.specs.Questions.{IsForAndroid, IsForStudio};
 ghost use Rattle.cc_plan.specs.Refusal.{choice_refusal, known_refusal, found_refusal};
 
 use crate::archive_asks::{compiler_tool, if_versioned, lib_beside, llvm_is_there};
-use crate::archive_names::{
-    android_name, behind, check_qnx_arch, gcc_name, is_msvc, plain_name, push_machine_words,
-    set_program, system_name, tool_name, tool_variable,
-};
-use crate::choice::{bare, cross_prefix, is_wasm};
-use crate::compilation::Inputs;
+use crate::checks::check_qnx_arch;
+use crate::choice::cross_prefix;
 use crate::env_tool::env_tool;
-use crate::given::target_name;
-use crate::inherited::read_handed;
 use crate::tool::known_target;
-use crate::{BuildConfig, Choice, PlanError, Sight};
+use crate::{PlanError, Sight};
 use cc_env::BuildEnv;
+use cc_flags::{
+    ArchiveTool, BuildConfig, Choice, Inputs, android_name, bare, behind, gcc_name, is_msvc,
+    is_wasm, plain_name, push_machine_words, read_handed, set_program, system_name, target_name,
+    tool_name, tool_variable,
+};
 use cc_host::{Host, World};
 use cc_text::{Mem, Text};
 use std::alloc::Global;
 use std::sync::Wait;
 
-/// A tool of archives.
-#[derive(Clone, Copy, Debug, PartialEq, Eq)]
-pub(crate) enum ArchiveTool {
-    /// `ar`, which writes members.
-    Archiver,
-    /// `ranlib`, which writes the index.
-    Ranlib,
-}
 // LLVM's tool for WebAssembly: the folders of Clang come first, as a kit for it has tools that fit.
 #[tactic(auto, using(crate::proofs::AskingLemmas::only_none))]
 pub(crate) fn wasm_tool<W: World, H: Host<W>>(
@@ -50,6 +40,7 @@ pub(crate) fn wasm_tool<W: World, H: Host<W>>(
         Ok(None)
     }
 }
+
 // LLVM's tool for Android, which newer kits have, where it prints its version; else that of older ones.
 fn android_tool<W: World, H: Host<W>>(
     rt: &impl Wait,
@@ -67,6 +58,7 @@ fn android_tool<W: World, H: Host<W>>(
     }
     android_name(inputs.alloc, tool, target_name(inputs.set, inputs.env))
 }
+
 // That of binutils behind a prefix.
 #[tactic(auto, using(crate::proofs::AskingLemmas::only_none))]
 fn plain_tool<W: World, H: Host<W>>(
@@ -86,6 +78,7 @@ fn plain_tool<W: World, H: Host<W>>(
     let found = if_versioned(rt, inputs, name, sight)?;
     Ok(found)
 }
+
 // GCC's own there, which loads its plugin for link time optimisation.
 #[tactic(auto, using(crate::proofs::AskingLemmas::only_none))]
 fn gcc_tool<W: World, H: Host<W>>(
@@ -105,6 +98,7 @@ fn gcc_tool<W: World, H: Host<W>>(
     let found = if_versioned(rt, inputs, name, sight)?;
     Ok(found)
 }
+
 // Behind the prefix of the GNU tools: the first of the two that prints its version.
 fn prefixed_tool<W: World, H: Host<W>>(
     rt: &impl Wait,
@@ -127,6 +121,7 @@ fn prefixed_tool<W: World, H: Host<W>>(
         }
     }
 }
+
 // For another target than the host, where there is a prefix.
 fn cross_tool<W: World, H: Host<W>>(
     rt: &impl Wait,
@@ -146,6 +141,7 @@ fn cross_tool<W: World, H: Host<W>>(
         None => Ok(None),
     }
 }
+
 // Behind a prefix, else by its name alone.
 fn gnu_tool<W: World, H: Host<W>>(
     rt: &impl Wait,
@@ -165,6 +161,7 @@ fn gnu_tool<W: World, H: Host<W>>(
         }
     }
 }
+
 // That of the system, else one of GNU's.
 #[tactic(auto, using(crate::proofs::AskingLemmas::only_none))]
 fn named_tool<W: World, H: Host<W>>(
@@ -182,6 +179,7 @@ fn named_tool<W: World, H: Host<W>>(
         None => gnu_tool(rt, tool, inputs, sight),
     }
 }
+
 // For Visual Studio: LLVM's next to clang-cl, else Microsoft's library manager, which stands for both tools, as an index needs none there.
 fn studio_tool<W: World, H: Host<W>>(
     rt: &impl Wait,
@@ -202,6 +200,7 @@ fn studio_tool<W: World, H: Host<W>>(
         }
     }
 }
+
 // That of Visual Studio, of a system or of GNU's.
 fn studio_or_named<W: World, H: Host<W>>(
     rt: &impl Wait,
@@ -219,6 +218,7 @@ fn studio_or_named<W: World, H: Host<W>>(
         named_tool(rt, tool, inputs, sight)
     }
 }
+
 // The one that the target wants.
 fn target_tool<W: World, H: Host<W>>(
     rt: &impl Wait,
@@ -236,6 +236,7 @@ fn target_tool<W: World, H: Host<W>>(
         studio_or_named(rt, tool, inputs, sight)
     }
 }
+
 // That of Clang for WebAssembly, else the one that the target wants.
 fn wasm_or_target<W: World, H: Host<W>>(
     rt: &impl Wait,
@@ -255,6 +256,7 @@ fn wasm_or_target<W: World, H: Host<W>>(
         }
     }
 }
+
 // The one where neither settings nor environment name one. Emscripten has its own.
 #[tactic(auto, using(crate::proofs::AskingLemmas::only_none))]
 fn own_tool<W: World, H: Host<W>>(
@@ -273,6 +275,7 @@ fn own_tool<W: World, H: Host<W>>(
         wasm_or_target(rt, tool, inputs, sight)
     }
 }
+
 // The same with its words.
 fn own_choice<W: World, H: Host<W>>(
     rt: &impl Wait,
@@ -289,6 +292,7 @@ fn own_choice<W: World, H: Host<W>>(
     push_machine_words(&mut choice.words, inputs.target, path.as_str())?;
     Ok(choice)
 }
+
 // The one where the settings name none.
 #[tactic(auto, using(crate::proofs::AskingLemmas::only_none))]
 fn found_tool<W: World, H: Host<W>>(
@@ -316,6 +320,7 @@ fn found_tool<W: World, H: Host<W>>(
         }
     }
 }
+
 // The same for a target that is known.
 #[tactic(auto, using(crate::proofs::AskingLemmas::only_none))]
 fn known_tool<W: World, H: Host<W>>(
@@ -344,6 +349,7 @@ fn known_tool<W: World, H: Host<W>>(
     let choice = found_tool(rt, tool, &inputs, sight)?;
     Ok(choice)
 }
+
 /// A tool of archives: the set one, else that of the environment with its words, else the one that the target wants.
 ///
 /// Where the settings name none, refused where the target is set nowhere or isn't known, or where it is QNX on an architecture for which

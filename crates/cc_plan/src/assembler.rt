@@ -4,47 +4,24 @@ ghost use Rattle.std.specs.Prelude.{◌≡◌, IfOk, is_some};
 ghost use Rattle.cc_target.specs.Targets.{info_seen};
 ghost use Rattle.cc_plan.specs.Asking.{AsksBeside, AsksFor, AsksForAssembly, AsksIfWanted, SettledIn};
 ghost use Rattle.cc_plan.specs.Assembler as spec;
-ghost use Rattle.cc_plan.specs.Given.{target_of};
+ghost use Rattle.cc_flags.specs.Given.{target_of};
 ghost use Rattle.cc_plan.specs.Refusal.{AllowedBy, RefusedBy, target_refusal};
 
-use crate::assembly::Assembly;
 use crate::beside::beside;
-use crate::choice::bare;
 use crate::env_tool::env_tool;
 use crate::search::which_in;
 use crate::tool::{known_target, push_args, push_entries};
-use crate::words::{assembler_words, is_masm};
-use crate::{BuildConfig, Choice, PlanError, Sight};
+use crate::{PlanError, Sight};
 use cc_env::BuildEnv;
+use cc_flags::{
+    Assembly, BuildConfig, Choice, assembler_words, bare, is_x86, studio_assembler, want_assembler,
+};
 use cc_host::{Host, World};
-use cc_target::TargetInfo;
 use cc_text::{Mem, Text, ToolFamily};
 use cc_tool::Tool;
 use std::alloc::Global;
 use std::sync::Wait;
 
-// That of Visual Studio: Microsoft's "ML and ML64 command-line reference" and "ARM Assembler command-line reference".
-#[tactic(auto, unfolding(crate::specs::Assembler::studio_assembler))]
-fn studio_assembler(target: &TargetInfo) -> &'static str
-    ensures { result.now ≡ spec.studio_assembler (info_seen target.now) }
-{
-    if target.arch == "x86_64" {
-        "ml64.exe"
-    } else if target.arch == "arm" {
-        "armasm.exe"
-    } else if target.arch == "aarch64" || target.arch == "arm64ec" {
-        "armasm64.exe"
-    } else {
-        "ml.exe"
-    }
-}
-// An architecture that that of LLVM knows (LLVM's "llvm-ml - LLVM assembler for MASM").
-#[tactic(auto, unfolding(crate::specs::Assembler::is_x86))]
-fn is_x86(target: &TargetInfo) -> bool
-    ensures { result ≡ spec.is_x86 (info_seen target.now) }
-{
-    target.arch == "x86" || target.arch == "x86_64"
-}
 // Where a tool is that a command would find, whose `PATH` may be another than the one that was inherited.
 fn which_in_command<W: World, H: Host<W>>(
     rt: &impl Wait,
@@ -61,6 +38,7 @@ fn which_in_command<W: World, H: Host<W>>(
     let found = which_in(rt, given.alloc, given.set, given.env, list, tool, sight)?;
     Ok(found)
 }
+
 // Whether a command would find a tool.
 fn is_in_command<W: World, H: Host<W>>(
     rt: &impl Wait,
@@ -76,6 +54,7 @@ fn is_in_command<W: World, H: Host<W>>(
     let found = which_in_command(rt, given, tool, sight)?;
     Ok(found.is_some())
 }
+
 // That of LLVM: next to clang-cl, else where a command would find it.
 fn llvm_assembler<W: World, H: Host<W>>(
     rt: &impl Wait,
@@ -106,6 +85,7 @@ fn llvm_assembler<W: World, H: Host<W>>(
         }
     }
 }
+
 // That of LLVM, where a command wouldn't find this one.
 fn unless_found<W: World, H: Host<W>>(
     rt: &impl Wait,
@@ -125,6 +105,7 @@ fn unless_found<W: World, H: Host<W>>(
     let found = llvm_assembler(rt, given, sight)?;
     Ok(found)
 }
+
 // It stands in for that of Visual Studio, as where a machine without Visual Studio compiles for Windows.
 #[tactic(auto, using(crate::proofs::AskingLemmas::only_none))]
 fn stand_in<W: World, H: Host<W>>(
@@ -145,6 +126,7 @@ fn stand_in<W: World, H: Host<W>>(
         Ok(None)
     }
 }
+
 // That of Visual Studio, or the one that stands in for it.
 fn own_assembler<W: World, H: Host<W>>(
     rt: &impl Wait,
@@ -165,6 +147,7 @@ fn own_assembler<W: World, H: Host<W>>(
         }
     }
 }
+
 // The one where the environment names none.
 fn own_choice<W: World, H: Host<W>>(
     rt: &impl Wait,
@@ -181,6 +164,7 @@ fn own_choice<W: World, H: Host<W>>(
     let choice = bare(given.alloc, path.as_str())?;
     Ok(choice)
 }
+
 /// The assembler: that of `CC_MASM_ASM` with its words, else that of Visual Studio for the architecture, for which on x86 that of LLVM
 /// stands in where a command wouldn't find it. No wrapper runs it.
 pub(crate) fn assembler_choice<W: World, H: Host<W>>(
@@ -202,6 +186,7 @@ pub(crate) fn assembler_choice<W: World, H: Host<W>>(
         }
     }
 }
+
 // The tool of a choice, with its words, in the environment of a child.
 fn chosen_assembler(given: &Assembly<'_>, choice: &Choice) -> Mem<Tool>
     ensures { IfOk result (λ tool. tool ≡ spec.chosen_assembler given.now.set.now given.now.env.now
@@ -215,6 +200,7 @@ fn chosen_assembler(given: &Assembly<'_>, choice: &Choice) -> Mem<Tool>
     push_entries(&mut tool, given.env)?;
     Ok(tool)
 }
+
 // The assembler.
 fn assembler_by<W: World, H: Host<W>>(
     rt: &impl Wait,
@@ -231,14 +217,7 @@ fn assembler_by<W: World, H: Host<W>>(
     let tool = chosen_assembler(given, &choice)?;
     Ok(tool)
 }
-/// Whether one of the sources is in a language of the Visual Studio assemblers. It takes no memory.
-pub(crate) fn want_assembler(target: &TargetInfo, sources: &[Text]) -> bool
-    ensures { result ≡ spec.want_assembler (info_seen target.now) sources.now }
-{
-    sources
-        .iter()
-        .any(|source| is_masm(target, source.as_str()))
-}
+
 /// The assembler that the sources want, if any.
 #[tactic(auto, using(crate::proofs::AskingLemmas::only_none))]
 pub(crate) fn wanted_assembler<W: World, H: Host<W>>(
@@ -259,6 +238,7 @@ pub(crate) fn wanted_assembler<W: World, H: Host<W>>(
     let assembler = assembler_by(rt, given, sight)?;
     Ok(Some(assembler))
 }
+
 /// The assembler of sources in MASM, or in the language of Microsoft's assembler for Arm, for the compiler that this tool is: that of
 /// `CC_MASM_ASM` with its words, else that of Visual Studio for the architecture, for which on x86 `llvm-ml` stands in where a command
 /// wouldn't find it; then the words of the settings in its form (Microsoft's "ML and ML64 command-line reference" and "ARM Assembler

@@ -3,25 +3,23 @@ ghost use Rattle.std.specs.Prelude.{◌≡◌, ◌++◌, OnOk};
 ghost use Rattle.cc_target.specs.Targets.{info_seen};
 ghost use Rattle.cc_plan.specs.Asking.{AsksBeside, AsksForNamesBy, SettledIn, SettledBy};
 ghost use Rattle.cc_plan.specs.Reruns as spec;
+ghost use Rattle.cc_flags.specs.Variables as variables;
 
 use crate::Sight;
-use crate::assembler::{assembler_choice, want_assembler};
-use crate::assembly::Assembly;
-use crate::compilation::Inputs;
-use crate::compiler::{Compiler, compiler_of};
+use crate::assembler::assembler_choice;
+use crate::compiler::compiler_of;
 use crate::reruns::tool_names;
-use crate::variables::Reads;
-use crate::words::is_llvm;
+use cc_flags::{Assembly, Compiler, Inputs, Reads, is_llvm, want_assembler};
 use cc_host::{Host, World};
 use cc_target::TargetInfo;
 use cc_text::{Mem, Words};
 use std::sync::Wait;
 
 // Microsoft's assemblers for x86 take words from `ML` too ("ML and ML64 command-line reference", "Environment variables").
-#[tactic(auto, unfolding(crate::specs::Reruns::option_names))]
+#[tactic(auto, unfolding(cc_flags::specs::Variables::option_names))]
 fn push_option_names(names: &mut Words, target: &TargetInfo, path: &str) -> Mem<()>
     ensures { OnOk result (names.new
-        ≡ names.old ++ spec.option_names (info_seen target.now) path.now) }
+        ≡ names.old ++ variables.option_names (info_seen target.now) path.now) }
 {
     if !target.is_arm() && !is_llvm(path) {
         names.push("ML")?;

@@ -1,12 +1,12 @@
 // A tool of LLVM next to clang-cl, as LLVM's kits for Windows have both in one folder.
-ghost use Rattle.std.specs.Prelude.{◌≡◌, IfOk};
 ghost use Rattle.cc_plan.specs.Asking.{AsksBeside, AsksFor, AsksWhere, SettledIn};
 ghost use Rattle.cc_plan.specs.Beside as spec;
 
+use crate::Sight;
 use crate::search::which;
 use crate::searched::searched;
-use crate::{BuildConfig, Sight};
 use cc_env::BuildEnv;
+use cc_flags::BuildConfig;
 use cc_host::{Host, World};
 use cc_text::{Mem, Text, ToolFamily, is_clang_cl, join, parent};
 use std::alloc::Global;

@@ -4,11 +4,11 @@ ghost use Rattle.std.specs.Option.{option_copied};
 ghost use Rattle.cc_target.specs.Targets.{info_seen};
 ghost use Rattle.cc_tool.specs.Tool.{tool_command};
 ghost use Rattle.cc_plan.specs.Compile.{tool_for, with_object, begun_with, compile_of, compiles_of, expand_of};
-ghost use Rattle.cc_plan.specs.CompileWords as words;
+ghost use Rattle.cc_flags.specs.CompileWords as words;
 ghost use Rattle.cc_plan.specs.declared.error.PlanError.TheVariants.{NoMemory as WantsMemory};
 
-use crate::words::{compile_words, expand_words, is_masm};
-use crate::{BuildConfig, Object, PlanError};
+use crate::PlanError;
+use cc_flags::{BuildConfig, Object, compile_words, expand_words, is_masm};
 use cc_host::Command;
 use cc_target::TargetInfo;
 use cc_text::{Mem, ToolFamily};

@@ -2,26 +2,16 @@
 ghost use Rattle.cc_plan.specs.Asking.{AsksFor, AsksBy, IsChosen, SettledIn, SettledBy};
 ghost use Rattle.cc_plan.specs.Compiler.{family_in, compiler_of};
 
+use crate::Sight;
 use crate::choice::choose;
-use crate::compilation::Inputs;
-use crate::{BuildConfig, Choice, Sight};
 use cc_env::BuildEnv;
+use cc_flags::{BuildConfig, Choice, Compiler, Inputs};
 use cc_host::{Host, World};
 use cc_text::{Mem, ToolFamily};
 use cc_tool::{Detected, ask_family};
 use std::alloc::Global;
 use std::sync::Wait;
 
-/// A compiler with its family.
-#[derive(Drop, Debug)]
-pub struct Compiler {
-    /// Its path, its wrapper, and the words behind its name in `CC` or `CXX`.
-    pub choice: Choice,
-    /// The form of words that it takes.
-    pub family: ToolFamily,
-    /// How the family was found: a user is warned of one that no mark showed.
-    pub detected: Detected,
-}
 // The family of the chosen compiler.
 fn family_in<W: World, H: Host<W>>(
     rt: &impl Wait,
@@ -47,6 +37,7 @@ fn family_in<W: World, H: Host<W>>(
         sight.dir,
     )
 }
+
 /// The compiler of these settings in this environment, with its family.
 pub(crate) fn compiler_of<W: World, H: Host<W>>(
     rt: &impl Wait,

@@ -2,7 +2,10 @@
 ghost use Rattle.std.specs.Prelude.{◌≡◌};
 ghost use Rattle.cc_plan.specs.declared.error.PlanError.TheVariants.{NoMemory as WantsMemory};
 
-use cc_host::{HostCall, Why};
+use crate::Library;
+use cc_env::NotSet;
+use cc_host::{Host, HostCall, Why};
+use cc_target::UnknownTarget;
 use cc_text::{NoMemory, Text};
 use std::alloc::{AllocError, AllocFailed};
 

@@ -2,7 +2,7 @@
 ghost use Rattle.std.specs.Prelude.{◌≡◌, IfOk, IfErr};
 ghost use Rattle.cc_host.specs.Question.{Settles};
 ghost use Rattle.cc_plan.specs.Asking.{IsOwn, OnlyAsks, AsksBy, AsksOnFlag, AsksThenWarns, SettledIn, SettledBy, AllowedIn, RefusedIn, RefusedInOrByPrint};
-ghost use Rattle.cc_plan.specs.Compilation.{seen};
+ghost use Rattle.cc_flags.specs.Compilation.{seen};
 ghost use Rattle.cc_plan.specs.Compiler.{compiler_of};
 ghost use Rattle.cc_plan.specs.FlagSupport as spec;
 ghost use Rattle.cc_plan.specs.Plan.{warned_steps};
@@ -10,14 +10,13 @@ ghost use Rattle.cc_plan.specs.Questions.{SupportAsks};
 ghost use Rattle.cc_plan.specs.Support.{flag_question as question_on};
 ghost use Rattle.cc_plan.specs.Refusal.{AllowedBy, RefusedBy};
 
-use crate::compilation::{Compilation, Inputs};
-use crate::compiler::{Compiler, compiler_of};
-use crate::inherited::read_handed;
+use crate::compiler::compiler_of;
 use crate::printing::warn_of;
 use crate::support::{bare_compiler, flag_settings, is_for_linker, plain_question};
 use crate::tool::{check_compiler, found_warnings, known_target};
-use crate::{BuildConfig, PlanError, Sight};
+use crate::{PlanError, Sight};
 use cc_env::BuildEnv;
+use cc_flags::{BuildConfig, Compilation, Compiler, Inputs, read_handed};
 use cc_host::{Host, Question, Verdict, World};
 use cc_text::{Mem, Words};
 use cc_tool::ask_flag;

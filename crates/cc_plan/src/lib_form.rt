@@ -6,9 +6,8 @@ ghost use Rattle.cc_text.specs.Batches.{batches_of};
 ghost use Rattle.cc_plan.specs.LibForm as spec;
 ghost use Rattle.cc_target.specs.Targets.{info_seen};
 
-use crate::archive_names::is_msvc;
-use crate::search::is_path;
 use crate::{Archiver, Library, is_libtool};
+use cc_flags::{is_msvc, is_path};
 use cc_host::Command;
 use cc_target::TargetInfo;
 use cc_text::{

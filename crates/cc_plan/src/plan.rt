@@ -3,22 +3,19 @@ ghost use Rattle.std.specs.Prelude.{◌≡◌, [], IfOk, Some, None};
 ghost use Rattle.cc_host.specs.Question.{Settles};
 ghost use Rattle.std.specs.Option.{option_copied};
 ghost use Rattle.cc_plan.specs.Asking.{AsksToCompile, AllowedIn, RefusedIn};
-ghost use Rattle.cc_plan.specs.Names.{library_name};
-ghost use Rattle.cc_plan.specs.Given.{out_dir_of, probe_folder};
+ghost use Rattle.cc_flags.specs.Names.{library_name};
+ghost use Rattle.cc_flags.specs.Given.{out_dir_of, probe_folder};
 ghost use Rattle.cc_plan.specs.Planned.{warnings_of};
 ghost use Rattle.cc_plan.specs.Plan.{dir_of, objects_of, library_of, compiles_of, plan_warnings};
 ghost use Rattle.cc_plan.specs.Refusal.{intermediate_refusal, early_refusal, late_refusal, tool_refusal, platform_refusal, out_dir_refusal, AllowedBy, RefusedBy};
 
 use crate::added::check_added;
 use crate::assembler::wanted_assembler;
-use crate::assembly::Assembly;
 use crate::compile::compile_commands;
-use crate::given::out_dir_of;
 use crate::tool::{check_platform, plan_tool};
-use crate::{
-    ArgumentCause, BuildConfig, Object, PlanError, Sight, lib_and_archive_names, objects_from_files,
-};
+use crate::{ArgumentCause, PlanError, Sight, lib_and_archive_names, objects_from_files};
 use cc_env::BuildEnv;
+use cc_flags::{Assembly, BuildConfig, Object, out_dir_of};
 use cc_host::{Command, Host, World};
 use cc_text::{Text, Words, join};
 use std::alloc::Global;

@@ -1,8 +1,7 @@
 // Warnings, which a host is given: as lines for Cargo, and as messages where it listens.
-ghost use Rattle.std.specs.Prelude.{◌≡◌, ◌++◌, [], ◌∷◌, false, IfOk};
+ghost use Rattle.std.specs.Prelude.{◌≡◌, ◌++◌, [], false, IfOk};
 ghost use Rattle.std.specs.List.{list_any};
 ghost use Rattle.cc_host.specs.Call.{part};
-ghost use Rattle.cc_host.specs.Part.Step.{Prints, Says};
 ghost use Rattle.cc_host.specs.declared.event.Event.TheVariants.{Printed, Said};
 ghost use Rattle.cc_host.specs.declared.event.HostCall.TheVariants.{Print, Say};
 ghost use Rattle.cc_host.specs.declared.event.LineKind.TheVariants.{Warning};
@@ -12,7 +11,8 @@ ghost use Rattle.cc_plan.specs.Asking.{Gives, Warned, RefusedByPrint, is_of_chil
 ghost use Rattle.cc_plan.specs.Link.{printed_line as line_of};
 ghost use Rattle.cc_plan.specs.Plan.{warning_line as line_of_warning, warning_steps, warned_steps};
 
-use crate::{BuildConfig, PlanError};
+use crate::PlanError;
+use cc_flags::BuildConfig;
 use cc_host::{Host, HostError, LineKind, Message, World};
 use cc_text::{Mem, Text, Words};
 use std::alloc::Global;

@@ -1,28 +1,23 @@
 // The variables whose change asks for another run of the build script, which Cargo is told of by `cargo:rerun-if-env-changed` (Cargo's book,
 // "Build Scripts").
-ghost use Rattle.std.specs.Prelude.{◌≡◌, ◌++◌, IfOk, is_some};
+ghost use Rattle.std.specs.Prelude.{◌≡◌, IfOk};
 ghost use Rattle.cc_plan.specs.Asking.{AsksBy, AsksForNames, AsksForNamesBy, SettledIn, SettledBy};
 ghost use Rattle.cc_plan.specs.Reruns as spec;
 
+use crate::Sight;
 use crate::archive_reruns::archive_names;
-use crate::archive_tool::ArchiveTool;
 use crate::assembler_reruns::assembling_names;
-use crate::compilation::Inputs;
-use crate::compiler::{Compiler, compiler_of};
+use crate::compiler::compiler_of;
 use crate::env_tool::env_tool;
 use crate::flag_verdict::found_compiler;
-use crate::given::prefixed_value;
-use crate::inherited::read_handed;
-use crate::languages::compiler_variable;
-use crate::prefix::is_cross;
 use crate::sight::is_there;
-use crate::stdlib::target_info;
 use crate::support::flag_settings;
-use crate::variables::{
-    Reads, in_order, joined_names, push_target_names, value_names, wants_reruns, words_names,
-};
-use crate::{BuildConfig, Sight};
 use cc_env::BuildEnv;
+use cc_flags::{
+    ArchiveTool, BuildConfig, Compiler, Inputs, Reads, compiler_variable, in_order, is_cross,
+    joined_names, prefixed_value, push_target_names, read_handed, target_info, value_names,
+    wants_reruns, words_names,
+};
 use cc_host::{Host, World};
 use cc_text::{Mem, Words};
 use std::alloc::Global;

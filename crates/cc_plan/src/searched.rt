@@ -4,9 +4,10 @@ ghost use Rattle.std.specs.Prelude.{◌≡◌, IfOk};
 ghost use Rattle.cc_plan.specs.Asking.{AsksFor, AsksThis, AsksWhere, SettledIn};
 ghost use Rattle.cc_plan.specs.Searched as spec;
 
+use crate::Sight;
 use crate::search::which_in;
-use crate::{BuildConfig, Sight};
 use cc_env::BuildEnv;
+use cc_flags::BuildConfig;
 use cc_host::{Ask, Host, Question, Verdict, World};
 use cc_text::{Mem, Text, Words};
 use cc_tool::{ask, question_of};

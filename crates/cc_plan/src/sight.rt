@@ -5,8 +5,8 @@ ghost use Rattle.cc_plan.specs.Android.{starts_question, can_start};
 ghost use Rattle.cc_plan.specs.Questions.{IsAndroidCompiler};
 ghost use Rattle.cc_plan.specs.Search.{is_there};
 
-use crate::BuildConfig;
 use cc_env::BuildEnv;
+use cc_flags::BuildConfig;
 use cc_host::{Ask, Host, Question, World, exists_of, is_yes};
 use cc_text::{Mem, Text, Words};
 use cc_tool::{Answers, Caches, ask};

@@ -1,20 +1,19 @@
 // Words that a compiler is given only where it takes them.
 ghost use Rattle.std.specs.Prelude.{◌≡◌, ◌++◌, [], ◌∷◌, IfOk, OnOk, is_none};
 ghost use Rattle.cc_plan.specs.Asking.{OnlyAsks, AsksFor, IsChosenAt, SettledIn};
-ghost use Rattle.cc_plan.specs.Compilation.{seen};
+ghost use Rattle.cc_flags.specs.Compilation.{seen};
 ghost use Rattle.cc_plan.specs.Questions.{FlagAsks, WordAsks};
 ghost use Rattle.cc_plan.specs.Support as spec;
-ghost use Rattle.cc_plan.specs.ToolWords.{asked_words as words_asked};
+ghost use Rattle.cc_flags.specs.ToolWords.{asked_words as words_asked};
 ghost use Rattle.cc_text.specs.Words.{when};
 
-use crate::compilation::Compilation;
-use crate::compiler::Compiler;
-use crate::supported::Supported;
-use crate::tool::{check_compiler, language_variable};
-use crate::words::{asked_words, is_link, tool_words};
-use crate::{BuildConfig, BuildFlag, Choice, Flags, PlanError, Sight};
+use crate::tool::check_compiler;
+use crate::{PlanError, Sight};
 use cc_env::BuildEnv;
-use cc_flags::{is_clang, is_visual_studio};
+use cc_flags::{
+    BuildConfig, BuildFlag, Choice, Compilation, Compiler, Flags, Supported, asked_words, is_clang,
+    is_link, is_visual_studio, language_variable, tool_words,
+};
 use cc_host::{Ask, Host, Question, World, is_yes};
 use cc_text::{Mem, NoMemory, Text, ToolFamily, Vars, Words};
 use cc_tool::{Detected, ask_family, ask_flag};

@@ -1,35 +1,36 @@
 // The tool of a compile command: the compiler with the words and variables that all sources share.
-ghost use Rattle.std.specs.Prelude.{◌≡◌, ◌++◌, ◌&&◌, ◌||◌, Bool, false, IfOk, IfErr, OnOk, ◌⊎◌, Some};
+ghost use Rattle.std.specs.Prelude.{◌≡◌, ◌++◌, ◌&&◌, Bool, false, IfOk, IfErr, OnOk, ◌⊎◌, Some};
 ghost use Rattle.std.specs.Option.{option_copied};
 ghost use Rattle.cc_host.specs.Question.{Settles};
 ghost use Rattle.cc_target.specs.Targets.{info_seen};
-ghost use Rattle.cc_plan.specs.Compilation.{seen};
+ghost use Rattle.cc_flags.specs.Compilation.{seen};
 ghost use Rattle.cc_plan.specs.Asking.{IsOwn, AsksToPlan, AsksThenWarns, SettledIn, AllowedIn, RefusedIn, RefusedInOrByPrint};
-ghost use Rattle.cc_plan.specs.Given.{target_of};
+ghost use Rattle.cc_flags.specs.Given.{target_of};
 ghost use Rattle.cc_plan.specs.Plan.{tool_warnings};
 ghost use Rattle.cc_plan.specs.Questions.{PlanAsks};
 ghost use Rattle.cc_plan.specs.Refusal.{AllowedBy, RefusedBy, unset, target_refusal, platform_refusal, given_refusal, tool_refusal};
-ghost use Rattle.cc_plan.specs.Target.{target_info};
+ghost use Rattle.cc_flags.specs.Target.{target_info};
 ghost use Rattle.cc_plan.specs.Planned.{warnings_of, tool_of};
 ghost use Rattle.cc_plan.specs.Support.{compiler_refusal};
-ghost use Rattle.cc_plan.specs.Tool.{language_variable, gnu_warnings, lacks_by, lacks_of, detected_warnings, found_warnings, other_warnings, link_warning, warnings_by, marked_by, wrapped_tool, tool_by};
+ghost use Rattle.cc_plan.specs.Tool.{detected_warnings, found_warnings, other_warnings, warnings_by, marked_by, wrapped_tool, tool_by};
+ghost use Rattle.cc_flags.specs.Warnings.{language_variable};
 ghost use Rattle.cc_plan.specs.declared.error.PlanError.TheVariants.{NoMemory as WantsMemory, NotSet};
+ghost use Rattle.std.specs.Prelude.{◌≡◌, IfOk};
 
-use crate::compilation::{Compilation, Inputs};
-use crate::compiler::{Compiler, compiler_of};
-use crate::given::{host_of, level_of, target_of};
-use crate::inherited::{check_rustflags, push_lost, read_handed};
-use crate::link_warning::{is_first_warning, leaves_off};
+use crate::checks::{check_defaults, check_rustflags};
+use crate::compiler::compiler_of;
 use crate::printing::warn_of;
 use crate::support::supported_words;
-use crate::supported::Supported;
-use crate::words::{check_defaults, remapped, rust_words, tool_warnings, tool_words, trimmed};
-use crate::{BuildConfig, PlanError, Sight};
+use crate::{PlanError, Sight};
 use cc_env::BuildEnv;
-use cc_flags::{Maps, is_cl, is_gnu, push_map_lacks};
+use cc_flags::{
+    BuildConfig, Compilation, Compiler, Inputs, Supported, host_of, language_variable, leaves_off,
+    level_of, push_gnu_warning, push_lacks, push_link_warning, read_handed, target_of,
+    tool_warnings, tool_words,
+};
 use cc_host::{Host, World};
 use cc_target::TargetInfo;
-use cc_text::{Mem, Text, ToolFamily, Words, quoted};
+use cc_text::{Mem, Text, Words, quoted};
 use cc_tool::{Caches, Detected, Tool};
 use std::alloc::Global;
 use std::sync::Wait;
@@ -41,18 +42,21 @@ pub(crate) struct ToolPlan {
     pub tool: Tool,
     pub warned: Warned,
 }
+
 /// Warnings, and whether the call is the first of its caches that leaves off flags for the linker, which warns of it for all.
 #[derive(Drop, Debug)]
 pub(crate) struct Warned {
     pub is_first: bool,
     pub warnings: Words,
 }
+
 /// Warnings, but for that of flags for the linker, and whether such flags are left off.
 #[derive(Drop, Debug)]
 pub(crate) struct Unmarked {
     pub warnings: Words,
     pub leaves_off: bool,
 }
+
 /// A tool with what it is for and what a user may be warned of.
 #[derive(Drop)]
 pub(crate) struct QuietPlan {
@@ -69,6 +73,7 @@ fn not_set(alloc: Global, name: &str) -> PlanError
         Err(_) => PlanError::NoMemory,
     }
 }
+
 // A value that is set, or else the refusal by its variable.
 pub(crate) fn demand<'a>(
     alloc: Global,
@@ -84,6 +89,7 @@ pub(crate) fn demand<'a>(
         None => Err(not_set(alloc, name)),
     }
 }
+
 /// What is known of the target. Refused where it is set nowhere or isn't known, and for memory.
 pub(crate) fn known_target(
     alloc: Global,
@@ -103,6 +109,7 @@ pub(crate) fn known_target(
         Err(_) => Err(PlanError::UnknownTarget(Text::of(alloc, name)?)),
     }
 }
+
 /// Whether the target is set and known, and the host set. Refused where one isn't, with the variable or the name, and for memory.
 #[tactic(auto, unfolding(crate::specs::Refusal::platform_refusal))]
 pub(crate) fn check_platform(
@@ -117,6 +124,7 @@ pub(crate) fn check_platform(
     demand(alloc, "HOST", host_of(set, env))?;
     Ok(())
 }
+
 // The level, and the target with what is known of it.
 #[tactic(auto, unfolding(crate::specs::Refusal::given_refusal))]
 fn given_target(alloc: Global, set: &BuildConfig, env: &BuildEnv) -> Result<TargetInfo, PlanError>
@@ -128,17 +136,7 @@ fn given_target(alloc: Global, set: &BuildConfig, env: &BuildEnv) -> Result<Targ
     let target = known_target(alloc, set, env)?;
     Ok(target)
 }
-/// The variable with its value by which a compiler writes its messages in English, as they are read: `LC_ALL` of GCC's "Environment Variables
-/// Affecting GCC", and `VSLANG` for Visual Studio.
-pub(crate) fn language_variable(family: ToolFamily) -> (&'static str, &'static str)
-    ensures { (result.0.now, result.1.now) ≡ language_variable family }
-{
-    if is_cl(family) {
-        ("VSLANG", "1033")
-    } else {
-        ("LC_ALL", "C")
-    }
-}
+
 /// Whether a compiler has words. Refused by the words of the target and the level; then where the host is set nowhere, which flags of the
 /// environment are looked up by; then by a wrong flag of Rust code; and for memory.
 #[tactic(auto, unfolding(crate::specs::Refusal::refusal_by, crate::specs::Tool::defaults_refusal_by))]
@@ -151,6 +149,7 @@ pub(crate) fn check_compiler(given: &Compilation<'_>) -> Result<(), PlanError>
     check_rustflags(given)?;
     Ok(())
 }
+
 // A tool of the compiler, with its wrapper.
 fn wrapped_tool(alloc: Global, env: &BuildEnv, compiler: &Compiler) -> Mem<Tool>
     ensures { IfOk result (λ tool. tool ≡ wrapped_tool env.now compiler.now) }
@@ -192,6 +191,7 @@ pub(crate) fn push_entries(tool: &mut Tool, env: &BuildEnv) -> Mem<()>
     }
     Ok(())
 }
+
 // The tool of a compiler, where these words are supported.
 fn tool_by(given: &Compilation<'_>, supported: &Supported) -> Mem<Tool>
     ensures { IfOk result (λ tool. tool ≡ tool_by (seen given.now) supported.now) }
@@ -206,17 +206,7 @@ fn tool_by(given: &Compilation<'_>, supported: &Supported) -> Mem<Tool>
     push_entries(&mut tool, given.env)?;
     Ok(tool)
 }
-// GCC was found for a target of the Visual Studio tools.
-#[tactic(auto, unfolding(crate::specs::Tool::gnu_warnings))]
-fn push_gnu_warning(warnings: &mut Words, given: &Compilation<'_>) -> Mem<()>
-    ensures { OnOk result (warnings.new ≡ warnings.old ++ gnu_warnings (seen given.now)) }
-{
-    let is_found = given.set.compiler.is_none();
-    if is_found && given.target.env == "msvc" && is_gnu(given.compiler.family) {
-        warnings.push("GNU compiler is not supported for this target")?;
-    }
-    Ok(())
-}
+
 // How the family of the compiler was found, where a user is warned of it.
 fn detection_warnings(alloc: Global, compiler: &Compiler) -> Mem<Words>
     ensures { IfOk result (λ warnings. warnings ≡ detected_warnings compiler.now) }
@@ -233,6 +223,7 @@ fn detection_warnings(alloc: Global, compiler: &Compiler) -> Mem<Words>
     warnings.push_joined("Compiler family detection failed for ", path.as_str())?;
     Ok(warnings)
 }
+
 /// How the compiler was found, and that it isn't one for the target, where a user is warned of it. Only want of memory refuses.
 pub(crate) fn found_warnings(given: &Compilation<'_>) -> Mem<Words>
     ensures { IfOk result (λ warnings. warnings ≡ found_warnings (seen given.now)) }
@@ -241,53 +232,7 @@ pub(crate) fn found_warnings(given: &Compilation<'_>) -> Mem<Words>
     push_gnu_warning(&mut warnings, given)?;
     Ok(warnings)
 }
-// What the compiler lacks of some maps of paths.
-fn push_lacks_of(
-    warnings: &mut Words,
-    given: &Compilation<'_>,
-    supported: &Supported,
-    maps: Maps,
-) -> Mem<()>
-    ensures { OnOk result (warnings.new ≡ warnings.old
-        ++ lacks_of (seen given.now) supported.now maps) }
-{
-    let path = given.compiler.choice.path.as_str();
-    push_map_lacks(
-        warnings,
-        given.alloc,
-        path,
-        given.compiler.family,
-        supported.as_slice(),
-        maps,
-    )
-}
-// What the compiler lacks of what it is asked about.
-#[tactic(auto, unfolding(crate::specs::Tool::lacks_by))]
-fn push_lacks(warnings: &mut Words, given: &Compilation<'_>, supported: &Supported) -> Mem<()>
-    ensures { OnOk result (warnings.new ≡ warnings.old ++ lacks_by (seen given.now) supported.now) }
-{
-    let wanted = rust_words(given)?;
-    push_lost(warnings, given.alloc, supported, wanted.as_slice())?;
-    push_lacks_of(warnings, given, supported, trimmed(given))?;
-    push_lacks_of(warnings, given, supported, remapped(given))?;
-    Ok(())
-}
-// Flags are left off, and a user is told of it.
-#[tactic(auto, unfolding(crate::specs::Tool::link_warnings))]
-fn push_link_warning(
-    warnings: &mut Words,
-    set: &BuildConfig,
-    leaves_off: bool,
-    is_first: bool,
-) -> Mem<()>
-    ensures { OnOk result (warnings.new ≡ warnings.old
-        ++ link_warning (leaves_off && (set.now.repeat_lines || is_first))) }
-{
-    if leaves_off && (set.repeat_lines || is_first) {
-        warnings.push("Ignoring linker flags after /link")?;
-    }
-    Ok(())
-}
+
 // What a user is warned of, but for flags that are left off.
 fn other_warnings(given: &Compilation<'_>, supported: &Supported) -> Mem<Words>
     ensures { IfOk result (λ warnings. warnings ≡ other_warnings (seen given.now) supported.now) }
@@ -298,8 +243,9 @@ fn other_warnings(given: &Compilation<'_>, supported: &Supported) -> Mem<Words>
     push_lacks(&mut warnings, given, supported)?;
     Ok(warnings)
 }
+
 // What a user may be warned of.
-#[tactic(auto, unfolding(crate::specs::Tool::link_warnings))]
+#[tactic(auto, unfolding(cc_flags::specs::Warnings::link_warnings))]
 fn unmarked_by(given: &Compilation<'_>, supported: &Supported) -> Mem<Unmarked>
     ensures { IfOk result (λ unmarked. (is_first : Bool) →
         marked_by given.now.set.now unmarked is_first
@@ -312,6 +258,7 @@ fn unmarked_by(given: &Compilation<'_>, supported: &Supported) -> Mem<Unmarked>
         leaves_off,
     })
 }
+
 // What a user is warned of, where the caches are asked whether the call is the first that warns of flags for the linker.
 fn marked<W: World>(
     rt: &impl Wait,
@@ -327,6 +274,7 @@ fn marked<W: World>(
     push_link_warning(&mut warnings, set, unmarked.leaves_off, is_first)?;
     Ok(Warned { is_first, warnings })
 }
+
 /// What a user is told of a quiet plan: it leaves the mark of the caches, and so is never the first that warns of flags for the linker.
 pub(crate) fn quiet_warnings(set: &BuildConfig, unmarked: Unmarked) -> Mem<Words>
     ensures { IfOk result (λ warnings. warnings ≡ marked_by set.now unmarked false) }
@@ -335,6 +283,7 @@ pub(crate) fn quiet_warnings(set: &BuildConfig, unmarked: Unmarked) -> Mem<Words
     push_link_warning(&mut warnings, set, unmarked.leaves_off, false)?;
     Ok(warnings)
 }
+
 /// The tool of these settings in this environment, with its target and what a user may be warned of. It asks, and prints nothing; the
 /// mark of the caches that flags for the linker were warned of stays.
 #[tactic(auto, using(crate::proofs::QuestionLemmas::chosen_at, crate::proofs::AskingLemmas::only_none))]
@@ -384,6 +333,7 @@ pub(crate) fn plan_quietly<W: World, H: Host<W>>(
         unmarked,
     })
 }
+
 /// The tool of these settings in this environment, with its target and its warnings. It asks, and prints nothing.
 pub(crate) fn plan_tool<W: World, H: Host<W>>(
     rt: &impl Wait,
@@ -411,6 +361,7 @@ pub(crate) fn plan_tool<W: World, H: Host<W>>(
         warned,
     })
 }
+
 /// The tool of these settings in this environment: the program with its wrapper, the words that each source is compiled with, and the
 /// variables that its commands get besides. Its warnings are printed last, where they are wanted.
 ///
@@ -437,4 +388,15 @@ pub fn tool_of<W: World, H: Host<W>>(
     let plan = plan_tool(rt, alloc, set, env, sight)?;
     warn_of(alloc, sight.host, set, listens, &plan.warned.warnings)?;
     Ok(plan.tool)
+}
+
+/// Whether this call, of those that share its caches, is the one that warns of flags that are left off. No clause says which call it is,
+/// since the mark stands behind a lock.
+pub fn is_first_warning<W: World>(
+    rt: &impl Wait,
+    caches: &Caches<W>,
+    set: &BuildConfig,
+    leaves_off: bool,
+) -> bool {
+    !set.repeat_lines && leaves_off && caches.warn_once(rt)
 }

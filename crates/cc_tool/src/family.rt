@@ -14,8 +14,8 @@ use crate::{Answers, Caches, ask, question_of};
 use cc_env::BuildEnv;
 use cc_host::{Ask, Host, Marks, Verdict, World, is_yes};
 use cc_text::{
-    Detected, Mem, Text, ToolFamily, Vars, Words, contains_ignore_ascii_case, ends_with_ignore_ascii_case,
-    file_name, is_plain_clang,
+    Detected, Mem, Text, ToolFamily, Vars, Words, contains_ignore_ascii_case,
+    ends_with_ignore_ascii_case, file_name, is_plain_clang,
 };
 use std::alloc::Global;
 use std::sync::Wait;

@@ -21,10 +21,10 @@ mod probes;
 mod question;
 mod tool;
 
-pub use cc_text::Detected;
 pub use answers::Answers;
 pub use asking::{ask, ask_flag};
 pub use caches::Caches;
+pub use cc_text::Detected;
 pub use digest::question_digest;
 pub use emitted::Emitted;
 pub use envs::Envs;

@@ -1,6 +1,6 @@
 use Rattle.cc_host.specs.Part.{since}
 use Rattle.cc_host.specs.Question.{answers}
-use Rattle.cc_plan.specs.Given.{probe_folder}
+use Rattle.cc_flags.specs.Given.{probe_folder}
 use Rattle.cc_plan.specs.Questions.{RunAsks}
 use Rattle.cc_build.specs.Kept.{left_at}
 use Rattle.cc_build.proofs.Growing.{asking_then, agrees_earlier}

@@ -1,4 +1,4 @@
-use Rattle.cc_plan.specs.Given.{probe_folder}
+use Rattle.cc_flags.specs.Given.{probe_folder}
 use Rattle.cc_plan.specs.Questions.{RunAsks}
 use Rattle.cc_host.specs.Question.{answers}
 use Rattle.cc_host.specs.Part.{since}

@@ -1,6 +1,6 @@
 use Rattle.cc_plan.specs.Questions.{NameAsks, RunAsks}
 use Rattle.cc_host.specs.Part.{since}
-use Rattle.cc_plan.specs.Given.{probe_folder}
+use Rattle.cc_flags.specs.Given.{probe_folder}
 use Rattle.cc_build.proofs.ToldLaws.{on_more, names_in_run}
 use Rattle.cc_build.proofs.phases.plan_names.Goals as goal
 

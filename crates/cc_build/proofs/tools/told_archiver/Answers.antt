@@ -3,7 +3,7 @@ use Rattle.std.proofs.lemmas.Result.{err_from_is_err_and}
 use Rattle.cc_host.specs.Part.{since}
 use Rattle.cc_host.specs.Question.{answers}
 use Rattle.cc_host.proofs.Parts.{since_extends}
-use Rattle.cc_plan.specs.Given.{probe_folder}
+use Rattle.cc_flags.specs.Given.{probe_folder}
 use Rattle.cc_plan.specs.Questions.{NameAsks, ArchiverAsks}
 use Rattle.cc_build.specs.Told.{archiver_reads}
 use Rattle.cc_build.proofs.ExpandLaws.{childless_since}

@@ -5,7 +5,7 @@ use Rattle.cc_plan.proofs.AskingLemmas.{only_then, only_more}
 use Rattle.cc_tool.proofs.SettleLemmas.{settles_on, settles_so, settles_two, holds_all}
 use Rattle.cc_plan.proofs.ArchiveToolLemmas.{tool_for_archive, lib_for_archive}
 use Rattle.cc_plan.specs.ArchiveTool.{lib_beside}
-use Rattle.cc_plan.specs.declared.compiler.Compiler.{Compiler}
+use Rattle.cc_flags.specs.declared.compiler.Compiler.{Compiler}
 use Rattle.cc_plan.proofs.archive_asks.lib_beside.Goals as goal
 
 pub returns-in_err-compiler-clause-asks : goal.returns-in_err-compiler-clause-asks

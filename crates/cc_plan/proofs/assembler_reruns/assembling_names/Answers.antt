@@ -5,7 +5,7 @@ use Rattle.cc_plan.proofs.AskingLemmas.{only_then, only_more}
 use Rattle.cc_tool.proofs.SettleLemmas.{settles_on, settles_so, settles_two, holds_all}
 use Rattle.std.proofs.Common.{◌≡◌, true}
 use Rattle.cc_plan.specs.Reruns.{assembler_names, plans_assembler}
-use Rattle.cc_plan.specs.declared.compiler.Compiler.{Compiler}
+use Rattle.cc_flags.specs.declared.compiler.Compiler.{Compiler}
 use Rattle.cc_plan.proofs.ArchiveToolLemmas.{tool_for_names}
 use Rattle.cc_plan.proofs.SearchedLemmas.{beside_for_names}
 use Rattle.cc_plan.proofs.assembler_reruns.assembling_names.Goals as goal

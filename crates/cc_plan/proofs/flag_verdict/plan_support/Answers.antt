@@ -4,10 +4,10 @@ use Rattle.cc_host.specs.Question.{Settles}
 use Rattle.cc_tool.proofs.AskLemmas.{asks_grows}
 use Rattle.cc_plan.proofs.AskingLemmas.{only_then, only_more}
 use Rattle.cc_tool.proofs.SettleLemmas.{settles_on, settles_so, holds_all}
-use Rattle.cc_plan.specs.Compilation.{compilation_of}
+use Rattle.cc_flags.specs.Compilation.{compilation_of}
 use Rattle.cc_plan.specs.FlagSupport.{verdict_on, verdict_refusal}
 use Rattle.cc_plan.specs.Tool.{found_warnings}
-use Rattle.cc_plan.proofs.CompilationLemmas.{is_known}
+use Rattle.cc_flags.proofs.CompilationLemmas.{is_known}
 use Rattle.cc_plan.specs.declared.error.PlanError.TheVariants.{NoMemory as WantsMemory}
 use Rattle.cc_plan.proofs.OwnLemmas.{verdict_is_own}
 use Rattle.cc_plan.proofs.VerdictLemmas.{verdict_settled, support_settled, support_refused}

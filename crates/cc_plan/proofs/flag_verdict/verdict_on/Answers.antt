@@ -1,7 +1,7 @@
 use Rattle.std.proofs.Common.{refl, sym, ◌∙◌, rules, ◌≡◌}
 use Rattle.cc_tool.proofs.SettleLemmas.{settles_so, settles_question}
 use Rattle.cc_plan.specs.FlagSupport.{verdict_on}
-use Rattle.cc_plan.specs.Compilation.{seen}
+use Rattle.cc_flags.specs.Compilation.{seen}
 use Rattle.cc_plan.specs.Support.{flag_question}
 use Rattle.cc_plan.proofs.AskingLemmas.{own_one}
 use Rattle.cc_plan.proofs.flag_verdict.verdict_on.Goals as goal

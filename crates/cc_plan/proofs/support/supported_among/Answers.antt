@@ -4,7 +4,7 @@ use Rattle.cc_tool.proofs.AskLemmas.{asks_grows}
 use Rattle.cc_plan.proofs.AskingLemmas.{only_then, only_more}
 use Rattle.cc_tool.proofs.SettleLemmas.{settles_on, settles_two, holds_all}
 use Rattle.cc_plan.proofs.QuestionLemmas.{tool_for_words, bare_words}
-use Rattle.cc_plan.specs.Compilation.{seen}
+use Rattle.cc_flags.specs.Compilation.{seen}
 use Rattle.cc_plan.proofs.support.supported_among.Goals as goal
 
 pub returns-in_err-taken-clause-asks : goal.returns-in_err-taken-clause-asks

@@ -3,7 +3,7 @@ use Rattle.cc_text.specs.Words.{when}
 use Rattle.cc_tool.proofs.AskLemmas.{asks_grows}
 use Rattle.cc_plan.proofs.AskingLemmas.{only_none, only_then, only_more}
 use Rattle.cc_tool.proofs.SettleLemmas.{settles_on, settles_two, holds_all}
-use Rattle.cc_plan.specs.Compilation.{seen}
+use Rattle.cc_flags.specs.Compilation.{seen}
 use Rattle.cc_plan.specs.Support.{takes, flag_question}
 use Rattle.cc_plan.proofs.SupportLemmas.{keep_more}
 use Rattle.cc_plan.proofs.QuestionLemmas.{asks_flag}

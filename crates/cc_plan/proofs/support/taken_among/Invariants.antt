@@ -1,7 +1,7 @@
 use Rattle.std.proofs.Common.{take}
 use Rattle.cc_host.specs.Question.{Settles}
 use Rattle.cc_plan.specs.Asking.{OnlyAsks}
-use Rattle.cc_plan.specs.Compilation.{seen}
+use Rattle.cc_flags.specs.Compilation.{seen}
 use Rattle.cc_plan.specs.Questions.{FlagAsks}
 use Rattle.cc_plan.specs.Support.{taken_among}
 use Rattle.cc_plan.proofs.support.taken_among.Given as goal

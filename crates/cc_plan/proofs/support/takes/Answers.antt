@@ -1,6 +1,6 @@
 use Rattle.std.proofs.Common.{◌∙◌, refl, sym, rules, ◌≡◌}
 use Rattle.cc_tool.proofs.SettleLemmas.{settles_so, settles_yes}
-use Rattle.cc_plan.specs.Compilation.{seen}
+use Rattle.cc_flags.specs.Compilation.{seen}
 use Rattle.cc_plan.specs.Support.{is_asked_of, flag_question, takes}
 use Rattle.cc_plan.proofs.SupportLemmas.{is_chosen, chosen, not_chosen}
 use Rattle.cc_plan.proofs.AskingLemmas.{own_one}

@@ -4,10 +4,10 @@ use Rattle.cc_tool.proofs.AskLemmas.{asks_grows}
 use Rattle.cc_plan.proofs.AskingLemmas.{only_then, only_more}
 use Rattle.cc_tool.proofs.SettleLemmas.{settles_on, settles_two, holds_all}
 use Rattle.cc_target.specs.Targets.{info_seen}
-use Rattle.cc_plan.specs.Compilation.{compilation_of}
+use Rattle.cc_flags.specs.Compilation.{compilation_of}
 use Rattle.cc_plan.specs.Support.{supported}
 use Rattle.cc_plan.specs.Tool.{tool_by, warnings_by}
-use Rattle.cc_plan.proofs.CompilationLemmas.{is_known, with_target}
+use Rattle.cc_flags.proofs.CompilationLemmas.{is_known, with_target}
 use Rattle.cc_plan.proofs.ResultLemmas.{allowed_by, refused_by}
 use Rattle.cc_plan.proofs.OwnLemmas.{given_is_own, built_is_own}
 use Rattle.cc_plan.proofs.QuestionLemmas.{tool_for_plan, plan_words}

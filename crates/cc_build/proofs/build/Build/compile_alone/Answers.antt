@@ -2,7 +2,7 @@ use Rattle.std.proofs.Common.{◌∙◌, ◌≡◌, ℕ, List, [], Ok, Err, refl
 use Rattle.std.proofs.lemmas.Result.{err_from_is_err_and}
 use Rattle.cc_host.specs.Part.{since}
 use Rattle.cc_host.specs.Question.{Answer, Agrees, answers, Holds}
-use Rattle.cc_plan.specs.Given.{probe_folder}
+use Rattle.cc_flags.specs.Given.{probe_folder}
 use Rattle.cc_plan.specs.Questions.{RunAsks}
 use Rattle.cc_plan.proofs.LineLemmas.{since_none}
 use Rattle.cc_tool.specs.Asked.{Asked, question_events}

@@ -2,8 +2,8 @@ use Rattle.std.proofs.Common.{◌≡◌, ◌⊎◌, ◌∙◌, inl, ℕ, Some, L
 use Rattle.std.proofs.lemmas.Result.{err_from_is_err_and}
 use Rattle.cc_host.specs.Part.{since}
 use Rattle.cc_host.specs.Question.{answers, Holds}
-use Rattle.cc_plan.specs.declared.settings.BuildConfig.{BuildConfig}
-use Rattle.cc_plan.specs.Settings.{archive_settings}
+use Rattle.cc_flags.specs.declared.settings.BuildConfig.{BuildConfig}
+use Rattle.cc_flags.specs.Settings.{archive_settings}
 use Rattle.cc_plan.proofs.LineLemmas.{since_none}
 use Rattle.cc_build.specs.Archiving.{with_objects, unarchived_error, Creates}
 use Rattle.cc_build.specs.Build.{BuildSeen}

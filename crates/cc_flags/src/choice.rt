@@ -1,0 +1,101 @@
+// What targets call their compilers.
+ghost use Rattle.std.specs.Prelude.{◌≡◌, IfOk};
+ghost use Rattle.std.specs.Option.{option_copied};
+ghost use Rattle.cc_target.specs.Targets.{info_seen};
+ghost use Rattle.cc_flags.specs.Compilers as spec;
+
+use crate::languages::{qnx_name, vxworks_name};
+use crate::{Inputs, clang_name, gnu_name, is_qnx};
+use cc_target::TargetInfo;
+use cc_text::{Mem, Text, Words, join};
+use std::alloc::Global;
+
+/// A chosen compiler.
+#[derive(Drop, Debug)]
+pub struct Choice {
+    /// Its path, or its name where a shell would find it.
+    pub path: Text,
+    /// The program that runs it, as `ccache` does, where there is one.
+    pub wrapper: Option<Text>,
+    /// The words that it is given first: those behind its name in `CC` or `CXX`.
+    pub words: Words,
+}
+
+// A tool alone.
+pub fn bare(alloc: Global, path: &str) -> Mem<Choice>
+    ensures { IfOk result (λ choice. choice ≡ spec.bare path.now) }
+{
+    Ok(Choice {
+        path: Text::of(alloc, path)?,
+        wrapper: None,
+        words: Words::new(alloc),
+    })
+}
+
+#[tactic(auto, unfolding(crate::specs::Compilers::is_wasm))]
+pub fn is_wasm(target: &TargetInfo) -> bool
+    ensures { result ≡ spec.is_wasm (info_seen target.now) }
+{
+    target.arch == "wasm32" || target.arch == "wasm64"
+}
+
+// Clang in the kit of WASI, which has one for each target by its name, as the readme of the WASI SDK says.
+#[tactic(auto, unfolding(crate::specs::Compilers::wasi_path))]
+pub fn wasi_path(alloc: Global, kit: &str, name: &str) -> Mem<Text>
+    ensures { IfOk result (λ path. path ≡ spec.wasi_path kit.now name.now) }
+{
+    let folder = join(alloc, kit, "bin")?;
+    let mut file = Text::of(alloc, name)?;
+    file.push_str("-clang")?;
+    join(alloc, folder.as_str(), file.as_str())
+}
+
+fn compiler_behind(cpp: bool, target: &TargetInfo) -> &'static str
+    ensures { result.now ≡ spec.compiler_behind cpp (info_seen target.now) }
+{
+    if target.abi == "llvm" {
+        clang_name(cpp)
+    } else {
+        gnu_name(cpp)
+    }
+}
+
+// GCC behind a prefix, or Clang on targets of LLVM's own.
+#[tactic(auto, unfolding(crate::specs::Compilers::prefixed_compiler))]
+pub fn prefixed_compiler(alloc: Global, cpp: bool, target: &TargetInfo, prefix: &str) -> Mem<Text>
+    ensures { IfOk result (λ name.
+        name ≡ spec.prefixed_compiler cpp (info_seen target.now) prefix.now) }
+{
+    let mut name = Text::of(alloc, prefix)?;
+    name.push_str("-")?;
+    name.push_str(compiler_behind(cpp, target))?;
+    Ok(name)
+}
+
+// The linker optimises by its plugin, which reads what Clang writes: rustc's book on linker-plugin-based LTO asks for Clang.
+#[tactic(auto, unfolding(crate::specs::Compilers::links_by_plugin))]
+pub fn links_by_plugin(inputs: &Inputs<'_>) -> bool
+    ensures { result ≡ spec.links_by_plugin inputs.now.env.now }
+{
+    match &inputs.handed.rustflags.flags {
+        Some(flags) => flags.linker_plugin_lto(),
+        None => false,
+    }
+}
+
+// The compiler of targets that have one name for it: Clang for WebAssembly, and what the systems' own kits have for VxWorks and QNX, as
+// rustc's pages on platform support say.
+#[tactic(auto, unfolding(crate::specs::Compilers::fixed_compiler))]
+pub fn fixed_compiler(cpp: bool, target: &TargetInfo) -> Option<&'static str>
+    ensures { option_copied result ≡ spec.fixed_compiler cpp (info_seen target.now) }
+{
+    if is_wasm(target) {
+        Some(clang_name(cpp))
+    } else if target.os == "vxworks" {
+        Some(vxworks_name(cpp))
+    } else if is_qnx(target) {
+        Some(qnx_name(cpp))
+    } else {
+        None
+    }
+}

@@ -1,6 +1,0 @@
-use Rattle.std.proofs.Common.{◌≡◌, take}
-use Rattle.cc_plan.specs.Search.{in_folders}
-use Rattle.cc_plan.proofs.search.in_folders.Given as goal
-
-abbrev pub invariant-loop-folder : goal.invariant-loop-folder
-invariant-loop-folder l = l.paths ≡ in_folders (take l.folder-index l.folders) l.name

@@ -1,6 +1,0 @@
-use Rattle.std.proofs.Common.{◌∙◌}
-use Rattle.cc_plan.proofs.PredefineLemmas.{parse_is_i32_of}
-use Rattle.cc_plan.proofs.words.predefine.i32_of.Goals as goal
-
-pub returns : goal.returns
-returns c = c.ok.ensures.value ∙ parse_is_i32_of c.args.text.now c.parse.result c.parse.ensures.value.0

@@ -1,6 +1,0 @@
-use Rattle.std.proofs.Common.{◌≡◌, ◌++◌, take}
-use Rattle.cc_plan.specs.SettingWords.{definition_words}
-use Rattle.cc_plan.proofs.words.settings.push_definition_words.Given as goal
-
-abbrev pub invariant-loop-definition : goal.invariant-loop-definition
-invariant-loop-definition l = l.words ≡ l.initial.words ++ definition_words (take l.definition-index l.definitions)
