@@ -155,9 +155,10 @@ impl<W: World> Build<W> {
         self.config.cargo_debug = Some(cargo_debug);
     }
 
-    /// Sets whether Cargo is told of the variables that a run read, and of those that its compiler reads by itself, so that it runs the
-    /// script again where one changes (Cargo's book, "Build Scripts", `rerun-if-env-changed`). `try_compile` and
-    /// `try_emit_link_directives` tell of them behind the link lines. At first it is on. It takes no memory.
+    /// Sets whether Cargo is told of the variables that a call read, and of those that its compiler reads by itself, so that it runs the
+    /// script again where one changes (Cargo's book, "Build Scripts", `rerun-if-env-changed`). Each call that compiles, archives, prints
+    /// link lines, expands, finds a tool or tries a flag tells of them last, where `cargo_metadata` is on too. At first it is on. It takes
+    /// no memory.
     pub fn emit_rerun_if_env_changed(&mut self, emit_rerun_if_env_changed: bool)
         ensures { Sets self.old self.new
             (λ c. record c { emit_rerun_if_env_changed = emit_rerun_if_env_changed }) }
@@ -165,8 +166,8 @@ impl<W: World> Build<W> {
         self.config.emit_rerun_if_env_changed = emit_rerun_if_env_changed;
     }
 
-    /// Sets whether `clang-cl` is to be chosen where the Visual Studio compiler would be. No target of today asks for that choice, so it
-    /// changes nothing. At first it is off. It takes no memory.
+    /// Sets whether `clang-cl` is to be chosen where the Visual Studio compiler would be. No search for either is made, also for targets of
+    /// Visual Studio, so it changes nothing. At first it is off. It takes no memory.
     pub fn prefer_clang_cl_over_msvc(&mut self, prefer_clang_cl_over_msvc: bool)
         ensures { Sets self.old self.new
             (λ c. record c { prefer_clang_cl_over_msvc = prefer_clang_cl_over_msvc }) }

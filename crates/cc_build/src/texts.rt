@@ -125,8 +125,9 @@ impl<W: World> Build<W> {
         Ok(())
     }
 
-    /// Sets the archiver: a path, or a name that is looked up on the `PATH`. It has to take the words of GNU `ar`. Unset, it is `ar`, for
-    /// each target. Refused only for memory; the build is as before.
+    /// Sets the archiver: a path, or a name that is looked up on the `PATH`. It is given the words of GNU `ar`, but those of Apple's libtool
+    /// where its file name has `libtool`, and for targets of Visual Studio those of its library manager, unless the name has `llvm-ar`.
+    /// Unset, it is that of `AR`, else the one that the target wants. Refused only for memory; the build is as before.
     pub fn archiver(&mut self, archiver: &str) -> Result<(), Error>
         ensures ok { OnOk result (Sets self.old self.new
             (λ c. record c { archiver = Some archiver.now })) }

@@ -91,7 +91,7 @@ pub struct BuildConfig {
     pub cargo_warnings: bool,
     /// Whether the standard output of the commands goes where that of the program goes.
     pub cargo_output: bool,
-    /// Whether Cargo is to run the script again where a variable changes. No line says so yet, so it changes nothing.
+    /// Whether Cargo is to run the script again where a variable changes that was read: a line tells of each, where `cargo_metadata` is on too.
     pub emit_rerun_if_env_changed: bool,
     /// Whether the flags of Rust code are taken that Cargo hands down.
     pub inherit_rustflags: bool,

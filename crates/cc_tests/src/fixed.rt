@@ -1,5 +1,5 @@
 // A whole run on the host of fixed outcomes, and a question there of builds that share what they were answered, and of one that doesn't.
-use crate::log::check_log;
+use crate::same::check_log;
 use crate::setup::set_all;
 use crate::verdicts::check_answers;
 use cc_build::{Build, Error};

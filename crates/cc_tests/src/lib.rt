@@ -1,26 +1,19 @@
-//! Tests of the library that no row of data can say: the processes and the files of the machine, a caller that goes between the turns of a host, and several
-//! calls on one build or its clones.
+//! Tests of builds that no row of data can say: several calls on one build or its clones, a build asked in parts, callers beside each other on one pool, loggers,
+//! and a compiler of the machine.
 //!
-//! The crate has tests alone. They stand here, and not in the crates that they test, since a crate with tests is proved twice. A helper has no promise,
-//! doesn't end early, and borrows what it works on, so that it is proved soon.
+//! Stands on `cc_build` and what that stands on, on `cc_db` and `cc_hosts`, and on `cc_run_tests`, which has the tests that need no build. The crate has tests alone.
+//! They stand here, and not in the crates that they test, since a crate with tests is proved twice. A helper has no promise, doesn't end early, and borrows what it
+//! works on, so that it is proved soon.
 #![tactic(auto)]
 
 #[cfg(test)]
-mod calls;
-#[cfg(test)]
 mod environment;
-#[cfg(test)]
-mod files;
 #[cfg(test)]
 mod fixed;
 #[cfg(test)]
 mod lent;
 #[cfg(test)]
-mod log;
-#[cfg(test)]
 mod machine;
-#[cfg(test)]
-mod memory;
 #[cfg(test)]
 mod messages;
 #[cfg(test)]
@@ -29,10 +22,6 @@ mod on_machine;
 mod once;
 #[cfg(test)]
 mod parts;
-#[cfg(test)]
-mod processes;
-#[cfg(test)]
-mod runs;
 #[cfg(test)]
 mod same;
 #[cfg(test)]
@@ -45,5 +34,3 @@ mod setup;
 mod tokens;
 #[cfg(test)]
 mod verdicts;
-#[cfg(test)]
-mod watch;

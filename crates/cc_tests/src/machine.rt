@@ -1,11 +1,11 @@
 // A compiler of the machine, asked what it is.
-use crate::log::log_text;
-use crate::on_machine::{Check, on_machine};
+use crate::on_machine::on_machine;
 use crate::same::holds;
 use crate::setup::set_all;
 use cc_build::Build;
 use cc_host::Host;
 use cc_hosts::Real;
+use cc_run_tests::log_text;
 use std::alloc::AllocGlobal;
 use std::fs;
 use std::process::Abort;
@@ -54,5 +54,5 @@ pub(crate) fn check_known(
 
 #[test]
 fn the_machines_gcc_is_known_and_no_file_is_left(rt: HostRuntime) {
-    on_machine(rt, rt.process(), "folder", Check::Known);
+    on_machine(rt, rt.process(), "folder");
 }

@@ -1,6 +1,5 @@
 // What loggers hear of a run, beside what its host notes.
-use crate::log::check_log;
-use crate::same::same;
+use crate::same::{check_log, same};
 use crate::setup::{set_all, with_both, with_build};
 use crate::verdicts::done;
 use cc_build::{Build, ErrorKind};

@@ -1,12 +1,5 @@
-// Checks on a host over the machine. The host is made and named here alone, since its bounds take long to prove wherever it is named; a test says which check
-// it is.
-use crate::files::{check_folders, check_probe_file, check_removed, check_written};
+// The check on a host over the machine. The host is made and named here alone, since its bounds take long to prove wherever it is named.
 use crate::machine::check_known;
-use crate::processes::{
-    check_beside, check_folder, check_lines, check_listed, check_missing, check_turns,
-    check_unheard, check_variables, check_versions,
-};
-use cc_host::Host;
 use cc_hosts::{ProcessHost, Real};
 use cc_text::Mem;
 use std::alloc::{AllocGlobal, Global};
@@ -20,49 +13,6 @@ use std::sync::Wait;
 use std::thread::Threads;
 use std::{env, process};
 
-#[derive(Clone, Copy)]
-pub(crate) enum Check {
-    Lines,
-    Variables,
-    Folder,
-    Missing,
-    Listed,
-    Versions,
-    Turns,
-    Unheard,
-    Beside,
-    Probe,
-    Folders,
-    Removed,
-    Written,
-    Known,
-}
-
-// Makes a check, with a path where nothing is yet.
-fn make(
-    rt: &(impl Wait + Files + Env + AllocGlobal + Abort),
-    host: &mut impl Host<Real>,
-    path: &str,
-    check: Check,
-) {
-    match check {
-        Check::Lines => check_lines(rt, host),
-        Check::Variables => check_variables(rt, host),
-        Check::Folder => check_folder(rt, host),
-        Check::Missing => check_missing(rt, host),
-        Check::Listed => check_listed(rt, host),
-        Check::Versions => check_versions(rt, host),
-        Check::Turns => check_turns(rt, host),
-        Check::Unheard => check_unheard(rt, host),
-        Check::Beside => check_beside(rt, host, path),
-        Check::Probe => check_probe_file(rt, host, path),
-        Check::Folders => check_folders(rt, host, path),
-        Check::Removed => check_removed(rt, host, path),
-        Check::Written => check_written(rt, host, path),
-        Check::Known => check_known(rt, host, path),
-    }
-}
-
 fn path_below(alloc: Global, above: &str, name: &str, id: u32) -> Mem<String> {
     Ok(format!(in alloc; "{above}/cc_tests é {name} {id}")?)
 }
@@ -73,8 +23,8 @@ fn own_path(rt: &(impl Env + AllocGlobal + Abort), name: &str, process: Process)
     path_below(rt.alloc(), above.as_str(), name, process::id(process)).expect(rt, "memory")
 }
 
-// Has a check made on a host over the machine, with a path of its own, where nothing is yet.
-pub(crate) fn on_machine<R>(rt: R, process: Process, name: &str, check: Check)
+// Has the compiler of the machine checked on a host over it, with a path of its own, where nothing is yet.
+pub(crate) fn on_machine<R>(rt: R, process: Process, name: &str)
 where
     R: Processes
         + Threads
@@ -96,5 +46,5 @@ where
 {
     let path = own_path(&rt, name, process);
     let mut host = ProcessHost::new(rt).expect(&rt, "a host");
-    make(&rt, &mut host, path.as_str(), check);
+    check_known(&rt, &mut host, path.as_str());
 }

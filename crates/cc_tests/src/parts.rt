@@ -1,6 +1,5 @@
 // The parts of a library's build, each by a call of its own.
-use crate::log::check_log;
-use crate::same::{holds, same};
+use crate::same::{check_log, holds, same};
 use crate::setup::{set_all, with_both};
 use cc_build::{Build, Error, try_emit_link_directives};
 use cc_host::{Bench, BenchHost, command_line};

@@ -5,14 +5,6 @@ use cc_host::{Bench, BenchHost, World};
 use std::alloc::AllocGlobal;
 use std::process::Abort;
 
-// Has a check made on a host in memory.
-pub(crate) fn with_host<F: FnOnce(&mut BenchHost)>(rt: &(impl AllocGlobal + Abort), check: F)
-    requires { F.IsAlwaysCallable check }
-{
-    let mut host = BenchHost::new(rt.alloc()).expect(rt, "a host");
-    check(&mut host);
-}
-
 // Has a check made on a build.
 pub(crate) fn with_build<F: FnOnce(&mut Build<Bench>)>(rt: &(impl AllocGlobal + Abort), check: F)
     requires { F.IsAlwaysCallable check }

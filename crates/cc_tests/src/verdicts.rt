@@ -2,8 +2,7 @@
 ghost use Rattle.std.specs.Prelude.{◌≢◌, IfOk};
 ghost use Rattle.cc_host.specs.declared.question.Outcome.TheVariants.{Unanswered};
 
-use crate::log::check_log;
-use crate::same::same;
+use crate::same::{check_log, same};
 use crate::setup::{set_all, with_both};
 use cc_build::{Build, ErrorKind};
 use cc_host::{Ask, Bench, BenchHost, Host, Outcome, Status, World};

@@ -1,9 +1,7 @@
 // A log as text: of each event its kind and what it is about, a line an event. In which order probe files are dropped, no one promises.
-use crate::same::same;
 use cc_host::{Ask, Event, Host, Message, Outcome, Question, Removal, World};
 use cc_text::{Mem, Text};
-use std::alloc::{AllocGlobal, Global};
-use std::process::Abort;
+use std::alloc::Global;
 
 fn kind_of(event: &Event) -> &'static str {
     match event {
@@ -96,19 +94,11 @@ fn push_event(text: &mut Text, event: &Event) -> Mem<()> {
     text.push('\n')
 }
 
-pub(crate) fn log_text<W: World, H: Host<W>>(alloc: Global, host: &H) -> Mem<Text> {
+/// What a host did so far, a line an event.
+pub fn log_text<W: World, H: Host<W>>(alloc: Global, host: &H) -> Mem<Text> {
     let mut text = Text::new(alloc);
     for event in host.log() {
         push_event(&mut text, event)?;
     }
     Ok(text)
-}
-
-pub(crate) fn check_log<W: World, H: Host<W>>(
-    rt: &(impl AllocGlobal + Abort),
-    host: &H,
-    want: &str,
-) {
-    let text = log_text(rt.alloc(), host).expect(rt, "memory");
-    same(rt, text.as_str(), want);
 }

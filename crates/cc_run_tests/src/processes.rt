@@ -3,9 +3,8 @@ ghost use Rattle.std.specs.Prelude.{◌≡◌, IfOk};
 ghost use Rattle.cc_host.specs.declared.event.Role.TheVariants.{Compile};
 
 use crate::calls::{KEPT, check_output, check_verdict, leave_alone, output, start};
-use crate::log::check_log;
 use crate::on_machine::{Check, on_machine};
-use crate::same::{holds, same};
+use crate::same::{check_log, holds, same};
 use cc_host::{
     Ask, Command, Event, Host, HostCall, HostError, OutputKind, Pipes, Role, Status, Why,
 };

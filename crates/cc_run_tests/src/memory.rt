@@ -2,9 +2,7 @@
 use crate::calls::{
     KEPT, check_output, check_verdict, create, leave_alone, make_twice, remove, stands, turn,
 };
-use crate::log::check_log;
-use crate::same::holds;
-use crate::setup::with_host;
+use crate::same::{check_log, holds};
 use cc_host::{
     Ask, BenchHost, Command, Host, HostCall, HostError, Outcome, OutputKind, Pipes, Role, Script,
     Status,
@@ -12,6 +10,14 @@ use cc_host::{
 use cc_text::{Bytes, Mem, Vars};
 use std::alloc::{AllocGlobal, Global};
 use std::process::Abort;
+
+// Has a check made on a host in memory. It is made and dropped here alone, since a value of many parts takes long to prove wherever it is dropped.
+fn with_host<F: FnOnce(&mut BenchHost)>(rt: &(impl AllocGlobal + Abort), check: F)
+    requires { F.IsAlwaysCallable check }
+{
+    let mut host = BenchHost::new(rt.alloc()).expect(rt, "a host");
+    check(&mut host);
+}
 
 fn left_alone(rt: &(impl AllocGlobal + Abort), host: &mut BenchHost, program: &str) {
     let cmd = Command::new(rt.alloc(), program).expect(rt, "memory");

@@ -1,0 +1,97 @@
+// Checks on a host over the machine. The host is made and named here alone, since its bounds take long to prove wherever it is named; a test says which check
+// it is.
+use crate::files::{check_folders, check_probe_file, check_removed, check_written};
+use crate::processes::{
+    check_beside, check_folder, check_lines, check_listed, check_missing, check_turns,
+    check_unheard, check_variables, check_versions,
+};
+use cc_host::Host;
+use cc_hosts::{ProcessHost, Real};
+use cc_text::Mem;
+use std::alloc::{AllocGlobal, Global};
+use std::env::Env;
+use std::io::{Eprint, Print};
+use std::os::fd::AsRawFd;
+use std::process::{Abort, OpenProcess, Process, Processes};
+use std::random::RandomSource;
+use std::rt::Files;
+use std::sync::Wait;
+use std::thread::Threads;
+use std::{env, process};
+
+#[derive(Clone, Copy)]
+pub(crate) enum Check {
+    Lines,
+    Variables,
+    Folder,
+    Missing,
+    Listed,
+    Versions,
+    Turns,
+    Unheard,
+    Beside,
+    Probe,
+    Folders,
+    Removed,
+    Written,
+}
+
+// Makes a check, with a path where nothing is yet.
+fn make(
+    rt: &(impl Wait + Files + Env + AllocGlobal + Abort),
+    host: &mut impl Host<Real>,
+    path: &str,
+    check: Check,
+) {
+    match check {
+        Check::Lines => check_lines(rt, host),
+        Check::Variables => check_variables(rt, host),
+        Check::Folder => check_folder(rt, host),
+        Check::Missing => check_missing(rt, host),
+        Check::Listed => check_listed(rt, host),
+        Check::Versions => check_versions(rt, host),
+        Check::Turns => check_turns(rt, host),
+        Check::Unheard => check_unheard(rt, host),
+        Check::Beside => check_beside(rt, host, path),
+        Check::Probe => check_probe_file(rt, host, path),
+        Check::Folders => check_folders(rt, host, path),
+        Check::Removed => check_removed(rt, host, path),
+        Check::Written => check_written(rt, host, path),
+    }
+}
+
+fn path_below(alloc: Global, above: &str, name: &str, id: u32) -> Mem<String> {
+    Ok(format!(in alloc; "{above}/cc_run_tests é {name} {id}")?)
+}
+
+// A path of a test's own, where nothing is yet.
+fn own_path(rt: &(impl Env + AllocGlobal + Abort), name: &str, process: Process) -> String {
+    let above = env::temp_dir(rt).expect(rt, "a folder");
+    path_below(rt.alloc(), above.as_str(), name, process::id(process)).expect(rt, "memory")
+}
+
+// Has a check made on a host over the machine, with a path of its own, where nothing is yet.
+pub(crate) fn on_machine<R>(rt: R, process: Process, name: &str, check: Check)
+where
+    R: Processes
+        + Threads
+        + Wait
+        + Copy
+        + Send
+        + 'static
+        + Files
+        + Env
+        + Print
+        + Eprint
+        + RandomSource
+        + AllocGlobal
+        + Abort,
+    R::Started: Send + 'static,
+    <R::Started as OpenProcess>::Stdin: Send + 'static,
+    <R::Started as OpenProcess>::Stdout: Send + 'static,
+    <R::Started as OpenProcess>::Stderr: AsRawFd + Send + 'static,
+{
+    let path = own_path(&rt, name, process);
+    let mut host = ProcessHost::new(rt).expect(&rt, "a host");
+    make(&rt, &mut host, path.as_str(), check);
+}
