@@ -18,6 +18,7 @@ pub fn nonempty(text: Option<&str>) -> Option<&str>
         None => None,
     }
 }
+
 // Adds a word that has a byte.
 fn push_nonempty(words: &mut Words, word: Text) -> Mem<()>
     ensures { OnOk result (words.new ≡ words.old ++ filter has_bytes (word ∷ [])) }
@@ -27,6 +28,7 @@ fn push_nonempty(words: &mut Words, word: Text) -> Mem<()>
     }
     Ok(())
 }
+
 /// The words of a text between the characters that Unicode counts as white space. As `str::split_whitespace` has it.
 #[tactic(auto, unfolding(crate::specs::Blanks::white_words))]
 pub fn white_words(alloc: Global, text: &str) -> Mem<Words>

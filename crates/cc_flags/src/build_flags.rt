@@ -36,6 +36,7 @@ fn is_always(flag: &BuildFlag, word: &str) -> bool
         BuildFlag::IfSupported(_) => false,
     }
 }
+
 /// A list of flags. Contracts see the list.
 #[derive(Drop, Debug)]
 pub struct Flags {
@@ -119,6 +120,7 @@ impl Flags {
         Ok(flags)
     }
 }
+
 /// A macro, with its value where it has one.
 #[derive(Drop, Debug)]
 pub struct Definition {
@@ -143,6 +145,7 @@ impl Definition {
         })
     }
 }
+
 /// A list of macros. Contracts see the list.
 #[derive(Drop, Debug)]
 pub struct Definitions {

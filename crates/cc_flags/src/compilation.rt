@@ -24,6 +24,7 @@ pub struct Inputs<'a> {
     ghost read: { handed.now ≡ handed_down env.now.inherited },
     ghost known: { info_seen target.now ≡ target_info set.now env.now },
 }
+
 /// The same with a compiler.
 #[derive(Clone, Copy)]
 pub struct Compilation<'a> {

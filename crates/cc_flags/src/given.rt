@@ -23,30 +23,35 @@ pub(crate) fn or_variable<'a>(
         None => env.inherited().get(name),
     }
 }
+
 /// The folder of the objects and of the library, lent: the set one, else `OUT_DIR`, or none. It takes no memory.
 pub fn out_dir_of<'a>(set: &'a BuildConfig, env: &'a BuildEnv) -> Option<&'a str>
     ensures { option_copied result ≡ out_dir_of set.now env.now }
 {
     or_variable(&set.out_dir, env, "OUT_DIR")
 }
+
 /// The name of the target, lent: the set one, else `TARGET`, or none. It takes no memory.
 pub fn target_of<'a>(set: &'a BuildConfig, env: &'a BuildEnv) -> Option<&'a str>
     ensures { option_copied result ≡ target_of set.now env.now }
 {
     or_variable(&set.target, env, "TARGET")
 }
+
 // The name of the target, or the empty name.
 pub fn target_name<'a>(set: &'a BuildConfig, env: &'a BuildEnv) -> &'a str
     ensures { result.now ≡ target_name set.now env.now }
 {
     target_of(set, env).unwrap_or("")
 }
+
 /// The name of the target of the machine that compiles, lent: the set one, else `HOST`, or none. It takes no memory.
 pub fn host_of<'a>(set: &'a BuildConfig, env: &'a BuildEnv) -> Option<&'a str>
     ensures { option_copied result ≡ host_of set.now env.now }
 {
     or_variable(&set.host, env, "HOST")
 }
+
 // The optimisation level as text: the set one, else `OPT_LEVEL`, or none.
 pub fn level_of<'a>(set: &'a BuildConfig, env: &'a BuildEnv) -> Option<&'a str>
     ensures { option_copied result ≡ level_of set.now env.now }
@@ -62,6 +67,7 @@ fn is_value_of(env: &BuildEnv, name: &str, value: &str) -> bool
         None => false,
     }
 }
+
 // Whether the target is the one that Cargo builds for.
 pub(crate) fn is_cargos_target(set: &BuildConfig, env: &BuildEnv) -> bool
     ensures { result ≡ is_cargos_target set.now env.now }
@@ -80,6 +86,7 @@ fn is_true_variable(env: &BuildEnv, name: &str) -> bool
         None => false,
     }
 }
+
 /// Whether `CC_FORCE_DISABLE` is true, so that no command may run, as a build system wants that builds
 /// all libraries itself. It takes no memory.
 pub fn is_disabled(env: &BuildEnv) -> bool
@@ -87,6 +94,7 @@ pub fn is_disabled(env: &BuildEnv) -> bool
 {
     is_true_variable(env, "CC_FORCE_DISABLE")
 }
+
 // Whether the words that a target and a level bring are left out.
 pub fn has_no_defaults(set: &BuildConfig, env: &BuildEnv) -> bool
     ensures { result ≡ has_no_defaults set.now env.now }
@@ -108,6 +116,7 @@ pub(crate) fn flags_variable(set: &BuildConfig) -> &'static str
 {
     if set.cpp { "CXXFLAGS" } else { "CFLAGS" }
 }
+
 /// The flags of a variable for this target and host: those of each of its four names that is set, the most general name first, parted
 /// at blanks, or as a shell parts words where that is wanted. None where none of them is set. Only want of memory refuses.
 pub fn variable_flags(
@@ -129,6 +138,7 @@ pub fn variable_flags(
         has_shell_flags(set, env),
     )
 }
+
 // The flags that the environment gives the compiler.
 pub(crate) fn environment_flags(
     alloc: Global,
@@ -139,6 +149,7 @@ pub(crate) fn environment_flags(
 {
     variable_flags(alloc, set, env, flags_variable(set))
 }
+
 // The value of a variable of the prefixes. Without a target and a host there is none.
 pub fn prefixed_value(
     alloc: Global,
@@ -159,6 +170,7 @@ fn temp_folder(env: &BuildEnv) -> &str
 {
     nonempty(env.inherited().get("TMPDIR")).unwrap_or("/tmp")
 }
+
 /// The folder of probe files, lent: the out dir, where it is set and not empty, else that for files that don't last. It takes no memory.
 #[tactic(auto, unfolding(crate::specs::Given::probe_folder))]
 pub fn probe_folder<'a>(set: &'a BuildConfig, env: &'a BuildEnv) -> &'a str

@@ -209,6 +209,7 @@ impl BuildConfig {
         })
     }
 }
+
 /// The settings of an archive alone: without sources, and with these objects before the added ones. Only want of memory refuses; the
 /// settings stay as they are.
 pub fn archive_settings(alloc: Global, set: &BuildConfig, objects: &Words) -> Mem<BuildConfig>
@@ -220,6 +221,7 @@ pub fn archive_settings(alloc: Global, set: &BuildConfig, objects: &Words) -> Me
     archive.objects.extend(&set.objects)?;
     Ok(archive)
 }
+
 // A second text, equal to this one, or none.
 pub fn second(text: &Option<Text>) -> Mem<Option<Text>>
     ensures { IfOk result (λ t. t ≡ text.now) }
@@ -229,6 +231,7 @@ pub fn second(text: &Option<Text>) -> Mem<Option<Text>>
         None => Ok(None),
     }
 }
+
 // The same of a text that may be chosen as none.
 fn second_choice(choice: &Option<Option<Text>>) -> Mem<Option<Option<Text>>>
     ensures { IfOk result (λ c. c ≡ choice.now) }

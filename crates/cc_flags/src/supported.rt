@@ -27,6 +27,7 @@ impl Model for Supported {
 
     ghost invariant = { λ s. (text : List ℕ) → contains_text s.index text ≡ is_among s.words text };
 }
+
 // The index of some words, which has those and no other.
 fn index_of(alloc: Global, words: &[Text]) -> Mem<BTreeSet<String>>
     ensures { IfOk result (λ index. (text : List ℕ)

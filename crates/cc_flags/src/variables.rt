@@ -40,6 +40,7 @@ pub struct Reads {
     /// It plans link lines.
     pub links: bool,
 }
+
 /// Adds a name, where it is read.
 pub fn push_if(names: &mut Words, is_read: bool, name: &str) -> Mem<()>
     ensures { OnOk result (names.new ≡ names.old ++ when is_read (name.now ∷ [])) }
@@ -49,6 +50,7 @@ pub fn push_if(names: &mut Words, is_read: bool, name: &str) -> Mem<()>
     }
     Ok(())
 }
+
 // The names of a variable of the prefixes. Without a target and a host there is none.
 fn prefixed_names(alloc: Global, set: &BuildConfig, env: &BuildEnv, variable: &str) -> Mem<Words>
     ensures { IfOk result (λ names. names ≡ spec.prefixed_names set.now env.now variable.now) }
@@ -58,6 +60,7 @@ fn prefixed_names(alloc: Global, set: &BuildConfig, env: &BuildEnv, variable: &s
         _ => Ok(Words::new(alloc)),
     }
 }
+
 // The names up to the first that is set.
 fn looked_at(alloc: Global, env: &BuildEnv, names: &[Text]) -> Mem<Words>
     ensures { IfOk result (λ read. read ≡ spec.looked_at env.now names.now) }
@@ -71,6 +74,7 @@ fn looked_at(alloc: Global, env: &BuildEnv, names: &[Text]) -> Mem<Words>
     }
     Ok(read)
 }
+
 /// The names by which one value of the prefixes is read.
 #[tactic(auto, unfolding(crate::specs::Variables::value_names))]
 pub fn value_names(alloc: Global, set: &BuildConfig, env: &BuildEnv, variable: &str) -> Mem<Words>
@@ -86,6 +90,7 @@ fn asks_for_quotes(alloc: Global, set: &BuildConfig, env: &BuildEnv, variable: &
     let flags = variable_flags(alloc, set, env, variable)?;
     Ok(flags.is_some() && set.shell_escaped_flags.is_none())
 }
+
 /// The names by which a list of flags is read: each of its four, and the one that says how flags are quoted.
 #[tactic(auto, unfolding(crate::specs::Variables::flags_names))]
 pub fn flags_names(alloc: Global, set: &BuildConfig, env: &BuildEnv, variable: &str) -> Mem<Words>
@@ -97,6 +102,7 @@ pub fn flags_names(alloc: Global, set: &BuildConfig, env: &BuildEnv, variable: &
     }
     Ok(names)
 }
+
 // Adds those by which the compiler that a target wants is found.
 #[tactic(auto, unfolding(crate::specs::Variables::target_choice_names))]
 fn push_target_choice_names(
@@ -119,6 +125,7 @@ fn push_target_choice_names(
     }
     Ok(())
 }
+
 // Adds whether Clang's form of the Visual Studio compiler is preferred, which is read for its targets.
 #[tactic(auto, unfolding(crate::specs::Variables::preference_names))]
 fn push_preference_names(names: &mut Words, target: &TargetInfo) -> Mem<()>
@@ -129,6 +136,7 @@ fn push_preference_names(names: &mut Words, target: &TargetInfo) -> Mem<()>
     }
     Ok(())
 }
+
 // Adds those by which the compiler that a target wants is found, unless one is named.
 fn push_choice_unless(
     names: &mut Words,
@@ -145,6 +153,7 @@ fn push_choice_unless(
     }
     push_target_choice_names(names, cpp, target, cross)
 }
+
 /// Adds those that are read beside the compiler's own variable, unless that names one.
 #[tactic(auto, using(std::proofs::Common::append_assoc))]
 pub fn push_target_names(
@@ -215,6 +224,7 @@ fn reads_paths(family: ToolFamily) -> bool
 {
     is_gnu(family) || is_any_clang(family)
 }
+
 // What GCC and Clang read by themselves: GCC's "Environment Variables Affecting GCC", and Clang's and Zig's drivers.
 #[tactic(auto, unfolding(crate::specs::Variables::gnu_like_names))]
 fn push_gnu_like_names(names: &mut Words, family: ToolFamily) -> Mem<()>
@@ -254,6 +264,7 @@ fn reads_includes(family: ToolFamily, target: &TargetInfo) -> bool
 {
     is_cl(family) || seeks_visual_studio(family, target)
 }
+
 // What the Visual Studio compiler and what stands in for it read by themselves: its "CL environment variables", and LLVM's search for it.
 #[tactic(auto, unfolding(crate::specs::Variables::visual_studio_names))]
 fn push_visual_studio_names(names: &mut Words, family: ToolFamily, target: &TargetInfo) -> Mem<()>
@@ -274,6 +285,7 @@ fn push_visual_studio_names(names: &mut Words, family: ToolFamily, target: &Targ
     ])?;
     Ok(())
 }
+
 // What Emscripten reads by itself: its `emcc.py` and `config.py`.
 #[tactic(auto, unfolding(crate::specs::Variables::emscripten_names))]
 fn push_emscripten_names(names: &mut Words, target: &TargetInfo) -> Mem<()>
@@ -295,6 +307,7 @@ fn push_emscripten_names(names: &mut Words, target: &TargetInfo) -> Mem<()>
     )])?;
     Ok(())
 }
+
 // What a compiler reads by itself, or a program that it runs.
 #[tactic(auto, unfolding(crate::specs::Variables::family_names), using(std::proofs::Common::append_assoc))]
 fn push_family_names(names: &mut Words, family: ToolFamily, target: &TargetInfo) -> Mem<()>
@@ -306,6 +319,7 @@ fn push_family_names(names: &mut Words, family: ToolFamily, target: &TargetInfo)
     push_emscripten_names(names, target)?;
     Ok(())
 }
+
 // Unless the words of a target are left out.
 fn push_default_sysroots(
     names: &mut Words,
@@ -322,6 +336,7 @@ fn push_default_sysroots(
     }
     push_sysroot_names(names, set, target, compiler)
 }
+
 /// Those by which the words of a compiler are planned.
 #[tactic(auto, unfolding(crate::specs::Variables::words_names))]
 pub fn words_names(
@@ -341,6 +356,7 @@ pub fn words_names(
     push_family_names(&mut names, compiler.family, target)?;
     Ok(names)
 }
+
 /// The variable of the flags of a tool of archives.
 pub fn tool_flags(tool: ArchiveTool) -> &'static str
     ensures { result.now ≡ spec.tool_flags tool }
@@ -359,6 +375,7 @@ fn links_some(library: &Option<Option<Text>>) -> bool
         None => true,
     }
 }
+
 // Those of the variable of the C++ library, where none is set.
 fn stdlib_names(alloc: Global, set: &BuildConfig, env: &BuildEnv) -> Mem<Words>
     ensures { IfOk result (λ names. names ≡ spec.stdlib_names set.now env.now) }
@@ -368,6 +385,7 @@ fn stdlib_names(alloc: Global, set: &BuildConfig, env: &BuildEnv) -> Mem<Words>
         None => value_names(alloc, set, env, "CXXSTDLIB"),
     }
 }
+
 // Those of the variable by which it is a static one.
 fn static_names(
     alloc: Global,
@@ -420,6 +438,7 @@ fn push_wasm_library_names(
     ])?;
     Ok(())
 }
+
 // Those by which link lines are planned.
 fn link_names(alloc: Global, set: &BuildConfig, env: &BuildEnv) -> Mem<Words>
     ensures { IfOk result (λ names. names ≡ spec.link_names set.now env.now) }
@@ -432,6 +451,7 @@ fn link_names(alloc: Global, set: &BuildConfig, env: &BuildEnv) -> Mem<Words>
     push_wasm_library_names(&mut names, &library, &target_info(set, env))?;
     Ok(names)
 }
+
 // Those by which link lines are planned, where some are.
 fn linking_names(alloc: Global, set: &BuildConfig, env: &BuildEnv, reads: Reads) -> Mem<Words>
     ensures { IfOk result (λ names. names ≡ spec.linking_names reads set.now env.now) }
@@ -442,6 +462,7 @@ fn linking_names(alloc: Global, set: &BuildConfig, env: &BuildEnv, reads: Reads)
         Ok(Words::new(alloc))
     }
 }
+
 // Those of a run itself.
 #[tactic(auto, unfolding(crate::specs::Variables::run_names))]
 fn run_names(alloc: Global, reads: Reads) -> Mem<Words>
@@ -452,6 +473,7 @@ fn run_names(alloc: Global, reads: Reads) -> Mem<Words>
     push_if(&mut names, reads.debug, "CC_ENABLE_DEBUG_OUTPUT")?;
     Ok(names)
 }
+
 /// Those that a call reads: those of a run itself, of the tools that it plans, and of its link lines.
 pub fn joined_names(
     alloc: Global,
@@ -467,6 +489,7 @@ pub fn joined_names(
     names.append(linking_names(alloc, set, env, reads)?)?;
     Ok(names)
 }
+
 /// Whether lines of such names are wanted. It takes no memory.
 pub fn wants_reruns(set: &BuildConfig) -> bool
     ensures { result ≡ spec.wants_reruns set.now }
@@ -483,6 +506,7 @@ fn sorted(alloc: Global, names: &[Text]) -> Mem<BTreeSet<Text>>
     }
     Ok(set)
 }
+
 /// Texts in the order of their bytes, each once.
 pub fn in_order(alloc: Global, names: &Words) -> Mem<Words>
     ensures { IfOk result (λ list. list ≡ spec.in_order names.now) }

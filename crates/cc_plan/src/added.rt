@@ -13,6 +13,7 @@ fn is_library(library: &str, path: &str) -> bool
 {
     same_path(path, library)
 }
+
 // The place of the first object that is the library.
 fn library_place(objects: &[Text], library: &str) -> Option<usize>
     ensures place { result ≡ position (is_library library.now) objects.now }
@@ -22,6 +23,7 @@ fn library_place(objects: &[Text], library: &str) -> Option<usize>
         .iter()
         .position(|object| is_library(library, object.as_str()))
 }
+
 // Checks that none of these objects is the library.
 pub(crate) fn check_added(objects: &Words, library: &str) -> Result<(), PlanError>
     ensures allowed { AllowedBy (added_refusal library.now objects.now) result }

@@ -18,6 +18,7 @@ fn archive_env(alloc: Global, env: &BuildEnv) -> Mem<Vars>
     entries.push("ZERO_AR_DATE", "1")?;
     env.inherited().child_vars(alloc, &entries)
 }
+
 // A second command with the words of the first, and then these. They share their environment.
 fn with_words(start: &Command, words: &Words) -> Mem<Command>
     ensures { IfOk result (λ cmd.
@@ -27,6 +28,7 @@ fn with_words(start: &Command, words: &Words) -> Mem<Command>
     cmd.args(words)?;
     Ok(cmd)
 }
+
 // A command of the archiver that writes no times into members, with a form and the library.
 fn timeless(
     alloc: Global,
@@ -51,6 +53,7 @@ fn adding(plain: bool) -> &'static str
 {
     if plain { "cq" } else { "cqD" }
 }
+
 // The command that adds no member yet.
 fn archive_start(
     alloc: Global,
@@ -64,6 +67,7 @@ fn archive_start(
     let cmd = timeless(alloc, archiver, env, adding(plain), library)?;
     Ok(cmd)
 }
+
 // Adds a command of each batch. They share their environment.
 fn push_batches(
     cmds: &mut Vec<Command>,
@@ -82,6 +86,7 @@ fn push_batches(
     }
     Ok(())
 }
+
 // The command that was refused: that of the first batch, where there is one.
 fn push_refused(
     cmds: &mut Vec<Command>,
@@ -100,6 +105,7 @@ fn push_refused(
         [] => Ok(()),
     }
 }
+
 /// The commands that write objects of these paths into the library: one a batch, and behind a refused first one all in the plain form.
 pub(crate) fn batch_commands(
     alloc: Global,
@@ -140,6 +146,7 @@ fn plain_index_command(
 {
     timeless(alloc, archiver, env, "s", library)
 }
+
 /// The commands that write its index: one, or the plain one behind a refused one.
 pub(crate) fn batch_index_commands(
     alloc: Global,

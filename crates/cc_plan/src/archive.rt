@@ -34,6 +34,7 @@ pub struct Archiver {
     /// Whether there are words behind its name in `AR`.
     pub any_args: bool,
 }
+
 /// What a library is written by: its target, its archiver in the environment, its name and its path, and the paths of its objects.
 #[derive(Clone, Copy)]
 pub struct Library<'a> {
@@ -50,6 +51,7 @@ pub struct Library<'a> {
     /// The paths of the objects that it gets, in order.
     pub paths: &'a Words,
 }
+
 // The command of a tool of archives.
 fn tool_command(alloc: Global, env: &BuildEnv, choice: &Choice, flags: &Words) -> Mem<Command>
     ensures { IfOk result (λ cmd. cmd ≡ archive_tool_cmd env.now choice.now flags.now) }
@@ -69,6 +71,7 @@ fn has_words(words: &Words) -> bool
         [_, ..] => true,
     }
 }
+
 // The archiver of a choice: the flags of the variables, and then the set ones.
 #[tactic(auto, unfolding(crate::specs::Archive::archiver_flags, crate::specs::Archive::has_flags))]
 fn archiver_by(alloc: Global, set: &BuildConfig, env: &BuildEnv, choice: &Choice) -> Mem<Archiver>
@@ -92,6 +95,7 @@ fn ranlib_flags(alloc: Global, set: &BuildConfig, env: &BuildEnv) -> Mem<Words>
 {
     Ok(variable_flags(alloc, set, env, "RANLIBFLAGS")?.unwrap_or(Words::new(alloc)))
 }
+
 // The target and the host are set, which flags of the environment are looked up by.
 #[tactic(auto, unfolding(crate::specs::Refusal::look_up_refusal))]
 fn check_look_up(alloc: Global, set: &BuildConfig, env: &BuildEnv) -> Result<(), PlanError>
@@ -106,6 +110,7 @@ fn check_look_up(alloc: Global, set: &BuildConfig, env: &BuildEnv) -> Result<(),
     }
     Ok(())
 }
+
 // A tool of archives, whose flags can be looked up.
 fn tool_with_flags<W: World, H: Host<W>>(
     rt: &impl Wait,
@@ -125,6 +130,7 @@ fn tool_with_flags<W: World, H: Host<W>>(
     check_look_up(alloc, set, env)?;
     Ok(choice)
 }
+
 /// The archiver of these settings in this environment: the set one, else that of `AR`, which is looked up as `CC` is, with its words, else the
 /// one that the target wants. Behind the words are the flags of `ARFLAGS`, which is looked up as `CFLAGS` is, and the set ones. It asks,
 /// and prints nothing.
@@ -149,6 +155,7 @@ pub fn archiver_of<W: World, H: Host<W>>(
     let archiver = archiver_by(alloc, set, env, &choice)?;
     Ok(archiver)
 }
+
 /// The command of the tool that writes an archive's index, in the environment of a child: the set one, else that of `RANLIB`, else the one that
 /// the target wants, as the archiver is found; with the flags of `RANLIBFLAGS`. It asks, and prints nothing. It is refused as the archiver is.
 #[tactic(auto, unfolding(crate::specs::Refusal::ranlib_refusal, crate::specs::Archive::ranlib_cmd_of))]
@@ -170,6 +177,7 @@ pub fn ranlib_of<W: World, H: Host<W>>(
     let cmd = tool_command(alloc, env, &choice, &flags)?;
     Ok(cmd)
 }
+
 /// The commands that write objects of these paths into the library, in order: one a batch, and none where there is no path. The words of the
 /// archiver's command come first. Only want of memory refuses.
 ///
@@ -215,6 +223,7 @@ pub fn archive_commands(
     }
     batch_commands(alloc, archiver, env, path, paths, plain)
 }
+
 /// The commands that write the index of the library of these paths, by which a linker finds symbols: one, whose words are behind those of the
 /// archiver's command. By the manual of GNU `ar`, `s` writes it, and `D` without the time. Only want of memory refuses.
 ///
@@ -240,6 +249,7 @@ pub fn index_commands(alloc: Global, library: &Library<'_>, plain: bool) -> Mem<
     }
     batch_index_commands(alloc, archiver, env, path, paths, plain)
 }
+
 /// The paths that the library gets: those of the objects of the sources, and then the added ones, in order. Only want of memory refuses.
 pub fn archived_paths(alloc: Global, set: &BuildConfig, objects: &[Object]) -> Mem<Words>
     ensures { IfOk result (λ paths. paths ≡ paths_of objects.now ++ set.now.objects) }

@@ -20,6 +20,7 @@ fn version_question(alloc: Global, vars: &Vars, program: &str) -> Mem<Question>
 {
     question_of(alloc, Ask::ToolVersion, program, &Words::new(alloc), vars)
 }
+
 // Whether a program prints its version, with these variables.
 #[tactic(auto, using(crate::proofs::AskingLemmas::only_none))]
 fn prints_version<W: World, H: Host<W>>(
@@ -46,6 +47,7 @@ fn prints_version<W: World, H: Host<W>>(
     )?;
     Ok(is_yes(&verdict))
 }
+
 // LLVM's tool where Clang looks for programs.
 #[tactic(auto, using(crate::proofs::AskingLemmas::only_none))]
 fn clang_tool<W: World, H: Host<W>>(
@@ -68,6 +70,7 @@ fn clang_tool<W: World, H: Host<W>>(
     let found = searched(rt, alloc, inputs.set, inputs.env, path, name, sight)?;
     Ok(found)
 }
+
 // The same, where the compiler is Clang.
 #[tactic(auto, using(crate::proofs::QuestionLemmas::chosen_at))]
 pub(crate) fn compiler_tool<W: World, H: Host<W>>(
@@ -89,6 +92,7 @@ pub(crate) fn compiler_tool<W: World, H: Host<W>>(
     let found = clang_tool(rt, tool, inputs, path, sight)?;
     Ok(found)
 }
+
 // LLVM's in the place of Visual Studio's, next to the compiler.
 #[tactic(auto, using(crate::proofs::QuestionLemmas::chosen_at))]
 pub(crate) fn lib_beside<W: World, H: Host<W>>(
@@ -114,6 +118,7 @@ pub(crate) fn lib_beside<W: World, H: Host<W>>(
     let found = beside(rt, alloc, set, env, family, path, "llvm-lib", sight)?;
     Ok(found)
 }
+
 // Whether LLVM's tool prints its version, in the environment of a child.
 #[tactic(auto, using(crate::proofs::AskingLemmas::only_none))]
 pub(crate) fn llvm_is_there<W: World, H: Host<W>>(
@@ -133,6 +138,7 @@ pub(crate) fn llvm_is_there<W: World, H: Host<W>>(
     let prints = prints_version(rt, inputs, &vars, name.as_str(), sight)?;
     Ok(prints)
 }
+
 // The program, one behind a prefix, where it prints its version in the environment that was inherited.
 pub(crate) fn if_versioned<W: World, H: Host<W>>(
     rt: &impl Wait,

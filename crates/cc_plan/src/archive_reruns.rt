@@ -34,6 +34,7 @@ fn seeks_prefix<W: World, H: Host<W>>(
     let is_named = target.os == "android" || is_msvc(target) || system.is_some();
     Ok(found.is_none() && !is_named && cross)
 }
+
 // It may be that of the compiler, which is chosen first.
 fn follows_compiler(target: &TargetInfo) -> bool
     ensures { result ≡ spec.follows_compiler (info_seen target.now) }
@@ -72,6 +73,7 @@ fn compiler_or_prefix_names<W: World, H: Host<W>>(
     push_if(&mut names, seeks, "CROSS_COMPILE")?;
     Ok(names)
 }
+
 // Emscripten has its own.
 #[tactic(auto, using(crate::proofs::AskingLemmas::only_none))]
 fn target_tool_names<W: World, H: Host<W>>(
@@ -90,6 +92,7 @@ fn target_tool_names<W: World, H: Host<W>>(
         compiler_or_prefix_names(rt, tool, inputs, sight)
     }
 }
+
 // Unless the environment names it.
 fn own_tool_names<W: World, H: Host<W>>(
     rt: &impl Wait,
@@ -108,6 +111,7 @@ fn own_tool_names<W: World, H: Host<W>>(
     let names = target_tool_names(rt, tool, inputs, sight)?;
     Ok(names)
 }
+
 // Those that are read where the settings name no such tool.
 fn found_tool_names<W: World, H: Host<W>>(
     rt: &impl Wait,
@@ -124,6 +128,7 @@ fn found_tool_names<W: World, H: Host<W>>(
     names.append(own)?;
     Ok(names)
 }
+
 // Those by which a tool of archives is chosen.
 #[tactic(auto, using(crate::proofs::AskingLemmas::only_none))]
 fn tool_choice_names<W: World, H: Host<W>>(
@@ -141,6 +146,7 @@ fn tool_choice_names<W: World, H: Host<W>>(
         None => found_tool_names(rt, tool, inputs, sight),
     }
 }
+
 /// The names by which a tool of archives is planned: those by which it is chosen, and those of its flags.
 pub(crate) fn archive_names<W: World, H: Host<W>>(
     rt: &impl Wait,

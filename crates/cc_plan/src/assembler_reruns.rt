@@ -26,6 +26,7 @@ fn push_option_names(names: &mut Words, target: &TargetInfo, path: &str) -> Mem<
     }
     Ok(())
 }
+
 // Those by which the assembler that goes with a compiler is planned.
 fn assembler_names<W: World, H: Host<W>>(
     rt: &impl Wait,
@@ -53,12 +54,14 @@ fn assembler_names<W: World, H: Host<W>>(
     push_option_names(&mut names, inputs.target, chosen)?;
     Ok(names)
 }
+
 // Whether an assembler is planned.
 fn plans_assembler(reads: Reads, inputs: &Inputs<'_>) -> bool
     ensures { result ≡ spec.plans_assembler reads inputs.now.set.now inputs.now.env.now }
 {
     reads.assembler && want_assembler(inputs.target, inputs.set.files.as_slice())
 }
+
 /// The names by which the assembler is planned, where one is.
 #[tactic(auto, using(crate::proofs::AskingLemmas::only_none))]
 pub(crate) fn assembling_names<W: World, H: Host<W>>(

@@ -34,6 +34,7 @@ fn in_folder_of<W: World, H: Host<W>>(
         None => Ok(None),
     }
 }
+
 // In that of a compiler, where a shell finds it.
 fn in_own_folder<W: World, H: Host<W>>(
     rt: &impl Wait,
@@ -55,6 +56,7 @@ fn in_own_folder<W: World, H: Host<W>>(
         None => Ok(None),
     }
 }
+
 // Where the compiler looks for programs, else in its own folder.
 fn beside_compiler<W: World, H: Host<W>>(
     rt: &impl Wait,
@@ -77,6 +79,7 @@ fn beside_compiler<W: World, H: Host<W>>(
         }
     }
 }
+
 /// A tool next to the compiler of a family and a path, where that is clang-cl: where it looks for programs, else in its own folder. None
 /// next to other compilers, and where neither has it.
 #[tactic(auto, using(crate::proofs::AskingLemmas::only_none))]

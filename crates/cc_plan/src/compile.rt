@@ -31,6 +31,7 @@ fn tool_for<'a>(
         tool
     }
 }
+
 // Adds the words of an object, in the form of a family.
 fn push_object(
     cmd: &mut Command,
@@ -46,6 +47,7 @@ fn push_object(
     let words = compile_words(alloc, set, family, target, object)?;
     cmd.args(&words)
 }
+
 /// The command that makes an object from its source: the tool in its whole environment, then the words of the object and the source in
 /// the form of the tool's family. The assembler, as `assembler_of` gives it, takes the tool's place for a source whose extension is `asm`
 /// on a target of the Visual Studio tools; without one the tool serves these sources too. Only want of memory refuses.
@@ -65,6 +67,7 @@ pub fn compile_command(
     push_object(&mut cmd, alloc, set, target, tool.family(), object)?;
     Ok(cmd)
 }
+
 // The command that those of sources for an assembler begin with: without one that of the tool, whose environment it shares.
 fn assembling_start(start: &Command, tool: &Tool, assembler: Option<&Tool>) -> Mem<Command>
     requires { start.now ≡ tool_command tool.now }
@@ -76,6 +79,7 @@ fn assembling_start(start: &Command, tool: &Tool, assembler: Option<&Tool>) -> M
         None => start.try_clone(),
     }
 }
+
 // The command that that of an object begins with.
 fn start_for<'a>(
     target: &TargetInfo,
@@ -92,6 +96,7 @@ fn start_for<'a>(
         start
     }
 }
+
 // The command of an object from the one that it begins with. It shares the environment of that one.
 fn command_from(
     alloc: Global,
@@ -109,6 +114,7 @@ fn command_from(
     push_object(&mut cmd, alloc, set, target, family, object)?;
     Ok(cmd)
 }
+
 // One command an object, in order.
 fn commands_from(
     alloc: Global,
@@ -128,6 +134,7 @@ fn commands_from(
     }
     Ok(cmds)
 }
+
 // One command an object, in order. What all have in common, as the environment, is made once.
 #[tactic(auto, using(crate::proofs::CompileLemmas::commands_begun))]
 pub(crate) fn compile_commands(
@@ -147,6 +154,7 @@ pub(crate) fn compile_commands(
     let cmds = commands_from(alloc, set, target, family, &start, &assembling, objects)?;
     Ok(cmds)
 }
+
 /// The command that expands a source: the tool in its whole environment, then `-E` and the source in the form of the tool's family. Only
 /// want of memory refuses.
 pub fn expand_command(alloc: Global, set: &BuildConfig, tool: &Tool, source: &str) -> Mem<Command>

@@ -27,6 +27,7 @@ pub enum ArgumentCause {
     /// The path is not that of a library `lib<name>.a` with its folder.
     Library,
 }
+
 /// Why a plan is refused. A refused plan runs no command; what it asked until then is in the log of the host.
 #[derive(Drop, Debug)]
 pub enum PlanError {

@@ -43,6 +43,7 @@ fn checked_question(given: &Compilation<'_>, flag: &str) -> Result<Question, Pla
     let question = plain_question(&plain)?;
     Ok(question)
 }
+
 // The verdict of a compiler on a flag.
 #[tactic(auto, using(crate::proofs::AskingLemmas::only_none), unfolding(crate::specs::FlagSupport::verdict_on, crate::specs::FlagSupport::verdict_refusal))]
 fn verdict_on<W: World, H: Host<W>>(
@@ -72,6 +73,7 @@ fn verdict_on<W: World, H: Host<W>>(
     )?;
     Ok(verdict)
 }
+
 /// The compiler of some settings, and its verdict on a flag.
 #[derive(Drop, Debug)]
 pub struct FlagSupport {
@@ -80,12 +82,14 @@ pub struct FlagSupport {
     /// Yes or no; `Missing` where the program can't be found, `Unanswered` where it couldn't be asked.
     pub verdict: Verdict,
 }
+
 // The verdict on a flag, with what a user is warned of.
 #[derive(Drop)]
 struct Support {
     found: FlagSupport,
     warnings: Words,
 }
+
 /// The compiler, and the one that is asked: that of its path alone. Only want of memory refuses; what was asked until then is kept.
 #[tactic(auto, using(crate::proofs::QuestionLemmas::chosen_at))]
 pub(crate) fn found_compiler<W: World, H: Host<W>>(
@@ -101,6 +105,7 @@ pub(crate) fn found_compiler<W: World, H: Host<W>>(
     let bare = bare_compiler(rt, inputs.alloc, inputs.set, inputs.env, path, sight)?;
     Ok((compiler, bare))
 }
+
 // The verdict on a flag. It asks, and prints nothing.
 #[tactic(auto, using(crate::proofs::AskingLemmas::only_none))]
 fn plan_support<W: World, H: Host<W>>(
@@ -156,6 +161,7 @@ fn plan_support<W: World, H: Host<W>>(
         warnings,
     })
 }
+
 /// The compiler of these settings, and its verdict on a flag: it is asked by compiling a source of one line with the flag, at level 0 and
 /// without what Cargo hands down. A flag is for the linker where Visual Studio's compiler is given `/link`: no, without a question.
 /// Warnings of how the compiler was found are printed last, where they are wanted.

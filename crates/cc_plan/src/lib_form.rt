@@ -22,6 +22,7 @@ fn names_llvm_ar(name: &str) -> bool
 {
     contains_ignore_ascii_case(name, "llvm-ar")
 }
+
 // An archiver for a target of Visual Studio takes these words, unless it is libtool, or `ar` of LLVM.
 #[tactic(auto, unfolding(crate::specs::LibForm::is_lib))]
 pub(crate) fn is_lib(target: &TargetInfo, archiver: &Archiver) -> bool
@@ -31,6 +32,7 @@ pub(crate) fn is_lib(target: &TargetInfo, archiver: &Archiver) -> bool
         && !is_libtool(archiver)
         && !names_llvm_ar(file_name(archiver.name.as_str()).unwrap_or(""))
 }
+
 /// Whether the archiver has one form alone, so that none is tried: libtool, and for a target of Visual Studio all but LLVM's `ar`. It takes no
 /// memory.
 #[tactic(auto, unfolding(crate::specs::LibForm::has_one_form))]
@@ -39,12 +41,14 @@ pub fn has_one_form(target: &TargetInfo, archiver: &Archiver) -> bool
 {
     is_libtool(archiver) || is_lib(target, archiver)
 }
+
 // The path begins at the root.
 fn is_absolute(path: &str) -> bool
     ensures { result ≡ spec.is_absolute path.now }
 {
     begins_with(path, "/")
 }
+
 // The program is the same in each folder: its path is whole, or it is a name alone.
 fn is_same_anywhere(alloc: Global, program: &str) -> Mem<bool>
     ensures { IfOk result (λ b. b ≡ spec.is_same_anywhere program.now) }
@@ -54,12 +58,14 @@ fn is_same_anywhere(alloc: Global, program: &str) -> Mem<bool>
     }
     Ok(!is_path(alloc, program)?)
 }
+
 /// The folder of the library.
 pub(crate) fn folder_of(library: &str) -> &str
     ensures { result.now ≡ spec.folder_of library.now }
 {
     parent(library).unwrap_or("")
 }
+
 // The commands run there: no word was given with the archiver that may name a file by the current folder.
 #[tactic(auto, unfolding(crate::specs::LibForm::runs_in_folder))]
 pub(crate) fn runs_in_folder(alloc: Global, archiver: &Archiver, library: &str) -> Mem<bool>
@@ -70,6 +76,7 @@ pub(crate) fn runs_in_folder(alloc: Global, archiver: &Archiver, library: &str) 
     }
     is_same_anywhere(alloc, archiver.name.as_str())
 }
+
 // How an object is named in a folder: by the rest of its path, else by its path from the current folder.
 fn member_in(alloc: Global, folder: &str, here: &str, path: &str) -> Mem<Text>
     ensures { IfOk result (λ name. name ≡ spec.member_in folder.now here.now path.now) }
@@ -79,6 +86,7 @@ fn member_in(alloc: Global, folder: &str, here: &str, path: &str) -> Mem<Text>
         None => join(alloc, here, path),
     }
 }
+
 // Each of these objects so.
 fn members_by(alloc: Global, folder: &str, here: &str, paths: &[Text]) -> Mem<Words>
     ensures { IfOk result (λ words. words
@@ -90,6 +98,7 @@ fn members_by(alloc: Global, folder: &str, here: &str, paths: &[Text]) -> Mem<Wo
     }
     Ok(words)
 }
+
 // The objects of a batch as a command names them.
 #[tactic(auto, unfolding(crate::specs::LibForm::members_of))]
 fn members_of(
@@ -107,6 +116,7 @@ fn members_of(
     }
     members_by(alloc, folder_of(library), here, paths.as_slice())
 }
+
 // Where the library is written, no banner where no flags were given, and the library itself where members are added to it.
 #[tactic(auto, unfolding(crate::specs::LibForm::lib_words))]
 fn lib_words(alloc: Global, archiver: &Archiver, library: &str, adds: bool) -> Mem<Words>
@@ -124,6 +134,7 @@ fn lib_words(alloc: Global, archiver: &Archiver, library: &str, adds: bool) -> M
     }
     Ok(words)
 }
+
 // Has a command run in the library's folder, where it runs there.
 fn enter_folder(alloc: Global, archiver: &Archiver, library: &str, mut cmd: Command) -> Mem<Command>
     ensures { IfOk result (λ placed. placed ≡ in_folder archiver.now library.now cmd) }
@@ -133,6 +144,7 @@ fn enter_folder(alloc: Global, archiver: &Archiver, library: &str, mut cmd: Comm
     }
     Ok(cmd)
 }
+
 // The command of a batch, which makes the library or adds to it.
 fn lib_command(
     alloc: Global,
@@ -152,6 +164,7 @@ fn lib_command(
     let placed = enter_folder(alloc, archiver, library, cmd)?;
     Ok(placed)
 }
+
 // Adds the commands of batches that are added to the library.
 fn push_adding(
     cmds: &mut Vec<Command>,
@@ -169,6 +182,7 @@ fn push_adding(
     }
     Ok(())
 }
+
 /// The commands that write objects of these paths into the library: one a batch, of which the first makes it, and each later one adds to it.
 pub(crate) fn lib_commands(
     alloc: Global,
@@ -188,6 +202,7 @@ pub(crate) fn lib_commands(
     }
     Ok(cmds)
 }
+
 /// Whether the current folder is to be asked for before the commands that archive objects of these paths: where they run in the library's
 /// folder, an object whose path is relative and isn't below it is named from the current one. Only want of memory refuses.
 #[tactic(auto, unfolding(crate::specs::Archive::asks_folder))]

@@ -16,6 +16,7 @@ fn names_libtool(name: &str) -> bool
 {
     contains_ignore_ascii_case(name, "libtool")
 }
+
 /// Whether the archiver is Apple's libtool, or one that takes its words: its file name has `libtool` in it, whatever the case of ASCII letters.
 /// It takes no memory.
 #[tactic(auto, unfolding(crate::specs::Libtool::is_libtool))]
@@ -32,6 +33,7 @@ fn list_path(alloc: Global, library: &str) -> Mem<Text>
     path.push_str(".filelist")?;
     Ok(path)
 }
+
 // The command that writes the library. By the manual of Apple's libtool, `-static` makes a static library, `-D` writes the same times and
 // owners each time, and `-filelist` takes the paths from a file, and a folder to put before each behind the last comma, if there is one.
 pub(crate) fn libtool_command(alloc: Global, archiver: &Archiver, library: &str) -> Mem<Command>
@@ -59,6 +61,7 @@ fn list_text(alloc: Global, paths: &[Text]) -> Mem<Text>
     }
     Ok(text)
 }
+
 /// The list file of the objects of these paths, its path and its bytes, which is to be written before the library where the archiver is
 /// libtool; else none. It lies beside the library and has a path a line. Only want of memory refuses.
 ///
@@ -84,6 +87,7 @@ fn has_line_feed(path: &str) -> bool
 {
     path.as_bytes().contains(&b'\n')
 }
+
 // The place of the first path with a line feed.
 fn line_feed_place(paths: &[Text]) -> Option<usize>
     ensures place { result ≡ position has_line_feed paths.now }
@@ -91,6 +95,7 @@ fn line_feed_place(paths: &[Text]) -> Option<usize>
 {
     paths.iter().position(|path| has_line_feed(path.as_str()))
 }
+
 /// Checks that a list of these paths can be read, where the archiver is libtool, which takes each line of it for a path. It takes no memory.
 ///
 /// Refused at the place of the first path with a line feed, counted from 0.

@@ -33,6 +33,7 @@ pub struct Sources {
     /// The sources with their objects, in the order in which the sources were added.
     pub objects: Vec<Object>,
 }
+
 /// The warnings of a compile run and the commands that compile. Nothing of them is decided while they run.
 #[derive(Drop, Debug)]
 pub struct Plan {
@@ -43,6 +44,7 @@ pub struct Plan {
     /// One command a source, in their order. They share one environment.
     pub compiles: Vec<Command>,
 }
+
 // The out dir, which is set and not empty.
 fn checked_out_dir<'a>(
     alloc: Global,
@@ -69,6 +71,7 @@ fn source_root_of(set: &BuildConfig) -> Option<&str>
         None => None,
     }
 }
+
 /// Checks the out dir and the sources, in this order, and names the out dir, which is the folder of the objects and of probe files, and the
 /// objects, in the order in which the sources were added. It asks nothing.
 ///
@@ -89,6 +92,7 @@ pub fn plan_objects(
     let objects = objects_from_files(alloc, &set.files, dir, env.inherited(), source_root_of(set))?;
     Ok((Text::of(alloc, dir)?, objects))
 }
+
 /// Checks the output, the out dir, the sources and the added objects, in this order, and names the library, the out dir and the objects.
 /// It asks nothing.
 ///
@@ -121,6 +125,7 @@ pub fn plan_sources(
         objects,
     })
 }
+
 // Without a source there is nothing to compile, and no tool is wanted.
 fn no_compiles(alloc: Global, set: &BuildConfig, env: &BuildEnv) -> Result<Plan, PlanError>
     ensures warnings { IfOk result (λ plan. plan.warnings ≡ []) }
@@ -135,6 +140,7 @@ fn no_compiles(alloc: Global, set: &BuildConfig, env: &BuildEnv) -> Result<Plan,
         compiles: Vec::new(alloc),
     })
 }
+
 // With sources, those of the tool, and of the assembler where one wants it.
 fn tool_compiles<W: World, H: Host<W>>(
     rt: &impl Wait,
@@ -172,6 +178,7 @@ fn tool_compiles<W: World, H: Host<W>>(
         compiles,
     })
 }
+
 /// The warnings of a compile run with these sources, which `plan_sources` gave, and the commands that compile. It asks, and prints nothing.
 /// Without a source no tool is wanted, and nothing is asked; an assembler is planned, behind the tool, where a source wants one.
 ///

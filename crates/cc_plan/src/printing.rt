@@ -25,6 +25,7 @@ pub fn warning_line(alloc: Global, text: &str) -> Mem<Text>
     line.push_str(text)?;
     Ok(line)
 }
+
 /// A line with its line feed, as a host prints it. Refused for memory, there is none.
 pub fn printed_line(alloc: Global, line: &str) -> Mem<Text>
     ensures { IfOk result (λ text. text ≡ line_of line.now) }
@@ -33,6 +34,7 @@ pub fn printed_line(alloc: Global, line: &str) -> Mem<Text>
     text.push_str("\n")?;
     Ok(text)
 }
+
 // Prints a warning.
 #[tactic(auto, using(cc_host::proofs::Parts::since_append))]
 fn print_warning<W: World, H: Host<W>>(
@@ -53,6 +55,7 @@ fn print_warning<W: World, H: Host<W>>(
         Err(HostError::NoMemory) => Err(PlanError::NoMemory),
     }
 }
+
 // Says a warning.
 #[tactic(auto, using(cc_host::proofs::Parts::since_append))]
 fn say_warning<W: World, H: Host<W>>(
@@ -72,6 +75,7 @@ fn say_warning<W: World, H: Host<W>>(
         Err(HostError::NoMemory) => Err(PlanError::NoMemory),
     }
 }
+
 // Prints a warning where that is wanted, and says it where the host listens.
 fn warn<W: World, H: Host<W>>(
     alloc: Global,
@@ -96,6 +100,7 @@ fn warn<W: World, H: Host<W>>(
     }
     Ok(())
 }
+
 /// Gives a host that listens or not these warnings, one after another: as lines where they are wanted, and as messages where it listens.
 pub(crate) fn warn_of<W: World, H: Host<W>>(
     alloc: Global,

@@ -40,6 +40,7 @@ fn is_parted<W: World, H: Host<W>>(
     let found = is_there(rt, inputs.alloc, inputs.set, inputs.env, text, sight)?;
     Ok(!found)
 }
+
 // The same of the value of a variable of the prefixes.
 #[tactic(auto, using(crate::proofs::AskingLemmas::only_none))]
 fn parts_value<W: World, H: Host<W>>(
@@ -57,6 +58,7 @@ fn parts_value<W: World, H: Host<W>>(
         None => Ok(false),
     }
 }
+
 /// The names by which a tool of the environment is found.
 pub(crate) fn tool_names<W: World, H: Host<W>>(
     rt: &impl Wait,
@@ -75,6 +77,7 @@ pub(crate) fn tool_names<W: World, H: Host<W>>(
     }
     Ok(names)
 }
+
 /// The environment names such a tool.
 pub(crate) fn is_named<W: World, H: Host<W>>(
     rt: &impl Wait,
@@ -89,6 +92,7 @@ pub(crate) fn is_named<W: World, H: Host<W>>(
     let tool = env_tool(rt, inputs.alloc, inputs.set, inputs.env, variable, sight)?;
     Ok(tool.is_some())
 }
+
 // Those that are read where the settings name no compiler.
 fn found_names<W: World, H: Host<W>>(
     rt: &impl Wait,
@@ -106,6 +110,7 @@ fn found_names<W: World, H: Host<W>>(
     push_target_names(&mut names, named, cpp, inputs.target, cross)?;
     Ok(names)
 }
+
 /// The names by which the compiler is chosen.
 #[tactic(auto, using(crate::proofs::AskingLemmas::only_none))]
 pub(crate) fn choice_names<W: World, H: Host<W>>(
@@ -121,6 +126,7 @@ pub(crate) fn choice_names<W: World, H: Host<W>>(
         None => found_names(rt, inputs, sight),
     }
 }
+
 // Those that the plan of a compiler reads.
 fn compiler_names<W: World, H: Host<W>>(
     rt: &impl Wait,
@@ -142,6 +148,7 @@ fn compiler_names<W: World, H: Host<W>>(
     names.append(more)?;
     Ok(names)
 }
+
 // Those of a question on a flag: its settings name the compiler that was found, and bring its words.
 fn question_names(inputs: &Inputs<'_>, compilers: &(Compiler, Compiler)) -> Mem<Words>
     ensures { IfOk result (λ names. names
@@ -158,6 +165,7 @@ fn question_names(inputs: &Inputs<'_>, compilers: &(Compiler, Compiler)) -> Mem<
     )?;
     Ok(names)
 }
+
 // Those by which a compiler is chosen, and asked whether it takes a flag.
 fn trial_names<W: World, H: Host<W>>(
     rt: &impl Wait,
@@ -173,6 +181,7 @@ fn trial_names<W: World, H: Host<W>>(
     names.append(more)?;
     Ok(names)
 }
+
 // Those of the compiler, where one is planned.
 #[tactic(auto, using(crate::proofs::AskingLemmas::only_none))]
 fn planned_names<W: World, H: Host<W>>(
@@ -190,6 +199,7 @@ fn planned_names<W: World, H: Host<W>>(
         Ok(Words::new(inputs.alloc))
     }
 }
+
 // Those of a question on a flag, where one is asked.
 #[tactic(auto, using(crate::proofs::AskingLemmas::only_none))]
 fn tried_names<W: World, H: Host<W>>(
@@ -207,6 +217,7 @@ fn tried_names<W: World, H: Host<W>>(
         Ok(Words::new(inputs.alloc))
     }
 }
+
 // Both.
 fn compiling_names<W: World, H: Host<W>>(
     rt: &impl Wait,
@@ -222,6 +233,7 @@ fn compiling_names<W: World, H: Host<W>>(
     names.append(tried)?;
     Ok(names)
 }
+
 // Those of the archiver, where one is planned.
 #[tactic(auto, using(crate::proofs::AskingLemmas::only_none))]
 fn archiver_names<W: World, H: Host<W>>(
@@ -240,6 +252,7 @@ fn archiver_names<W: World, H: Host<W>>(
     let names = archive_names(rt, ArchiveTool::Archiver, inputs, sight)?;
     Ok(names)
 }
+
 // Those of the tool that writes an archive's index, where one is planned.
 #[tactic(auto, using(crate::proofs::AskingLemmas::only_none))]
 fn ranlib_names<W: World, H: Host<W>>(
@@ -258,6 +271,7 @@ fn ranlib_names<W: World, H: Host<W>>(
     let names = archive_names(rt, ArchiveTool::Ranlib, inputs, sight)?;
     Ok(names)
 }
+
 // Both.
 fn archiving_names<W: World, H: Host<W>>(
     rt: &impl Wait,
@@ -274,6 +288,7 @@ fn archiving_names<W: World, H: Host<W>>(
     names.append(ranlib)?;
     Ok(names)
 }
+
 // Those of all tools behind the compiler.
 fn later_names<W: World, H: Host<W>>(
     rt: &impl Wait,
@@ -290,6 +305,7 @@ fn later_names<W: World, H: Host<W>>(
     names.append(archiving)?;
     Ok(names)
 }
+
 // Those of the tools that a call plans.
 fn tools_names<W: World, H: Host<W>>(
     rt: &impl Wait,
@@ -306,6 +322,7 @@ fn tools_names<W: World, H: Host<W>>(
     names.append(later)?;
     Ok(names)
 }
+
 // Those that a call reads.
 fn read_names<W: World, H: Host<W>>(
     rt: &impl Wait,
@@ -321,6 +338,7 @@ fn read_names<W: World, H: Host<W>>(
     let names = joined_names(inputs.alloc, inputs.set, inputs.env, reads, tools)?;
     Ok(names)
 }
+
 /// The names of the variables that Cargo is told of at the end of a call, in the order of their bytes, each once: those that the call reads, and
 /// those that its compiler reads by itself and that change what it compiles. `PATH` and the variables that Cargo sets aren't among them. There are
 /// none where `cargo_metadata` or `emit_rerun_if_env_changed` is off.

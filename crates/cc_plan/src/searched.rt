@@ -20,6 +20,7 @@ fn search_question(alloc: Global, env: &BuildEnv, path: &str) -> Mem<Question>
     let vars = env.child_vars(alloc)?;
     question_of(alloc, Ask::SearchDirs, path, &Words::new(alloc), &vars)
 }
+
 // Where a compiler looks for programs, as it prints it.
 #[tactic(auto, using(crate::proofs::AskingLemmas::only_none))]
 fn search_dirs<W: World, H: Host<W>>(
@@ -46,6 +47,7 @@ fn search_dirs<W: World, H: Host<W>>(
     )?;
     Ok(verdict)
 }
+
 // A program in the folders that a compiler names, where it names some.
 #[tactic(auto, using(crate::proofs::AskingLemmas::only_none))]
 fn in_dirs<W: World, H: Host<W>>(
@@ -73,6 +75,7 @@ fn in_dirs<W: World, H: Host<W>>(
         }
     }
 }
+
 /// A program in the folders that the compiler of a path names, and then in those in which a shell looks; none where the compiler names no
 /// folders, or the program is in none of them.
 pub(crate) fn searched<W: World, H: Host<W>>(

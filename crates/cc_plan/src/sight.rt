@@ -37,6 +37,7 @@ fn starts_of(alloc: Global, env: &BuildEnv, program: &str) -> Mem<Question>
         vars: env.inherited().vars().try_clone()?,
     })
 }
+
 // A file of this path is there.
 #[tactic(auto, using(crate::proofs::AskingLemmas::only_none))]
 pub(crate) fn is_there<W: World, H: Host<W>>(
@@ -62,6 +63,7 @@ pub(crate) fn is_there<W: World, H: Host<W>>(
     )?;
     Ok(is_yes(&verdict))
 }
+
 // The program, one of Android's compilers, can be run.
 #[tactic(auto, using(crate::proofs::AskingLemmas::only_none))]
 pub(crate) fn can_start<W: World, H: Host<W>>(

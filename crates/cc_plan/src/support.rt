@@ -28,6 +28,7 @@ fn second(alloc: Global, text: &Option<Text>) -> Mem<Option<Text>>
         None => Ok(None),
     }
 }
+
 /// The settings of a question on a flag: the compiler and the flag, level 0, no debug information, and nothing that Cargo hands down, so that
 /// the verdict speaks of the flag alone. Only want of memory refuses.
 pub(crate) fn flag_settings(
@@ -52,6 +53,7 @@ pub(crate) fn flag_settings(
     plain.inherit_trim_paths = false;
     Ok(plain)
 }
+
 /// The compiler of a question on a flag: the path with its family, without a wrapper. Only want of memory refuses.
 pub(crate) fn flag_compiler(alloc: Global, path: &str, family: ToolFamily) -> Mem<Compiler>
     ensures { IfOk result (λ compiler. compiler ≡ spec.flag_compiler path.now family) }
@@ -66,6 +68,7 @@ pub(crate) fn flag_compiler(alloc: Global, path: &str, family: ToolFamily) -> Me
         detected: Detected::Marks,
     })
 }
+
 // Adds the words, less `-v`.
 #[tactic(auto, unfolding(crate::specs::Support::quiet_words))]
 fn quiet_words(alloc: Global, words: &Words) -> Mem<Words>
@@ -79,6 +82,7 @@ fn quiet_words(alloc: Global, words: &Words) -> Mem<Words>
     }
     Ok(quiet)
 }
+
 // The variables of a question on a flag: those of the tool.
 fn flag_vars(alloc: Global, env: &BuildEnv, family: ToolFamily) -> Mem<Vars>
     ensures { IfOk result (λ vars. vars ≡ spec.flag_vars env.now family) }
@@ -89,6 +93,7 @@ fn flag_vars(alloc: Global, env: &BuildEnv, family: ToolFamily) -> Mem<Vars>
     entries.extend(env.explicit())?;
     env.inherited().child_vars(alloc, &entries)
 }
+
 // The words that a compiler is asked with. Clang would write on standard error at `-v`, and warns of a word that it has no use for
 // (`-Wunused-command-line-argument` of Clang's "Diagnostic flags in Clang"): either would count as a no.
 fn asking_words(alloc: Global, family: ToolFamily, words: Words) -> Mem<Words>
@@ -102,6 +107,7 @@ fn asking_words(alloc: Global, family: ToolFamily, words: Words) -> Mem<Words>
         Ok(words)
     }
 }
+
 // The words of a question on a flag, by its settings.
 #[tactic(auto, unfolding(crate::specs::Support::question_words))]
 fn question_words(plain: &Compilation<'_>) -> Mem<Words>
@@ -111,6 +117,7 @@ fn question_words(plain: &Compilation<'_>) -> Mem<Words>
     let words = tool_words(plain, &none)?;
     asking_words(plain.alloc, plain.compiler.family, words)
 }
+
 /// The question whether a compiler takes a flag, by its settings. Only want of memory refuses.
 pub(crate) fn plain_question(plain: &Compilation<'_>) -> Mem<Question>
     ensures { IfOk result (λ q. q ≡ spec.plain_question (seen plain.now)) }
@@ -127,6 +134,7 @@ pub(crate) fn plain_question(plain: &Compilation<'_>) -> Mem<Question>
         vars,
     })
 }
+
 // Whether there is a command of a question on a flag.
 fn can_ask(plain: &Compilation<'_>) -> Mem<bool>
     ensures { IfOk result (λ b. b ≡ is_none (spec.compiler_refusal (seen plain.now))) }
@@ -137,12 +145,14 @@ fn can_ask(plain: &Compilation<'_>) -> Mem<bool>
         Err(_) => Ok(false),
     }
 }
+
 /// Whether the flag is for the linker of Visual Studio. It takes no memory.
 pub(crate) fn is_for_linker(family: ToolFamily, flag: &str) -> bool
     ensures { result ≡ spec.is_for_linker family flag.now }
 {
     is_visual_studio(family) && is_link(flag)
 }
+
 // The question on a flag, where it is asked about.
 #[tactic(auto, unfolding(crate::specs::Support::is_asked_of))]
 fn question_of(given: &Compilation<'_>, flag: &str) -> Mem<Option<Question>>
@@ -168,6 +178,7 @@ fn question_of(given: &Compilation<'_>, flag: &str) -> Mem<Option<Question>>
         Ok(None)
     }
 }
+
 // Whether the compiler takes a flag.
 #[tactic(auto, using(crate::proofs::AskingLemmas::only_none))]
 fn takes<W: World, H: Host<W>>(
@@ -206,6 +217,7 @@ fn push_if(words: &mut Words, wanted: bool, word: &str) -> Mem<()>
     }
     Ok(())
 }
+
 // Those of some words that the compiler takes.
 #[tactic(auto, using(crate::proofs::AskingLemmas::only_none))]
 fn taken_among<W: World, H: Host<W>>(
@@ -225,6 +237,7 @@ fn taken_among<W: World, H: Host<W>>(
     }
     Ok(taken)
 }
+
 /// The compiler that a question on a flag is asked of: the one at a path, with the family of the path alone. Only want of memory refuses; what
 /// was asked until then is kept.
 pub(crate) fn bare_compiler<W: World, H: Host<W>>(
@@ -254,6 +267,7 @@ pub(crate) fn bare_compiler<W: World, H: Host<W>>(
     let compiler = flag_compiler(alloc, path, family)?;
     Ok(compiler)
 }
+
 // Those of some words that the compiler at the path of this one takes.
 #[tactic(auto, using(cc_tool::proofs::SettleLemmas::settles_is))]
 fn supported_among<W: World, H: Host<W>>(
@@ -281,6 +295,7 @@ fn supported_among<W: World, H: Host<W>>(
     let taken = taken_among(rt, &bare, words, sight)?;
     Ok(taken)
 }
+
 // Those that the compiler takes of the words it is asked about, as a list.
 #[tactic(auto, using(crate::proofs::AskingLemmas::only_none))]
 fn supported_list<W: World, H: Host<W>>(
@@ -300,6 +315,7 @@ fn supported_list<W: World, H: Host<W>>(
     }
     supported_among(rt, given, &words, sight)
 }
+
 /// Those that the compiler takes of the words it is asked about. Its family is asked for by its path alone. Only want of memory refuses; what
 /// was asked until then is kept.
 #[tactic(auto, using(crate::proofs::AskingLemmas::only_none))]

@@ -27,6 +27,7 @@ pub fn is_llvm(path: &str) -> bool
         None => false,
     }
 }
+
 // Which x86 it assembles for. That of LLVM takes 32 bits, unless it is told; of two such words it takes the last, so that a user's counts.
 #[tactic(auto, unfolding(crate::specs::AssemblerWords::width_words))]
 pub(crate) fn push_width_words(words: &mut Words, target: &TargetInfo, path: &str) -> Mem<()>
@@ -39,6 +40,7 @@ pub(crate) fn push_width_words(words: &mut Words, target: &TargetInfo, path: &st
     ])?;
     Ok(())
 }
+
 // The machine of an object of ARM64EC, whose assembler is that of Arm of 64 bits.
 fn push_machine(words: &mut Words, target: &TargetInfo) -> Mem<()>
     ensures { OnOk result (words.new ≡ words.old
@@ -50,6 +52,7 @@ fn push_machine(words: &mut Words, target: &TargetInfo) -> Mem<()>
     }
     Ok(())
 }
+
 // For Arm: `-g` for debug information, and `-machine`.
 fn push_machine_words(words: &mut Words, target: &TargetInfo, debug: bool) -> Mem<()>
     ensures { OnOk result (words.new ≡ words.old
@@ -59,6 +62,7 @@ fn push_machine_words(words: &mut Words, target: &TargetInfo, debug: bool) -> Me
     push_machine(words, target)?;
     Ok(())
 }
+
 // And the symbols.
 #[tactic(auto, unfolding(crate::specs::AssemblerWords::arm_words))]
 pub(crate) fn push_arm_words(
@@ -75,6 +79,7 @@ pub(crate) fn push_arm_words(
     push_predefine_words(words, alloc, definitions)?;
     Ok(())
 }
+
 // For others: `/Zi` for debug information, which that of LLVM ignores with a warning, and the macros, `/D`.
 #[tactic(auto, unfolding(crate::specs::AssemblerWords::masm_words))]
 fn push_masm_words(
@@ -93,6 +98,7 @@ fn push_masm_words(
     push_definition_words(words, alloc, definitions)?;
     Ok(())
 }
+
 // The words for the language of the target.
 fn push_language_words(
     words: &mut Words,
@@ -111,6 +117,7 @@ fn push_language_words(
         push_masm_words(words, alloc, path, debug, definitions)
     }
 }
+
 // The handlers of exceptions are told the linker, which refuses an object of x86 without them where all others have them: `/safeseh`.
 #[tactic(auto, unfolding(crate::specs::AssemblerWords::handler_words))]
 fn push_handler_words(words: &mut Words, target: &TargetInfo) -> Mem<()>
@@ -121,12 +128,14 @@ fn push_handler_words(words: &mut Words, target: &TargetInfo) -> Mem<()>
     }
     Ok(())
 }
+
 // Whether debug information is wanted.
 fn wants_debug(set: &BuildConfig, env: &BuildEnv) -> bool
     ensures { result ≡ spec.wants_debug set.now env.now }
 {
     has_debug(or_variable(&set.debug, env, "DEBUG"))
 }
+
 /// The words of the assembler: which x86 it assembles for, the words behind its name in the environment, `-nologo`, by which it doesn't
 /// print who made it, the folders of headers, debug information and macros in the form of its language, and what x86 wants. Only want of
 /// memory refuses.

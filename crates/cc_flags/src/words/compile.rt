@@ -13,6 +13,7 @@ fn is_asm_extension(extension: &str) -> bool
 {
     extension.eq_ignore_ascii_case("asm") || extension.eq_ignore_ascii_case("s")
 }
+
 // The source is assembly.
 #[tactic(auto, unfolding(crate::specs::CompileWords::is_asm))]
 fn is_asm(source: &str) -> bool
@@ -29,6 +30,7 @@ fn is_masm_extension(extension: &str) -> bool
 {
     extension.eq_ignore_ascii_case("asm")
 }
+
 // The source is in the language of the Visual Studio assemblers, for a target of theirs.
 #[tactic(auto, unfolding(crate::specs::CompileWords::is_masm))]
 pub fn is_masm(target: &TargetInfo, source: &str) -> bool
@@ -42,6 +44,7 @@ pub fn is_masm(target: &TargetInfo, source: &str) -> bool
         None => false,
     }
 }
+
 // The Visual Studio tools take the object in one word: their assemblers, and their compilers but for assembly for Arm.
 #[tactic(auto, unfolding(crate::specs::CompileWords::takes_one_word))]
 fn takes_one_word(family: ToolFamily, target: &TargetInfo, source: &str) -> bool
@@ -49,6 +52,7 @@ fn takes_one_word(family: ToolFamily, target: &TargetInfo, source: &str) -> bool
 {
     is_masm(target, source) || (is_visual_studio(family) && !(is_asm(source) && target.is_arm()))
 }
+
 // The object: `-o` of GCC's "Options Controlling the Kind of Output"; Microsoft's "/Fo (Object File Name)", which "ML and ML64 command-line
 // reference" has too.
 #[tactic(auto, unfolding(crate::specs::CompileWords::object_words))]
@@ -69,6 +73,7 @@ fn push_object_words(
     }
     Ok(())
 }
+
 // The name that stands for the object in debug information, which is its path where nothing else is said: `-object-file-name=` of Clang's
 // own options.
 #[tactic(auto, unfolding(crate::specs::CompileWords::object_name_words))]
@@ -79,6 +84,7 @@ fn push_object_name_words(words: &mut Words, name: &str) -> Mem<()>
     words.push_joined("-object-file-name=", name)?;
     Ok(())
 }
+
 // Debug information in which no folder and no command line stands, so that two builds of the same sources are the same byte for byte:
 // `-gno-codeview-command-line` and `-fdebug-compilation-dir` of Clang's "Clang command line argument reference".
 #[tactic(auto, unfolding(crate::specs::CompileWords::same_codeview_words))]
@@ -90,6 +96,7 @@ fn push_same_codeview_words(words: &mut Words, object: &str) -> Mem<()>
     words.push("/clang:-fdebug-compilation-dir=.")?;
     Ok(())
 }
+
 // The same, where it is wanted and Clang takes the words of the Visual Studio compiler.
 #[tactic(auto, unfolding(crate::specs::CompileWords::codeview_words))]
 fn push_codeview_words(
@@ -106,6 +113,7 @@ fn push_codeview_words(
     }
     Ok(())
 }
+
 // Nothing is linked: `-c` of GCC's "Options Controlling the Kind of Output"; `/c` of Microsoft's compilers and of its assemblers for x86.
 // Those for Arm don't link, and have no such word.
 #[tactic(auto, unfolding(crate::specs::CompileWords::object_only_words))]
@@ -118,6 +126,7 @@ fn push_object_only_words(words: &mut Words, target: &TargetInfo, source: &str) 
     }
     Ok(())
 }
+
 // The extension of the source is `cc`.
 fn has_extension_cc(source: &str) -> bool
     ensures { result ≡ spec.has_extension_cc source.now }
@@ -127,6 +136,7 @@ fn has_extension_cc(source: &str) -> bool
         None => false,
     }
 }
+
 // The source, last. Visual Studio doesn't know the extension `cc` for C++, and is told by Microsoft's "/Tc, /Tp, /TC, /TP (Specify Source
 // File Type)"; for Clang in its form a path that begins with a slash would be an option, so that `--` ends those (Clang's "Users Manual",
 // "clang-cl"), unless none is to stand there.
@@ -151,6 +161,7 @@ fn push_source_words(
     }
     Ok(())
 }
+
 /// The words of a command that expands a source, which follow those of the tool: `-E`, which stops behind the preprocessor (GCC's "Options
 /// Controlling the Kind of Output"), and the source, before which no `--` stands for assembly. Only want of memory refuses.
 pub fn expand_words(alloc: Global, family: ToolFamily, cpp: bool, source: &str) -> Mem<Words>
@@ -161,6 +172,7 @@ pub fn expand_words(alloc: Global, family: ToolFamily, cpp: bool, source: &str) 
     push_source_words(&mut words, family, cpp, is_asm(source), source)?;
     Ok(words)
 }
+
 /// The words of a compile command that follow those of the tool: the object, `-c`, the flags of sources in assembly, and the source. Only
 /// want of memory refuses.
 pub fn compile_words(

@@ -15,6 +15,7 @@ fn i32_of(text: &str) -> Option<i32>
 {
     text.parse::<i32>().ok()
 }
+
 // The text stands between quotes.
 #[tactic(auto, unfolding(crate::specs::Predefine::is_quoted))]
 fn is_quoted(text: &str) -> bool
@@ -22,6 +23,7 @@ fn is_quoted(text: &str) -> bool
 {
     begins_with(text, "\"") && ends_with(text, "\"")
 }
+
 // Adds a text, between quotes.
 fn push_between_quotes(word: &mut Text, text: &str) -> Mem<()>
     ensures { OnOk result (word.new ≡ word.old ++ spec.between_quotes text.now) }
@@ -40,6 +42,7 @@ pub(crate) fn number(alloc: Global, n: i32) -> Mem<String>
 {
     Ok(format!(in alloc; "{n}")?)
 }
+
 // Adds a number in decimal.
 fn push_number(word: &mut Text, alloc: Global, n: i32) -> Mem<()>
     ensures { OnOk result (word.new ≡ word.old ++ signed_decimal n) }
@@ -48,6 +51,7 @@ fn push_number(word: &mut Text, alloc: Global, n: i32) -> Mem<()>
     word.push_str(digits.as_str())?;
     Ok(())
 }
+
 // Adds what a symbol is set to by a value: a number in decimal, or else a text.
 fn push_number_or_text(word: &mut Text, alloc: Global, value: &str) -> Mem<()>
     ensures { OnOk result (word.new
@@ -65,6 +69,7 @@ fn push_number_or_text(word: &mut Text, alloc: Global, value: &str) -> Mem<()>
     }
     Ok(())
 }
+
 // Adds what a symbol is set to. Without a value it is true.
 fn push_setting(word: &mut Text, alloc: Global, value: &Option<Text>) -> Mem<()>
     ensures { OnOk result (word.new ≡ word.old ++ spec.setting value.now) }
@@ -74,6 +79,7 @@ fn push_setting(word: &mut Text, alloc: Global, value: &Option<Text>) -> Mem<()>
         None => word.push_str(" SETL {TRUE}"),
     }
 }
+
 // Adds a symbol, with what it is set to.
 fn push_symbol(words: &mut Words, alloc: Global, definition: &Definition) -> Mem<()>
     ensures { OnOk result (words.new ≡ words.old
@@ -84,6 +90,7 @@ fn push_symbol(words: &mut Words, alloc: Global, definition: &Definition) -> Mem
     words.push_text(word)?;
     Ok(())
 }
+
 // Adds the words of a symbol.
 fn push_predefined(words: &mut Words, alloc: Global, definition: &Definition) -> Mem<()>
     ensures { OnOk result (words.new ≡ words.old ++ spec.predefined definition.now) }
@@ -92,6 +99,7 @@ fn push_predefined(words: &mut Words, alloc: Global, definition: &Definition) ->
     push_symbol(words, alloc, definition)?;
     Ok(())
 }
+
 // The symbols, in the order added.
 #[tactic(auto, unfolding(crate::specs::Predefine::predefine_words))]
 pub(crate) fn push_predefine_words(

@@ -20,6 +20,7 @@ fn standard_flag(family: ToolFamily) -> &'static str
         "-std="
     }
 }
+
 // The standard of the language: GCC's "Options Controlling C Dialect", `-std=`; Microsoft's "/std (Specify Language Standard Version)".
 #[tactic(auto, unfolding(crate::specs::SettingWords::standard_words))]
 pub(crate) fn push_standard_words(
@@ -35,6 +36,7 @@ pub(crate) fn push_standard_words(
     }
     Ok(())
 }
+
 // The folders of headers, in which a compiler looks in this order: `-I` of GCC's "Options for Directory Search" and of Microsoft's "/I
 // (Additional include directories)". The folder is a word of its own, so that no path is taken for a flag.
 #[tactic(auto, unfolding(crate::specs::SettingWords::include_words))]
@@ -47,6 +49,7 @@ pub(crate) fn push_include_words(words: &mut Words, folders: &[Text]) -> Mem<()>
     }
     Ok(())
 }
+
 // Warnings are errors: `-Werror` of GCC's "Options to Request or Suppress Warnings"; Microsoft's "/WX".
 #[tactic(auto, unfolding(crate::specs::SettingWords::error_words))]
 pub(crate) fn push_error_words(words: &mut Words, family: ToolFamily, into_errors: bool) -> Mem<()>
@@ -61,6 +64,7 @@ pub(crate) fn push_error_words(words: &mut Words, family: ToolFamily, into_error
     }
     Ok(())
 }
+
 // The usual warnings, where they are on, `-Wall`; none at all, where they are off, `-w`: GCC's "Options to Request or Suppress Warnings".
 // For Visual Studio the levels 4 and 0 of Microsoft's compiler option that sets the warning level: its `/Wall` warns of its own headers.
 #[tactic(auto, unfolding(crate::specs::SettingWords::warnings_word))]
@@ -80,6 +84,7 @@ fn push_warnings_word(words: &mut Words, family: ToolFamily, on: bool) -> Mem<()
     }
     Ok(())
 }
+
 // Warnings that aren't set are on, where the environment has no flags of its own, and else left to those.
 #[tactic(auto, unfolding(crate::specs::SettingWords::warning_words))]
 pub(crate) fn push_warning_words(
@@ -101,6 +106,7 @@ pub(crate) fn push_warning_words(
     }
     Ok(())
 }
+
 // More warnings, `-Wextra` of GCC's "Options to Request or Suppress Warnings": where it isn't set, as above.
 #[tactic(auto, unfolding(crate::specs::SettingWords::extra_warning_words))]
 pub(crate) fn push_extra_warning_words(
@@ -117,12 +123,14 @@ pub(crate) fn push_extra_warning_words(
     }
     Ok(())
 }
+
 /// What follows is for the linker: Microsoft's "/link (Pass Options to Linker)". No archive is linked, so it is left off.
 pub fn is_link(text: &str) -> bool
     ensures { result ≡ spec.is_link text.now }
 {
     text == "/link" || text == "-link"
 }
+
 /// Whether the flag is that word.
 pub(crate) fn is_link_flag(flag: &BuildFlag) -> bool
     ensures { result ≡ spec.is_link_flag flag.now }
@@ -132,6 +140,7 @@ pub(crate) fn is_link_flag(flag: &BuildFlag) -> bool
         BuildFlag::IfSupported(text) => is_link(text.as_str()),
     }
 }
+
 // A flag that is always given, or one that stands among the supported ones.
 fn push_flag(words: &mut Words, supported: &Supported, flag: &BuildFlag) -> Mem<()>
     ensures { OnOk result (words.new ≡ words.old ++ spec.flag_word supported.now flag.now) }
@@ -146,6 +155,7 @@ fn push_flag(words: &mut Words, supported: &Supported, flag: &BuildFlag) -> Mem<
     }
     Ok(())
 }
+
 // The place of the first flag that is for the linker.
 fn link_flag_place(flags: &[BuildFlag]) -> Option<usize>
     ensures place { result ≡ position spec.is_link_flag flags.now }
@@ -153,6 +163,7 @@ fn link_flag_place(flags: &[BuildFlag]) -> Option<usize>
 {
     flags.iter().position(|flag| is_link_flag(flag))
 }
+
 // The flags before those that are for the linker.
 fn flags_before_link(flags: &[BuildFlag]) -> &[BuildFlag]
     ensures { result.now ≡ spec.before spec.is_link_flag flags.now }
@@ -162,6 +173,7 @@ fn flags_before_link(flags: &[BuildFlag]) -> &[BuildFlag]
         None => flags,
     }
 }
+
 // The flags that the compiler is given: for Visual Studio those before what is for the linker.
 #[tactic(auto, unfolding(crate::specs::SettingWords::compiler_flags))]
 fn compiler_flags(family: ToolFamily, flags: &[BuildFlag]) -> &[BuildFlag]
@@ -173,6 +185,7 @@ fn compiler_flags(family: ToolFamily, flags: &[BuildFlag]) -> &[BuildFlag]
         flags
     }
 }
+
 // The flags that a user gave, behind the words that they may override: of two flags that contradict each other a compiler takes the last.
 #[tactic(auto, unfolding(crate::specs::SettingWords::flag_words))]
 pub(crate) fn push_flag_words(
@@ -199,6 +212,7 @@ fn push_flag_ask(words: &mut Words, flag: &BuildFlag) -> Mem<()>
     }
     Ok(())
 }
+
 // Adds the flags that a compiler is asked about.
 #[tactic(auto, unfolding(crate::specs::SettingWords::flag_asks))]
 pub(crate) fn push_flag_asks(words: &mut Words, family: ToolFamily, flags: &[BuildFlag]) -> Mem<()>
@@ -209,6 +223,7 @@ pub(crate) fn push_flag_asks(words: &mut Words, family: ToolFamily, flags: &[Bui
     }
     Ok(())
 }
+
 // `-D` and the name of the macro, with `=` and the value where it has one: GCC's "Options Controlling the Preprocessor"; Microsoft's "/D
 // (Preprocessor Definitions)".
 fn push_definition(words: &mut Words, alloc: Global, definition: &Definition) -> Mem<()>
@@ -223,6 +238,7 @@ fn push_definition(words: &mut Words, alloc: Global, definition: &Definition) ->
     words.push_text(word)?;
     Ok(())
 }
+
 // The macros, in the order added: a compiler takes the last of a name.
 #[tactic(auto, unfolding(crate::specs::SettingWords::definition_words))]
 pub(crate) fn push_definition_words(
@@ -237,6 +253,7 @@ pub(crate) fn push_definition_words(
     }
     Ok(())
 }
+
 // The place of the first word that is for the linker.
 fn link_place(words: &[Text]) -> Option<usize>
     ensures place { result ≡ position spec.is_link words.now }
@@ -244,6 +261,7 @@ fn link_place(words: &[Text]) -> Option<usize>
 {
     words.iter().position(|word| is_link(word.as_str()))
 }
+
 // The words before those that are for the linker.
 fn words_before_link(words: &[Text]) -> &[Text]
     ensures { result.now ≡ spec.before spec.is_link words.now }
@@ -253,6 +271,7 @@ fn words_before_link(words: &[Text]) -> &[Text]
         None => words,
     }
 }
+
 // Adds them.
 fn push_before_link(words: &mut Words, list: &[Text]) -> Mem<()>
     ensures { OnOk result (words.new ≡ words.old ++ spec.before spec.is_link list.now) }
@@ -262,6 +281,7 @@ fn push_before_link(words: &mut Words, list: &[Text]) -> Mem<()>
     }
     Ok(())
 }
+
 // The flags of the environment, last, so that who builds has the last word over who wrote the build: `CFLAGS` and its like by GNU make's
 // manual, "Variables Used by Implicit Rules".
 #[tactic(auto, unfolding(crate::specs::SettingWords::environment_words, crate::specs::SettingWords::compiler_words))]

@@ -28,12 +28,14 @@ pub(crate) fn trimmed(given: &Compilation<'_>) -> Maps
     let inherits = given.set.inherit_trim_paths;
     taken_over(inherits, given.compiler.family, given.handed.maps)
 }
+
 /// Which paths the settings want shown as others. It takes no memory.
 pub(crate) fn remapped(given: &Compilation<'_>) -> Maps
     ensures { result ≡ spec.remapped (seen given.now) }
 {
     set_maps(given.compiler.family, &given.set.remap_source_paths)
 }
+
 // The folders that Cargo wants shown as others, so that no object names the machine that it was made on, as far as the compiler takes it:
 // `-fmacro-prefix-map` of GCC's "Options Controlling the Preprocessor", `-fdebug-prefix-map` of its "Options for Debugging Your Program".
 #[tactic(auto, unfolding(crate::specs::ToolWords::trim_words))]
@@ -47,6 +49,7 @@ fn push_trim_words(words: &mut Words, given: &Compilation<'_>, supported: &Suppo
     push_pairs_words(words, alloc, family, maps, &given.handed.pairs)?;
     Ok(())
 }
+
 // The folders that the settings want shown as others, by the same flags.
 #[tactic(auto, unfolding(crate::specs::ToolWords::remap_words))]
 fn push_remap_words(words: &mut Words, given: &Compilation<'_>, supported: &Supported) -> Mem<()>
@@ -60,6 +63,7 @@ fn push_remap_words(words: &mut Words, given: &Compilation<'_>, supported: &Supp
     push_pairs_words(words, alloc, family, maps, &pairs)?;
     Ok(())
 }
+
 /// What the flags of Rust code that Cargo hands down want of a C compiler: code of both goes into one program, and has to fit (rustc's
 /// "Codegen Options"). None where they aren't taken, or one is wrong. Only want of memory refuses.
 #[tactic(auto, unfolding(crate::specs::Inherited::inherited_words))]
@@ -71,6 +75,7 @@ pub(crate) fn rust_words(given: &Compilation<'_>) -> Mem<Words>
         None => Ok(Words::new(given.alloc)),
     }
 }
+
 // What is handed down: what the flags of Rust code want, and maps of paths, as far as the compiler takes them.
 #[tactic(auto, unfolding(crate::specs::ToolWords::handed_words))]
 fn push_handed_words(words: &mut Words, given: &Compilation<'_>, supported: &Supported) -> Mem<()>
@@ -83,6 +88,7 @@ fn push_handed_words(words: &mut Words, given: &Compilation<'_>, supported: &Sup
     push_remap_words(words, given, supported)?;
     Ok(())
 }
+
 // The groups of the settings, in order, where the environment has these flags.
 fn push_set_words(
     words: &mut Words,
@@ -106,6 +112,7 @@ fn push_set_words(
     push_environment_words(words, family, environment)?;
     Ok(())
 }
+
 // The groups of the settings, in order.
 #[tactic(auto, unfolding(crate::specs::ToolWords::setting_words))]
 fn push_setting_words(words: &mut Words, given: &Compilation<'_>, supported: &Supported) -> Mem<()>
@@ -116,6 +123,7 @@ fn push_setting_words(words: &mut Words, given: &Compilation<'_>, supported: &Su
     push_set_words(words, given, supported, environment.as_ref())?;
     Ok(())
 }
+
 // The word for leaves, where frame pointers are kept.
 fn push_leaf_ask(words: &mut Words, given: &Compilation<'_>) -> Mem<()>
     ensures { OnOk result (words.new ≡ words.old ++ spec.leaf_ask (seen given.now)) }
@@ -125,6 +133,7 @@ fn push_leaf_ask(words: &mut Words, given: &Compilation<'_>) -> Mem<()>
     push_leaf_word(words, has_defaults && keeps)?;
     Ok(())
 }
+
 /// The words that a compiler is asked about, in order: those that not each release of it takes. Only want of memory refuses.
 #[tactic(auto, unfolding(crate::specs::ToolWords::asked_words))]
 pub fn asked_words(given: &Compilation<'_>) -> Mem<Words>
@@ -141,6 +150,7 @@ pub fn asked_words(given: &Compilation<'_>) -> Mem<Words>
     push_flag_asks(&mut words, family, given.set.flags.as_slice())?;
     Ok(words)
 }
+
 /// The words of a tool, where `supported` are those that its compiler takes of the words it is asked about. Only want of memory refuses.
 #[tactic(auto, unfolding(crate::specs::ToolWords::tool_words))]
 pub fn tool_words(given: &Compilation<'_>, supported: &Supported) -> Mem<Words>
@@ -151,6 +161,7 @@ pub fn tool_words(given: &Compilation<'_>, supported: &Supported) -> Mem<Words>
     push_setting_words(&mut words, given, supported)?;
     Ok(words)
 }
+
 /// What a user is warned of, a line each: a C++ library is set, and the compiler has no flag for it, as Visual Studio, which has one such
 /// library. Only want of memory refuses.
 #[tactic(auto, unfolding(crate::specs::ToolWords::tool_warnings))]
