@@ -13,7 +13,7 @@ ghost use Rattle.cc_plan.specs.Refusal as spec;
 ghost use Rattle.cc_plan.specs.Stdlib as stdlib;
 ghost use Rattle.cc_plan.specs.Target.{target_info};
 
-use crate::given::{is_disabled, prefixed_value, target_name};
+use crate::given::{is_cargos_target, is_disabled, prefixed_value, target_name};
 use crate::settings::second;
 use crate::tool::{demand, plan_quietly, quiet_warnings};
 use crate::{BuildConfig, LinkLine, PlanError, Sight};
@@ -27,10 +27,16 @@ use std::alloc::Global;
 use std::sync::Wait;
 
 /// What is known of the target of these settings in this environment: empty texts where it is set nowhere, or not known. It takes no memory.
-pub fn target_info(set: &BuildConfig, env: &BuildEnv) -> TargetInfo
+pub fn target_info<'a>(set: &'a BuildConfig, env: &'a BuildEnv) -> TargetInfo<'a>
     ensures { info_seen result ≡ target_info set.now env.now }
 {
-    match TargetInfo::from_rustc_target(target_name(set, env)) {
+    let name = target_name(set, env);
+    let known = if is_cargos_target(set, env) {
+        TargetInfo::from_cargo(name, env.inherited())
+    } else {
+        TargetInfo::from_rustc_target(name)
+    };
+    match known {
         Ok(target) => target,
         Err(_) => TargetInfo {
             full_arch: "",
