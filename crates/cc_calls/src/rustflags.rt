@@ -130,7 +130,7 @@ fn target_cpu(alloc: Global, given: &[String]) -> Answer {
     option(alloc, flags.target_cpu())
 }
 
-const X86: TargetInfo = TargetInfo {
+const X86: TargetInfo<'static> = TargetInfo {
     full_arch: "i686",
     arch: "x86",
     vendor: "unknown",
@@ -139,7 +139,7 @@ const X86: TargetInfo = TargetInfo {
     abi: "",
 };
 
-fn target_on(arch: &str) -> Read<TargetInfo> {
+fn target_on(arch: &str) -> Read<TargetInfo<'static>> {
     match arch {
         "x86" => Ok(X86),
         "x86_64" => Ok(TargetInfo {

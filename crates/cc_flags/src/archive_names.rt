@@ -99,7 +99,7 @@ pub fn push_machine_words(words: &mut Words, target: &TargetInfo, path: &str) ->
 
 // The architecture as the names of QNX's tools have it, as its Utilities Reference lists them at `ar`.
 #[tactic(auto, unfolding(crate::specs::ArchiveNames::qnx_arch))]
-pub fn qnx_arch(target: &TargetInfo) -> Option<&'static str>
+pub fn qnx_arch<'a>(target: &TargetInfo<'a>) -> Option<&'a str>
     ensures { option_copied result ≡ spec.qnx_arch (info_seen target.now) }
 {
     match target.full_arch {

@@ -12,7 +12,7 @@ pub struct Assembly<'a> {
     pub alloc: Global,
     pub set: &'a BuildConfig,
     pub env: &'a BuildEnv,
-    pub target: &'a TargetInfo,
+    pub target: &'a TargetInfo<'a>,
     pub family: ToolFamily,
     pub path: &'a str,
 }

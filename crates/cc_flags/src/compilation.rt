@@ -20,7 +20,7 @@ pub struct Inputs<'a> {
     pub set: &'a BuildConfig,
     pub env: &'a BuildEnv,
     pub handed: &'a Handed,
-    pub target: &'a TargetInfo,
+    pub target: &'a TargetInfo<'a>,
     ghost read: { handed.now ≡ handed_down env.now.inherited },
     ghost known: { info_seen target.now ≡ target_info set.now env.now },
 }
@@ -32,7 +32,7 @@ pub struct Compilation<'a> {
     pub set: &'a BuildConfig,
     pub env: &'a BuildEnv,
     pub handed: &'a Handed,
-    pub target: &'a TargetInfo,
+    pub target: &'a TargetInfo<'a>,
     pub compiler: &'a Compiler,
     ghost read: { handed.now ≡ handed_down env.now.inherited },
     ghost known: { info_seen target.now ≡ target_info set.now env.now },

@@ -39,7 +39,7 @@ pub struct Archiver {
 #[derive(Clone, Copy)]
 pub struct Library<'a> {
     /// What it is for: by this the archiver takes words in one form or another.
-    pub target: &'a TargetInfo,
+    pub target: &'a TargetInfo<'a>,
     /// Its archiver.
     pub archiver: &'a Archiver,
     /// The environment that the archiver runs in.

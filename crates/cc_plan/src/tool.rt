@@ -37,8 +37,8 @@ use std::sync::Wait;
 
 /// A tool with what it is for and what a user is warned of.
 #[derive(Drop)]
-pub(crate) struct ToolPlan {
-    pub target: TargetInfo,
+pub(crate) struct ToolPlan<'a> {
+    pub target: TargetInfo<'a>,
     pub tool: Tool,
     pub warned: Warned,
 }
@@ -59,8 +59,8 @@ pub(crate) struct Unmarked {
 
 /// A tool with what it is for and what a user may be warned of.
 #[derive(Drop)]
-pub(crate) struct QuietPlan {
-    pub target: TargetInfo,
+pub(crate) struct QuietPlan<'a> {
+    pub target: TargetInfo<'a>,
     pub tool: Tool,
     pub unmarked: Unmarked,
 }
@@ -91,11 +91,11 @@ pub(crate) fn demand<'a>(
 }
 
 /// What is known of the target. Refused where it is set nowhere or isn't known, and for memory.
-pub(crate) fn known_target(
+pub(crate) fn known_target<'a>(
     alloc: Global,
-    set: &BuildConfig,
-    env: &BuildEnv,
-) -> Result<TargetInfo, PlanError>
+    set: &'a BuildConfig,
+    env: &'a BuildEnv,
+) -> Result<TargetInfo<'a>, PlanError>
     ensures info { IfOk result (λ target. info_seen target ≡ target_info set.now env.now) }
     ensures allowed { AllowedBy (target_refusal (target_of set.now env.now)) result }
     ensures refused { RefusedBy (target_refusal (target_of set.now env.now)) result }
@@ -104,7 +104,12 @@ pub(crate) fn known_target(
         Some(name) => name,
         None => return Err(not_set(alloc, "TARGET")),
     };
-    match TargetInfo::from_rustc_target(name) {
+    let known = if is_cargos_target(set, env) {
+        TargetInfo::from_cargo(name, env.inherited())
+    } else {
+        TargetInfo::from_rustc_target(name)
+    };
+    match known {
         Ok(target) => Ok(target),
         Err(_) => Err(PlanError::UnknownTarget(Text::of(alloc, name)?)),
     }
@@ -127,7 +132,11 @@ pub(crate) fn check_platform(
 
 // The level, and the target with what is known of it.
 #[tactic(auto, unfolding(crate::specs::Refusal::given_refusal))]
-fn given_target(alloc: Global, set: &BuildConfig, env: &BuildEnv) -> Result<TargetInfo, PlanError>
+fn given_target<'a>(
+    alloc: Global,
+    set: &'a BuildConfig,
+    env: &'a BuildEnv,
+) -> Result<TargetInfo<'a>, PlanError>
     ensures info { IfOk result (λ target. info_seen target ≡ target_info set.now env.now) }
     ensures allowed { AllowedBy (given_refusal set.now env.now) result }
     ensures refused { RefusedBy (given_refusal set.now env.now) result }
@@ -287,13 +296,13 @@ pub(crate) fn quiet_warnings(set: &BuildConfig, unmarked: Unmarked) -> Mem<Words
 /// The tool of these settings in this environment, with its target and what a user may be warned of. It asks, and prints nothing; the
 /// mark of the caches that flags for the linker were warned of stays.
 #[tactic(auto, using(crate::proofs::QuestionLemmas::chosen_at, crate::proofs::AskingLemmas::only_none))]
-pub(crate) fn plan_quietly<W: World, H: Host<W>>(
+pub(crate) fn plan_quietly<'a, W: World, H: Host<W>>(
     rt: &impl Wait,
     alloc: Global,
-    set: &BuildConfig,
-    env: &BuildEnv,
+    set: &'a BuildConfig,
+    env: &'a BuildEnv,
     sight: &mut Sight<'_, W, H>,
-) -> Result<QuietPlan, PlanError>
+) -> Result<QuietPlan<'a>, PlanError>
     ensures asks { AsksToPlan W.steady W.answer H.log H.patience set.now env.now
         sight.old sight.new }
     ensures info { IfOk result (λ plan. info_seen plan.target ≡ target_info set.now env.now) }
@@ -335,13 +344,13 @@ pub(crate) fn plan_quietly<W: World, H: Host<W>>(
 }
 
 /// The tool of these settings in this environment, with its target and its warnings. It asks, and prints nothing.
-pub(crate) fn plan_tool<W: World, H: Host<W>>(
+pub(crate) fn plan_tool<'a, W: World, H: Host<W>>(
     rt: &impl Wait,
     alloc: Global,
-    set: &BuildConfig,
-    env: &BuildEnv,
+    set: &'a BuildConfig,
+    env: &'a BuildEnv,
     sight: &mut Sight<'_, W, H>,
-) -> Result<ToolPlan, PlanError>
+) -> Result<ToolPlan<'a>, PlanError>
     ensures asks { AsksToPlan W.steady W.answer H.log H.patience set.now env.now
         sight.old sight.new }
     ensures info { IfOk result (λ plan. info_seen plan.target ≡ target_info set.now env.now) }

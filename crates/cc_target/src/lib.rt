@@ -6,6 +6,7 @@
 //! no answer. No call takes memory.
 #![tactic(auto)]
 
+mod described;
 mod info;
 mod rows;
 mod tools;

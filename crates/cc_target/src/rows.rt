@@ -15,7 +15,7 @@ pub struct Row {
     /// The name that rustc has for the target.
     pub name: &'static str,
     /// Its parts.
-    pub info: TargetInfo,
+    pub info: TargetInfo<'static>,
     /// The name that LLVM has for it.
     pub llvm: &'static str,
     /// What the names of its GNU tools begin with, where there is one way only.
