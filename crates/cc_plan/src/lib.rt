@@ -47,6 +47,7 @@ mod sight;
 mod stdlib;
 mod support;
 mod supported;
+mod target;
 mod tool;
 mod variables;
 mod words;

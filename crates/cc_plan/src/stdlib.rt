@@ -13,8 +13,9 @@ ghost use Rattle.cc_plan.specs.Refusal as spec;
 ghost use Rattle.cc_plan.specs.Stdlib as stdlib;
 ghost use Rattle.cc_plan.specs.Target.{target_info};
 
-use crate::given::{is_cargos_target, is_disabled, prefixed_value, target_name};
+use crate::given::{is_disabled, prefixed_value, target_name};
 use crate::settings::second;
+use crate::target::known_info;
 use crate::tool::{demand, plan_quietly, quiet_warnings};
 use crate::{BuildConfig, LinkLine, PlanError, Sight};
 use cc_env::{BuildEnv, env_value_is_true};
@@ -30,13 +31,7 @@ use std::sync::Wait;
 pub fn target_info<'a>(set: &'a BuildConfig, env: &'a BuildEnv) -> TargetInfo<'a>
     ensures { info_seen result ≡ target_info set.now env.now }
 {
-    let name = target_name(set, env);
-    let known = if is_cargos_target(set, env) {
-        TargetInfo::from_cargo(name, env.inherited())
-    } else {
-        TargetInfo::from_rustc_target(name)
-    };
-    match known {
+    match known_info(set, env, target_name(set, env)) {
         Ok(target) => target,
         Err(_) => TargetInfo {
             full_arch: "",

@@ -5,7 +5,6 @@ ghost use Rattle.cc_host.specs.Question.{Settles};
 ghost use Rattle.cc_target.specs.Targets.{info_seen};
 ghost use Rattle.cc_plan.specs.Compilation.{seen};
 ghost use Rattle.cc_plan.specs.Asking.{IsOwn, AsksToPlan, AsksThenWarns, SettledIn, AllowedIn, RefusedIn, RefusedInOrByPrint};
-ghost use Rattle.cc_plan.specs.Given.{target_of};
 ghost use Rattle.cc_plan.specs.Plan.{tool_warnings};
 ghost use Rattle.cc_plan.specs.Questions.{PlanAsks};
 ghost use Rattle.cc_plan.specs.Refusal.{AllowedBy, RefusedBy, unset, target_refusal, platform_refusal, given_refusal, tool_refusal};
@@ -17,12 +16,13 @@ ghost use Rattle.cc_plan.specs.declared.error.PlanError.TheVariants.{NoMemory as
 
 use crate::compilation::{Compilation, Inputs};
 use crate::compiler::{Compiler, compiler_of};
-use crate::given::{host_of, is_cargos_target, level_of, target_of};
+use crate::given::{host_of, level_of, target_of};
 use crate::inherited::{check_rustflags, push_lost, read_handed};
 use crate::link_warning::{is_first_warning, leaves_off};
 use crate::printing::warn_of;
 use crate::support::supported_words;
 use crate::supported::Supported;
+use crate::target::known_info;
 use crate::words::{check_defaults, remapped, rust_words, tool_warnings, tool_words, trimmed};
 use crate::{BuildConfig, PlanError, Sight};
 use cc_env::BuildEnv;
@@ -84,26 +84,23 @@ pub(crate) fn demand<'a>(
         None => Err(not_set(alloc, name)),
     }
 }
-/// What is known of the target. Refused where it is set nowhere or isn't known, and for memory.
+/// What is known of the target, lent where Cargo describes it. Refused where it is set nowhere, or where the table has no row of it and it
+/// isn't one that Cargo builds for and describes, and for memory.
+#[tactic(auto, unfolding(crate::specs::Refusal::target_refusal))]
 pub(crate) fn known_target<'a>(
     alloc: Global,
     set: &'a BuildConfig,
     env: &'a BuildEnv,
 ) -> Result<TargetInfo<'a>, PlanError>
     ensures info { IfOk result (λ target. info_seen target ≡ target_info set.now env.now) }
-    ensures allowed { AllowedBy (target_refusal (target_of set.now env.now)) result }
-    ensures refused { RefusedBy (target_refusal (target_of set.now env.now)) result }
+    ensures allowed { AllowedBy (target_refusal set.now env.now) result }
+    ensures refused { RefusedBy (target_refusal set.now env.now) result }
 {
     let name = match target_of(set, env) {
         Some(name) => name,
         None => return Err(not_set(alloc, "TARGET")),
     };
-    let known = if is_cargos_target(set, env) {
-        TargetInfo::from_cargo(name, env.inherited())
-    } else {
-        TargetInfo::from_rustc_target(name)
-    };
-    match known {
+    match known_info(set, env, name) {
         Ok(target) => Ok(target),
         Err(_) => Err(PlanError::UnknownTarget(Text::of(alloc, name)?)),
     }
