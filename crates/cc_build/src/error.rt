@@ -31,7 +31,7 @@ pub enum ErrorKind {
     /// A flag of Rust code that Cargo hands down lacks the value that it needs, or has a wrong one: the subject is its key, as
     /// `-Cdwarf-version`.
     InvalidFlag,
-    /// The target isn't among the known ones: the subject is its name.
+    /// The target isn't among the known ones, and it isn't Cargo's or isn't one that Cargo describes: the subject is its name.
     UnknownTarget,
     /// `CC_FORCE_DISABLE` is true, so no command may run: the subject is that name.
     Disabled,

@@ -20,7 +20,7 @@ use Rattle.cc_flags.specs.LinkLines.{lines_by}
 use Rattle.cc_flags.specs.Names.{is_output_name}
 use Rattle.cc_flags.specs.Object.{object_path}
 use Rattle.cc_plan.specs.Plan.{objects_of, compiles_of, archives_of, indexes_of, link_lines, run_has_one_form}
-use Rattle.cc_flags.specs.Target.{target_info}
+use Rattle.cc_flags.specs.Target.{target_info, known_info}
 use Rattle.cc_plan.specs.Valid.{IsNoneOf, AreApart, Valid}
 use Rattle.cc_command.specs.Generated.{gen_source, gen_sources, gen_settings, gen_name, gen_objects, no_variables}
 use Rattle.cc_command.proofs.GeneratedObjects.{source_name, object_injective}
@@ -70,11 +70,11 @@ sources_named (suc i) lt = every_more (λ source. IsSome (path_file_name source)
 
 -- the target has a row, and is not one of those that want more
 not_qnx : (count : ℕ) → is_qnx (target_info (gen_settings count) no_variables) ≡ false
-unfolding line_of lines is_qnx
+unfolding known_info last_value line_of lines is_qnx
 not_qnx count = refl
 
 not_wasm : (count : ℕ) → is_wasm_linux (target_info (gen_settings count) no_variables) ≡ false
-unfolding line_of lines is_wasm_linux
+unfolding known_info last_value line_of lines is_wasm_linux
 not_wasm count = refl
 
 pub not_libtool : (count : ℕ) (look : Look) → is_libtool (archiver_of (gen_settings count) no_variables look) ≡ false
@@ -82,7 +82,7 @@ unfolding is_libtool archiver_of path_file_name split_last_component trim_traili
 not_libtool count look = refl
 
 pub not_msvc : (count : ℕ) → is_msvc (target_info (gen_settings count) no_variables) ≡ false
-unfolding line_of lines
+unfolding known_info last_value line_of lines
 not_msvc count = refl
 
 not_lib : (count : ℕ) (look : Look) → is_lib (target_info (gen_settings count) no_variables) (archiver_of (gen_settings count) no_variables look) ≡ false
@@ -96,7 +96,7 @@ has_two_forms count look = rw (not_libtool count look, not_lib count look) refl
 
 -- the settings of so many sources are valid, whatever the verdicts
 pub gen_valid : (count : ℕ) (look : Look) → count < 2 ^ 64 → Valid (gen_settings count) no_variables look gen_name
-unfolding is_output_name line_of lines last_value
+unfolding is_output_name known_info line_of lines last_value
 gen_valid count look small = record {
   name = refl;
   out_dir = tt;
@@ -104,7 +104,7 @@ gen_valid count look small = record {
   apart = objects_apart count small;
   others = tt;
   enabled = refl;
-  target = refl;
+  target = (refl, refl);
   host = refl;
   level = λ some. refl;
   variant = λ some wanted gnu qnx. absurd (false≢true (sym (not_qnx count) ∙ qnx));

@@ -170,6 +170,7 @@ pub use stdlib::library_by;
 pub use stdlib::links_cpp;
 pub use stdlib::may_ask;
 pub use supported::Supported;
+pub use target::known_info;
 pub use target::target_info;
 pub use texts::has;
 pub use texts::lent;

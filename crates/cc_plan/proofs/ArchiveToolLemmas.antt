@@ -8,7 +8,6 @@ use Rattle.cc_tool.proofs.SettleLemmas.{settles_so}
 use Rattle.cc_plan.specs.ArchiveTool.{version_question, variable_tool}
 use Rattle.cc_flags.specs.ArchiveNames.{llvm_name, plain_name, gcc_name, set_program}
 use Rattle.cc_plan.specs.Choice.{choice_of, cross_prefix}
-use Rattle.cc_flags.specs.Given.{target_of}
 use Rattle.cc_plan.specs.Compiler.{compiler_of}
 use Rattle.cc_plan.specs.Questions.{IsForAndroid, IsForWasm, IsForStudio, IsOnBeside, ToolAsks, SearchAsks, BesideAsks, ArchiveToolAsks, ArchiverAsks, RanlibAsks, NameAsks}
 use Rattle.cc_flags.specs.declared.compiler.Compiler.{Compiler}
@@ -112,14 +111,14 @@ module _ (tool : ArchiveTool) (set : BuildConfig) (env : EnvSeen) where
   none_refused e s (inr refused) = inr (none_found (Some e) s refused)
 
   -- the target is refused, or what comes behind it
-  pub target_refused : {known : List Answer} (e : PlanError) → (e ≡ WantsMemory) ⊎ (target_refusal (target_of set env) ≡ Some e) → (e ≡ WantsMemory) ⊎ Settles known (known_refusal tool set env) (Some e)
+  pub target_refused : {known : List Answer} (e : PlanError) → (e ≡ WantsMemory) ⊎ (target_refusal set env ≡ Some e) → (e ≡ WantsMemory) ⊎ Settles known (known_refusal tool set env) (Some e)
   target_refused e (inl memory) = inl memory
   target_refused e (inr refused) = inr (record { is = λ look a. rw refused refl })
 
-  pub known_allowed : {known : List Answer} (refusal : Option PlanError) → target_refusal (target_of set env) ≡ None → Settles known (found_refusal tool set env) refusal → Settles known (known_refusal tool set env) refusal
+  pub known_allowed : {known : List Answer} (refusal : Option PlanError) → target_refusal set env ≡ None → Settles known (found_refusal tool set env) refusal → Settles known (known_refusal tool set env) refusal
   known_allowed refusal given s = settles_so s (λ look a. rw given a)
 
-  pub known_refused : {known : List Answer} (e : PlanError) → target_refusal (target_of set env) ≡ None → (e ≡ WantsMemory) ⊎ Settles known (found_refusal tool set env) (Some e) → (e ≡ WantsMemory) ⊎ Settles known (known_refusal tool set env) (Some e)
+  pub known_refused : {known : List Answer} (e : PlanError) → target_refusal set env ≡ None → (e ≡ WantsMemory) ⊎ Settles known (found_refusal tool set env) (Some e) → (e ≡ WantsMemory) ⊎ Settles known (known_refusal tool set env) (Some e)
   known_refused e given (inl memory) = inl memory
   known_refused e given (inr refused) = inr (known_allowed (Some e) given refused)
 

@@ -1,6 +1,5 @@
 -- The commands of objects.
 use Rattle.std.proofs.Common.{◌≡◌, refl, sym, ap, ◌∙◌, Bool, true, false, Option, Some, None, List, [], ◌∷◌, ℕ, ◌||◌, map, unwrap_or, if◌then◌else◌}
-use Rattle.std.specs.List.{list_any}
 use Rattle.cc_host.specs.Command.{CommandSeen}
 use Rattle.cc_target.specs.Targets.{Info}
 use Rattle.cc_tool.specs.Tool.{ToolSeen, tool_command}

@@ -1,5 +1,5 @@
 -- The list of libtool.
-use Rattle.std.proofs.Common.{◌≡◌, ℕ, ◌+◌, List, [], ◌∷◌, length, Bool, true, false, Option, None, nat_lt, if◌then◌else◌, refl, ◌∙◌, ap}
+use Rattle.std.proofs.Common.{◌≡◌, ℕ, ◌+◌, List, [], ◌∷◌, length, Bool, true, false, None, nat_lt, if◌then◌else◌, refl, ◌∙◌, ap}
 use Rattle.std.specs.List.{position, position_or_len, AllByRecursion}
 use Rattle.std.specs.Option.{option_map}
 use Rattle.cc_text.proofs.PositionLemmas.{one_more}

@@ -1,21 +1,16 @@
 -- Lines printed one after another, and parts behind each other.
-use Rattle.std.proofs.Common.{◌≡◌, false, ℕ, suc, ◌+◌, ◌<◌, List, [], ◌∷◌, ◌++◌, length, take, drop, get_or, Result, Ok, Err, subst, append-nil, refl, sym, ◌∙◌, ap, add-one}
+use Rattle.std.proofs.Common.{◌≡◌, false, ℕ, suc, ◌+◌, ◌<◌, List, [], ◌∷◌, ◌++◌, length, take, drop, get_or, refl, sym, ◌∙◌, ap, add-one}
 use Rattle.std.proofs.Math.Seq.{drop-cons}
 use Rattle.std.specs.List.{list_any}
 use Rattle.std.proofs.lemmas.Bool.{or_from}
 use Rattle.std.proofs.lemmas.Grind.{take_at_read}
 use Rattle.std.proofs.lemmas.List.{take-append-drop}
 use Rattle.std.proofs.lemmas.List.Folds.{list_any-append}
-use Rattle.cc_host.specs.Part.{Step, since, stops, IsWhole, IsPartly}
+use Rattle.cc_host.specs.Part.{since}
 use Rattle.cc_host.specs.Part.Step.{Prints}
-use Rattle.cc_host.proofs.Parts.{since_since, since_append, whole_then, whole_step, partly_then, partly_stop, partly_more, partly_whole, stops_then, stops_stop}
+use Rattle.cc_host.proofs.Parts.{since_since, since_append}
 use Rattle.cc_host.specs.declared.event.Event.{Event}
-use Rattle.cc_host.specs.declared.event.Event.TheVariants.{Fault, Printed as Line}
-use Rattle.cc_host.specs.declared.event.HostCall.TheVariants.{Print}
-use Rattle.cc_host.specs.declared.event.Why.{Why}
 use Rattle.cc_host.specs.declared.event.LineKind.{LineKind}
-use Rattle.cc_host.specs.declared.event.LineKind.TheVariants.{Warning}
-use Rattle.cc_tool.specs.Asked.{question_events}
 use Rattle.cc_plan.specs.Link.{printed_line}
 use Rattle.cc_plan.specs.Plan.{prints}
 use Rattle.cc_plan.specs.Asking.{is_of_children}

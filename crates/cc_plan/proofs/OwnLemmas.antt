@@ -1,25 +1,24 @@
 -- No refusal of settings is a fault of a host.
 use Rattle.std.proofs.Common.{◌≡◌, ◌⊎◌, inl, inr, ℕ, List, Bool, true, false, Option, Some, None, is_none, ◌&&◌, sym, subst, if◌then◌else◌, codes}
 use Rattle.cc_env.specs.Env.{EnvSeen}
-use Rattle.cc_target.specs.Targets.{Info, is_known}
+use Rattle.cc_target.specs.Targets.{Info}
 use Rattle.cc_text.specs.declared.family.ToolFamily.{ToolFamily}
 use Rattle.std.specs.Option.{option_map, option_and_then}
 use Rattle.cc_flags.specs.Fields.{refusal_of as flags_refusal}
 use Rattle.cc_flags.specs.declared.error.FlagError.{FlagError}
 use Rattle.cc_flags.specs.declared.error.FlagError.TheVariants.{InvalidFlag, NoMemory as FlagMemory}
 use Rattle.cc_flags.specs.Inherited.{inherited_text}
-use Rattle.cc_plan.specs.Checks.{inherited_refusal, plan_refusal}
+use Rattle.cc_plan.specs.Checks.{inherited_refusal, plan_refusal, qnx_refusal, sysroot_refusal, first_refusal, clang_refusal, defaults_refusal}
 use Rattle.cc_plan.specs.Asking.{IsOwn}
 use Rattle.cc_flags.specs.DefaultWords.{lacks_qnx_variant, is_wasm_linux}
-use Rattle.cc_flags.specs.Given.{target_of, host_of, level_of, has_no_defaults}
+use Rattle.cc_flags.specs.Given.{target_of, host_of, level_of, has_no_defaults, first_of}
 use Rattle.cc_flags.specs.Compilation.{CompilationSeen, compilation_of}
-use Rattle.cc_plan.specs.Refusal.{unset, target_refusal, given_refusal, refusal_by}
-use Rattle.cc_flags.specs.Given.{first_of}
+use Rattle.cc_plan.specs.Refusal.{unset, target_refusal, given_refusal, refusal_by, unknown_refusal}
+use Rattle.cc_flags.specs.Target.{known_info, target_name}
 use Rattle.cc_plan.specs.FlagSupport.{question_refusal, verdict_refusal}
 use Rattle.cc_plan.specs.Support.{is_for_linker, plain_of}
 use Rattle.cc_plan.specs.Tool.{defaults_refusal_by}
 use Rattle.cc_flags.specs.ToolWords.{musl_sysroot, names_target}
-use Rattle.cc_plan.specs.Checks.{qnx_refusal, sysroot_refusal, first_refusal, clang_refusal, defaults_refusal}
 use Rattle.cc_flags.specs.declared.compiler.Compiler.{Compiler}
 use Rattle.cc_plan.specs.declared.error.PlanError.{PlanError}
 use Rattle.cc_plan.specs.declared.error.PlanError.TheVariants.{NotSet, UnknownTarget, QnxArch, NoMemory as WantsMemory}
@@ -45,13 +44,18 @@ unset_own : (name : List ℕ) (value : Option (List ℕ)) → AreOwn (unset name
 unset_own name None = tt
 unset_own name (Some value) = tt
 
-target_own : (target : Option (List ℕ)) → AreOwn (target_refusal target)
-target_own None = tt
-target_own (Some target) = choice_own (is_known target) None (Some (UnknownTarget target)) tt tt
+unknown_own : (set : BuildConfig) (env : EnvSeen) (name : List ℕ) → AreOwn (unknown_refusal set env name)
+unknown_own set env name = choice_own (is_none (known_info set env name)) (Some (UnknownTarget name)) None tt tt
+
+target_own : (set : BuildConfig) (env : EnvSeen) → AreOwn (target_refusal set env)
+unfolding target_refusal
+target_own set env =
+    first_own (unset (codes "TARGET") (target_of set env)) (unknown_refusal set env (target_name set env)) (unset_own (codes "TARGET") (target_of set env))
+    (unknown_own set env (target_name set env))
 
 given_own : (set : BuildConfig) (env : EnvSeen) → AreOwn (given_refusal set env)
 unfolding given_refusal
-given_own set env = first_own (unset (codes "OPT_LEVEL") (level_of set env)) (target_refusal (target_of set env)) (unset_own (codes "OPT_LEVEL") (level_of set env)) (target_own (target_of set env))
+given_own set env = first_own (unset (codes "OPT_LEVEL") (level_of set env)) (target_refusal set env) (unset_own (codes "OPT_LEVEL") (level_of set env)) (target_own set env)
 
 qnx_own : (family : ToolFamily) (target : Info) → AreOwn (qnx_refusal family target)
 unfolding qnx_refusal
@@ -105,5 +109,5 @@ verdict_own c flag =
 pub verdict_is_own : (c : CompilationSeen) (flag : List ℕ) (e : PlanError) → (e ≡ WantsMemory) ⊎ (verdict_refusal c flag ≡ Some e) → IsOwn e
 verdict_is_own c flag e h = own (verdict_refusal c flag) e (verdict_own c flag) h
 
-pub target_is_own : (set : BuildConfig) (env : EnvSeen) (e : PlanError) → (e ≡ WantsMemory) ⊎ (target_refusal (target_of set env) ≡ Some e) → IsOwn e
-target_is_own set env e h = own (target_refusal (target_of set env)) e (target_own (target_of set env)) h
+pub target_is_own : (set : BuildConfig) (env : EnvSeen) (e : PlanError) → (e ≡ WantsMemory) ⊎ (target_refusal set env ≡ Some e) → IsOwn e
+target_is_own set env e h = own (target_refusal set env) e (target_own set env) h

@@ -9,12 +9,11 @@ use Rattle.std.specs.Path.{path_file_name}
 use Rattle.std.proofs.lemmas.Slice.Eq.{bytes_eq-Decides}
 use Rattle.cc_env.specs.Env.{EnvSeen}
 use Rattle.cc_flags.specs.Blanks.{nonempty}
-use Rattle.cc_flags.specs.Given.{out_dir_of, temp_folder, probe_folder}
+use Rattle.cc_flags.specs.Given.{out_dir_of, temp_folder, probe_folder, first_of}
 use Rattle.cc_flags.specs.Object.{object_path}
 use Rattle.cc_plan.specs.declared.error.PlanError.{PlanError}
 use Rattle.cc_flags.specs.declared.settings.BuildConfig.{BuildConfig}
 use Rattle.cc_plan.specs.Refusal.{out_dir_refusal, intermediate_refusal, is_empty, place_from, earlier_place, source_refusal, sources_after, sources_refusal}
-use Rattle.cc_flags.specs.Given.{first_of}
 use Rattle.cc_plan.specs.declared.error.ArgumentCause.{ArgumentCause}
 use Rattle.cc_plan.specs.declared.error.ArgumentCause.TheVariants.{NoFileName, SameObject}
 use Rattle.cc_plan.specs.declared.error.PlanError.TheVariants.{Argument, NoMemory as WantsMemory}

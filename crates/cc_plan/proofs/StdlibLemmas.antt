@@ -10,11 +10,10 @@ use Rattle.cc_plan.specs.Planned.{tool_of, warnings_of}
 use Rattle.cc_plan.specs.Questions.{PlanAsks, LibraryAsks, IsSought, LinkAsks}
 use Rattle.cc_plan.specs.Quiet.{texts_unless, allowed_warnings, quiet_warnings}
 use Rattle.cc_plan.specs.Refusal.{tool_refusal}
-use Rattle.cc_flags.specs.StdlibLines.{links_cpp}
+use Rattle.cc_flags.specs.StdlibLines.{links_cpp, may_ask, library_by, given_library}
 use Rattle.cc_plan.specs.Link.{link_lines}
 use Rattle.cc_flags.specs.LinkLines.{lines_by}
 use Rattle.cc_plan.specs.Stdlib.{tool_unless, allowed_tool, uses_libcxx, cpp_library_of, linked_library}
-use Rattle.cc_flags.specs.StdlibLines.{may_ask, library_by, given_library}
 use Rattle.cc_plan.specs.declared.error.PlanError.{PlanError}
 use Rattle.cc_flags.specs.declared.link.LinkLine.{LinkLine}
 use Rattle.cc_flags.specs.declared.settings.BuildConfig.{BuildConfig}

@@ -17,21 +17,19 @@ use Rattle.cc_plan.specs.Archive.{archiver_of}
 use Rattle.cc_plan.specs.ArchiveTool.{variable_tool}
 use Rattle.cc_flags.specs.ArchiveNames.{qnx_arch, lacks_qnx_arch}
 use Rattle.cc_flags.specs.Compilation.{CompilationSeen}
-use Rattle.cc_flags.specs.Given.{out_dir_of, target_of, host_of, level_of, has_no_defaults}
+use Rattle.cc_flags.specs.Given.{out_dir_of, target_of, host_of, level_of, has_no_defaults, first_of}
 use Rattle.cc_flags.specs.Inherited.{inherited_text}
-use Rattle.cc_plan.specs.Checks.{inherited_refusal, plan_refusal}
+use Rattle.cc_plan.specs.Checks.{inherited_refusal, plan_refusal, first_refusal, qnx_refusal, sysroot_refusal, clang_refusal, defaults_refusal}
 use Rattle.cc_plan.specs.Libtool.{list_refusal}
 use Rattle.cc_plan.specs.Plan.{archived_of, archive_refusal}
 use Rattle.cc_plan.specs.Planned.{planned, defaults_refusal_of}
-use Rattle.cc_flags.specs.Target.{target_info}
+use Rattle.cc_flags.specs.Target.{target_info, known_info, target_name}
 use Rattle.cc_plan.specs.Tool.{defaults_refusal_by}
 use Rattle.cc_flags.specs.ToolWords.{names_target, musl_sysroot}
-use Rattle.cc_plan.specs.Checks.{first_refusal, qnx_refusal, sysroot_refusal, clang_refusal, defaults_refusal}
 use Rattle.cc_flags.specs.declared.archive_names.ArchiveTool.TheVariants.{Archiver}
 use Rattle.cc_plan.specs.declared.error.PlanError.{PlanError}
 use Rattle.cc_plan.specs.declared.error.PlanError.TheVariants.{QnxArch, NotSet}
 use Rattle.cc_plan.specs.Refusal.{place_from, earlier_place, source_refusal, sources_after, out_dir_refusal, unset, target_refusal, platform_refusal, given_refusal, refusal_by, tool_refusal, intermediate_refusal, early_refusal, late_refusal, object_in, library_in, is_empty, archiver_refusal, musl_variable, cpp_refusal, link_refusal, qnx_arch_refusal, found_refusal, known_refusal, choice_refusal, look_up_refusal}
-use Rattle.cc_flags.specs.Given.{first_of}
 use Rattle.cc_flags.specs.StdlibLines.{links_cpp}
 use Rattle.cc_plan.specs.Added.{added_refusal}
 use Rattle.cc_plan.proofs.AddedLaws.{added_accepted}
@@ -56,7 +54,7 @@ new : (before : List (List ℕ)) (text : List ℕ) (after : List (List ℕ)) →
 new [] text after h = tt
 new (b ∷ before) text after h = ((λ e. other b text before after h.0 (sym e)), new before text after h.1)
 
-named : (name : Option (List ℕ)) → IsSome name → is_none name ≡ false
+named : {X : Type 0} (name : Option X) → IsSome name → is_none name ≡ false
 named None h = absurd (cc)
 named (Some name) h = refl
 
@@ -85,9 +83,9 @@ is_set : (name : List ℕ) (value : Option (List ℕ)) → IsSome value → unse
 is_set name None h = absurd (cc)
 is_set name (Some value) h = refl
 
-is_known : (target : Option (List ℕ)) → IsKnown target → target_refusal target ≡ None
-is_known None h = absurd h
-is_known (Some target) h = rw h refl
+is_known : (set : BuildConfig) (env : EnvSeen) → IsKnown set env → target_refusal set env ≡ None
+unfolding target_refusal
+is_known set env h = rw (is_set (codes "TARGET") (target_of set env) h.0, named (known_info set env (target_name set env)) h.1) refl
 
 -- a name that stands where it is needed isn't lacking
 no_lack : {X : Type 0} (x : X) (a b : Bool) (name : Option (List ℕ)) → (a ≡ true → b ≡ true → IsSome name) → (if a && b && is_none name then Some x else None) ≡ None
@@ -132,11 +130,11 @@ unfolding invalid_pair
 parsed None h = refl
 parsed (Some text) h = rw (none_found is_invalid (pairs_of text) h) refl
 
-late_valid : (set : BuildConfig) (env : EnvSeen) (look : Look) (empty : Bool) → IsKnown (target_of set env) → IsSome (host_of set env) → (empty ≡ false → IsSome (level_of set env)) → (empty ≡ false → defaults_refusal_of set env look ≡ None) → (empty ≡ false → inherited_refusal set.inherit_rustflags env.inherited ≡ None) → (if empty then platform_refusal set env else tool_refusal set env look) ≡ None
+late_valid : (set : BuildConfig) (env : EnvSeen) (look : Look) (empty : Bool) → IsKnown set env → IsSome (host_of set env) → (empty ≡ false → IsSome (level_of set env)) → (empty ≡ false → defaults_refusal_of set env look ≡ None) → (empty ≡ false → inherited_refusal set.inherit_rustflags env.inherited ≡ None) → (if empty then platform_refusal set env else tool_refusal set env look) ≡ None
 unfolding platform_refusal given_refusal refusal_by
-late_valid set env look true target host level words rustflags = rw (is_known (target_of set env) target, is_set _ (host_of set env) host) refl
+late_valid set env look true target host level words rustflags = rw (is_known set env target, is_set _ (host_of set env) host) refl
 late_valid set env look false target host level words rustflags =
-    rw (is_set _ (level_of set env) (level refl), is_known (target_of set env) target, words refl, is_set _ (host_of set env) host, rustflags refl) refl
+    rw (is_set _ (level_of set env) (level refl), is_known set env target, words refl, is_set _ (host_of set env) host, rustflags refl) refl
 
 -- valid settings pass the checks before the folder is made
 pub early_accepted : (set : BuildConfig) (env : EnvSeen) (look : Look) (output : List ℕ) → Valid set env look output → early_refusal set env output ≡ None
@@ -163,11 +161,6 @@ unfolding late_refusal
 late_accepted set env look output v =
     late_valid set env look (is_empty set.files) v.target v.host v.level (words_accepted set env look output v) (flags_accepted set env look output v)
 
--- a target that is known is set
-set_target : (target : Option (List ℕ)) → IsKnown target → unset (codes "TARGET") target ≡ None
-set_target None h = absurd h
-set_target (Some target) h = refl
-
 -- a name that stands where it is needed isn't lacking
 no_name_lacks : {X : Type 0} (x : X) (b : Bool) (name : Option (List ℕ)) → (b ≡ true → IsSome name) → (if b && is_none name then Some x else None) ≡ None
 no_name_lacks x true None h = let there = h refl in absurd (cc)
@@ -191,10 +184,10 @@ pub archiver_accepted : (set : BuildConfig) (env : EnvSeen) (look : Look) (outpu
 unfolding archiver_refusal look_up_refusal
 archiver_accepted set env look output v =
     let found : set.archiver ≡ None → found_refusal Archiver set env look ≡ None = λ none. where_none (variable_tool Archiver set env look) (qnx_arch_refusal (target_info set env)) (λ unnamed. has_arch (target_info set env) (v.archiver none unnamed)) in
-    let known : set.archiver ≡ None → known_refusal Archiver set env look ≡ None = λ none. both_none (target_refusal (target_of set env)) (found_refusal Archiver set env look) (is_known (target_of set env) v.target) (found none) in
+    let known : set.archiver ≡ None → known_refusal Archiver set env look ≡ None = λ none. both_none (target_refusal set env) (found_refusal Archiver set env look) (is_known set env v.target) (found none) in
     let choice : choice_refusal Archiver set env look ≡ None = where_none set.archiver (known_refusal Archiver set env look) known in
     both_none (choice_refusal Archiver set env look) (first_of (unset (codes "TARGET") (target_of set env)) (unset (codes "HOST") (host_of set env))) choice
-    (both_none (unset (codes "TARGET") (target_of set env)) (unset (codes "HOST") (host_of set env)) (set_target (target_of set env) v.target) (is_set (codes "HOST") (host_of set env) v.host))
+    (both_none (unset (codes "TARGET") (target_of set env)) (unset (codes "HOST") (host_of set env)) (is_set (codes "TARGET") (target_of set env) v.target.0) (is_set (codes "HOST") (host_of set env) v.host))
 
 -- and what the archive wants
 pub archive_accepted : (set : BuildConfig) (env : EnvSeen) (look : Look) (output : List ℕ) → Valid set env look output → archive_refusal set env look ≡ None

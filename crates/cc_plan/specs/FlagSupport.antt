@@ -6,7 +6,7 @@ use Rattle.cc_host.specs.declared.question.Verdict.{Verdict}
 use Rattle.cc_host.specs.declared.question.Verdict.TheVariants.{No}
 use Rattle.cc_flags.specs.Compilation.{CompilationSeen}
 use Rattle.cc_plan.specs.Compiler.{compiler_of}
-use Rattle.cc_flags.specs.Given.{target_of, first_of}
+use Rattle.cc_flags.specs.Given.{first_of}
 use Rattle.cc_plan.specs.Planned.{planned}
 use Rattle.cc_plan.specs.Refusal.{target_refusal}
 use Rattle.cc_plan.specs.Support.{bare_compiler, bare_of, compiler_refusal, flag_question, is_for_linker, plain_of}
@@ -42,7 +42,7 @@ flag_verdict set env flag look = verdict_on (bare_of (planned set env look) look
 -- why there is none
 abbrev pub support_refusal : BuildConfig → EnvSeen → List ℕ → Look → Option PlanError
 support_refusal set env flag look =
-    first_of (target_refusal (target_of set env)) (verdict_refusal (bare_of (planned set env look) look) flag)
+    first_of (target_refusal set env) (verdict_refusal (bare_of (planned set env look) look) flag)
 
 -- the warnings of how the compiler was found
 abbrev pub support_warnings : BuildConfig → EnvSeen → Look → List (List ℕ)

@@ -8,14 +8,14 @@ use Rattle.cc_env.specs.Env.{EnvSeen}
 use Rattle.cc_env.specs.Snapshot.{last_value}
 use Rattle.cc_flags.specs.DefaultWords.{is_wasm_linux}
 use Rattle.cc_host.specs.Question.{Look}
-use Rattle.cc_target.specs.Targets.{Info, is_known}
+use Rattle.cc_target.specs.Targets.{Info}
 use Rattle.cc_plan.specs.ArchiveTool.{variable_tool}
 use Rattle.cc_flags.specs.ArchiveNames.{lacks_qnx_arch, set_program}
 use Rattle.cc_flags.specs.Given.{out_dir_of, target_of, host_of, level_of, first_of}
 use Rattle.cc_flags.specs.Object.{object_path}
 use Rattle.cc_plan.specs.Compiler.{compiler_of}
 use Rattle.cc_plan.specs.Checks.{inherited_refusal}
-use Rattle.cc_flags.specs.Target.{target_info}
+use Rattle.cc_flags.specs.Target.{target_info, known_info, target_name}
 use Rattle.cc_plan.specs.Tool.{defaults_refusal_by}
 use Rattle.cc_flags.specs.declared.archive_names.ArchiveTool.{ArchiveTool}
 use Rattle.cc_flags.specs.declared.archive_names.ArchiveTool.TheVariants.{Archiver, Ranlib}
@@ -70,17 +70,21 @@ abbrev pub unset : List ℕ → Option (List ℕ) → Option PlanError
 unset name None = Some (NotSet name)
 unset name (Some value) = None
 
-abbrev pub target_refusal : Option (List ℕ) → Option PlanError
-target_refusal None = Some (NotSet (codes "TARGET"))
-target_refusal (Some target) = if is_known target then None else Some (UnknownTarget target)
+-- what the name of a target wants: that something is known of it
+abbrev pub unknown_refusal : BuildConfig → EnvSeen → List ℕ → Option PlanError
+unknown_refusal set env name = if is_none (known_info set env name) then Some (UnknownTarget name) else None
+
+-- what is wanted of the target: it is set, and something is known of it
+unfoldable pub target_refusal : BuildConfig → EnvSeen → Option PlanError
+target_refusal set env = first_of (unset (codes "TARGET") (target_of set env)) (unknown_refusal set env (target_name set env))
 
 -- what an archive wants: the target and the host, which flags of the environment are looked up by
 unfoldable pub platform_refusal : BuildConfig → EnvSeen → Option PlanError
-platform_refusal set env = first_of (target_refusal (target_of set env)) (unset (codes "HOST") (host_of set env))
+platform_refusal set env = first_of (target_refusal set env) (unset (codes "HOST") (host_of set env))
 
 -- what the compiler wants before it is chosen: the level and the target
 unfoldable pub given_refusal : BuildConfig → EnvSeen → Option PlanError
-given_refusal set env = first_of (unset (codes "OPT_LEVEL") (level_of set env)) (target_refusal (target_of set env))
+given_refusal set env = first_of (unset (codes "OPT_LEVEL") (level_of set env)) (target_refusal set env)
 
 -- what it wants then, in the order of its words: what those of the target and the level want; the host, which flags of the environment are looked
 -- up by; and flags of Rust code without a wrong one
@@ -126,7 +130,7 @@ abbrev pub found_refusal : ArchiveTool → BuildConfig → EnvSeen → Look → 
 found_refusal tool set env look = if is_none (variable_tool tool set env look) then qnx_arch_refusal (target_info set env) else None
 
 abbrev pub known_refusal : ArchiveTool → BuildConfig → EnvSeen → Look → Option PlanError
-known_refusal tool set env look = first_of (target_refusal (target_of set env)) (found_refusal tool set env look)
+known_refusal tool set env look = first_of (target_refusal set env) (found_refusal tool set env look)
 
 abbrev pub choice_refusal : ArchiveTool → BuildConfig → EnvSeen → Look → Option PlanError
 choice_refusal tool set env look = if is_none (set_program tool set) then known_refusal tool set env look else None

@@ -6,7 +6,6 @@ use Rattle.cc_flags.specs.Names.{is_output_name}
 use Rattle.cc_env.specs.Env.{EnvSeen}
 use Rattle.cc_env.specs.Snapshot.{last_value}
 use Rattle.cc_host.specs.Question.{Look}
-use Rattle.cc_target.specs.Targets.{is_known}
 use Rattle.cc_text.specs.Families.{is_gnu_like}
 use Rattle.cc_flags.specs.DefaultWords.{is_qnx, qnx_variant, is_wasm_linux}
 use Rattle.cc_flags.specs.Fields.{is_invalid}
@@ -23,9 +22,11 @@ use Rattle.cc_plan.specs.Libtool.{is_libtool, has_line_feed}
 use Rattle.cc_plan.specs.Plan.{archived_of}
 use Rattle.cc_plan.specs.Planned.{planned}
 use Rattle.cc_flags.specs.ToolWords.{names_target, musl_sysroot}
-use Rattle.cc_flags.specs.Target.{target_info}
+use Rattle.cc_flags.specs.Target.{target_info, known_info, target_name}
 use Rattle.cc_flags.specs.declared.archive_names.ArchiveTool.TheVariants.{Archiver}
 use Rattle.cc_flags.specs.declared.settings.BuildConfig.{BuildConfig}
+use Rattle.cc_plan.specs.declared.archive_tool.ArchiveTool.TheVariants.{Archiver}
+use Rattle.cc_plan.specs.declared.settings.BuildConfig.{BuildConfig}
 
 -- a text is none of these
 abbrev pub IsNoneOf : List ℕ → List (List ℕ) → Type 0
@@ -37,9 +38,9 @@ abbrev pub AreApart : List (List ℕ) → Type 0
 AreApart [] = Unit {0}
 AreApart (t ∷ ts) = IsNoneOf t ts × AreApart ts
 
-abbrev pub IsKnown : Option (List ℕ) → Type 0
-IsKnown None = ⊥
-IsKnown (Some target) = is_known target ≡ true
+-- the target is set, and something is known of it
+abbrev pub IsKnown : BuildConfig → EnvSeen → Type 0
+IsKnown set env = IsSome (target_of set env) × IsSome (known_info set env (target_name set env))
 
 abbrev pub IsSetNonempty : Option (List ℕ) → Type 0
 IsSetNonempty None = ⊥
@@ -73,7 +74,7 @@ pub record Valid (set : BuildConfig) (env : EnvSeen) (look : Look) (output : Lis
   pub others : AllByRecursion (λ object. path_components object ≢ path_components (library_in set env output)) set.objects
   -- commands may run
   pub enabled : is_disabled env ≡ false
-  pub target : IsKnown (target_of set env)
+  pub target : IsKnown set env
   pub host : IsSome (host_of set env)
   pub level : is_empty set.files ≡ false → IsSome (level_of set env)
   -- what the words of the target need is there, unless they are left out

@@ -4,7 +4,6 @@ ghost use Rattle.std.specs.Prelude.{◌≡◌, IfOk, is_some};
 ghost use Rattle.cc_target.specs.Targets.{info_seen};
 ghost use Rattle.cc_plan.specs.Asking.{AsksBeside, AsksFor, AsksForAssembly, AsksIfWanted, SettledIn};
 ghost use Rattle.cc_plan.specs.Assembler as spec;
-ghost use Rattle.cc_flags.specs.Given.{target_of};
 ghost use Rattle.cc_plan.specs.Refusal.{AllowedBy, RefusedBy, target_refusal};
 
 use crate::beside::beside;
@@ -257,8 +256,8 @@ pub fn assembler_of<W: World, H: Host<W>>(
     ensures asks { AsksBeside W.steady W.answer H.log H.patience set.now env.now
         tool.now.family tool.now.path sight.old sight.new }
     ensures settles { SettledIn sight.new (spec.assembler_of set.now env.now tool.now) result }
-    ensures allowed { AllowedBy (target_refusal (target_of set.now env.now)) result }
-    ensures refused { RefusedBy (target_refusal (target_of set.now env.now)) result }
+    ensures allowed { AllowedBy (target_refusal set.now env.now) result }
+    ensures refused { RefusedBy (target_refusal set.now env.now) result }
 {
     let target = known_target(alloc, set, env)?;
     let given = Assembly {

@@ -35,7 +35,7 @@ pub enum PlanError {
     Argument(ArgumentCause),
     /// Neither a setting nor the variable of this name, which Cargo sets for a build script, gives the value.
     NotSet(Text),
-    /// The target of this name isn't in the table of targets.
+    /// The target of this name has no row in the table of targets, and it isn't Cargo's or isn't one that Cargo describes.
     UnknownTarget(Text),
     /// The QNX compilers have no variant for this architecture.
     QnxArch(Text),

@@ -24,8 +24,8 @@ use crate::support::supported_words;
 use crate::{PlanError, Sight};
 use cc_env::BuildEnv;
 use cc_flags::{
-    BuildConfig, Compilation, Compiler, Inputs, Supported, host_of, language_variable, leaves_off,
-    level_of, push_gnu_warning, push_lacks, push_link_warning, read_handed, target_of,
+    BuildConfig, Compilation, Compiler, Inputs, Supported, host_of, known_info, language_variable,
+    leaves_off, level_of, push_gnu_warning, push_lacks, push_link_warning, read_handed, target_of,
     tool_warnings, tool_words,
 };
 use cc_host::{Host, World};
@@ -90,26 +90,23 @@ pub(crate) fn demand<'a>(
     }
 }
 
-/// What is known of the target. Refused where it is set nowhere or isn't known, and for memory.
+/// What is known of the target, lent where Cargo describes it. Refused where it is set nowhere, or where the table has no row of it and it
+/// isn't one that Cargo builds for and describes, and for memory.
+#[tactic(auto, unfolding(crate::specs::Refusal::target_refusal))]
 pub(crate) fn known_target<'a>(
     alloc: Global,
     set: &'a BuildConfig,
     env: &'a BuildEnv,
 ) -> Result<TargetInfo<'a>, PlanError>
     ensures info { IfOk result (λ target. info_seen target ≡ target_info set.now env.now) }
-    ensures allowed { AllowedBy (target_refusal (target_of set.now env.now)) result }
-    ensures refused { RefusedBy (target_refusal (target_of set.now env.now)) result }
+    ensures allowed { AllowedBy (target_refusal set.now env.now) result }
+    ensures refused { RefusedBy (target_refusal set.now env.now) result }
 {
     let name = match target_of(set, env) {
         Some(name) => name,
         None => return Err(not_set(alloc, "TARGET")),
     };
-    let known = if is_cargos_target(set, env) {
-        TargetInfo::from_cargo(name, env.inherited())
-    } else {
-        TargetInfo::from_rustc_target(name)
-    };
-    match known {
+    match known_info(set, env, name) {
         Ok(target) => Ok(target),
         Err(_) => Err(PlanError::UnknownTarget(Text::of(alloc, name)?)),
     }

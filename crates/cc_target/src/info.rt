@@ -2,13 +2,15 @@
 // on as `CARGO_CFG_TARGET_*` (The Cargo Book, "Environment Variables").
 ghost use Rattle.std.specs.Prelude.{◌≡◌, ◌↔◌, IsErr, None, option_map};
 ghost use Rattle.std.specs.Result.{result_ok};
+ghost use Rattle.cc_target.specs.Described.{info_for};
 ghost use Rattle.cc_target.specs.Targets.{info_seen, info_of, is_arm};
 
 use crate::described::described;
 use crate::rows::row_named;
 use cc_env::EnvSnapshot;
 
-/// The table has no row of that name: it is misspelt, or a target that isn't ported yet.
+/// The table has no row of that name, and where Cargo was asked, it doesn't describe the target either: the name is
+/// misspelt, or of a target that isn't ported yet.
 #[derive(Clone, Copy, Debug, PartialEq, Eq)]
 pub struct UnknownTarget;
 
@@ -44,14 +46,27 @@ impl TargetInfo<'_> {
         }
     }
 
-    /// The parts of the target with this name, which is the one that Cargo builds for in this environment: those of its row, or, where the
-    /// table has none, those that Cargo describes in `CARGO_CFG_TARGET_*`.
+    /// The parts of the target with this name, where it is the one that Cargo builds for in this environment: those of
+    /// its row or, without one, those by which Cargo describes it to a build script. The description is `full_arch`,
+    /// the name's text before its first `-` or the whole name; and the other five, the values of
+    /// `CARGO_CFG_TARGET_ARCH`, `_VENDOR`, `_OS`, `_ENV` and `_ABI` (The Cargo Book, "Environment variables Cargo sets
+    /// for build scripts"), which are those of rustc's `cfg` (The Rust Reference, "Conditional compilation"). The last
+    /// two are empty where they aren't set.
+    ///
+    /// Refused exactly where there is neither. Without a row those are: an empty name; an architecture, a vendor or a
+    /// system that isn't set or is empty, which every target has; and the vendors `apple`, `kmc` and `uwp`, the systems
+    /// `cloudabi`, `redox`, `solaris` and `aix`, and the interface `pauthtest`, which want more of a compiler than the
+    /// parts say, as Apple's systems want an SDK, and aren't ported. It takes no memory.
+    #[tactic(auto, unfolding(crate::specs::Described::info_for))]
     pub fn from_cargo<'a>(
         name: &'a str,
         env: &'a EnvSnapshot,
-    ) -> Result<TargetInfo<'a>, UnknownTarget> {
+    ) -> Result<TargetInfo<'a>, UnknownTarget>
+        ensures described { option_map info_seen (result_ok result) ≡ info_for name.now env.now }
+        ensures unknown { IsErr result ↔ (info_for name.now env.now ≡ None) }
+    {
         match row_named(name) {
-            Some(row) => Ok(row.info),
+            Some(known) => Ok(known.info),
             None => described(name, env).ok_or(UnknownTarget),
         }
     }
