@@ -5,7 +5,7 @@ use Rattle.cc_text.specs.Words.{when}
 use Rattle.cc_host.specs.declared.event.LineKind.TheVariants.{Link, Rerun}
 use Rattle.cc_plan.specs.Link.{printed_links}
 use Rattle.cc_plan.specs.Plan.{prints}
-use Rattle.cc_flags.specs.declared.link.LinkLine.{LinkLine}
+use Rattle.cc_flags.specs.declared.link_line.LinkLine.{LinkLine}
 use Rattle.cc_flags.specs.declared.settings.BuildConfig.{BuildConfig}
 use Rattle.cc_build.specs.Questions.{AreFirst}
 use Rattle.cc_build.specs.Stage.{Stage, calls, said_steps, rerun_lines}

@@ -7,7 +7,7 @@ use Rattle.cc_host.specs.declared.event.Event.{Event}
 use Rattle.cc_flags.specs.Names.{linked_library}
 use Rattle.cc_plan.specs.Quiet.{quiet_warnings}
 use Rattle.cc_plan.specs.Reruns.{rerun_names}
-use Rattle.cc_flags.specs.declared.link.LinkLine.{LinkLine}
+use Rattle.cc_flags.specs.declared.link_line.LinkLine.{LinkLine}
 use Rattle.cc_plan.specs.Refusal.{path_refusal, link_refusal}
 use Rattle.cc_flags.specs.Given.{first_of}
 use Rattle.cc_plan.specs.declared.error.PlanError.{PlanError}

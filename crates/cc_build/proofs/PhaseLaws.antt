@@ -28,9 +28,9 @@ use Rattle.cc_flags.specs.Target.{target_info}
 use Rattle.cc_target.specs.Targets.{info_seen, Info}
 use Rattle.cc_plan.specs.Refusal.{late_refusal, archiver_refusal, link_refusal}
 use Rattle.cc_flags.specs.Given.{first_of}
-use Rattle.cc_plan.specs.declared.archive.Archiver.{Archiver}
+use Rattle.cc_plan.specs.declared.archiver.Archiver.{Archiver}
 use Rattle.cc_plan.specs.declared.error.PlanError.{PlanError}
-use Rattle.cc_flags.specs.declared.link.LinkLine.{LinkLine}
+use Rattle.cc_flags.specs.declared.link_line.LinkLine.{LinkLine}
 use Rattle.cc_flags.specs.declared.object.Object.{Object}
 use Rattle.cc_plan.specs.declared.plan.Plan.{Plan}
 use Rattle.cc_host.specs.Command.{CommandSeen}
@@ -49,7 +49,7 @@ use Rattle.cc_build.specs.Way.{Way, Found, Writing, writing_of, Firsts, all_firs
 use Rattle.cc_build.proofs.SourceLaws.{compiles_are}
 use Rattle.cc_build.specs.Stage.Stage.{Calls, Asks, Tries}
 use Rattle.cc_build.specs.Went.{Terms, Means, terms, Went, Halted, Ends}
-use Rattle.cc_plan.specs.declared.archive.Library.{Library}
+use Rattle.cc_plan.specs.declared.archiver.Library.{Library}
 use Rattle.cc_build.specs.declared.stage.Stage.{Stage as Coded}
 use Rattle.cc_build.specs.declared.task.Task.{Task}
 use Rattle.cc_build.proofs.Going.{went_none, went_one, went_from, ends_from, halted_none, halted_more, halted_among, halted_from, phase_ends, ends_join, halted_join}

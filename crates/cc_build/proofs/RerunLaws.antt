@@ -10,7 +10,7 @@ use Rattle.cc_plan.specs.Refusal.{late_refusal}
 use Rattle.cc_flags.specs.Given.{first_of}
 use Rattle.cc_plan.specs.Reruns.{rerun_names}
 use Rattle.cc_plan.specs.declared.error.PlanError.{PlanError}
-use Rattle.cc_flags.specs.declared.link.LinkLine.{LinkLine}
+use Rattle.cc_flags.specs.declared.link_line.LinkLine.{LinkLine}
 use Rattle.cc_flags.specs.declared.settings.BuildConfig.{BuildConfig}
 use Rattle.cc_flags.specs.declared.variables.Reads.{Reads}
 use Rattle.cc_build.specs.Course.{course}

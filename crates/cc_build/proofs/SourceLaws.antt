@@ -17,7 +17,7 @@ use Rattle.cc_host.specs.declared.event.LineKind.{LineKind}
 use Rattle.cc_host.specs.declared.event.LineKind.TheVariants.{Link, Rerun}
 use Rattle.cc_plan.specs.Link.{printed_links}
 use Rattle.cc_plan.specs.Plan.{compile_in, compiles_of, objects_of, plan_warnings, warned_steps, warning_steps, prints}
-use Rattle.cc_flags.specs.declared.link.LinkLine.{LinkLine}
+use Rattle.cc_flags.specs.declared.link_line.LinkLine.{LinkLine}
 use Rattle.cc_flags.specs.declared.object.Object.{Object}
 use Rattle.cc_flags.specs.declared.settings.BuildConfig.{BuildConfig}
 use Rattle.cc_run.specs.Planned.{asked, asked_by}

@@ -10,7 +10,7 @@ use Rattle.cc_host.specs.declared.question.Question.{Question}
 use Rattle.cc_host.proofs.Parts.{since_since}
 use Rattle.cc_plan.specs.Plan.{prints}
 use Rattle.cc_plan.specs.Questions.{ToolAsks, ArchiverAsks, RanlibAsks, NameAsks, PlanAsks, CompileAsks, SupportAsks, RunAsks}
-use Rattle.cc_flags.specs.declared.link.LinkLine.{LinkLine}
+use Rattle.cc_flags.specs.declared.link_line.LinkLine.{LinkLine}
 use Rattle.cc_flags.specs.declared.settings.BuildConfig.{BuildConfig}
 use Rattle.cc_flags.specs.declared.variables.Reads.{Reads}
 use Rattle.cc_plan.proofs.ArchiveToolLemmas.{archiver_asks, ranlib_asks, tool_for_archive}

@@ -22,7 +22,7 @@ use Rattle.cc_build.specs.Stage.{Stage, calls, finding_steps, asked_then, compil
 use Rattle.cc_build.specs.Stage.Stage.{Asks, Tries}
 use Rattle.cc_build.specs.Way.{Way, Found, Writing, writing_of, Firsts, Hears, Repeats}
 use Rattle.cc_build.specs.Went.{Terms, Means, terms, Went, Halted, Ends}
-use Rattle.cc_plan.specs.declared.archive.Library.{Library}
+use Rattle.cc_plan.specs.declared.archiver.Library.{Library}
 use Rattle.cc_build.specs.declared.stage.Stage.{Stage as Coded}
 use Rattle.cc_build.specs.declared.task.Task.{Task}
 

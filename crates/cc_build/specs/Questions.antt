@@ -7,7 +7,7 @@ use Rattle.cc_host.specs.declared.event.Event.{Event}
 use Rattle.cc_plan.specs.Archive.{archiver_of}
 use Rattle.cc_plan.specs.Plan.{plan_warnings, compiles_of}
 use Rattle.cc_plan.specs.Refusal.{late_refusal, archiver_refusal, link_refusal}
-use Rattle.cc_plan.specs.declared.archive.Archiver.{Archiver}
+use Rattle.cc_plan.specs.declared.archiver.Archiver.{Archiver}
 use Rattle.cc_plan.specs.Quiet.{quiet_warnings}
 use Rattle.cc_plan.specs.Reruns.{rerun_names}
 use Rattle.cc_flags.specs.declared.variables.Reads.{Reads}

@@ -18,7 +18,7 @@ use Rattle.cc_target.specs.Targets.{info_seen}
 use Rattle.cc_build.specs.Stage.{Stage, calls, planned, beside, compile_planned, finding_steps, asking_steps, written, writings}
 use Rattle.cc_build.specs.Way.{Writing}
 use Rattle.cc_build.specs.Stage.Stage.{Calls, RunsOne, RunsAll}
-use Rattle.cc_plan.specs.declared.archive.Library.{Library}
+use Rattle.cc_plan.specs.declared.archiver.Library.{Library}
 use Rattle.cc_build.specs.declared.stage.Stage.{Stage as Coded}
 use Rattle.cc_build.specs.declared.stage.Stage.TheVariants.{Print, Say, Remove, Copy, RunOne, RunAll}
 

@@ -19,7 +19,7 @@ use Rattle.cc_plan.specs.Quiet.{quiet_warnings}
 use Rattle.cc_plan.specs.Refusal.{is_empty, early_refusal, late_refusal, link_refusal}
 use Rattle.cc_plan.specs.Reruns.{rerun_line, rerun_names}
 use Rattle.cc_plan.specs.declared.error.PlanError.{PlanError}
-use Rattle.cc_flags.specs.declared.link.LinkLine.{LinkLine}
+use Rattle.cc_flags.specs.declared.link_line.LinkLine.{LinkLine}
 use Rattle.cc_flags.specs.declared.object.Object.{Object}
 use Rattle.cc_flags.specs.declared.variables.Reads.{Reads}
 use Rattle.cc_flags.specs.declared.settings.BuildConfig.{BuildConfig}

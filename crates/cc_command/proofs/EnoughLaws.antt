@@ -24,7 +24,7 @@ use Rattle.cc_flags.specs.Given.{first_of}
 use Rattle.cc_plan.specs.declared.error.ArgumentCause.TheVariants.{Output, OutDir, NoFileName, SameObject, LibraryIsObject, LineFeed, Library}
 use Rattle.cc_plan.specs.declared.error.PlanError.{PlanError}
 use Rattle.cc_plan.specs.declared.error.PlanError.TheVariants.{Argument, NotSet, UnknownTarget, QnxArch, Flag, Host, NoMemory as WantsMemory}
-use Rattle.cc_plan.specs.declared.archive.Archiver.{Archiver}
+use Rattle.cc_plan.specs.declared.archiver.Archiver.{Archiver}
 use Rattle.cc_flags.specs.declared.settings.BuildConfig.{BuildConfig}
 use Rattle.cc_text.proofs.BatchLaws.{few}
 use Rattle.cc_build.specs.Error.{ErrorSeen}

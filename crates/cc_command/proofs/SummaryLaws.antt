@@ -26,7 +26,7 @@ use Rattle.cc_plan.specs.Link.{printed_links}
 use Rattle.cc_plan.specs.Plan.{compiles_of, archives_of, indexes_of, archived_of, library_of, lists_of_run, link_lines, plan_warnings, warning_steps, warned_steps, prints as line_steps, folder_steps, run_has_one_form, run_asks_folder, copy_steps, copy_by, copy_of}
 use Rattle.cc_plan.specs.Quiet.{quiet_warnings}
 use Rattle.cc_plan.specs.Reruns.{rerun_names}
-use Rattle.cc_plan.specs.declared.archive.Archiver.{Archiver}
+use Rattle.cc_plan.specs.declared.archiver.Archiver.{Archiver}
 use Rattle.cc_flags.specs.declared.settings.BuildConfig.{BuildConfig}
 use Rattle.cc_run.specs.declared.planned.Planned.{Planned}
 use Rattle.cc_build.specs.Attempts.{attempt_of, attempts, to_attempt, all_tried, first_tried, form_tried}

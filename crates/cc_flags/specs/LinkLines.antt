@@ -4,7 +4,7 @@ use Rattle.std.specs.List.{join_by}
 use Rattle.cc_env.specs.Env.{EnvSeen}
 use Rattle.cc_text.specs.Words.{when}
 use Rattle.cc_flags.specs.StdlibLines.{links_cpp, cpp_lines}
-use Rattle.cc_flags.specs.declared.link.LinkLine.{LinkLine}
+use Rattle.cc_flags.specs.declared.link_line.LinkLine.{LinkLine}
 use Rattle.cc_flags.specs.declared.settings.BuildConfig.{BuildConfig}
 
 -- the modifiers behind the kind of a library, with commas between

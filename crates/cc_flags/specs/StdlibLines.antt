@@ -10,7 +10,7 @@ use Rattle.cc_target.specs.Targets.{Info}
 use Rattle.cc_flags.specs.Blanks.{nonempty}
 use Rattle.cc_flags.specs.Given.{is_disabled, prefixed_value, first_of}
 use Rattle.cc_flags.specs.Target.{target_info, target_name}
-use Rattle.cc_flags.specs.declared.link.LinkLine.{LinkLine}
+use Rattle.cc_flags.specs.declared.link_line.LinkLine.{LinkLine}
 use Rattle.cc_flags.specs.declared.settings.BuildConfig.{BuildConfig}
 
 -- the value of a variable of the prefixes, where the empty text is no library

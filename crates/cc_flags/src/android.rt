@@ -6,8 +6,9 @@ ghost use Rattle.cc_flags.specs.AndroidNames as spec;
 use cc_text::{Mem, Text};
 use std::alloc::Global;
 
-// The compiler that the development kit has for a target. By the NDK's guide for other build systems its name has the oldest level of
-// the system that is built for: the kit's oldest with 64 bits is 21; Arm of 32 bits is called `armv7a`.
+/// The compiler that the development kit has for a target, by rustc's name, or none. By the NDK's guide "Use the NDK
+/// with other build systems" its name has the oldest level of the system that is built for: the kit's oldest with 64
+/// bits is 21; Arm of 32 bits is called `armv7a`. It takes no memory.
 #[tactic(auto, unfolding(crate::specs::AndroidNames::kit_compiler))]
 pub fn kit_compiler(name: &str) -> Option<&'static str>
     ensures { option_copied result ≡ spec.kit_compiler name.now }
@@ -48,7 +49,8 @@ fn plain_arm(alloc: Global, name: &str) -> Mem<Text>
     replaced(alloc, plain.as_str(), "thumbv7", "arm")
 }
 
-// A name behind the target's.
+/// The name of a compiler behind the target's, where Arm has no version, as kits up to release 22 had it. Only want of
+/// memory refuses.
 pub fn older_name(alloc: Global, name: &str, compiler: &str) -> Mem<Text>
     ensures { IfOk result (λ path. path ≡ spec.older_name name.now compiler.now) }
 {

@@ -3,7 +3,6 @@ ghost use Rattle.std.specs.Prelude.{◌≡◌, ◌++◌, IfOk, OnOk};
 ghost use Rattle.std.specs.Option.{option_copied};
 ghost use Rattle.cc_target.specs.Targets.{info_seen};
 ghost use Rattle.cc_flags.specs.ArchiveNames as spec;
-ghost use Rattle.std.specs.Prelude.{◌≡◌, ◌++◌};
 
 use crate::android::replaced;
 use crate::{BuildConfig, is_qnx};
@@ -11,6 +10,7 @@ use cc_target::TargetInfo;
 use cc_text::{Mem, Text, Words};
 use std::alloc::Global;
 
+/// The name that Unix has for the tool: `ar` or `ranlib`. It takes no memory.
 pub fn tool_name(tool: ArchiveTool) -> &'static str
     ensures { result.now ≡ spec.tool_name tool }
 {
@@ -20,6 +20,7 @@ pub fn tool_name(tool: ArchiveTool) -> &'static str
     }
 }
 
+/// The variable of the environment that names the tool, as make has it: `AR` or `RANLIB`. It takes no memory.
 pub fn tool_variable(tool: ArchiveTool) -> &'static str
     ensures { result.now ≡ spec.tool_variable tool }
 {
@@ -29,7 +30,7 @@ pub fn tool_variable(tool: ArchiveTool) -> &'static str
     }
 }
 
-// The one that the settings name.
+/// The path of the tool that the settings name, lent, or none. It takes no memory.
 pub fn set_program(tool: ArchiveTool, set: &BuildConfig) -> Option<&str>
     ensures { option_copied result ≡ spec.set_program tool set.now }
 {
@@ -43,7 +44,7 @@ pub fn set_program(tool: ArchiveTool, set: &BuildConfig) -> Option<&str>
     }
 }
 
-// Its name behind a text.
+/// The tool's name behind a text, as `llvm-ar`. Only want of memory refuses.
 pub fn behind(alloc: Global, front: &str, tool: ArchiveTool) -> Mem<Text>
     ensures { IfOk result (λ name. name ≡ spec.behind front.now tool) }
 {
@@ -52,7 +53,7 @@ pub fn behind(alloc: Global, front: &str, tool: ArchiveTool) -> Mem<Text>
     Ok(name)
 }
 
-// That of the GNU tools behind a prefix.
+/// The name of GNU's tool behind a prefix of its tools, as `aarch64-linux-gnu-ar`. Only want of memory refuses.
 pub fn plain_name(alloc: Global, tool: ArchiveTool, prefix: &str) -> Mem<Text>
     ensures { IfOk result (λ name. name ≡ spec.plain_name tool prefix.now) }
 {
@@ -61,7 +62,8 @@ pub fn plain_name(alloc: Global, tool: ArchiveTool, prefix: &str) -> Mem<Text>
     behind(alloc, front.as_str(), tool)
 }
 
-// GCC's own there.
+/// The name of GCC's own tool behind such a prefix, as `aarch64-linux-gnu-gcc-ar`, which loads the plugin of the linker
+/// (GCC's manual, "Options That Control Optimization", `-flto`). Only want of memory refuses.
 pub fn gcc_name(alloc: Global, tool: ArchiveTool, prefix: &str) -> Mem<Text>
     ensures { IfOk result (λ name. name ≡ spec.gcc_name tool prefix.now) }
 {
@@ -70,7 +72,8 @@ pub fn gcc_name(alloc: Global, tool: ArchiveTool, prefix: &str) -> Mem<Text>
     behind(alloc, front.as_str(), tool)
 }
 
-// That of kits for Android up to release 22, which had GNU tools behind the target's name.
+/// The name of the tool in kits for Android up to release 22, which had GNU tools behind the target's name, where Arm
+/// has no version. Only want of memory refuses.
 pub fn android_name(alloc: Global, tool: ArchiveTool, name: &str) -> Mem<Text>
     ensures { IfOk result (λ path. path ≡ spec.android_name tool name.now) }
 {
@@ -85,7 +88,8 @@ pub fn is_msvc(target: &TargetInfo) -> bool
     target.env == "msvc"
 }
 
-// Microsoft's library manager is told of the architecture that mixes the two instruction sets of Windows on Arm ("LIB Reference", `/MACHINE`).
+/// Adds the word by which Microsoft's library manager is told of the architecture that mixes the two instruction sets
+/// of Windows on Arm ("LIB Reference", `/MACHINE`). Only want of memory refuses.
 #[tactic(auto, unfolding(crate::specs::ArchiveNames::machine_words))]
 pub fn push_machine_words(words: &mut Words, target: &TargetInfo, path: &str) -> Mem<()>
     ensures { OnOk result (words.new
@@ -97,7 +101,8 @@ pub fn push_machine_words(words: &mut Words, target: &TargetInfo, path: &str) ->
     Ok(())
 }
 
-// The architecture as the names of QNX's tools have it, as its Utilities Reference lists them at `ar`.
+/// The architecture as the names of QNX's tools have it, as its Utilities Reference lists them at `ar`, or none. It
+/// takes no memory.
 #[tactic(auto, unfolding(crate::specs::ArchiveNames::qnx_arch))]
 pub fn qnx_arch<'a>(target: &TargetInfo<'a>) -> Option<&'a str>
     ensures { option_copied result ≡ spec.qnx_arch (info_seen target.now) }
@@ -127,7 +132,8 @@ fn qnx_tool(alloc: Global, tool: ArchiveTool, target: &TargetInfo) -> Mem<Option
     }
 }
 
-// That of a system that has its own. illumos has tools of its own in place of GNU's, which take other words; theirs are behind a `g`.
+/// The name of the tool of a system that has its own, or none. illumos has tools of its own in place of GNU's, which
+/// take other words; theirs are behind a `g`. Only want of memory refuses.
 #[tactic(auto, unfolding(crate::specs::ArchiveNames::system_name))]
 pub fn system_name(alloc: Global, tool: ArchiveTool, target: &TargetInfo) -> Mem<Option<Text>>
     ensures { IfOk result (λ name. name ≡ spec.system_name tool (info_seen target.now)) }

@@ -5,7 +5,7 @@ ghost use Rattle.cc_target.specs.Targets.{info_seen};
 ghost use Rattle.cc_flags.specs.Compilers as spec;
 
 use crate::languages::{qnx_name, vxworks_name};
-use crate::{Inputs, clang_name, gnu_name, is_qnx};
+use crate::{clang_name, gnu_name, is_qnx};
 use cc_target::TargetInfo;
 use cc_text::{Mem, Text, Words, join};
 use std::alloc::Global;
@@ -21,7 +21,7 @@ pub struct Choice {
     pub words: Words,
 }
 
-// A tool alone.
+/// A tool alone, by its path: without wrapper and words. Only want of memory refuses.
 pub fn bare(alloc: Global, path: &str) -> Mem<Choice>
     ensures { IfOk result (λ choice. choice ≡ spec.bare path.now) }
 {
@@ -32,6 +32,7 @@ pub fn bare(alloc: Global, path: &str) -> Mem<Choice>
     })
 }
 
+/// Whether the target is WebAssembly, of 32 or 64 bits. It takes no memory.
 #[tactic(auto, unfolding(crate::specs::Compilers::is_wasm))]
 pub fn is_wasm(target: &TargetInfo) -> bool
     ensures { result ≡ spec.is_wasm (info_seen target.now) }
@@ -39,7 +40,8 @@ pub fn is_wasm(target: &TargetInfo) -> bool
     target.arch == "wasm32" || target.arch == "wasm64"
 }
 
-// Clang in the kit of WASI, which has one for each target by its name, as the readme of the WASI SDK says.
+/// The path of Clang in the kit of WASI, which has one for each target by its name, as the readme of the WASI SDK says.
+/// Only want of memory refuses.
 #[tactic(auto, unfolding(crate::specs::Compilers::wasi_path))]
 pub fn wasi_path(alloc: Global, kit: &str, name: &str) -> Mem<Text>
     ensures { IfOk result (λ path. path ≡ spec.wasi_path kit.now name.now) }
@@ -60,7 +62,7 @@ fn compiler_behind(cpp: bool, target: &TargetInfo) -> &'static str
     }
 }
 
-// GCC behind a prefix, or Clang on targets of LLVM's own.
+/// The name of GCC behind a prefix of its tools, or of Clang on targets of LLVM's own. Only want of memory refuses.
 #[tactic(auto, unfolding(crate::specs::Compilers::prefixed_compiler))]
 pub fn prefixed_compiler(alloc: Global, cpp: bool, target: &TargetInfo, prefix: &str) -> Mem<Text>
     ensures { IfOk result (λ name.
@@ -72,19 +74,8 @@ pub fn prefixed_compiler(alloc: Global, cpp: bool, target: &TargetInfo, prefix: 
     Ok(name)
 }
 
-// The linker optimises by its plugin, which reads what Clang writes: rustc's book on linker-plugin-based LTO asks for Clang.
-#[tactic(auto, unfolding(crate::specs::Compilers::links_by_plugin))]
-pub fn links_by_plugin(inputs: &Inputs<'_>) -> bool
-    ensures { result ≡ spec.links_by_plugin inputs.now.env.now }
-{
-    match &inputs.handed.rustflags.flags {
-        Some(flags) => flags.linker_plugin_lto(),
-        None => false,
-    }
-}
-
-// The compiler of targets that have one name for it: Clang for WebAssembly, and what the systems' own kits have for VxWorks and QNX, as
-// rustc's pages on platform support say.
+/// The compiler of targets that have one name for it, or none: Clang for WebAssembly, and what the systems' own kits
+/// have for VxWorks and QNX, as rustc's pages on platform support say. It takes no memory.
 #[tactic(auto, unfolding(crate::specs::Compilers::fixed_compiler))]
 pub fn fixed_compiler(cpp: bool, target: &TargetInfo) -> Option<&'static str>
     ensures { option_copied result ≡ spec.fixed_compiler cpp (info_seen target.now) }

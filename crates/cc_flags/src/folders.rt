@@ -25,7 +25,8 @@ fn folder_words(alloc: Global, list: &str) -> Mem<Words>
     Ok(folders)
 }
 
-// The folders in which a shell looks for programs.
+/// The folders in which a shell looks for programs: those of `PATH`, parted at `:`, in order (POSIX, "Environment
+/// Variables"). Only want of memory refuses.
 #[tactic(auto, unfolding(crate::specs::Folders::path_folders))]
 pub fn path_folders(alloc: Global, env: &BuildEnv) -> Mem<Words>
     ensures { IfOk result (λ folders. folders ≡ spec.path_folders env.now) }
@@ -36,7 +37,8 @@ pub fn path_folders(alloc: Global, env: &BuildEnv) -> Mem<Words>
     }
 }
 
-// The folders of a list, where one is given, and behind them those in which a shell looks.
+/// The folders of a list, where one is given, and behind them those in which a shell looks. Only want of memory
+/// refuses.
 #[tactic(auto, unfolding(crate::specs::Folders::listed_folders))]
 pub fn listed_folders(alloc: Global, env: &BuildEnv, list: Option<&str>) -> Mem<Words>
     ensures { IfOk result (λ folders.
@@ -50,7 +52,7 @@ pub fn listed_folders(alloc: Global, env: &BuildEnv, list: Option<&str>) -> Mem<
     Ok(folders)
 }
 
-// The tool is a path of two or more components.
+/// Whether a tool is a path of two or more components, which is sought nowhere else. Only want of memory refuses.
 #[tactic(auto, unfolding(crate::specs::Folders::is_path))]
 pub fn is_path(alloc: Global, tool: &str) -> Mem<bool>
     ensures { IfOk result (λ b. b ≡ spec.is_path tool.now) }
@@ -70,7 +72,8 @@ fn in_folders(alloc: Global, folders: &[Text], name: &str) -> Mem<Words>
     Ok(paths)
 }
 
-// Where a tool may be.
+/// Where a tool may be: at its own path, else by its name in each of some folders, in order. Only want of memory
+/// refuses.
 #[tactic(auto, unfolding(crate::specs::Folders::places_of))]
 pub fn places_of(alloc: Global, folders: &[Text], tool: &str) -> Mem<Words>
     ensures { IfOk result (λ paths. paths ≡ spec.places_of folders.now tool.now) }

@@ -38,7 +38,7 @@ pub fn target_of<'a>(set: &'a BuildConfig, env: &'a BuildEnv) -> Option<&'a str>
     or_variable(&set.target, env, "TARGET")
 }
 
-// The name of the target, or the empty name.
+/// The name of the target, lent, or the empty name where it is set nowhere. It takes no memory.
 pub fn target_name<'a>(set: &'a BuildConfig, env: &'a BuildEnv) -> &'a str
     ensures { result.now ≡ target_name set.now env.now }
 {
@@ -52,7 +52,7 @@ pub fn host_of<'a>(set: &'a BuildConfig, env: &'a BuildEnv) -> Option<&'a str>
     or_variable(&set.host, env, "HOST")
 }
 
-// The optimisation level as text: the set one, else `OPT_LEVEL`, or none.
+/// The optimisation level as text, lent: the set one, else `OPT_LEVEL`, or none. It takes no memory.
 pub fn level_of<'a>(set: &'a BuildConfig, env: &'a BuildEnv) -> Option<&'a str>
     ensures { option_copied result ≡ level_of set.now env.now }
 {
@@ -95,7 +95,8 @@ pub fn is_disabled(env: &BuildEnv) -> bool
     is_true_variable(env, "CC_FORCE_DISABLE")
 }
 
-// Whether the words that a target and a level bring are left out.
+/// Whether the words that a target and a level bring are left out: it is set, or `CRATE_CC_NO_DEFAULTS` is true. It
+/// takes no memory.
 pub fn has_no_defaults(set: &BuildConfig, env: &BuildEnv) -> bool
     ensures { result ≡ has_no_defaults set.now env.now }
 {
@@ -150,7 +151,8 @@ pub(crate) fn environment_flags(
     variable_flags(alloc, set, env, flags_variable(set))
 }
 
-// The value of a variable of the prefixes. Without a target and a host there is none.
+/// The value of a variable of the prefixes: of its four names, with the target and without, the first that is set.
+/// Without a target and a host there is none. Only want of memory refuses.
 pub fn prefixed_value(
     alloc: Global,
     set: &BuildConfig,

@@ -1,9 +1,7 @@
 // The flags of Rust code that Cargo hands down.
 ghost use Rattle.std.specs.Prelude.{◌≡◌, ◌++◌, IfOk, OnOk};
-ghost use Rattle.std.specs.Option.{option_copied};
 ghost use Rattle.cc_flags.specs.Inherited as spec;
 
-use crate::compilation::Compilation;
 use crate::supported::Supported;
 use crate::{FlagError, Maps, RustcCodegenFlags, cargo_maps, trim_pairs, value_or_empty};
 use cc_env::EnvSnapshot;
@@ -69,20 +67,6 @@ pub fn read_handed(alloc: Global, env: &EnvSnapshot) -> Mem<Handed>
         maps: cargo_maps(env),
         pairs,
     })
-}
-
-/// The flags, where they are taken: none where they aren't, none is set, or one is wrong. It takes no
-/// memory.
-#[tactic(auto, unfolding(crate::specs::Inherited::inherited_flags))]
-pub(crate) fn taken_flags<'a>(given: &Compilation<'a>) -> Option<&'a RustcCodegenFlags>
-    ensures { option_copied result
-        ≡ spec.inherited_flags given.now.set.now.inherit_rustflags given.now.env.now.inherited }
-{
-    if given.set.inherit_rustflags {
-        given.handed.rustflags.flags.as_ref()
-    } else {
-        None
-    }
 }
 
 /// Adds those of some words that the compiler takes: a compiler older than rustc may not know a flag that says the same. Refused for

@@ -1,14 +1,15 @@
-//! What the flags of Rust code and the table of targets mean to a C compiler.
+//! The settings of a build, and the words, names and lines that follow from them, from variables, from the flags of Rust code and from what is
+//! known of a target, as far as no question decides them.
 //!
-//! Stands on `cc_text`, `cc_env` and `cc_target`. Rustflags are read as a list of pairs of a key and its value, and
-//! a field is made from the last pair of its keys: `parse` gives exactly those fields or names the first flag that
-//! is wrong, and `wanted` gives exactly the words of the table over the fields. The other words are a function a
-//! group: each equals its definition in `specs/`, which depends on the family of the compiler, on what is known of
-//! the target, and on what is set. The crate above, `cc_plan`, puts the groups in order, and decides where there
-//! are none.
+//! Stands on `cc_text`, `cc_env` and `cc_target`; it knows no host, asks nothing and refuses nothing but for want of memory. Rustflags are read
+//! as a list of pairs of a key and its value, and a field is made from the last pair of its keys: `parse` gives exactly those fields or names
+//! the first flag that is wrong, and `wanted` gives exactly the words of the table over the fields. The other words are a function a group:
+//! each equals its definition in `specs/`, which depends on the family of the compiler, on what is known of the target, and on what is set;
+//! `tool_words`, `compile_words` and `assembler_words` put the groups in order. The crate above, `cc_plan`, uses one thing: each value equals
+//! its definition in `specs/`; it asks what is to be asked, and refuses what is refused.
 //!
-//! A `push_*` adds its words last. Refused, which only want of memory does, it may have added a part of them: the
-//! list is to be dropped. Manuals are cited by name and section at each group.
+//! A `push_*` adds its words last. Refused, which only want of memory does, it may have added a part of them: the list is to be dropped. Manuals
+//! are cited by name and section at each group.
 #![tactic(auto)]
 
 mod android;
@@ -33,6 +34,7 @@ mod gnu;
 mod inherited;
 mod languages;
 mod link;
+mod link_line;
 mod link_warning;
 mod maps;
 mod names;
@@ -83,11 +85,11 @@ pub use choice::Choice;
 pub use choice::bare;
 pub use choice::fixed_compiler;
 pub use choice::is_wasm;
-pub use choice::links_by_plugin;
 pub use choice::prefixed_compiler;
 pub use choice::wasi_path;
 pub use compilation::Compilation;
 pub use compilation::Inputs;
+pub use compilation::links_by_plugin;
 pub use compiler::Compiler;
 pub use compiler_names::name_of;
 pub use debug::has_debug;
@@ -136,8 +138,8 @@ pub use languages::compiler_variable;
 pub use languages::emscripten_name;
 pub use languages::gnu_name;
 pub use languages::traditional_name;
-pub use link::LinkLine;
 pub use link::lines_by;
+pub use link_line::LinkLine;
 pub use link_warning::leaves_off;
 pub use maps::Maps;
 pub use maps::cargo_maps;

@@ -1,12 +1,11 @@
 // The link lines of a library.
 ghost use Rattle.std.specs.Prelude.{◌≡◌, ◌++◌, IfOk, OnOk};
 ghost use Rattle.cc_flags.specs.LinkLines.{modifiers_part, library_line, search_line, always, library_lines, lines_by};
-ghost use Rattle.cc_flags.specs.StdlibLines.{links_cpp as wants_cpp};
-ghost use Rattle.cc_flags.specs.StdlibLines.{cpp_lines};
+ghost use Rattle.cc_flags.specs.StdlibLines.{links_cpp as wants_cpp, cpp_lines};
 ghost use Rattle.cc_text.specs.Words.{when};
 
 use crate::stdlib::push_cpp_lines;
-use crate::{BuildConfig, links_cpp};
+use crate::{BuildConfig, LinkLine, links_cpp};
 use cc_env::BuildEnv;
 use cc_text::{Mem, Text, Words, join_texts};
 use std::alloc::Global;
@@ -41,15 +40,6 @@ fn search_line(alloc: Global, folder: &str) -> Mem<Text>
     let mut line = Text::of(alloc, "cargo:rustc-link-search=native=")?;
     line.push_str(folder)?;
     Ok(line)
-}
-
-/// A line for Cargo, without its line feed.
-#[derive(Drop, Debug)]
-pub struct LinkLine {
-    /// What Cargo reads.
-    pub text: Text,
-    /// Whether it is printed once for all builds that share what they know, unless lines are repeated.
-    pub once: bool,
 }
 
 // A line that is printed at each call.
@@ -94,7 +84,8 @@ fn push_wanted_cpp_lines(
     Ok(())
 }
 
-// The lines for a library that is linked with this C++ library.
+/// The link lines of a library of this name in this folder, which is linked with this C++ library, in the order in
+/// which they are printed. Only want of memory refuses.
 #[tactic(auto, unfolding(crate::specs::LinkLines::lines_by))]
 pub fn lines_by(
     alloc: Global,

@@ -33,7 +33,8 @@ fn has_link_among(environment: Option<&Words>) -> bool
     }
 }
 
-// Flags are left off that are for the linker.
+/// Whether flags are left off since they are for the linker: the compiler takes the words of Visual Studio's, and one
+/// of its flags is `/link`. Only want of memory refuses.
 #[tactic(auto, unfolding(crate::specs::SettingWords::leaves_off))]
 pub fn leaves_off(alloc: Global, set: &BuildConfig, env: &BuildEnv, family: ToolFamily) -> Mem<bool>
     ensures { IfOk result (λ b. b ≡

@@ -23,6 +23,7 @@ fn has_slash(output: &str) -> bool
     output.as_bytes().contains(&b'/')
 }
 
+/// Whether a text is a single component of a path that names a library. It takes no memory.
 #[tactic(auto, unfolding(crate::specs::Names::is_output_name))]
 pub fn is_output_name(output: &str) -> bool
     ensures { result ≡ is_output_name output.now }
@@ -30,7 +31,7 @@ pub fn is_output_name(output: &str) -> bool
     !is_nameless(output) && !has_slash(output)
 }
 
-// What stands between `lib` and `.a`, where that is not empty.
+/// What stands between `lib` and `.a`, lent, where that is not empty. It takes no memory.
 #[tactic(auto, unfolding(crate::specs::Names::inner_name))]
 pub fn inner_name(output: &str) -> Option<&str>
     ensures { option_copied result ≡ inner_name output.now }
@@ -38,6 +39,8 @@ pub fn inner_name(output: &str) -> Option<&str>
     nonempty(before_suffix(after_prefix(output, "lib")?, ".a"))
 }
 
+/// The name of the file of a library, `lib<name>.a`, as linkers look for it by the manual of GNU `ld`. Only want of
+/// memory refuses.
 pub fn file_of(alloc: Global, name: &str) -> Mem<Text>
     ensures { IfOk result (λ t. t ≡ codes "lib" ++ name.now ++ codes ".a") }
 {
@@ -71,7 +74,8 @@ fn file_library<'a>(target: &TargetInfo, file: &'a str) -> Option<&'a str>
     }
 }
 
-// The same for the library at a path.
+/// The name of the library at a path, lent, as a linker takes it, which for Visual Studio may be that of its second
+/// file; or none. It takes no memory.
 pub fn name_in<'a>(target: &TargetInfo, path: &'a str) -> Option<&'a str>
     ensures { option_copied result
         ≡ option_and_then (file_library (info_seen target.now)) (path_file_name path.now) }

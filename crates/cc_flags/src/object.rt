@@ -28,17 +28,19 @@ fn hash_part(start: u64, text: &str) -> u64
     fnv1a_from(fnv1a_from(start, text.as_bytes()), b"\xff")
 }
 
-// What folders may count from: the texts of two variables, which are looked up once, and a root.
+/// What folders may count from: the texts of two variables, which are looked up once, and a root.
 #[derive(Clone, Copy)]
 pub struct Roots<'a> {
-    env: &'a EnvSnapshot,
-    out_dir: Option<&'a str>,
-    manifest_dir: Option<&'a str>,
-    root: Option<&'a str>,
+    pub env: &'a EnvSnapshot,
+    pub out_dir: Option<&'a str>,
+    pub manifest_dir: Option<&'a str>,
+    pub root: Option<&'a str>,
     ghost out_dir_is: { option_copied out_dir ≡ last_value env.now (codes "OUT_DIR") },
     ghost manifest_is: { option_copied manifest_dir ≡ last_value env.now (codes "CARGO_MANIFEST_DIR") },
 }
 
+/// The texts from which folders of sources may count, lent: of `OUT_DIR`, `CARGO_MANIFEST_DIR` and the root that is
+/// given. It takes no memory.
 pub fn roots_of<'a>(env: &'a EnvSnapshot, root: Option<&'a str>) -> Roots<'a>
     ensures env { result.env.now ≡ env.now }
     ensures root { option_copied result.root ≡ option_copied root.entry }
@@ -114,7 +116,8 @@ fn object_name(alloc: Global, roots: &Roots<'_>, source: &str) -> Mem<Text>
     Ok(name)
 }
 
-// The object of a source in a folder.
+/// The object of a source in the folder `dst`, by `object_path`, where the roots are known. Only want of memory
+/// refuses.
 #[tactic(auto, unfolding(crate::specs::Object::object_path))]
 pub fn object_in(alloc: Global, roots: &Roots<'_>, dst: &str, source: &str) -> Mem<Text>
     ensures { IfOk result (λ path.

@@ -19,7 +19,7 @@ fn differ(target: Option<&str>, host: Option<&str>) -> bool
     }
 }
 
-// Code is built for another target than the host.
+/// Whether code is built for another target than the host: both are set, and differ. It takes no memory.
 #[tactic(auto, unfolding(crate::specs::Prefixes::is_cross))]
 pub fn is_cross(set: &BuildConfig, env: &BuildEnv) -> bool
     ensures { result ≡ spec.is_cross set.now env.now }
@@ -54,7 +54,8 @@ fn linker_prefix(env: &BuildEnv) -> Option<&str>
     before_suffix(env.inherited().get("RUSTC_LINKER")?, "-gcc")
 }
 
-// The prefix that is known without a question.
+/// The prefix of the GNU tools' names that is known without a question, lent, or none: that of `CROSS_COMPILE`, else of
+/// `RUSTC_LINKER`, else of the table of targets. It takes no memory.
 #[tactic(auto, unfolding(crate::specs::Prefixes::known_prefix))]
 pub fn known_prefix<'a>(env: &'a BuildEnv, name: &str) -> Option<&'a str>
     ensures { option_copied result ≡ spec.known_prefix env.now name.now }
@@ -95,7 +96,8 @@ fn push_tried(
     Ok(())
 }
 
-// The compilers that are looked for, folder by folder and then candidate by candidate.
+/// The compilers by which a prefix is looked for, each with its candidate: folder by folder, and then candidate by
+/// candidate. Only want of memory refuses.
 #[tactic(auto, unfolding(crate::specs::Prefixes::tried_compilers))]
 pub fn tried_compilers(alloc: Global, cpp: bool, folders: &[Text], candidates: &[&str]) -> Mem<Vars>
     ensures { IfOk result (λ tries.
@@ -108,6 +110,7 @@ pub fn tried_compilers(alloc: Global, cpp: bool, folders: &[Text], candidates: &
     Ok(tries)
 }
 
+/// The first of some texts, owned, or none. Only want of memory refuses.
 pub fn first_text(alloc: Global, candidates: &[&str]) -> Mem<Option<Text>>
     ensures { IfOk result (λ first. first ≡ spec.first_text (texts candidates.now)) }
 {

@@ -222,7 +222,7 @@ pub fn archive_settings(alloc: Global, set: &BuildConfig, objects: &Words) -> Me
     Ok(archive)
 }
 
-// A second text, equal to this one, or none.
+/// A second text, equal to this one, or none. Only want of memory refuses.
 pub fn second(text: &Option<Text>) -> Mem<Option<Text>>
     ensures { IfOk result (λ t. t ≡ text.now) }
 {

@@ -66,7 +66,8 @@ fn target_library(alloc: Global, target: &TargetInfo) -> Mem<Option<Option<Text>
     }
 }
 
-// The library that is known without a compiler, or that there is none.
+/// The C++ library that is known without a compiler, or that there is none: the set one, else that of `CXXSTDLIB`, else
+/// the target's. Only want of memory refuses.
 #[tactic(auto, unfolding(crate::specs::StdlibLines::given_library))]
 pub fn given_library(alloc: Global, set: &BuildConfig, env: &BuildEnv) -> Mem<Option<Option<Text>>>
     ensures { IfOk result (λ library. library ≡ spec.given_library set.now env.now) }
@@ -80,7 +81,8 @@ pub fn given_library(alloc: Global, set: &BuildConfig, env: &BuildEnv) -> Mem<Op
     }
 }
 
-// A compiler may be asked.
+/// Whether a compiler may be asked for its C++ library: the lines are wanted, the target isn't WebAssembly's, which
+/// links its own, and commands may run. It takes no memory.
 #[tactic(auto, unfolding(crate::specs::StdlibLines::may_ask))]
 pub fn may_ask(set: &BuildConfig, env: &BuildEnv) -> bool
     ensures { result ≡ spec.may_ask set.now env.now }
@@ -88,6 +90,7 @@ pub fn may_ask(set: &BuildConfig, env: &BuildEnv) -> bool
     set.cargo_metadata && target_info(set, env).arch != "wasm32" && !is_disabled(env)
 }
 
+/// The C++ library of a compiler: LLVM's where it has the headers of that, else GNU's. It takes no memory.
 pub fn library_by(is_libcxx: bool) -> &'static str
     ensures { result.now ≡ spec.library_by is_libcxx }
 {

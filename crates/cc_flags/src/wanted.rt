@@ -5,8 +5,7 @@ ghost use Rattle.std.specs.Fmt.{decimal};
 ghost use Rattle.std.specs.Str.{chars};
 ghost use Rattle.cc_text.specs.Words.{texts};
 ghost use Rattle.cc_target.specs.Targets.{info_seen};
-ghost use Rattle.cc_flags.specs.Wanted.{plus_for_comma, branch_protection_word, branch_protection_words, code_model_words, vector_words, relocation_word, relocation_words, frame_pointer_words, switched, red_zone_words, float_words, dwarf_words, stack_protector_word, stack_protector_words, feature_words, code_words, machine_words};
-ghost use Rattle.cc_flags.specs.Wanted.{embed_bitcode_words, plugin_words, is_checks, is_nochecks, clang_guard_word, clang_guard_words, clang_words, msvc_guard_word, msvc_guard_words, msvc_frame_pointer_words, msvc_words, wanted};
+ghost use Rattle.cc_flags.specs.Wanted.{plus_for_comma, branch_protection_word, branch_protection_words, code_model_words, vector_words, relocation_word, relocation_words, frame_pointer_words, switched, red_zone_words, float_words, dwarf_words, stack_protector_word, stack_protector_words, feature_words, code_words, machine_words, embed_bitcode_words, plugin_words, is_checks, is_nochecks, clang_guard_word, clang_guard_words, clang_words, msvc_guard_word, msvc_guard_words, msvc_frame_pointer_words, msvc_words, wanted};
 
 use crate::RustcCodegenFlags;
 use crate::fields::{is_no, is_yes};

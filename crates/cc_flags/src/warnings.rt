@@ -20,7 +20,7 @@ pub fn language_variable(family: ToolFamily) -> (&'static str, &'static str)
     }
 }
 
-// GCC was found for a target of the Visual Studio tools.
+/// Adds that GCC was found for a target of the Visual Studio tools, where it was. Only want of memory refuses.
 #[tactic(auto, unfolding(crate::specs::Warnings::gnu_warnings))]
 pub fn push_gnu_warning(warnings: &mut Words, given: &Compilation<'_>) -> Mem<()>
     ensures { OnOk result (warnings.new ≡ warnings.old ++ gnu_warnings (seen given.now)) }
@@ -53,7 +53,8 @@ fn push_lacks_of(
     )
 }
 
-// What the compiler lacks of what it is asked about.
+/// Adds what the compiler lacks of what it is asked about, where these words are supported. Only want of memory
+/// refuses.
 #[tactic(auto, unfolding(crate::specs::Warnings::lacks_by))]
 pub fn push_lacks(warnings: &mut Words, given: &Compilation<'_>, supported: &Supported) -> Mem<()>
     ensures { OnOk result (warnings.new ≡ warnings.old ++ lacks_by (seen given.now) supported.now) }
@@ -65,7 +66,8 @@ pub fn push_lacks(warnings: &mut Words, given: &Compilation<'_>, supported: &Sup
     Ok(())
 }
 
-// Flags are left off, and a user is told of it.
+/// Adds that flags are left off, where a user is told of it: at each call where that is wanted, else at the first. Only
+/// want of memory refuses.
 #[tactic(auto, unfolding(crate::specs::Warnings::link_warnings))]
 pub fn push_link_warning(
     warnings: &mut Words,

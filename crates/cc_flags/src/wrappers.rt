@@ -101,7 +101,8 @@ fn owned(alloc: Global, text: Option<&str>) -> Mem<Option<Text>>
     }
 }
 
-// A tool with its words, run through the wrapper of Rust's compiler.
+/// A tool with its words, run through the wrapper of Rust's compiler where that serves other compilers. Only want of
+/// memory refuses.
 #[tactic(auto, unfolding(crate::specs::Wrappers::in_rustc_wrapper))]
 pub fn in_rustc_wrapper(alloc: Global, env: &BuildEnv, path: &str, words: Words) -> Mem<Choice>
     ensures { IfOk result (λ choice. choice ≡ spec.in_rustc_wrapper env.now path.now words) }
@@ -148,7 +149,8 @@ fn tool_of_words(alloc: Global, env: &BuildEnv, first: &str, rest: &[Text]) -> M
     in_rustc_wrapper(alloc, env, first, words_of(alloc, rest)?)
 }
 
-// What the words of a text say. A first word without a file stem names no tool.
+/// The tool that the words of a text name, with its wrapper, or none: a first word without a file stem names no tool.
+/// Only want of memory refuses.
 #[tactic(auto, unfolding(crate::specs::Wrappers::tool_in_words))]
 pub fn tool_in_words(alloc: Global, env: &BuildEnv, words: &[Text]) -> Mem<Option<Choice>>
     ensures { IfOk result (λ choice. choice ≡ spec.tool_in_words env.now words.now) }

@@ -4,7 +4,7 @@ use Rattle.std.specs.List.{position, position_or_len, AllByRecursion}
 use Rattle.std.specs.Option.{option_map}
 use Rattle.cc_text.proofs.PositionLemmas.{one_more}
 use Rattle.cc_plan.specs.Libtool.{is_libtool, has_line_feed, list_refusal}
-use Rattle.cc_plan.specs.declared.archive.Archiver.{Archiver}
+use Rattle.cc_plan.specs.declared.archiver.Archiver.{Archiver}
 use Rattle.cc_plan.specs.declared.error.ArgumentCause.TheVariants.{LineFeed}
 use Rattle.cc_plan.specs.declared.error.PlanError.TheVariants.{Argument}
 use Rattle.cc_plan.proofs.AddedLaws.{not_less}

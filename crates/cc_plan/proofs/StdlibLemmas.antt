@@ -15,7 +15,7 @@ use Rattle.cc_plan.specs.Link.{link_lines}
 use Rattle.cc_flags.specs.LinkLines.{lines_by}
 use Rattle.cc_plan.specs.Stdlib.{tool_unless, allowed_tool, uses_libcxx, cpp_library_of, linked_library}
 use Rattle.cc_plan.specs.declared.error.PlanError.{PlanError}
-use Rattle.cc_flags.specs.declared.link.LinkLine.{LinkLine}
+use Rattle.cc_flags.specs.declared.link_line.LinkLine.{LinkLine}
 use Rattle.cc_flags.specs.declared.settings.BuildConfig.{BuildConfig}
 
 there : (refusal : Option PlanError) (tool other : ToolSeen) → tool_unless refusal tool ≡ Some other → tool ≡ other

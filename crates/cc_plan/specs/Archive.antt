@@ -12,7 +12,7 @@ use Rattle.cc_text.specs.Batches.{batches_of}
 use Rattle.cc_flags.specs.Given.{variable_flags}
 use Rattle.cc_plan.specs.LibForm.{folder_of, is_lib, lib_words, members_of, runs_in_folder}
 use Rattle.cc_plan.specs.Libtool.{is_libtool, libtool_words}
-use Rattle.cc_plan.specs.declared.archive.Archiver.{Archiver}
+use Rattle.cc_plan.specs.declared.archiver.Archiver.{Archiver}
 use Rattle.cc_flags.specs.declared.archive_names.ArchiveTool.TheVariants.{Archiver as ForMembers, Ranlib as ForIndex}
 use Rattle.cc_flags.specs.declared.choice.Choice.{Choice}
 use Rattle.cc_flags.specs.declared.object.Object.{Object}

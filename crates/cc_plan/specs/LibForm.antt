@@ -12,7 +12,7 @@ use Rattle.cc_flags.specs.ArchiveNames.{is_msvc}
 use Rattle.cc_plan.specs.Libtool.{is_libtool}
 use Rattle.cc_flags.specs.Names.{copy_file}
 use Rattle.cc_flags.specs.Folders.{is_path}
-use Rattle.cc_plan.specs.declared.archive.Archiver.{Archiver}
+use Rattle.cc_plan.specs.declared.archiver.Archiver.{Archiver}
 
 -- the name has it, whatever the case of ASCII letters
 abbrev pub names_llvm_ar : List ℕ → Bool

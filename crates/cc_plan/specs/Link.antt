@@ -3,7 +3,7 @@ use Rattle.std.specs.Prelude.{ℕ, Bool, not, ◌||◌, List, [], ◌∷◌, ◌
 use Rattle.cc_env.specs.Env.{EnvSeen}
 use Rattle.cc_host.specs.Question.{Look}
 use Rattle.cc_plan.specs.Stdlib.{linked_library}
-use Rattle.cc_flags.specs.declared.link.LinkLine.{LinkLine}
+use Rattle.cc_flags.specs.declared.link_line.LinkLine.{LinkLine}
 use Rattle.cc_flags.specs.declared.settings.BuildConfig.{BuildConfig}
 use Rattle.cc_flags.specs.LinkLines.{lines_by}
 

@@ -22,7 +22,7 @@ use Rattle.cc_plan.specs.Compile.{compile_of}
 use Rattle.cc_flags.specs.Given.{out_dir_of, first_of}
 use Rattle.cc_plan.specs.Archive.{archiver_of}
 use Rattle.cc_plan.specs.Link.{printed_line, link_lines as lines_of}
-use Rattle.cc_flags.specs.declared.link.LinkLine.{LinkLine}
+use Rattle.cc_flags.specs.declared.link_line.LinkLine.{LinkLine}
 use Rattle.cc_plan.specs.LibForm as form
 use Rattle.cc_plan.specs.LibForm.{copy_path_of}
 use Rattle.cc_flags.specs.Names.{library_name}

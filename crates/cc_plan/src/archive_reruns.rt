@@ -6,7 +6,7 @@ ghost use Rattle.cc_plan.specs.Reruns as spec;
 
 use crate::Sight;
 use crate::archive_tool::wasm_tool;
-use crate::reruns::{choice_names, is_named, tool_names};
+use crate::tool_reruns::{choice_names, is_named, tool_names};
 use cc_flags::{
     ArchiveTool, Inputs, flags_names, is_cross, is_msvc, is_wasm, push_if, set_program,
     system_name, tool_flags, tool_variable,

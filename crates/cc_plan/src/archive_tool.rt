@@ -6,10 +6,9 @@ ghost use Rattle.cc_plan.specs.Questions.{IsForAndroid, IsForStudio};
 ghost use Rattle.cc_plan.specs.Refusal.{choice_refusal, known_refusal, found_refusal};
 
 use crate::archive_asks::{compiler_tool, if_versioned, lib_beside, llvm_is_there};
-use crate::checks::check_qnx_arch;
+use crate::checks::{check_qnx_arch, known_target};
 use crate::choice::cross_prefix;
 use crate::env_tool::env_tool;
-use crate::tool::known_target;
 use crate::{PlanError, Sight};
 use cc_env::BuildEnv;
 use cc_flags::{

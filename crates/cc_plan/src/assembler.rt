@@ -7,9 +7,10 @@ ghost use Rattle.cc_plan.specs.Assembler as spec;
 ghost use Rattle.cc_plan.specs.Refusal.{AllowedBy, RefusedBy, target_refusal};
 
 use crate::beside::beside;
+use crate::checks::known_target;
 use crate::env_tool::env_tool;
 use crate::search::which_in;
-use crate::tool::{known_target, push_args, push_entries};
+use crate::tool::{push_args, push_entries};
 use crate::{PlanError, Sight};
 use cc_env::BuildEnv;
 use cc_flags::{

@@ -8,7 +8,7 @@ ghost use Rattle.cc_flags.specs.Variables as variables;
 use crate::Sight;
 use crate::assembler::assembler_choice;
 use crate::compiler::compiler_of;
-use crate::reruns::tool_names;
+use crate::tool_reruns::tool_names;
 use cc_flags::{Assembly, Compiler, Inputs, Reads, is_llvm, want_assembler};
 use cc_host::{Host, World};
 use cc_target::TargetInfo;

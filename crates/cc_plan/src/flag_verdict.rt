@@ -10,10 +10,11 @@ ghost use Rattle.cc_plan.specs.Questions.{SupportAsks};
 ghost use Rattle.cc_plan.specs.Support.{flag_question as question_on};
 ghost use Rattle.cc_plan.specs.Refusal.{AllowedBy, RefusedBy};
 
+use crate::checks::{check_compiler, known_target};
 use crate::compiler::compiler_of;
 use crate::printing::warn_of;
 use crate::support::{bare_compiler, flag_settings, is_for_linker, plain_question};
-use crate::tool::{check_compiler, found_warnings, known_target};
+use crate::tool::found_warnings;
 use crate::{PlanError, Sight};
 use cc_env::BuildEnv;
 use cc_flags::{BuildConfig, Compilation, Compiler, Inputs, read_handed};

@@ -13,6 +13,7 @@ mod archive;
 mod archive_asks;
 mod archive_reruns;
 mod archive_tool;
+mod archiver;
 mod assembler;
 mod assembler_reruns;
 mod beside;
@@ -38,10 +39,10 @@ mod sight;
 mod stdlib;
 mod support;
 mod tool;
+mod tool_reruns;
 
-pub use archive::{
-    Archiver, Library, archive_commands, archived_paths, archiver_of, index_commands, ranlib_of,
-};
+pub use archive::{archive_commands, archived_paths, archiver_of, index_commands, ranlib_of};
+pub use archiver::{Archiver, Library};
 pub use assembler::assembler_of;
 pub use cc_flags::{
     BuildConfig, BuildFlag, Choice, Compiler, Definition, Definitions, Flags, LinkLine, Object,

@@ -11,8 +11,9 @@ ghost use Rattle.cc_plan.specs.Refusal.{intermediate_refusal, early_refusal, lat
 
 use crate::added::check_added;
 use crate::assembler::wanted_assembler;
+use crate::checks::check_platform;
 use crate::compile::compile_commands;
-use crate::tool::{check_platform, plan_tool};
+use crate::tool::plan_tool;
 use crate::{ArgumentCause, PlanError, Sight, lib_and_archive_names, objects_from_files};
 use cc_env::BuildEnv;
 use cc_flags::{Assembly, BuildConfig, Object, out_dir_of};

@@ -10,7 +10,8 @@ ghost use Rattle.cc_plan.specs.Refusal.{AllowedBy, RefusedBy, cpp_refusal};
 ghost use Rattle.cc_plan.specs.Stdlib as stdlib;
 ghost use Rattle.cc_flags.specs.Target.{target_info};
 
-use crate::tool::{demand, plan_quietly, quiet_warnings};
+use crate::checks::demand;
+use crate::tool::{plan_quietly, quiet_warnings};
 use crate::{PlanError, Sight};
 use cc_env::BuildEnv;
 use cc_flags::{

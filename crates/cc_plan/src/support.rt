@@ -7,7 +7,7 @@ ghost use Rattle.cc_plan.specs.Support as spec;
 ghost use Rattle.cc_flags.specs.ToolWords.{asked_words as words_asked};
 ghost use Rattle.cc_text.specs.Words.{when};
 
-use crate::tool::check_compiler;
+use crate::checks::check_compiler;
 use crate::{PlanError, Sight};
 use cc_env::BuildEnv;
 use cc_flags::{

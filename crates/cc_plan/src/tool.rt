@@ -1,36 +1,30 @@
 // The tool of a compile command: the compiler with the words and variables that all sources share.
-ghost use Rattle.std.specs.Prelude.{◌≡◌, ◌++◌, ◌&&◌, Bool, false, IfOk, IfErr, OnOk, ◌⊎◌, Some};
-ghost use Rattle.std.specs.Option.{option_copied};
+ghost use Rattle.std.specs.Prelude.{◌≡◌, ◌++◌, ◌&&◌, Bool, false, IfOk, IfErr, OnOk, Some};
 ghost use Rattle.cc_host.specs.Question.{Settles};
 ghost use Rattle.cc_target.specs.Targets.{info_seen};
 ghost use Rattle.cc_flags.specs.Compilation.{seen};
 ghost use Rattle.cc_plan.specs.Asking.{IsOwn, AsksToPlan, AsksThenWarns, SettledIn, AllowedIn, RefusedIn, RefusedInOrByPrint};
-ghost use Rattle.cc_flags.specs.Given.{target_of};
 ghost use Rattle.cc_plan.specs.Plan.{tool_warnings};
 ghost use Rattle.cc_plan.specs.Questions.{PlanAsks};
-ghost use Rattle.cc_plan.specs.Refusal.{AllowedBy, RefusedBy, unset, target_refusal, platform_refusal, given_refusal, tool_refusal};
+ghost use Rattle.cc_plan.specs.Refusal.{tool_refusal};
 ghost use Rattle.cc_flags.specs.Target.{target_info};
 ghost use Rattle.cc_plan.specs.Planned.{warnings_of, tool_of};
-ghost use Rattle.cc_plan.specs.Support.{compiler_refusal};
 ghost use Rattle.cc_plan.specs.Tool.{detected_warnings, found_warnings, other_warnings, warnings_by, marked_by, wrapped_tool, tool_by};
 ghost use Rattle.cc_flags.specs.Warnings.{language_variable};
-ghost use Rattle.cc_plan.specs.declared.error.PlanError.TheVariants.{NoMemory as WantsMemory, NotSet};
-ghost use Rattle.std.specs.Prelude.{◌≡◌, IfOk};
 
-use crate::checks::{check_defaults, check_rustflags};
+use crate::checks::check_compiler;
 use crate::compiler::compiler_of;
 use crate::printing::warn_of;
 use crate::support::supported_words;
 use crate::{PlanError, Sight};
 use cc_env::BuildEnv;
 use cc_flags::{
-    BuildConfig, Compilation, Compiler, Inputs, Supported, host_of, known_info, language_variable,
-    leaves_off, level_of, push_gnu_warning, push_lacks, push_link_warning, read_handed, target_of,
-    tool_warnings, tool_words,
+    BuildConfig, Compilation, Compiler, Inputs, Supported, language_variable, leaves_off,
+    push_gnu_warning, push_lacks, push_link_warning, read_handed, tool_warnings, tool_words,
 };
 use cc_host::{Host, World};
 use cc_target::TargetInfo;
-use cc_text::{Mem, Text, Words, quoted};
+use cc_text::{Mem, Words, quoted};
 use cc_tool::{Caches, Detected, Tool};
 use std::alloc::Global;
 use std::sync::Wait;
@@ -63,97 +57,6 @@ pub(crate) struct QuietPlan<'a> {
     pub target: TargetInfo<'a>,
     pub tool: Tool,
     pub unmarked: Unmarked,
-}
-
-fn not_set(alloc: Global, name: &str) -> PlanError
-    ensures { (result ≡ WantsMemory) ⊎ (result ≡ NotSet name.now) }
-{
-    match Text::of(alloc, name) {
-        Ok(name) => PlanError::NotSet(name),
-        Err(_) => PlanError::NoMemory,
-    }
-}
-
-// A value that is set, or else the refusal by its variable.
-pub(crate) fn demand<'a>(
-    alloc: Global,
-    name: &str,
-    value: Option<&'a str>,
-) -> Result<&'a str, PlanError>
-    ensures value { IfOk result (λ text. option_copied value.entry ≡ Some text.now) }
-    ensures allowed { AllowedBy (unset name.now (option_copied value.entry)) result }
-    ensures refused { RefusedBy (unset name.now (option_copied value.entry)) result }
-{
-    match value {
-        Some(text) => Ok(text),
-        None => Err(not_set(alloc, name)),
-    }
-}
-
-/// What is known of the target, lent where Cargo describes it. Refused where it is set nowhere, or where the table has no row of it and it
-/// isn't one that Cargo builds for and describes, and for memory.
-#[tactic(auto, unfolding(crate::specs::Refusal::target_refusal))]
-pub(crate) fn known_target<'a>(
-    alloc: Global,
-    set: &'a BuildConfig,
-    env: &'a BuildEnv,
-) -> Result<TargetInfo<'a>, PlanError>
-    ensures info { IfOk result (λ target. info_seen target ≡ target_info set.now env.now) }
-    ensures allowed { AllowedBy (target_refusal set.now env.now) result }
-    ensures refused { RefusedBy (target_refusal set.now env.now) result }
-{
-    let name = match target_of(set, env) {
-        Some(name) => name,
-        None => return Err(not_set(alloc, "TARGET")),
-    };
-    match known_info(set, env, name) {
-        Ok(target) => Ok(target),
-        Err(_) => Err(PlanError::UnknownTarget(Text::of(alloc, name)?)),
-    }
-}
-
-/// Whether the target is set and known, and the host set. Refused where one isn't, with the variable or the name, and for memory.
-#[tactic(auto, unfolding(crate::specs::Refusal::platform_refusal))]
-pub(crate) fn check_platform(
-    alloc: Global,
-    set: &BuildConfig,
-    env: &BuildEnv,
-) -> Result<(), PlanError>
-    ensures allowed { AllowedBy (platform_refusal set.now env.now) result }
-    ensures refused { RefusedBy (platform_refusal set.now env.now) result }
-{
-    known_target(alloc, set, env)?;
-    demand(alloc, "HOST", host_of(set, env))?;
-    Ok(())
-}
-
-// The level, and the target with what is known of it.
-#[tactic(auto, unfolding(crate::specs::Refusal::given_refusal))]
-fn given_target<'a>(
-    alloc: Global,
-    set: &'a BuildConfig,
-    env: &'a BuildEnv,
-) -> Result<TargetInfo<'a>, PlanError>
-    ensures info { IfOk result (λ target. info_seen target ≡ target_info set.now env.now) }
-    ensures allowed { AllowedBy (given_refusal set.now env.now) result }
-    ensures refused { RefusedBy (given_refusal set.now env.now) result }
-{
-    demand(alloc, "OPT_LEVEL", level_of(set, env))?;
-    let target = known_target(alloc, set, env)?;
-    Ok(target)
-}
-
-/// Whether a compiler has words. Refused by the words of the target and the level; then where the host is set nowhere, which flags of the
-/// environment are looked up by; then by a wrong flag of Rust code; and for memory.
-#[tactic(auto, unfolding(crate::specs::Refusal::refusal_by, crate::specs::Tool::defaults_refusal_by))]
-pub(crate) fn check_compiler(given: &Compilation<'_>) -> Result<(), PlanError>
-    ensures allowed { AllowedBy (compiler_refusal (seen given.now)) result }
-    ensures refused { RefusedBy (compiler_refusal (seen given.now)) result }
-{
-    check_defaults(given)?;
-    demand(given.alloc, "HOST", host_of(given.set, given.env))?;
-    check_rustflags(given)?;
-    Ok(())
 }
 
 // A tool of the compiler, with its wrapper.
@@ -398,7 +301,7 @@ pub fn tool_of<W: World, H: Host<W>>(
 
 /// Whether this call, of those that share its caches, is the one that warns of flags that are left off. No clause says which call it is,
 /// since the mark stands behind a lock.
-pub fn is_first_warning<W: World>(
+pub(crate) fn is_first_warning<W: World>(
     rt: &impl Wait,
     caches: &Caches<W>,
     set: &BuildConfig,

@@ -164,7 +164,8 @@ pub fn assembler_words(given: &Assembly<'_>, choice: &Choice) -> Mem<Words>
     Ok(words)
 }
 
-// That of Visual Studio: Microsoft's "ML and ML64 command-line reference" and "ARM Assembler command-line reference".
+/// What the assembler of Visual Studio is called for a target: Microsoft's "ML and ML64 command-line reference" and
+/// "ARM Assembler command-line reference". It takes no memory.
 #[tactic(auto, unfolding(crate::specs::AssemblerWords::studio_assembler))]
 pub fn studio_assembler(target: &TargetInfo) -> &'static str
     ensures { result.now ≡ spec.studio_assembler (info_seen target.now) }
@@ -180,7 +181,8 @@ pub fn studio_assembler(target: &TargetInfo) -> &'static str
     }
 }
 
-// An architecture that that of LLVM knows (LLVM's "llvm-ml - LLVM assembler for MASM").
+/// Whether LLVM's assembler for MASM knows the architecture (LLVM's "llvm-ml - LLVM assembler for MASM"). It takes no
+/// memory.
 #[tactic(auto, unfolding(crate::specs::AssemblerWords::is_x86))]
 pub fn is_x86(target: &TargetInfo) -> bool
     ensures { result ≡ spec.is_x86 (info_seen target.now) }

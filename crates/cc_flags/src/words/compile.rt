@@ -31,7 +31,7 @@ fn is_masm_extension(extension: &str) -> bool
     extension.eq_ignore_ascii_case("asm")
 }
 
-// The source is in the language of the Visual Studio assemblers, for a target of theirs.
+/// Whether a source is in the language of the Visual Studio assemblers, for a target of theirs. It takes no memory.
 #[tactic(auto, unfolding(crate::specs::CompileWords::is_masm))]
 pub fn is_masm(target: &TargetInfo, source: &str) -> bool
     ensures { result ≡ spec.is_masm (info_seen target.now) source.now }

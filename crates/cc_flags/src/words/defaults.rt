@@ -5,9 +5,8 @@ ghost use Rattle.std.specs.Option.{option_copied};
 ghost use Rattle.cc_flags.specs.Compilation.{seen};
 ghost use Rattle.cc_flags.specs.ToolWords as spec;
 
-use crate::compilation::Compilation;
+use crate::compilation::{Compilation, taken_flags};
 use crate::given::{has_no_defaults, is_cargos_target, level_of, or_variable, target_of};
-use crate::inherited::taken_flags;
 use crate::supported::Supported;
 use crate::{
     has, keeps_frame_pointers, lent, needs_target_word, push_bare_and_arm_words,
@@ -73,8 +72,8 @@ fn push_gnu_like_words(words: &mut Words, given: &Compilation<'_>) -> Mem<()>
     Ok(())
 }
 
-// Whether the compiler is Clang, and the target is named to it: one program serves all targets (Clang's "Cross-compilation using Clang",
-// "Target Triple"), while each GCC has its own.
+/// Whether the compiler is Clang, and the target is named to it: one program serves all targets (Clang's "Cross-
+/// compilation using Clang", "Target Triple"), while each GCC has its own. It takes no memory.
 pub fn names_target(given: &Compilation<'_>) -> bool
     ensures { result ≡ spec.names_target (seen given.now) }
 {
@@ -83,7 +82,8 @@ pub fn names_target(given: &Compilation<'_>) -> bool
     needs_target_word(given.compiler.family, set_compiler, given.target, path)
 }
 
-// The sysroot of musl for WebAssembly's threads, where it is set: Clang brings no C library for that target.
+/// The sysroot of musl for WebAssembly's threads, lent, where it is set: Clang brings no C library for that target. It
+/// takes no memory.
 pub fn musl_sysroot<'a>(given: &Compilation<'a>) -> Option<&'a str>
     ensures { option_copied result ≡ spec.musl_sysroot (seen given.now) }
 {

@@ -5,9 +5,9 @@ ghost use Rattle.std.specs.Option.{option_copied};
 ghost use Rattle.cc_flags.specs.Compilation.{seen};
 ghost use Rattle.cc_flags.specs.ToolWords as spec;
 
-use crate::compilation::Compilation;
+use crate::compilation::{Compilation, taken_flags};
 use crate::given::{environment_flags, has_no_defaults};
-use crate::inherited::{push_taken, taken_flags};
+use crate::inherited::push_taken;
 use crate::supported::Supported;
 use crate::words::defaults::{keeps_frames, push_wanted_defaults};
 use crate::words::settings::{

@@ -3,7 +3,7 @@ use Rattle.std.proofs.lemmas.Grind.{common_steps}
 use Rattle.cc_tool.proofs.AskLemmas.{asks_grows}
 use Rattle.cc_plan.proofs.AskingLemmas.{only_then}
 use Rattle.cc_tool.proofs.SettleLemmas.{settles_on, settles_two}
-use Rattle.cc_plan.proofs.reruns.found_names.Goals as goal
+use Rattle.cc_plan.proofs.tool_reruns.found_names.Goals as goal
 
 pub returns-in_err-names-clause-asks : goal.returns-in_err-names-clause-asks
 returns-in_err-names-clause-asks g c = only_then c.is_named.ensures.asks c.tool_names.ensures.asks
