@@ -158,7 +158,7 @@ pub(crate) fn check_platform(
 
 // The level, and the target with what is known of it.
 #[tactic(auto, unfolding(crate::specs::Refusal::given_refusal))]
-fn given_target<'a>(
+pub(crate) fn given_target<'a>(
     alloc: Global,
     set: &'a BuildConfig,
     env: &'a BuildEnv,

@@ -2,6 +2,7 @@
 ghost use Rattle.std.specs.Prelude.{◌≡◌};
 ghost use Rattle.cc_plan.specs.declared.error.PlanError.TheVariants.{NoMemory as WantsMemory};
 
+use crate::Library;
 use cc_env::NotSet;
 use cc_host::{Host, HostCall, Why};
 use cc_target::UnknownTarget;

@@ -12,7 +12,7 @@ ghost use Rattle.cc_plan.specs.Planned.{warnings_of, tool_of};
 ghost use Rattle.cc_plan.specs.Tool.{detected_warnings, found_warnings, other_warnings, warnings_by, marked_by, wrapped_tool, tool_by};
 ghost use Rattle.cc_flags.specs.Warnings.{language_variable};
 
-use crate::checks::check_compiler;
+use crate::checks::{check_compiler, given_target};
 use crate::compiler::compiler_of;
 use crate::printing::warn_of;
 use crate::support::supported_words;
