@@ -37,8 +37,9 @@ impl<W: World> Build<W> {
         Ok(())
     }
 
-    /// Sets the target, as rustc names it: `x86_64-unknown-linux-gnu`. Unset, it is `TARGET`. A name that isn't among the 36 known
-    /// targets is refused by the compile run, not here. Refused only for memory; the build is as before.
+    /// Sets the target, as rustc names it: `x86_64-unknown-linux-gnu`. Unset, it is `TARGET`. A name that is neither among the 36 of
+    /// the table nor the target that Cargo builds for and describes by its variables is refused by the compile run, not here. Refused
+    /// only for memory; the build is as before.
     pub fn target(&mut self, target: &str) -> Result<(), Error>
         ensures ok { OnOk result (Sets self.old self.new
             (λ c. record c { target = Some target.now })) }

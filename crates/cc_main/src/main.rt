@@ -55,7 +55,8 @@ keys that may stand again, each adding one:
   remap_source_path=FROM=TO   paths that begin with FROM are told as beginning with TO
 
 keys of which the last counts:
-  target=NAME, host=NAME   as rustc names them, else TARGET and HOST
+  target=NAME, host=NAME   as rustc names them, else TARGET and HOST; a target is one of the
+                           table of 36, else the one that Cargo builds for and describes
   out_dir=PATH             the folder of the objects and of the library, else OUT_DIR
   opt_level=NUMBER, opt_level_str=LEVEL   the optimisation level, else OPT_LEVEL
   debug=true, debug=false, debug_str=LEVEL   debug information, else DEBUG
