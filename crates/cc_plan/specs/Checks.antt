@@ -10,6 +10,8 @@ use Rattle.cc_flags.specs.DefaultWords.{lacks_qnx_variant, is_wasm_linux}
 use Rattle.std.specs.Option.{option_map}
 use Rattle.cc_flags.specs.declared.error.FlagError.{FlagError}
 use Rattle.cc_flags.specs.declared.error.FlagError.TheVariants.{InvalidFlag, NoMemory as WantsMemory}
+use Rattle.cc_flags.specs.Inherited.{inherited_wrong}
+use Rattle.cc_flags.specs.ToolWords.{names_target, musl_sysroot}
 
 -- the one of two refusals that comes first
 abbrev pub first_refusal : Option PlanError → Option PlanError → Option PlanError
