@@ -25,8 +25,6 @@ use Rattle.cc_flags.specs.ToolWords.{names_target, musl_sysroot}
 use Rattle.cc_flags.specs.Target.{target_info, known_info, target_name}
 use Rattle.cc_flags.specs.declared.archive_names.ArchiveTool.TheVariants.{Archiver}
 use Rattle.cc_flags.specs.declared.settings.BuildConfig.{BuildConfig}
-use Rattle.cc_plan.specs.declared.archive_tool.ArchiveTool.TheVariants.{Archiver}
-use Rattle.cc_plan.specs.declared.settings.BuildConfig.{BuildConfig}
 
 -- a text is none of these
 abbrev pub IsNoneOf : List ℕ → List (List ℕ) → Type 0
