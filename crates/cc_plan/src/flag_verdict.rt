@@ -24,7 +24,8 @@ use cc_tool::ask_flag;
 use std::alloc::Global;
 use std::sync::Wait;
 
-// The question on a flag, where it has words.
+// The question on a flag, where it has words. Its settings have the target of the others.
+#[tactic(auto, unfolding(cc_flags::specs::Target::known_info))]
 fn checked_question(given: &Compilation<'_>, flag: &str) -> Result<Question, PlanError>
     ensures question { IfOk result (λ q. q ≡ question_on (seen given.now) flag.now) }
     ensures allowed { AllowedBy (spec.question_refusal (seen given.now) flag.now) result }

@@ -154,7 +154,7 @@ pub(crate) fn is_for_linker(family: ToolFamily, flag: &str) -> bool
 }
 
 // The question on a flag, where it is asked about.
-#[tactic(auto, unfolding(crate::specs::Support::is_asked_of))]
+#[tactic(auto, unfolding(crate::specs::Support::is_asked_of, cc_flags::specs::Target::known_info))]
 fn question_of(given: &Compilation<'_>, flag: &str) -> Mem<Option<Question>>
     ensures { IfOk result (λ q. q ≡ spec.asked_question (seen given.now) flag.now) }
 {
