@@ -9,7 +9,7 @@ use Rattle.cc_plan.specs.FlagSupport.{verdict_on, verdict_refusal}
 use Rattle.cc_plan.specs.Tool.{found_warnings}
 use Rattle.cc_flags.proofs.CompilationLemmas.{is_known}
 use Rattle.cc_plan.specs.declared.error.PlanError.TheVariants.{NoMemory as WantsMemory}
-use Rattle.cc_plan.proofs.OwnLemmas.{verdict_is_own}
+use Rattle.cc_plan.proofs.OwnLemmas.{target_is_own, verdict_is_own}
 use Rattle.cc_plan.proofs.VerdictLemmas.{verdict_settled, support_settled, support_refused}
 use Rattle.cc_plan.proofs.QuestionLemmas.{tool_for_support, bare_flag}
 use Rattle.cc_plan.proofs.flag_verdict.plan_support.Goals as goal
@@ -74,3 +74,8 @@ returns-clause-allowed g c =
 
 pub returns-in_err-compiler-clause-asks : goal.returns-in_err-compiler-clause-asks
 returns-in_err-compiler-clause-asks g c = only_more c.found_compiler.ensures.asks (holds_all (tool_for_support c.args.set.now c.args.env.now c.args.flag.now))
+
+pub returns-in_err-target-clause-own : goal.returns-in_err-target-clause-own
+returns-in_err-target-clause-own g c =
+    let p = err_from_is_err_and c.from_residual.result c.from_residual.ensures.1 in
+    rw (p.1, p.2) (target_is_own c.args.set.now c.args.env.now c.in_err-target.field-0.0 c.in_err-target.ensures.refused)
