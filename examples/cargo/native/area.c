@@ -1,0 +1,6 @@
+#include "shape.h"
+int area(int width, int height)
+{
+    struct shape shape = {width, height};
+    return scaled(shape);
+}

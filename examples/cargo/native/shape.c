@@ -1,0 +1,2 @@
+#include "shape.h"
+int scaled(struct shape shape) { return SCALE * shape.width * shape.height; }

@@ -1,0 +1,2 @@
+struct shape { int width, height; };
+int scaled(struct shape shape);

@@ -1,0 +1,210 @@
+//! The calls that ask something of the tools: the command shows them, and nothing is built.
+
+use crate::build::Build;
+use crate::command::{run, Request};
+use crate::environment::{names_of, Environment};
+use crate::error::{fail, Error, ErrorKind};
+use crate::lines::rerun_name;
+use crate::shown::Shown;
+use crate::tool::Tool;
+use crate::words::Words;
+use std::ffi::OsStr;
+use std::process::Command;
+
+// What a flag is tried with: what finds the compiler, and what is told of that.
+const PROBED: &[&str] = &[
+    "compiler",
+    "target",
+    "host",
+    "cpp",
+    "env",
+    "out_dir",
+    "prefer_clang_cl_over_msvc",
+    "cargo_warnings",
+    "cargo_debug",
+];
+
+impl Build {
+    /// The compiler of this build, with the words that come first.
+    ///
+    /// # Panics
+    ///
+    /// It ends the script (status 1) where [`try_get_compiler`](Build::try_get_compiler) refuses.
+    pub fn get_compiler(&self) -> Tool {
+        self.try_get_compiler().unwrap_or_else(|error| fail(&error))
+    }
+
+    /// The compiler of this build, with the words that come first.
+    ///
+    /// Refused as the command refuses to show the tools: `EnvVarNotFound`, `UnknownTarget`, `InvalidFlag` and others.
+    pub fn try_get_compiler(&self) -> Result<Tool, Error> {
+        let shown = self.shown(&self.words, &self.environment)?;
+        let names = names_in(&shown);
+        self.tell_shown(&shown, &names_of_others(self, &["AR", "ARFLAGS", "RANLIB", "RANLIBFLAGS"], &names))?;
+        Ok(Tool::of(self, &shown, &names))
+    }
+
+    /// The archiver of this build, with the words that come first.
+    ///
+    /// # Panics
+    ///
+    /// It ends the script (status 1) where [`try_get_archiver`](Build::try_get_archiver) refuses.
+    pub fn get_archiver(&self) -> Command {
+        self.try_get_archiver().unwrap_or_else(|error| fail(&error))
+    }
+
+    /// The archiver of this build, with the words that come first.
+    ///
+    /// Refused as [`try_get_compiler`](Build::try_get_compiler), since the command shows the tools together.
+    pub fn try_get_archiver(&self) -> Result<Command, Error> {
+        let shown = self.shown(&self.words, &self.environment)?;
+        self.tell_shown(&shown, &names_of_these(self, &["AR", "ARFLAGS"], &names_in(&shown)))?;
+        Ok(self.command_of(&shown.archiver))
+    }
+
+    /// The tool of this build that writes the index of a library, with the words that come first.
+    ///
+    /// # Panics
+    ///
+    /// It ends the script (status 1) where [`try_get_ranlib`](Build::try_get_ranlib) refuses.
+    pub fn get_ranlib(&self) -> Command {
+        self.try_get_ranlib().unwrap_or_else(|error| fail(&error))
+    }
+
+    /// The tool of this build that writes the index of a library, with the words that come first.
+    ///
+    /// Refused as [`try_get_compiler`](Build::try_get_compiler), since the command shows the tools together.
+    pub fn try_get_ranlib(&self) -> Result<Command, Error> {
+        let shown = self.shown(&self.words, &self.environment)?;
+        self.tell_shown(&shown, &names_of_these(self, &["RANLIB", "RANLIBFLAGS"], &names_in(&shown)))?;
+        Ok(self.command_of(&shown.ranlib))
+    }
+
+    /// Whether the compiler takes a flag. The other flags of this build aren't given with it. A compiler that is missing takes none.
+    ///
+    /// Refused as [`try_get_compiler`](Build::try_get_compiler), and for a flag that isn't UTF-8 (`InvalidArgument`).
+    pub fn is_flag_supported(&self, flag: impl AsRef<OsStr>) -> Result<bool, Error> {
+        let flag = flag.as_ref();
+        let mut words = self.words.only(PROBED);
+        words.say("opt_level", "0");
+        words.switch("debug", false);
+        words.switch("inherit_rustflags", false);
+        words.switch("inherit_trim_paths", false);
+        let times = |words: &Words| -> Result<usize, Error> {
+            let shown = self.shown(words, &self.environment)?;
+            let names = names_in(&shown);
+            self.tell_shown(&shown, &names_of_others(self, &["AR", "ARFLAGS", "RANLIB", "RANLIBFLAGS"], &names))?;
+            Ok(shown.compiler.iter().filter(|word| OsStr::new(word) == flag).count())
+        };
+        let with = times(&words.clone().and("flag_if_supported", flag))?;
+        // (without it, the target may give it)
+        Ok(with > 0 && with > times(&words.and("cargo_warnings", "false"))?)
+    }
+
+    /// Adds the flags of a variable, and of those that name target or host, split as the variables of flags are.
+    ///
+    /// Refused (`EnvVarNotFound`) where none of them is set, and as [`try_get_compiler`](Build::try_get_compiler).
+    pub fn try_flags_from_environment(&mut self, environ_key: &str) -> Result<&mut Build, Error> {
+        let (flags, read) = self.split_by_the_command(environ_key)?;
+        if self.tells_names() {
+            for name in &read {
+                self.told.tell_name(name)?;
+            }
+        }
+        if !read.iter().any(|name| self.environment.get(name).is_some()) {
+            let message = format!("could not find environment variable {environ_key}");
+            return Err(Error::new(ErrorKind::EnvVarNotFound, message));
+        }
+        for flag in flags {
+            self.flag(flag);
+        }
+        Ok(self)
+    }
+
+    // The flags of a variable, as the command splits those of ranlib: the variables are given to it under that name. With the names that it read.
+    fn split_by_the_command(&self, key: &str) -> Result<(Vec<String>, Vec<String>), Error> {
+        let names = names_of(key, self.target_name());
+        let taken = names_of("RANLIBFLAGS", self.target_name());
+        let kept = self.environment.variables().iter().filter(|(name, _)| !taken.iter().any(|it| name == it.as_str())).cloned();
+        let given = names.iter().zip(&taken).filter_map(|(name, taken)| Some((taken.into(), self.environment.get(name)?.to_owned())));
+        let environment = Environment::of(kept.chain(given).collect::<Vec<_>>().into_iter());
+        let words = self.words.only(&["compiler", "target", "host", "cpp", "out_dir", "shell_escaped_flags"]);
+        let shown = self.shown(&words.and("opt_level", "0").and("ranlib", "ranlib"), &environment)?;
+        let told = names_in(&shown);
+        let read = names.iter().zip(&taken).filter(|(_, taken)| told.contains(&taken.as_str()));
+        let read = read.map(|(name, _)| name.clone()).collect();
+        Ok((shown.ranlib[1..].to_vec(), read))
+    }
+
+    // What the command shows for these words, with the lines of all variables that it read.
+    fn shown(&self, words: &Words, environment: &Environment) -> Result<Shown, Error> {
+        let words = words.clone().and("cargo_metadata", "true").and("emit_rerun_if_env_changed", "true");
+        let request = Request {
+            first: &["show"],
+            words: &words,
+            environment,
+        };
+        let mut lines = Vec::new();
+        let ran = run(&request, &mut |line| {
+            lines.push(line.to_vec());
+            Ok(())
+        });
+        if ran.is_err() {
+            self.tell_rest(&lines)?;
+        }
+        ran?;
+        Shown::read(lines)
+    }
+
+    // Passes on what was printed before the tools, and of the variables those names.
+    fn tell_shown(&self, shown: &Shown, names: &[&str]) -> Result<(), Error> {
+        self.tell_rest(&shown.before)?;
+        if self.tells_names() {
+            for name in names {
+                self.told.tell_name(name)?;
+            }
+        }
+        Ok(())
+    }
+
+    fn tell_rest(&self, lines: &[Vec<u8>]) -> Result<(), Error> {
+        for line in lines.iter().filter(|line| rerun_name(line).is_none()) {
+            self.told.tell(line)?;
+        }
+        Ok(())
+    }
+
+    fn command_of(&self, words: &[String]) -> Command {
+        let (program, words) = words.split_first().expect("a command that is shown has a program");
+        let mut command = Command::new(program);
+        command.args(words);
+        self.environment.apply(&mut command);
+        for word in self.words.values("env") {
+            let text = word.to_string_lossy();
+            let (name, value) = text.split_once('=').unwrap_or((&text, ""));
+            command.env(name, value);
+        }
+        command
+    }
+}
+
+fn names_in(shown: &Shown) -> Vec<&str> {
+    shown.before.iter().filter_map(|line| rerun_name(line)).collect()
+}
+
+// The names that one of these settings is looked up by.
+fn names_of_these<'a>(build: &Build, settings: &[&str], names: &[&'a str]) -> Vec<&'a str> {
+    chosen(build, settings, names, true)
+}
+
+// The other names.
+fn names_of_others<'a>(build: &Build, settings: &[&str], names: &[&'a str]) -> Vec<&'a str> {
+    chosen(build, settings, names, false)
+}
+
+fn chosen<'a>(build: &Build, settings: &[&str], names: &[&'a str], wanted: bool) -> Vec<&'a str> {
+    let target = build.target_name();
+    let known: Vec<String> = settings.iter().flat_map(|setting| names_of(setting, target)).collect();
+    let is_known = |name: &str| known.iter().any(|it| it == name);
+    names.iter().copied().filter(|name| is_known(name) == wanted).collect()
+}
