@@ -39,9 +39,8 @@ impl Build {
     /// Refused as the command refuses to show the tools: `EnvVarNotFound`, `UnknownTarget`, `InvalidFlag` and others.
     pub fn try_get_compiler(&self) -> Result<Tool, Error> {
         let shown = self.shown(&self.words, &self.environment)?;
-        let names = names_in(&shown);
-        self.tell_shown(&shown, &names_of_others(self, &["AR", "ARFLAGS", "RANLIB", "RANLIBFLAGS"], &names))?;
-        Ok(Tool::of(self, &shown, &names))
+        self.tell_shown(&shown, &compiler_names(self, &shown))?;
+        Ok(Tool::of(self, &shown, &names_in(&shown)))
     }
 
     /// The archiver of this build, with the words that come first.
@@ -58,7 +57,7 @@ impl Build {
     /// Refused as [`try_get_compiler`](Build::try_get_compiler), since the command shows the tools together.
     pub fn try_get_archiver(&self) -> Result<Command, Error> {
         let shown = self.shown(&self.words, &self.environment)?;
-        self.tell_shown(&shown, &names_of_these(self, &["AR", "ARFLAGS"], &names_in(&shown)))?;
+        self.tell_shown(&shown, &names_of_these(self, &["AR", "ARFLAGS"], &shown))?;
         Ok(self.command_of(&shown.archiver))
     }
 
@@ -76,7 +75,10 @@ impl Build {
     /// Refused as [`try_get_compiler`](Build::try_get_compiler), since the command shows the tools together.
     pub fn try_get_ranlib(&self) -> Result<Command, Error> {
         let shown = self.shown(&self.words, &self.environment)?;
-        self.tell_shown(&shown, &names_of_these(self, &["RANLIB", "RANLIBFLAGS"], &names_in(&shown)))?;
+        self.tell_shown(
+            &shown,
+            &names_of_these(self, &["RANLIB", "RANLIBFLAGS"], &shown),
+        )?;
         Ok(self.command_of(&shown.ranlib))
     }
 
@@ -92,9 +94,12 @@ impl Build {
         words.switch("inherit_trim_paths", false);
         let times = |words: &Words| -> Result<usize, Error> {
             let shown = self.shown(words, &self.environment)?;
-            let names = names_in(&shown);
-            self.tell_shown(&shown, &names_of_others(self, &["AR", "ARFLAGS", "RANLIB", "RANLIBFLAGS"], &names))?;
-            Ok(shown.compiler.iter().filter(|word| OsStr::new(word) == flag).count())
+            self.tell_shown(&shown, &compiler_names(self, &shown))?;
+            Ok(shown
+                .compiler
+                .iter()
+                .filter(|word| OsStr::new(word) == flag)
+                .count())
         };
         let with = times(&words.clone().and("flag_if_supported", flag))?;
         // (without it, the target may give it)
@@ -105,40 +110,65 @@ impl Build {
     ///
     /// Refused (`EnvVarNotFound`) where none of them is set, and as [`try_get_compiler`](Build::try_get_compiler).
     pub fn try_flags_from_environment(&mut self, environ_key: &str) -> Result<&mut Build, Error> {
-        let (flags, read) = self.split_by_the_command(environ_key)?;
-        if self.tells_names() {
-            for name in &read {
-                self.told.tell_name(name)?;
-            }
-        }
-        if !read.iter().any(|name| self.environment.get(name).is_some()) {
+        let names = names_of(environ_key, self.target_name());
+        let stand_ins = names_of("RANLIBFLAGS", self.target_name());
+        let shown = self.split_by_the_command(&names, &stand_ins)?;
+        let told = names_in(&shown);
+        let read = names
+            .iter()
+            .zip(&stand_ins)
+            .filter(|(_, stand_in)| told.contains(&stand_in.as_str()));
+        let mut read: Vec<&str> = read.map(|(name, _)| name.as_str()).collect();
+        let any = read.iter().any(|name| self.environment.get(name).is_some());
+        read.extend(
+            told.iter()
+                .filter(|name| any && **name == "CC_SHELL_ESCAPED_FLAGS"),
+        );
+        self.tell_names(&read)?;
+        if !any {
             let message = format!("could not find environment variable {environ_key}");
             return Err(Error::new(ErrorKind::EnvVarNotFound, message));
         }
-        for flag in flags {
-            self.flag(flag);
-        }
-        Ok(self)
+        Ok(self.flags(&shown.ranlib[1..]))
     }
 
-    // The flags of a variable, as the command splits those of ranlib: the variables are given to it under that name. With the names that it read.
-    fn split_by_the_command(&self, key: &str) -> Result<(Vec<String>, Vec<String>), Error> {
-        let names = names_of(key, self.target_name());
-        let taken = names_of("RANLIBFLAGS", self.target_name());
-        let kept = self.environment.variables().iter().filter(|(name, _)| !taken.iter().any(|it| name == it.as_str())).cloned();
-        let given = names.iter().zip(&taken).filter_map(|(name, taken)| Some((taken.into(), self.environment.get(name)?.to_owned())));
-        let environment = Environment::of(kept.chain(given).collect::<Vec<_>>().into_iter());
-        let words = self.words.only(&["compiler", "target", "host", "cpp", "out_dir", "shell_escaped_flags"]);
-        let shown = self.shown(&words.and("opt_level", "0").and("ranlib", "ranlib"), &environment)?;
-        let told = names_in(&shown);
-        let read = names.iter().zip(&taken).filter(|(_, taken)| told.contains(&taken.as_str()));
-        let read = read.map(|(name, _)| name.clone()).collect();
-        Ok((shown.ranlib[1..].to_vec(), read))
+    // Has the command split flags as those of ranlib: the variables are given to it under these names.
+    fn split_by_the_command(&self, names: &[String], stand_ins: &[String]) -> Result<Shown, Error> {
+        let is_stand_in = |name: &OsStr| stand_ins.iter().any(|stand_in| name == stand_in.as_str());
+        let kept = self
+            .environment
+            .variables()
+            .iter()
+            .filter(|(name, _)| !is_stand_in(name))
+            .cloned();
+        let given = names.iter().zip(stand_ins);
+        let given = given.filter_map(|(name, stand_in)| {
+            Some((stand_in.into(), self.environment.get(name)?.to_owned()))
+        });
+        let environment = Environment::of(kept.chain(given));
+        let words = self.words.only(&[
+            "compiler",
+            "target",
+            "host",
+            "cpp",
+            "out_dir",
+            "shell_escaped_flags",
+        ]);
+        self.shown(
+            &words.and("opt_level", "0").and("ranlib", "ranlib"),
+            &environment,
+        )
     }
 
-    // What the command shows for these words, with the lines of all variables that it read.
+    // What the command shows for these words, with the lines of all variables that it read. It isn't asked again what it showed before.
     fn shown(&self, words: &Words, environment: &Environment) -> Result<Shown, Error> {
-        let words = words.clone().and("cargo_metadata", "true").and("emit_rerun_if_env_changed", "true");
+        let words = words
+            .clone()
+            .and("cargo_metadata", "true")
+            .and("emit_rerun_if_env_changed", "true");
+        if let Some(shown) = self.answers.find(&words, environment) {
+            return Ok(shown);
+        }
         let request = Request {
             first: &["show"],
             words: &words,
@@ -153,12 +183,18 @@ impl Build {
             self.tell_rest(&lines)?;
         }
         ran?;
-        Shown::read(lines)
+        let shown = Shown::read(lines)?;
+        self.answers.keep(&words, environment, &shown);
+        Ok(shown)
     }
 
     // Passes on what was printed before the tools, and of the variables those names.
     fn tell_shown(&self, shown: &Shown, names: &[&str]) -> Result<(), Error> {
         self.tell_rest(&shown.before)?;
+        self.tell_names(names)
+    }
+
+    fn tell_names(&self, names: &[&str]) -> Result<(), Error> {
         if self.tells_names() {
             for name in names {
                 self.told.tell_name(name)?;
@@ -175,7 +211,9 @@ impl Build {
     }
 
     fn command_of(&self, words: &[String]) -> Command {
-        let (program, words) = words.split_first().expect("a command that is shown has a program");
+        let (program, words) = words
+            .split_first()
+            .expect("a command that is shown has a program");
         let mut command = Command::new(program);
         command.args(words);
         self.environment.apply(&mut command);
@@ -189,22 +227,34 @@ impl Build {
 }
 
 fn names_in(shown: &Shown) -> Vec<&str> {
-    shown.before.iter().filter_map(|line| rerun_name(line)).collect()
+    shown
+        .before
+        .iter()
+        .filter_map(|line| rerun_name(line))
+        .collect()
 }
 
 // The names that one of these settings is looked up by.
-fn names_of_these<'a>(build: &Build, settings: &[&str], names: &[&'a str]) -> Vec<&'a str> {
-    chosen(build, settings, names, true)
+fn names_of_these<'a>(build: &Build, settings: &[&str], shown: &'a Shown) -> Vec<&'a str> {
+    let known = all_names(build, settings);
+    names_in(shown)
+        .into_iter()
+        .filter(|name| known.iter().any(|it| it == name))
+        .collect()
 }
 
-// The other names.
-fn names_of_others<'a>(build: &Build, settings: &[&str], names: &[&'a str]) -> Vec<&'a str> {
-    chosen(build, settings, names, false)
+// The names that were read for the compiler. It was asked what it is, which is told where that variable says so.
+fn compiler_names<'a>(build: &Build, shown: &'a Shown) -> Vec<&'a str> {
+    let others = all_names(build, &["AR", "ARFLAGS", "RANLIB", "RANLIBFLAGS"]);
+    let names = names_in(shown)
+        .into_iter()
+        .filter(|name| !others.iter().any(|it| it == name));
+    names.chain(["CC_ENABLE_DEBUG_OUTPUT"]).collect()
 }
 
-fn chosen<'a>(build: &Build, settings: &[&str], names: &[&'a str], wanted: bool) -> Vec<&'a str> {
-    let target = build.target_name();
-    let known: Vec<String> = settings.iter().flat_map(|setting| names_of(setting, target)).collect();
-    let is_known = |name: &str| known.iter().any(|it| it == name);
-    names.iter().copied().filter(|name| is_known(name) == wanted).collect()
+fn all_names(build: &Build, settings: &[&str]) -> Vec<String> {
+    settings
+        .iter()
+        .flat_map(|setting| names_of(setting, build.target_name()))
+        .collect()
 }

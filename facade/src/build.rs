@@ -3,6 +3,7 @@
 use crate::environment::Environment;
 use crate::lines::Told;
 use crate::link::Held;
+use crate::shown::Answers;
 use crate::words::Words;
 use std::ffi::OsStr;
 use std::path::{Path, PathBuf};
@@ -18,6 +19,7 @@ pub struct Build {
     pub(crate) words: Words,
     pub(crate) environment: Environment,
     pub(crate) told: Arc<Told>,
+    pub(crate) answers: Arc<Answers>,
     pub(crate) held: Arc<Mutex<Vec<Held>>>,
 }
 
@@ -50,13 +52,19 @@ impl Build {
 
     /// The target, where a word or a variable names it.
     pub(crate) fn target_name(&self) -> Option<&str> {
-        let target = self.words.last("target").or_else(|| self.environment.get("TARGET"));
+        let target = self
+            .words
+            .last("target")
+            .or_else(|| self.environment.get("TARGET"));
         target.and_then(OsStr::to_str)
     }
 
     /// The folder of objects and library, where a word or a variable names it.
     pub(crate) fn folder(&self) -> Option<PathBuf> {
-        let folder = self.words.last("out_dir").or_else(|| self.environment.get("OUT_DIR"));
+        let folder = self
+            .words
+            .last("out_dir")
+            .or_else(|| self.environment.get("OUT_DIR"));
         folder.map(PathBuf::from)
     }
 }

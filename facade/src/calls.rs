@@ -10,6 +10,7 @@ use crate::link::Held;
 use crate::words::Words;
 use std::path::{Path, PathBuf};
 use std::sync::atomic::{AtomicU32, Ordering};
+use std::sync::PoisonError;
 use std::{env, fs, io, process};
 
 // The library of a run of which the objects alone are wanted.
@@ -42,7 +43,8 @@ impl Build {
     ///
     /// It ends the script (status 1) where [`try_compile_intermediates`](Build::try_compile_intermediates) refuses.
     pub fn compile_intermediates(&self) -> Vec<PathBuf> {
-        self.try_compile_intermediates().unwrap_or_else(|error| fail(&error))
+        self.try_compile_intermediates()
+            .unwrap_or_else(|error| fail(&error))
     }
 
     /// Compiles the sources, and answers their objects, in the order of the sources.
@@ -51,16 +53,30 @@ impl Build {
     /// Visual Studio the library is removed. Refused as [`try_compile`](Build::try_compile), and where the database can't be read (`IOError`).
     pub fn try_compile_intermediates(&self) -> Result<Vec<PathBuf>, Error> {
         let database = self.scratch();
-        let mut words = self.words.without(&["object", "archiver"]).and("cpp_link_stdlib", "").and("database", &database);
-        let for_msvc = self.target_name().is_some_and(|target| target.ends_with("msvc"));
+        let mut words = self
+            .words
+            .without(&["object", "archiver"])
+            .and("cpp_link_stdlib", "")
+            .and("database", &database);
+        let for_msvc = self
+            .target_name()
+            .is_some_and(|target| target.ends_with("msvc"));
         if !for_msvc {
             words.say("archiver", "true");
         }
-        let others: Vec<String> = ["AR", "ARFLAGS"].iter().flat_map(|it| names_of(it, self.target_name())).collect();
-        let ran = self.run_to_links(&["compile", OBJECTS_ALONE], &words, &mut |line| match rerun_name(line) {
-            Some(name) => !others.iter().any(|other| other == name),
-            None => true,
-        });
+        let others: Vec<String> = ["AR", "ARFLAGS"]
+            .iter()
+            .flat_map(|it| names_of(it, self.target_name()))
+            .collect();
+        let ran =
+            self.run_to_links(
+                &["compile", OBJECTS_ALONE],
+                &words,
+                &mut |line| match rerun_name(line) {
+                    Some(name) => !others.iter().any(|other| other == name),
+                    None => true,
+                },
+            );
         let text = ran.and_then(|links| {
             for line in links.iter().filter(|line| !is_link(line)) {
                 self.told.tell(line)?;
@@ -91,7 +107,8 @@ impl Build {
         P: IntoIterator,
         P::Item: AsRef<Path>,
     {
-        self.try_create_archive(output, objects).unwrap_or_else(|error| fail(&error))
+        self.try_create_archive(output, objects)
+            .unwrap_or_else(|error| fail(&error))
     }
 
     /// Archives these objects, and behind them the added ones, into the library of this name, and answers its path.
@@ -110,7 +127,10 @@ impl Build {
         let lines = self.run_to_links(&["archive", output], &words, &mut |_| true)?;
         let library = self.library(output)?;
         let held = Held::new(library.clone(), &self.words, lines);
-        self.held.lock().unwrap_or_else(|poisoned| poisoned.into_inner()).push(held);
+        self.held
+            .lock()
+            .unwrap_or_else(PoisonError::into_inner)
+            .push(held);
         Ok(library)
     }
 
@@ -128,7 +148,11 @@ impl Build {
     /// Refused as [`try_compile`](Build::try_compile), and for another number of sources than one (`InvalidArgument`).
     pub fn try_expand(&self) -> Result<Vec<u8>, Error> {
         // (the lines of the variables are what stands right before the source)
-        let words = self.words.clone().and("cargo_metadata", "true").and("emit_rerun_if_env_changed", "true");
+        let words = self
+            .words
+            .clone()
+            .and("cargo_metadata", "true")
+            .and("emit_rerun_if_env_changed", "true");
         let mut source: Vec<u8> = Vec::new();
         let mut last: Option<String> = None;
         let mut began = false;
@@ -157,13 +181,30 @@ impl Build {
         }
     }
 
-    fn run(&self, first: &[&str], words: &Words, hear: &mut dyn FnMut(&[u8]) -> io::Result<()>) -> Result<(), Error> {
+    fn run(
+        &self,
+        first: &[&str],
+        words: &Words,
+        hear: &mut dyn FnMut(&[u8]) -> io::Result<()>,
+    ) -> Result<(), Error> {
         let environment = &self.environment;
-        run(&Request { first, words, environment }, hear)
+        run(
+            &Request {
+                first,
+                words,
+                environment,
+            },
+            hear,
+        )
     }
 
     // Runs the command, and passes on those of its lines that are chosen, up to the first link line: it is answered, and what stands behind it.
-    fn run_to_links(&self, first: &[&str], words: &Words, choice: &mut dyn FnMut(&[u8]) -> bool) -> Result<Vec<Vec<u8>>, Error> {
+    fn run_to_links(
+        &self,
+        first: &[&str],
+        words: &Words,
+        choice: &mut dyn FnMut(&[u8]) -> bool,
+    ) -> Result<Vec<Vec<u8>>, Error> {
         let mut links: Vec<Vec<u8>> = Vec::new();
         self.run(first, words, &mut |line| {
             if !choice(line) {
@@ -185,7 +226,11 @@ impl Build {
             Error::new(ErrorKind::EnvVarNotFound, message)
         })?;
         let whole = output.starts_with("lib") && output.ends_with(".a");
-        let name = if whole { output.to_owned() } else { format!("lib{output}.a") };
+        let name = if whole {
+            output.to_owned()
+        } else {
+            format!("lib{output}.a")
+        };
         Ok(folder.join(name))
     }
 

@@ -12,7 +12,9 @@ use std::sync::OnceLock;
 use std::{env, process, thread};
 
 const NAME: &str = "cc_main";
+// How the lines begin that tell of a refusal, by the build and by the reader of words.
 const CAUSE: &str = "error occurred in cc-rs: ";
+const WORD: &str = "word ";
 
 /// The command, which is looked for, and asked for its version, once in a script.
 fn command() -> Result<&'static Path, Error> {
@@ -35,7 +37,9 @@ fn find() -> Result<PathBuf, Error> {
     }
     let name = format!("{NAME}{}", env::consts::EXE_SUFFIX);
     let folders = env::var_os("PATH").unwrap_or_default();
-    let found = env::split_paths(&folders).map(|folder| folder.join(&name)).find(|path| path.is_file());
+    let found = env::split_paths(&folders)
+        .map(|folder| folder.join(&name))
+        .find(|path| path.is_file());
     found.ok_or_else(|| {
         let message = "the command cc_main is not on the PATH: put its folder there, or set CC_MAIN to its path";
         Error::new(ErrorKind::ToolNotFound, message)
@@ -43,7 +47,10 @@ fn find() -> Result<PathBuf, Error> {
 }
 
 fn check_version(path: &Path) -> Result<(), Error> {
-    let asked = Command::new(path).arg("--version").stdin(Stdio::null()).output();
+    let asked = Command::new(path)
+        .arg("--version")
+        .stdin(Stdio::null())
+        .output();
     let answer = asked.map_err(|error| unstarted(path, &error))?;
     let said = String::from_utf8_lossy(&answer.stdout);
     let wanted = concat!(", a port of cc ", env!("CARGO_PKG_VERSION"), "\n");
@@ -66,7 +73,10 @@ fn unstarted(path: &Path, error: &io::Error) -> Error {
         io::ErrorKind::NotFound => ErrorKind::ToolNotFound,
         _ => ErrorKind::ToolExecError,
     };
-    let message = format!("the command {} can't be started ({error}): set CC_MAIN to the path of cc_main", path.display());
+    let message = format!(
+        "the command {} can't be started ({error}): set CC_MAIN to the path of cc_main",
+        path.display()
+    );
     Error::new(kind, message)
 }
 
@@ -82,15 +92,20 @@ pub(crate) struct Request<'a> {
 ///
 /// Refused as the command refuses, where it ends in another way, and where its output ends within a line for Cargo. A process that its
 /// tools left behind isn't waited for.
-pub(crate) fn run(request: &Request<'_>, hear: &mut dyn FnMut(&[u8]) -> io::Result<()>) -> Result<(), Error> {
+pub(crate) fn run(
+    request: &Request<'_>,
+    hear: &mut dyn FnMut(&[u8]) -> io::Result<()>,
+) -> Result<(), Error> {
     let path = command()?;
     let words = request.words.arguments()?;
     let (out, mut out_end) = io::pipe()?;
     let (err, mut err_end) = io::pipe()?;
     let mut command = Command::new(path);
-    command.args(request.first).args(&words).stdin(Stdio::null());
+    command.args(request.first).args(words).stdin(Stdio::null());
     request.environment.apply(&mut command);
-    command.stdout(out_end.try_clone()?).stderr(err_end.try_clone()?);
+    command
+        .stdout(out_end.try_clone()?)
+        .stderr(err_end.try_clone()?);
     let mut child = command.spawn().map_err(|error| unstarted(path, &error))?;
     // (the ends that it holds for the child go)
     drop(command);
@@ -108,22 +123,31 @@ pub(crate) fn run(request: &Request<'_>, hear: &mut dyn FnMut(&[u8]) -> io::Resu
         (heard, join(cause), join(status))
     });
     let half = heard?;
-    ended(status?, cause?, &words)?;
+    ended(status?, &cause?)?;
     match half {
-        true => Err(Error::new(ErrorKind::ToolExecError, "the output of cc_main ends within a line")),
+        true => Err(Error::new(
+            ErrorKind::ToolExecError,
+            "the output of cc_main ends within a line",
+        )),
         false => Ok(()),
     }
 }
 
 fn join<T>(thread: thread::ScopedJoinHandle<'_, T>) -> T {
-    thread.join().unwrap_or_else(|panic| std::panic::resume_unwind(panic))
+    thread
+        .join()
+        .unwrap_or_else(|panic| std::panic::resume_unwind(panic))
 }
 
 // What a pipe ends with once the command has ended: a process that it left behind may hold the pipe open.
 fn end_mark() -> String {
     static COUNT: AtomicU32 = AtomicU32::new(0);
     let count = COUNT.fetch_add(1, Ordering::Relaxed);
-    format!("\0 end of cc_main {} {count} {:?}\n", process::id(), std::time::SystemTime::now())
+    format!(
+        "\0 end of cc_main {} {count} {:?}\n",
+        process::id(),
+        std::time::SystemTime::now()
+    )
 }
 
 fn end(pipe: &mut PipeWriter, mark: &[u8]) -> io::Result<()> {
@@ -133,7 +157,11 @@ fn end(pipe: &mut PipeWriter, mark: &[u8]) -> io::Result<()> {
 // Hears each line, up to the mark. Whether the last is a part of a line for Cargo, which isn't heard.
 //
 // Once hearing failed, the rest is read all the same, so that the command isn't held up.
-fn each_line(pipe: PipeReader, mark: &[u8], hear: &mut dyn FnMut(&[u8]) -> io::Result<()>) -> io::Result<bool> {
+fn each_line(
+    pipe: PipeReader,
+    mark: &[u8],
+    hear: &mut dyn FnMut(&[u8]) -> io::Result<()>,
+) -> io::Result<bool> {
     let mut pipe = BufReader::new(pipe);
     let mut line = Vec::new();
     let mut answer = Ok(());
@@ -154,24 +182,24 @@ fn each_line(pipe: PipeReader, mark: &[u8], hear: &mut dyn FnMut(&[u8]) -> io::R
     }
 }
 
-// The message of the refusal, where the command told one as the last thing on its standard error. All else is passed on.
-fn cause_of(pipe: PipeReader, mark: &[u8]) -> io::Result<Option<String>> {
-    let mut held: Option<Vec<u8>> = None;
+// What the command told of its refusal, from the last line that may begin that to the end. All else is passed on.
+fn cause_of(pipe: PipeReader, mark: &[u8]) -> io::Result<Vec<u8>> {
+    let mut held = Vec::new();
     each_line(pipe, mark, &mut |line| {
-        if line.starts_with(CAUSE.as_bytes()) {
-            let before = held.replace(line.to_vec());
-            pass_on(&before.unwrap_or_default());
-        } else if let Some(cause) = &mut held {
-            cause.extend_from_slice(line);
-        } else {
-            pass_on(line);
+        let begins = [CAUSE, WORD]
+            .iter()
+            .any(|beginning| line.starts_with(beginning.as_bytes()));
+        if begins {
+            pass_on(&held);
+            held.clear();
+        }
+        match begins || !held.is_empty() {
+            true => held.extend_from_slice(line),
+            false => pass_on(line),
         }
         Ok(())
     })?;
-    Ok(held.map(|cause| {
-        let message = String::from_utf8_lossy(&cause[CAUSE.len()..]).into_owned();
-        message.strip_suffix('\n').map(str::to_owned).unwrap_or(message)
-    }))
+    Ok(held)
 }
 
 // (where standard error takes nothing, nobody can be told)
@@ -180,15 +208,23 @@ fn pass_on(bytes: &[u8]) {
 }
 
 // How the command ended: done, or why not.
-fn ended(status: ExitStatus, cause: Option<String>, words: &[String]) -> Result<(), Error> {
-    match (status.code(), cause) {
-        (Some(0), None) => Ok(()),
-        (Some(1), Some(message)) => Err(Error::told(message)),
-        (Some(2), _) => Err(Error::new(
-            ErrorKind::InvalidArgument,
-            format!("cc_main doesn't take one of the words {words:?}"),
+fn ended(status: ExitStatus, cause: &[u8]) -> Result<(), Error> {
+    let text = String::from_utf8_lossy(cause);
+    let text = text.strip_suffix('\n').unwrap_or(&text);
+    match (status.code(), text.strip_prefix(CAUSE)) {
+        (Some(1), Some(message)) => return Err(Error::told(message.to_owned())),
+        (Some(2), None) if text.starts_with(WORD) => {
+            let message = format!("cc_main doesn't take its words: {text}");
+            return Err(Error::new(ErrorKind::InvalidArgument, message));
+        }
+        _ => pass_on(cause),
+    }
+    match status.code() {
+        Some(0) => Ok(()),
+        Some(3) => Err(Error::new(ErrorKind::IOError, "cc_main wants memory")),
+        _ => Err(Error::new(
+            ErrorKind::ToolExecError,
+            format!("cc_main ended with {status}"),
         )),
-        (Some(3), _) => Err(Error::new(ErrorKind::IOError, "cc_main wants memory")),
-        _ => Err(Error::new(ErrorKind::ToolExecError, format!("cc_main ended with {status}"))),
     }
 }

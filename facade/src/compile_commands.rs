@@ -58,8 +58,13 @@ impl Iterator for CompileCommands {
 
 /// The text of a compilation database with an entry for each of these commands, in order.
 #[must_use]
-pub fn json_compilation_database(commands: impl IntoIterator<Item = CompileCommand>) -> impl fmt::Display {
-    let entries: Vec<String> = commands.into_iter().map(|command| entry(&command)).collect();
+pub fn json_compilation_database(
+    commands: impl IntoIterator<Item = CompileCommand>,
+) -> impl fmt::Display {
+    let entries: Vec<String> = commands
+        .into_iter()
+        .map(|command| entry(&command))
+        .collect();
     match entries.is_empty() {
         true => "[\n]\n".to_owned(),
         false => format!("[\n{}\n]\n", entries.join(",\n")),
@@ -67,7 +72,10 @@ pub fn json_compilation_database(commands: impl IntoIterator<Item = CompileComma
 }
 
 fn entry(command: &CompileCommand) -> String {
-    let words: Vec<String> = command.arguments().map(|word| quoted(&word.to_string_lossy())).collect();
+    let words: Vec<String> = command
+        .arguments()
+        .map(|word| quoted(&word.to_string_lossy()))
+        .collect();
     let path = |path: &Path| quoted(&path.to_string_lossy());
     format!(
         "  {{\n    \"directory\": {},\n    \"file\": {},\n    \"arguments\": [{}],\n    \"output\": {}\n  }}",

@@ -15,8 +15,15 @@ pub(crate) struct Entry {
 /// Refused (`IOError`) where the text is none.
 pub(crate) fn entries(text: &str) -> Result<Vec<Entry>, Error> {
     let mut reader = Reader { rest: text };
-    let read = reader.database().filter(|_| reader.rest.trim_start().is_empty());
-    read.ok_or_else(|| Error::new(ErrorKind::IOError, "the compilation database of cc_main can't be read"))
+    let read = reader
+        .database()
+        .filter(|_| reader.rest.trim_start().is_empty());
+    read.ok_or_else(|| {
+        Error::new(
+            ErrorKind::IOError,
+            "the compilation database of cc_main can't be read",
+        )
+    })
 }
 
 struct Reader<'a> {
@@ -36,7 +43,12 @@ impl Reader<'_> {
     }
 
     // Items between two brackets, with a comma between.
-    fn items(&mut self, open: char, close: char, item: &mut dyn FnMut(&mut Self) -> Option<()>) -> Option<()> {
+    fn items(
+        &mut self,
+        open: char,
+        close: char,
+        item: &mut dyn FnMut(&mut Self) -> Option<()>,
+    ) -> Option<()> {
         if !self.takes(open) {
             return None;
         }
@@ -136,13 +148,23 @@ mod tests {
         "#;
         let read = entries(text).unwrap();
         assert_eq!(read[0].output, PathBuf::from("/a/q\"\\\té"));
-        assert_eq!((&*read[1].directory, &*read[1].output), ("/b".as_ref(), "o".as_ref()));
+        assert_eq!(
+            (&*read[1].directory, &*read[1].output),
+            ("/b".as_ref(), "o".as_ref())
+        );
         assert!(entries("[\n]\n").unwrap().is_empty());
     }
 
     #[test]
     fn another_text_is_refused() {
-        for text in ["", "[", "[{}]", r#"[{"directory": "a", "output": "b"}"#, r#"[] x"#, r#"[{"directory": "a", "output": "b}]"#] {
+        for text in [
+            "",
+            "[",
+            "[{}]",
+            r#"[{"directory": "a", "output": "b"}"#,
+            r#"[] x"#,
+            r#"[{"directory": "a", "output": "b}]"#,
+        ] {
             assert!(entries(text).is_err(), "{text}");
         }
     }

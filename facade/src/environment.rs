@@ -37,7 +37,15 @@ impl Environment {
 
     /// Gives a command these variables and no others.
     pub(crate) fn apply(&self, command: &mut Command) {
-        command.env_clear().envs(self.variables().iter().map(|(name, value)| (name, value)));
+        command
+            .env_clear()
+            .envs(self.variables().iter().map(|(name, value)| (name, value)));
+    }
+}
+
+impl PartialEq for Environment {
+    fn eq(&self, other: &Environment) -> bool {
+        self.variables() == other.variables()
     }
 }
 

@@ -41,27 +41,59 @@ impl Error {
 /// How the command's messages of one kind begin. What stands in none of them names a call of the machine that failed.
 const BEGINNINGS: &[(&str, ErrorKind)] = &[
     ("failed to find tool ", ErrorKind::ToolNotFound),
-    ("command did not execute successfully", ErrorKind::ToolExecError),
+    (
+        "command did not execute successfully",
+        ErrorKind::ToolExecError,
+    ),
     ("command \"", ErrorKind::ToolExecError),
-    ("failed to wait for running commands", ErrorKind::ToolExecError),
+    (
+        "failed to wait for running commands",
+        ErrorKind::ToolExecError,
+    ),
     ("turns spent", ErrorKind::ToolExecError),
     ("environment variable ", ErrorKind::EnvVarNotFound),
-    ("could not find environment variable ", ErrorKind::EnvVarNotFound),
+    (
+        "could not find environment variable ",
+        ErrorKind::EnvVarNotFound,
+    ),
     ("unknown target ", ErrorKind::UnknownTarget),
-    ("Unknown architecture for Neutrino QNX: ", ErrorKind::InvalidTarget),
-    ("cc has been disabled by CC_FORCE_DISABLE", ErrorKind::Disabled),
-    ("argument must be a single normal path component", ErrorKind::InvalidArgument),
+    (
+        "Unknown architecture for Neutrino QNX: ",
+        ErrorKind::InvalidTarget,
+    ),
+    (
+        "cc has been disabled by CC_FORCE_DISABLE",
+        ErrorKind::Disabled,
+    ),
+    (
+        "argument must be a single normal path component",
+        ErrorKind::InvalidArgument,
+    ),
     ("out dir must not be empty", ErrorKind::InvalidArgument),
-    ("No file_name for object file path!", ErrorKind::InvalidArgument),
+    (
+        "No file_name for object file path!",
+        ErrorKind::InvalidArgument,
+    ),
     ("two sources have the object ", ErrorKind::InvalidArgument),
     ("the added object ", ErrorKind::InvalidArgument),
-    ("libtool can't read the object path ", ErrorKind::InvalidArgument),
-    ("expected the path of a library lib<name>.a", ErrorKind::InvalidArgument),
-    ("Expand may only be called for a single file", ErrorKind::InvalidArgument),
+    (
+        "libtool can't read the object path ",
+        ErrorKind::InvalidArgument,
+    ),
+    (
+        "expected the path of a library lib<name>.a",
+        ErrorKind::InvalidArgument,
+    ),
+    (
+        "Expand may only be called for a single file",
+        ErrorKind::InvalidArgument,
+    ),
 ];
 
 fn kind_of(message: &str) -> ErrorKind {
-    let known = BEGINNINGS.iter().find(|(beginning, _)| message.starts_with(beginning));
+    let known = BEGINNINGS
+        .iter()
+        .find(|(beginning, _)| message.starts_with(beginning));
     match known {
         Some((_, kind)) => *kind,
         None if message.ends_with(" must have a value") => ErrorKind::InvalidFlag,

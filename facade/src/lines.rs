@@ -2,7 +2,7 @@
 
 use std::collections::BTreeSet;
 use std::io::{self, Write};
-use std::sync::Mutex;
+use std::sync::{Mutex, PoisonError};
 
 const RERUN: &[u8] = b"cargo:rerun-if-env-changed=";
 const LIBRARY: &[u8] = b"cargo:rustc-link-lib=";
@@ -11,7 +11,9 @@ const FLAGS: &[u8] = b"cargo:rustc-flags=";
 
 /// Whether the line says how Cargo links something.
 pub(crate) fn is_link(line: &[u8]) -> bool {
-    [LIBRARY, SEARCH, FLAGS].iter().any(|beginning| line.starts_with(beginning))
+    [LIBRARY, SEARCH, FLAGS]
+        .iter()
+        .any(|beginning| line.starts_with(beginning))
 }
 
 /// The variable for which Cargo is to run the script again, where the line is of that sort.
@@ -40,7 +42,9 @@ pub(crate) struct Told {
 }
 
 fn is_new<T: Ord>(told: &Mutex<BTreeSet<T>>, value: T) -> bool {
-    told.lock().unwrap_or_else(|poisoned| poisoned.into_inner()).insert(value)
+    told.lock()
+        .unwrap_or_else(PoisonError::into_inner)
+        .insert(value)
 }
 
 impl Told {
@@ -62,7 +66,8 @@ impl Told {
     pub(crate) fn tell_links(&self, lines: &[Vec<u8>]) -> io::Result<()> {
         let mut beside = false;
         for line in lines {
-            let told = beside && sole_library(line).is_some_and(|it| !is_new(&self.libraries, it.to_vec()));
+            let told = beside
+                && sole_library(line).is_some_and(|it| !is_new(&self.libraries, it.to_vec()));
             if !told {
                 self.tell(line)?;
             }

@@ -4,9 +4,12 @@ use crate::build::Build;
 use crate::error::{fail, unsaid, Error};
 use crate::words::Words;
 use std::path::{Path, PathBuf};
+use std::sync::PoisonError;
 
 // What links nothing: settings of sources, objects and the archiver.
-const ELSEWHERE: &[&str] = &["file", "object", "archiver", "ranlib", "ar_flag", "asm_flag"];
+const ELSEWHERE: &[&str] = &[
+    "file", "object", "archiver", "ranlib", "ar_flag", "asm_flag",
+];
 
 /// The link lines of a library that a build archived.
 #[derive(Debug)]
@@ -19,7 +22,11 @@ pub(crate) struct Held {
 impl Held {
     pub(crate) fn new(library: PathBuf, words: &Words, lines: Vec<Vec<u8>>) -> Held {
         let words = words.without(ELSEWHERE);
-        Held { library, words, lines }
+        Held {
+            library,
+            words,
+            lines,
+        }
     }
 
     fn is_of(&self, library: &Path, words: &Words) -> bool {
@@ -44,10 +51,16 @@ pub fn emit_link_directives<P: AsRef<Path>>(build: &Build, library: P) {
 /// it has: another ends the script (status 101). Refused (`IOError`) where standard output takes nothing.
 pub fn try_emit_link_directives<P: AsRef<Path>>(build: &Build, library: P) -> Result<(), Error> {
     let words = build.words.without(ELSEWHERE);
-    let held = build.held.lock().unwrap_or_else(|poisoned| poisoned.into_inner());
-    let found = held.iter().rev().find(|held| held.is_of(library.as_ref(), &words));
+    let held = build.held.lock().unwrap_or_else(PoisonError::into_inner);
+    let found = held
+        .iter()
+        .rev()
+        .find(|held| held.is_of(library.as_ref(), &words));
     match found {
         Some(held) => Ok(build.told.tell_links(&held.lines)?),
-        None => unsaid("emit_link_directives", "this build, with these settings, didn't archive that library"),
+        None => unsaid(
+            "emit_link_directives",
+            "this build, with these settings, didn't archive that library",
+        ),
     }
 }

@@ -112,10 +112,17 @@ impl Build {
     /// # Panics
     ///
     /// Where the first has a `=`.
-    pub fn remap_source_path<P: AsRef<Path>, Q: AsRef<Path>>(&mut self, from: P, to: Q) -> &mut Build {
+    pub fn remap_source_path<P: AsRef<Path>, Q: AsRef<Path>>(
+        &mut self,
+        from: P,
+        to: Q,
+    ) -> &mut Build {
         let from = from.as_ref();
         let shown = from.to_string_lossy();
-        assert!(!shown.contains('='), "remap_source_path: the first path has a '=': {shown}");
+        assert!(
+            !shown.contains('='),
+            "remap_source_path: the first path has a '=': {shown}"
+        );
         let mut value = from.as_os_str().to_owned();
         value.push("=");
         value.push(to.as_ref());
@@ -159,7 +166,8 @@ impl Build {
         V: AsRef<OsStr>,
     {
         let variables = variables.into_iter();
-        let owned = variables.map(|(name, value)| (name.as_ref().to_owned(), value.as_ref().to_owned()));
+        let owned =
+            variables.map(|(name, value)| (name.as_ref().to_owned(), value.as_ref().to_owned()));
         self.environment = crate::environment::Environment::of(owned);
         self
     }

@@ -1,6 +1,10 @@
 //! What `cc_main show` prints: the family of the compiler, and the commands of compiler, archiver and ranlib.
 
+use crate::environment::Environment;
 use crate::error::{Error, ErrorKind};
+use crate::lines::rerun_name;
+use crate::words::Words;
+use std::sync::{Mutex, PoisonError};
 
 /// The family of a compiler.
 #[derive(Clone, Copy, Debug, PartialEq, Eq)]
@@ -11,7 +15,7 @@ pub(crate) enum ToolFamily {
 }
 
 /// The tools of a build. Each command has its program first.
-#[derive(Debug)]
+#[derive(Clone, Debug)]
 pub(crate) struct Shown {
     pub(crate) family: ToolFamily,
     pub(crate) compiler: Vec<String>,
@@ -27,7 +31,10 @@ impl Shown {
     /// Refused (`ToolExecError`) where they aren't such lines.
     pub(crate) fn read(mut lines: Vec<Vec<u8>>) -> Result<Shown, Error> {
         let tools = lines.split_off(lines.len().saturating_sub(4));
-        let tools: Option<Vec<&str>> = tools.iter().map(|line| std::str::from_utf8(line).ok()?.strip_suffix('\n')).collect();
+        let tools: Option<Vec<&str>> = tools
+            .iter()
+            .map(|line| std::str::from_utf8(line).ok()?.strip_suffix('\n'))
+            .collect();
         match tools.as_deref() {
             Some([family, compiler, archiver, ranlib]) => {
                 let shown = || {
@@ -46,8 +53,34 @@ impl Shown {
     }
 }
 
+/// What the command showed a build and its clones, for which words and variables.
+#[derive(Debug, Default)]
+pub(crate) struct Answers(Mutex<Vec<(Words, Environment, Shown)>>);
+
+impl Answers {
+    /// What was shown for these words and variables. Of what was printed before it has the names of variables alone.
+    pub(crate) fn find(&self, words: &Words, environment: &Environment) -> Option<Shown> {
+        let answers = self.0.lock().unwrap_or_else(PoisonError::into_inner);
+        let found = answers
+            .iter()
+            .find(|(said, variables, _)| said == words && variables == environment);
+        found.map(|(_, _, shown)| shown.clone())
+    }
+
+    /// Keeps what was shown.
+    pub(crate) fn keep(&self, words: &Words, environment: &Environment, shown: &Shown) {
+        let mut shown = shown.clone();
+        shown.before.retain(|line| rerun_name(line).is_some());
+        let mut answers = self.0.lock().unwrap_or_else(PoisonError::into_inner);
+        answers.push((words.clone(), environment.clone(), shown));
+    }
+}
+
 fn unreadable() -> Error {
-    Error::new(ErrorKind::ToolExecError, "what cc_main shows of the tools can't be read")
+    Error::new(
+        ErrorKind::ToolExecError,
+        "what cc_main shows of the tools can't be read",
+    )
 }
 
 fn family_of(name: &str) -> Option<ToolFamily> {
@@ -103,7 +136,9 @@ mod tests {
     use super::*;
 
     fn lines(text: &str) -> Vec<Vec<u8>> {
-        text.split_inclusive('\n').map(|line| line.as_bytes().to_vec()).collect()
+        text.split_inclusive('\n')
+            .map(|line| line.as_bytes().to_vec())
+            .collect()
     }
 
     #[test]
@@ -126,7 +161,11 @@ mod tests {
             "family Gnu\ncompiler \"cc\narchiver \"ar\"\nranlib \"r\"\n",
             "family Gnu\ncompiler \"cc\"\narchiver \"ar\"\nranlib \"r\"",
         ] {
-            assert_eq!(Shown::read(lines(text)).unwrap_err().kind, ErrorKind::ToolExecError, "{text}");
+            assert_eq!(
+                Shown::read(lines(text)).unwrap_err().kind,
+                ErrorKind::ToolExecError,
+                "{text}"
+            );
         }
     }
 }

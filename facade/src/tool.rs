@@ -23,12 +23,23 @@ pub struct Tool {
 }
 
 // The names of wrappers, behind which a variable names the compiler.
-const WRAPPERS: &[&str] = &["ccache", "distcc", "sccache", "icecc", "cachepot", "buildcache", "kache"];
+const WRAPPERS: &[&str] = &[
+    "ccache",
+    "distcc",
+    "sccache",
+    "icecc",
+    "cachepot",
+    "buildcache",
+    "kache",
+];
 
 impl Tool {
     /// The compiler that is shown for a build, for which these variables were read.
     pub(crate) fn of(build: &Build, shown: &Shown, read: &[&str]) -> Tool {
-        let (program, words) = shown.compiler.split_first().expect("a command that is shown has a program");
+        let (program, words) = shown
+            .compiler
+            .split_first()
+            .expect("a command that is shown has a program");
         let mut variables = vec![("LC_ALL".into(), "C".into())];
         for word in build.words.values("env") {
             variables.push(cut(word));
@@ -50,7 +61,11 @@ impl Tool {
         let mut command = Command::new(&self.program);
         command.args(&self.words);
         self.environment.apply(&mut command);
-        command.envs(self.variables("Tool::to_command").iter().map(|(name, value)| (name, value)));
+        command.envs(
+            self.variables("Tool::to_command")
+                .iter()
+                .map(|(name, value)| (name, value)),
+        );
         command
     }
 
@@ -69,8 +84,12 @@ impl Tool {
     /// The variables that it gets beside those of the script, in order: of one name the last counts.
     ///
     /// Of one for Visual Studio they aren't shown: the call ends the script (status 101).
-    pub fn get_envs(&self) -> impl ExactSizeIterator<Item = (&OsStr, &OsStr)> + DoubleEndedIterator {
-        self.variables("Tool::get_envs").iter().map(|(name, value)| (name.as_os_str(), value.as_os_str()))
+    pub fn get_envs(
+        &self,
+    ) -> impl ExactSizeIterator<Item = (&OsStr, &OsStr)> + DoubleEndedIterator {
+        self.variables("Tool::get_envs")
+            .iter()
+            .map(|(name, value)| (name.as_os_str(), value.as_os_str()))
     }
 
     /// As [`get_envs`](Tool::get_envs), which has its place.
@@ -111,14 +130,20 @@ impl Tool {
     /// Whether it is Clang that takes the words of `cl.exe`. Of one that takes them it isn't shown: the call ends the script (status 101).
     pub fn is_like_clang_cl(&self) -> bool {
         if self.is_like_msvc() {
-            unsaid("Tool::is_like_clang_cl", "it doesn't show which compiler for Visual Studio this is");
+            unsaid(
+                "Tool::is_like_clang_cl",
+                "it doesn't show which compiler for Visual Studio this is",
+            );
         }
         false
     }
 
     fn variables(&self, call: &str) -> &[(OsString, OsString)] {
         if self.is_like_msvc() {
-            unsaid(call, "it doesn't show the variables of a compiler for Visual Studio");
+            unsaid(
+                call,
+                "it doesn't show the variables of a compiler for Visual Studio",
+            );
         }
         &self.variables
     }
@@ -144,13 +169,27 @@ fn lead_of(build: &Build, program: &str, read: &[&str]) -> Option<usize> {
     if build.words.last("compiler").is_some() {
         return Some(0);
     }
-    let setting = if build.words.last("cpp") == Some(OsStr::new("true")) { "CXX" } else { "CC" };
+    let setting = if build.words.last("cpp") == Some(OsStr::new("true")) {
+        "CXX"
+    } else {
+        "CC"
+    };
     let names = names_of(setting, build.target_name());
     let read = names.iter().filter(|name| read.contains(&name.as_str()));
-    let value = read.filter_map(|name| environment.get(name)).next().map(OsStr::to_string_lossy).unwrap_or_default();
+    let value = read
+        .filter_map(|name| environment.get(name))
+        .next()
+        .map(OsStr::to_string_lossy)
+        .unwrap_or_default();
     let value = value.trim();
-    let words: Vec<&str> = if value == program { vec![value] } else { value.split_whitespace().collect() };
-    let in_wrapper = environment.get("RUSTC_WRAPPER").is_some_and(|wrapper| wrapper == program);
+    let words: Vec<&str> = if value == program {
+        vec![value]
+    } else {
+        value.split_whitespace().collect()
+    };
+    let in_wrapper = environment
+        .get("RUSTC_WRAPPER")
+        .is_some_and(|wrapper| wrapper == program);
     match words.as_slice() {
         [] => (!in_wrapper).then_some(0),
         [first, behind @ ..] => {
@@ -161,7 +200,16 @@ fn lead_of(build: &Build, program: &str, read: &[&str]) -> Option<usize> {
 }
 
 fn is_wrapper(environment: &Environment, program: &str) -> bool {
-    let stem = Path::new(program).file_stem().and_then(OsStr::to_str).unwrap_or("");
-    let own = environment.get("CC_KNOWN_WRAPPER_CUSTOM").and_then(OsStr::to_str);
-    WRAPPERS.iter().copied().chain(own).any(|name| name.eq_ignore_ascii_case(stem))
+    let stem = Path::new(program)
+        .file_stem()
+        .and_then(OsStr::to_str)
+        .unwrap_or("");
+    let own = environment
+        .get("CC_KNOWN_WRAPPER_CUSTOM")
+        .and_then(OsStr::to_str);
+    WRAPPERS
+        .iter()
+        .copied()
+        .chain(own)
+        .any(|name| name.eq_ignore_ascii_case(stem))
 }

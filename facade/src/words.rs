@@ -49,12 +49,21 @@ impl Words {
     }
 
     fn chosen(&self, choice: impl Fn(&str) -> bool) -> Words {
-        Words(self.0.iter().filter(|word| choice(word.key)).cloned().collect())
+        Words(
+            self.0
+                .iter()
+                .filter(|word| choice(word.key))
+                .cloned()
+                .collect(),
+        )
     }
 
     /// The values of a key, in order.
     pub(crate) fn values(&self, key: &'static str) -> impl Iterator<Item = &OsStr> {
-        self.0.iter().filter(move |word| word.key == key).map(|word| word.value.as_os_str())
+        self.0
+            .iter()
+            .filter(move |word| word.key == key)
+            .map(|word| word.value.as_os_str())
     }
 
     /// The value that counts of a key whose last word does.
@@ -80,7 +89,10 @@ fn argument(word: &Word) -> Result<String, Error> {
         Some(value) => Ok(format!("{}={value}", word.key)),
         None => Err(Error::new(
             ErrorKind::InvalidArgument,
-            format!("`{}` was given {:?}, which is not UTF-8", word.key, word.value),
+            format!(
+                "`{}` was given {:?}, which is not UTF-8",
+                word.key, word.value
+            ),
         )),
     }
 }
