@@ -66,10 +66,10 @@ fn main() {
             build.cpp(true).cpp_link_stdlib_static(true).compile("one");
             build.clone().compile("two");
         }
-        "expand" => print!(
-            "{}",
-            String::from_utf8(Build::new().file("src/a.c").expand()).unwrap()
-        ),
+        "expand" => {
+            let source = Build::new().file("src/a.c").expand();
+            eprint!("{}", String::from_utf8(source).unwrap());
+        }
         "expand_two" => told(two().try_expand()),
         "supported" => {
             let build = two();
@@ -86,6 +86,7 @@ fn main() {
             let mut build = two();
             told(build.try_flags_from_environment("NONE_SUCH").map(drop));
             told(build.try_flags_from_environment("MY_FLAGS").map(drop));
+            told(build.try_flags_from_environment("OTHER_FLAGS").map(drop));
             build.no_default_flags(true);
             eprintln!("{:?}", build.get_compiler().args());
         }

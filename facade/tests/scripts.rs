@@ -217,9 +217,12 @@ fn a_source_is_expanded() {
     let room = Room::new();
     let ran = script(&room, "expand", &[]);
     done(&ran);
+    assert_eq!(heard(&ran), "int a;\n");
     let text = String::from_utf8(ran.stdout).unwrap();
-    assert!(text.ends_with("\nint a;\n"), "{text}");
-    assert_eq!(text.matches("int a;").count(), 1, "{text}");
+    assert!(
+        text.contains("cargo:rerun-if-env-changed=CFLAGS\n") && !text.contains("int a;"),
+        "{text}"
+    );
 }
 
 // A flag that the target gives anyway is one that is taken.
@@ -231,6 +234,14 @@ fn a_flag_is_supported_where_the_compiler_is_silent_and_done() {
     let wanted =
         "-ffine true\n--shim-err=no false\n--shim-status=1 false\n-ffunction-sections true\n";
     assert_eq!(heard(&ran), wanted);
+    // (one that a variable gives is not supported for that)
+    let ran = script(
+        &room,
+        "supported",
+        &[("CFLAGS", Path::new("--shim-status=1"))],
+    );
+    done(&ran);
+    assert!(!heard(&ran).contains("true"), "{}", heard(&ran));
 }
 
 #[test]
@@ -240,11 +251,12 @@ fn flags_come_from_a_variable_and_those_of_target_and_host() {
         ("MY_FLAGS", Path::new("-DA  -DB")),
         ("MY_FLAGS_x86_64_unknown_linux_gnu", Path::new("-DD")),
         ("HOST_MY_FLAGS", Path::new("-DC")),
+        ("OTHER_FLAGS_x86_64-unknown-linux-gnu", Path::new("-DE")),
         ("RANLIBFLAGS", Path::new("-DNONE")),
     ];
     let ran = script(&room, "from_variable", &variables);
     done(&ran);
-    let wanted = "EnvVarNotFound: could not find environment variable NONE_SUCH\ndone\n[\"-Wall\", \"-Wextra\", \"-DA\", \"-DB\", \"-DC\", \"-DD\"]\n";
+    let wanted = "EnvVarNotFound: could not find environment variable NONE_SUCH\ndone\ndone\n[\"-Wall\", \"-Wextra\", \"-DA\", \"-DB\", \"-DC\", \"-DD\", \"-DE\"]\n";
     assert_eq!(heard(&ran), wanted);
     let text = String::from_utf8(ran.stdout).unwrap();
     for name in ["NONE_SUCH", "MY_FLAGS", "HOST_MY_FLAGS"] {
@@ -391,6 +403,7 @@ fn a_command_of_another_version_is_refused() {
         "echo 'cc_main 0.1.0, a port of cc 1.11.0'",
         "printf 'cc_main 0.1.0, a port of cc 1.11.1'",
         "exit 3",
+        "echo 'cc_main 0.1.0, a port of cc 1.11.1'; exit 3",
         "kill -9 $$",
     ] {
         let room = Room::new();

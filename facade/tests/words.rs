@@ -17,7 +17,7 @@ fn note_words() {
     NOTER.get_or_init(|| {
         let room = Room::new();
         let lines =
-            "test -z \"$NOTED\" || printf '%s\\0' \"$@\" >>\"$NOTED\"\nexec \"$BUILT\" \"$@\"";
+            "test -z \"$NOTED\" || { printf '%s\\0' \"$@\" >>\"$NOTED\"; env >\"$NOTED.env\"; }\nexec \"$BUILT\" \"$@\"";
         env::set_var("CC_MAIN", room.command(lines));
         room
     });
@@ -329,6 +329,48 @@ fn a_clone_goes_its_own_way() {
     assert_eq!(noted(&room), ["flag=-DA", "flag=-DC"]);
     second.try_compile("foo").unwrap();
     assert_eq!(noted(&room), ["flag=-DA", "flag=-DB"]);
+}
+
+// Those of the call come first, and behind them those of the build.
+#[test]
+fn an_archive_has_the_objects_of_the_call_and_then_the_added_ones() {
+    let room = Room::new();
+    let mut build = build(&room);
+    let library = room.path("out/libfoo.a");
+    assert_eq!(build.try_compile_intermediates().unwrap().len(), 1);
+    build.object("added.o");
+    for name in ["foo", "libfoo.a"] {
+        let made = build.try_create_archive(name, ["1.o", "2.o"]).unwrap();
+        assert_eq!(made, library);
+        assert_eq!(fs::read_to_string(&library).unwrap(), "1.o\n2.o\nadded.o\n");
+        fs::remove_file(&library).unwrap();
+    }
+}
+
+#[test]
+fn a_snapshot_stands_in_place_of_the_variables_of_the_script() {
+    let room = Room::new();
+    let mut build = build(&room);
+    env::set_var("LEFT_OUT", "1");
+    let noted = room.path("noted");
+    let variables = [("PATH", "/bin"), ("PATH", "/usr/bin:/bin"), ("A", "1=2")];
+    let ours = [("NOTED", noted.to_str().unwrap()), ("BUILT", "/bin/true")];
+    build.set_envs_snapshot(variables.into_iter().chain(ours));
+    build.try_compile("foo").unwrap();
+    let text = room.read("noted.env");
+    let names = text
+        .lines()
+        .filter_map(|line| line.split_once('='))
+        .map(|(name, _)| name);
+    let mut names: Vec<&str> = names
+        .filter(|name| !["PWD", "OLDPWD", "SHLVL", "_"].contains(name))
+        .collect();
+    names.sort_unstable();
+    assert_eq!(names, ["A", "BUILT", "NOTED", "PATH"]);
+    assert!(
+        text.contains("PATH=/usr/bin:/bin\n") && text.contains("A=1=2\n"),
+        "{text}"
+    );
 }
 
 #[test]
