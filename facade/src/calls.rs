@@ -1,17 +1,17 @@
 //! The calls that build something.
 
 use crate::build::Build;
-use crate::command::{run, Request};
+use crate::command::{run, Hearing, Request};
 use crate::database;
 use crate::environment::names_of;
 use crate::error::{fail, Error, ErrorKind};
-use crate::lines::{is_link, rerun_name};
+use crate::lines::{check_whole, is_link, rerun_name};
 use crate::link::Held;
 use crate::words::Words;
 use std::path::{Path, PathBuf};
 use std::sync::atomic::{AtomicU32, Ordering};
 use std::sync::PoisonError;
-use std::{env, fs, io, process};
+use std::{env, fs, process};
 
 // The library of a run of which the objects alone are wanted.
 const OBJECTS_ALONE: &str = "cc_objects_alone";
@@ -34,7 +34,7 @@ impl Build {
     /// `Disabled`, `IOError` and others. No link line is told then.
     pub fn try_compile(&self, output: &str) -> Result<(), Error> {
         let links = self.run_to_links(&["compile", output], &self.words, &mut |_| true)?;
-        Ok(self.told.tell_links(&links)?)
+        self.told.tell_links(&links)
     }
 
     /// Compiles the sources, and answers their objects, in the order of the sources.
@@ -174,19 +174,14 @@ impl Build {
         Ok(source)
     }
 
-    fn tell_if_told(&self, line: &[u8]) -> io::Result<()> {
+    fn tell_if_told(&self, line: &[u8]) -> Result<(), Error> {
         match self.tells_names() {
             true => self.told.tell(line),
             false => Ok(()),
         }
     }
 
-    fn run(
-        &self,
-        first: &[&str],
-        words: &Words,
-        hear: &mut dyn FnMut(&[u8]) -> io::Result<()>,
-    ) -> Result<(), Error> {
+    fn run(&self, first: &[&str], words: &Words, hear: &mut Hearing<'_>) -> Result<(), Error> {
         let environment = &self.environment;
         run(
             &Request {
@@ -207,6 +202,7 @@ impl Build {
     ) -> Result<Vec<Vec<u8>>, Error> {
         let mut links: Vec<Vec<u8>> = Vec::new();
         self.run(first, words, &mut |line| {
+            check_whole(line)?;
             if !choice(line) {
                 return Ok(());
             }

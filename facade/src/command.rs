@@ -2,7 +2,6 @@
 
 use crate::environment::Environment;
 use crate::error::{Error, ErrorKind};
-use crate::lines;
 use crate::words::Words;
 use std::io::{self, BufRead, BufReader, PipeReader, PipeWriter, Write};
 use std::path::{Path, PathBuf};
@@ -80,6 +79,9 @@ fn unstarted(path: &Path, error: &io::Error) -> Error {
     Error::new(kind, message)
 }
 
+/// What is done with each line of an output. Once it is refused, no further line is heard.
+pub(crate) type Hearing<'a> = dyn FnMut(&[u8]) -> Result<(), Error> + 'a;
+
 /// What the command is asked for: its first words, and those of a build.
 pub(crate) struct Request<'a> {
     pub(crate) first: &'a [&'a str],
@@ -90,18 +92,15 @@ pub(crate) struct Request<'a> {
 /// Runs the command. Each line of its standard output is heard as it comes, with its line feed, and so are the bytes behind the last one.
 /// What it says on standard error is passed on, but for the line of its refusal, which is the error.
 ///
-/// Refused as the command refuses, where it ends in another way, and where its output ends within a line for Cargo. A process that its
-/// tools left behind isn't waited for.
-pub(crate) fn run(
-    request: &Request<'_>,
-    hear: &mut dyn FnMut(&[u8]) -> io::Result<()>,
-) -> Result<(), Error> {
+/// Refused as the command refuses, where it ends in another way, and else as hearing was. A process that its tools left behind isn't waited
+/// for.
+pub(crate) fn run(request: &Request<'_>, hear: &mut Hearing<'_>) -> Result<(), Error> {
     let path = command()?;
     let words = request.words.arguments()?;
     let (out, mut out_end) = io::pipe()?;
     let (err, mut err_end) = io::pipe()?;
     let mut command = Command::new(path);
-    command.args(request.first).args(words).stdin(Stdio::null());
+    command.args(request.first).args(words);
     request.environment.apply(&mut command);
     command
         .stdout(out_end.try_clone()?)
@@ -122,15 +121,8 @@ pub(crate) fn run(
         let heard = each_line(out, mark, hear);
         (heard, join(cause), join(status))
     });
-    let half = heard?;
     ended(status?, &cause?)?;
-    match half {
-        true => Err(Error::new(
-            ErrorKind::ToolExecError,
-            "the output of cc_main ends within a line",
-        )),
-        false => Ok(()),
-    }
+    heard
 }
 
 fn join<T>(thread: thread::ScopedJoinHandle<'_, T>) -> T {
@@ -154,14 +146,8 @@ fn end(pipe: &mut PipeWriter, mark: &[u8]) -> io::Result<()> {
     pipe.write_all(mark)
 }
 
-// Hears each line, up to the mark. Whether the last is a part of a line for Cargo, which isn't heard.
-//
-// Once hearing failed, the rest is read all the same, so that the command isn't held up.
-fn each_line(
-    pipe: PipeReader,
-    mark: &[u8],
-    hear: &mut dyn FnMut(&[u8]) -> io::Result<()>,
-) -> io::Result<bool> {
+// Hears each line, up to the mark. Once that is refused the rest is read all the same, so that the command isn't held up.
+fn each_line(pipe: PipeReader, mark: &[u8], hear: &mut Hearing<'_>) -> Result<(), Error> {
     let mut pipe = BufReader::new(pipe);
     let mut line = Vec::new();
     let mut answer = Ok(());
@@ -170,20 +156,17 @@ fn each_line(
         let count = pipe.read_until(b'\n', &mut line)?;
         let rest = line.strip_suffix(mark);
         let piece = rest.unwrap_or(&line);
-        if lines::is_half(piece) {
-            return answer.map(|()| true);
-        }
         if answer.is_ok() && !piece.is_empty() {
             answer = hear(piece);
         }
         if count == 0 || rest.is_some() {
-            return answer.map(|()| false);
+            return answer;
         }
     }
 }
 
 // What the command told of its refusal, from the last line that may begin that to the end. All else is passed on.
-fn cause_of(pipe: PipeReader, mark: &[u8]) -> io::Result<Vec<u8>> {
+fn cause_of(pipe: PipeReader, mark: &[u8]) -> Result<Vec<u8>, Error> {
     let mut held = Vec::new();
     each_line(pipe, mark, &mut |line| {
         let begins = [CAUSE, WORD]

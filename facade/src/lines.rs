@@ -1,5 +1,6 @@
 //! The lines that the command prints: which are for Cargo's linker and which name a variable, and who was told of them.
 
+use crate::error::{Error, ErrorKind};
 use std::collections::BTreeSet;
 use std::io::{self, Write};
 use std::sync::{Mutex, PoisonError};
@@ -22,10 +23,14 @@ pub(crate) fn rerun_name(line: &[u8]) -> Option<&str> {
     std::str::from_utf8(name).ok().map(str::trim_end)
 }
 
-/// Whether the bytes are a part of a line for Cargo whose end is missing.
-pub(crate) fn is_half(piece: &[u8]) -> bool {
+/// Refuses (`ToolExecError`) a part of a line for Cargo whose end is missing.
+pub(crate) fn check_whole(piece: &[u8]) -> Result<(), Error> {
     let beginning = &b"cargo:"[..piece.len().min(6)];
-    !piece.is_empty() && !piece.ends_with(b"\n") && piece.starts_with(beginning)
+    if piece.starts_with(beginning) && !piece.ends_with(b"\n") {
+        let message = "the output of cc_main ends within a line";
+        return Err(Error::new(ErrorKind::ToolExecError, message));
+    }
+    Ok(())
 }
 
 // The library of a line of which rustc takes no second: one with modifiers, as `static:-bundle=stdc++`.
@@ -49,21 +54,21 @@ fn is_new<T: Ord>(told: &Mutex<BTreeSet<T>>, value: T) -> bool {
 
 impl Told {
     /// Passes a line on as it is, but for a variable that was told of before.
-    pub(crate) fn tell(&self, line: &[u8]) -> io::Result<()> {
+    pub(crate) fn tell(&self, line: &[u8]) -> Result<(), Error> {
         match rerun_name(line) {
             Some(name) if !is_new(&self.names, name.to_owned()) => Ok(()),
-            _ => print(line),
+            _ => Ok(print(line)?),
         }
     }
 
     /// Tells of a variable, once.
-    pub(crate) fn tell_name(&self, name: &str) -> io::Result<()> {
+    pub(crate) fn tell_name(&self, name: &str) -> Result<(), Error> {
         self.tell(&[RERUN, name.as_bytes(), b"\n"].concat())
     }
 
     /// Passes link lines on, with what stands behind them. Behind the folder come the libraries that are linked too; those with modifiers
     /// are told once.
-    pub(crate) fn tell_links(&self, lines: &[Vec<u8>]) -> io::Result<()> {
+    pub(crate) fn tell_links(&self, lines: &[Vec<u8>]) -> Result<(), Error> {
         let mut beside = false;
         for line in lines {
             let told = beside
@@ -77,8 +82,8 @@ impl Told {
     }
 }
 
-/// Prints bytes on standard output.
-pub(crate) fn print(bytes: &[u8]) -> io::Result<()> {
+// Prints bytes on standard output.
+fn print(bytes: &[u8]) -> io::Result<()> {
     let mut out = io::stdout().lock();
     out.write_all(bytes)
 }

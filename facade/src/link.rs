@@ -57,7 +57,7 @@ pub fn try_emit_link_directives<P: AsRef<Path>>(build: &Build, library: P) -> Re
         .rev()
         .find(|held| held.is_of(library.as_ref(), &words));
     match found {
-        Some(held) => Ok(build.told.tell_links(&held.lines)?),
+        Some(held) => build.told.tell_links(&held.lines),
         None => unsaid(
             "emit_link_directives",
             "this build, with these settings, didn't archive that library",

@@ -121,3 +121,22 @@ pub fn cargo_lines(output: &Output) -> Vec<String> {
 pub fn heard(output: &Output) -> String {
     String::from_utf8_lossy(&output.stderr).into_owned()
 }
+
+/// The out dir of a room.
+pub fn out(room: &Room) -> String {
+    room.path("out").display().to_string()
+}
+
+/// The link lines of a library in a folder.
+pub fn links(name: &str, folder: &str) -> Vec<String> {
+    vec![
+        format!("cargo:rustc-link-lib=static={name}"),
+        format!("cargo:rustc-link-search=native={folder}"),
+    ]
+}
+
+/// Asserts that a script ended with status 0.
+#[track_caller]
+pub fn done(output: &Output) {
+    assert_eq!(output.status.code(), Some(0), "{}", heard(output));
+}
