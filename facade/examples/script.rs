@@ -60,6 +60,7 @@ fn main() {
             println!("cargo:warning=archived");
             cc::emit_link_directives(&build, &library);
         }
+        "no_source" => eprintln!("{:?}", Build::new().compile_intermediates()),
         "relative" => eprintln!("{:?}", two().out_dir("rel").compile_intermediates()),
         "once" => {
             let mut build = two();

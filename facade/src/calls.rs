@@ -237,11 +237,12 @@ impl Build {
         }
     }
 
-    // The path of a database, which no other call has.
+    // The path of a database, which no other call has. (where there is no source, the command makes no folder)
     fn scratch(&self) -> PathBuf {
         static COUNT: AtomicU32 = AtomicU32::new(0);
         let count = COUNT.fetch_add(1, Ordering::Relaxed);
-        let folder = self.folder().unwrap_or_else(env::temp_dir);
+        let folder = self.folder().filter(|folder| folder.is_dir());
+        let folder = folder.unwrap_or_else(env::temp_dir);
         folder.join(format!("cc_database_{}_{count}.json", process::id()))
     }
 }

@@ -159,6 +159,7 @@ mod tests {
             "family Gnu\n",
             "family Other\ncompiler \"cc\"\narchiver \"ar\"\nranlib \"r\"\n",
             "family Gnu\ncompiler \"cc\narchiver \"ar\"\nranlib \"r\"\n",
+            "family Gnu\ncompiler \"cc\"x\narchiver \"ar\"\nranlib \"r\"\n",
             "family Gnu\ncompiler \"cc\"\narchiver \"ar\"\nranlib \"r\"",
         ] {
             assert_eq!(

@@ -196,6 +196,14 @@ fn objects_are_told_as_the_out_dir_is() {
 }
 
 #[test]
+fn no_source_has_no_object() {
+    let room = Room::new();
+    let ran = script(&room, "no_source", &[]);
+    done(&ran);
+    assert_eq!(heard(&ran), "[]\n");
+}
+
+#[test]
 fn a_source_is_expanded() {
     let room = Room::new();
     let ran = script(&room, "expand", &[]);
