@@ -8,15 +8,15 @@ use std::sync::mpsc::{self, Receiver, Sender};
 
 /// A logger that sends each compile command that it hears to its [`CompileCommands`].
 pub struct CompileCommandCollector {
-    sender: Sender<CompileCommand>,
+    heard: Sender<CompileCommand>,
     next: Option<Box<dyn BuildMessageLogger>>,
 }
 
 impl CompileCommandCollector {
     /// A collector, and what it collects.
     pub fn new() -> (Self, CompileCommands) {
-        let (sender, receiver) = mpsc::channel();
-        (Self { sender, next: None }, CompileCommands(receiver))
+        let (heard, commands) = mpsc::channel();
+        (Self { heard, next: None }, CompileCommands(commands))
     }
 
     /// The collector with a logger behind it, which hears each message too.
@@ -36,7 +36,7 @@ impl BuildMessageLogger for CompileCommandCollector {
     fn log(&self, kind: BuildMessageKind, msg: BuildMessage<'_>, extra: &dyn Any) {
         if let Some(command) = extra.downcast_ref::<CompileCommand>() {
             // (nobody may want them any more)
-            let _ = self.sender.send(command.clone());
+            let _ = self.heard.send(command.clone());
         }
         if let Some(next) = &self.next {
             next.log(kind, msg, extra);

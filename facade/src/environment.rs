@@ -16,10 +16,8 @@ impl Environment {
     pub(crate) fn of(variables: impl Iterator<Item = (OsString, OsString)>) -> Environment {
         let mut kept = Variables::new();
         for (name, value) in variables {
-            match kept.iter_mut().find(|(known, _)| *known == name) {
-                Some(entry) => entry.1 = value,
-                None => kept.push((name, value)),
-            }
+            kept.retain(|(known, _)| *known != name);
+            kept.push((name, value));
         }
         Environment(OnceLock::from(Arc::new(kept)))
     }

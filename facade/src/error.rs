@@ -109,7 +109,8 @@ impl From<io::Error> for Error {
 
 impl fmt::Display for Error {
     fn fmt(&self, f: &mut fmt::Formatter<'_>) -> fmt::Result {
-        write!(f, "{:?}: {}", self.kind, self.message)
+        let Error { kind, message } = self;
+        write!(f, "{kind:?}: {message}")
     }
 }
 
