@@ -48,6 +48,7 @@ unset_settings = record {
   inherit_rustflags = true;
   inherit_trim_paths = true;
   prefer_clang_cl_over_msvc = false;
+  stop_on_failure = false;
   repeat_lines = false;
 }
 

@@ -99,6 +99,8 @@ pub struct BuildConfig {
     pub inherit_trim_paths: bool,
     /// Whether Clang in the form of the Visual Studio compiler comes before that. No search for either is made, so it changes nothing.
     pub prefer_clang_cl_over_msvc: bool,
+    /// Whether no compile command is started after one ended with another status than 0. Those that run are waited for.
+    pub stop_on_failure: bool,
     /// Whether a line that is given once for all builds that share what they know is given at each call.
     pub repeat_lines: bool,
 }
@@ -153,6 +155,7 @@ impl BuildConfig {
             inherit_rustflags: true,
             inherit_trim_paths: true,
             prefer_clang_cl_over_msvc: false,
+            stop_on_failure: false,
             repeat_lines: false,
         }
     }
@@ -205,6 +208,7 @@ impl BuildConfig {
             inherit_rustflags: self.inherit_rustflags,
             inherit_trim_paths: self.inherit_trim_paths,
             prefer_clang_cl_over_msvc: self.prefer_clang_cl_over_msvc,
+            stop_on_failure: self.stop_on_failure,
             repeat_lines: self.repeat_lines,
         })
     }
