@@ -61,6 +61,8 @@ impl<W: World, H: Host<W>, L: BuildMessageLogger> Host<W> for Logged<W, H, L> {
 
     ghost listens = { λ _. true };
 
+    ghost stands = { λ l. H.stands l };
+
     fn start(
         &mut self,
         role: Role,

@@ -1,11 +1,11 @@
 -- Probe files as a log grows.
-use Rattle.std.proofs.Common.{◌≡◌, ◌≢◌, subst, append_assoc, ℕ, zero, suc, ◌+◌, ◌<◌, Bool, true, false, List, [], ◌∷◌, ◌++◌, length, get_or, take, flat_map, bytes_eq, refl, sym, ◌∙◌, ap, arith, append-nil, replicate, Result, Ok, Err, if◌then◌else◌}
+use Rattle.std.proofs.Common.{◌≡◌, ◌≢◌, subst, append_assoc, ℕ, zero, suc, ◌+◌, ◌<◌, Bool, true, false, ◌-◌, ◌^◌, List, [], ◌∷◌, ◌++◌, length, get_or, take, flat_map, bytes_eq, refl, sym, ◌∙◌, ap, arith, append-nil, replicate, Result, Ok, Err, if◌then◌else◌}
 use Rattle.std.specs.List.{remove}
 use Rattle.std.proofs.lemmas.List.Sums.{count_by_more_no}
 use Rattle.std.proofs.lemmas.Slice.Eq.{bytes_eq-Decides}
 use Rattle.std.proofs.lemmas.Grind.{common_steps, flat_map-append}
 use Rattle.cc_host.specs.Probe.{open_of, drop_of, opens, drops, times, IsOpen, IsTidy}
-use Rattle.cc_host.specs.Journal.{IsKept, IsQuiet}
+use Rattle.cc_host.specs.Journal.{IsKept, IsQuiet, turn_of, turns, MayFollow, AreJoined}
 use Rattle.cc_host.specs.Event.{apart, created}
 use Rattle.cc_host.specs.declared.event.Created.{Created}
 use Rattle.cc_host.specs.declared.event.Created.TheVariants.{New, Exists}
@@ -18,16 +18,16 @@ pub times_then : (path : List ℕ) (a b : List (List ℕ)) → times path (a ++ 
 times_then path [] b = grind (arith, common_steps)
 times_then path (p ∷ a) b = grind (arith, common_steps, times_then path a b)
 
-same_events : (log es : List Event) → IsQuiet es → (opens (log ++ es) ≡ opens log) × (drops (log ++ es) ≡ drops log)
-same_events log es quiet = (
-  flat_map-append open_of log es ∙ ap (λ l. opens log ++ l) quiet.0 ∙ append-nil (opens log),
-  flat_map-append drop_of log es ∙ ap (λ l. drops log ++ l) quiet.1 ∙ append-nil (drops log),
+same_events : (log es : List Event) → opens es ≡ [] → drops es ≡ [] → (opens (log ++ es) ≡ opens log) × (drops (log ++ es) ≡ drops log)
+same_events log es o d = (
+  flat_map-append open_of log es ∙ ap (λ l. opens log ++ l) o ∙ append-nil (opens log),
+  flat_map-append drop_of log es ∙ ap (λ l. drops log ++ l) d ∙ append-nil (drops log),
 )
 
 -- events of no probe file leave the files as they were
-pub kept_quiet : (log es : List Event) (files : List (List ℕ)) → IsQuiet es → IsKept log files → IsKept (log ++ es) files
-kept_quiet log es files quiet kept path =
-    let s = same_events log es quiet in
+pub kept_quiet : (log es : List Event) (files : List (List ℕ)) → opens es ≡ [] → drops es ≡ [] → IsKept log files → IsKept (log ++ es) files
+kept_quiet log es files o d kept path =
+    let s = same_events log es o d in
     rw (s.0, s.1) (kept path)
 
 pub kept_open : (log : List Event) (files : List (List ℕ)) (path bytes : List ℕ) → IsKept log files → IsKept (log ++ Opened path bytes ∷ []) (files ++ path ∷ [])
@@ -83,11 +83,10 @@ drops_apart (e ∷ es) = flat_map-append drop_of (apart e) (flat_map apart es) �
 pub kept_note : (events more es : List Event) (files : List (List ℕ)) → more ≡ events ++ es → IsQuiet es → IsKept (flat_map apart events) files → IsKept (flat_map apart more) files
 kept_note events more es files e quiet kept =
     let all : flat_map apart more ≡ flat_map apart events ++ flat_map apart es = ap (flat_map apart) e ∙ flat_map-append apart events es in
-    let none : IsQuiet (flat_map apart es) = (opens_apart es ∙ quiet.0, drops_apart es ∙ quiet.1) in
-    subst (λ log. IsKept log files) (sym all) (kept_quiet (flat_map apart events) (flat_map apart es) files none kept)
+    subst (λ log. IsKept log files) (sym all) (kept_quiet (flat_map apart events) (flat_map apart es) files (opens_apart es ∙ quiet.0) (drops_apart es ∙ quiet.1) kept)
 
 pub kept_turn : (log new : List Event) (files : List (List ℕ)) → new ≡ log ++ Turn 1 ∷ [] → IsKept log files → IsKept new files
-kept_turn log new files e kept = subst (λ l. IsKept l files) (sym e) (kept_quiet log (Turn 1 ∷ []) files (refl, refl) kept)
+kept_turn log new files e kept = subst (λ l. IsKept l files) (sym e) (kept_quiet log (Turn 1 ∷ []) files refl refl kept)
 
 -- the files stay as the list is only moved
 pub kept_same : (events more : List Event) (files others : List (List ℕ)) → more ≡ events → others ≡ files → IsKept (flat_map apart events) files → IsKept (flat_map apart more) others
@@ -136,3 +135,69 @@ pub still_open : (a b c : List Event) (path bytes other more : List ℕ) (first 
 still_open a b c path bytes other more first second new tidy is after =
     let e : b ≡ a ++ Opened path bytes ∷ [] = is ∙ ap (λ r. a ++ created path bytes r) new in
     subst (IsOpen path) (sym (after ∙ ap (λ l. l ++ created other more second) e)) (stands a (created other more second) path bytes tidy (no_drop other more second))
+
+-- turns that stand as one event
+
+may_follow : (e f : Event) → turn_of f ≡ [] → MayFollow e f
+may_follow (Turn m) (Turn n) h = absurd (cc)
+may_follow (Turn m) f h = tt
+may_follow e f h = tt
+
+both_nil : (a b : List ℕ) → a ++ b ≡ [] → (a ≡ []) × (b ≡ [])
+both_nil [] b h = (refl, h)
+both_nil (n ∷ a) b h = absurd (cc)
+
+joined_from : (e : Event) (es : List Event) → turns es ≡ [] → AreJoined (e ∷ es)
+joined_from e [] h = tt
+joined_from e (f ∷ es) h =
+    let none = both_nil (turn_of f) (turns es) h in
+    (may_follow e f none.0, joined_from f es none.1)
+
+joined_then : (events es : List Event) → turns es ≡ [] → AreJoined events → AreJoined (events ++ es)
+joined_then [] [] h joined = tt
+joined_then [] (f ∷ es) h joined = joined_from f es (both_nil (turn_of f) (turns es) h).1
+joined_then (e ∷ []) es h joined = joined_from e es h
+joined_then (e ∷ f ∷ events) es h joined = (joined.0, joined_then (f ∷ events) es h joined.1)
+
+-- events of no turn are added
+pub joined_note : (events more es : List Event) → more ≡ events ++ es → turns es ≡ [] → AreJoined events → AreJoined more
+joined_note events more es e none joined = subst AreJoined (sym e) (joined_then events es none joined)
+
+-- the list is only moved
+pub joined_same : (events more : List Event) → more ≡ events → AreJoined events → AreJoined more
+joined_same events more e joined = subst AreJoined (sym e) joined
+
+any_count : (e : Event) (m n : ℕ) → MayFollow e (Turn m) → MayFollow e (Turn n)
+any_count (Turn k) m n h = h
+any_count e m n h = tt
+
+another_count : (events : List Event) (m n : ℕ) → AreJoined (events ++ Turn m ∷ []) → AreJoined (events ++ Turn n ∷ [])
+another_count [] m n joined = tt
+another_count (e ∷ []) m n joined = (any_count e m n joined.0, tt)
+another_count (e ∷ f ∷ events) m n joined = (joined.0, another_count (f ∷ events) m n joined.1)
+
+-- the turns that stand last get another count
+pub joined_count : (events more : List Event) (m n : ℕ) → more ≡ events ++ Turn n ∷ [] → AreJoined (events ++ Turn m ∷ []) → AreJoined more
+joined_count events more m n e joined = subst AreJoined (sym e) (another_count events m n joined)
+
+full_then : (events : List Event) (m n : ℕ) → m ≡ 2 ^ 64 - 1 → AreJoined (events ++ Turn m ∷ []) → AreJoined ((events ++ Turn m ∷ []) ++ Turn n ∷ [])
+full_then [] m n full joined = (full, tt)
+full_then (e ∷ []) m n full joined = (joined.0, (full, tt))
+full_then (e ∷ f ∷ events) m n full joined = (joined.0, full_then (f ∷ events) m n full joined.1)
+
+-- a turn is added behind others whose count is at its last value
+pub joined_full : (events some more : List Event) (m n : ℕ) → m ≡ 2 ^ 64 - 1 → some ≡ events ++ Turn m ∷ [] → more ≡ some ++ Turn n ∷ [] → AreJoined (events ++ Turn m ∷ []) → AreJoined more
+joined_full events some more m n full e g joined = subst AreJoined (sym (g ∙ ap (λ l. l ++ Turn n ∷ []) e)) (full_then events m n full joined)
+
+may_lead : (e : Event) (n : ℕ) → turn_of e ≡ [] → MayFollow e (Turn n)
+may_lead (Turn m) n h = absurd (cc)
+may_lead e n h = tt
+
+turn_then : (events : List Event) (e : Event) (n : ℕ) → turn_of e ≡ [] → AreJoined (events ++ e ∷ []) → AreJoined ((events ++ e ∷ []) ++ Turn n ∷ [])
+turn_then [] e n none joined = (may_lead e n none, tt)
+turn_then (f ∷ []) e n none joined = (joined.0, (may_lead e n none, tt))
+turn_then (f ∷ g ∷ events) e n none joined = (joined.0, turn_then (g ∷ events) e n none joined.1)
+
+-- a turn is added behind an event of no turn
+pub joined_turn : (events some more : List Event) (e : Event) (n : ℕ) → turn_of e ≡ [] → some ≡ events ++ e ∷ [] → more ≡ some ++ Turn n ∷ [] → AreJoined (events ++ e ∷ []) → AreJoined more
+joined_turn events some more e n none is g joined = subst AreJoined (sym (g ∙ ap (λ l. l ++ Turn n ∷ []) is)) (turn_then events e n none joined)

@@ -7,7 +7,7 @@ use Rattle.std.proofs.lemmas.List.Elements.{Contains-append_cases}
 use Rattle.std.proofs.lemmas.Grind.{flat_map-append}
 use Rattle.cc_host.specs.Children.{Live, live, live_from, polled, without, id_of, started_ids, unread_of, unreads}
 use Rattle.cc_host.specs.Event.{apart, heard, unread, ended, reported}
-use Rattle.cc_host.specs.Journal.{IsQuiet}
+use Rattle.cc_host.specs.Journal.{IsQuiet, turn_of, turns}
 use Rattle.cc_host.specs.Probe.{open_of, drop_of, opens, drops}
 use Rattle.cc_host.specs.Script.{script_at}
 use Rattle.cc_host.specs.ChildLog.{AreRunning, AreTold, live_of, ids, news_by, news_of, has_news, child_after, left_by, Below, Above, Rising, Heeds}
@@ -82,6 +82,16 @@ reported_drops id (Some p) false (Some s) = refl
 reported_drops id (Some p) true None = refl
 reported_drops id (Some p) true (Some s) = refl
 
+reported_turns : (id : ℕ) (piece : Option (List ℕ)) (un : Bool) (end : Option Status) → flat_map turn_of (heard id piece ++ unread id un ++ ended id end) ≡ []
+reported_turns id None false None = refl
+reported_turns id None false (Some s) = refl
+reported_turns id None true None = refl
+reported_turns id None true (Some s) = refl
+reported_turns id (Some p) false None = refl
+reported_turns id (Some p) false (Some s) = refl
+reported_turns id (Some p) true None = refl
+reported_turns id (Some p) true (Some s) = refl
+
 reported_apart : (id : ℕ) (piece : Option (List ℕ)) (un : Bool) (end : Option Status) → flat_map apart (heard id piece ++ unread id un ++ ended id end) ≡ heard id piece ++ unread id un ++ ended id end
 reported_apart id None false None = refl
 reported_apart id None false (Some s) = refl
@@ -105,11 +115,12 @@ reported_none id (Some p) true (Some s) h = absurd (cc)
 -- what all reported
 
 pub all_quiet : (news : List News) → IsQuiet (flat_map reported news)
-all_quiet [] = (refl, refl)
+all_quiet [] = (refl, refl, refl)
 all_quiet (n ∷ news) =
     let rest = all_quiet news in (
       flat_map-append open_of (reported n) (flat_map reported news) ∙ ap (λ l. l ++ opens (flat_map reported news)) (reported_opens n.id n.piece n.unread n.ended) ∙ rest.0,
       flat_map-append drop_of (reported n) (flat_map reported news) ∙ ap (λ l. l ++ drops (flat_map reported news)) (reported_drops n.id n.piece n.unread n.ended) ∙ rest.1,
+      flat_map-append turn_of (reported n) (flat_map reported news) ∙ ap (λ l. l ++ turns (flat_map reported news)) (reported_turns n.id n.piece n.unread n.ended) ∙ rest.2,
     )
 
 pub all_apart : (news : List News) → flat_map apart (flat_map reported news) ≡ flat_map reported news

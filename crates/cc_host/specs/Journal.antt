@@ -1,8 +1,8 @@
 -- The log of a host, with the places that it reserved.
-use Rattle.std.specs.Prelude.{◌≡◌, ℕ, ◌+◌, ◌<◌, List, [], ◌∷◌, ◌++◌, length}
-use Rattle.std.specs.List.{slice_index_or}
+use Rattle.std.specs.Prelude.{◌≡◌, ℕ, ◌+◌, ◌-◌, ◌^◌, ◌<◌, List, [], ◌∷◌, ◌++◌, length}
+use Rattle.std.specs.List.{flat_map, slice_index_or}
 use Rattle.cc_host.specs.declared.event.Event.{Event}
-use Rattle.cc_host.specs.declared.event.Event.TheVariants.{Fault}
+use Rattle.cc_host.specs.declared.event.Event.TheVariants.{Fault, Turn}
 use Rattle.cc_host.specs.declared.event.HostCall.{HostCall}
 use Rattle.cc_host.specs.declared.event.Why.{Why}
 use Rattle.cc_host.specs.Calls.{plus_one}
@@ -21,9 +21,28 @@ pub record JournalSeen : Type 0 where
 abbrev pub IsKept : List Event → List (List ℕ) → Type 0
 IsKept log files = (path : List ℕ) → times path files + times path (drops log) ≡ times path (opens log)
 
--- these events are of no probe file
+abbrev pub turn_of : Event → List ℕ
+turn_of (Turn count) = count ∷ []
+turn_of _ = []
+
+-- the turns among these events
+abbrev pub turns : List Event → List ℕ
+turns = flat_map turn_of
+
+-- an event may stand behind another: a turn stands behind a turn only where that one's count is at its last value
+abbrev pub MayFollow : Event → Event → Type 0
+MayFollow (Turn count) (Turn more) = count ≡ 2 ^ 64 - 1
+MayFollow _ _ = Unit {0}
+
+-- turns one after another stand as one event
+abbrev pub AreJoined : List Event → Type 0
+AreJoined [] = Unit {0}
+AreJoined (event ∷ []) = Unit {0}
+AreJoined (event ∷ next ∷ events) = MayFollow event next × AreJoined (next ∷ events)
+
+-- these events are of no probe file and no turn
 abbrev pub IsQuiet : List Event → Type 0
-IsQuiet events = (opens events ≡ []) × (drops events ≡ [])
+IsQuiet events = (opens events ≡ []) × (drops events ≡ []) × (turns events ≡ [])
 
 -- the path stands at this place
 abbrev pub IsPlaceOf : List ℕ → List (List ℕ) → ℕ → Type 0

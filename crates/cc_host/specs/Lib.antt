@@ -7,6 +7,7 @@ pub mod Command
 pub mod CommandLine
 pub mod CompileCommand
 pub mod Event
+pub mod Files
 pub mod Given
 pub mod Journal
 pub mod Part

@@ -1,8 +1,9 @@
 // A host in memory, as a host.
-ghost use Rattle.std.specs.Prelude.{◌≡◌, ◌≢◌, ◌≤◌, [], ◌∷◌, ◌++◌, true, false, IfOk, OnOk, OnErr, IfErr};
+ghost use Rattle.std.specs.Prelude.{◌≡◌, ◌≢◌, ◌≤◌, [], ◌∷◌, ◌++◌, true, false, Some, IfOk, OnOk, OnErr, IfErr};
 ghost use Rattle.std.specs.List.{Contains};
 ghost use Rattle.std.specs.Result.{result_map_both};
 ghost use Rattle.cc_host.specs.Children.{running, IsFresh, IsNews, Waits};
+ghost use Rattle.cc_host.specs.declared.event.Created.TheVariants.{Exists as Stands};
 ghost use Rattle.cc_host.specs.declared.event.Event.TheVariants.{Abandoned, Dropped};
 ghost use Rattle.cc_host.specs.declared.event.HostCall.TheVariants.{Start as Starts, Turn as Turns, Output, MakeDir, CreateProbe, Write as Writes, Copy, Remove as Removes, CurrentDir, Print, Say, Vars as ListsVars};
 ghost use Rattle.cc_host.specs.declared.event.Why.{Why};
@@ -42,6 +43,8 @@ impl Host<Bench> for BenchHost {
     ghost patience = { λ h. patience_of h.scripts };
 
     ghost listens = { λ h. h.listens };
+
+    ghost stands = { λ h. Some (λ path. has_file path h) };
 
     fn start(
         &mut self,
@@ -163,6 +166,7 @@ impl Host<Bench> for BenchHost {
 
     fn create_probe(&mut self, path: &str, contents: &[u8]) -> Result<Created, HostError>
         ensures adds { self.new.log ≡ self.old.log ++ created path.now contents.now result }
+        ensures stands { IfOk result (λ c. c ≡ Stands → has_file path.now self.old ≡ true) }
         ensures keeps { KeepsBench self.old self.new }
         ensures ear { self.new.listens ≡ self.old.listens }
         ensures cause { IfErr result (IsCaused CreateProbe self.old.faults self.new.faults) }

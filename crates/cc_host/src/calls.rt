@@ -31,7 +31,8 @@ pub struct Counts {
     pub listings: u64,
 }
 
-fn plus_one(count: u64) -> u64
+/// One more, up to the last value of a count.
+pub fn plus_one(count: u64) -> u64
     ensures { result ≡ plus_one count }
 {
     count.saturating_add(1)

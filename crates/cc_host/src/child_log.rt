@@ -5,7 +5,7 @@ ghost use Rattle.cc_host.specs.declared.event.Event.TheVariants.{Started, Abando
 ghost use Rattle.cc_host.specs.declared.event.Start.TheVariants.{Child};
 ghost use Rattle.cc_host.specs.declared.event.HostError.TheVariants.{Fault as Failed};
 ghost use Rattle.cc_host.specs.Children.{live, running, IsFresh, IsNews, Waits};
-ghost use Rattle.cc_host.specs.Journal.{IsQuiet};
+ghost use Rattle.cc_host.specs.Journal.{IsQuiet, AreJoined};
 ghost use Rattle.cc_host.specs.Probe.{IsOpen, IsTidy};
 ghost use Rattle.cc_host.specs.Script.{patience_of, was_met};
 ghost use Rattle.cc_host.specs.Event.{apart, turned};
@@ -247,6 +247,7 @@ impl ChildLog {
     /// The events, oldest first, lent.
     pub fn events(&self) -> &[Event]
         ensures events { flat_map apart result.now ≡ self.now.log }
+        ensures joined { AreJoined result.now }
         ensures tidy { IsTidy self.now.log }
     {
         self.journal.events()

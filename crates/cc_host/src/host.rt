@@ -3,6 +3,7 @@ ghost use Rattle.std.specs.Prelude.{◌≡◌, ◌≢◌, ◌≤◌, ◌∷◌, 
 ghost use Rattle.std.specs.List.{flat_map, Contains};
 ghost use Rattle.cc_host.specs.Call.{Keeps};
 ghost use Rattle.cc_host.specs.Children.{running, IsFresh, IsNews, Waits};
+ghost use Rattle.cc_host.specs.declared.event.Created.TheVariants.{Exists as Stands};
 ghost use Rattle.cc_host.specs.declared.event.Event.{Event};
 ghost use Rattle.cc_host.specs.declared.event.Event.TheVariants.{Abandoned, Dropped};
 ghost use Rattle.cc_host.specs.declared.event.HostCall.TheVariants.{Start as Starts, Turn as Turns, Output, MakeDir, CreateProbe, Write, Copy, Remove, CurrentDir, Print, Say, Vars as ListsVars};
@@ -10,6 +11,7 @@ ghost use Rattle.cc_host.specs.declared.event.Why.{Why};
 ghost use Rattle.cc_host.specs.declared.question.Ask.TheVariants.{Exists as AsksExists};
 ghost use Rattle.cc_host.specs.declared.question.Outcome.TheVariants.{Unanswered};
 ghost use Rattle.cc_host.specs.Event.{started, turned, refused, ran, probed, found, reused, unasked, drawn, created, made, wrote, copied, removed, told_here, printed, said, listed, apart, Rose, IsCaused, IsSilent};
+ghost use Rattle.cc_host.specs.Journal.{AreJoined};
 ghost use Rattle.cc_host.specs.Probe.{IsOpen, IsTidy};
 
 use crate::{
@@ -48,6 +50,9 @@ pub trait Host<W: World> {
 
     /// Whether messages are said to the host. No call changes it.
     ghost listens: { Self → Bool };
+
+    /// Which paths have a file, where the host tells.
+    ghost stands: { Self → Option (List ℕ → Bool) };
 
     /// Starts a command, for a caller that holds so many tokens.
     fn start(
@@ -116,6 +121,8 @@ pub trait Host<W: World> {
     /// Makes a probe file where none of that name stands, in one step.
     fn create_probe(&mut self, path: &str, contents: &[u8]) -> Result<Created, HostError>
         ensures adds { log self.new ≡ log self.old ++ created path.now contents.now result }
+        ensures stands { IfOk result
+            (λ c. c ≡ Stands → IfSome (stands self.old) (λ has. has path.now ≡ true)) }
         ensures keeps { Keeps faults patience self.old self.new }
         ensures ear { listens self.new ≡ listens self.old }
         ensures cause { IfErr result (IsCaused CreateProbe (faults self.old) (faults self.new)) };
@@ -204,10 +211,12 @@ pub trait Host<W: World> {
     fn listens(&self) -> bool
         ensures { result ≡ listens self.now };
 
-    /// The events so far, oldest first, lent. Turns one after another stand as one event with their sum. No probe file was dropped more
-    /// often than it was made. Where the host knows its patience, it is at least 1.
+    /// The events so far, oldest first, lent. Turns one after another stand as one event with their sum; another is begun where that one's
+    /// count is at its last value. No probe file was dropped more often than it was made. Where the host knows its patience, it is at
+    /// least 1.
     fn log(&self) -> &[Event]
         ensures events { flat_map apart result.now ≡ log self.now }
+        ensures joined { AreJoined result.now }
         ensures tidy { IsTidy (log self.now) }
         ensures least { IfSome (patience self.now) (λ most. 1 ≤ most) };
 }

@@ -5,7 +5,7 @@ ghost use Rattle.cc_host.specs.declared.event.Event.TheVariants.{Fault, Opened, 
 ghost use Rattle.cc_host.specs.declared.event.HostError.TheVariants.{Fault as Failed};
 ghost use Rattle.cc_host.specs.Event.{apart};
 ghost use Rattle.cc_host.specs.Probe.{times, opens, drops, IsOpen, IsTidy};
-ghost use Rattle.cc_host.specs.Journal.{JournalSeen, IsKept, IsQuiet, IsPlaceOf, Reserves, Adds, AddsKeeping, AddsProbe, AddsFault};
+ghost use Rattle.cc_host.specs.Journal.{JournalSeen, IsKept, IsQuiet, turn_of, AreJoined, IsPlaceOf, Reserves, Adds, AddsKeeping, AddsProbe, AddsFault};
 
 use crate::{Event, HostCall, HostError, Why};
 use cc_text::{Bytes, Mem, NoMemory, Text};
@@ -36,6 +36,7 @@ impl Model for Journal {
 
     ghost invariant = { λ j. record {
       kept : IsKept (flat_map apart j.events.items) j.probes.items;
+      joined : AreJoined j.events.items;
       room : vec_len j.events + j.children + vec_len j.probes ≤ vec_capacity j.events;
     } };
 }
@@ -79,7 +80,7 @@ impl Journal {
         Ok(())
     }
 
-    /// Adds an event last that is of no probe file.
+    /// Adds an event last that is of no probe file and no turn.
     pub fn note(&mut self, event: Event)
         requires place { 0 < self.old.places }
         requires quiet { IsQuiet (event ∷ []) }
@@ -89,7 +90,7 @@ impl Journal {
         self.events.push_reserved(event);
     }
 
-    /// Adds events last that are of no probe file.
+    /// Adds events last that are of no probe file and no turn.
     pub fn note_all(&mut self, mut events: Vec<Event>)
         requires places { vec_len events ≤ self.old.places }
         requires quiet { IsQuiet events.items }
@@ -181,6 +182,7 @@ impl Journal {
     /// The events, oldest first, lent.
     pub fn events(&self) -> &[Event]
         ensures events { flat_map apart result.now ≡ self.now.log }
+        ensures joined { AreJoined result.now }
         ensures tidy { IsTidy self.now.log }
     {
         &self.events
@@ -200,11 +202,23 @@ fn place_of(files: &[Text], path: &str) -> Option<usize>
     None
 }
 
+// How many turns an event stands for, where it is of turns.
+fn turns_in(event: &Event) -> Option<u64>
+    ensures { MatchOption result (turn_of event.now ≡ []) (λ count. event.now ≡ OneTurn count) }
+{
+    match event {
+        Event::Turn { count } => Some(*count),
+        _ => None,
+    }
+}
+
 // Adds a turn last, after so many turns that were the last event.
 fn put_turn(events: &mut Vec<Event>, count: u64)
     requires { vec_len events.old + 2 ≤ vec_capacity events.old }
     ensures log { flat_map apart events.new.items
         ≡ (flat_map apart events.old.items ++ replicate count (OneTurn 1)) ++ OneTurn 1 ∷ [] }
+    ensures joined { AreJoined (events.old.items ++ OneTurn count ∷ [])
+        → AreJoined events.new.items }
     ensures len { vec_len events.new ≤ vec_len events.old + 2 }
     ensures capacity { vec_capacity events.new ≡ vec_capacity events.old }
 {
@@ -222,15 +236,18 @@ fn add_turn(events: &mut Vec<Event>)
     requires { vec_len events.old < vec_capacity events.old }
     ensures log { flat_map apart events.new.items
         ≡ flat_map apart events.old.items ++ OneTurn 1 ∷ [] }
+    ensures joined { AreJoined events.old.items → AreJoined events.new.items }
     ensures len { vec_len events.new ≤ vec_len events.old + 1 }
     ensures capacity { vec_capacity events.new ≡ vec_capacity events.old }
 {
     match events.pop() {
-        Some(Event::Turn { count }) => put_turn(events, count),
-        Some(event) => {
-            events.push_reserved(event);
-            events.push_reserved(Event::Turn { count: 1 });
-        }
+        Some(event) => match turns_in(&event) {
+            Some(count) => put_turn(events, count),
+            None => {
+                events.push_reserved(event);
+                events.push_reserved(Event::Turn { count: 1 });
+            }
+        },
         None => events.push_reserved(Event::Turn { count: 1 }),
     }
 }

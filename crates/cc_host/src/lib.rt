@@ -1,4 +1,4 @@
-//! Commands, what a host is asked and answers, the events of its log, the trait of hosts, and a host in memory.
+//! Commands, what a host is asked and answers, the events of its log, the traits of hosts and of files that are read, and both in memory.
 //!
 //! Stands on `cc_text`. A host runs commands, keeps files and prints, and appends to its log what it did. The crates
 //! above use one thing: what each call appends is a function of what it was given and of what it answered. How the
@@ -16,10 +16,12 @@ mod child_log;
 mod command;
 mod compile_command;
 mod event;
+mod files;
 mod given;
 mod host;
 mod journal;
 mod line;
+mod memory_files;
 mod probe;
 mod question;
 mod script;
@@ -37,9 +39,11 @@ pub use event::{
     Created, Event, HostCall, HostError, LineKind, Message, News, OutputKind, Pipes, Ran, Removal,
     Role, Scope, Start, Status, Why,
 };
+pub use files::{FileError, Files, Held};
 pub use host::{Host, World};
 pub use journal::Journal;
 pub use line::command_line;
+pub use memory_files::MemoryFiles;
 pub use probe::probe_command;
 pub use question::{Ask, Marks, Outcome, ProbeFiles, Question, Verdict, exists_of};
 pub use script::Script;

@@ -1,5 +1,6 @@
 pub mod Child
 pub mod Entry
+pub mod FilesSeen
 pub mod HostSeen
 pub mod LookUp
 pub mod Plain

@@ -1,6 +1,6 @@
 // A host in memory whose questions come to fixed outcomes.
-ghost use Rattle.std.specs.Prelude.{◌≡◌, [], IfOk, OnOk, OnErr};
-ghost use Rattle.cc_host.specs.Bench.{BenchSeen, fresh, with_script, with_missing, with_failure, with_file};
+ghost use Rattle.std.specs.Prelude.{◌≡◌, [], Some, IfOk, OnOk, OnErr};
+ghost use Rattle.cc_host.specs.Bench.{BenchSeen, fresh, with_script, with_missing, with_failure, with_file, has_file};
 ghost use Rattle.cc_host.specs.Script.{patience_of};
 
 use cc_host::{
@@ -110,6 +110,8 @@ impl Host<Fixed> for FixedHost {
     ghost patience = { λ h. patience_of h.scripts };
 
     ghost listens = { λ h. h.listens };
+
+    ghost stands = { λ h. Some (λ path. has_file path h) };
 
     fn start(
         &mut self,

@@ -1,4 +1,5 @@
-//! A host over the machine, its processes, files and streams, and two hosts in memory: one with fixed outcomes, and one on which nothing is set.
+//! A host over the machine, its processes, files and streams, two hosts in memory: one with fixed outcomes, and one on which nothing is set, and the files of the
+//! machine, for reading.
 //!
 //! Stands on `cc_text` and `cc_host`. The world of `FixedHost` is steady. `ProcessHost` keeps the trait `Host`, and nothing is proved of it beyond that: a
 //! proof can't say what a process did. What it starts a child with, and what it keeps of the child's end, are values
@@ -17,6 +18,7 @@ mod heard;
 mod look_up;
 mod plain;
 mod process_host;
+mod real_files;
 mod reason;
 mod replaced;
 mod running;
@@ -28,4 +30,5 @@ pub use child::Closed;
 pub use fixed_host::{Fixed, FixedHost};
 pub use plain::PlainHost;
 pub use process_host::{ProcessHost, Real};
+pub use real_files::RealFiles;
 pub use standard::StandIns;

@@ -1,6 +1,6 @@
 // A host in memory on which nothing is set.
 ghost use Rattle.std.specs.Prelude.{◌≡◌, Some, IfOk};
-ghost use Rattle.cc_host.specs.Bench.{BenchSeen, fresh, IsPlain};
+ghost use Rattle.cc_host.specs.Bench.{BenchSeen, fresh, has_file, IsPlain};
 ghost use Rattle.cc_hosts.specs.Plain.{IsPlainLog, IsPlainHost};
 
 use cc_host::{
@@ -54,6 +54,8 @@ impl Host<Bench> for PlainHost {
     ghost patience = { λ h. Some 1 };
 
     ghost listens = { λ h. h.listens };
+
+    ghost stands = { λ h. Some (λ path. has_file path h) };
 
     fn start(
         &mut self,

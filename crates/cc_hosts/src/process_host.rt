@@ -184,6 +184,8 @@ where
 
     ghost listens = { λ _. false };
 
+    ghost stands = { λ _. None };
+
     fn start(
         &mut self,
         role: Role,

@@ -7,5 +7,6 @@ use Rattle.cc_host.proofs.journal.Journal.note_turn.Goals as goal
 pub invariant_of-self : goal.invariant_of-self
 invariant_of-self c = record {
   kept = kept_turn (flat_map apart c.self.inside.events.items) _ c.self.inside.probes.items c.add_turn.ensures.log c.self.invariant.kept;
+  joined = c.add_turn.ensures.joined c.self.invariant.joined;
   room = grind (arith, common_steps);
 }
