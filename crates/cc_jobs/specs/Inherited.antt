@@ -1,5 +1,5 @@
--- What a take from an inherited pool does to the seat.
-use Rattle.std.specs.Prelude.{ℕ, ◌+◌, Result, Ok, Err}
+-- What a take from an inherited pool, and a give to it, do to the seat.
+use Rattle.std.specs.Prelude.{ℕ, ◌+◌, ◌-◌, Result, Ok, Err}
 use Rattle.cc_jobs.specs.declared.inherited.InheritedSeat.{InheritedSeat}
 use Rattle.cc_jobs.specs.declared.jobs.JobFault.{JobFault}
 use Rattle.cc_jobs.specs.declared.jobs.Take.{Take}
@@ -15,3 +15,7 @@ after_take s (Ok Token) = record s {
 }
 after_take s (Ok Pending) = record s { misses = stands (s.misses + 1) }
 after_take s (Err _) = record s { faults = stands (s.faults + 1) }
+
+-- what a seat is after a token was given back
+abbrev pub after_give : InheritedSeat → InheritedSeat
+after_give s = record s { held = s.held - 1; given = stands (s.given + 1) }

@@ -30,11 +30,11 @@ lost v = record v { saw = 0; misses = v.misses + 1 }
 
 -- one token was added to the word
 abbrev pub gave : SeatView → SeatView
-gave v = record v { held = v.held - 1 }
+gave v = record v { held = v.held - 1; given = stands (v.given + 1) }
 
 -- a seat that was split off from one that knows this total
 abbrev pub fresh : ℕ → SeatView
-fresh total = record { total = total; held = 0; saw = 0; misses = 0; taken = 0; load = 0; loads = 0 }
+fresh total = record { total = total; held = 0; saw = 0; misses = 0; taken = 0; load = 0; loads = 0; given = 0 }
 
 -- a seat that was joined to another
 abbrev pub spent : SeatView

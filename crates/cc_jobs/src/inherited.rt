@@ -1,13 +1,14 @@
 // Tokens that a client hands out, and the one that every caller has from the start.
 ghost use Rattle.std.specs.Prelude.{◌≡◌, ◌≢◌, ℕ, ◌+◌, ◌-◌, ◌<◌, ◌≤◌, ◌^◌, true, false, Ok, IfErr, IfOk, IfSome};
-ghost use Rattle.cc_jobs.specs.Inherited.{after_take};
+ghost use Rattle.cc_jobs.specs.Inherited.{after_give, after_take};
 ghost use Rattle.cc_jobs.specs.Out.{IsOut, RoseWith};
 ghost use Rattle.cc_jobs.specs.Seats.{Rose, stands};
 
 use crate::{JobClient, JobFault, Take};
 
 /// A seat of an inherited pool: how many tokens it holds, how often its pool failed it, how often there was no token,
-/// and the two counts of what was taken. All but the first stand still at the greatest u64.
+/// the two counts of what was taken, and how often a token was given back. All but the first stand still at the
+/// greatest u64.
 #[derive(Drop, Debug)]
 pub struct InheritedSeat {
     pub(crate) held: u64,
@@ -15,6 +16,7 @@ pub struct InheritedSeat {
     pub(crate) misses: u64,
     pub(crate) taken: u64,
     pub(crate) load: u64,
+    pub(crate) given: u64,
 }
 
 /// A client, and whether the implicit token is home, the one that a process has from its job server without asking
@@ -48,7 +50,7 @@ impl<C: JobClient> Inherited<C> {
 
     /// Takes the implicit token where it is home, else asks the client. The caller sees to it that the seat holds
     /// fewer than the greatest u64. `Pending` comes exactly where the client was asked in vain, a fault exactly
-    /// where the client faulted.
+    /// where the client faulted. A token that isn't the implicit one is one that the client handed out in this call.
     pub fn take_on(&mut self, seat: &mut InheritedSeat) -> Result<Take, JobFault>
         requires room { seat.old.held < 2 ^ 64 - 1 }
         ensures seat { seat.new ≡ after_take seat.old result }
@@ -65,6 +67,10 @@ impl<C: JobClient> Inherited<C> {
         ensures told { result ≡ Ok Take.Pending → IfSome (C.tokens self.old.client) (λ n. n ≡ 0) }
         ensures fault { IfErr result (λ _. Rose (C.faults self.old.client) (C.faults self.new.client)) }
         ensures sound { IfOk result (λ _. C.faults self.new.client ≡ C.faults self.old.client) }
+        ensures came { result ≡ Ok Take.Token → self.old.is_home ≡ false
+            → C.acquired self.new.client ≡ stands (C.acquired self.old.client + 1) }
+        ensures none { result ≢ Ok Take.Token
+            → C.acquired self.new.client ≡ C.acquired self.old.client }
         ensures taken { RoseWith self.old.taken self.new.taken
             (C.acquired self.old.client) (C.acquired self.new.client) }
         ensures given { (self.new.given ≡ self.old.given)
@@ -97,19 +103,20 @@ impl<C: JobClient> Inherited<C> {
     /// another pool, only the seat's count falls.
     pub fn give_on(&mut self, seat: &mut InheritedSeat)
         requires one { 0 < seat.old.held }
-        ensures seat { seat.new ≡ record seat.old { held = seat.old.held - 1 } }
+        ensures seat { seat.new ≡ after_give seat.old }
         ensures none { self.old.out ≡ 0 → self.new ≡ self.old }
         ensures out { 0 < self.old.out → self.new.out + 1 ≡ self.old.out }
         ensures home { 0 < self.old.out → self.new.is_home ≡ true }
         ensures away { self.old.is_home ≡ false → self.new.client ≡ self.old.client }
         ensures gave { 0 < self.old.out → self.old.is_home ≡ true
-            → Rose (C.released self.old.client) (C.released self.new.client) }
+            → C.released self.new.client ≡ stands (C.released self.old.client + 1) }
         ensures given { RoseWith self.old.given self.new.given
             (C.released self.old.client) (C.released self.new.client) }
         ensures taken { (self.new.taken ≡ self.old.taken)
             × (C.acquired self.new.client ≡ C.acquired self.old.client) }
     {
         seat.held -= 1;
+        seat.given = seat.given.saturating_add(1);
         if self.out == 0 {
             return;
         }

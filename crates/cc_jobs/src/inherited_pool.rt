@@ -1,6 +1,6 @@
 // A client's tokens behind a lock, as a pool.
-ghost use Rattle.std.specs.Prelude.{◌≡◌, ℕ, ◌-◌, ◌<◌, ◌≤◌, ◌^◌};
-ghost use Rattle.cc_jobs.specs.Inherited.{after_take};
+ghost use Rattle.std.specs.Prelude.{◌≡◌, ◌-◌, ℕ, ◌<◌, ◌≤◌, ◌^◌};
+ghost use Rattle.cc_jobs.specs.Inherited.{after_give, after_take};
 
 use crate::inherited::{Inherited, InheritedSeat};
 use crate::{JobClient, JobFault, Jobs, Take};
@@ -26,7 +26,7 @@ impl<C: JobClient, R: Wait + Drop> InheritedPool<C, R> {
     /// A seat that holds nothing, with all counts at 0. It takes no memory and no lock.
     pub fn seat(&self) -> InheritedSeat
         ensures none { (result.held ≡ 0) × (result.faults ≡ 0) × (result.misses ≡ 0)
-            × (result.taken ≡ 0) × (result.load ≡ 0) }
+            × (result.taken ≡ 0) × (result.load ≡ 0) × (result.given ≡ 0) }
     {
         InheritedSeat {
             held: 0,
@@ -34,6 +34,7 @@ impl<C: JobClient, R: Wait + Drop> InheritedPool<C, R> {
             misses: 0,
             taken: 0,
             load: 0,
+            given: 0,
         }
     }
 }
@@ -55,6 +56,10 @@ impl<C: JobClient, R: Wait + Drop> Jobs for InheritedPool<C, R> {
 
     ghost load = { λ s. s.load };
 
+    ghost given = { λ s. s.given };
+
+    ghost misses = { λ s. s.misses };
+
     /// Takes the implicit token, else asks the client, under the lock.
     fn take(&self, seat: &mut InheritedSeat) -> Result<Take, JobFault>
         requires room { seat.old.held < 2 ^ 64 - 1 }
@@ -68,7 +73,7 @@ impl<C: JobClient, R: Wait + Drop> Jobs for InheritedPool<C, R> {
     /// Brings the implicit token home, else gives one to the client, under the lock.
     fn give(&self, seat: &mut InheritedSeat)
         requires one { 0 < seat.old.held }
-        ensures seat { seat.new ≡ record seat.old { held = seat.old.held - 1 } }
+        ensures seat { seat.new ≡ after_give seat.old }
     {
         let mut state = self.state.lock(&self.rt);
         state.give_on(seat);

@@ -18,7 +18,7 @@ pub struct JobFault;
 /// A pool of tokens, which bounds how many commands run at once. Every meaning is of the seat that the caller keeps
 /// and hands in.
 pub trait Jobs {
-    /// What a caller keeps at the pool: how many tokens it holds, and counts of what was taken.
+    /// What a caller keeps at the pool: how many tokens it holds, and counts of what was taken and given back.
     type Seat;
 
     /// Whether a seat is one of this pool. Each call is for such seats alone.
@@ -40,9 +40,15 @@ pub trait Jobs {
     /// ran side by side. It stands still at the greatest u64.
     ghost load: { Self.Seat → ℕ };
 
+    /// How often the seat gave a token back. It stands still at the greatest u64.
+    ghost given: { Self.Seat → ℕ };
+
+    /// How often the seat asked for a token in vain. It never falls.
+    ghost misses: { Self.Seat → ℕ };
+
     /// Asks for a token. `Token` raises what the seat holds by one; `Pending` and a fault leave it. Where the total
-    /// is known, `Pending` comes exactly where the seat holds them all. The caller sees to it that the seat holds
-    /// fewer than the greatest u64.
+    /// is known, `Pending` comes exactly where the seat holds them all; it comes only where the seat's misses rise.
+    /// The caller sees to it that the seat holds fewer than the greatest u64.
     fn take(&self, seat: &mut Self::Seat) -> Result<Take, JobFault>
         requires fits { fits self.now seat.old }
         requires room { held seat.old < 2 ^ 64 - 1 }
@@ -57,10 +63,14 @@ pub trait Jobs {
             → (held seat.new ≡ held seat.old) × (taken seat.new ≡ taken seat.old)
             × (load seat.new ≡ load seat.old) }
         ensures full { IfSome (total seat.old) (λ t. result ≡ Ok Take.Pending ↔ held seat.old ≡ t) }
+        ensures missed { result ≡ Ok Take.Pending → Rose (misses seat.old) (misses seat.new) }
+        ensures misses { misses seat.old ≤ misses seat.new }
+        ensures given { given seat.new ≡ given seat.old }
         ensures later { faults seat.old ≤ faults seat.new }
         ensures fault { IfErr result (λ _. Rose (faults seat.old) (faults seat.new)) };
 
-    /// Gives one token of the seat back, and can't fail. The caller sees to it that the seat holds one.
+    /// Gives one token of the seat back, which is counted, and can't fail. The caller sees to it that the seat holds
+    /// one.
     fn give(&self, seat: &mut Self::Seat)
         requires fits { fits self.now seat.old }
         requires one { 0 < held seat.old }
@@ -69,6 +79,8 @@ pub trait Jobs {
         ensures total { total seat.new ≡ total seat.old }
         ensures bounded { IsBounded (total seat.new) (held seat.new) }
         ensures counts { (taken seat.new ≡ taken seat.old) × (load seat.new ≡ load seat.old) }
+        ensures given { given seat.new ≡ stands (given seat.old + 1) }
+        ensures misses { misses seat.new ≡ misses seat.old }
         ensures later { faults seat.old ≤ faults seat.new };
 
     /// How many tokens the seat holds.

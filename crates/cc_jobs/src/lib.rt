@@ -2,8 +2,8 @@
 //! of one caller, of callers that share one atomic word, and of a client that hands tokens out.
 //!
 //! Stands on `cc_text`, `cc_env` and the kit's `atomic_table`. A caller keeps a seat, and each meaning is of the
-//! seat: how many tokens it holds, how often its pool has failed, the pool's total where it is known, and two counts
-//! of what was taken. The crates above use one thing: `take` that answers `Token` raises what the seat holds by one,
+//! seat: how many tokens it holds, how often its pool has failed, the pool's total where it is known, two counts of
+//! what was taken, how often a token was given back, and how often there was none. The crates above use one thing: `take` that answers `Token` raises what the seat holds by one,
 //! and `give` lowers it by one and can't fail.
 #![tactic(auto)]
 

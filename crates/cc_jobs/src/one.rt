@@ -7,14 +7,17 @@ use crate::{JobFault, Jobs, Take};
 #[derive(Clone, Copy, Debug)]
 pub struct OneCaller;
 
-/// The seat of such a pool: the pool's total, how many tokens are taken, and the two counts of what was taken. It
-/// holds at most the total.
+/// The seat of such a pool: the pool's total, how many tokens are taken, the two counts of what was taken, how often
+/// one was given back, and how often there was none. It holds at most the total. Its counts stand still at the
+/// greatest u64.
 #[derive(Drop, Debug)]
 pub struct OneSeat {
     total: u32,
     held: u32,
     taken: u64,
     load: u64,
+    given: u64,
+    misses: u64,
     ghost within: { (1 ≤ total) × (held ≤ total) },
 }
 
@@ -25,12 +28,15 @@ impl OneCaller {
         requires { 1 ≤ total }
         ensures total { result.1.total ≡ total }
         ensures none { (result.1.held ≡ 0) × (result.1.taken ≡ 0) × (result.1.load ≡ 0) }
+        ensures unused { (result.1.given ≡ 0) × (result.1.misses ≡ 0) }
     {
         let seat = OneSeat {
             total,
             held: 0,
             taken: 0,
             load: 0,
+            given: 0,
+            misses: 0,
         };
         (OneCaller, seat)
     }
@@ -51,8 +57,13 @@ impl Jobs for OneCaller {
 
     ghost load = { λ s. s.load };
 
+    ghost given = { λ s. s.given };
+
+    ghost misses = { λ s. s.misses };
+
     fn take(&self, seat: &mut OneSeat) -> Result<Take, JobFault> {
         if seat.held == seat.total {
+            seat.misses = seat.misses.saturating_add(1);
             return Ok(Take::Pending);
         }
         seat.held += 1;
@@ -63,6 +74,7 @@ impl Jobs for OneCaller {
 
     fn give(&self, seat: &mut OneSeat) {
         seat.held -= 1;
+        seat.given = seat.given.saturating_add(1);
     }
 
     fn held(&self, seat: &OneSeat) -> u64 {

@@ -106,6 +106,10 @@ impl Jobs for SharedPool {
 
     ghost load = { λ s. (view s).load };
 
+    ghost given = { λ s. (view s).given };
+
+    ghost misses = { λ s. (view s).misses };
+
     /// One load, and at most one exchange. `Pending` comes only where the load read 0 or the exchange lost to
     /// another seat, which the seat's count of misses tells. It never answers a fault.
     fn take(&self, seat: &mut SharedSeat) -> Result<Take, JobFault>

@@ -5,7 +5,8 @@ use atomic_table::{Join, Play, Split, TableRule};
 
 /// What a seat of a shared pool knows. It stands in contracts alone, and no value of it is made. `total` is the
 /// pool's, or 0 once the seat was joined to another. `saw` is what the seat's last load read, or 0 once an exchange
-/// has used it. `misses` counts the loads that read 0 and the exchanges that lost, `loads` all loads.
+/// has used it. `misses` counts the loads that read 0 and the exchanges that lost, `loads` all loads, `given` the
+/// tokens that were given back.
 pub struct SeatView {
     pub total: u64,
     pub held: u64,
@@ -14,6 +15,7 @@ pub struct SeatView {
     pub taken: u64,
     pub load: u64,
     pub loads: u64,
+    pub given: u64,
 }
 
 // The rule of a pool of so many tokens.
