@@ -6,7 +6,7 @@ use Rattle.std.proofs.lemmas.Grind.{common_steps}
 use Rattle.std.proofs.Math.ListN.{set}
 use Rattle.cc_run.specs.declared.planned.Planned.{Planned}
 use Rattle.cc_run.specs.declared.running.Child.{Child}
-use Rattle.cc_run.specs.Children.{Kept, seat, run_of, without_child, AreBelow, ArePlaced, IsFirst}
+use Rattle.cc_run.specs.Children.{seat, without_child, IsFirst}
 use Rattle.cc_run.specs.Hearing.{at_child, of_child}
 use Rattle.cc_run.specs.declared.print.Notice.{Notice}
 use Rattle.cc_run.specs.Run.{place_of, without}
@@ -46,40 +46,11 @@ seats_without id (c ∷ cs) = at (c.id == id) (seats_without id cs)
     at true h = refl
     at false h = ap (λ l. seat c ∷ l) h
 
-below_without : (bound id : ℕ) (cs : List (ℕ × ℕ)) → AreBelow bound cs → AreBelow bound (without id cs)
-below_without bound id [] h = tt
-below_without bound id (c ∷ cs) h = at (c.0 == id) (below_without bound id cs h.1)
-  where
-    at : (b : Bool) → AreBelow bound (without id cs) → AreBelow bound (if b then cs else c ∷ without id cs)
-    at true k = h.1
-    at false k = (h.0, k)
-
-pub placed_without : (bound id : ℕ) (cs : List Child) → AreBelow bound (map seat cs) → AreBelow bound (map seat (without_child id cs))
-placed_without bound id cs h = subst (AreBelow bound) (sym (seats_without id cs)) (below_without bound id (map seat cs) h)
-
--- the place of a child that runs is below the bound
-pub placed_at : (bound id place : ℕ) (cs : List (ℕ × ℕ)) → AreBelow bound cs → Some place ≡ place_of id cs → place < bound
-placed_at bound id place [] h e = absurd (cc)
-placed_at bound id place (c ∷ cs) h e = at (c.0 == id) e (placed_at bound id place cs h.1)
-  where
-    at : (b : Bool) → Some place ≡ (if b then Some c.1 else place_of id cs) → (Some place ≡ place_of id cs → place < bound) → place < bound
-    at true e rec = let k : place ≡ c.1 = cc in omega (arith, h.0)
-    at false e rec = rec e
-
--- the same run has the same places
-pub placed_same : (a b : Kept) (bound : ℕ) → run_of a ≡ run_of b → ArePlaced bound b → ArePlaced bound a
-placed_same a b bound e h = subst (λ r. AreBelow bound r.live) (sym e) h
-
 -- a child that keeps id and place
 pub seats_set : (cs : List Child) (at : ℕ) (c d : Child) → at < length cs → seat c ≡ seat (get_or cs at d) → map seat (set cs at c) ≡ map seat cs
 seats_set (x ∷ cs) zero c d lt e = ap (λ s. s ∷ map seat cs) e
 seats_set (x ∷ cs) (suc at) c d lt e = ap (λ l. seat x ∷ l) (seats_set cs at c d (omega arith) e)
 seats_set [] at c d lt e = absurd (omega arith)
-
--- one child more
-pub placed_push : (bound : ℕ) (cs : List Child) (c : Child) → c.place < bound → AreBelow bound (map seat cs) → AreBelow bound (map seat (cs ++ c ∷ []))
-placed_push bound [] c e h = (e, tt)
-placed_push bound (x ∷ cs) c e h = (h.0, placed_push bound cs c e h.1)
 
 Befores : ℕ → List Child → ℕ → Type 0
 Befores id cs at = (k : ℕ) → (d : Child) → k < at → (get_or cs k d).id ≢ id

@@ -1,35 +1,45 @@
 -- Laws on the lines for debugging.
-use Rattle.std.proofs.Common.{◌≡◌, ℕ, ◌+◌, ◌*◌, ◌<◌, ◌≤◌, zero, suc, Bool, true, false, List, [], ◌∷◌, ◌++◌, ◌==◌, ◌&&◌, not, length, map, take, drop, refl, ◌∙◌, ap, arith, if◌then◌else◌}
-use Rattle.std.specs.Prelude.{Result, Ok, Err, OnOk, Option, None, Some, filter, option_to_list, codes}
+use Rattle.std.proofs.Common.{◌≡◌, ℕ, ◌+◌, ◌*◌, ◌<◌, zero, suc, Bool, true, false, List, [], ◌∷◌, ◌++◌, ◌==◌, ◌&&◌, not, length, map, take, drop, refl, sym, ◌∙◌, ap, subst, arith, if◌then◌else◌}
+use Rattle.std.specs.Prelude.{Result, Ok, Err, OnOk, Option, Some, filter, option_to_list, codes}
 use Rattle.std.specs.List.{flat_map, slice_get}
-use Rattle.std.proofs.lemmas.List.{append-nil, length-append, length-map, take_all}
+use Rattle.std.proofs.lemmas.List.{append-nil, length-append}
 use Rattle.std.proofs.lemmas.List.Elements.{filter-append}
+use Rattle.std.proofs.lemmas.List.Sums.{sum_by-cons}
 use Rattle.cc_text.specs.Words.{when}
 use Rattle.cc_host.specs.Command.{CommandSeen}
 use Rattle.cc_host.specs.CommandLine.{command_line}
 use Rattle.cc_host.specs.Part.{since}
+use Rattle.cc_host.proofs.Parts.{since_append}
 use Rattle.cc_host.specs.Status.{is_success}
 use Rattle.cc_host.specs.declared.event.Event.{Event}
 use Rattle.cc_host.specs.declared.event.Event.TheVariants.{Started, Ended, Abandoned, Heard, Unread, Turn, Answered, Reused, Unasked, Drawn, Opened, Taken, Dropped, Ran, Missing, Made, Removed, Wrote, Copied, Here, Said, Printed, Listed, Fault}
 use Rattle.cc_host.specs.declared.event.LineKind.TheVariants.{Warning}
 use Rattle.cc_host.specs.declared.event.Status.{Status}
-use Rattle.cc_run.specs.Children.{Kept, run_of, seat, AreBelow, nothing_kept}
-use Rattle.cc_run.specs.Debugging.{is_debug, debug_printed, end_line, debug_of, debug_from}
+use Rattle.cc_run.specs.Children.{Kept, run_of, seat, nothing_kept}
+use Rattle.cc_run.specs.Debugging.{is_debug, debug_printed, end_line, debug_of, debug_from, DebugsAll, DebugsTimes}
 use Rattle.cc_run.specs.Forwarded.{heard_lines, rest_lines, unread_lines, ended_lines}
 use Rattle.cc_run.specs.Hearing.{of_child, heard_at, unread_at, end_lines}
 use Rattle.cc_run.specs.Lines.{whole_lines, last_line}
-use Rattle.cc_run.specs.Outcome.{IsDone}
-use Rattle.cc_run.specs.Part.{started, started_of, abandoned, abandoned_of}
-use Rattle.cc_run.specs.Planned.{asked, asked_by}
-use Rattle.cc_run.specs.Printing.{due, IsPrinted}
-use Rattle.cc_run.specs.Run.{Run, nothing, run_after, run_from, without, gone, place_of}
+use Rattle.cc_run.specs.Outcome.{list_result}
+use Rattle.cc_run.specs.Paid.{starts, starts_of}
+use Rattle.cc_run.specs.Part.{Good, Along}
+use Rattle.cc_run.specs.Plan.{next_place, next_planned}
+use Rattle.cc_run.specs.Printing.{kept_from, due, IsPrinted}
+use Rattle.cc_run.specs.Rules.{Rules}
+use Rattle.cc_run.specs.Run.{Run, nothing, run_after, run_from, joined, without, gone, place_of}
+use Rattle.cc_run.specs.Seat.{SeatSeen}
+use Rattle.cc_run.specs.State.{State}
 use Rattle.cc_run.specs.Texts.{announced, cargo_line, stderr_line, debug_line, ended_text, failed_line, unread_text}
+use Rattle.cc_run.specs.Whole.{RanAll}
 use Rattle.cc_run.specs.declared.error.RunError.{RunError}
+use Rattle.cc_run.specs.declared.mark.Mark.{Mark}
 use Rattle.cc_run.specs.declared.planned.Planned.{Planned}
 use Rattle.cc_run.specs.declared.planned.Shows.{Shows}
+use Rattle.cc_run.specs.declared.planned.Turns.{Turns as TurnsSeen}
 use Rattle.cc_run.specs.declared.print.Notice.{Notice}
 use Rattle.cc_run.specs.declared.running.Child.{Child}
-use Rattle.cc_run.proofs.SiftLemmas.{filter_when, when_none, untold_start, untold_given, untold_unread, untold_ended, along_due}
+use Rattle.cc_run.proofs.KeptLemmas.{kept_run}
+use Rattle.cc_run.proofs.SiftLemmas.{filter_when, when_none, untold_start, untold_given, untold_unread, untold_ended, AreBelow, along_due}
 
 no_stderr : (id : ℕ) (ts : List (List ℕ)) → filter is_debug (map (stderr_line id) ts) ≡ []
 no_stderr id [] = refl
@@ -89,40 +99,36 @@ end_of shows warns cmds id s (c ∷ cs) h = at (c.id == id) (end_of shows warns 
     at false k = k
 
 -- one event
-debug_due : (shows : Shows) (warns : Bool) (cmds : List Planned) (k : Kept) (e : Event) → AreBelow (length cmds) (map seat k.children) → filter is_debug (due shows warns cmds k e) ≡ debug_of shows (run_of k) e
-debug_due shows warns cmds k (Started n role cmd pipes held) h = untold_start is_debug (λ m. refl) shows cmd (take 1 (drop k.begun cmds)) ∙ announced_one shows cmd
-debug_due shows warns cmds k (Heard n p) h = none_of n (heard_at shows cmds p) (λ c. heard_none shows (slice_get cmds c.place) p c) k.children
-debug_due shows warns cmds k (Unread n) h = none_of n (unread_at shows cmds) (λ c. unread_none shows (slice_get cmds c.place) c) k.children
-debug_due shows warns cmds k (Ended n s) h = end_of shows warns cmds n s k.children h
-debug_due shows warns cmds k (Abandoned n) h = refl
-debug_due shows warns cmds k (Turn n) h = refl
-debug_due shows warns cmds k (Answered q f o) h = refl
-debug_due shows warns cmds k (Reused q v) h = refl
-debug_due shows warns cmds k (Unasked q) h = refl
-debug_due shows warns cmds k (Drawn w) h = refl
-debug_due shows warns cmds k (Opened p b) h = refl
-debug_due shows warns cmds k (Taken p) h = refl
-debug_due shows warns cmds k (Dropped p) h = refl
-debug_due shows warns cmds k (Ran role cmd pipes status out err) h = refl
-debug_due shows warns cmds k (Missing role cmd) h = refl
-debug_due shows warns cmds k (Made scope p) h = refl
-debug_due shows warns cmds k (Removed p how) h = refl
-debug_due shows warns cmds k (Wrote p bytes) h = refl
-debug_due shows warns cmds k (Copied a_file to_file) h = refl
-debug_due shows warns cmds k (Here here) h = refl
-debug_due shows warns cmds k (Said message) h = refl
-debug_due shows warns cmds k (Printed kind b) h = refl
-debug_due shows warns cmds k (Listed vars) h = refl
-debug_due shows warns cmds k (Fault call why) h = refl
+debug_due : (rules : Rules) (k : Kept) (e : Event) → AreBelow (length rules.plan.cmds) (map seat k.children) → filter is_debug (due rules k e) ≡ debug_of rules.shows (run_of k) e
+debug_due rules k (Started n role cmd pipes held) h = untold_start is_debug (λ m. refl) rules.shows cmd (next_planned rules.plan k.marks) ∙ announced_one rules.shows cmd
+debug_due rules k (Heard n p) h = none_of n (heard_at rules.shows rules.plan.cmds p) (λ c. heard_none rules.shows (slice_get rules.plan.cmds c.place) p c) k.children
+debug_due rules k (Unread n) h = none_of n (unread_at rules.shows rules.plan.cmds) (λ c. unread_none rules.shows (slice_get rules.plan.cmds c.place) c) k.children
+debug_due rules k (Ended n s) h = end_of rules.shows rules.warns rules.plan.cmds n s k.children h
+debug_due rules k (Abandoned n) h = refl
+debug_due rules k (Turn n) h = refl
+debug_due rules k (Answered q f o) h = refl
+debug_due rules k (Reused q v) h = refl
+debug_due rules k (Unasked q) h = refl
+debug_due rules k (Drawn w) h = refl
+debug_due rules k (Opened p b) h = refl
+debug_due rules k (Taken p) h = refl
+debug_due rules k (Dropped p) h = refl
+debug_due rules k (Ran role cmd pipes status out err) h = refl
+debug_due rules k (Missing role cmd) h = refl
+debug_due rules k (Made scope p) h = refl
+debug_due rules k (Removed p how) h = refl
+debug_due rules k (Wrote p bytes) h = refl
+debug_due rules k (Copied a_file to_file) h = refl
+debug_due rules k (Here here) h = refl
+debug_due rules k (Said message) h = refl
+debug_due rules k (Printed kind b) h = refl
+debug_due rules k (Listed vars) h = refl
+debug_due rules k (Fault call why) h = refl
 
--- those that were printed
-pub debug_all : {T : Type 0} (shows : Shows) (warns : Bool) (cmds : List Planned) (part : List Event) (result : Result T RunError) → IsPrinted shows warns cmds nothing_kept result part → 0 + length (started part) ≤ length cmds → OnOk result (debug_printed part ≡ debug_from shows nothing part)
-debug_all shows warns cmds part (Ok x) q few = ap (filter is_debug) q.0 ∙ along_due is_debug (debug_of shows) shows warns cmds (debug_due shows warns cmds) nothing_kept part tt few
-debug_all shows warns cmds part (Err e) q few = tt
-
-none_both : {X : Type 0} (xs ys : List X) → xs ++ ys ≡ [] → (xs ≡ []) × (ys ≡ [])
-none_both [] ys e = (refl, e)
-none_both (x ∷ xs) ys e = absurd (cc)
+-- On Ok the lines for debugging are those of the run's events.
+pub ran_debug : {T : Type 0} (rules : Rules) (part : List Event) (result : Result T RunError) → IsPrinted rules nothing_kept result part → DebugsAll rules.plan rules.shows result part
+ran_debug rules part (Ok x) q = ap (filter is_debug) q.0 ∙ along_due is_debug (debug_of rules.shows) rules (debug_due rules) nothing_kept part tt
+ran_debug rules part (Err e) q = tt
 
 announced_once : (shows : Shows) (cmd : CommandSeen) → shows.debug ≡ true → length (announced shows cmd) ≡ 1
 unfolding announced
@@ -137,49 +143,59 @@ reported_once shows id s (c ∷ cs) on = at (c.0 == id) (reported_once shows id 
     at true k = let one : length (when shows.debug (debug_line (ended_text s) ∷ [])) ≡ 1 = ap (λ b. length (when b (debug_line (ended_text s) ∷ []))) on in omega arith
     at false k = omega (arith, k)
 
-counted : (shows : Shows) (r : Run) (e : Event) → shows.debug ≡ true → abandoned_of e ≡ [] → length (debug_of shows r e) + length (run_after r e).live ≡ 2 * length (started_of e) + length r.live
-counted shows r (Started n role cmd pipes held) on h = let one : length (announced shows cmd) ≡ 1 = announced_once shows cmd on in let more : length (r.live ++ (n, r.begun) ∷ []) ≡ length r.live + 1 = length-append r.live ((n, r.begun) ∷ []) in omega (arith, one, more)
-counted shows r (Ended n s) on h = let k : length (end_line shows s (place_of n r.live)) + length (without n r.live) ≡ length r.live = reported_once shows n s r.live on in omega (arith, k)
-counted shows r (Abandoned n) on h = absurd (cc)
-counted shows r (Heard n p) on h = omega arith
-counted shows r (Unread n) on h = omega arith
-counted shows r (Turn n) on h = omega arith
-counted shows r (Answered q f o) on h = omega arith
-counted shows r (Reused q v) on h = omega arith
-counted shows r (Unasked q) on h = omega arith
-counted shows r (Drawn w) on h = omega arith
-counted shows r (Opened p b) on h = omega arith
-counted shows r (Taken p) on h = omega arith
-counted shows r (Dropped p) on h = omega arith
-counted shows r (Ran role cmd pipes status out err) on h = omega arith
-counted shows r (Missing role cmd) on h = omega arith
-counted shows r (Made scope p) on h = omega arith
-counted shows r (Removed p how) on h = omega arith
-counted shows r (Wrote p bytes) on h = omega arith
-counted shows r (Copied a_file to_file) on h = omega arith
-counted shows r (Here here) on h = omega arith
-counted shows r (Said message) on h = omega arith
-counted shows r (Printed kind b) on h = omega arith
-counted shows r (Listed vars) on h = omega arith
-counted shows r (Fault call why) on h = omega arith
+-- A line for what is started, and one for what ends.
+counted : (rules : Rules) (total : Option ℕ) (r : Run) (e : Event) → rules.shows.debug ≡ true → Good rules total r e → length (debug_of rules.shows r e) + length (run_after rules.plan r e).live ≡ 2 * starts_of e + length r.live
+counted rules total r (Started n role cmd pipes held) on h =
+    let one : length (announced rules.shows cmd) ≡ 1 = announced_once rules.shows cmd on in
+    let more : length (joined n (next_place rules.plan r.marks) r.live) ≡ length r.live + 1 = ap (λ o. length (joined n o r.live)) h.next ∙ length-append r.live ((n, h.place) ∷ []) in
+    omega (arith, one, more)
+counted rules total r (Ended n s) on h = let k : length (end_line rules.shows s (place_of n r.live)) + length (without n r.live) ≡ length r.live = reported_once rules.shows n s r.live on in omega (arith, k)
+counted rules total r (Heard n p) on h = omega arith
+counted rules total r (Unread n) on h = omega arith
+counted rules total r (Turn n) on h = omega arith
+counted rules total r (Said message) on h = omega arith
+counted rules total r (Printed kind b) on h = omega arith
+counted rules total r (Abandoned n) on h = absurd h
+counted rules total r (Answered q f o) on h = absurd h
+counted rules total r (Reused q v) on h = absurd h
+counted rules total r (Unasked q) on h = absurd h
+counted rules total r (Drawn w) on h = absurd h
+counted rules total r (Opened p b) on h = absurd h
+counted rules total r (Taken p) on h = absurd h
+counted rules total r (Dropped p) on h = absurd h
+counted rules total r (Ran role cmd pipes status out err) on h = absurd h
+counted rules total r (Missing role cmd) on h = absurd h
+counted rules total r (Made scope p) on h = absurd h
+counted rules total r (Removed p how) on h = absurd h
+counted rules total r (Wrote p bytes) on h = absurd h
+counted rules total r (Copied a_file to_file) on h = absurd h
+counted rules total r (Here here) on h = absurd h
+counted rules total r (Listed vars) on h = absurd h
+counted rules total r (Fault call why) on h = absurd h
 
-counted_from : (shows : Shows) (r : Run) (es : List Event) → shows.debug ≡ true → abandoned es ≡ [] → length (debug_from shows r es) + length (run_from r es).live ≡ 2 * length (started es) + length r.live
-counted_from shows r [] on h = omega arith
-counted_from shows r (e ∷ es) on h =
-    let none = none_both (abandoned_of e) (abandoned es) h in
-    let a : length (debug_of shows r e) + length (run_after r e).live ≡ 2 * length (started_of e) + length r.live = counted shows r e on none.0 in
-    let b : length (debug_from shows (run_after r e) es) + length (run_from (run_after r e) es).live ≡ 2 * length (started es) + length (run_after r e).live = counted_from shows (run_after r e) es on none.1 in
-    let c : length (debug_of shows r e ++ debug_from shows (run_after r e) es) ≡ length (debug_of shows r e) + length (debug_from shows (run_after r e) es) = length-append (debug_of shows r e) (debug_from shows (run_after r e) es) in
-    let d : length (started_of e ++ started es) ≡ length (started_of e) + length (started es) = length-append (started_of e) (started es) in
+counted_from : (rules : Rules) (total : Option ℕ) (r : Run) (es : List Event) → rules.shows.debug ≡ true → Along rules total r es → length (debug_from rules.plan rules.shows r es) + length (run_from rules.plan r es).live ≡ 2 * starts es + length r.live
+counted_from rules total r [] on h = omega arith
+counted_from rules total r (e ∷ es) on h =
+    let r' = run_after rules.plan r e in
+    let a : length (debug_of rules.shows r e) + length r'.live ≡ 2 * starts_of e + length r.live = counted rules total r e on h.0 in
+    let b : length (debug_from rules.plan rules.shows r' es) + length (run_from rules.plan r' es).live ≡ 2 * starts es + length r'.live = counted_from rules total r' es on h.1 in
+    let c : length (debug_from rules.plan rules.shows r (e ∷ es)) ≡ length (debug_of rules.shows r e) + length (debug_from rules.plan rules.shows r' es) = length-append (debug_of rules.shows r e) (debug_from rules.plan rules.shows r' es) in
+    let d : starts (e ∷ es) ≡ starts_of e + starts es = sum_by-cons starts_of e es in
     omega (arith, a, b, c, d)
 
--- Where every command was started and has ended, there are two lines for each.
-pub debug_twice : {T : Type 0} (shows : Shows) (cmds : List Planned) (old mid new : List Event) (r : Run) (result : Result T RunError) → OnOk result (debug_printed (since old new) ≡ debug_from shows nothing (since old new)) → new ≡ mid ++ gone r.live → run_from nothing (since old mid) ≡ r → started (since old mid) ≡ take r.begun (asked shows cmds) → OnOk result (IsDone (length (asked shows cmds)) r × (r.failed ≡ None)) → abandoned (since old mid) ≡ [] → shows.debug ≡ true → OnOk result (length (debug_printed (since old new)) ≡ 2 * length cmds)
-debug_twice shows cmds old mid new r (Ok x) d f run begun done none on =
-    let same : new ≡ mid = f ∙ ap (λ l. mid ++ gone l) done.0.1 ∙ append-nil mid in
-    let a : length (debug_from shows nothing (since old mid)) + length (run_from nothing (since old mid)).live ≡ 2 * length (started (since old mid)) + 0 = counted_from shows nothing (since old mid) on none in
-    let b : length (run_from nothing (since old mid)).live ≡ 0 = ap (λ s. length s.live) run ∙ ap length done.0.1 in
-    let e : length (started (since old mid)) ≡ length cmds = ap length (begun ∙ ap (λ n. take n (asked shows cmds)) done.0.0 ∙ take_all (length (asked shows cmds)) (asked shows cmds) (omega arith)) ∙ length-map cmds (asked_by shows) in
-    let g : length (debug_printed (since old new)) ≡ length (debug_from shows nothing (since old mid)) = ap length (d ∙ ap (λ l. debug_from shows nothing (since old l)) same) in
-    omega (arith, a, b, e, g)
-debug_twice shows cmds old mid new r (Err e) d f run begun done none on = tt
+-- Where all commands of a list were started and the answer is Ok, there are two lines for each.
+pub ran_twice : (rules : Rules) (total : Option ℕ) (cmds : List Planned) (old : State) (result : Result (Unit {0}) RunError) (general : Result (List Mark) RunError) (log : List Event) (patience : Option ℕ) (seat : SeatSeen) (turns : TurnsSeen) → old.kept ≡ nothing_kept → result ≡ list_result general → (ran : RanAll rules total old general log patience seat turns) → IsPrinted rules nothing_kept result (since old.log log) → OnOk result (starts ran.works.part ≡ length cmds) → DebugsTimes rules.shows result (2 * length cmds) (since old.log log)
+ran_twice rules total cmds old (Err e) general log patience seat turns fresh answer ran q all = λ on. tt
+ran_twice rules total cmds old (Ok x) (Err e) log patience seat turns fresh answer ran q all = absurd (cc)
+ran_twice rules total cmds old (Ok x) (Ok marks) log patience seat turns fresh answer ran q all = λ on.
+    let part = ran.works.part in
+    let live : (run_of ran.done.kept).live ≡ [] = ran.ends.0.0 in
+    let same : log ≡ old.log ++ part = ran.adds ∙ ap (λ t. ran.done.log ++ (t ++ gone (run_of ran.done.kept).live)) ran.ends.2 ∙ ap (λ l. ran.done.log ++ gone l) live ∙ append-nil ran.done.log ∙ ran.works.adds in
+    let cut : since old.log log ≡ part = ap (since old.log) same ∙ since_append old.log part in
+    let good : Along rules total nothing part = subst (λ k. Along rules total (run_of k) part) fresh ran.works.good in
+    let run : run_from rules.plan nothing part ≡ run_of ran.done.kept = sym (kept_run rules.plan nothing_kept part) ∙ ap (λ k. run_of (kept_from rules.plan k part)) (sym fresh) ∙ ap run_of ran.works.keeps in
+    let a : length (debug_from rules.plan rules.shows nothing part) + length (run_from rules.plan nothing part).live ≡ 2 * starts part + 0 = counted_from rules total nothing part on good in
+    let b : length (run_from rules.plan nothing part).live ≡ 0 = ap (λ r. length r.live) run ∙ ap length live in
+    let d : length (debug_printed (since old.log log)) ≡ length (debug_from rules.plan rules.shows nothing part) = ap length (ran_debug rules (since old.log log) (Ok x) q ∙ ap (debug_from rules.plan rules.shows nothing) cut) in
+    let e : starts part ≡ length cmds = all in
+    omega (arith, a, b, d, e)

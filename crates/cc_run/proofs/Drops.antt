@@ -1,23 +1,33 @@
--- Laws on children that are abandoned.
-use Rattle.std.proofs.Common.{◌≡◌, inl, inr, ℕ, suc, ◌+◌, ◌<◌, List, [], ◌∷◌, ◌++◌, ◌==◌, length, take, drop, get_or, map, refl, sym, ◌∙◌, ap, subst, append_assoc, add-one, drop-cons, arith, Bool, true, false, if◌then◌else◌, Option, None, Some}
-use Rattle.std.specs.List.{Contains, flat_map}
-use Rattle.std.proofs.lemmas.List.{append-nil, take_more, map-append}
-use Rattle.std.proofs.lemmas.Grind.{common_steps, flat_map-append}
-use Rattle.std.proofs.lemmas.List.Sums.{sum_by-append}
-use Rattle.cc_host.specs.Children.{InOrder, Live, live, live_from, live_after, polled, running, without as without_live}
+-- Laws on children that are abandoned, and on those that run on the host.
+use Rattle.std.proofs.Common.{◌≡◌, inl, inr, ℕ, suc, ◌+◌, ◌<◌, List, [], ◌∷◌, ◌++◌, ◌==◌, length, take, drop, get_or, map, refl, sym, ◌∙◌, ap, subst, append_assoc, add-one, drop-cons, arith, Bool, true, false, if◌then◌else◌}
+use Rattle.std.specs.Prelude.{Option, None, Some, Result, Ok, Err}
+use Rattle.std.specs.List.{Contains}
+use Rattle.std.proofs.lemmas.List.{take_more, map-append}
+use Rattle.std.proofs.lemmas.Grind.{common_steps}
+use Rattle.std.proofs.lemmas.List.Sums.{sum_by-cons}
+use Rattle.cc_host.specs.Children.{InOrder, Live, live, live_from, live_after, running, without as without_live}
 use Rattle.cc_host.specs.Part.{since}
 use Rattle.cc_host.proofs.Parts.{since_append}
-use Rattle.cc_host.specs.declared.event.Status.{Status}
 use Rattle.cc_host.specs.declared.event.Event.{Event}
-use Rattle.cc_host.specs.declared.event.Event.TheVariants.{Started, Ended, Abandoned, Heard, Unread, Turn, Answered, Reused, Unasked, Drawn, Opened, Taken, Dropped, Ran, Missing, Made, Removed, Wrote, Copied, Here, Said, Printed, Listed, Fault}
-use Rattle.cc_run.specs.Children.{seat}
-use Rattle.cc_run.specs.declared.running.Child.{Child}
-use Rattle.cc_run.specs.Planned.{Asked}
-use Rattle.cc_run.specs.Run.{Run, nothing, run_after, run_from, without, ids, gone, Along}
-use Rattle.cc_run.specs.Part.{started_of, missing, missing_of, faults, fault_of, turns, turns_of, Fits, IsBusy, Greedy, Goes}
+use Rattle.cc_host.specs.declared.event.Event.TheVariants.{Abandoned, Missing, Fault}
+use Rattle.cc_run.specs.Children.{nothing_kept, run_of, seat}
 use Rattle.cc_run.specs.Life.{LivesOn}
+use Rattle.cc_run.specs.Paid.{starts, starts_of}
+use Rattle.cc_run.specs.Part.{Along}
+use Rattle.cc_run.specs.Plan.{Plan, next_place}
+use Rattle.cc_run.specs.Rules.{Rules}
+use Rattle.cc_run.specs.Run.{Run, nothing, joined, run_after, run_from, without, ids, gone}
+use Rattle.cc_run.specs.Seat.{SeatSeen}
+use Rattle.cc_run.specs.State.{State, Works, Steps}
+use Rattle.cc_run.specs.Whole.{RanAll}
+use Rattle.cc_run.specs.declared.error.RunError.{RunError}
+use Rattle.cc_run.specs.declared.mark.Mark.{Mark}
+use Rattle.cc_run.specs.declared.planned.Turns.{Turns as TurnsSeen}
+use Rattle.cc_run.specs.declared.running.Child.{Child}
 use Rattle.cc_run.proofs.LifeLemmas.{lives_then, lives_others, lives_abandoned}
-use Rattle.cc_run.proofs.Runs.{goes_by, goes_then}
+use Rattle.cc_run.proofs.PatienceLemmas.{by_kind, by_cause, by_end, live_append, ids_after, ids_polled, ids_unstarted, ran_part}
+use Rattle.cc_run.proofs.KeptLemmas.{kept_run}
+use Rattle.cc_run.proofs.Runs.{run_from-append}
 
 ids_of : List Live → List ℕ
 ids_of = map (λ c. c.id)
@@ -61,53 +71,50 @@ in_order_push (x ∷ xs) [] n h = absurd h
 in_order_push (x ∷ xs) (y ∷ ys) n (inl h) = inl (h.0, in_order_push xs ys n h.1)
 in_order_push (x ∷ xs) (y ∷ ys) n (inr h) = inr (in_order_push (x ∷ xs) ys n h)
 
-polled_ids : (count : ℕ) (ls : List Live) → ids_of (map (polled count) ls) ≡ ids_of ls
+in_order_end : (xs ys : List ℕ) (n : ℕ) → InOrder xs ys → InOrder xs (ys ++ n ∷ [])
+in_order_end [] ys n h = tt
+in_order_end (x ∷ xs) [] n h = absurd h
+in_order_end (x ∷ xs) (y ∷ ys) n (inl h) = inl (h.0, in_order_end xs ys n h.1)
+in_order_end (x ∷ xs) (y ∷ ys) n (inr h) = inr (in_order_end (x ∷ xs) ys n h)
+
+in_order_start : (id : ℕ) (o : Option ℕ) (cs : List (ℕ × ℕ)) (ls : List Live) → InOrder (ids cs) (ids_of ls) → InOrder (ids (joined id o cs)) (ids_of (ls ++ record { id = id; polls = 0 } ∷ []))
 unfolding ids_of
-polled_ids count [] = refl
-polled_ids count (l ∷ ls) = ap (λ k. l.id ∷ k) (polled_ids count ls)
+in_order_start id None cs ls h = subst (InOrder (ids cs)) (sym (map-append (λ c. c.id) ls (record { id = id; polls = 0 } ∷ []))) (in_order_end (ids cs) (ids_of ls) id h)
+in_order_start id (Some p) cs ls h = subst (λ xs. InOrder xs (ids_of (ls ++ record { id = id; polls = 0 } ∷ []))) (sym (map-append (λ c. c.0) cs ((id, p) ∷ []))) (subst (InOrder (ids cs ++ id ∷ [])) (sym (map-append (λ c. c.id) ls (record { id = id; polls = 0 } ∷ []))) (in_order_push (ids cs) (ids_of ls) id h))
 
-in_order_after : (r : Run) (ls : List Live) (e : Event) → InOrder (ids r.live) (ids_of ls) → InOrder (ids (run_after r e).live) (ids_of (live_after ls e))
+in_order_after : (plan : Plan) (r : Run) (ls : List Live) → InOrder (ids r.live) (ids_of ls) → (e : Event) → InOrder (ids (run_after plan r e).live) (ids_of (live_after ls e))
 unfolding ids_of
-in_order_after r ls (Started id role cmd pipes held) h = subst (λ xs. InOrder xs (ids_of (ls ++ record { id = id; polls = 0 } ∷ []))) (sym (map-append (λ c. c.0) r.live ((id, r.begun) ∷ []))) (subst (λ ys. InOrder (ids r.live ++ id ∷ []) ys) (sym (map-append (λ c. c.id) ls (record { id = id; polls = 0 } ∷ []))) (in_order_push (ids r.live) (ids_of ls) id h))
-in_order_after r ls (Ended id s) h = in_order_without id r.live ls h
-in_order_after r ls (Abandoned id) h = in_order_without id r.live ls h
-in_order_after r ls (Turn n) h = subst (λ ys. InOrder (ids r.live) ys) (sym (polled_ids n ls)) h
-in_order_after r ls (Heard id b) h = h
-in_order_after r ls (Unread id) h = h
-in_order_after r ls (Answered q f o) h = h
-in_order_after r ls (Reused q v) h = h
-in_order_after r ls (Unasked q) h = h
-in_order_after r ls (Drawn w) h = h
-in_order_after r ls (Opened p b) h = h
-in_order_after r ls (Taken p) h = h
-in_order_after r ls (Dropped p) h = h
-in_order_after r ls (Ran role cmd pipes status out err) h = h
-in_order_after r ls (Missing role cmd) h = h
-in_order_after r ls (Made scope p) h = h
-in_order_after r ls (Removed p how) h = h
-in_order_after r ls (Wrote p bytes) h = h
-in_order_after r ls (Copied a_file to_file) h = h
-in_order_after r ls (Here here) h = h
-in_order_after r ls (Said message) h = h
-in_order_after r ls (Printed kind b) h = h
-in_order_after r ls (Listed vars) h = h
-in_order_after r ls (Fault call why) h = h
+in_order_after plan r ls h = by_kind (λ e. InOrder (ids (run_after plan r e).live) (ids_of (live_after ls e)))
+    (λ id role cmd pipes held. in_order_start id (next_place plan r.marks) r.live ls h)
+    (λ id s. in_order_without id r.live ls h)
+    (λ id. in_order_without id r.live ls h)
+    (λ n. subst (InOrder (ids r.live)) (sym (ids_polled n ls)) h)
+    (λ e q. subst (λ l. InOrder (ids (run_after plan r e).live) (ids_of l)) (sym (q.lives ls)) (subst (λ s. InOrder (ids s.live) (ids_of ls)) (sym (q.run plan r)) h))
 
-in_order_from : (r : Run) (ls : List Live) (part : List Event) → InOrder (ids r.live) (ids_of ls) → InOrder (ids (run_from r part).live) (ids_of (live_from ls part))
-in_order_from r ls [] h = h
-in_order_from r ls (e ∷ es) h = in_order_from (run_after r e) (live_after ls e) es (in_order_after r ls e h)
+in_order_from : (plan : Plan) (r : Run) (ls : List Live) (part : List Event) → InOrder (ids r.live) (ids_of ls) → InOrder (ids (run_from plan r part).live) (ids_of (live_from ls part))
+in_order_from plan r ls [] h = h
+in_order_from plan r ls (e ∷ es) h = in_order_from plan (run_after plan r e) (live_after ls e) es (in_order_after plan r ls h e)
 
-pub live_append : (ls : List Live) (a b : List Event) → live_from ls (a ++ b) ≡ live_from (live_from ls a) b
-live_append ls [] b = refl
-live_append ls (e ∷ a) b = live_append (live_after ls e) a b
+works_in_order : (rules : Rules) (total : Option ℕ) (a b : State) → Works rules total a b → InOrder (ids (run_of a.kept).live) (running a.log) → InOrder (ids (run_of b.kept).live) (running b.log)
+unfolding ids_of
+works_in_order rules total a b w h =
+    let k : InOrder (ids (run_from rules.plan (run_of a.kept) w.part).live) (ids_of (live_from (live a.log) w.part)) = in_order_from rules.plan (run_of a.kept) (live a.log) w.part h in
+    let l : live_from (live a.log) w.part ≡ live b.log = sym (live_append [] a.log w.part) ∙ ap live (sym w.adds) in
+    let r : run_from rules.plan (run_of a.kept) w.part ≡ run_of b.kept = sym (kept_run rules.plan a.kept w.part) ∙ ap run_of w.keeps in
+    subst (λ s. InOrder (ids s.live) (running b.log)) r (subst (λ ls. InOrder (ids (run_from rules.plan (run_of a.kept) w.part).live) (ids_of ls)) l k)
 
 -- the children of a run run on the host
-pub goes_runs : {t : Option ℕ} {cmds : List Asked} {old new : List Event} {r r' : Run} → Goes t cmds old r new r' → InOrder (ids r.live) (running old) → InOrder (ids r'.live) (running new)
-unfolding ids_of
-goes_runs {t} {cmds} {old} {new} {r} {r'} g h =
-    let k : InOrder (ids (run_from r (since old new)).live) (ids_of (live_from (live old) (since old new))) = in_order_from r (live old) (since old new) h in
-    let e : live_from (live old) (since old new) ≡ live new = sym (live_append [] old (since old new)) ∙ ap live (sym g.extends) in
-    subst (λ s. InOrder (ids s.live) (running new)) g.steps.run (subst (λ ls. InOrder (ids (run_from r (since old new)).live) (ids_of ls)) e k)
+pub steps_in_order : {T : Type 0} (rules : Rules) (total : Option ℕ) (a b : State) (result : Result T RunError) → Steps rules total a result b → InOrder (ids (run_of a.kept).live) (running a.log) → InOrder (ids (run_of b.kept).live) (running b.log)
+steps_in_order {T} rules total a b (Ok x) w h = works_in_order rules total a b w h
+steps_in_order {T} rules total a b (Err e) s h =
+    let quiet : live_from (live s.mid.log) s.tail ≡ live s.mid.log = by_cause (λ t. live_from (live s.mid.log) t ≡ live s.mid.log) refl (λ role cmd. refl) (λ call why. refl) rules.plan.cmds e s.tail s.cause in
+    let same : running b.log ≡ running s.mid.log = ap running s.adds ∙ ap (map (λ c. c.id)) (live_append [] s.mid.log s.tail ∙ quiet) in
+    subst (λ r. InOrder (ids r.live) (running b.log)) (sym s.run) (subst (InOrder (ids (run_of s.mid.kept).live)) (sym same) (works_in_order rules total a s.mid s.works h))
+
+in_order_has : (x : ℕ) (xs ys : List ℕ) → InOrder (x ∷ xs) ys → Contains ys x
+in_order_has x xs [] h = absurd h
+in_order_has x xs (y ∷ ys) (inl h) = (0, omega arith, sym h.0)
+in_order_has x xs (y ∷ ys) (inr h) = let k = in_order_has x xs ys h in (suc k.0, (let l : k.0 < length ys = k.1 in omega arith), k.2)
 
 -- the first of those that run is abandoned
 pub runs_abandoned : (old new : List Event) (c : ℕ × ℕ) (cs : List (ℕ × ℕ)) → new ≡ old ++ Abandoned c.0 ∷ [] → InOrder (ids (c ∷ cs)) (running old) → InOrder (ids cs) (running new)
@@ -118,84 +125,18 @@ runs_abandoned old new c cs e h =
     let one : without c.0 (c ∷ cs) ≡ cs = grind (arith, common_steps) in
     subst (λ x. InOrder (ids x) (running new)) one (subst (λ ls. InOrder (ids (without c.0 (c ∷ cs))) (ids_of ls)) l k)
 
-gone_run : (live : List (ℕ × ℕ)) (begun : ℕ) (failed : Option (ℕ × Status)) → run_from (record { live = live; begun = begun; failed = failed }) (gone live) ≡ record { live = []; begun = begun; failed = failed }
-gone_run [] begun failed = refl
-gone_run (c ∷ cs) begun failed =
-    let one : without c.0 (c ∷ cs) ≡ cs = grind (arith, common_steps) in
-    ap (λ l. run_from (record { live = l; begun = begun; failed = failed }) (gone cs)) one ∙ gone_run cs begun failed
+drop_at : (items : List Child) (i : ℕ) (c : Child) → i < length items → c ≡ get_or items i c → drop i items ≡ c ∷ drop (i + 1) items
+drop_at items i c lt at = rw (add-one, drop-cons items i c) (ap (λ x. x ∷ drop (suc i) items) (sym at))
 
-along_gone : (P : Run → Event → Type 0) → ((r : Run) (id : ℕ) → P r (Abandoned id)) → (r : Run) (cs : List (ℕ × ℕ)) → Along P r (gone cs)
-along_gone P h r [] = tt
-along_gone P h r (c ∷ cs) = (h r c.0, along_gone P h (run_after r (Abandoned c.0)) cs)
-
-greedy_gone : (t : Option ℕ) (n : ℕ) (r : Run) (cs : List (ℕ × ℕ)) → Greedy t n r (gone cs)
-greedy_gone None n r cs = tt
-greedy_gone (Some t) n r cs = along_gone (IsBusy t n) (λ _ _. tt) r cs
-
-gone_silent : {X : Type 0} (f : Event → List X) → ((id : ℕ) → f (Abandoned id) ≡ []) → (cs : List (ℕ × ℕ)) → flat_map f (gone cs) ≡ []
-gone_silent f h [] = refl
-gone_silent f h (c ∷ cs) = grind (arith, common_steps, h c.0, gone_silent f h cs)
-
-pub gone_missing : (cs : List (ℕ × ℕ)) → missing (gone cs) ≡ []
-gone_missing = gone_silent missing_of (λ id. refl)
-
-pub gone_faults : (cs : List (ℕ × ℕ)) → faults (gone cs) ≡ []
-gone_faults = gone_silent fault_of (λ id. refl)
-
-pub gone_turns : (cs : List (ℕ × ℕ)) → turns (gone cs) ≡ 0
-gone_turns [] = refl
-gone_turns (c ∷ cs) = grind (arith, common_steps, gone_turns cs)
-
-in_order_has : (x : ℕ) (xs ys : List ℕ) → InOrder (x ∷ xs) ys → Contains ys x
-in_order_has x xs [] h = absurd h
-in_order_has x xs (y ∷ ys) (inl h) = (0, omega arith, sym h.0)
-in_order_has x xs (y ∷ ys) (inr h) = let k = in_order_has x xs ys h in (suc k.0, (let l : k.0 < length ys = k.1 in omega arith), k.2)
-
--- and takes each child on
-pub lives_gone : (mid new : List Event) (cs : List (ℕ × ℕ)) → new ≡ mid ++ gone cs → InOrder (ids cs) (running mid) → LivesOn mid new
-lives_gone mid new [] e h = lives_others mid new [] e (λ _. tt)
-lives_gone mid new (c ∷ cs) e h =
-    let one = mid ++ Abandoned c.0 ∷ [] in
-    let f : new ≡ one ++ gone cs = e ∙ sym (append_assoc mid (Abandoned c.0 ∷ []) (gone cs)) in
-    lives_then mid one new (grown mid one (Abandoned c.0 ∷ []) refl) (grown one new (gone cs) f) (lives_abandoned mid one c.0 refl (in_order_has c.0 (ids cs) (running mid) h)) (lives_gone one new cs f (runs_abandoned mid one c cs refl h))
-  where
-    grown : (old new part : List Event) → new ≡ old ++ part → new ≡ old ++ since old new
-    grown old new part e = e ∙ ap (λ p. old ++ p) (sym (since_append old part) ∙ ap (since old) (sym e))
-
-pub goes_gone : {t : Option ℕ} {cmds : List Asked} {old mid new : List Event} {r r' : Run} → Goes t cmds old r mid r' → new ≡ mid ++ gone r'.live → InOrder (ids r.live) (running old) → Goes t cmds old r new (record { live = []; begun = r'.begun; failed = r'.failed })
-goes_gone {t} {cmds} {old} {mid} {new} {r} {r'} g e h =
-    goes_then t cmds old mid new r r' (record { live = []; begun = r'.begun; failed = r'.failed }) g
-    (goes_by t cmds mid new (gone r'.live) r' (record { live = []; begun = r'.begun; failed = r'.failed }) e (record {
-      run = gone_run r'.live r'.begun r'.failed;
-      asked = ap (λ l. take r'.begun cmds ++ l) (gone_silent started_of (λ id. refl) r'.live) ∙ append-nil (take r'.begun cmds);
-      within = along_gone (Fits t) (λ _ _. tt) r' r'.live;
-      greedy = greedy_gone t (length cmds) r' r'.live;
-    }) (lives_gone mid new r'.live e (goes_runs g h)))
-
-since_gone : {t : Option ℕ} {cmds : List Asked} {old mid new : List Event} {r r' : Run} (l : List (ℕ × ℕ)) → Goes t cmds old r mid r' → new ≡ mid ++ gone l → since old new ≡ since old mid ++ gone l
-since_gone {t} {cmds} {old} {mid} {new} l g e =
-    ap (since old) (e ∙ ap (λ m. m ++ gone l) g.extends ∙ append_assoc old (since old mid) (gone l)) ∙ since_append old (since old mid ++ gone l)
-
-pub turns_gone : {t : Option ℕ} {cmds : List Asked} {old mid new : List Event} {r r' : Run} (l : List (ℕ × ℕ)) → Goes t cmds old r mid r' → new ≡ mid ++ gone l → turns (since old new) ≡ turns (since old mid)
-turns_gone {t} {cmds} {old} {mid} {new} l g e =
-    let both : turns (since old new) ≡ turns (since old mid) + turns (gone l) = ap turns (since_gone l g e) ∙ sum_by-append turns_of (since old mid) (gone l) in
-    let none : turns (gone l) ≡ 0 = gone_turns l in
-    omega arith
-
-pub missing_gone : {t : Option ℕ} {cmds : List Asked} {old mid new : List Event} {r r' : Run} (l : List (ℕ × ℕ)) → Goes t cmds old r mid r' → new ≡ mid ++ gone l → missing (since old new) ≡ missing (since old mid)
-missing_gone {t} {cmds} {old} {mid} {new} l g e =
-    ap missing (since_gone l g e) ∙ flat_map-append missing_of (since old mid) (gone l) ∙ ap (λ x. missing (since old mid) ++ x) (gone_missing l) ∙ append-nil (missing (since old mid))
-
-pub faults_gone : {t : Option ℕ} {cmds : List Asked} {old mid new : List Event} {r r' : Run} (l : List (ℕ × ℕ)) → Goes t cmds old r mid r' → new ≡ mid ++ gone l → faults (since old new) ≡ faults (since old mid)
-faults_gone {t} {cmds} {old} {mid} {new} l g e =
-    ap faults (since_gone l g e) ∙ flat_map-append fault_of (since old mid) (gone l) ∙ ap (λ x. faults (since old mid) ++ x) (gone_faults l) ∙ append-nil (faults (since old mid))
+gone_more : (items : List Child) (i : ℕ) (c : Child) → i < length items → c ≡ get_or items i c → gone (map seat (take (i + 1) items)) ≡ gone (map seat (take i items)) ++ Abandoned c.id ∷ []
+gone_more items i c lt at =
+    ap (λ l. gone (map seat l)) (take_more items i c lt ∙ ap (λ x. take i items ++ x ∷ []) (sym at))
+    ∙ ap gone (map-append seat (take i items) (c ∷ []))
+    ∙ map-append (λ c. Abandoned c.0) (map seat (take i items)) (seat c ∷ [])
 
 -- the child at i runs on the host
 pub has_child : (items : List Child) (i : ℕ) (c : Child) (log : List Event) → i < length items → c ≡ get_or items i c → InOrder (ids (map seat (drop i items))) (running log) → Contains (running log) c.id
 has_child items i c log lt at h = in_order_has c.id (ids (map seat (drop (i + 1) items))) (running log) (subst (λ l. InOrder (ids (map seat l)) (running log)) (drop_at items i c lt at) h)
-  where
-    drop_at : (items : List Child) (i : ℕ) (c : Child) → i < length items → c ≡ get_or items i c → drop i items ≡ c ∷ drop (i + 1) items
-    drop_at items i c lt at = rw (add-one, drop-cons items i c) (ap (λ x. x ∷ drop (suc i) items) (sym at))
 
 -- and is abandoned
 pub drop_step : (items : List Child) (i : ℕ) (c : Child) (old mid new : List Event) → i < length items → c ≡ get_or items i c → mid ≡ old ++ gone (map seat (take i items)) → InOrder (ids (map seat (drop i items))) (running mid) → new ≡ mid ++ Abandoned c.id ∷ [] → (new ≡ old ++ gone (map seat (take (i + 1) items))) × InOrder (ids (map seat (drop (i + 1) items))) (running new)
@@ -203,20 +144,33 @@ drop_step items i c old mid new lt at e is f = (
   f ∙ ap (λ l. l ++ Abandoned c.id ∷ []) e ∙ append_assoc old (gone (map seat (take i items))) (Abandoned c.id ∷ []) ∙ ap (λ l. old ++ l) (sym (gone_more items i c lt at)),
   runs_abandoned mid new (seat c) (map seat (drop (i + 1) items)) f (subst (λ l. InOrder (ids (map seat l)) (running mid)) (drop_at items i c lt at) is),
 )
-  where
-    drop_at : (items : List Child) (i : ℕ) (c : Child) → i < length items → c ≡ get_or items i c → drop i items ≡ c ∷ drop (i + 1) items
-    drop_at items i c lt at = rw (add-one, drop-cons items i c) (ap (λ x. x ∷ drop (suc i) items) (sym at))
 
-    gone_more : (items : List Child) (i : ℕ) (c : Child) → i < length items → c ≡ get_or items i c → gone (map seat (take (i + 1) items)) ≡ gone (map seat (take i items)) ++ Abandoned c.id ∷ []
-    gone_more items i c lt at =
-        ap (λ l. gone (map seat l)) (take_more items i c lt ∙ ap (λ x. take i items ++ x ∷ []) (sym at))
-        ∙ ap gone (map-append seat (take i items) (c ∷ []))
-        ∙ map-append (λ c. Abandoned c.0) (map seat (take i items)) (seat c ∷ [])
+extends : (old new part : List Event) → new ≡ old ++ part → new ≡ old ++ since old new
+extends old new part e = e ∙ ap (λ p. old ++ p) (sym (since_append old part) ∙ ap (since old) (sym e))
 
--- so do those of a run that began in a part
-pub begun_runs : (old new : List Event) (r : Run) → new ≡ old ++ since old new → run_from nothing (since old new) ≡ r → InOrder (ids r.live) (running new)
-unfolding ids_of
-begun_runs old new r x e =
-    let k : InOrder (ids (run_from nothing (since old new)).live) (ids_of (live_from (live old) (since old new))) = in_order_from nothing (live old) (since old new) tt in
-    let l : live_from (live old) (since old new) ≡ live new = sym (live_append [] old (since old new)) ∙ ap live (sym x) in
-    subst (λ s. InOrder (ids s.live) (running new)) e (subst (λ ls. InOrder (ids (run_from nothing (since old new)).live) (ids_of ls)) l k)
+-- those that run are abandoned, which takes each on
+pub lives_gone : (mid new : List Event) (cs : List (ℕ × ℕ)) → new ≡ mid ++ gone cs → InOrder (ids cs) (running mid) → LivesOn mid new
+lives_gone mid new [] e h = lives_others mid new [] e (λ _. tt)
+lives_gone mid new (c ∷ cs) e h =
+    let one = mid ++ Abandoned c.0 ∷ [] in
+    let f : new ≡ one ++ gone cs = e ∙ sym (append_assoc mid (Abandoned c.0 ∷ []) (gone cs)) in
+    lives_then mid one new (extends mid one (Abandoned c.0 ∷ []) refl) (extends one new (gone cs) f) (lives_abandoned mid one c.0 refl (in_order_has c.0 (ids cs) (running mid) h)) (lives_gone one new cs f (runs_abandoned mid one c cs refl h))
+
+gone_starts : (cs : List (ℕ × ℕ)) → starts (gone cs) ≡ 0
+gone_starts [] = refl
+gone_starts (c ∷ cs) = let i : starts (gone cs) ≡ 0 = gone_starts cs in let k : starts (gone (c ∷ cs)) ≡ 0 + starts (gone cs) = sum_by-cons starts_of (Abandoned c.0) (gone cs) in omega arith
+
+module _ (rules : Rules) (total : Option ℕ) (old : State) (general : Result (List Mark) RunError) (log : List Event) (patience : Option ℕ) (its : SeatSeen) (turned : TurnsSeen) (ran : RanAll rules total old general log patience its turned) (none : old.kept ≡ nothing_kept) where
+  -- the run takes each child on, up to those that are abandoned
+  pub ran_lives : LivesOn old.log log
+  ran_lives =
+      let adds : log ≡ (ran.done.log ++ ran.tail) ++ gone (run_of ran.done.kept).live = ran.adds ∙ sym (append_assoc ran.done.log ran.tail (gone (run_of ran.done.kept).live)) in
+      let quiet : live_from (live ran.done.log) ran.tail ≡ live ran.done.log = by_end (λ t. live_from (live ran.done.log) t ≡ live ran.done.log) refl (λ role cmd. refl) (λ call why. refl) rules ran.done general ran.tail ran.ends in
+      let same : running (ran.done.log ++ ran.tail) ≡ running ran.done.log = ap (map (λ c. c.id)) (live_append [] ran.done.log ran.tail ∙ quiet) in
+      let runs : InOrder (ids (run_of ran.done.kept).live) (running ran.done.log) = works_in_order rules total old ran.done ran.works (subst (λ k. InOrder (ids (run_of k).live) (running old.log)) (sym none) tt) in
+      let calm : LivesOn ran.done.log (ran.done.log ++ ran.tail) = by_end (λ t. LivesOn ran.done.log (ran.done.log ++ t)) (lives_others ran.done.log (ran.done.log ++ []) [] refl (λ _. tt)) (λ role cmd. lives_others ran.done.log (ran.done.log ++ Missing role cmd ∷ []) (Missing role cmd ∷ []) refl (λ _. (refl, tt))) (λ call why. lives_others ran.done.log (ran.done.log ++ Fault call why ∷ []) (Fault call why ∷ []) refl (λ _. (refl, tt))) rules ran.done general ran.tail ran.ends in
+      lives_then old.log (ran.done.log ++ ran.tail) log
+      (extends old.log (ran.done.log ++ ran.tail) (ran.works.part ++ ran.tail) (ap (λ l. l ++ ran.tail) ran.works.adds ∙ append_assoc old.log ran.works.part ran.tail))
+      (extends (ran.done.log ++ ran.tail) log (gone (run_of ran.done.kept).live) adds)
+      (lives_then old.log ran.done.log (ran.done.log ++ ran.tail) (extends old.log ran.done.log ran.works.part ran.works.adds) (extends ran.done.log (ran.done.log ++ ran.tail) ran.tail refl) ran.works.lives calm)
+      (lives_gone (ran.done.log ++ ran.tail) log (run_of ran.done.kept).live adds (subst (InOrder (ids (run_of ran.done.kept).live)) (sym same) runs))

@@ -2,9 +2,9 @@
 use Rattle.std.proofs.Common.{◌≡◌, ℕ, ◌+◌, ◌<◌, zero, suc, Bool, List, [], ◌∷◌, ◌++◌, length, take, drop, get_or, refl, sym, ◌∙◌, ap, subst, append_assoc, arith}
 use Rattle.std.specs.Prelude.{Option, None, Some, Result, Ok, Err, OnOk}
 use Rattle.std.specs.Result.{result_and}
-use Rattle.std.specs.List.{flat_map}
+use Rattle.std.specs.List.{flat_map, slice_get}
 use Rattle.std.proofs.lemmas.List.{append-nil, take_more}
-use Rattle.std.proofs.lemmas.Grind.{flat_map-append}
+use Rattle.std.proofs.lemmas.Grind.{common_steps, flat_map-append}
 use Rattle.cc_host.specs.Event.{reported, heard, unread, ended}
 use Rattle.cc_host.specs.declared.event.Event.{Event}
 use Rattle.cc_host.specs.declared.event.News.{News}
@@ -72,10 +72,6 @@ pub ok_pair : {T E : Type 0} {A B C : Type 0} (r : Result T E) → OnOk r A → 
 ok_pair (Ok x) a b f = f a b
 ok_pair (Err e) a b f = tt
 
-pub ended_begun : (r : Run) (id : ℕ) (end : Option Status) → (ended_run r id end).begun ≡ r.begun
-ended_begun r id None = refl
-ended_begun r id (Some s) = refl
-
 -- one child more was settled
 pub more_children : (cs now new : List Child) (news : List News) (i : ℕ) (n : News) → i < length news → n ≡ get_or news i n → now ≡ children_from cs (flat_map reported (take i news)) → new ≡ children_from now (reported n) → new ≡ children_from cs (flat_map reported (take (i + 1) news))
 more_children cs now new news i n lt at a b =
@@ -102,3 +98,12 @@ ended_owed shows warns cmds cs now n status c p first lines new e own lt a b d =
     ap (λ x. owed_from shows warns cmds (children_from cs (front_of n)) (ended n.id x)) e ∙ append-nil _ ∙ ap (of_child n.id (end_lines shows warns cmds status)) (sym a) ∙ own ∙ end_at shows warns cmds status c p lt in
     d ∙ ap (λ l. l ++ ended_lines shows warns (get_or cmds c.place p) status c) b ∙ append_assoc first _ _
     ∙ ap (λ l. first ++ l) (ap (λ l. owed_from shows warns cmds cs (front_of n) ++ l) (sym last) ∙ sym (reported_owed shows warns cmds cs n))
+
+-- the end of a child whose command isn't there
+pub end_none : (shows : Shows) (warns : Bool) (cmds : List Planned) (status : Status) (c : Child) → slice_get cmds c.place ≡ None → end_lines shows warns cmds status c ≡ []
+end_none shows warns cmds status c e = ap (λ l. flat_map (λ p. ended_lines shows warns p status c) l) (at cmds c.place e)
+  where
+    at : (cmds : List Planned) (i : ℕ) → slice_get cmds i ≡ None → take 1 (drop i cmds) ≡ []
+    at [] i e = grind (arith, common_steps)
+    at (p ∷ ps) zero e = absurd (cc)
+    at (p ∷ ps) (suc i) e = at ps i e

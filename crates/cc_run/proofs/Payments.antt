@@ -1,56 +1,55 @@
 -- Laws on what a part was paid with.
-use Rattle.std.proofs.Common.{◌≡◌, inl, inr, ℕ, ◌+◌, List, ◌++◌, sym, ◌∙◌, subst, arith}
-use Rattle.std.specs.Prelude.{Result, Ok, Err}
-use Rattle.std.proofs.lemmas.List.Sums.{sum_by-append}
-use Rattle.cc_jobs.specs.Seats.{UpBy, stands}
-use Rattle.cc_host.specs.declared.event.Event.{Event}
+use Rattle.std.proofs.Common.{◌≡◌, inl, inr, ℕ, ◌+◌, List, length, true, sym, ◌∙◌, subst, arith}
+use Rattle.std.specs.Prelude.{Option, Result, Ok, Err}
+use Rattle.std.proofs.lemmas.List.{length-map}
+use Rattle.cc_jobs.specs.Seats.{UpBy}
 use Rattle.cc_host.specs.Part.{since}
+use Rattle.cc_host.specs.declared.event.Event.{Event}
+use Rattle.cc_run.specs.Book.{IsPaid}
+use Rattle.cc_run.specs.Children.{run_of, seat as seat_of}
+use Rattle.cc_run.specs.Paid.{starts, loads, PaidAnd}
+use Rattle.cc_run.specs.Rules.{Rules}
+use Rattle.cc_run.specs.Seat.{SeatSeen}
+use Rattle.cc_run.specs.State.{State}
+use Rattle.cc_run.specs.Whole.{RanAll, SeatBy}
 use Rattle.cc_run.specs.declared.error.RunError.{RunError}
-use Rattle.cc_run.specs.Paid.{starts, starts_of, loads, held_of, PaidAnd, Paid}
-use Rattle.cc_host.proofs.Parts.{since_since}
+use Rattle.cc_run.specs.declared.mark.Mark.{Mark}
+use Rattle.cc_run.specs.declared.planned.Turns.{Turns as TurnsSeen}
+use Rattle.cc_run.proofs.Ends.{ran_starts, ran_loads}
+use Rattle.cc_run.proofs.WorkLemmas.{up_then}
 
-up_then : (a n b m c : ℕ) → UpBy a n b → UpBy b m c → UpBy a (n + m) c
-up_then a n b m c (inl x) (inl y) = inl (omega arith)
-up_then a n b m c (inl x) (inr y) = inr y
-up_then a n b m c (inr x) (inl y) = inr (omega arith)
-up_then a n b m c (inr x) (inr y) = inr y
+paid_none : (part : List Event) (n k t l t' l' : ℕ) → UpBy t n t' → UpBy l k l' → n ≡ starts part → k ≡ loads part → PaidAnd 0 0 part t l t' l'
+paid_none part n k t l t' l' a b e f = (subst (λ x. UpBy t x t') (let i : n ≡ starts part + 0 = omega arith in i) a, subst (λ x. UpBy l x l') (let i : k ≡ loads part + 0 = omega arith in i) b)
 
-paid_and_then : (more held : ℕ) (a b : List Event) (t l t' l' t'' l'' : ℕ) → PaidAnd 0 0 a t l t' l' → PaidAnd more held b t' l' t'' l'' → PaidAnd more held (a ++ b) t l t'' l''
-paid_and_then more held a b t l t' l' t'' l'' x y =
-    let s : (starts a + 0) + (starts b + more) ≡ starts (a ++ b) + more = let e : starts (a ++ b) ≡ starts a + starts b = sum_by-append starts_of a b in omega arith in
-    let h : (loads a + 0) + (loads b + held) ≡ loads (a ++ b) + held = let e : loads (a ++ b) ≡ loads a + loads b = sum_by-append held_of a b in omega arith in
-    (subst (λ n. UpBy t n t'') s (up_then t (starts a + 0) t' (starts b + more) t'' x.0 y.0), subst (λ n. UpBy l n l'') h (up_then l (loads a + 0) l' (loads b + held) l'' x.1 y.1))
+paid_one : (part : List Event) (n k live t l t' l' t'' l'' : ℕ) → UpBy t n t' → UpBy l k l' → UpBy t' 1 t'' → UpBy l' (live + 1) l'' → n ≡ starts part → k ≡ loads part → PaidAnd 1 (live + 1) part t l t'' l''
+paid_one part n k live t l t' l' t'' l'' a b x y e f =
+    (subst (λ z. UpBy t z t'') (let i : n + 1 ≡ starts part + 1 = omega arith in i) (up_then t n t' 1 t'' a x), subst (λ z. UpBy l z l'') (let i : k + (live + 1) ≡ loads part + (live + 1) = omega arith in i) (up_then l k l' (live + 1) l'' b y))
 
--- one call after another that went well
-pub paid_then : {T : Type 0} (old mid new : List Event) (result : Result T RunError) (n : ℕ) (t l t' l' t'' l'' : ℕ) → mid ≡ old ++ since old mid → new ≡ mid ++ since mid new → PaidAnd 0 0 (since old mid) t l t' l' → Paid result n (since mid new) t' l' t'' l'' → Paid result n (since old new) t l t'' l''
-paid_then {T} old mid new (Ok x) n t l t' l' t'' l'' g h a b =
-    subst (λ q. PaidAnd 0 0 q t l t'' l'') (sym (since_since old mid new g h)) (paid_and_then 0 0 (since old mid) (since mid new) t l t' l' t'' l'' a b)
-paid_then {T} old mid new (Err e) n t l t' l' t'' l'' g h a (inl b) =
-    inl (subst (λ q. PaidAnd 0 0 q t l t'' l'') (sym (since_since old mid new g h)) (paid_and_then 0 0 (since old mid) (since mid new) t l t' l' t'' l'' a b))
-paid_then {T} old mid new (Err e) n t l t' l' t'' l'' g h a (inr b) =
-    inr (b.0, subst (λ q. PaidAnd 1 (n + 1) q t l t'' l'') (sym (since_since old mid new g h)) (paid_and_then 1 (n + 1) (since old mid) (since mid new) t l t' l' t'' l'' a b.1))
-
--- after a turn, which takes no token
-pub paid_turn : {T : Type 0} (old mid new : List Event) (result : Result T RunError) (n t l t' l' t'' l'' : ℕ) → mid ≡ old ++ since old mid → new ≡ mid ++ since mid new → PaidAnd 0 0 (since old mid) t l t' l' → (starts (since mid new) ≡ 0) × (loads (since mid new) ≡ 0) → (t'' ≡ t') × (l'' ≡ l') → Paid result n (since old new) t l t'' l''
-paid_turn {T} old mid new (Ok x) n t l t' l' t'' l'' g h a z e = paid_then {T = T} old mid new (Ok x) n t l t' l' t'' l'' g h a (still z e)
+-- The tokens that were taken are those of the starts. Only where the start of the next command was refused, one more was taken: that of
+-- the start.
+pub ran_paid : (rules : Rules) (t : Option ℕ) (old : State) (result : Result (List Mark) RunError) (log : List Event) (patience : Option ℕ) (seat : SeatSeen) (made : TurnsSeen) (ran : RanAll rules t old result log patience seat made) → rules.counted ≡ true → IsPaid rules.plan (run_of ran.done.kept) result (since old.log log) old.seat seat
+ran_paid rules t old result log patience seat made ran counted =
+    subst (λ n. IsPaid rules.plan (run_of ran.done.kept) result (since old.log log) old.seat (record seat { taken = n })) (sym ran.back.same_taken)
+    (subst (λ n. IsPaid rules.plan (run_of ran.done.kept) result (since old.log log) old.seat (record seat { taken = ran.mid.taken; load = n })) (sym ran.back.same_load) (at result ran.seat_by))
   where
-    still : (starts (since mid new) ≡ 0) × (loads (since mid new) ≡ 0) → (t'' ≡ t') × (l'' ≡ l') → PaidAnd 0 0 (since mid new) t' l' t'' l''
-    still z e = (inl (omega (arith, z.0, e.0)), inl (omega (arith, z.1, e.1)))
-paid_turn {T} old mid new (Err x) n t l t' l' t'' l'' g h a z e = paid_then {T = T} old mid new (Err x) n t l t' l' t'' l'' g h a (inl (inl (omega (arith, z.0, e.0)), inl (omega (arith, z.1, e.1))))
+    up_taken : UpBy old.seat.taken (starts ran.works.part) ran.done.seat.taken
+    up_taken = ran.works.pays.more_taken
 
-pub paid_any : {T : Type 0} (part : List Event) (t l t' l' : ℕ) (result : Result T RunError) (n : ℕ) → PaidAnd 0 0 part t l t' l' → Paid result n part t l t' l'
-paid_any part t l t' l' (Ok x) n p = p
-paid_any part t l t' l' (Err e) n p = inl p
+    up_load : UpBy old.seat.load (loads ran.works.part) ran.done.seat.load
+    up_load = ran.works.pays.more_load counted
 
-up_stands : (a b n : ℕ) → b ≡ stands (a + n) → UpBy a n b
-up_stands a b n e = grind arith
+    same_starts : starts ran.works.part ≡ starts (since old.log log)
+    same_starts = sym (ran_starts rules t old result log patience seat made ran)
 
--- a token that was taken for one start
-pub paid_start : (part : List Event) (held t l t' l' : ℕ) → (starts part ≡ 1) × (loads part ≡ held) → t' ≡ stands (t + 1) → l' ≡ stands (l + held) → PaidAnd 0 0 part t l t' l'
-paid_start part held t l t' l' c a b =
-    (subst (λ n. UpBy t n t') (let k : starts part ≡ 1 = c.0 in omega arith) (up_stands t t' 1 a), subst (λ n. UpBy l n l') (let k : loads part ≡ held = c.1 in omega arith) (up_stands l l' held b))
+    same_loads : loads ran.works.part ≡ loads (since old.log log)
+    same_loads = sym (ran_loads rules t old result log patience seat made ran)
 
--- or for none
-pub paid_idle : (part : List Event) (n held t l t' l' t'' l'' : ℕ) → (starts part ≡ 0) × (loads part ≡ 0) → held ≡ n + 1 → t' ≡ stands (t + 1) → l' ≡ stands (l + held) → (t'' ≡ t') × (l'' ≡ l') → PaidAnd 1 (n + 1) part t l t'' l''
-paid_idle part n held t l t' l' t'' l'' c h a b e =
-    (subst (λ k. UpBy t k t'') (let k : starts part ≡ 0 = c.0 in omega arith) (up_stands t t'' 1 (e.0 ∙ a)), subst (λ k. UpBy l k l'') (let k : loads part ≡ 0 = c.1 in omega arith) (up_stands l l'' held (e.1 ∙ b)))
+    holds : ran.done.seat.held ≡ length (run_of ran.done.kept).live
+    holds = ran.holds ∙ sym (length-map ran.done.kept.children seat_of)
+
+    at : (r : Result (List Mark) RunError) → SeatBy rules ran.done r ran.mid → IsPaid rules.plan (run_of ran.done.kept) r (since old.log log) old.seat (record seat { taken = ran.mid.taken; load = ran.mid.load })
+    at (Ok marks) back = paid_none (since old.log log) (starts ran.works.part) (loads ran.works.part) old.seat.taken old.seat.load ran.mid.taken ran.mid.load (subst (λ n. UpBy old.seat.taken (starts ran.works.part) n) (sym back.same_taken) up_taken) (subst (λ n. UpBy old.seat.load (loads ran.works.part) n) (sym back.same_load) up_load) same_starts same_loads
+    at (Err e) spent = elim spent.counts [
+      | inl k ↦ inl (paid_none (since old.log log) (starts ran.works.part) (loads ran.works.part) old.seat.taken old.seat.load ran.mid.taken ran.mid.load (subst (λ n. UpBy old.seat.taken (starts ran.works.part) n) (sym k.0) up_taken) (subst (λ n. UpBy old.seat.load (loads ran.works.part) n) (sym k.1) up_load) same_starts same_loads)
+      | inr k ↦ inr (k.0, k.1, paid_one (since old.log log) (starts ran.works.part) (loads ran.works.part) (length (run_of ran.done.kept).live) old.seat.taken old.seat.load ran.done.seat.taken ran.done.seat.load ran.mid.taken ran.mid.load up_taken up_load k.2 (subst (λ n. UpBy ran.done.seat.load (n + 1) ran.mid.load) holds k.3) same_starts same_loads)
+    ]

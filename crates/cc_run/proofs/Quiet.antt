@@ -1,29 +1,25 @@
 -- Laws on lines that were printed and messages that were said: they start, end and count nothing.
 use Rattle.std.proofs.Common.{◌≡◌, ℕ, ◌+◌, List, [], ◌∷◌, ◌++◌, take, length, refl, ◌∙◌, ap, arith}
-use Rattle.std.specs.Prelude.{Option, None, Some}
 use Rattle.std.proofs.lemmas.List.{append-nil}
 use Rattle.std.proofs.lemmas.Grind.{flat_map-append}
 use Rattle.std.proofs.lemmas.List.Sums.{sum_by-append}
 use Rattle.cc_host.specs.declared.event.Event.{Event}
 use Rattle.cc_host.specs.declared.event.Event.TheVariants.{Printed, Said}
-use Rattle.cc_host.specs.declared.event.LineKind.{LineKind}
-use Rattle.cc_host.specs.declared.event.Message.{Message}
 use Rattle.cc_host.specs.Children.{id_of, started_ids}
 use Rattle.cc_run.specs.Life.{LivesOn}
 use Rattle.cc_run.specs.Paid.{starts, starts_of, loads, held_of}
-use Rattle.cc_run.specs.Part.{started, missing, missing_of, faults, fault_of, abandoned, abandoned_of, turns, turns_of, Fits, IsBusy, Greedy, Goes}
-use Rattle.cc_run.specs.Planned.{Asked}
-use Rattle.cc_run.specs.Run.{Run, run_from, Along}
+use Rattle.cc_run.specs.Part.{started, missing, missing_of, faults, fault_of, abandoned, abandoned_of, turns, turns_of}
+use Rattle.cc_run.specs.Plan.{Plan}
+use Rattle.cc_run.specs.Run.{Run, run_from}
 use Rattle.cc_run.specs.Prints.{prints}
 use Rattle.cc_run.specs.declared.print.Notice.{Notice}
 use Rattle.cc_run.specs.declared.print.Notice.TheVariants.{Shown, Told}
 use Rattle.cc_run.proofs.LifeLemmas.{Others, lives_others}
-use Rattle.cc_run.proofs.Runs.{goes_by}
 
-pub prints_run : (r : Run) (ls : List Notice) → run_from r (prints ls) ≡ r
-prints_run r [] = refl
-prints_run r (Shown kind bytes ∷ ls) = prints_run r ls
-prints_run r (Told message ∷ ls) = prints_run r ls
+pub prints_run : (plan : Plan) (r : Run) (ls : List Notice) → run_from plan r (prints ls) ≡ r
+prints_run plan r [] = refl
+prints_run plan r (Shown kind bytes ∷ ls) = prints_run plan r ls
+prints_run plan r (Told message ∷ ls) = prints_run plan r ls
 
 pub prints_started : (ls : List Notice) → started (prints ls) ≡ []
 prints_started [] = refl
@@ -69,15 +65,6 @@ prints_loads [] = refl
 prints_loads (Shown kind bytes ∷ ls) = prints_loads ls
 prints_loads (Told message ∷ ls) = prints_loads ls
 
-along_prints : (P : Run → Event → Type 0) → ((r : Run) (kind : LineKind) (bytes : List ℕ) → P r (Printed kind bytes)) → ((r : Run) (message : Message) → P r (Said message)) → (r : Run) (ls : List Notice) → Along P r (prints ls)
-along_prints P h g r [] = tt
-along_prints P h g r (Shown kind bytes ∷ ls) = (h r kind bytes, along_prints P h g r ls)
-along_prints P h g r (Told message ∷ ls) = (g r message, along_prints P h g r ls)
-
-greedy_prints : (t : Option ℕ) (n : ℕ) (r : Run) (ls : List Notice) → Greedy t n r (prints ls)
-greedy_prints None n r ls = tt
-greedy_prints (Some t) n r ls = along_prints (IsBusy t n) (λ _ _ _. tt) (λ _ _. tt) r ls
-
 prints_others : (id : ℕ) (ls : List Notice) → Others id (prints ls)
 prints_others id [] = tt
 prints_others id (Shown kind bytes ∷ ls) = (refl, prints_others id ls)
@@ -86,16 +73,6 @@ prints_others id (Told message ∷ ls) = (refl, prints_others id ls)
 -- and no child
 pub lives_prints : (old new : List Event) (ls : List Notice) → new ≡ old ++ prints ls → LivesOn old new
 lives_prints old new ls e = lives_others old new (prints ls) e (λ id. prints_others id ls)
-
--- lines that were printed change no run
-pub goes_prints : (t : Option ℕ) (cmds : List Asked) (old new : List Event) (r : Run) (ls : List Notice) → new ≡ old ++ prints ls → Goes t cmds old r new r
-goes_prints t cmds old new r ls e =
-    goes_by t cmds old new (prints ls) r r e (record {
-      run = prints_run r ls;
-      asked = ap (λ l. take r.begun cmds ++ l) (prints_started ls) ∙ append-nil (take r.begun cmds);
-      within = along_prints (Fits t) (λ _ _ _. tt) (λ _ _. tt) r ls;
-      greedy = greedy_prints t (length cmds) r ls;
-    }) (lives_prints old new ls e)
 
 module _ (ls : List Notice) (es : List Event) where
   -- behind such lines

@@ -17,7 +17,9 @@ use Rattle.cc_run.specs.Forwarded.{given_lines, unread_lines, ended_lines, rest_
 use Rattle.cc_run.specs.Hearing.{of_child, heard_at, unread_at, end_lines}
 use Rattle.cc_run.specs.Lines.{whole_lines, last_line}
 use Rattle.cc_run.specs.Messages.{before, compiles, told_lines, failed_told, unread_told}
+use Rattle.cc_run.specs.Plan.{next_planned}
 use Rattle.cc_run.specs.Printing.{printed, printed_of, kept_after, kept_from, due, due_from, due_next, next_lines, IsPrinted, PrintsAll}
+use Rattle.cc_run.specs.Rules.{Rules}
 use Rattle.cc_run.specs.Said.{said, said_of, told, told_of, SaysNone}
 use Rattle.cc_run.specs.Texts.{announced, cargo_line, stderr_line, debug_line, ended_text, failed_line, unread_text}
 use Rattle.cc_run.specs.declared.error.RunError.{RunError}
@@ -137,50 +139,52 @@ module _ (shows : Shows) (off : shows.listens ≡ false) where
       (mute_both (rest ++ ended) failed (mute_both rest ended (mute_given (Some p) c.id (option_to_list (last_line c.rest))) (mute_when shows.debug (debug_line (ended_text s) ∷ []) refl)) (mute_when (warns && shows.warnings && not (is_success s)) (failed_line s p.cmd ∷ []) refl))
       (mute_failed s p.cmd)
 
-  mute_due : (warns : Bool) (cmds : List Planned) (k : Kept) (e : Event) → told (due shows warns cmds k e) ≡ []
-  mute_due warns cmds k (Started id role cmd pipes held) = mute_both (announced shows cmd) _ (mute_announced cmd) (mute_flat (compiles shows) mute_compiles (take 1 (drop k.begun cmds)))
-  mute_due warns cmds k (Heard id p) = mute_of id (heard_at shows cmds p) (λ c. mute_given (slice_get cmds c.place) c.id (whole_lines (c.rest ++ p))) k.children
-  mute_due warns cmds k (Unread id) = mute_of id (unread_at shows cmds) (λ c. mute_unread (slice_get cmds c.place) c) k.children
-  mute_due warns cmds k (Ended id s) = mute_of id (end_lines shows warns cmds s) (λ c. mute_flat (λ p. ended_lines shows warns p s c) (λ p. mute_ended warns p s c) (take 1 (drop c.place cmds))) k.children
-  mute_due warns cmds k (Abandoned id) = refl
-  mute_due warns cmds k (Turn n) = refl
-  mute_due warns cmds k (Answered q f o) = refl
-  mute_due warns cmds k (Reused q v) = refl
-  mute_due warns cmds k (Unasked q) = refl
-  mute_due warns cmds k (Drawn w) = refl
-  mute_due warns cmds k (Opened p b) = refl
-  mute_due warns cmds k (Taken p) = refl
-  mute_due warns cmds k (Dropped p) = refl
-  mute_due warns cmds k (Ran role cmd pipes status out err) = refl
-  mute_due warns cmds k (Missing role cmd) = refl
-  mute_due warns cmds k (Made scope p) = refl
-  mute_due warns cmds k (Removed p how) = refl
-  mute_due warns cmds k (Wrote p bytes) = refl
-  mute_due warns cmds k (Copied a_file to_file) = refl
-  mute_due warns cmds k (Here here) = refl
-  mute_due warns cmds k (Said message) = refl
-  mute_due warns cmds k (Printed kind b) = refl
-  mute_due warns cmds k (Listed vars) = refl
-  mute_due warns cmds k (Fault call why) = refl
+-- Where the host of a run doesn't listen.
+module _ (rules : Rules) (off : rules.shows.listens ≡ false) where
+  mute_due : (k : Kept) (e : Event) → told (due rules k e) ≡ []
+  mute_due k (Started id role cmd pipes held) = mute_both (announced rules.shows cmd) _ (mute_announced rules.shows off cmd) (mute_flat (compiles rules.shows) (mute_compiles rules.shows off) (next_planned rules.plan k.marks))
+  mute_due k (Heard id p) = mute_of id (heard_at rules.shows rules.plan.cmds p) (λ c. mute_given rules.shows off (slice_get rules.plan.cmds c.place) c.id (whole_lines (c.rest ++ p))) k.children
+  mute_due k (Unread id) = mute_of id (unread_at rules.shows rules.plan.cmds) (λ c. mute_unread rules.shows off (slice_get rules.plan.cmds c.place) c) k.children
+  mute_due k (Ended id s) = mute_of id (end_lines rules.shows rules.warns rules.plan.cmds s) (λ c. mute_flat (λ p. ended_lines rules.shows rules.warns p s c) (λ p. mute_ended rules.shows off rules.warns p s c) (take 1 (drop c.place rules.plan.cmds))) k.children
+  mute_due k (Abandoned n) = refl
+  mute_due k (Turn n) = refl
+  mute_due k (Answered q f o) = refl
+  mute_due k (Reused q v) = refl
+  mute_due k (Unasked q) = refl
+  mute_due k (Drawn w) = refl
+  mute_due k (Opened p b) = refl
+  mute_due k (Taken p) = refl
+  mute_due k (Dropped p) = refl
+  mute_due k (Ran role cmd pipes status out err) = refl
+  mute_due k (Missing role cmd) = refl
+  mute_due k (Made scope p) = refl
+  mute_due k (Removed p how) = refl
+  mute_due k (Wrote p bytes) = refl
+  mute_due k (Copied a_file to_file) = refl
+  mute_due k (Here here) = refl
+  mute_due k (Said message) = refl
+  mute_due k (Printed kind b) = refl
+  mute_due k (Listed vars) = refl
+  mute_due k (Fault call why) = refl
 
-  mute_from : (warns : Bool) (cmds : List Planned) (k : Kept) (es : List Event) → told (due_from shows warns cmds k es) ≡ []
-  mute_from warns cmds k [] = refl
-  mute_from warns cmds k (e ∷ es) = mute_both (due shows warns cmds k e) (due_from shows warns cmds (kept_after k e) es) (mute_due warns cmds k e) (mute_from warns cmds (kept_after k e) es)
+  mute_from : (k : Kept) (es : List Event) → told (due_from rules k es) ≡ []
+  mute_from k [] = refl
+  mute_from k (e ∷ es) = mute_both (due rules k e) (due_from rules (kept_after rules.plan k e) es) (mute_due k e) (mute_from (kept_after rules.plan k e) es)
 
-  mute_next : (warns : Bool) (cmds : List Planned) (k : Kept) (es : List Event) → told (due_next shows warns cmds k es) ≡ []
-  mute_next warns cmds k es = mute_both (due_from shows warns cmds k es) (next_lines shows cmds (kept_from k es).begun) (mute_from warns cmds k es) (mute_flat (before shows) mute_before (take 1 (drop (kept_from k es).begun cmds)))
+  mute_next : (k : Kept) (es : List Event) → told (due_next rules k es) ≡ []
+  mute_next k es = mute_both (due_from rules k es) (next_lines rules (kept_from rules.plan k es)) (mute_from k es) (mute_flat (before rules.shows) (mute_before rules.shows off) (next_planned rules.plan (kept_from rules.plan k es).marks))
 
-  mute_answer : {T : Type 0} (warns : Bool) (cmds : List Planned) (k : Kept) (part : List Event) (result : Result T RunError) → PrintsAll shows warns cmds k result part → told (printed part) ≡ []
-  mute_answer warns cmds k part (Ok x) q = ap told q ∙ mute_from warns cmds k part
-  mute_answer warns cmds k part (Err (ToolNotFound n)) q = ap told q ∙ mute_next warns cmds k part
-  mute_answer warns cmds k part (Err (StartFault n)) q = ap told q ∙ mute_next warns cmds k part
-  mute_answer warns cmds k part (Err (HostFault call why)) (n, q) = ap told q ∙ told_first n _ (mute_next warns cmds k part)
-  mute_answer warns cmds k part (Err NoMemory) (n, q) = ap told q ∙ told_first n _ (mute_next warns cmds k part)
-  mute_answer warns cmds k part (Err (Failed n s)) q = ap told q ∙ mute_from warns cmds k part
-  mute_answer warns cmds k part (Err WaitFault) q = ap told q ∙ mute_from warns cmds k part
-  mute_answer warns cmds k part (Err JobFault) q = ap told q ∙ mute_from warns cmds k part
-  mute_answer warns cmds k part (Err TurnsSpent) q = ap told q ∙ mute_from warns cmds k part
+  mute_answer : {T : Type 0} (k : Kept) (part : List Event) (result : Result T RunError) → PrintsAll rules k result part → told (printed part) ≡ []
+  mute_answer k part (Ok x) q = ap told q ∙ mute_from k part
+  mute_answer k part (Err (ToolNotFound n)) q = ap told q ∙ mute_next k part
+  mute_answer k part (Err (StartFault n)) q = ap told q ∙ mute_next k part
+  mute_answer k part (Err (HostFault call why)) (n, q) = ap told q ∙ told_first n _ (mute_next k part)
+  mute_answer k part (Err NoMemory) (n, q) = ap told q ∙ told_first n _ (mute_next k part)
+  mute_answer k part (Err (Failed n s)) q = ap told q ∙ mute_from k part
+  mute_answer k part (Err WaitFault) q = ap told q ∙ mute_from k part
+  mute_answer k part (Err JobFault) q = ap told q ∙ mute_from k part
+  mute_answer k part (Err TurnsSpent) q = ap told q ∙ mute_from k part
 
--- nothing is said to a host that doesn't listen
-pub says_none : {T : Type 0} (shows : Shows) (warns : Bool) (cmds : List Planned) (k : Kept) (part : List Event) (result : Result T RunError) → IsPrinted shows warns cmds k result part → SaysNone shows part
-says_none shows warns cmds k part result q = λ off. sym (said_is_told part) ∙ mute_answer shows off warns cmds k part result q.0
+-- Nothing is said to a host that doesn't listen.
+pub ran_silent : {T : Type 0} (rules : Rules) (k : Kept) (part : List Event) (result : Result T RunError) → IsPrinted rules k result part → SaysNone rules.shows part
+ran_silent rules k part result q = λ off. sym (said_is_told part) ∙ mute_answer rules off k part result q.0

@@ -1,5 +1,5 @@
 -- Laws on the lines of one kind among those that a run prints.
-use Rattle.std.proofs.Common.{◌≡◌, ℕ, ◌+◌, ◌≤◌, zero, suc, Bool, true, false, cond, List, [], ◌∷◌, ◌++◌, length, map, take, drop, refl, sym, ◌∙◌, ap, subst, arith}
+use Rattle.std.proofs.Common.{◌≡◌, ℕ, ◌<◌, ◌==◌, zero, suc, Bool, true, false, cond, List, [], ◌∷◌, ◌++◌, length, map, take, refl, sym, ◌∙◌, ap, subst, if◌then◌else◌}
 use Rattle.std.specs.Prelude.{Result, Ok, Err, Option, None, Some, filter, option_to_list, not, ◌&&◌}
 use Rattle.std.specs.List.{flat_map}
 use Rattle.std.proofs.lemmas.List.{append-nil}
@@ -14,11 +14,12 @@ use Rattle.cc_host.specs.declared.event.Message.{Message}
 use Rattle.cc_host.specs.declared.event.Message.TheVariants.{GeneralWarning, CommandFailed, Compiles}
 use Rattle.cc_host.specs.declared.event.Event.{Event}
 use Rattle.cc_host.specs.declared.event.Event.TheVariants.{Started, Ended, Abandoned, Heard, Unread, Turn, Answered, Reused, Unasked, Drawn, Opened, Taken, Dropped, Ran, Missing, Made, Removed, Wrote, Copied, Here, Said, Printed, Listed, Fault}
-use Rattle.cc_run.specs.Children.{Kept, run_of, seat, AreBelow}
+use Rattle.cc_run.specs.Children.{Kept, run_of, seat}
 use Rattle.cc_run.specs.Lines.{last_line}
-use Rattle.cc_run.specs.Part.{started}
-use Rattle.cc_run.specs.Printing.{printed, kept_after, due, due_from, due_next, lines_along, PrintsAll}
-use Rattle.cc_run.specs.Run.{Run}
+use Rattle.cc_run.specs.Plan.{Plan, next_place, next_planned}
+use Rattle.cc_run.specs.Printing.{printed, kept_after, kept_from, due, due_from, due_next, next_lines, lines_along, PrintsAll}
+use Rattle.cc_run.specs.Rules.{Rules}
+use Rattle.cc_run.specs.Run.{Run, run_after, joined, without}
 use Rattle.cc_run.specs.Stderr.{IsForwarded}
 use Rattle.cc_run.specs.Forwarded.{given_lines, rest_lines, unread_lines, ended_lines}
 use Rattle.cc_run.specs.Messages.{before, compiles, forwarding, told_lines}
@@ -30,8 +31,8 @@ use Rattle.cc_run.specs.declared.planned.Shows.{Shows}
 use Rattle.cc_run.specs.declared.print.Notice.{Notice}
 use Rattle.cc_run.specs.declared.print.Notice.TheVariants.{Told}
 use Rattle.cc_run.specs.declared.running.Child.{Child}
-use Rattle.cc_run.proofs.ChildLemmas.{placed_push, placed_without}
-use Rattle.cc_run.proofs.PrintingLemmas.{kept_run_after}
+use Rattle.cc_run.proofs.Firsts.{next_some}
+use Rattle.cc_run.proofs.KeptLemmas.{kept_run_after}
 
 pub filter_when : (p : Notice → Bool) (b : Bool) (ls : List Notice) → filter p (when b ls) ≡ when b (filter p ls)
 filter_when p true ls = refl
@@ -97,81 +98,74 @@ filter_first p (suc n) (x ∷ xs) = at (p x) (filter_first p n xs)
     at true (m, h) = (suc m, ap (λ l. x ∷ l) h)
     at false (m, h) = (m, h)
 
--- a start is the next one
-pub begun_after : (k : Kept) (e : Event) (es : List Event) → (kept_after k e).begun + length (started es) ≡ k.begun + length (started (e ∷ es))
-begun_after k (Started n role cmd pipes held) es = omega arith
-begun_after k (Heard n p) es = refl
-begun_after k (Unread n) es = refl
-begun_after k (Ended n s) es = refl
-begun_after k (Abandoned n) es = refl
-begun_after k (Turn n) es = refl
-begun_after k (Answered q f o) es = refl
-begun_after k (Reused q v) es = refl
-begun_after k (Unasked q) es = refl
-begun_after k (Drawn w) es = refl
-begun_after k (Opened p b) es = refl
-begun_after k (Taken p) es = refl
-begun_after k (Dropped p) es = refl
-begun_after k (Ran role cmd pipes status out err) es = refl
-begun_after k (Missing role cmd) es = refl
-begun_after k (Made scope p) es = refl
-begun_after k (Removed p how) es = refl
-begun_after k (Wrote p bytes) es = refl
-begun_after k (Copied a_file to_file) es = refl
-begun_after k (Here here) es = refl
-begun_after k (Said message) es = refl
-begun_after k (Printed kind b) es = refl
-begun_after k (Listed vars) es = refl
-begun_after k (Fault call why) es = refl
+-- the places of these children are below a bound
+abbrev pub AreBelow : ℕ → List (ℕ × ℕ) → Type 0
+AreBelow bound [] = Unit {0}
+AreBelow bound (c ∷ cs) = (c.1 < bound) × AreBelow bound cs
 
--- the children stay within the list
-pub below_after : (n : ℕ) (k : Kept) (e : Event) (es : List Event) → AreBelow n (map seat k.children) → k.begun + length (started (e ∷ es)) ≤ n → AreBelow n (map seat (kept_after k e).children)
-below_after n k (Started id role cmd pipes held) es h lt = placed_push n k.children (record { id = id; place = k.begun; rest = [] }) (omega (arith, lt)) h
-below_after n k (Heard id p) es h lt = subst (λ r. AreBelow n r.live) (sym (kept_run_after k (Heard id p))) h
-below_after n k (Unread id) es h lt = subst (λ r. AreBelow n r.live) (sym (kept_run_after k (Unread id))) h
-below_after n k (Ended id s) es h lt = placed_without n id k.children h
-below_after n k (Abandoned id) es h lt = placed_without n id k.children h
-below_after n k (Turn count) es h lt = h
-below_after n k (Answered q f o) es h lt = h
-below_after n k (Reused q v) es h lt = h
-below_after n k (Unasked q) es h lt = h
-below_after n k (Drawn w) es h lt = h
-below_after n k (Opened p b) es h lt = h
-below_after n k (Taken p) es h lt = h
-below_after n k (Dropped p) es h lt = h
-below_after n k (Ran role cmd pipes status out err) es h lt = h
-below_after n k (Missing role cmd) es h lt = h
-below_after n k (Made scope p) es h lt = h
-below_after n k (Removed p how) es h lt = h
-below_after n k (Wrote p bytes) es h lt = h
-below_after n k (Copied a_file to_file) es h lt = h
-below_after n k (Here here) es h lt = h
-below_after n k (Said message) es h lt = h
-below_after n k (Printed kind b) es h lt = h
-below_after n k (Listed vars) es h lt = h
-below_after n k (Fault call why) es h lt = h
+below_joined : (bound id : ℕ) (o : Option ℕ) (cs : List (ℕ × ℕ)) → ((p : ℕ) → o ≡ Some p → p < bound) → AreBelow bound cs → AreBelow bound (joined id o cs)
+below_joined bound id None cs lt h = h
+below_joined bound id (Some p) [] lt h = (lt p refl, tt)
+below_joined bound id (Some p) (c ∷ cs) lt h = (h.0, below_joined bound id (Some p) cs lt h.1)
+
+below_without : (bound id : ℕ) (cs : List (ℕ × ℕ)) → AreBelow bound cs → AreBelow bound (without id cs)
+below_without bound id [] h = tt
+below_without bound id (c ∷ cs) h = at (c.0 == id) (below_without bound id cs h.1)
+  where
+    at : (b : Bool) → AreBelow bound (without id cs) → AreBelow bound (if b then cs else c ∷ without id cs)
+    at true k = h.1
+    at false k = (h.0, k)
+
+-- What is started stands in the plan, so the children that run do.
+below_after : (plan : Plan) (r : Run) (e : Event) → AreBelow (length plan.cmds) r.live → AreBelow (length plan.cmds) (run_after plan r e).live
+below_after plan r (Started id role cmd pipes held) h = below_joined (length plan.cmds) id (next_place plan r.marks) r.live (λ p e. (next_some plan r.marks p e).below) h
+below_after plan r (Ended id s) h = below_without (length plan.cmds) id r.live h
+below_after plan r (Abandoned id) h = below_without (length plan.cmds) id r.live h
+below_after plan r (Heard id p) h = h
+below_after plan r (Unread id) h = h
+below_after plan r (Turn count) h = h
+below_after plan r (Answered q f o) h = h
+below_after plan r (Reused q v) h = h
+below_after plan r (Unasked q) h = h
+below_after plan r (Drawn w) h = h
+below_after plan r (Opened p b) h = h
+below_after plan r (Taken p) h = h
+below_after plan r (Dropped p) h = h
+below_after plan r (Ran role cmd pipes status out err) h = h
+below_after plan r (Missing role cmd) h = h
+below_after plan r (Made scope p) h = h
+below_after plan r (Removed p how) h = h
+below_after plan r (Wrote p bytes) h = h
+below_after plan r (Copied a_file to_file) h = h
+below_after plan r (Here here) h = h
+below_after plan r (Said message) h = h
+below_after plan r (Printed kind b) h = h
+below_after plan r (Listed vars) h = h
+below_after plan r (Fault call why) h = h
 
 -- lines of one kind, event by event
-pub along_due : (p : Notice → Bool) (f : Run → Event → List Notice) (shows : Shows) (warns : Bool) (cmds : List Planned) → ((k : Kept) (e : Event) → AreBelow (length cmds) (map seat k.children) → filter p (due shows warns cmds k e) ≡ f (run_of k) e) → (k : Kept) (es : List Event) → AreBelow (length cmds) (map seat k.children) → k.begun + length (started es) ≤ length cmds → filter p (due_from shows warns cmds k es) ≡ lines_along f (run_of k) es
-along_due p f shows warns cmds one k [] h lt = refl
-along_due p f shows warns cmds one k (e ∷ es) h lt =
-    let few : (kept_after k e).begun + length (started es) ≤ length cmds = subst (λ n. n ≤ length cmds) (sym (begun_after k e es)) lt in
-    filter-append p (due shows warns cmds k e) (due_from shows warns cmds (kept_after k e) es)
-    ∙ ap (λ l. l ++ filter p (due_from shows warns cmds (kept_after k e) es)) (one k e h)
-    ∙ ap (λ l. f (run_of k) e ++ l) (along_due p f shows warns cmds one (kept_after k e) es (below_after (length cmds) k e es h lt) few ∙ ap (λ r. lines_along f r es) (kept_run_after k e))
+pub along_due : (p : Notice → Bool) (f : Run → Event → List Notice) (rules : Rules) → ((k : Kept) (e : Event) → AreBelow (length rules.plan.cmds) (map seat k.children) → filter p (due rules k e) ≡ f (run_of k) e) → (k : Kept) (es : List Event) → AreBelow (length rules.plan.cmds) (map seat k.children) → filter p (due_from rules k es) ≡ lines_along rules.plan f (run_of k) es
+along_due p f rules one k [] h = refl
+along_due p f rules one k (e ∷ es) h =
+    let k' = kept_after rules.plan k e in
+    let same : run_of k' ≡ run_after rules.plan (run_of k) e = kept_run_after rules.plan k e in
+    let below : AreBelow (length rules.plan.cmds) (map seat k'.children) = subst (λ r. AreBelow (length rules.plan.cmds) r.live) (sym same) (below_after rules.plan (run_of k) e h) in
+    filter-append p (due rules k e) (due_from rules k' es)
+    ∙ ap (λ l. l ++ filter p (due_from rules k' es)) (one k e h)
+    ∙ ap (λ l. f (run_of k) e ++ l) (along_due p f rules one k' es below ∙ ap (λ r. lines_along rules.plan f r es) same)
 
 -- What was printed of a kind that no line before a command has, by the answer.
-module _ (p : Notice → Bool) (shows : Shows) (warns : Bool) (cmds : List Planned) (k : Kept) (part : List Event) (wanted : List Notice) where
-  pub sifted : {T : Type 0} → ((m : Message) → p (Told m) ≡ false) → ((cmd : CommandSeen) → filter p (announced shows cmd) ≡ []) → filter p (due_from shows warns cmds k part) ≡ wanted → (result : Result T RunError) → PrintsAll shows warns cmds k result part → IsForwarded result (filter p (printed part)) wanted
+module _ (p : Notice → Bool) (rules : Rules) (k : Kept) (part : List Event) (wanted : List Notice) where
+  pub sifted : {T : Type 0} → ((m : Message) → p (Told m) ≡ false) → ((cmd : CommandSeen) → filter p (announced rules.shows cmd) ≡ []) → filter p (due_from rules k part) ≡ wanted → (result : Result T RunError) → PrintsAll rules k result part → IsForwarded result (filter p (printed part)) wanted
   sifted silent none all result q = by result q
     where
-      next : filter p (due_next shows warns cmds k part) ≡ wanted
-      next = filter-append p (due_from shows warns cmds k part) _ ∙ ap (λ l. filter p (due_from shows warns cmds k part) ++ l) (filter_flat p (before shows) (λ x. untold_before p silent shows x ∙ none x.cmd) (take 1 (drop _ cmds))) ∙ append-nil _ ∙ all
+      next : filter p (due_next rules k part) ≡ wanted
+      next = filter-append p (due_from rules k part) (next_lines rules (kept_from rules.plan k part)) ∙ ap (λ l. filter p (due_from rules k part) ++ l) (filter_flat p (before rules.shows) (λ x. untold_before p silent rules.shows x ∙ none x.cmd) (next_planned rules.plan (kept_from rules.plan k part).marks)) ∙ append-nil _ ∙ all
 
-      some : (n : ℕ) → printed part ≡ take n (due_next shows warns cmds k part) → (m : ℕ) × (filter p (printed part) ≡ take m wanted)
-      some n e = let f = filter_first p n (due_next shows warns cmds k part) in (f.0, ap (filter p) e ∙ f.1 ∙ ap (take f.0) next)
+      some : (n : ℕ) → printed part ≡ take n (due_next rules k part) → (m : ℕ) × (filter p (printed part) ≡ take m wanted)
+      some n e = let f = filter_first p n (due_next rules k part) in (f.0, ap (filter p) e ∙ f.1 ∙ ap (take f.0) next)
 
-      by : {T : Type 0} (result : Result T RunError) → PrintsAll shows warns cmds k result part → IsForwarded result (filter p (printed part)) wanted
+      by : {T : Type 0} (result : Result T RunError) → PrintsAll rules k result part → IsForwarded result (filter p (printed part)) wanted
       by (Ok x) q = ap (filter p) q ∙ all
       by (Err (ToolNotFound n)) q = ap (filter p) q ∙ next
       by (Err (StartFault n)) q = ap (filter p) q ∙ next

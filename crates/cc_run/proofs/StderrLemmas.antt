@@ -1,45 +1,57 @@
 -- Laws on the lines of the standard error of one child.
-use Rattle.std.proofs.Common.{◌≡◌, ℕ, ◌+◌, ◌<◌, ◌≤◌, zero, suc, Bool, true, false, cond, List, [], ◌∷◌, ◌++◌, ◌==◌, ◌&&◌, ◌||◌, not, length, map, take, drop, refl, sym, ◌∙◌, ap, subst, append_assoc, arith, if◌then◌else◌}
-use Rattle.std.specs.Prelude.{Result, Option, Some, filter, option_to_list}
+use Rattle.std.proofs.Common.{◌≡◌, ℕ, ◌<◌, zero, suc, Bool, true, false, cond, List, [], ◌∷◌, ◌++◌, ◌==◌, ◌&&◌, ◌||◌, not, length, map, take, drop, refl, sym, ◌∙◌, ap, subst, append_assoc, arith, if◌then◌else◌}
+use Rattle.std.specs.Prelude.{Result, Ok, Err, Option, None, Some, filter, option_to_list}
 use Rattle.std.specs.List.{flat_map, list_any, slice_get, Contains}
 use Rattle.std.proofs.lemmas.Bool.{eqb-true, eq-eqb}
-use Rattle.std.proofs.lemmas.List.{append-nil, map-append, length-map}
+use Rattle.std.proofs.lemmas.List.{append-nil, map-append}
 use Rattle.std.proofs.lemmas.List.Elements.{filter-append}
+use Rattle.std.proofs.lemmas.Grind.{flat_map-append}
 use Rattle.cc_text.specs.Words.{when}
-use Rattle.cc_host.specs.Children.{started_ids}
+use Rattle.cc_host.specs.Children.{id_of, started_ids}
 use Rattle.cc_host.specs.Command.{CommandSeen}
+use Rattle.cc_host.specs.Part.{since}
 use Rattle.cc_host.specs.Status.{is_success}
 use Rattle.cc_host.specs.declared.event.Event.{Event}
 use Rattle.cc_host.specs.declared.event.Event.TheVariants.{Started, Ended, Abandoned, Heard, Unread, Turn, Answered, Reused, Unasked, Drawn, Opened, Taken, Dropped as DroppedFiles, Ran, Missing, Made, Removed, Wrote, Copied, Here, Said, Printed, Listed, Fault}
+use Rattle.cc_host.specs.declared.event.HostCall.{HostCall}
+use Rattle.cc_host.specs.declared.event.HostCall.TheVariants.{Start, Turn as Turning}
+use Rattle.cc_host.specs.declared.event.LineKind.TheVariants.{Warning}
 use Rattle.cc_host.specs.declared.event.Pipes.{Pipes}
 use Rattle.cc_host.specs.declared.event.Role.{Role}
 use Rattle.cc_host.specs.declared.event.Status.{Status}
-use Rattle.cc_host.specs.declared.event.LineKind.TheVariants.{Warning}
-use Rattle.cc_run.specs.Children.{Kept, nothing_kept, without_child}
+use Rattle.cc_host.specs.declared.event.Why.{Why}
+use Rattle.cc_host.proofs.Parts.{since_append}
+use Rattle.cc_run.specs.Children.{Kept, nothing_kept, run_of, without_child}
 use Rattle.cc_run.specs.Forwarded.{fed, emptied, heard_lines, rest_lines, unread_lines, ended_lines}
 use Rattle.cc_run.specs.Hearing.{at_child, of_child, heard_at, unread_at, end_lines}
-use Rattle.cc_run.specs.Lines.{IsUncut, lines, whole_lines, rest_of, last_line}
-use Rattle.cc_run.specs.Part.{started, started_of}
-use Rattle.cc_run.specs.Printing.{kept_after, due, due_from, IsPrinted}
-use Rattle.cc_run.specs.Life.{Life, life_after, life_from, LivesOn}
+use Rattle.cc_run.specs.Life.{Life, life_after, life_from}
 use Rattle.cc_run.specs.Life.Life.{Unstarted, Runs, Unreadable, Closed, Amiss}
-use Rattle.cc_run.specs.Stderr.{is_of, heard_of, heard, is_over, lines_by, is_stderr, stderr_printed, stderr_given, IsForwarded}
+use Rattle.cc_run.specs.Lines.{IsUncut, lines, whole_lines, rest_of, last_line}
+use Rattle.cc_run.specs.Outcome.{IsCause}
+use Rattle.cc_run.specs.Part.{Along}
+use Rattle.cc_run.specs.Plan.{next_place, next_planned}
+use Rattle.cc_run.specs.Printing.{with_child, kept_after, kept_from, due, due_from, IsPrinted}
+use Rattle.cc_run.specs.Rules.{Rules}
+use Rattle.cc_run.specs.Run.{gone}
+use Rattle.cc_run.specs.Seat.{SeatSeen}
+use Rattle.cc_run.specs.State.{State}
+use Rattle.cc_run.specs.Stderr.{is_of, heard_of, heard, is_over, lines_by, is_stderr, stderr_given, ForwardsEach}
 use Rattle.cc_run.specs.Texts.{announced, cargo_line, stderr_line, debug_line, ended_text, failed_line, unread_text}
+use Rattle.cc_run.specs.Whole.{EndsBy, RanAll}
 use Rattle.cc_run.specs.declared.error.RunError.{RunError}
+use Rattle.cc_run.specs.declared.error.RunError.TheVariants.{ToolNotFound, Failed, StartFault, WaitFault, HostFault, JobFault, TurnsSpent, NoMemory}
+use Rattle.cc_run.specs.declared.mark.Mark.{Mark}
 use Rattle.cc_run.specs.declared.planned.Planned.{Planned}
 use Rattle.cc_run.specs.declared.planned.Shows.{Shows}
+use Rattle.cc_run.specs.declared.planned.Turns.{Turns as TurnsSeen}
 use Rattle.cc_run.specs.declared.print.Notice.{Notice}
 use Rattle.cc_run.specs.declared.running.Child.{Child}
-use Rattle.cc_host.specs.Part.{since}
-use Rattle.cc_host.proofs.Parts.{since_append}
-use Rattle.std.proofs.lemmas.Grind.{flat_map-append}
-use Rattle.cc_run.specs.Planned.{asked, asked_by}
-use Rattle.cc_run.specs.Run.{gone}
-use Rattle.cc_run.specs.Solo.{IsSolo}
-use Rattle.cc_run.specs.Whole.{IsRun}
-use Rattle.cc_run.proofs.SiftLemmas.{filter_when, when_none, filter_flat, untold_start, untold_given, untold_unread, untold_ended, raw_rest, begun_after, sifted}
+use Rattle.cc_run.proofs.Firsts.{next_some}
 use Rattle.cc_run.proofs.LifeLemmas.{own_by, own_if, skips, amiss_from, part_sound}
 use Rattle.cc_run.proofs.LineLemmas.{rest_uncut, whole_both, lines_both, uncut_whole, uncut_lines}
+use Rattle.cc_run.proofs.PrintingLemmas.{due_both}
+use Rattle.cc_run.proofs.KeptLemmas.{kept_run_after}
+use Rattle.cc_run.proofs.SiftLemmas.{filter_when, when_none, filter_flat, untold_start, untold_given, untold_unread, untold_ended, raw_rest, sifted}
 
 -- the children of that id
 abbrev mine : ℕ → List Child → List Child
@@ -168,51 +180,55 @@ module _ (id : ℕ) where
       at (p ∷ cmds) (suc place) lt = at cmds place (omega arith)
       at [] place lt = absurd (omega arith)
 
+  other_with : (n : ℕ) (o : Option ℕ) (k : Kept) → (n == id) ≡ false → mine id (with_child n o k).children ≡ mine id k.children
+  other_with n None k ne = refl
+  other_with n (Some p) k ne = filter-append (λ c. c.id == id) k.children _ ∙ ap (λ l. mine id k.children ++ l) (skip (record { id = n; place = p; rest = [] }) [] ne) ∙ append-nil (mine id k.children)
+
   -- an event of another child changes nothing for this one
-  other_event : (shows : Shows) (warns : Bool) (cmds : List Planned) (k : Kept) (e : Event) → is_of id e ≡ false → (mine id (kept_after k e).children ≡ mine id k.children) × (filter (is_stderr id) (due shows warns cmds k e) ≡ [])
-  other_event shows warns cmds k (Started n role cmd pipes held) ne = (filter-append (λ c. c.id == id) k.children _ ∙ ap (λ l. mine id k.children ++ l) (skip (record { id = n; place = k.begun; rest = [] }) [] ne) ∙ append-nil (mine id k.children), untold_start (is_stderr id) (λ m. refl) shows cmd (take 1 (drop k.begun cmds)) ∙ announced_other shows cmd)
-  other_event shows warns cmds k (Heard n p) ne = (other_at n (fed p) (λ c. refl) k.children ne, other_of n (heard_at shows cmds p) k.children (λ c e. heard_other shows (slice_get cmds c.place) c p (foreign n c e ne)))
-  other_event shows warns cmds k (Unread n) ne = (other_at n emptied (λ c. refl) k.children ne, other_of n (unread_at shows cmds) k.children (λ c e. unread_rest shows (slice_get cmds c.place) c ∙ rest_other shows c (foreign n c e ne)))
-  other_event shows warns cmds k (Ended n s) ne = (other_without n k.children ne, other_of n (end_lines shows warns cmds s) k.children (λ c e. filter_flat (is_stderr id) (λ p. ended_lines shows warns p s c) (λ p. ended_rest shows warns p s c ∙ rest_other shows c (foreign n c e ne)) (take 1 (drop c.place cmds))))
-  other_event shows warns cmds k (Abandoned n) ne = (other_without n k.children ne, refl)
-  other_event shows warns cmds k (Turn n) ne = (refl, refl)
-  other_event shows warns cmds k (Answered q f o) ne = (refl, refl)
-  other_event shows warns cmds k (Reused q v) ne = (refl, refl)
-  other_event shows warns cmds k (Unasked q) ne = (refl, refl)
-  other_event shows warns cmds k (Drawn w) ne = (refl, refl)
-  other_event shows warns cmds k (Opened p b) ne = (refl, refl)
-  other_event shows warns cmds k (Taken p) ne = (refl, refl)
-  other_event shows warns cmds k (DroppedFiles p) ne = (refl, refl)
-  other_event shows warns cmds k (Ran role cmd pipes status out err) ne = (refl, refl)
-  other_event shows warns cmds k (Missing role cmd) ne = (refl, refl)
-  other_event shows warns cmds k (Made scope p) ne = (refl, refl)
-  other_event shows warns cmds k (Removed p how) ne = (refl, refl)
-  other_event shows warns cmds k (Wrote p bytes) ne = (refl, refl)
-  other_event shows warns cmds k (Copied a_file to_file) ne = (refl, refl)
-  other_event shows warns cmds k (Here here) ne = (refl, refl)
-  other_event shows warns cmds k (Said message) ne = (refl, refl)
-  other_event shows warns cmds k (Printed kind b) ne = (refl, refl)
-  other_event shows warns cmds k (Listed vars) ne = (refl, refl)
-  other_event shows warns cmds k (Fault call why) ne = (refl, refl)
+  other_event : (rules : Rules) (k : Kept) (e : Event) → is_of id e ≡ false → (mine id (kept_after rules.plan k e).children ≡ mine id k.children) × (filter (is_stderr id) (due rules k e) ≡ [])
+  other_event rules k (Started n role cmd pipes held) ne = (other_with n (next_place rules.plan k.marks) k ne, untold_start (is_stderr id) (λ m. refl) rules.shows cmd (next_planned rules.plan k.marks) ∙ announced_other rules.shows cmd)
+  other_event rules k (Heard n p) ne = (other_at n (fed p) (λ c. refl) k.children ne, other_of n (heard_at rules.shows rules.plan.cmds p) k.children (λ c e. heard_other rules.shows (slice_get rules.plan.cmds c.place) c p (foreign n c e ne)))
+  other_event rules k (Unread n) ne = (other_at n emptied (λ c. refl) k.children ne, other_of n (unread_at rules.shows rules.plan.cmds) k.children (λ c e. unread_rest rules.shows (slice_get rules.plan.cmds c.place) c ∙ rest_other rules.shows c (foreign n c e ne)))
+  other_event rules k (Ended n s) ne = (other_without n k.children ne, other_of n (end_lines rules.shows rules.warns rules.plan.cmds s) k.children (λ c e. filter_flat (is_stderr id) (λ p. ended_lines rules.shows rules.warns p s c) (λ p. ended_rest rules.shows rules.warns p s c ∙ rest_other rules.shows c (foreign n c e ne)) (take 1 (drop c.place rules.plan.cmds))))
+  other_event rules k (Abandoned n) ne = (other_without n k.children ne, refl)
+  other_event rules k (Turn n) ne = (refl, refl)
+  other_event rules k (Answered q f o) ne = (refl, refl)
+  other_event rules k (Reused q v) ne = (refl, refl)
+  other_event rules k (Unasked q) ne = (refl, refl)
+  other_event rules k (Drawn w) ne = (refl, refl)
+  other_event rules k (Opened p b) ne = (refl, refl)
+  other_event rules k (Taken p) ne = (refl, refl)
+  other_event rules k (DroppedFiles p) ne = (refl, refl)
+  other_event rules k (Ran role cmd pipes status out err) ne = (refl, refl)
+  other_event rules k (Missing role cmd) ne = (refl, refl)
+  other_event rules k (Made scope p) ne = (refl, refl)
+  other_event rules k (Removed p how) ne = (refl, refl)
+  other_event rules k (Wrote p bytes) ne = (refl, refl)
+  other_event rules k (Copied a_file to_file) ne = (refl, refl)
+  other_event rules k (Here here) ne = (refl, refl)
+  other_event rules k (Said message) ne = (refl, refl)
+  other_event rules k (Printed kind b) ne = (refl, refl)
+  other_event rules k (Listed vars) ne = (refl, refl)
+  other_event rules k (Fault call why) ne = (refl, refl)
 
 -- The lines of one child, event by event.
-module _ (shows : Shows) (warns : Bool) (cmds : List Planned) (id : ℕ) where
+module _ (rules : Rules) (id : ℕ) where
   given : Kept → List Event → List Notice
-  given k es = filter (is_stderr id) (due_from shows warns cmds k es)
+  given k es = filter (is_stderr id) (due_from rules k es)
 
-  given_more : (k : Kept) (e : Event) (es : List Event) → given k (e ∷ es) ≡ filter (is_stderr id) (due shows warns cmds k e) ++ given (kept_after k e) es
+  given_more : (k : Kept) (e : Event) (es : List Event) → given k (e ∷ es) ≡ filter (is_stderr id) (due rules k e) ++ given (kept_after rules.plan k e) es
   unfolding given
-  given_more k e es = filter-append (is_stderr id) (due shows warns cmds k e) (due_from shows warns cmds (kept_after k e) es)
+  given_more k e es = filter-append (is_stderr id) (due rules k e) (due_from rules (kept_after rules.plan k e) es)
 
-  given_skip : (k : Kept) (e : Event) (es : List Event) → is_of id e ≡ false → given k (e ∷ es) ≡ given (kept_after k e) es
-  given_skip k e es ne = given_more k e es ∙ ap (λ l. l ++ given (kept_after k e) es) (other_event id shows warns cmds k e ne).1
+  given_skip : (k : Kept) (e : Event) (es : List Event) → is_of id e ≡ false → given k (e ∷ es) ≡ given (kept_after rules.plan k e) es
+  given_skip k e es ne = given_more k e es ∙ ap (λ l. l ++ given (kept_after rules.plan k e) es) (other_event id rules k e ne).1
 
   as_lines : List (List ℕ) → List Notice
-  as_lines ls = when shows.warnings (map (stderr_line id) ls)
+  as_lines ls = when rules.shows.warnings (map (stderr_line id) ls)
 
   no_lines : as_lines [] ≡ []
   unfolding as_lines
-  no_lines = when_none shows.warnings
+  no_lines = when_none rules.shows.warnings
 
   -- an event of another child is none of its standard error
   reads_other : (e : Event) → is_of id e ≡ false → (heard_of id e ≡ []) × (is_over id e ≡ false)
@@ -263,12 +279,12 @@ module _ (shows : Shows) (warns : Bool) (cmds : List Planned) (id : ℕ) where
   behind_close : (k : Kept) (es : List Event) → Sound Closed es → mine id k.children ≡ [] → IsSilent k es
   unfolding given
   behind_close k [] h none = record { none_given = refl; none_heard = refl; none_over = refl }
-  behind_close k (e ∷ es) h none = at (is_of id e) refl (behind_close (kept_after k e) es)
+  behind_close k (e ∷ es) h none = at (is_of id e) refl (behind_close (kept_after rules.plan k e) es)
     where
-      at : (b : Bool) → is_of id e ≡ b → (Sound Closed es → mine id (kept_after k e).children ≡ [] → IsSilent (kept_after k e) es) → IsSilent k (e ∷ es)
+      at : (b : Bool) → is_of id e ≡ b → (Sound Closed es → mine id (kept_after rules.plan k e).children ≡ [] → IsSilent (kept_after rules.plan k e) es) → IsSilent k (e ∷ es)
       at true is further = absurd (unsound Closed e es (own_by id (λ x. life_after id Closed x ≡ Amiss) (λ _ _ _ _. own_if id Amiss Closed) (λ _. own_if id Amiss Closed) (own_if id Amiss Closed) (λ _. own_if id Amiss Closed) (own_if id Amiss Closed) e is) h)
       at false is further =
-          let s = further (sound_on Closed Closed e es ((skips id e is).life Closed) h) ((other_event id shows warns cmds k e is).0 ∙ none) in
+          let s = further (sound_on Closed Closed e es ((skips id e is).life Closed) h) ((other_event id rules k e is).0 ∙ none) in
           let r = reads_other e is in
           record {
             none_given = given_skip k e es is ∙ s.none_given;
@@ -276,56 +292,56 @@ module _ (shows : Shows) (warns : Bool) (cmds : List Planned) (id : ℕ) where
             none_over = ap (λ b. b || over es) r.1 ∙ s.none_over;
           }
 
-  ended_child : (k : Kept) (es : List Event) (c : Child) (s : Status) → mine id k.children ≡ c ∷ [] → c.id ≡ id → c.place < length cmds → given (kept_after k (Ended id s)) es ≡ [] → given k (Ended id s ∷ es) ≡ as_lines (option_to_list (last_line c.rest))
+  ended_child : (k : Kept) (es : List Event) (c : Child) (s : Status) → mine id k.children ≡ c ∷ [] → c.id ≡ id → c.place < length rules.plan.cmds → given (kept_after rules.plan k (Ended id s)) es ≡ [] → given k (Ended id s ∷ es) ≡ as_lines (option_to_list (last_line c.rest))
   unfolding as_lines
   ended_child k es c s one is lt none =
       given_more k (Ended id s) es
-      ∙ ap (λ l. filter (is_stderr id) l ++ given (kept_after k (Ended id s)) es) (own_of id (end_lines shows warns cmds s) k.children c one)
-      ∙ ap (λ l. filter (is_stderr id) (end_lines shows warns cmds s c) ++ l) none
-      ∙ append-nil _ ∙ end_own id shows warns cmds s c lt ∙ rest_own id shows c is
+      ∙ ap (λ l. filter (is_stderr id) l ++ given (kept_after rules.plan k (Ended id s)) es) (own_of id (end_lines rules.shows rules.warns rules.plan.cmds s) k.children c one)
+      ∙ ap (λ l. filter (is_stderr id) (end_lines rules.shows rules.warns rules.plan.cmds s c) ++ l) none
+      ∙ append-nil _ ∙ end_own id rules.shows rules.warns rules.plan.cmds s c lt ∙ rest_own id rules.shows c is
 
-  unread_child : (k : Kept) (es : List Event) (c : Child) → mine id k.children ≡ c ∷ [] → c.id ≡ id → given (kept_after k (Unread id)) es ≡ [] → given k (Unread id ∷ es) ≡ as_lines (option_to_list (last_line c.rest))
+  unread_child : (k : Kept) (es : List Event) (c : Child) → mine id k.children ≡ c ∷ [] → c.id ≡ id → given (kept_after rules.plan k (Unread id)) es ≡ [] → given k (Unread id ∷ es) ≡ as_lines (option_to_list (last_line c.rest))
   unfolding as_lines
   unread_child k es c one is none =
       given_more k (Unread id) es
-      ∙ ap (λ l. filter (is_stderr id) l ++ given (kept_after k (Unread id)) es) (own_of id (unread_at shows cmds) k.children c one)
-      ∙ ap (λ l. filter (is_stderr id) (unread_at shows cmds c) ++ l) none
-      ∙ append-nil _ ∙ unread_rest id shows (slice_get cmds c.place) c ∙ rest_own id shows c is
+      ∙ ap (λ l. filter (is_stderr id) l ++ given (kept_after rules.plan k (Unread id)) es) (own_of id (unread_at rules.shows rules.plan.cmds) k.children c one)
+      ∙ ap (λ l. filter (is_stderr id) (unread_at rules.shows rules.plan.cmds c) ++ l) none
+      ∙ append-nil _ ∙ unread_rest id rules.shows (slice_get rules.plan.cmds c.place) c ∙ rest_own id rules.shows c is
 
-  gone_child : (k : Kept) (es : List Event) → given (kept_after k (Abandoned id)) es ≡ [] → given k (Abandoned id ∷ es) ≡ []
+  gone_child : (k : Kept) (es : List Event) → given (kept_after rules.plan k (Abandoned id)) es ≡ [] → given k (Abandoned id ∷ es) ≡ []
   gone_child k es none = given_more k (Abandoned id) es ∙ none
 
   without_one : (k : Kept) (c : Child) → mine id k.children ≡ c ∷ [] → mine id (without_child id k.children) ≡ []
   without_one k c one = own_without id k.children c one
 
   -- where no more of its standard error can be read, nothing is left
-  unreadable : (k : Kept) (es : List Event) (c : Child) → Sound Unreadable es → mine id k.children ≡ c ∷ [] → c.id ≡ id → c.place < length cmds → c.rest ≡ [] → (given k es ≡ []) × (heard id es ≡ [])
+  unreadable : (k : Kept) (es : List Event) (c : Child) → Sound Unreadable es → mine id k.children ≡ c ∷ [] → c.id ≡ id → c.place < length rules.plan.cmds → c.rest ≡ [] → (given k es ≡ []) × (heard id es ≡ [])
   unfolding given
   unreadable k [] c h one is lt z = (refl, refl)
-  unreadable k (e ∷ es) c h one is lt z = at (is_of id e) refl (unreadable (kept_after k e) es)
+  unreadable k (e ∷ es) c h one is lt z = at (is_of id e) refl (unreadable (kept_after rules.plan k e) es)
     where
       empty : as_lines (option_to_list (last_line c.rest)) ≡ []
       empty = ap (λ r. as_lines (option_to_list (last_line r))) z ∙ no_lines
 
-      by : (x : Event) → ((d : Child) → Sound Unreadable es → mine id (kept_after k x).children ≡ d ∷ [] → d.id ≡ id → d.place < length cmds → d.rest ≡ [] → (given (kept_after k x) es ≡ []) × (heard id es ≡ [])) → is_of id x ≡ true → Sound Unreadable (x ∷ es) → (given k (x ∷ es) ≡ []) × (heard id (x ∷ es) ≡ [])
-      by x further own = own_by id (λ x. ((d : Child) → Sound Unreadable es → mine id (kept_after k x).children ≡ d ∷ [] → d.id ≡ id → d.place < length cmds → d.rest ≡ [] → (given (kept_after k x) es ≡ []) × (heard id es ≡ [])) → Sound Unreadable (x ∷ es) → (given k (x ∷ es) ≡ []) × (heard id (x ∷ es) ≡ []))
+      by : (x : Event) → ((d : Child) → Sound Unreadable es → mine id (kept_after rules.plan k x).children ≡ d ∷ [] → d.id ≡ id → d.place < length rules.plan.cmds → d.rest ≡ [] → (given (kept_after rules.plan k x) es ≡ []) × (heard id es ≡ [])) → is_of id x ≡ true → Sound Unreadable (x ∷ es) → (given k (x ∷ es) ≡ []) × (heard id (x ∷ es) ≡ [])
+      by x further own = own_by id (λ x. ((d : Child) → Sound Unreadable es → mine id (kept_after rules.plan k x).children ≡ d ∷ [] → d.id ≡ id → d.place < length rules.plan.cmds → d.rest ≡ [] → (given (kept_after rules.plan k x) es ≡ []) × (heard id es ≡ [])) → Sound Unreadable (x ∷ es) → (given k (x ∷ es) ≡ []) × (heard id (x ∷ es) ≡ []))
           (λ role cmd pipes held f s. absurd (unsound Unreadable (Started id role cmd pipes held) es (own_if id Amiss Unreadable) s))
           (λ p f s. absurd (unsound Unreadable (Heard id p) es (own_if id Amiss Unreadable) s))
           (λ f s.
           let r = f (emptied c) (sound_on Unreadable Unreadable (Unread id) es (own_if id Unreadable Unreadable) s) (own_at id emptied (λ x. refl) k.children c one) is lt refl in
           (unread_child k es c one is r.0 ∙ empty, r.1))
           (λ st f s.
-          let r = behind_close (kept_after k (Ended id st)) es (sound_on Unreadable Closed (Ended id st) es (own_if id Closed Unreadable) s) (without_one k c one) in
+          let r = behind_close (kept_after rules.plan k (Ended id st)) es (sound_on Unreadable Closed (Ended id st) es (own_if id Closed Unreadable) s) (without_one k c one) in
           (ended_child k es c st one is lt r.none_given ∙ empty, r.none_heard))
           (λ f s.
-          let r = behind_close (kept_after k (Abandoned id)) es (sound_on Unreadable Closed (Abandoned id) es (own_if id Closed Unreadable) s) (without_one k c one) in
+          let r = behind_close (kept_after rules.plan k (Abandoned id)) es (sound_on Unreadable Closed (Abandoned id) es (own_if id Closed Unreadable) s) (without_one k c one) in
           (gone_child k es r.none_given, r.none_heard))
           x own further
 
-      at : (b : Bool) → is_of id e ≡ b → ((d : Child) → Sound Unreadable es → mine id (kept_after k e).children ≡ d ∷ [] → d.id ≡ id → d.place < length cmds → d.rest ≡ [] → (given (kept_after k e) es ≡ []) × (heard id es ≡ [])) → (given k (e ∷ es) ≡ []) × (heard id (e ∷ es) ≡ [])
+      at : (b : Bool) → is_of id e ≡ b → ((d : Child) → Sound Unreadable es → mine id (kept_after rules.plan k e).children ≡ d ∷ [] → d.id ≡ id → d.place < length rules.plan.cmds → d.rest ≡ [] → (given (kept_after rules.plan k e) es ≡ []) × (heard id es ≡ [])) → (given k (e ∷ es) ≡ []) × (heard id (e ∷ es) ≡ [])
       at true own further = by e further own h
       at false other further =
-          let r = further c (sound_on Unreadable Unreadable e es ((skips id e other).life Unreadable) h) ((other_event id shows warns cmds k e other).0 ∙ one) is lt z in
+          let r = further c (sound_on Unreadable Unreadable e es ((skips id e other).life Unreadable) h) ((other_event id rules k e other).0 ∙ one) is lt z in
           (given_skip k e es other ∙ r.0, ap (λ x. x ++ heard id es) (reads_other e other).0 ∙ r.1)
 
   as_rest : (r : List ℕ) → IsUncut r → as_lines (option_to_list (last_line r)) ≡ as_lines (lines r)
@@ -335,20 +351,20 @@ module _ (shows : Shows) (warns : Bool) (cmds : List Planned) (id : ℕ) where
   abbrev Gives : Kept → Child → List Event → Type 0
   Gives k c es = given k es ≡ as_lines (lines_by (over es) (c.rest ++ heard id es))
 
-  runs : (k : Kept) (es : List Event) (c : Child) → Sound Runs es → mine id k.children ≡ c ∷ [] → c.id ≡ id → c.place < length cmds → IsUncut c.rest → Gives k c es
+  runs : (k : Kept) (es : List Event) (c : Child) → Sound Runs es → mine id k.children ≡ c ∷ [] → c.id ≡ id → c.place < length rules.plan.cmds → IsUncut c.rest → Gives k c es
   unfolding given as_lines
   runs k [] c h one is lt u = sym (ap (λ r. as_lines (whole_lines r)) (append-nil c.rest) ∙ ap as_lines (uncut_whole c.rest u) ∙ no_lines)
-  runs k (e ∷ es) c h one is lt u = at (is_of id e) refl (runs (kept_after k e) es)
+  runs k (e ∷ es) c h one is lt u = at (is_of id e) refl (runs (kept_after rules.plan k e) es)
     where
-      on_heard : (p : List ℕ) → given (kept_after k (Heard id p)) es ≡ as_lines (lines_by (over es) (rest_of (c.rest ++ p) ++ heard id es)) → Gives k c (Heard id p ∷ es)
+      on_heard : (p : List ℕ) → given (kept_after rules.plan k (Heard id p)) es ≡ as_lines (lines_by (over es) (rest_of (c.rest ++ p) ++ heard id es)) → Gives k c (Heard id p ∷ es)
       on_heard p rest =
           let x = c.rest ++ p in
           given_more k (Heard id p) es
-          ∙ ap (λ l. filter (is_stderr id) l ++ given (kept_after k (Heard id p)) es) (own_of id (heard_at shows cmds p) k.children c one)
-          ∙ ap (λ l. l ++ given (kept_after k (Heard id p)) es) (heard_own id shows (slice_get cmds c.place) c p is)
+          ∙ ap (λ l. filter (is_stderr id) l ++ given (kept_after rules.plan k (Heard id p)) es) (own_of id (heard_at rules.shows rules.plan.cmds p) k.children c one)
+          ∙ ap (λ l. l ++ given (kept_after rules.plan k (Heard id p)) es) (heard_own id rules.shows (slice_get rules.plan.cmds c.place) c p is)
           ∙ ap (λ l. as_lines (whole_lines x) ++ l) rest
-          ∙ when_both shows.warnings _ _
-          ∙ ap (when shows.warnings) (sym (map-append (stderr_line id) (whole_lines x) (lines_by (over es) (rest_of x ++ heard id es))))
+          ∙ when_both rules.shows.warnings _ _
+          ∙ ap (when rules.shows.warnings) (sym (map-append (stderr_line id) (whole_lines x) (lines_by (over es) (rest_of x ++ heard id es))))
           ∙ ap as_lines (sym (lines_by_both (over es) x (heard id es)) ∙ ap (lines_by (over es)) (append_assoc c.rest p (heard id es)) ∙ ap (λ q. lines_by (over es) (c.rest ++ (q ++ heard id es))) (sym (own_if id p [])))
 
       on_end : (x : Event) → is_over id x ≡ true → heard_of id x ≡ [] → given k (x ∷ es) ≡ as_lines (option_to_list (last_line c.rest)) → heard id es ≡ [] → Gives k c (x ∷ es)
@@ -363,86 +379,135 @@ module _ (shows : Shows) (warns : Bool) (cmds : List Planned) (id : ℕ) where
           ∙ ap (λ r. as_lines (whole_lines r)) (sym (ap (λ q. c.rest ++ q) none ∙ append-nil c.rest))
           ∙ ap (λ b. as_lines (lines_by b (c.rest ++ heard id es))) (sym still)
 
-      by : (x : Event) → ((d : Child) → Sound Runs es → mine id (kept_after k x).children ≡ d ∷ [] → d.id ≡ id → d.place < length cmds → IsUncut d.rest → Gives (kept_after k x) d es) → is_of id x ≡ true → Sound Runs (x ∷ es) → Gives k c (x ∷ es)
-      by x further own = own_by id (λ x. ((d : Child) → Sound Runs es → mine id (kept_after k x).children ≡ d ∷ [] → d.id ≡ id → d.place < length cmds → IsUncut d.rest → Gives (kept_after k x) d es) → Sound Runs (x ∷ es) → Gives k c (x ∷ es))
+      by : (x : Event) → ((d : Child) → Sound Runs es → mine id (kept_after rules.plan k x).children ≡ d ∷ [] → d.id ≡ id → d.place < length rules.plan.cmds → IsUncut d.rest → Gives (kept_after rules.plan k x) d es) → is_of id x ≡ true → Sound Runs (x ∷ es) → Gives k c (x ∷ es)
+      by x further own = own_by id (λ x. ((d : Child) → Sound Runs es → mine id (kept_after rules.plan k x).children ≡ d ∷ [] → d.id ≡ id → d.place < length rules.plan.cmds → IsUncut d.rest → Gives (kept_after rules.plan k x) d es) → Sound Runs (x ∷ es) → Gives k c (x ∷ es))
           (λ role cmd pipes held f s. absurd (unsound Runs (Started id role cmd pipes held) es (own_if id Amiss Runs) s))
           (λ p f s. on_heard p (f (fed p c) (sound_on Runs Runs (Heard id p) es (own_if id Runs Runs) s) (own_at id (fed p) (λ d. refl) k.children c one) is lt (rest_uncut (c.rest ++ p))))
           (λ f s.
-          let r = unreadable (kept_after k (Unread id)) es (emptied c) (sound_on Runs Unreadable (Unread id) es (own_if id Unreadable Runs) s) (own_at id emptied (λ x. refl) k.children c one) is lt refl in
+          let r = unreadable (kept_after rules.plan k (Unread id)) es (emptied c) (sound_on Runs Unreadable (Unread id) es (own_if id Unreadable Runs) s) (own_at id emptied (λ x. refl) k.children c one) is lt refl in
           on_end (Unread id) (eq-eqb id id refl) refl (unread_child k es c one is r.0) r.1)
           (λ st f s.
-          let r = behind_close (kept_after k (Ended id st)) es (sound_on Runs Closed (Ended id st) es (own_if id Closed Runs) s) (without_one k c one) in
+          let r = behind_close (kept_after rules.plan k (Ended id st)) es (sound_on Runs Closed (Ended id st) es (own_if id Closed Runs) s) (without_one k c one) in
           on_end (Ended id st) (eq-eqb id id refl) refl (ended_child k es c st one is lt r.none_given) r.none_heard)
           (λ f s.
-          let r = behind_close (kept_after k (Abandoned id)) es (sound_on Runs Closed (Abandoned id) es (own_if id Closed Runs) s) (without_one k c one) in
+          let r = behind_close (kept_after rules.plan k (Abandoned id)) es (sound_on Runs Closed (Abandoned id) es (own_if id Closed Runs) s) (without_one k c one) in
           on_gone (gone_child k es r.none_given) r.none_heard r.none_over)
           x own further
 
-      at : (b : Bool) → is_of id e ≡ b → ((d : Child) → Sound Runs es → mine id (kept_after k e).children ≡ d ∷ [] → d.id ≡ id → d.place < length cmds → IsUncut d.rest → Gives (kept_after k e) d es) → Gives k c (e ∷ es)
+      at : (b : Bool) → is_of id e ≡ b → ((d : Child) → Sound Runs es → mine id (kept_after rules.plan k e).children ≡ d ∷ [] → d.id ≡ id → d.place < length rules.plan.cmds → IsUncut d.rest → Gives (kept_after rules.plan k e) d es) → Gives k c (e ∷ es)
       at true own further = by e further own h
       at false other further =
           let r = reads_other e other in
-          given_skip k e es other ∙ further c (sound_on Runs Runs e es ((skips id e other).life Runs) h) ((other_event id shows warns cmds k e other).0 ∙ one) is lt u
+          given_skip k e es other ∙ further c (sound_on Runs Runs e es ((skips id e other).life Runs) h) ((other_event id rules k e other).0 ∙ one) is lt u
           ∙ ap (λ q. as_lines (lines_by (over es) (c.rest ++ (q ++ heard id es)))) (sym r.0)
           ∙ ap (λ b. as_lines (lines_by (b || over es) (c.rest ++ heard id (e ∷ es)))) (sym r.1)
 
   -- The lines of a child that a part starts.
-  starts : (k : Kept) (es : List Event) → Sound Unstarted es → mine id k.children ≡ [] → k.begun + length (started es) ≤ length cmds → given k es ≡ as_lines (lines_by (over es) (heard id es))
-  unfolding given
-  starts k [] h none few = sym (ap as_lines (uncut_whole [] tt) ∙ no_lines)
-  starts k (e ∷ es) h none few = at (is_of id e) refl (starts (kept_after k e) es)
+  starts : (total : Option ℕ) (k : Kept) (es : List Event) → Sound Unstarted es → mine id k.children ≡ [] → Along rules total (run_of k) es → given k es ≡ as_lines (lines_by (over es) (heard id es))
+  unfolding given as_lines
+  starts total k [] h none good = sym (ap as_lines (uncut_whole [] tt) ∙ no_lines)
+  starts total k (e ∷ es) h none good = at (is_of id e) refl (starts total (kept_after rules.plan k e) es)
     where
-      begins : (role : Role) (cmd : CommandSeen) (pipes : Pipes) (held : ℕ) → Sound Unstarted (Started id role cmd pipes held ∷ es) → k.begun + length (started (Started id role cmd pipes held ∷ es)) ≤ length cmds → given k (Started id role cmd pipes held ∷ es) ≡ as_lines (lines_by (over es) (heard id es))
-      begins role cmd pipes held s few =
+      begins : (role : Role) (cmd : CommandSeen) (pipes : Pipes) (held : ℕ) → Sound Unstarted (Started id role cmd pipes held ∷ es) → Along rules total (run_of k) (Started id role cmd pipes held ∷ es) → given k (Started id role cmd pipes held ∷ es) ≡ as_lines (lines_by (over es) (heard id es))
+      begins role cmd pipes held s good =
           let x = Started id role cmd pipes held in
-          let c : Child = record { id = id; place = k.begun; rest = [] } in
-          let own : mine id (kept_after k x).children ≡ c ∷ [] = filter-append (λ x. x.id == id) k.children (c ∷ []) ∙ ap (λ l. l ++ mine id (c ∷ [])) none ∙ keep id c [] (eq-eqb id id refl) in
-          given_more k x es ∙ ap (λ l. l ++ given (kept_after k x) es) (untold_start (is_stderr id) (λ m. refl) shows cmd (take 1 (drop k.begun cmds)) ∙ announced_other id shows cmd)
-          ∙ runs (kept_after k x) es c (sound_on Unstarted Runs x es (own_if id Runs Unstarted) s) own refl (omega (arith, few)) tt
+          let place : ℕ = good.0.place in
+          let next : next_place rules.plan k.marks ≡ Some place = good.0.next in
+          let lt : place < length rules.plan.cmds = (next_some rules.plan k.marks place next).below in
+          let c : Child = record { id = id; place = place; rest = [] } in
+          let own : mine id (kept_after rules.plan k x).children ≡ c ∷ [] = ap (λ o. mine id (with_child id o k).children) next ∙ filter-append (λ x. x.id == id) k.children (c ∷ []) ∙ ap (λ l. l ++ mine id (c ∷ [])) none ∙ keep id c [] (eq-eqb id id refl) in
+          given_more k x es ∙ ap (λ l. l ++ given (kept_after rules.plan k x) es) (untold_start (is_stderr id) (λ m. refl) rules.shows cmd (next_planned rules.plan k.marks) ∙ announced_other id rules.shows cmd)
+          ∙ runs (kept_after rules.plan k x) es c (sound_on Unstarted Runs x es (own_if id Runs Unstarted) s) own refl lt tt
 
-      at : (b : Bool) → is_of id e ≡ b → (Sound Unstarted es → mine id (kept_after k e).children ≡ [] → (kept_after k e).begun + length (started es) ≤ length cmds → given (kept_after k e) es ≡ as_lines (lines_by (over es) (heard id es))) → given k (e ∷ es) ≡ as_lines (lines_by (over (e ∷ es)) (heard id (e ∷ es)))
-      at true own further = own_by id (λ x. Sound Unstarted (x ∷ es) → k.begun + length (started (x ∷ es)) ≤ length cmds → given k (x ∷ es) ≡ as_lines (lines_by (over (x ∷ es)) (heard id (x ∷ es))))
+      at : (b : Bool) → is_of id e ≡ b → (Sound Unstarted es → mine id (kept_after rules.plan k e).children ≡ [] → Along rules total (run_of (kept_after rules.plan k e)) es → given (kept_after rules.plan k e) es ≡ as_lines (lines_by (over es) (heard id es))) → given k (e ∷ es) ≡ as_lines (lines_by (over (e ∷ es)) (heard id (e ∷ es)))
+      at true own further = own_by id (λ x. Sound Unstarted (x ∷ es) → Along rules total (run_of k) (x ∷ es) → given k (x ∷ es) ≡ as_lines (lines_by (over (x ∷ es)) (heard id (x ∷ es))))
           begins
           (λ p s f. absurd (unsound Unstarted (Heard id p) es (own_if id Amiss Unstarted) s))
           (λ s f. absurd (unsound Unstarted (Unread id) es (own_if id Amiss Unstarted) s))
           (λ st s f. absurd (unsound Unstarted (Ended id st) es (own_if id Amiss Unstarted) s))
           (λ s f. absurd (unsound Unstarted (Abandoned id) es (own_if id Amiss Unstarted) s))
-          e own h few
+          e own h good
       at false other further =
           let r = reads_other e other in
-          given_skip k e es other ∙ further (sound_on Unstarted Unstarted e es ((skips id e other).life Unstarted) h) ((other_event id shows warns cmds k e other).0 ∙ none) (subst (λ n. n ≤ length cmds) (sym (begun_after k e es)) few)
+          given_skip k e es other ∙ further (sound_on Unstarted Unstarted e es ((skips id e other).life Unstarted) h) ((other_event id rules k e other).0 ∙ none) (subst (λ r. Along rules total r es) (sym (kept_run_after rules.plan k e)) good.1)
           ∙ ap (λ q. as_lines (lines_by (over es) (q ++ heard id es))) (sym r.0)
           ∙ ap (λ b. as_lines (lines_by (b || over es) (heard id (e ∷ es)))) (sym r.1)
 
-  pub child_given : (k : Kept) (part : List Event) → (life_from id Unstarted part ≡ Amiss → ⊥) → k.children ≡ [] → k.begun + length (started part) ≤ length cmds → filter (is_stderr id) (due_from shows warns cmds k part) ≡ stderr_given shows id part
+  child_given : (total : Option ℕ) (k : Kept) (part : List Event) → (life_from id Unstarted part ≡ Amiss → ⊥) → k.children ≡ [] → Along rules total (run_of k) part → filter (is_stderr id) (due_from rules k part) ≡ stderr_given rules.shows id part
   unfolding given as_lines
-  child_given k part h none few = starts k part h (ap (mine id) none) few
+  child_given total k part h none good = starts total k part h (ap (mine id) none) good
 
--- What was printed of a child that was started, by the answer.
-pub child_printed : {T : Type 0} (shows : Shows) (warns : Bool) (cmds : List Planned) (id : ℕ) (old new : List Event) (result : Result T RunError) → LivesOn old new → Contains (started_ids (since old new)) id → IsPrinted shows warns cmds nothing_kept result (since old new) → 0 + length (started (since old new)) ≤ length cmds → IsForwarded result (stderr_printed id (since old new)) (stderr_given shows id (since old new))
-child_printed shows warns cmds id old new result lives has q few =
-    sifted (is_stderr id) shows warns cmds nothing_kept (since old new) (stderr_given shows id (since old new)) (λ m. refl) (announced_other id shows) (child_given shows warns cmds id nothing_kept (since old new) (part_sound id old new lives has) refl few) result q.0
+-- Events that are none of a standard error, and give no line: the cause of an end, and children that are abandoned.
+record IsStill (rules : Rules) (id : ℕ) (es : List Event) : Type 0 where
+  none_started : started_ids es ≡ []
+  none_read : heard id es ≡ []
+  none_ended : list_any (is_over id) es ≡ false
+  none_due : (k : Kept) → due_from rules k es ≡ []
 
-take_short : {X : Type 0} (n : ℕ) (xs : List X) → length (take n xs) ≤ length xs
-take_short zero xs = omega arith
-take_short (suc n) [] = omega arith
-take_short (suc n) (x ∷ xs) = let k : length (take n xs) ≤ length xs = take_short n xs in omega arith
+still_none : (rules : Rules) (id : ℕ) → IsStill rules id []
+still_none rules id = record { none_started = refl; none_read = refl; none_ended = refl; none_due = λ k. refl }
 
--- no more commands were started than stand in the list
-few_started : (shows : Shows) (cmds : List Planned) (part : List Event) (n : ℕ) → started part ≡ take n (asked shows cmds) → 0 + length (started part) ≤ length cmds
-few_started shows cmds part n e =
-    let a : length (started part) ≤ length (asked shows cmds) = subst (λ l. length l ≤ length (asked shows cmds)) (sym e) (take_short n (asked shows cmds)) in
-    let b : length (asked shows cmds) ≡ length cmds = length-map cmds (asked_by shows) in
-    omega arith
+still_gone : (rules : Rules) (id : ℕ) (cs : List (ℕ × ℕ)) → IsStill rules id (gone cs)
+still_gone rules id [] = still_none rules id
+still_gone rules id (c ∷ cs) =
+    let h : IsStill rules id (gone cs) = still_gone rules id cs in
+    record { none_started = h.none_started; none_read = h.none_read; none_ended = h.none_ended; none_due = λ k. h.none_due (kept_after rules.plan k (Abandoned c.0)) }
 
-pub few_run : {T : Type 0} (total : Option ℕ) (shows : Shows) (cmds : List Planned) (old new : List Event) (result : Result T RunError) (a b c d : ℕ) → IsRun total (asked shows cmds) old new result a b c d → 0 + length (started (since old new)) ≤ length cmds
-few_run total shows cmds old new result a b c d w = few_started shows cmds (since old new) w.run.begun w.whole.steps.asked
+still_fault : (rules : Rules) (id : ℕ) (call : HostCall) (why : Why) (es : List Event) → IsStill rules id es → IsStill rules id (Fault call why ∷ es)
+still_fault rules id call why es h = record { none_started = h.none_started; none_read = h.none_read; none_ended = h.none_ended; none_due = h.none_due }
 
-gone_started : (cs : List (ℕ × ℕ)) → started (gone cs) ≡ []
-gone_started [] = refl
-gone_started (c ∷ cs) = gone_started cs
+still_missing : (rules : Rules) (id : ℕ) (role : Role) (cmd : CommandSeen) (es : List Event) → IsStill rules id es → IsStill rules id (Missing role cmd ∷ es)
+still_missing rules id role cmd es h = record { none_started = h.none_started; none_read = h.none_read; none_ended = h.none_ended; none_due = h.none_due }
 
-pub few_solo : {T : Type 0} (shows : Shows) (cmds : List Planned) (old new : List Event) (result : Result T RunError) → IsSolo (asked shows cmds) old new result → 0 + length (started (since old new)) ≤ length cmds
-few_solo shows cmds old new result w =
-    let cut : since old new ≡ since old w.mid ++ gone w.run.live = ap (since old) (w.dropped ∙ ap (λ m. m ++ gone w.run.live) w.work.extends ∙ append_assoc old (since old w.mid) (gone w.run.live)) ∙ since_append old (since old w.mid ++ gone w.run.live) in
-    few_started shows cmds (since old new) w.run.begun (ap started cut ∙ flat_map-append started_of (since old w.mid) (gone w.run.live) ∙ ap (λ l. started (since old w.mid) ++ l) (gone_started w.run.live) ∙ append-nil _ ∙ w.work.begun)
+still_cause : (rules : Rules) (id : ℕ) (cmds : List Planned) (e : RunError) (tail es : List Event) → IsCause cmds e tail → IsStill rules id es → IsStill rules id (tail ++ es)
+still_cause rules id cmds (ToolNotFound n) tail es (p, c) h = subst (λ t. IsStill rules id (t ++ es)) (sym c.1) (still_missing rules id p.role p.cmd es h)
+still_cause rules id cmds (StartFault n) tail es (why, c) h = subst (λ t. IsStill rules id (t ++ es)) (sym c) (still_fault rules id Start why es h)
+still_cause rules id cmds WaitFault tail es (why, c) h = subst (λ t. IsStill rules id (t ++ es)) (sym c) (still_fault rules id Turning why es h)
+still_cause rules id cmds (HostFault call why) tail es c h = subst (λ t. IsStill rules id (t ++ es)) (sym c) (still_fault rules id call why es h)
+still_cause rules id cmds (Failed n s) tail es c h = subst (λ t. IsStill rules id (t ++ es)) (sym c) h
+still_cause rules id cmds JobFault tail es c h = subst (λ t. IsStill rules id (t ++ es)) (sym c) h
+still_cause rules id cmds TurnsSpent tail es c h = subst (λ t. IsStill rules id (t ++ es)) (sym c) h
+still_cause rules id cmds NoMemory tail es c h = subst (λ t. IsStill rules id (t ++ es)) (sym c) h
+
+still_end : (rules : Rules) (id : ℕ) (done : State) (result : Result (List Mark) RunError) (tail es : List Event) → EndsBy rules done result tail → IsStill rules id es → IsStill rules id (tail ++ es)
+still_end rules id done (Ok marks) tail es c h = subst (λ t. IsStill rules id (t ++ es)) (sym c.2) h
+still_end rules id done (Err e) tail es c h = still_cause rules id rules.plan.cmds e tail es c.1 h
+
+-- Behind a part, such events change nothing of what a child gave.
+module _ (rules : Rules) (id : ℕ) (part es : List Event) (still : IsStill rules id es) where
+  still_ids : started_ids (part ++ es) ≡ started_ids part
+  still_ids = flat_map-append id_of part es ∙ ap (λ l. started_ids part ++ l) still.none_started ∙ append-nil (started_ids part)
+
+  still_due : (k : Kept) → due_from rules k (part ++ es) ≡ due_from rules k part
+  still_due k = due_both rules k part es ∙ ap (λ l. due_from rules k part ++ l) (still.none_due (kept_from rules.plan k part)) ∙ append-nil (due_from rules k part)
+
+  still_heard : heard id (part ++ es) ≡ heard id part
+  still_heard = flat_map-append (heard_of id) part es ∙ ap (λ l. heard id part ++ l) still.none_read ∙ append-nil (heard id part)
+
+  still_over : list_any (is_over id) (part ++ es) ≡ list_any (is_over id) part
+  still_over = along part
+    where
+      along : (xs : List Event) → list_any (is_over id) (xs ++ es) ≡ list_any (is_over id) xs
+      along [] = still.none_ended
+      along (x ∷ xs) = ap (λ b. is_over id x || b) (along xs)
+
+  still_given : stderr_given rules.shows id (part ++ es) ≡ stderr_given rules.shows id part
+  still_given = ap (λ b. when rules.shows.warnings (map (stderr_line id) (lines_by b (heard id (part ++ es))))) still_over ∙ ap (λ q. when rules.shows.warnings (map (stderr_line id) (lines_by (list_any (is_over id) part) q))) still_heard
+
+-- Of each child that was started, the lines of its standard error were printed.
+pub ran_stderr : {T : Type 0} (rules : Rules) (total : Option ℕ) (old : State) (general : Result (List Mark) RunError) (log : List Event) (patience : Option ℕ) (seat : SeatSeen) (turns : TurnsSeen) (result : Result T RunError) → old.kept ≡ nothing_kept → RanAll rules total old general log patience seat turns → IsPrinted rules nothing_kept result (since old.log log) → ForwardsEach rules.shows result (since old.log log)
+ran_stderr rules total old general log patience seat turns result fresh ran q = λ id has.
+    let part = ran.works.part in
+    let rest = ran.tail ++ gone (run_of ran.done.kept).live in
+    let still : IsStill rules id rest = still_end rules id ran.done general ran.tail (gone (run_of ran.done.kept).live) ran.ends (still_gone rules id (run_of ran.done.kept).live) in
+    let same : log ≡ old.log ++ (part ++ rest) = ran.adds ∙ ap (λ l. l ++ rest) ran.works.adds ∙ append_assoc old.log part rest in
+    let whole : since old.log log ≡ part ++ rest = ap (since old.log) same ∙ since_append old.log (part ++ rest) in
+    let mid : since old.log ran.done.log ≡ part = ap (since old.log) ran.works.adds ∙ since_append old.log part in
+    let here : Contains (started_ids (since old.log ran.done.log)) id = subst (λ l. Contains l id) (ap started_ids whole ∙ still_ids rules id part rest still ∙ ap started_ids (sym mid)) has in
+    let sound : life_from id Unstarted part ≡ Amiss → ⊥ = subst (λ p. life_from id Unstarted p ≡ Amiss → ⊥) mid (part_sound id old.log ran.done.log ran.works.lives here) in
+    let good : Along rules total (run_of nothing_kept) part = subst (λ k. Along rules total (run_of k) part) fresh ran.works.good in
+    let all : filter (is_stderr id) (due_from rules nothing_kept (since old.log log)) ≡ stderr_given rules.shows id (since old.log log) =
+    ap (λ p. filter (is_stderr id) (due_from rules nothing_kept p)) whole ∙ ap (filter (is_stderr id)) (still_due rules id part rest still nothing_kept)
+    ∙ child_given rules id total nothing_kept part sound refl good
+    ∙ sym (still_given rules id part rest still) ∙ ap (stderr_given rules.shows id) (sym whole) in
+    sifted (is_stderr id) rules nothing_kept (since old.log log) (stderr_given rules.shows id (since old.log log)) (λ m. refl) (announced_other id rules.shows) all result q.0

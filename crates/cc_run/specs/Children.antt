@@ -1,38 +1,36 @@
 -- The children of a run that run, with the bytes that each gave since its last line feed.
-use Rattle.std.specs.Prelude.{◌≡◌, ◌≢◌, ◌+◌, ◌<◌, ℕ, List, [], ◌∷◌, ◌==◌, length, map, if◌then◌else◌, Option, None, Some}
+use Rattle.std.specs.Prelude.{◌≡◌, ◌≢◌, ◌+◌, ◌<◌, ◌≤◌, ℕ, Bool, List, [], ◌∷◌, ◌==◌, length, map, if◌then◌else◌, Option, None, Some}
 use Rattle.std.specs.List.{slice_index_or, remove}
-use Rattle.cc_host.specs.declared.event.Status.{Status}
+use Rattle.cc_run.specs.Marks.{begins, has_failed}
 use Rattle.cc_run.specs.Run.{Run, place_of}
+use Rattle.cc_run.specs.declared.mark.Mark.{Mark}
 use Rattle.cc_run.specs.declared.running.Child.{Child}
 
--- what is kept of a run: its children, how many commands were started, and the last failure
+-- what is kept of a run: its children, and what began and ended
 pub record Kept : Type 0 where
   pub children : List Child
-  pub begun : ℕ
-  pub failed : Option (ℕ × Status)
+  pub marks : List Mark
 
 abbrev pub seat : Child → ℕ × ℕ
 seat child = (child.id, child.place)
 
 -- the run that is kept
 abbrev pub run_of : Kept → Run
-run_of kept = record { live = map seat kept.children; begun = kept.begun; failed = kept.failed }
+run_of kept = record { live = map seat kept.children; marks = kept.marks }
 
 abbrev pub nothing_kept : Kept
-nothing_kept = record { children = []; begun = 0; failed = None }
+nothing_kept = record { children = []; marks = [] }
+
+-- Beside the marks it is kept how many commands were started and whether one failed. There is room for the marks of all ends.
+pub record IsBooked (children : List Child) (marks : List Mark) (room begun : ℕ) (failed : Bool) : Type 0 where
+  pub roomy : length marks + length children ≤ room
+  pub begun_is : begun ≡ begins marks
+  pub failed_is : failed ≡ has_failed marks
 
 -- the children without the first of that id
 abbrev pub without_child : ℕ → List Child → List Child
 without_child id [] = []
 without_child id (c ∷ cs) = if c.id == id then cs else c ∷ without_child id cs
-
-abbrev pub AreBelow : ℕ → List (ℕ × ℕ) → Type 0
-AreBelow bound [] = Unit {0}
-AreBelow bound (c ∷ cs) = (c.1 < bound) × AreBelow bound cs
-
--- the places of the children are below a bound
-abbrev pub ArePlaced : ℕ → Kept → Type 0
-ArePlaced bound kept = AreBelow bound (run_of kept).live
 
 -- no child has that id
 abbrev pub IsNoChild : ℕ → List Child → Type 0

@@ -6,6 +6,7 @@ use Rattle.cc_host.specs.declared.event.Event.TheVariants.{Started, Ended}
 use Rattle.cc_host.specs.declared.event.LineKind.{LineKind}
 use Rattle.cc_host.specs.declared.event.LineKind.TheVariants.{Debug}
 use Rattle.cc_host.specs.declared.event.Status.{Status}
+use Rattle.cc_run.specs.Plan.{Plan}
 use Rattle.cc_run.specs.Printing.{printed, lines_along}
 use Rattle.cc_run.specs.Run.{Run, nothing, place_of}
 use Rattle.cc_run.specs.Texts.{announced, debug_line, ended_text}
@@ -37,12 +38,12 @@ debug_of shows r (Ended id status) = end_line shows status (place_of id r.live)
 debug_of shows r _ = []
 
 -- the lines for debugging that these events give, in order
-abbrev pub debug_from : Shows → Run → List Event → List Notice
-debug_from shows = lines_along (debug_of shows)
+abbrev pub debug_from : Plan → Shows → Run → List Event → List Notice
+debug_from plan shows = lines_along plan (debug_of shows)
 
 -- on Ok the lines for debugging that were printed are those of the run's events
-abbrev pub DebugsAll : {T : Type 0} → Shows → Result T RunError → List Event → Type 0
-DebugsAll shows result part = OnOk result (debug_printed part ≡ debug_from shows nothing part)
+abbrev pub DebugsAll : {T : Type 0} → Plan → Shows → Result T RunError → List Event → Type 0
+DebugsAll plan shows result part = OnOk result (debug_printed part ≡ debug_from plan shows nothing part)
 
 -- on Ok so many were printed, if they are on
 abbrev pub DebugsTimes : {T : Type 0} → Shows → Result T RunError → ℕ → List Event → Type 0

@@ -1,16 +1,17 @@
--- How a part of a log is read.
-use Rattle.std.specs.Prelude.{◌≡◌, ◌≤◌, ◌<◌, ◌⊎◌, ℕ, ◌+◌, List, [], ◌∷◌, ◌++◌, take, length, Option, None, Some, IfSome, sum_by}
-use Rattle.std.specs.List.{flat_map}
+-- How a part of a log is read, and what is promised of each event of a run while it goes on.
+use Rattle.std.specs.Prelude.{◌≡◌, ◌≤◌, ◌<◌, ◌⊎◌, ℕ, ◌+◌, List, [], ◌∷◌, length, Option, None, Some, IfSome, true, sum_by, if◌then◌else◌}
+use Rattle.std.specs.List.{flat_map, slice_get}
 use Rattle.cc_host.specs.Command.{CommandSeen}
-use Rattle.cc_host.specs.Part.{since}
 use Rattle.cc_host.specs.declared.event.Role.{Role}
 use Rattle.cc_host.specs.declared.event.HostCall.{HostCall}
 use Rattle.cc_host.specs.declared.event.Event.{Event}
-use Rattle.cc_host.specs.declared.event.Event.TheVariants.{Started, Missing, Turn, Fault, Abandoned}
-use Rattle.cc_run.specs.Children.{Kept, run_of}
-use Rattle.cc_run.specs.Life.{LivesOn}
-use Rattle.cc_run.specs.Planned.{Asked}
-use Rattle.cc_run.specs.Run.{Run, run_from, Along}
+use Rattle.cc_host.specs.declared.event.Event.TheVariants.{Started, Missing, Heard, Unread, Ended, Turn, Printed, Said, Fault, Abandoned}
+use Rattle.cc_run.specs.Own.{is_run_line}
+use Rattle.cc_run.specs.Plan.{Plan, next_place}
+use Rattle.cc_run.specs.Planned.{Asked, asked_by}
+use Rattle.cc_run.specs.Rules.{Rules}
+use Rattle.cc_run.specs.Run.{Run, run_after}
+use Rattle.cc_run.specs.declared.planned.Planned.{Planned}
 
 abbrev pub started_of : Event → List Asked
 started_of (Started id role cmd pipes held) = record { role = role; cmd = cmd; pipes = pipes } ∷ []
@@ -50,48 +51,35 @@ turns_of _ = 0
 abbrev pub turns : List Event → ℕ
 turns = sum_by turns_of
 
--- the held count that a start carries is one more than the children that run, and no more than the total
-abbrev pub Fits : Option ℕ → Run → Event → Type 0
-Fits total r (Started id role cmd pipes held) = (held ≡ length r.live + 1) × IfSome total (λ t. held ≤ t)
-Fits total r _ = Unit {0}
+-- What is started is the plan's next command, as it was asked for. The count that it carries is one more than the children
+-- that run, and no more than the pool has tokens; without a token it is 0.
+pub record StartsNext (rules : Rules) (total : Option ℕ) (r : Run) (asking : Asked) (held : ℕ) : Type 0 where
+  pub place : ℕ
+  pub next : next_place rules.plan r.marks ≡ Some place
+  pub planned : Planned
+  pub its : slice_get rules.plan.cmds place ≡ Some planned
+  pub asks : asked_by rules.shows planned ≡ asking
+  pub carries : held ≡ (if rules.counted then length r.live + 1 else 0)
+  pub within : IfSome total (λ t. length r.live + 1 ≤ t)
 
--- at a turn a child runs, and as many as there are tokens, or every command was started
-abbrev pub IsBusy : ℕ → ℕ → Run → Event → Type 0
-IsBusy total count r (Turn turns) = (0 < length r.live) × ((length r.live ≡ total) ⊎ (r.begun ≡ count))
-IsBusy total count r _ = Unit {0}
+-- where one caller owns the pool, a child runs, and either one for each token or nothing may be started
+abbrev pub Busy : Plan → Option ℕ → Run → Type 0
+Busy plan total r = IfSome total (λ t. (0 < length r.live) × ((length r.live ≡ t) ⊎ (next_place plan r.marks ≡ None)))
 
--- what is owed before a turn
-abbrev pub BusyHere : Option ℕ → ℕ → Run → Type 0
-BusyHere None count r = Unit {0}
-BusyHere (Some total) count r = (0 < length r.live) × ((length r.live ≡ total) ⊎ (r.begun ≡ count))
+-- While a run goes on, the next command is started, children write and end, turns are made where the run is busy, and lines and
+-- messages are printed and said. Nothing else is done.
+abbrev pub Good : Rules → Option ℕ → Run → Event → Type 0
+Good rules total r (Started id role cmd pipes held) =
+    StartsNext rules total r (record { role = role; cmd = cmd; pipes = pipes }) held
+Good rules total r (Heard id piece) = Unit {0}
+Good rules total r (Unread id) = Unit {0}
+Good rules total r (Ended id status) = Unit {0}
+Good rules total r (Turn count) = Busy rules.plan total r
+Good rules total r (Printed kind bytes) = is_run_line kind ≡ true
+Good rules total r (Said message) = Unit {0}
+Good rules total r _ = ⊥
 
--- each start is paid for
-abbrev pub Within : Option ℕ → Run → List Event → Type 0
-Within total = Along (Fits total)
-
--- at each turn of a part, where one caller owns the pool
-abbrev pub Greedy : Option ℕ → ℕ → Run → List Event → Type 0
-Greedy None count r part = Unit {0}
-Greedy (Some total) count r part = Along (IsBusy total count) r part
-
--- What a part does to a run.
-pub record Steps (total : Option ℕ) (cmds : List Asked) (r : Run) (part : List Event) (r' : Run) : Type 0 where
-  pub run : run_from r part ≡ r'
-  pub asked : take r.begun cmds ++ started part ≡ take r'.begun cmds
-  pub within : Within total r part
-  pub greedy : Greedy total (length cmds) r part
-
--- A log grew by such a part, which takes each child on.
-pub record Goes (total : Option ℕ) (cmds : List Asked) (old : List Event) (r : Run) (new : List Event)
-    (r' : Run) : Type 0 where
-  pub extends : new ≡ old ++ since old new
-  pub steps : Steps total cmds r (since old new) r'
-  pub lives : LivesOn old new
-
--- the same, of a host by its log and of a run by what is kept of it
-abbrev pub GoesOn : {X : Type 0} → (X → List Event) → Option ℕ → List Asked → X → Kept → X → Kept → Type 0
-GoesOn log total cmds old r new r' = Goes total cmds (log old) (run_of r) (log new) (run_of r')
-
--- the same, where a turn may be made
-abbrev pub GoesFromBusy : {X : Type 0} → (X → List Event) → Option ℕ → List Asked → X → Kept → X → Kept → Type 0
-GoesFromBusy log total cmds old r new r' = BusyHere total (length cmds) (run_of r) → GoesOn log total cmds old r new r'
+-- so is each event, after those before it
+abbrev pub Along : Rules → Option ℕ → Run → List Event → Type 0
+Along rules total r [] = Unit {0}
+Along rules total r (e ∷ es) = Good rules total r e × Along rules total (run_after rules.plan r e) es

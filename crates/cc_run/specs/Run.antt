@@ -1,19 +1,19 @@
 -- What a reader of a part knows of a run, place by place.
-use Rattle.std.specs.Prelude.{ℕ, ◌+◌, List, [], ◌∷◌, ◌++◌, ◌==◌, map, if◌then◌else◌, Option, None, Some}
-use Rattle.cc_host.specs.Status.{is_success}
+use Rattle.std.specs.Prelude.{ℕ, List, [], ◌∷◌, ◌++◌, ◌==◌, map, if◌then◌else◌, Option, None, Some}
 use Rattle.cc_host.specs.declared.event.Status.{Status}
 use Rattle.cc_host.specs.declared.event.Event.{Event}
 use Rattle.cc_host.specs.declared.event.Event.TheVariants.{Started, Ended, Abandoned}
+use Rattle.cc_run.specs.declared.mark.Mark.{Mark}
+use Rattle.cc_run.specs.declared.mark.Mark.TheVariants.{Began, Over}
+use Rattle.cc_run.specs.Plan.{Plan, next_place}
 
--- The children that run, in start order, each with its id and its place in the list of commands.
--- How many commands were started. The last child that ended with another end than 0, by its place.
+-- The children that run, in start order, each with its id and its place in the queue; and what began and ended.
 pub record Run : Type 0 where
   pub live : List (ℕ × ℕ)
-  pub begun : ℕ
-  pub failed : Option (ℕ × Status)
+  pub marks : List Mark
 
 abbrev pub nothing : Run
-nothing = record { live = []; begun = 0; failed = None }
+nothing = record { live = []; marks = [] }
 
 -- the place of the first child of that id
 abbrev pub place_of : ℕ → List (ℕ × ℕ) → Option ℕ
@@ -25,33 +25,39 @@ abbrev pub without : ℕ → List (ℕ × ℕ) → List (ℕ × ℕ)
 without id [] = []
 without id (c ∷ cs) = if c.0 == id then cs else c ∷ without id cs
 
--- the last failure, after a child at this place ended
-abbrev pub failed_at : Option ℕ → Status → Option (ℕ × Status) → Option (ℕ × Status)
-failed_at None status last = last
-failed_at (Some place) status last = if is_success status then last else Some (place, status)
+-- what began and ended, after the start or the end of the command at a place
+abbrev pub began : Option ℕ → List Mark → List Mark
+began None marks = marks
+began (Some p) marks = marks ++ Began p ∷ []
 
-abbrev pub run_after : Run → Event → Run
-run_after r (Started id role cmd pipes held) =
-    record { live = r.live ++ (id, r.begun) ∷ []; begun = r.begun + 1; failed = r.failed }
-run_after r (Ended id status) =
-    record { live = without id r.live; begun = r.begun; failed = failed_at (place_of id r.live) status r.failed }
-run_after r (Abandoned id) = record { live = without id r.live; begun = r.begun; failed = r.failed }
-run_after r _ = r
+abbrev pub over : Status → Option ℕ → List Mark → List Mark
+over status None marks = marks
+over status (Some p) marks = marks ++ Over p status ∷ []
+
+-- the children, after the start of the command at a place
+abbrev pub joined : ℕ → Option ℕ → List (ℕ × ℕ) → List (ℕ × ℕ)
+joined id None live = live
+joined id (Some p) live = live ++ (id, p) ∷ []
+
+-- a child that is started is the plan's next; one that ends or is abandoned is of the run, or somebody else's
+abbrev pub run_after : Plan → Run → Event → Run
+run_after plan r (Started id role cmd pipes held) =
+    record { live = joined id (next_place plan r.marks) r.live; marks = began (next_place plan r.marks) r.marks }
+run_after plan r (Ended id status) =
+    record { live = without id r.live; marks = over status (place_of id r.live) r.marks }
+run_after plan r (Abandoned id) = record { live = without id r.live; marks = r.marks }
+run_after plan r _ = r
 
 -- the run after a child has ended, or has not
 abbrev pub ended_run : Run → ℕ → Option Status → Run
 ended_run r id None = r
-ended_run r id (Some status) = run_after r (Ended id status)
+ended_run r id (Some status) =
+    record { live = without id r.live; marks = over status (place_of id r.live) r.marks }
 
 -- the run after these events
-abbrev pub run_from : Run → List Event → Run
-run_from r [] = r
-run_from r (e ∷ es) = run_from (run_after r e) es
-
--- a fact of each event and of the run right before it
-abbrev pub Along : (Run → Event → Type 0) → Run → List Event → Type 0
-Along P r [] = Unit {0}
-Along P r (e ∷ es) = P r e × Along P (run_after r e) es
+abbrev pub run_from : Plan → Run → List Event → Run
+run_from plan r [] = r
+run_from plan r (e ∷ es) = run_from plan (run_after plan r e) es
 
 abbrev pub ids : List (ℕ × ℕ) → List ℕ
 ids = map (λ c. c.0)

@@ -10,6 +10,7 @@ use Rattle.cc_host.specs.declared.event.LineKind.{LineKind}
 use Rattle.cc_host.specs.declared.event.LineKind.TheVariants.{Warning}
 use Rattle.cc_host.specs.declared.event.Status.{Status}
 use Rattle.cc_run.specs.Printing.{printed, lines_along}
+use Rattle.cc_run.specs.Rules.{Rules}
 use Rattle.cc_run.specs.Run.{Run, nothing, place_of}
 use Rattle.cc_run.specs.Stderr.{IsForwarded}
 use Rattle.cc_run.specs.Texts.{cargo_line, failed_line, unread_text}
@@ -52,10 +53,9 @@ warning_of shows warns cmds r (Ended id status) = failed_warned shows warns cmds
 warning_of shows warns cmds r _ = []
 
 -- the warnings that these events give, in order
-abbrev pub warnings_from : Shows → Bool → List Planned → Run → List Event → List Notice
-warnings_from shows warns cmds = lines_along (warning_of shows warns cmds)
+abbrev pub warnings_from : Rules → Run → List Event → List Notice
+warnings_from rules = lines_along rules.plan (warning_of rules.shows rules.warns rules.plan.cmds)
 
 -- the warnings of a run were printed, and no others
-abbrev pub WarnsAll : {T : Type 0} → Shows → Bool → List Planned → Result T RunError → List Event → Type 0
-WarnsAll shows warns cmds result part =
-    IsForwarded result (warnings_printed part) (warnings_from shows warns cmds nothing part)
+abbrev pub WarnsAll : {T : Type 0} → Rules → Result T RunError → List Event → Type 0
+WarnsAll rules result part = IsForwarded result (warnings_printed part) (warnings_from rules nothing part)

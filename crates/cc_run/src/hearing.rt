@@ -10,7 +10,7 @@ use crate::messages::{push_failed, push_given, push_unread};
 use crate::print::Notice;
 use crate::running::{Child, find};
 use crate::texts::{cargo_line, ended_line, failed_line, unread_text};
-use crate::{Planned, Running, Shows};
+use crate::{Planned, Queue, Running, Shows};
 use cc_host::{LineKind, News, Status};
 use cc_text::Mem;
 use std::slice;
@@ -73,20 +73,13 @@ fn take_unread(
     Ok(())
 }
 
-// The command of a child.
-fn command_of<'a>(cmds: &'a [Planned], child: &Child) -> Option<&'a Planned>
-    ensures { option_copied result ≡ slice_get cmds.now child.now.place }
-{
-    cmds.get(child.place)
-}
-
 // Takes a piece of the standard error of the child of that id, where it is one of the run.
 #[tactic(auto, using(crate::proofs::ChildLemmas::seats_set))]
-fn hear_piece(
+fn hear_piece<Q: Queue>(
     running: &mut Running,
     id: u64,
     piece: &[u8],
-    cmds: &[Planned],
+    queue: &Q,
     shows: &Shows,
     lines: &mut Vec<Notice>,
 ) -> Mem<()>
@@ -94,11 +87,11 @@ fn hear_piece(
     ensures children { OnOk result (running.new.children
         ≡ at_child id (fed piece.now) running.old.children) }
     ensures lines { OnOk result (lines.new.items ≡ lines.old.items
-        ++ of_child id (heard_at shows.now cmds.now piece.now) running.old.children) }
+        ++ of_child id (heard_at shows.now (Q.plan queue.now).cmds piece.now) running.old.children) }
 {
     match find(&running.children, id) {
         Some(at) => {
-            let planned = command_of(cmds, &running.children[at]);
+            let planned = queue.command(running.children[at].place);
             take_piece(&mut running.children[at], planned, piece, shows, lines)?;
             Ok(())
         }
@@ -108,10 +101,10 @@ fn hear_piece(
 
 // Takes the rest of the standard error of the child of that id, which failed to be read, where it is one of the run.
 #[tactic(auto, using(crate::proofs::ChildLemmas::seats_set))]
-fn hear_unread(
+fn hear_unread<Q: Queue>(
     running: &mut Running,
     id: u64,
-    cmds: &[Planned],
+    queue: &Q,
     shows: &Shows,
     lines: &mut Vec<Notice>,
 ) -> Mem<()>
@@ -119,11 +112,11 @@ fn hear_unread(
     ensures children { OnOk result (running.new.children
         ≡ at_child id emptied running.old.children) }
     ensures lines { OnOk result (lines.new.items ≡ lines.old.items
-        ++ of_child id (unread_at shows.now cmds.now) running.old.children) }
+        ++ of_child id (unread_at shows.now (Q.plan queue.now).cmds) running.old.children) }
 {
     match find(&running.children, id) {
         Some(at) => {
-            let planned = command_of(cmds, &running.children[at]);
+            let planned = queue.command(running.children[at].place);
             take_unread(&mut running.children[at], planned, shows, lines)?;
             Ok(())
         }
@@ -132,24 +125,24 @@ fn hear_unread(
 }
 
 // Takes what the standard error of a child gave in a turn.
-pub(crate) fn hear(
+pub(crate) fn hear<Q: Queue>(
     running: &mut Running,
     news: &News,
-    cmds: &[Planned],
+    queue: &Q,
     shows: &Shows,
     lines: &mut Vec<Notice>,
 ) -> Mem<()>
     ensures run { run_of running.new ≡ run_of running.old }
     ensures children { OnOk result (running.new.children
         ≡ children_from running.old.children (wrote news.now)) }
-    ensures lines { AddsWritten shows.now cmds.now running.old.children (wrote news.now) result
-        lines.old.items lines.new.items }
+    ensures lines { AddsWritten shows.now (Q.plan queue.now).cmds running.old.children
+        (wrote news.now) result lines.old.items lines.new.items }
 {
     if let Some(piece) = &news.piece {
-        hear_piece(running, news.id, piece.as_slice(), cmds, shows, lines)?;
+        hear_piece(running, news.id, piece.as_slice(), queue, shows, lines)?;
     }
     if news.unread {
-        hear_unread(running, news.id, cmds, shows, lines)?;
+        hear_unread(running, news.id, queue, shows, lines)?;
     }
     Ok(())
 }

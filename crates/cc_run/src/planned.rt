@@ -2,6 +2,7 @@
 ghost use Rattle.std.specs.Prelude.{◌≡◌};
 ghost use Rattle.cc_run.specs.Planned.{pipes_of};
 
+use crate::WaitState;
 use cc_host::{Command, CompileCommand, OutputKind, Pipes, Role};
 
 /// A command that is to be run.
@@ -28,6 +29,8 @@ pub struct Shows {
     /// Whether the host listens, as it answers itself. Messages are said to one that does: that a command compiles, the
     /// lines of each standard error, that one can't be read, and each failure.
     pub listens: bool,
+    /// Whether no command is started after one ended with another status than 0. Those that run are waited for.
+    pub stop: bool,
 }
 
 /// How many turns a run may still make, and how many were made. A turn asks a host for the news of its children.
@@ -39,14 +42,21 @@ pub struct Turns {
     pub used: u64,
 }
 
-// What a run only reads: its pool, its commands, what of them is shown, and whether one that fails
-// is warned of.
+// What a run only reads: its pool, what of its commands is shown, whether one that fails is warned of, and whether a
+// start carries how many tokens are held, or 0.
 #[derive(Drop)]
 pub(crate) struct Batch<'a, J> {
     pub jobs: &'a J,
-    pub cmds: &'a [Planned],
     pub shows: &'a Shows,
     pub warns: bool,
+    pub counted: bool,
+}
+
+// The turns of a run, and how long they rest.
+#[derive(Clone, Copy)]
+pub(crate) struct Pace {
+    pub turns: Turns,
+    pub wait: WaitState,
 }
 
 // The pipes of a command that is started.

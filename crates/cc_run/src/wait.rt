@@ -1,30 +1,28 @@
 // Waits for the children of a run.
-ghost use Rattle.std.specs.Prelude.{◌≡◌, ◌++◌, ◌∷◌, [], ◌+◌, ◌<◌, ◌^◌, List, IfOk, IfErr, OnOk, MatchResult, length, true, false};
-ghost use Rattle.std.specs.List.{list_all};
+ghost use Rattle.std.specs.Prelude.{◌≡◌, ◌++◌, ◌∷◌, [], ◌+◌, ◌<◌, ◌^◌, ℕ, Option, IfOk, IfErr, OnOk, MatchResult, length, true, false};
 ghost use Rattle.cc_host.specs.Call.{part};
 ghost use Rattle.cc_host.specs.Event.{reported};
 ghost use Rattle.cc_host.specs.Children.{IsNews, Waits};
 ghost use Rattle.cc_host.specs.declared.event.Event.TheVariants.{Turn as OneTurn};
-ghost use Rattle.cc_run.specs.Batch.{asked_of, count_of, owed_by, PrintsBatch, RunsBatch};
 ghost use Rattle.cc_run.specs.Children.{run_of};
-ghost use Rattle.cc_run.specs.Hearing.{children_from, reports};
-ghost use Rattle.cc_run.specs.Keeping.{IsOneRun, KeepsSeat, TookNone, TurnsMade, IsOneFewer};
-ghost use Rattle.cc_run.specs.Outcome.{NamesCause, IsWaitError, IsOpen, IsOver, EndsAt, IsUnturned, WantsTurns};
-ghost use Rattle.cc_run.specs.Own.{is_of_run, AreRunLines};
-ghost use Rattle.cc_run.specs.Paid.{StartsNone};
-ghost use Rattle.cc_run.specs.Part.{GoesFromBusy};
-ghost use Rattle.cc_run.specs.Patience.{Waited};
-ghost use Rattle.cc_run.specs.Planned.{asked};
+ghost use Rattle.cc_run.specs.Hearing.{children_from, owed_from, reports};
+ghost use Rattle.cc_run.specs.Keeping.{IsOneRun, IsOneFewer};
+ghost use Rattle.cc_run.specs.Listed.{listed_plan};
+ghost use Rattle.cc_run.specs.Outcome.{IsSettled, IsUnturned};
+ghost use Rattle.cc_run.specs.Part.{Busy};
+ghost use Rattle.cc_run.specs.Printing.{IsPrinted};
 ghost use Rattle.cc_run.specs.Prints.{ArePrinted, IsPrintError};
-ghost use Rattle.cc_run.specs.Printing.{IsPrinted, kept_from};
+ghost use Rattle.cc_run.specs.Rules.{rules, rules_of};
 ghost use Rattle.cc_run.specs.Run.{ended_run, run_from};
-ghost use Rattle.cc_run.specs.declared.print.Notice.{Notice as LineSeen};
+ghost use Rattle.cc_run.specs.Seat.{seen_by, Returned};
+ghost use Rattle.cc_run.specs.Started.{IsLeft};
+ghost use Rattle.cc_run.specs.State.{Agrees, Moves};
 
 use crate::error::turn_error;
 use crate::hearing::{hear, push_end};
-use crate::planned::Batch;
+use crate::planned::{Batch, Pace};
 use crate::print::{Notice, print_all};
-use crate::{Planned, RunError, Running, Shows, Step, Turns};
+use crate::{Listed, Planned, Queue, RunError, Running, Shows, Step, Turns};
 use cc_host::{Host, News, World};
 use cc_jobs::Jobs;
 use cc_text::Mem;
@@ -34,65 +32,77 @@ use cc_text::Mem;
 #[derive(Clone, Copy, Debug, PartialEq, Eq)]
 pub struct WaitState {
     idle: u64,
-    started: usize,
+    marks: usize,
 }
 
-// Takes the news of one child. One that ended is taken out of the run, and its token given back, in any case.
-fn settle<J: Jobs>(
+// Takes the news of one child. One that ended is taken out of the run, the queue is told, and its token given back, in any
+// case.
+fn settle<J: Jobs, Q: Queue>(
     seat: &mut J::Seat,
+    queue: &mut Q,
     running: &mut Running,
     news: &News,
     batch: &Batch<'_, J>,
     lines: &mut Vec<Notice>,
 ) -> Mem<()>
-    requires one_run { RunsBatch J.fits J.held batch.now seat.old running.old }
-    ensures one_run { RunsBatch J.fits J.held batch.now seat.new running.new }
-    ensures keeps { KeepsSeat J.total J.faults seat.old seat.new }
-    ensures counts { TookNone J.taken J.load seat.old seat.new }
+    requires agrees { Agrees J.fits J.held Q.stands batch.now.jobs.now
+        seat.old queue.old running.old }
+    ensures agrees { Agrees J.fits J.held Q.stands batch.now.jobs.now
+        seat.new queue.new running.new }
+    ensures plan { Q.plan queue.new ≡ Q.plan queue.old }
+    ensures seat { Returned (seen_by J.held J.total J.taken J.load J.faults seat.old)
+        (seen_by J.held J.total J.taken J.load J.faults seat.new) }
     ensures run { run_of running.new ≡ ended_run (run_of running.old) news.now.id news.now.ended }
-    ensures kinds { OnOk result (AreRunLines lines.old.items → AreRunLines lines.new.items) }
     ensures children { OnOk result (running.new.children
         ≡ children_from running.old.children (reported news.now)) }
-    ensures lines { OnOk result (lines.new.items
-        ≡ lines.old.items ++ owed_by batch.now running.old.children (reported news.now)) }
+    ensures lines { OnOk result (lines.new.items ≡ lines.old.items
+        ++ owed_from batch.now.shows.now batch.now.warns (Q.plan queue.old).cmds
+        running.old.children (reported news.now)) }
 {
-    let heard = hear(running, news, batch.cmds, batch.shows, lines);
+    let heard = hear(running, news, queue, batch.shows, lines);
     let Some(status) = news.ended else {
         return heard;
     };
     let Some(mut child) = running.end(news.id, status) else {
         return heard;
     };
+    queue.end(child.place, status);
     batch.jobs.give(seat);
     heard?;
-    let planned = &batch.cmds[child.place];
+    let Some(planned) = queue.command(child.place) else {
+        return Ok(());
+    };
     push_end(&mut child, planned, status, batch.shows, batch.warns, lines)
 }
 
 // Does so for each piece of news, in order.
 #[tactic(auto, using(crate::proofs::Runs::news_run))]
-fn settle_all<J: Jobs>(
+fn settle_all<J: Jobs, Q: Queue>(
     seat: &mut J::Seat,
+    queue: &mut Q,
     running: &mut Running,
     news: &[News],
     batch: &Batch<'_, J>,
     lines: &mut Vec<Notice>,
 ) -> Mem<()>
-    requires one_run { RunsBatch J.fits J.held batch.now seat.old running.old }
-    ensures one_run { RunsBatch J.fits J.held batch.now seat.new running.new }
-    ensures keeps { KeepsSeat J.total J.faults seat.old seat.new }
-    ensures counts { TookNone J.taken J.load seat.old seat.new }
-    ensures run { run_of running.new ≡ run_from (run_of running.old) (reports news.now) }
-    ensures begun { running.new.begun ≡ running.old.begun }
-    ensures kinds { OnOk result (AreRunLines lines.old.items → AreRunLines lines.new.items) }
+    requires agrees { Agrees J.fits J.held Q.stands batch.now.jobs.now
+        seat.old queue.old running.old }
+    ensures agrees { Agrees J.fits J.held Q.stands batch.now.jobs.now
+        seat.new queue.new running.new }
+    ensures plan { Q.plan queue.new ≡ Q.plan queue.old }
+    ensures seat { Returned (seen_by J.held J.total J.taken J.load J.faults seat.old)
+        (seen_by J.held J.total J.taken J.load J.faults seat.new) }
+    ensures run { run_of running.new
+        ≡ run_from (Q.plan queue.old) (run_of running.old) (reports news.now) }
     ensures children { OnOk result (running.new.children
         ≡ children_from running.old.children (reports news.now)) }
-    ensures lines { OnOk result (lines.new.items
-        ≡ lines.old.items ++ owed_by batch.now running.old.children (reports news.now)) }
+    ensures lines { OnOk result (lines.new.items ≡ lines.old.items
+        ++ owed_from batch.now.shows.now batch.now.warns (Q.plan queue.old).cmds
+        running.old.children (reports news.now)) }
 {
     let mut done = Ok(());
     for item in news {
-        let one = settle(seat, running, item, batch, lines);
+        let one = settle(seat, queue, running, item, batch, lines);
         done = done.and(one);
     }
     done
@@ -100,7 +110,7 @@ fn settle_all<J: Jobs>(
 
 // Makes one turn, where one is left.
 #[tactic(auto, using(cc_host::proofs::Parts::since_append))]
-pub(crate) fn turn_once<W: World, H: Host<W>>(
+fn turn_once<W: World, H: Host<W>>(
     host: &mut H,
     turns: &mut Turns,
     rest_ms: u64,
@@ -130,172 +140,92 @@ pub(crate) fn turn_once<W: World, H: Host<W>>(
 }
 
 // Takes the news of a turn, and prints the lines that they give.
-fn take_news<W: World, H: Host<W>, J: Jobs>(
+fn take_news<W: World, H: Host<W>, J: Jobs, Q: Queue>(
     host: &mut H,
     seat: &mut J::Seat,
+    queue: &mut Q,
     running: &mut Running,
     news: &[News],
     batch: &Batch<'_, J>,
 ) -> Result<(), RunError>
-    requires one_run { RunsBatch J.fits J.held batch.now seat.old running.old }
-    ensures one_run { RunsBatch J.fits J.held batch.now seat.new running.new }
-    ensures keeps { KeepsSeat J.total J.faults seat.old seat.new }
-    ensures counts { TookNone J.taken J.load seat.old seat.new }
-    ensures run { run_of running.new ≡ run_from (run_of running.old) (reports news.now) }
-    ensures begun { running.new.begun ≡ running.old.begun }
-    ensures patient { H.patience host.new ≡ H.patience host.old }
-    ensures extends { H.log host.new ≡ H.log host.old ++ part H.log host.old host.new }
-    ensures printed { (lines : List LineSeen) × ArePrinted lines result
-        (part H.log host.old host.new) }
-    ensures kind { IfErr result IsPrintError }
-    ensures own { list_all is_of_run (part H.log host.old host.new) ≡ true }
+    requires agrees { Agrees J.fits J.held Q.stands batch.now.jobs.now
+        seat.old queue.old running.old }
+    ensures agrees { Agrees J.fits J.held Q.stands batch.now.jobs.now
+        seat.new queue.new running.new }
+    ensures plan { Q.plan queue.new ≡ Q.plan queue.old }
+    ensures seat { Returned (seen_by J.held J.total J.taken J.load J.faults seat.old)
+        (seen_by J.held J.total J.taken J.load J.faults seat.new) }
+    ensures run { run_of running.new
+        ≡ run_from (Q.plan queue.old) (run_of running.old) (reports news.now) }
+    ensures host { (H.patience host.new ≡ H.patience host.old)
+        × (H.log host.new ≡ H.log host.old ++ part H.log host.old host.new) }
     ensures children { OnOk result (running.new.children
         ≡ children_from running.old.children (reports news.now)) }
-    ensures lines { ArePrinted (owed_by batch.now running.old.children (reports news.now)) result
-        (part H.log host.old host.new) }
+    ensures lines { IfErr result IsPrintError × ArePrinted (owed_from batch.now.shows.now
+        batch.now.warns (Q.plan queue.old).cmds running.old.children (reports news.now))
+        result (part H.log host.old host.new) }
 {
     let mut lines = Vec::new(running.alloc());
-    let settled = settle_all(seat, running, news, batch, &mut lines);
+    let settled = settle_all(seat, queue, running, news, batch, &mut lines);
     if settled.is_err() {
         return Err(RunError::NoMemory);
     }
     print_all(host, &lines)
 }
 
-// Whether children of the run are left.
-fn step_of(running: &Running) -> Step
-    ensures ready { result ≡ Step.Ready → (run_of running.now).live ≡ [] }
-    ensures pending { result ≡ Step.Pending → 0 < length (run_of running.now).live }
+// Makes one turn, forwards what it gives, and gives back the token of each child that ended.
+#[tactic(auto, using(cc_host::proofs::Parts::since_append))]
+pub(crate) fn turn<W: World, H: Host<W>, J: Jobs, Q: Queue>(
+    host: &mut H,
+    seat: &mut J::Seat,
+    pace: &mut Pace,
+    queue: &mut Q,
+    running: &mut Running,
+    batch: &Batch<'_, J>,
+) -> Result<(), RunError>
+    requires agrees { Agrees J.fits J.held Q.stands batch.now.jobs.now
+        seat.old queue.old running.old }
+    requires unsettled { IsSettled (Q.plan queue.old) (run_of running.old) → ⊥ }
+    requires few { pace.old.turns.left + pace.old.turns.used < 2 ^ 64 }
+    ensures agrees { Agrees J.fits J.held Q.stands batch.now.jobs.now
+        seat.new queue.new running.new }
+    ensures plan { Q.plan queue.new ≡ Q.plan queue.old }
+    ensures steps { (total : Option ℕ) → Busy (Q.plan queue.old) total (run_of running.old)
+        → Moves H.log H.patience (seen_by J.held J.total J.taken J.load J.faults)
+        (rules_of batch.now (Q.plan queue.old)) total
+        host.old running.old seat.old pace.old.turns
+        result host.new running.new seat.new pace.new.turns }
+    ensures fewer { OnOk result (pace.new.turns.left + 1 ≡ pace.old.turns.left) }
+    ensures lines { IsPrinted (rules_of batch.now (Q.plan queue.old))
+        running.old result (part H.log host.old host.new) }
 {
-    if running.len() == 0 {
-        Step::Ready
-    } else {
-        Step::Pending
-    }
-}
-
-// Whether every command was started and has ended.
-fn is_done(running: &Running, count: usize) -> bool
-    ensures yes { result ≡ true → IsOver count (run_of running.now) }
-    ensures no { result ≡ false → IsOpen count (run_of running.now) }
-{
-    running.len() == 0 && running.started >= count
+    let news = match turn_once(host, &mut pace.turns, pace.wait.idle) {
+        Ok(news) => news,
+        Err(e) => return Err(e),
+    };
+    let taken = take_news(host, seat, queue, running, &news, batch);
+    pace.wait.note(running.marks().len());
+    taken
 }
 
 impl WaitState {
     /// The poll of a run that begins. It takes no memory.
     pub fn new() -> WaitState {
-        WaitState {
-            idle: 0,
-            started: 0,
-        }
+        WaitState { idle: 0, marks: 0 }
     }
 
-    // Notes whether the pass made progress: whether a command was started or one ended.
-    fn note(&mut self, started: usize, ended: bool) {
-        if ended || started != self.started {
+    // Notes whether a command was started or ended since the turn before: whether there are other marks.
+    fn note(&mut self, marks: usize) {
+        if marks != self.marks {
             self.idle = 0;
         } else if self.idle < 10 {
             self.idle += 1;
         }
-        self.started = started;
-    }
-
-    // Makes one turn, forwards what it gives, and gives back the token of each child that ended.
-    #[tactic(auto, using(cc_host::proofs::Parts::since_append))]
-    fn wait<W: World, H: Host<W>, J: Jobs>(
-        &mut self,
-        host: &mut H,
-        seat: &mut J::Seat,
-        turns: &mut Turns,
-        running: &mut Running,
-        batch: &Batch<'_, J>,
-    ) -> Result<Step, RunError>
-        requires one_run { RunsBatch J.fits J.held batch.now seat.old running.old }
-        requires few { turns.old.left + turns.old.used < 2 ^ 64 }
-        ensures one_run { RunsBatch J.fits J.held batch.now seat.new running.new }
-        ensures keeps { KeepsSeat J.total J.faults seat.old seat.new }
-        ensures counts { TookNone J.taken J.load seat.old seat.new }
-        ensures patient { H.patience host.new ≡ H.patience host.old }
-        ensures extends { H.log host.new ≡ H.log host.old ++ part H.log host.old host.new }
-        ensures goes { GoesFromBusy H.log (J.total seat.old) (asked_of batch.now)
-            host.old running.old host.new running.new }
-        ensures named { NamesCause (asked_of batch.now) result (part H.log host.old host.new) }
-        ensures begun { running.new.begun ≡ running.old.begun }
-        ensures turns { TurnsMade turns.old turns.new (part H.log host.old host.new) }
-        ensures one_turn { OnOk result (turns.new.left + 1 ≡ turns.old.left) }
-        ensures waited { Waited (H.patience host.new) (H.log host.old) (H.log host.new) }
-        ensures starts { StartsNone (part H.log host.old host.new) }
-        ensures ends { IfErr result (EndsAt (H.log host.new)) }
-        ensures kind { IfErr result IsWaitError }
-        ensures spent { result ≡ Err RunError.TurnsSpent
-            → (turns.old.left ≡ 0) × (running.new ≡ running.old) }
-        ensures ready { result ≡ Ok Step.Ready → (run_of running.new).live ≡ [] }
-        ensures pending { result ≡ Ok Step.Pending → 0 < length (run_of running.new).live }
-        ensures own { list_all is_of_run (part H.log host.old host.new) ≡ true }
-        ensures kept { OnOk result (kept_from running.old (part H.log host.old host.new)
-            ≡ running.new) }
-        ensures lines { PrintsBatch batch.now running.old result (part H.log host.old host.new) }
-    {
-        let news = match turn_once(host, turns, self.idle) {
-            Ok(news) => news,
-            Err(e) => return Err(e),
-        };
-        let before = running.len();
-        let taken = take_news(host, seat, running, &news, batch);
-        self.note(running.started, running.len() < before);
-        match taken {
-            Ok(()) => Ok(step_of(running)),
-            Err(e) => Err(e),
-        }
-    }
-
-    // The poll of a batch, whose failures are warned of or not.
-    pub(crate) fn poll_batch<W: World, H: Host<W>, J: Jobs>(
-        &mut self,
-        host: &mut H,
-        seat: &mut J::Seat,
-        turns: &mut Turns,
-        running: &mut Running,
-        batch: &Batch<'_, J>,
-    ) -> Result<Step, RunError>
-        requires one_run { RunsBatch J.fits J.held batch.now seat.old running.old }
-        requires few { turns.old.left + turns.old.used < 2 ^ 64 }
-        ensures one_run { RunsBatch J.fits J.held batch.now seat.new running.new }
-        ensures keeps { KeepsSeat J.total J.faults seat.old seat.new }
-        ensures counts { TookNone J.taken J.load seat.old seat.new }
-        ensures patient { H.patience host.new ≡ H.patience host.old }
-        ensures extends { H.log host.new ≡ H.log host.old ++ part H.log host.old host.new }
-        ensures goes { GoesFromBusy H.log (J.total seat.old) (asked_of batch.now)
-            host.old running.old host.new running.new }
-        ensures named { NamesCause (asked_of batch.now) result (part H.log host.old host.new) }
-        ensures begun { running.new.begun ≡ running.old.begun }
-        ensures turns { TurnsMade turns.old turns.new (part H.log host.old host.new) }
-        ensures one_turn { IsOpen (count_of batch.now) (run_of running.old)
-            → OnOk result (turns.new.left + 1 ≡ turns.old.left) }
-        ensures done { IsOver (count_of batch.now) (run_of running.old)
-            → (result ≡ Ok Step.Ready) × (H.log host.new ≡ H.log host.old) }
-        ensures waited { Waited (H.patience host.new) (H.log host.old) (H.log host.new) }
-        ensures starts { StartsNone (part H.log host.old host.new) }
-        ensures ends { IfErr result (EndsAt (H.log host.new)) }
-        ensures kind { IfErr result IsWaitError }
-        ensures spent { result ≡ Err RunError.TurnsSpent
-            → WantsTurns (count_of batch.now) turns.old.left running.old running.new }
-        ensures ready { result ≡ Ok Step.Ready → (run_of running.new).live ≡ [] }
-        ensures pending { result ≡ Ok Step.Pending → 0 < length (run_of running.new).live }
-        ensures own { list_all is_of_run (part H.log host.old host.new) ≡ true }
-        ensures kept { OnOk result (kept_from running.old (part H.log host.old host.new)
-            ≡ running.new) }
-        ensures lines { PrintsBatch batch.now running.old result (part H.log host.old host.new) }
-    {
-        if is_done(running, batch.cmds.len()) {
-            return Ok(Step::Ready);
-        }
-        self.wait(host, seat, turns, running, batch)
+        self.marks = marks;
     }
 
     /// Makes one turn, forwards what it gives, and gives back the token of each child that ended. It is ready exactly
-    /// where no child of the run is left. Where every command was started and has ended, it makes no turn.
+    /// where no child of the run is left. Where none is and no further command may be started, it makes no turn.
     ///
     /// Refused are a fault of the turn or of a print, want of memory, and no turn being left. A turn that was made is
     /// counted, and its children that ended are out of the run with their tokens given back, however it answers. Lines
@@ -310,43 +240,69 @@ impl WaitState {
         running: &mut Running,
         shows: &Shows,
     ) -> Result<Step, RunError>
-        requires one_run { IsOneRun J.fits J.held jobs.now seat.old (length cmds.now) running.old }
+        requires one_run { IsOneRun J.fits J.held jobs.now seat.old running.old }
         requires few { turns.old.left + turns.old.used < 2 ^ 64 }
-        ensures one_run { IsOneRun J.fits J.held jobs.now seat.new (length cmds.now) running.new }
-        ensures keeps { KeepsSeat J.total J.faults seat.old seat.new }
-        ensures counts { TookNone J.taken J.load seat.old seat.new }
-        ensures patient { H.patience host.new ≡ H.patience host.old }
-        ensures extends { H.log host.new ≡ H.log host.old ++ part H.log host.old host.new }
-        ensures goes { GoesFromBusy H.log (J.total seat.old) (asked shows.now cmds.now)
-            host.old running.old host.new running.new }
-        ensures named { NamesCause (asked shows.now cmds.now) result
-            (part H.log host.old host.new) }
-        ensures begun { running.new.begun ≡ running.old.begun }
-        ensures turns { TurnsMade turns.old turns.new (part H.log host.old host.new) }
-        ensures one_turn { IsOpen (length cmds.now) (run_of running.old)
+        ensures one_run { IsOneRun J.fits J.held jobs.now seat.new running.new }
+        ensures steps { (total : Option ℕ)
+            → Busy (listed_plan shows.now.stop cmds.now) total (run_of running.old)
+            → Moves H.log H.patience (seen_by J.held J.total J.taken J.load J.faults)
+            (rules (listed_plan shows.now.stop cmds.now) shows.now) total
+            host.old running.old seat.old turns.old
+            result host.new running.new seat.new turns.new }
+        ensures one_turn { (IsSettled (listed_plan shows.now.stop cmds.now) (run_of running.old) → ⊥)
             → OnOk result (turns.new.left + 1 ≡ turns.old.left) }
-        ensures done { IsOver (length cmds.now) (run_of running.old)
+        ensures done { IsSettled (listed_plan shows.now.stop cmds.now) (run_of running.old)
             → (result ≡ Ok Step.Ready) × (H.log host.new ≡ H.log host.old) }
-        ensures waited { Waited (H.patience host.new) (H.log host.old) (H.log host.new) }
-        ensures starts { StartsNone (part H.log host.old host.new) }
-        ensures ends { IfErr result (EndsAt (H.log host.new)) }
-        ensures kind { IfErr result IsWaitError }
-        ensures spent { result ≡ Err RunError.TurnsSpent
-            → WantsTurns (length cmds.now) turns.old.left running.old running.new }
-        ensures ready { result ≡ Ok Step.Ready → (run_of running.new).live ≡ [] }
-        ensures pending { result ≡ Ok Step.Pending → 0 < length (run_of running.new).live }
-        ensures own { list_all is_of_run (part H.log host.old host.new) ≡ true }
-        ensures kept { OnOk result (kept_from running.old (part H.log host.old host.new)
-            ≡ running.new) }
-        ensures lines { IsPrinted shows.now true cmds.now running.old result
-            (part H.log host.old host.new) }
+        ensures step { IfOk result (IsLeft running.new) }
+        ensures lines { IsPrinted (rules (listed_plan shows.now.stop cmds.now) shows.now)
+            running.old result (part H.log host.old host.new) }
     {
         let batch = Batch {
             jobs,
-            cmds,
             shows,
             warns: true,
+            counted: true,
         };
-        self.poll_batch(host, seat, turns, running, &batch)
+        let mut queue = Listed::at(cmds, shows.stop, running.begun(), running.has_failed());
+        if is_settled(&queue, running) {
+            return Ok(Step::Ready);
+        }
+        let mut pace = Pace {
+            turns: *turns,
+            wait: *self,
+        };
+        let taken = turn(host, seat, &mut pace, &mut queue, running, &batch);
+        *turns = pace.turns;
+        *self = pace.wait;
+        match taken {
+            Ok(()) => Ok(step_of(running)),
+            Err(e) => Err(e),
+        }
+    }
+}
+
+// Whether children of the run are left.
+fn step_of(running: &Running) -> Step
+    ensures { IsLeft running.now result }
+{
+    if running.len() == 0 {
+        Step::Ready
+    } else {
+        Step::Pending
+    }
+}
+
+// Whether nothing runs and nothing may be started.
+fn is_settled<Q: Queue>(queue: &Q, running: &Running) -> bool
+    requires { Q.stands queue.now running.now.marks }
+    ensures yes { result ≡ true → IsSettled (Q.plan queue.now) (run_of running.now) }
+    ensures no { result ≡ false → IsSettled (Q.plan queue.now) (run_of running.now) → ⊥ }
+{
+    if running.len() != 0 {
+        return false;
+    }
+    match queue.next() {
+        Some(_) => false,
+        None => true,
     }
 }

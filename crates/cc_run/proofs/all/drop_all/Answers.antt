@@ -12,11 +12,12 @@ loop-child-preserved g c =
     record {
       fits = c.give.ensures.fits;
       held = grind (arith, common_steps);
-      keeps = record {
-        same_total = c.give.ensures.total ∙ c.loop-child.invariant.keeps.same_total;
-        later = omega (arith, c.give.ensures.later, c.loop-child.invariant.keeps.later);
+      returned = record {
+        same_total = c.give.ensures.total ∙ c.loop-child.invariant.returned.same_total;
+        same_taken = c.give.ensures.counts.0 ∙ c.loop-child.invariant.returned.same_taken;
+        same_load = c.give.ensures.counts.1 ∙ c.loop-child.invariant.returned.same_load;
+        later = omega (arith, c.give.ensures.later, c.loop-child.invariant.returned.later);
       };
-      counts = grind (arith, common_steps);
       patient = c.abandon.ensures.keeps.1 ∙ c.loop-child.invariant.patient;
       adds = s.0;
       own = s.1;

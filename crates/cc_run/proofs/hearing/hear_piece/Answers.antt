@@ -12,26 +12,26 @@ use Rattle.cc_run.proofs.ChildLemmas.{first_at, first_given, none_at, none_of}
 use Rattle.cc_run.proofs.hearing.hear_piece.Goals as goal
 
 pub returns-in-None-clause-children : goal.returns-in-None-clause-children
-returns-in-None-clause-children c =
+returns-in-None-clause-children g c =
     let e : c.deref.result.now ≡ c.args.running.now.children = c.deref.ensures.value ∙ ap (λ k. k.children) c.running.view_is in
     sym (none_at c.args.id (fed c.args.piece.now) c.args.running.now.children (subst (λ l. place_of c.args.id (map seat l) ≡ None) e c.in-None.ensures.0))
 
 pub returns-in-None-clause-lines : goal.returns-in-None-clause-lines
-returns-in-None-clause-lines c =
+returns-in-None-clause-lines g c =
     let e : c.deref.result.now ≡ c.args.running.now.children = c.deref.ensures.value ∙ ap (λ k. k.children) c.running.view_is in
-    sym (ap (λ l. c.args.lines.now.items ++ l) (none_of c.args.id (heard_at c.args.shows.now c.args.cmds.now c.args.piece.now) c.args.running.now.children (subst (λ l. place_of c.args.id (map seat l) ≡ None) e c.in-None.ensures.0)) ∙ append-nil c.args.lines.now.items)
+    sym (ap (λ l. c.args.lines.now.items ++ l) (none_of c.args.id (heard_at c.args.shows.now (g.Q.Queue.plan c.args.queue.now).cmds c.args.piece.now) c.args.running.now.children (subst (λ l. place_of c.args.id (map seat l) ≡ None) e c.in-None.ensures.0)) ∙ append-nil c.args.lines.now.items)
 
 pub returns-in_ok-take_piece-in-Some-clause-children : goal.returns-in_ok-take_piece-in-Some-clause-children
-returns-in_ok-take_piece-in-Some-clause-children c =
+returns-in_ok-take_piece-in-Some-clause-children g c =
     let e : c.deref.result.now ≡ c.args.running.now.children = c.deref.ensures.value ∙ ap (λ k. k.children) c.running.view_is in
     let h = subst (λ l. IsFirst c.args.id l c.in-Some.at) e c.in-Some.ensures in
     let k = first_at c.args.id (fed c.args.piece.now) c.args.running.now.children c.in-Some.at c.take_piece.new.child h in
     grind (arith, common_steps, k, c.in_ok-take_piece-in-Some.ensures.rest)
 
 pub returns-in_ok-take_piece-in-Some-clause-lines : goal.returns-in_ok-take_piece-in-Some-clause-lines
-returns-in_ok-take_piece-in-Some-clause-lines c =
+returns-in_ok-take_piece-in-Some-clause-lines g c =
     let e : c.deref.result.now ≡ c.args.running.now.children = c.deref.ensures.value ∙ ap (λ k. k.children) c.running.view_is in
     let h = subst (λ l. IsFirst c.args.id l c.in-Some.at) e c.in-Some.ensures in
     let x : c.index_mut.result.now ≡ get_or c.args.running.now.children c.in-Some.at c.take_piece.new.child = grind (arith, common_steps, e, h.below) in
-    let o : option_copied c.command_of-planned.result ≡ slice_get c.args.cmds.now c.index_mut.result.now.place = grind (arith, common_steps, e, h.below) in
-    first_given (λ o x. heard_lines c.args.shows.now o x c.args.piece.now) c.args.id c.args.cmds.now c.args.running.now.children c.in-Some.at c.index_mut.result.now c.take_piece.new.child (option_copied c.command_of-planned.result) c.args.lines.now.items c.take_piece.new.lines.items h x o c.in_ok-take_piece-in-Some.ensures.lines
+    let o : option_copied c.command-planned.result ≡ slice_get (g.Q.Queue.plan c.args.queue.now).cmds c.index_mut.result.now.place = grind (arith, common_steps, e, h.below) in
+    first_given (λ o x. heard_lines c.args.shows.now o x c.args.piece.now) c.args.id (g.Q.Queue.plan c.args.queue.now).cmds c.args.running.now.children c.in-Some.at c.index_mut.result.now c.take_piece.new.child (option_copied c.command-planned.result) c.args.lines.now.items c.take_piece.new.lines.items h x o c.in_ok-take_piece-in-Some.ensures.lines

@@ -1,77 +1,67 @@
-use Rattle.std.proofs.Common.{◌≡◌, ◌+◌, get_or, length, arith, Ok, Err, ap, sym, ◌∙◌, inr, refl, true}
+use Rattle.std.proofs.Common.{◌≡◌, ◌∙◌, ap, sym, subst, refl, Ok, Err, Some, None, arith}
+use Rattle.std.specs.List.{slice_get}
 use Rattle.std.proofs.lemmas.Grind.{common_steps}
-use Rattle.cc_jobs.specs.Seats.{stands}
 use Rattle.cc_host.specs.Part.{since}
-use Rattle.cc_run.proofs.Payments.{paid_start, paid_idle}
-use Rattle.cc_run.proofs.PrintingLemmas.{nothing_printed, start_kept, unstarted_printed}
+use Rattle.cc_run.specs.Rules.{rules_of}
+use Rattle.cc_run.specs.Seat.{seen_by}
+use Rattle.cc_run.specs.State.{Works, Stops}
+use Rattle.cc_run.specs.declared.error.RunError.TheVariants.{JobFault}
 use Rattle.cc_run.specs.declared.error.Step.{Step}
-use Rattle.cc_run.proofs.StartLemmas.{start_goes, unstarted_goes, start_named, unstarted_named, start_turns, start_counts, unstarted_counts, unstarted_ends, unstarted_same, unstarted_error, most_of}
-use Rattle.cc_run.proofs.OwnLemmas.{own_start}
+use Rattle.cc_run.specs.declared.error.Step.TheVariants.{Ready, Pending}
+use Rattle.cc_run.proofs.Firsts.{next_is}
+use Rattle.cc_run.proofs.PrintingLemmas.{nothing_printed, start_printed, unstarted_printed}
+use Rattle.cc_run.proofs.WorkLemmas.{st, works_still, works_start, stops_start, stops_fault, up_stands, some_there, room_of, full_of}
 use Rattle.cc_run.proofs.spawn.start_next.Goals as goal
 
-pub returns-in-Ok-clause-one_run : goal.returns-in-Ok-clause-one_run
-returns-in-Ok-clause-one_run g c = record { fitting = grind (arith, common_steps); tokens = grind (arith, common_steps); placed = c.start.ensures.placed (length c.args.cmds.now) c.requires.next c.requires.one_run.placed }
+pub unreachable-requires : goal.unreachable-requires
+unreachable-requires g c = some_there (g.Q.Queue.plan c.args.queue.now).cmds c.args.place c.requires.next.below (grind (arith, common_steps))
 
-pub returns-in-Ok-clause-goes : goal.returns-in-Ok-clause-goes
-returns-in-Ok-clause-goes g c =
-    let at : c.index-cmds-running.result ≡ get_or c.args.cmds.now c.args.running.now.begun c.index-cmds-running.result = grind (arith, common_steps) in
-    let held : c.held-held.result ≡ length c.args.running.now.children + 1 = c.held-held.ensures.held ∙ (c.in-Ok-Token.ensures.token (ap Ok c.in-Ok-Token.field-0-is)).0 ∙ ap (λ n. n + 1) c.requires.one_run.tokens in
-    start_goes (g.J.Jobs.total c.args.seat.now) c.args.shows.now c.args.cmds.now c.index-cmds-running.result c.held-held.result c.args.running.now c.start.new.running (g.H.Host.log c.args.host.now) (g.H.Host.log c.start.new.host) c.in-Ok.field-0 c.start.ensures.extends c.in-Ok.ensures.part c.requires.next at held (most_of (g.J.Jobs.total c.args.seat.now) _ _ c.held-held.result c.take.ensures.total c.held-held.ensures.held c.take.ensures.bounded.1) c.in-Ok.ensures.fresh
+pub returns-in-Ok-Pending-clause-steps : goal.returns-in-Ok-Pending-clause-steps
+returns-in-Ok-Pending-clause-steps g c =
+    let same = c.in-Ok-Pending.ensures.other (let e = c.in-Ok-Pending.field-0-is in λ w. cc) in
+    λ turns. works_still (rules_of c.args.batch.now (g.Q.Queue.plan c.args.queue.now)) (g.J.Jobs.total c.args.seat.now) _ _ refl refl refl (record { same_total = c.take.ensures.total; same_taken = same.1; same_load = same.2; later = c.take.ensures.later }) refl
 
-pub returns-in-Ok-clause-named : goal.returns-in-Ok-clause-named
-returns-in-Ok-clause-named g c = start_named c.args.shows.now c.index-cmds-running.result c.held-held.result c.args.running.now c.start.new.running (since (g.H.Host.log c.args.host.now) (g.H.Host.log c.start.new.host)) c.args.cmds.now c.in-Ok.field-0 c.in-Ok.ensures.part
-
-pub returns-in-Ok-clause-turns : goal.returns-in-Ok-clause-turns
-returns-in-Ok-clause-turns g c = start_turns c.args.shows.now c.index-cmds-running.result c.held-held.result c.args.running.now c.start.new.running (since (g.H.Host.log c.args.host.now) (g.H.Host.log c.start.new.host)) (Ok c.in-Ok.field-0) c.in-Ok.ensures.part
-
-pub returns-in-Ok-clause-paid : goal.returns-in-Ok-clause-paid
-returns-in-Ok-clause-paid g c =
-    let token = c.in-Ok-Token.ensures.token (ap Ok c.in-Ok-Token.field-0-is) in
-    paid_start (since (g.H.Host.log c.args.host.now) (g.H.Host.log c.start.new.host)) c.held-held.result _ _ _ _ (start_counts c.args.shows.now c.index-cmds-running.result c.held-held.result c.args.running.now c.start.new.running (since (g.H.Host.log c.args.host.now) (g.H.Host.log c.start.new.host)) c.in-Ok.field-0 c.in-Ok.ensures.part) token.1 (token.2 ∙ ap (λ n. stands (g.J.Jobs.load c.args.seat.now + n)) (sym c.held-held.ensures.held))
-
-pub returns-in-Err-start-clause-goes : goal.returns-in-Err-start-clause-goes
-returns-in-Err-start-clause-goes g c = unstarted_goes (g.J.Jobs.total c.args.seat.now) c.args.shows.now c.args.cmds.now c.index-cmds-running.result c.held-held.result c.args.running.now c.start.new.running (g.H.Host.log c.args.host.now) (g.H.Host.log c.start.new.host) c.in-Err-start.e c.start.ensures.extends c.in-Err-start.ensures.part
-
-pub returns-in-Err-start-clause-named : goal.returns-in-Err-start-clause-named
-returns-in-Err-start-clause-named g c =
-    let at : c.index-cmds-running.result ≡ get_or c.args.cmds.now c.args.running.now.begun c.index-cmds-running.result = grind (arith, common_steps) in
-    unstarted_named c.args.shows.now c.index-cmds-running.result c.held-held.result c.args.running.now c.start.new.running (since (g.H.Host.log c.args.host.now) (g.H.Host.log c.start.new.host)) c.args.cmds.now c.in-Err-start.e c.in-Err-start.ensures.part c.requires.next at
-
-pub returns-in-Err-start-clause-turns : goal.returns-in-Err-start-clause-turns
-returns-in-Err-start-clause-turns g c = start_turns c.args.shows.now c.index-cmds-running.result c.held-held.result c.args.running.now c.start.new.running (since (g.H.Host.log c.args.host.now) (g.H.Host.log c.start.new.host)) (Err c.in-Err-start.e) c.in-Err-start.ensures.part
-
-pub returns-in-Err-start-clause-paid : goal.returns-in-Err-start-clause-paid
-returns-in-Err-start-clause-paid g c =
-    let token = c.in-Ok-Token.ensures.token (ap Ok c.in-Ok-Token.field-0-is) in
-    let held : c.held-held.result ≡ length c.args.running.now.children + 1 = c.held-held.ensures.held ∙ (c.in-Ok-Token.ensures.token (ap Ok c.in-Ok-Token.field-0-is)).0 ∙ ap (λ n. n + 1) c.requires.one_run.tokens in
-    inr (unstarted_error c.args.shows.now c.index-cmds-running.result c.held-held.result c.args.running.now c.start.new.running (since (g.H.Host.log c.args.host.now) (g.H.Host.log c.start.new.host)) c.in-Err-start.e c.in-Err-start.ensures.part, paid_idle (since (g.H.Host.log c.args.host.now) (g.H.Host.log c.start.new.host)) (length c.start.new.running.children) c.held-held.result _ _ _ _ _ _ (unstarted_counts c.args.shows.now c.index-cmds-running.result c.held-held.result c.args.running.now c.start.new.running (since (g.H.Host.log c.args.host.now) (g.H.Host.log c.start.new.host)) c.in-Err-start.e c.in-Err-start.ensures.part) (held ∙ ap (λ k. length k.children + 1) (sym (unstarted_same c.args.shows.now c.index-cmds-running.result c.held-held.result c.args.running.now c.start.new.running (since (g.H.Host.log c.args.host.now) (g.H.Host.log c.start.new.host)) c.in-Err-start.e c.in-Err-start.ensures.part))) token.1 (token.2 ∙ ap (λ n. stands (g.J.Jobs.load c.args.seat.now + n)) (sym c.held-held.ensures.held)) c.give.ensures.counts)
-
-pub returns-in-Err-start-clause-ends : goal.returns-in-Err-start-clause-ends
-returns-in-Err-start-clause-ends g c = unstarted_ends c.args.shows.now c.index-cmds-running.result c.held-held.result c.args.running.now c.start.new.running (g.H.Host.log c.args.host.now) (g.H.Host.log c.start.new.host) c.in-Err-start.e c.start.ensures.extends c.in-Err-start.ensures.part
-
-pub returns-in-Ok-clause-own : goal.returns-in-Ok-clause-own
-returns-in-Ok-clause-own g c = own_start c.args.shows.now c.index-cmds-running.result c.held-held.result c.args.running.now c.start.new.running (since (g.H.Host.log c.args.host.now) (g.H.Host.log c.start.new.host)) (Ok c.in-Ok.field-0) c.in-Ok.ensures.part
-
-pub returns-in-Err-start-clause-own : goal.returns-in-Err-start-clause-own
-returns-in-Err-start-clause-own g c = own_start c.args.shows.now c.index-cmds-running.result c.held-held.result c.args.running.now c.start.new.running (since (g.H.Host.log c.args.host.now) (g.H.Host.log c.start.new.host)) (Err c.in-Err-start.e) c.in-Err-start.ensures.part
-
-pub returns-in-Ok-clause-kept : goal.returns-in-Ok-clause-kept
-returns-in-Ok-clause-kept g c =
-    let at : c.index-cmds-running.result ≡ get_or c.args.cmds.now c.args.running.now.begun c.index-cmds-running.result = grind (arith, common_steps) in
-    (start_kept c.args.shows.now true c.args.cmds.now c.index-cmds-running.result c.held-held.result c.args.running.now c.start.new.running (since (g.H.Host.log c.args.host.now) (g.H.Host.log c.start.new.host)) c.in-Ok.field-0 c.in-Ok.ensures.part c.requires.next at).0
+pub returns-in-Ok-Pending-clause-started : goal.returns-in-Ok-Pending-clause-started
+returns-in-Ok-Pending-clause-started g c = (refl, full_of _ _ (g.J.Jobs.total c.args.seat.now) _ _ c.requires.agrees.tokens (ap Ok c.in-Ok-Pending.field-0-is) c.take.ensures.bounded.0 c.in-Ok-Pending.ensures.full)
 
 pub returns-in-Ok-Pending-clause-lines : goal.returns-in-Ok-Pending-clause-lines
-returns-in-Ok-Pending-clause-lines g c = λ warns. nothing_printed c.args.shows.now warns c.args.cmds.now c.args.running.now (g.H.Host.log c.args.host.now) (g.H.Host.log c.args.host.now) refl
+returns-in-Ok-Pending-clause-lines g c = nothing_printed {T = Step} (rules_of c.args.batch.now (g.Q.Queue.plan c.args.queue.now)) c.args.running.now (g.H.Host.log c.args.host.now) (Ok Pending) refl
+
+pub returns-in-Err-clause-steps : goal.returns-in-Err-clause-steps
+returns-in-Err-clause-steps g c =
+    let same = c.in-Err.ensures.other (λ w. cc) in
+    λ turns. stops_fault (rules_of c.args.batch.now (g.Q.Queue.plan c.args.queue.now)) (g.J.Jobs.total c.args.seat.now) (g.H.Host.patience c.args.host.now) (g.H.Host.log c.args.host.now) c.args.running.now (seen_by g.J.Jobs.held g.J.Jobs.total g.J.Jobs.taken g.J.Jobs.load g.J.Jobs.faults c.args.seat.now) (seen_by g.J.Jobs.held g.J.Jobs.total g.J.Jobs.taken g.J.Jobs.load g.J.Jobs.faults c.take.new.seat) turns same.0 (record { same_total = c.take.ensures.total; same_taken = same.1; same_load = same.2; later = c.take.ensures.later }) c.in-Err.ensures.fault
 
 pub returns-in-Err-clause-lines : goal.returns-in-Err-clause-lines
-returns-in-Err-clause-lines g c = λ warns. nothing_printed c.args.shows.now warns c.args.cmds.now c.args.running.now (g.H.Host.log c.args.host.now) (g.H.Host.log c.args.host.now) refl
+returns-in-Err-clause-lines g c = nothing_printed {T = Step} (rules_of c.args.batch.now (g.Q.Queue.plan c.args.queue.now)) c.args.running.now (g.H.Host.log c.args.host.now) (Err JobFault) refl
+
+pub returns-in-Ok-clause-steps : goal.returns-in-Ok-clause-steps
+returns-in-Ok-clause-steps g c =
+    let token = c.in-Ok-Token.ensures.token (ap Ok c.in-Ok-Token.field-0-is) in
+    let its : slice_get (g.Q.Queue.plan c.args.queue.now).cmds c.args.place ≡ Some c.in-Some.planned.now = grind (arith, common_steps) in
+    λ turns. subst (λ p. Works (rules_of c.args.batch.now (g.Q.Queue.plan c.args.queue.now)) (g.J.Jobs.total c.args.seat.now) (st (g.H.Host.log c.args.host.now) (g.H.Host.patience c.args.host.now) c.args.running.now (seen_by g.J.Jobs.held g.J.Jobs.total g.J.Jobs.taken g.J.Jobs.load g.J.Jobs.faults c.args.seat.now) turns) (st (g.H.Host.log c.start.new.host) p c.start.new.running (seen_by g.J.Jobs.held g.J.Jobs.total g.J.Jobs.taken g.J.Jobs.load g.J.Jobs.faults c.take.new.seat) turns)) (sym c.start.ensures.patient)
+    (works_start (rules_of c.args.batch.now (g.Q.Queue.plan c.args.queue.now)) (g.J.Jobs.total c.args.seat.now) (g.H.Host.patience c.args.host.now) c.args.running.now c.start.new.running (seen_by g.J.Jobs.held g.J.Jobs.total g.J.Jobs.taken g.J.Jobs.load g.J.Jobs.faults c.args.seat.now) (seen_by g.J.Jobs.held g.J.Jobs.total g.J.Jobs.taken g.J.Jobs.load g.J.Jobs.faults c.take.new.seat) turns c.in-Some.planned.now c.args.place c.carried-held.result c.in-Ok.field-0 (g.H.Host.log c.args.host.now) (g.H.Host.log c.start.new.host) (since (g.H.Host.log c.args.host.now) (g.H.Host.log c.start.new.host)) c.requires.next its
+    (record { more_held = token.0; same_total = c.take.ensures.total; more_taken = up_stands _ _ 1 token.1; more_load = up_stands _ _ _ token.2; later = c.take.ensures.later })
+    c.carried-held.ensures c.requires.agrees.tokens (room_of _ _ _ _ c.take.ensures.total token.0 c.take.ensures.bounded.1) c.in-Ok.ensures.fresh c.start.ensures.extends c.in-Ok.ensures.part)
+
+pub returns-in-Ok-clause-started : goal.returns-in-Ok-clause-started
+returns-in-Ok-clause-started g c = (c.in-Ok.field-0, c.args.place, (next_is (g.Q.Queue.plan c.args.queue.now) c.args.running.now.marks (Some c.args.place) c.requires.next, c.in-Ok.ensures.part.1))
 
 pub returns-in-Ok-clause-lines : goal.returns-in-Ok-clause-lines
 returns-in-Ok-clause-lines g c =
-    let at : c.index-cmds-running.result ≡ get_or c.args.cmds.now c.args.running.now.begun c.index-cmds-running.result = grind (arith, common_steps) in
-    λ warns. (start_kept c.args.shows.now warns c.args.cmds.now c.index-cmds-running.result c.held-held.result c.args.running.now c.start.new.running (since (g.H.Host.log c.args.host.now) (g.H.Host.log c.start.new.host)) c.in-Ok.field-0 c.in-Ok.ensures.part c.requires.next at).1
+    let its : slice_get (g.Q.Queue.plan c.args.queue.now).cmds c.args.place ≡ Some c.in-Some.planned.now = grind (arith, common_steps) in
+    (start_printed {X = Step} (rules_of c.args.batch.now (g.Q.Queue.plan c.args.queue.now)) c.in-Some.planned.now c.args.place c.carried-held.result c.args.running.now c.start.new.running (since (g.H.Host.log c.args.host.now) (g.H.Host.log c.start.new.host)) c.in-Ok.field-0 Ready c.in-Ok.ensures.part (next_is (g.Q.Queue.plan c.args.queue.now) c.args.running.now.marks (Some c.args.place) c.requires.next) its).1
+
+pub returns-in-Err-start-clause-steps : goal.returns-in-Err-start-clause-steps
+returns-in-Err-start-clause-steps g c =
+    let token = c.in-Ok-Token.ensures.token (ap Ok c.in-Ok-Token.field-0-is) in
+    let its : slice_get (g.Q.Queue.plan c.args.queue.now).cmds c.args.place ≡ Some c.in-Some.planned.now = grind (arith, common_steps) in
+    λ turns. subst (λ p. Stops (rules_of c.args.batch.now (g.Q.Queue.plan c.args.queue.now)) (g.J.Jobs.total c.args.seat.now) (st (g.H.Host.log c.args.host.now) (g.H.Host.patience c.args.host.now) c.args.running.now (seen_by g.J.Jobs.held g.J.Jobs.total g.J.Jobs.taken g.J.Jobs.load g.J.Jobs.faults c.args.seat.now) turns) c.in-Err-start.e (st (g.H.Host.log c.start.new.host) p c.start.new.running (seen_by g.J.Jobs.held g.J.Jobs.total g.J.Jobs.taken g.J.Jobs.load g.J.Jobs.faults c.give.new.seat) turns)) (sym c.start.ensures.patient)
+    (stops_start (rules_of c.args.batch.now (g.Q.Queue.plan c.args.queue.now)) (g.J.Jobs.total c.args.seat.now) (g.H.Host.patience c.args.host.now) c.args.running.now (seen_by g.J.Jobs.held g.J.Jobs.total g.J.Jobs.taken g.J.Jobs.load g.J.Jobs.faults c.args.seat.now) (seen_by g.J.Jobs.held g.J.Jobs.total g.J.Jobs.taken g.J.Jobs.load g.J.Jobs.faults c.take.new.seat) (seen_by g.J.Jobs.held g.J.Jobs.total g.J.Jobs.taken g.J.Jobs.load g.J.Jobs.faults c.give.new.seat) turns c.in-Some.planned.now c.args.place c.carried-held.result (g.H.Host.log c.args.host.now) (g.H.Host.log c.start.new.host) (since (g.H.Host.log c.args.host.now) (g.H.Host.log c.start.new.host)) c.start.new.running c.in-Err-start.e c.requires.next its
+    (record { more_held = token.0; same_total = c.take.ensures.total; more_taken = up_stands _ _ 1 token.1; more_load = up_stands _ _ _ token.2; later = c.take.ensures.later })
+    c.give.ensures.held (record { same_total = c.give.ensures.total; same_taken = c.give.ensures.counts.0; same_load = c.give.ensures.counts.1; later = c.give.ensures.later }) c.start.ensures.extends c.in-Err-start.ensures.part)
 
 pub returns-in-Err-start-clause-lines : goal.returns-in-Err-start-clause-lines
 returns-in-Err-start-clause-lines g c =
-    let at : c.index-cmds-running.result ≡ get_or c.args.cmds.now c.args.running.now.begun c.index-cmds-running.result = grind (arith, common_steps) in
-    λ warns. unstarted_printed c.args.shows.now warns c.args.cmds.now c.index-cmds-running.result c.held-held.result c.args.running.now c.start.new.running (since (g.H.Host.log c.args.host.now) (g.H.Host.log c.start.new.host)) Step c.in-Err-start.e c.in-Err-start.ensures.part c.requires.next at
+    let its : slice_get (g.Q.Queue.plan c.args.queue.now).cmds c.args.place ≡ Some c.in-Some.planned.now = grind (arith, common_steps) in
+    unstarted_printed Step (rules_of c.args.batch.now (g.Q.Queue.plan c.args.queue.now)) c.in-Some.planned.now c.args.place c.carried-held.result c.args.running.now c.start.new.running (since (g.H.Host.log c.args.host.now) (g.H.Host.log c.start.new.host)) c.in-Err-start.e c.in-Err-start.ensures.part (next_is (g.Q.Queue.plan c.args.queue.now) c.args.running.now.marks (Some c.args.place) c.requires.next) its
