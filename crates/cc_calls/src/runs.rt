@@ -72,6 +72,7 @@ fn shows_of(shown: &str) -> Shows {
         debug: contains(shown, "debug"),
         out: OutputKind::Forward,
         listens: contains(shown, "listens"),
+        stop: contains(shown, "stop"),
     }
 }
 

@@ -17,6 +17,8 @@ mod on_machine;
 #[cfg(test)]
 mod processes;
 #[cfg(test)]
+mod reads;
+#[cfg(test)]
 mod runs;
 #[cfg(test)]
 mod same;

@@ -240,6 +240,7 @@ const HEARD: Shows = Shows {
     debug: false,
     out: OutputKind::Discard,
     listens: false,
+    stop: false,
 };
 
 // Whether both commands end well over a pool of two.

@@ -1,5 +1,6 @@
 // A host in memory and a pool that share counts, so that a test sees what a run does between two calls of either.
 ghost use Rattle.std.specs.Prelude.{Some};
+ghost use Rattle.cc_host.specs.Bench.{has_file};
 ghost use Rattle.cc_host.specs.Script.{patience_of};
 
 use cc_host::{
@@ -10,13 +11,14 @@ use cc_jobs::{JobFault, Jobs, OneCaller, OneSeat, Take};
 use cc_text::{Mem, Text, Vars};
 use std::cell::Cell;
 
-/// What is seen of a run: the tokens that are out, the children that run, the starts under another number of tokens than one for each child; and the rest that
-/// the next turn is to have, whether a child was started since the last turn, the turns after another rest, and the longest rest.
+/// What is seen of a run: the tokens that are out, the children that run, the starts under another number of tokens than one for each child, the tokens that
+/// came back before their child ended or was left alone; and the rest that the next turn is to have, whether a child was started since the last turn, the turns after another rest, and the longest rest.
 #[derive(Drop)]
 pub(crate) struct Watch {
     out: Cell<u64>,
     running: Cell<u64>,
     odd_starts: Cell<u64>,
+    early: Cell<u64>,
     rest: Cell<u64>,
     started: Cell<bool>,
     odd_rests: Cell<u64>,
@@ -29,6 +31,7 @@ impl Watch {
             out: Cell::new(0),
             running: Cell::new(0),
             odd_starts: Cell::new(0),
+            early: Cell::new(0),
             rest: Cell::new(0),
             started: Cell::new(false),
             odd_rests: Cell::new(0),
@@ -39,6 +42,11 @@ impl Watch {
     /// The tokens that are out, the odd starts and the odd rests.
     pub(crate) fn odd(&self) -> (u64, u64, u64) {
         (self.out.get(), self.odd_starts.get(), self.odd_rests.get())
+    }
+
+    /// The tokens that came back before their child ended or was left alone.
+    pub(crate) fn early(&self) -> u64 {
+        self.early.get()
     }
 
     /// The longest rest, in milliseconds.
@@ -52,6 +60,14 @@ impl Watch {
             add(&self.odd_starts);
         }
         self.started.set(true);
+    }
+
+    // A token comes back: as many are left as children run, or more.
+    fn back(&self) {
+        take_off(&self.out);
+        if self.out.get() < self.running.get() {
+            add(&self.early);
+        }
     }
 
     // A turn after this rest. Where nothing was started since the last one and nothing ends in it, the next rest is a millisecond longer, up to ten.
@@ -110,6 +126,10 @@ impl Jobs for WatchedPool<'_> {
 
     ghost load = { λ s. s.load };
 
+    ghost given = { λ s. s.given };
+
+    ghost misses = { λ s. s.misses };
+
     fn take(&self, seat: &mut OneSeat) -> Result<Take, JobFault> {
         let taken = OneCaller.take(seat);
         if taken == Ok(Take::Token) {
@@ -119,7 +139,7 @@ impl Jobs for WatchedPool<'_> {
     }
 
     fn give(&self, seat: &mut OneSeat) {
-        take_off(&self.watch.out);
+        self.watch.back();
         OneCaller.give(seat);
     }
 
@@ -143,6 +163,8 @@ impl Host<Bench> for WatchedHost<'_> {
     ghost patience = { λ h. patience_of h.bench.scripts };
 
     ghost listens = { λ h. h.bench.listens };
+
+    ghost stands = { λ h. Some (λ path. has_file path h.bench) };
 
     fn start(
         &mut self,
