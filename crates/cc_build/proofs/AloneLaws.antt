@@ -82,12 +82,13 @@ module _ (shows : Shows) (patience old new : Option ℕ) (faults taken load : �
   one_alone : (p : Planned) (part : List Event) (result : Result (Unit {0}) RunError) (x y : Means) → RanOne (on old) p part result x y → RanOne (on new) p part result (seat x) (seat y)
   one_alone p part result x y r = record {
     log = r.log;
+    before = r.before;
+    behind = r.behind;
+    old = r.old;
+    new = r.new;
+    sound = r.sound;
+    least = r.least;
     run = r.run;
-    own = r.own;
-    turned = r.turned;
-    spent = r.spent;
-    bound = r.bound;
-    enough = r.enough;
     lines = r.lines;
     seat = (refl, refl, refl);
   }

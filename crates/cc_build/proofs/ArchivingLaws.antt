@@ -137,7 +137,7 @@ module _ {T : Type 0} (b : BuildSeen) (listens : Bool) (patience : Option ℕ) (
   partly_created = ended_partly (terms_for b listens its_course) (creation_error b.config b.env look output) its_stages part result its_course.before its_course.after h.1.2.1
 
   pub creates_settled : NothingRuns part
-  creates_settled = partly_settled (terms_for b listens its_course) its_stages part its_course.before its_course.after 0 partly_created
+  creates_settled = partly_settled (terms_for b listens its_course) its_stages part its_course.before its_course.after partly_created
 
   pub creates_faults : FaultsEnd part
   creates_faults before after call why real is = fault_ends (terms_for b listens its_course) its_stages part its_course.before its_course.after before after call why real is partly_created

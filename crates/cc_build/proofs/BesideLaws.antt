@@ -1,6 +1,6 @@
--- Sources that are compiled beside each other: where in the part they are, and that a failed child stops no later start.
+-- Sources that are compiled beside each other: where in the part they are.
 use Rattle.cc_plan.specs.Reruns.{rerun_names}
-use Rattle.std.proofs.Common.{◌≡◌, ◌⊎◌, inl, inr, ℕ, ◌+◌, ◌≤◌, List, [], ◌∷◌, ◌++◌, length, map, Bool, true, false, ◌||◌, if◌then◌else◌, is_some, Option, Some, None, Result, Ok, Err, refl, sym, ◌∙◌, ap, ap₂, subst, append_assoc, append-nil, arith}
+use Rattle.std.proofs.Common.{◌≡◌, ◌⊎◌, inl, inr, ℕ, ◌+◌, ◌≤◌, List, [], ◌∷◌, ◌++◌, length, map, Bool, true, false, ◌||◌, if◌then◌else◌, is_some, Option, Result, Ok, Err, refl, sym, ◌∙◌, ap, ap₂, subst, append_assoc, append-nil, arith}
 use Rattle.std.specs.List.{list_any}
 use Rattle.std.proofs.lemmas.Grind.{flat_map-append}
 use Rattle.std.proofs.lemmas.List.{length-map, map-append}
@@ -11,18 +11,15 @@ use Rattle.cc_host.specs.Command.{CommandSeen}
 use Rattle.cc_host.specs.Part.{Step}
 use Rattle.cc_host.specs.Question.{Look}
 use Rattle.cc_host.specs.declared.event.Event.{Event}
+use Rattle.cc_host.specs.declared.event.Event.TheVariants.{Started, Turn}
 use Rattle.cc_host.specs.declared.event.Role.{Role}
-use Rattle.cc_host.specs.declared.event.Role.TheVariants.{Compile, Archive, Index}
-use Rattle.cc_host.proofs.Parts.{since_append}
+use Rattle.cc_host.specs.declared.event.Role.TheVariants.{Archive, Index}
 use Rattle.cc_flags.specs.Given.{is_disabled}
-use Rattle.cc_plan.specs.Plan.{compiles_of, archives_of, indexes_of, lists_of_run, archive_refusal, objects_of, folder_steps, removal_steps, link_lines, run_has_one_form, run_asks_folder, copy_steps}
+use Rattle.cc_plan.specs.Plan.{archives_of, indexes_of, lists_of_run, archive_refusal, objects_of, folder_steps, removal_steps, link_lines, run_has_one_form, run_asks_folder, copy_steps}
 use Rattle.cc_plan.specs.Refusal.{early_refusal, late_refusal, link_refusal}
 use Rattle.cc_plan.specs.Quiet.{quiet_warnings}
 use Rattle.cc_flags.specs.declared.settings.BuildConfig.{BuildConfig}
-use Rattle.cc_host.specs.declared.event.LineKind.TheVariants.{Warning}
-use Rattle.cc_run.specs.Part.{turns, turns_of, Within, Greedy}
-use Rattle.cc_run.specs.Planned.{asked, asked_by}
-use Rattle.cc_run.specs.Run.{nothing}
+use Rattle.cc_run.specs.Part.{turns, turns_of}
 use Rattle.cc_run.specs.declared.error.RunError.{RunError}
 use Rattle.cc_run.specs.declared.planned.Planned.{Planned}
 use Rattle.cc_build.specs.Attempts.{attempt_of, attempts, to_attempt}
@@ -36,6 +33,7 @@ use Rattle.cc_build.specs.Went.{Terms, Means, RanAll, Did, Stops, Partly}
 use Rattle.cc_build.proofs.RunLaws.{commands_then, commands_calls, commands_written}
 use Rattle.cc_build.proofs.SettledLaws.{partly_first}
 use Rattle.cc_build.proofs.StopLaws.{ArePlain}
+use Rattle.cc_build.proofs.TogetherLaws.{all_counted, all_busy, all_stops}
 use Rattle.cc_build.proofs.TurnLaws.{step_turns, asked_turns, refused_turns}
 
 -- ---- stages without a command
@@ -101,26 +99,27 @@ partly_untried t stages part x z q plain p =
 
 -- ---- the stretch of the compile commands
 
-greedy_none : (total : Option ℕ) (count : ℕ) → Greedy total count nothing []
-greedy_none None count = tt
-greedy_none (Some most) count = tt
+not_there : {X : Type 0} (before after : List X) (x : X) → [] ≡ before ++ x ∷ after → ⊥
+not_there [] after x h = cc
+not_there (b ∷ before) after x h = cc
 
 -- nothing was tried
-resting : (total : Option ℕ) (count : ℕ) (part : List Event) → attempts part ≡ [] → turns part ≡ 0 → RunBeside total count part
-resting total count part untried turnless = record {
+resting : (total : Option ℕ) (stop : Bool) (count : ℕ) (part : List Event) → attempts part ≡ [] → turns part ≡ 0 → RunBeside total stop count part
+resting total stop count part untried turnless = record {
   front = part;
   run = [];
   rest = [];
   cut = sym (append-nil part);
   idle = untried;
   still = turnless;
-  within = tt;
-  greedy = greedy_none total count;
+  within = λ before after id role cmd pipes held is. absurd (not_there before after (Started id role cmd pipes held) is);
+  greedy = λ before after count is. absurd (not_there before after (Turn count) is);
+  stops = λ on before after id role cmd pipes held is. absurd (not_there before after (Started id role cmd pipes held) is);
   others = refl;
 }
 
-none_resting : (total : Option ℕ) (count : ℕ) (part : List Event) → part ≡ [] → RunBeside total count part
-none_resting total count part none = resting total count part (ap attempts none) (ap turns none)
+none_resting : (total : Option ℕ) (stop : Bool) (count : ℕ) (part : List Event) → part ≡ [] → RunBeside total stop count part
+none_resting total stop count part none = resting total stop count part (ap attempts none) (ap turns none)
 
 or_kept : (k m n : Bool) → (m ≡ false → n ≡ false) → (k || m) ≡ false → (k || n) ≡ false
 or_kept true m n h e = absurd (cc)
@@ -136,7 +135,7 @@ CompileNone stages = list_any is_compiling (map to_attempt (commands_in stages))
 
 module _ (t : Terms) (ps : List Planned) where
   -- they ran here, and nothing was compiled behind them
-  ran_here : (result : Result (Unit {0}) RunError) (part run rest : List Event) (x y : Means) → RanAll t ps run result x y → part ≡ run ++ rest → list_any is_compiling (attempts rest) ≡ false → RunBeside t.total (length ps) part
+  ran_here : (result : Result (Unit {0}) RunError) (part run rest : List Event) (x y : Means) → RanAll t ps run result x y → part ≡ run ++ rest → list_any is_compiling (attempts rest) ≡ false → RunBeside t.total t.shows.stop (length ps) part
   ran_here result part run rest x y h cut none = record {
     front = [];
     run = run;
@@ -144,15 +143,14 @@ module _ (t : Terms) (ps : List Planned) where
     cut = cut;
     idle = refl;
     still = refl;
-    within = subst (λ (l : List Event). Within t.total nothing l) (since_append h.log run) h.run.whole.steps.within;
-    greedy =
-        subst (λ (n : ℕ). Greedy t.total n nothing run) (length-map ps (asked_by t.shows))
-        (subst (λ (l : List Event). Greedy t.total (length (asked t.shows ps)) nothing l) (since_append h.log run) h.run.whole.steps.greedy);
+    within = all_counted t ps run result x y h;
+    greedy = all_busy t ps run result x y h;
+    stops = all_stops t ps run result x y h;
     others = none;
   }
 
   -- the same with quiet events before it
-  later : (part front rest : List Event) → part ≡ front ++ rest → attempts front ≡ [] → turns front ≡ 0 → RunBeside t.total (length ps) rest → RunBeside t.total (length ps) part
+  later : (part front rest : List Event) → part ≡ front ++ rest → attempts front ≡ [] → turns front ≡ 0 → RunBeside t.total t.shows.stop (length ps) rest → RunBeside t.total t.shows.stop (length ps) part
   later part front rest cut untried turnless r = record {
     front = front ++ r.front;
     run = r.run;
@@ -162,18 +160,19 @@ module _ (t : Terms) (ps : List Planned) where
     still = both_none (front ++ r.front) front r.front refl turnless r.still;
     within = r.within;
     greedy = r.greedy;
+    stops = r.stops;
     others = r.others;
   }
 
-  beside_in : (first more : List Stage) (part : List Event) (x z : Means) → AreQuiet first → ArePlain (first ++ RunsAll ps ∷ more) → CompileNone more → Partly t (first ++ RunsAll ps ∷ more) part x z → RunBeside t.total (length ps) part
-  beside_in [] more part x z q plain none (inl p) = none_resting t.total (length ps) part p.0
+  beside_in : (first more : List Stage) (part : List Event) (x z : Means) → AreQuiet first → ArePlain (first ++ RunsAll ps ∷ more) → CompileNone more → Partly t (first ++ RunsAll ps ∷ more) part x z → RunBeside t.total t.shows.stop (length ps) part
+  beside_in [] more part x z q plain none (inl p) = none_resting t.total t.shows.stop (length ps) part p.0
   beside_in [] more part x z q plain none (inr (inl stop)) = ran_here (Err stop.1.0) part part [] x z stop.1.1.0 (sym (append-nil part)) refl
   beside_in [] more part x z q plain none (inr (inr d)) =
       let r = partly_first t more d.1 d.2 z plain.1 d.3.2 in
       ran_here (Ok tt) part d.0 d.1 x d.2 d.3.1 d.3.0 (front_false is_compiling (attempts d.1) r.0 (ap (list_any is_compiling) (sym r.1) ∙ none))
-  beside_in (s ∷ first) more part x z q plain none (inl p) = none_resting t.total (length ps) part p.0
+  beside_in (s ∷ first) more part x z q plain none (inl p) = none_resting t.total t.shows.stop (length ps) part p.0
   beside_in (s ∷ first) more part x z q plain none (inr (inl stop)) =
-      resting t.total (length ps) part (partly_untried t (s ∷ []) part x z (q.0, tt) (plain.0, tt) (inr (inl stop))) (stop_turnless t s part stop.0 x z q.0 stop.1)
+      resting t.total t.shows.stop (length ps) part (partly_untried t (s ∷ []) part x z (q.0, tt) (plain.0, tt) (inr (inl stop))) (stop_turnless t s part stop.0 x z q.0 stop.1)
   beside_in (s ∷ first) more part x z q plain none (inr (inr d)) =
       later part d.0 d.1 d.3.0
       (partly_untried t (s ∷ []) d.0 x d.2 (q.0, tt) (plain.0, tt) (inr (inr (d.0, [], d.2, (sym (append-nil d.0), d.3.1, (refl, refl))))))
@@ -301,8 +300,8 @@ module _ (set : BuildConfig) (env : EnvSeen) (way : Way) (look : Look) (output :
       (quiet_folder set env) (quiet_calls (opening_steps set env way.found look)) (none_behind set env way look output))
 
 -- commands of such stages run in one stretch of the part
-pub shaped_beside : (t : Terms) (ps : List Planned) (stages : List Stage) (part : List Event) (x z : Means) → ArePlain stages → AreQuiet stages ⊎ Shape ps stages → Partly t stages part x z → RunBeside t.total (length ps) part
-shaped_beside t ps stages part x z plain (inl q) p = resting t.total (length ps) part (partly_untried t stages part x z q plain p) (partly_turnless t stages part x z q p)
+pub shaped_beside : (t : Terms) (ps : List Planned) (stages : List Stage) (part : List Event) (x z : Means) → ArePlain stages → AreQuiet stages ⊎ Shape ps stages → Partly t stages part x z → RunBeside t.total t.shows.stop (length ps) part
+shaped_beside t ps stages part x z plain (inl q) p = resting t.total t.shows.stop (length ps) part (partly_untried t stages part x z q plain p) (partly_turnless t stages part x z q p)
 shaped_beside t ps stages part x z plain (inr s) p = beside_in t ps s.first s.more part x z s.quiet (subst ArePlain s.are plain) s.others (subst (λ (l : List Stage). Partly t l part x z) s.are p)
 
 -- they stay such stages behind a call of the host
@@ -311,7 +310,7 @@ shape_behind ps step stages (inl q) = inl (refl, q)
 shape_behind ps step stages (inr s) = inr (record { first = Calls step ∷ s.first; more = s.more; are = ap (λ l. Calls step ∷ l) s.are; quiet = (refl, s.quiet); others = s.others })
 
 -- the sources are compiled in one stretch of the part
-pub compiled_beside : (t : Terms) (set : BuildConfig) (env : EnvSeen) (way : Way) (look : Look) (output : List ℕ) (part : List Event) (x z : Means) → ArePlain (planned_stages set env way look output) → 2 ≤ length set.files → Partly t (planned_stages set env way look output) part x z → RunBeside t.total (length set.files) part
+pub compiled_beside : (t : Terms) (set : BuildConfig) (env : EnvSeen) (way : Way) (look : Look) (output : List ℕ) (part : List Event) (x z : Means) → ArePlain (planned_stages set env way look output) → 2 ≤ length set.files → Partly t (planned_stages set env way look output) part x z → RunBeside t.total t.shows.stop (length set.files) part
 compiled_beside t set env way look output part x z plain many p =
-    subst (λ (n : ℕ). RunBeside t.total n part) (source_count set env way look output)
+    subst (λ (n : ℕ). RunBeside t.total t.shows.stop n part) (source_count set env way look output)
     (shaped_beside t (sources set env way look output) (planned_stages set env way look output) part x z plain (shape_of set env way look output many) p)

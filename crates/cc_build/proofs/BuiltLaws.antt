@@ -1,5 +1,5 @@
 -- A part that did all the stages of a compile run is built.
-use Rattle.std.proofs.Common.{◌≡◌, List, [], ◌∷◌, ◌++◌, ℕ, length, Option, Some, None, is_some, Bool, true, false, if◌then◌else◌, Result, Ok, Err, OnOk, refl, sym, ◌∙◌, ap, ap₂, subst, append_assoc, append-nil, map, zero-add}
+use Rattle.std.proofs.Common.{◌≡◌, List, [], ◌∷◌, ◌++◌, ℕ, length, Option, Some, None, is_some, Bool, true, false, if◌then◌else◌, Result, Ok, Err, OnOk, refl, sym, ◌∙◌, ap, ap₂, subst, append_assoc, append-nil, map}
 use Rattle.std.specs.Option.{option_map}
 use Rattle.std.proofs.lemmas.List.{length-map}
 use Rattle.std.proofs.lemmas.Grind.{flat_map-append}
@@ -13,27 +13,25 @@ use Rattle.cc_host.specs.declared.event.Event.{Event}
 use Rattle.cc_host.specs.declared.event.Event.TheVariants.{Started, Missing, Ran, Made, Removed, Wrote, Copied, Here, Said, Printed, Listed}
 use Rattle.cc_host.specs.declared.event.Removal.{Removal}
 use Rattle.cc_host.specs.declared.event.Role.{Role}
-use Rattle.cc_host.specs.declared.event.Role.TheVariants.{Compile}
 use Rattle.cc_host.specs.declared.event.Scope.TheVariants.{Build, Probe as ForProbes}
 use Rattle.cc_flags.specs.Given.{is_disabled}
-use Rattle.cc_plan.specs.Plan.{library_of, compiles_of, archive_refusal, lists_of_run, folder_steps, removal_steps, run_has_one_form, run_asks_folder, copy_steps}
+use Rattle.cc_plan.specs.Plan.{library_of, archive_refusal, lists_of_run, folder_steps, removal_steps, run_has_one_form, run_asks_folder, copy_steps}
 use Rattle.cc_plan.specs.Refusal.{early_refusal, late_refusal, link_refusal}
 use Rattle.cc_flags.specs.Given.{first_of}
 use Rattle.cc_flags.specs.declared.settings.BuildConfig.{BuildConfig}
 use Rattle.cc_run.specs.Part.{started}
 use Rattle.cc_run.specs.Planned.{asked}
-use Rattle.cc_run.specs.Run.{run_from, nothing}
 use Rattle.cc_run.specs.declared.planned.Planned.{Planned}
-use Rattle.cc_build.specs.Built.{Accepted, Built, ended_well}
+use Rattle.cc_build.specs.Built.{Accepted, Built}
 use Rattle.cc_build.specs.Error.{ErrorSeen}
 use Rattle.cc_build.specs.Refusal.{early_error, late_error, archive_error, link_error, refusal_error, plan_error, disabled_error}
 use Rattle.cc_build.specs.Stage.{Stage, commands_in, children_in, calls, planned, beside, compiles_planned, opening_steps, tried, written, written_children, writings, folder_stages, compile_stages, removal_stages, library_commands, archive_stages, link_stages, later_stages, late_stages, planned_stages, asking_steps, ready_stages, copy_stages, writing_stages}
 use Rattle.cc_build.specs.Way.{Way, Found, Hears, Repeats, Writing}
-use Rattle.cc_build.proofs.SourceLaws.{asked_planned, planned_count}
+use Rattle.cc_build.proofs.SourceLaws.{asked_planned}
 use Rattle.cc_build.specs.Stage.Stage.{Asks}
 use Rattle.cc_build.specs.Went.{Terms, Means, Went, Ends}
 use Rattle.cc_build.specs.Attempts.{attempts, to_attempt, tried_of, all_tried, first_tried, form_tried}
-use Rattle.cc_build.proofs.RunLaws.{commands_then, commands_calls, commands_written, children_then, children_calls, children_beside, children_written, went_started, went_run, went_split}
+use Rattle.cc_build.proofs.RunLaws.{commands_then, commands_calls, commands_written, children_then, children_calls, children_beside, children_written, went_started, went_well, went_split}
 use Rattle.cc_build.proofs.SettledLaws.{went_attempts, in_turn_tried}
 use Rattle.cc_build.proofs.StopLaws.{plain_then, plain_archive, plain_ready, plain_copy, ArePlain}
 use Rattle.cc_build.proofs.Trying.{done_of, done_tried}
@@ -122,10 +120,6 @@ planned_length role cmds = length-map cmds (λ cmd. record { role = role; cmd = 
 -- the children of these stages were started, and nothing else
 pub started_from : (t : Terms) (stages : List Stage) (part : List Event) (x y : Means) (cmds : List Planned) → Went t stages part x y → children_in stages ≡ cmds → started part ≡ asked t.shows cmds
 started_from t stages part x y cmds w is = went_started t stages part x y w ∙ ap (asked t.shows) is
-
--- and each of them has ended with 0
-pub ended_from : (t : Terms) (stages : List Stage) (part : List Event) (x y : Means) (cmds : List Planned) (count : ℕ) → Went t stages part x y → children_in stages ≡ cmds → length cmds ≡ count → run_from nothing part ≡ ended_well count
-ended_from t stages part x y cmds count w is long = went_run t stages part x y 0 w ∙ ap ended_well (zero-add (length (children_in stages)) ∙ ap length is ∙ long)
 
 -- ---- the commands of the archive
 
@@ -230,9 +224,6 @@ module _ (t : Terms) (set : BuildConfig) (env : EnvSeen) (look : Look) (writing 
   archive_others : started part ≡ asked t.shows (written_children one_form cmds)
   archive_others = started_from t (ready ++ (archive ++ copy)) part x y (written_children one_form cmds) w all_children
 
-  archive_ended : run_from nothing part ≡ ended_well (length (written_children one_form cmds))
-  archive_ended = ended_from t (ready ++ (archive ++ copy)) part x y (written_children one_form cmds) (length (written_children one_form cmds)) w all_children refl
-
 -- ---- the removal
 
 -- an event that removed this file
@@ -287,12 +278,12 @@ built t set env way look output part x y repeats hears h w =
       cut = glued part c1.0 c1.1 c2.0 c2.1 c3.0 c3.1 (Removed (library_of set env output) removal.0) c1.3.0 c2.3.0 removal.1 c3.3.0;
       compiled = (x, c1.2, c1.3.1);
       compiles = started_from t sources c1.0 x c1.2 compiles c1.3.1 (source_children set env way look output) ∙ asked_planned t.shows set env way.found.here look;
-      ended = ended_from t sources c1.0 x c1.2 compiles (length (compiles_of set env look)) c1.3.1 (source_children set env way look output) (planned_count set env way.found.here look);
+      ended = went_well t sources c1.0 x c1.2 c1.3.1;
       archived = (c2.2, c3.2, c3.3.1);
       writes = archive_writes t set env look way.writing output c3.0 c2.2 c3.2 c3.3.1;
       first = archive_first t set env look way.writing output c3.0 c2.2 c3.2 c3.3.1;
       others = archive_others t set env look way.writing output c3.0 c2.2 c3.2 c3.3.1;
-      written = archive_ended t set env look way.writing output c3.0 c2.2 c3.2 c3.3.1;
+      written = went_well t archive c3.0 c2.2 c3.2 c3.3.1;
       linked = (c3.2, y, c3.3.2);
     }
 

@@ -1,5 +1,5 @@
--- A failed child stops no later start.
-use Rattle.std.proofs.Common.{◌≡◌, ◌⊎◌, inl, inr, ℕ, List, [], ◌∷◌, ◌++◌, length, map, take, Bool, true, false, if◌then◌else◌, Option, Some, None, option_map, Err, refl, sym, ◌∙◌, ap, ap₂, subst, append_assoc, append-nil, take_all, le_refl}
+-- A failed child stops no later start, unless the run is to stop by it.
+use Rattle.std.proofs.Common.{◌≡◌, ◌⊎◌, inl, inr, ℕ, List, [], ◌∷◌, ◌++◌, take, Bool, true, false, if◌then◌else◌, Option, Some, None, option_map, Err, refl, sym, ◌∙◌, ap, ap₂, subst, append_assoc, append-nil}
 use Rattle.std.specs.List.{list_any}
 use Rattle.std.proofs.lemmas.List.Folds.{list_any-append}
 use Rattle.std.proofs.lemmas.Grind.{flat_map-append}
@@ -22,10 +22,12 @@ use Rattle.cc_plan.specs.declared.error.PlanError.TheVariants.{Argument, NotSet,
 use Rattle.cc_flags.specs.declared.settings.BuildConfig.{BuildConfig}
 use Rattle.cc_run.specs.Part.{started, started_of, abandoned, abandoned_of}
 use Rattle.cc_run.specs.Planned.{Asked, asked, asked_by}
+use Rattle.cc_run.specs.Run.{ids}
 use Rattle.cc_run.specs.declared.error.RunError.{RunError}
 use Rattle.cc_run.specs.declared.error.RunError.TheVariants.{ToolNotFound, Failed, StartFault, WaitFault, HostFault, JobFault, TurnsSpent, NoMemory}
 use Rattle.cc_run.specs.declared.planned.Planned.{Planned}
 use Rattle.cc_run.specs.declared.planned.Shows.{Shows}
+use Rattle.cc_build.specs.Children.{has_failure}
 use Rattle.cc_build.specs.Error.{ErrorSeen, no_memory}
 use Rattle.cc_build.specs.Failed.{HasFault, is_fault}
 use Rattle.cc_build.specs.Refusal.{plan_error, disabled_error, early_error, late_error, archive_error, link_error, refusal_error}
@@ -36,9 +38,11 @@ use Rattle.cc_build.specs.Stop.{missing_error, failed_error, unstarted_error, fa
 use Rattle.cc_build.specs.Went.{Terms, Means, IsOf, Stops, Halts, Halted}
 use Rattle.cc_build.specs.declared.error.ErrorKind.TheVariants.{ToolExecError}
 use Rattle.cc_build.proofs.BesideLaws.{is_quiet, AreQuiet, Shape}
-use Rattle.cc_build.proofs.RunLaws.{went_started}
+use Rattle.cc_build.proofs.ChildLaws.{failure_behind}
+use Rattle.cc_build.proofs.RanLaws.{Said, said_all, said_one}
+use Rattle.cc_build.proofs.RunLaws.{went_started, went_well}
 use Rattle.cc_build.proofs.Trying.{broken_fault}
-use Rattle.cc_build.proofs.StopLaws.{Said, said_all, said_one, IsPlain, ArePlain, plain_behind, or_right, some_fault, whole_work, went_kept}
+use Rattle.cc_build.proofs.StopLaws.{IsPlain, ArePlain, plain_behind, or_right, some_fault, went_kept}
 
 -- ---- the error of a command that ended badly
 
@@ -64,37 +68,41 @@ of_kind : (f : CommandSeen → ErrorSeen) → ((cmd : CommandSeen) → (f cmd).k
 of_kind f h (Some cmd) e = h cmd e
 of_kind f h None e = cc
 
--- a run of commands that ended for such an error, and without a fault, started them all, and left none alone
-run_all_started : (cmds : List Asked) (ps : List Planned) (part : List Event) (error : RunError) → Said cmds part (Err error) → (run_error ps error).kind ≡ ToolExecError → (HasFault part → ⊥) → (started part ≡ cmds) × (abandoned part ≡ [])
-unfolding missing_error failed_error unstarted_error fault_error
-run_all_started cmds ps part (ToolNotFound place) s h sound = absurd (of_kind missing_error (λ cmd k. cc) (command_at ps place) h)
-run_all_started cmds ps part (Failed place status) s h sound =
-    let whole : part ≡ s.work = whole_work part s.work s.run.live s.cut s.cause.1.1 in (
-      ap started whole ∙ s.begun ∙ ap (λ n. take n cmds) s.cause.1.0 ∙ take_all (length cmds) cmds (le_refl (length cmds)),
-      ap abandoned whole ∙ s.kept,
-    )
-run_all_started cmds ps part (StartFault place) s h sound = absurd (sound (some_fault part Start [] s.faults_are refl))
-run_all_started cmds ps part WaitFault s h sound = absurd (sound (some_fault part Turning [] s.faults_are refl))
-run_all_started cmds ps part (HostFault call why) s h sound = absurd (cc)
-run_all_started cmds ps part JobFault s h sound = absurd (cc)
-run_all_started cmds ps part TurnsSpent s h sound = absurd (cc)
-run_all_started cmds ps part NoMemory s h sound = absurd (cc)
+-- What a part says of commands of which one failed: the first ones were started, none was left alone, and all were started, unless a failure stops
+-- them.
+record Badly (shows : Shows) (stop : Bool) (ps : List Planned) (part : List Event) : Type 0 where
+  kept : abandoned part ≡ []
+  failure : has_failure part ≡ true
+  count : ℕ
+  first : started part ≡ take count (asked shows ps)
+  all : stop ≡ false → started part ≡ asked shows ps
 
--- such a stage is one of commands, which were all started
-stop_started : (t : Terms) (s : Stage) (part : List Event) (e : ErrorSeen) (x y : Means) → IsPlain s → Stops t s part e x y → e.kind ≡ ToolExecError → (HasFault part → ⊥) → (is_quiet s ≡ false) × (started part ≡ asked t.shows (children_of s)) × (abandoned part ≡ [])
-stop_started t (Calls step) part e x y plain d h sound = absurd (call_kind step d.0 plain d.1.1 (ended_badly (stop_error step d.0) e h d.1.2))
-stop_started t Asks part e x y plain d h sound = absurd (let k : no_memory.kind ≡ ToolExecError = ap (λ o. o.kind) (sym d.0) ∙ h in cc)
-stop_started t (Tries refused p) part e x y plain d h sound = absurd (tried_sound p d.0 (ended_badly (run_error (p ∷ []) d.0) e h d.1.2) sound (broken_fault t.shows p part d.0 d.1.0 d.1.1))
+-- so is a run of commands that ended for such an error, and without a fault
+run_badly : (shows : Shows) (stop : Bool) (ps : List Planned) (part : List Event) (error : RunError) → Said shows stop ps part (Err error) → (run_error ps error).kind ≡ ToolExecError → (HasFault part → ⊥) → Badly shows stop ps part
+unfolding missing_error failed_error unstarted_error fault_error
+run_badly shows stop ps part (ToolNotFound place) s h sound = absurd (of_kind missing_error (λ cmd k. cc) (command_at ps place) h)
+run_badly shows stop ps part (Failed place status) s h sound = record { kept = s.left ∙ ap ids s.ends.1; failure = s.ends.2; count = s.count; first = s.begun; all = s.ends.3 }
+run_badly shows stop ps part (StartFault place) s h sound = absurd (sound (some_fault part Start [] s.faults_are refl))
+run_badly shows stop ps part WaitFault s h sound = absurd (sound (some_fault part Turning [] s.faults_are refl))
+run_badly shows stop ps part (HostFault call why) s h sound = absurd (cc)
+run_badly shows stop ps part JobFault s h sound = absurd (cc)
+run_badly shows stop ps part TurnsSpent s h sound = absurd (cc)
+run_badly shows stop ps part NoMemory s h sound = absurd (cc)
+
+-- such a stage is one of commands
+stop_badly : (t : Terms) (s : Stage) (part : List Event) (e : ErrorSeen) (x y : Means) → IsPlain s → Stops t s part e x y → e.kind ≡ ToolExecError → (HasFault part → ⊥) → (is_quiet s ≡ false) × Badly t.shows t.shows.stop (children_of s) part
+stop_badly t (Calls step) part e x y plain d h sound = absurd (call_kind step d.0 plain d.1.1 (ended_badly (stop_error step d.0) e h d.1.2))
+stop_badly t Asks part e x y plain d h sound = absurd (let k : no_memory.kind ≡ ToolExecError = ap (λ o. o.kind) (sym d.0) ∙ h in cc)
+stop_badly t (Tries refused p) part e x y plain d h sound = absurd (tried_sound p d.0 (ended_badly (run_error (p ∷ []) d.0) e h d.1.2) sound (broken_fault t.shows p part d.0 d.1.0 d.1.1))
   where
     tried_sound : (p : Planned) (error : RunError) → (run_error (p ∷ []) error).kind ≡ ToolExecError → (HasFault part → ⊥) → (error ≡ NoMemory) ⊎ (list_any is_fault part ≡ true) → ⊥
     tried_sound p error k sound (inl wanted) = let kind : no_memory.kind ≡ ToolExecError = ap (λ (o : RunError). (run_error (p ∷ []) o).kind) (sym wanted) ∙ k in cc
     tried_sound p error k sound (inr fault) = sound fault
-stop_started t (RunsOne p) part e x y plain d h sound =
-    let r = run_all_started (asked t.shows (p ∷ [])) (p ∷ []) part d.0 (said_one t p part (Err d.0) x y d.1.0) (ended_badly (run_error (p ∷ []) d.0) e h d.1.1) sound in
-    (refl, r.0, r.1)
-stop_started t (RunsAll ps) part e x y plain d h sound =
-    let r = run_all_started (asked t.shows ps) ps part d.0 (said_all t ps part (Err d.0) x y d.1.0) (ended_badly (run_error ps d.0) e h d.1.1) sound in
-    (refl, r.0, r.1)
+stop_badly t (RunsOne p) part e x y plain d h sound =
+    let r = run_badly t.shows false (p ∷ []) part d.0 (said_one t p part (Err d.0) x y d.1.0) (ended_badly (run_error (p ∷ []) d.0) e h d.1.1) sound in
+    (refl, record { kept = r.kept; failure = r.failure; count = r.count; first = r.first; all = λ going. r.all refl })
+stop_badly t (RunsAll ps) part e x y plain d h sound =
+    (refl, run_badly t.shows t.shows.stop ps part d.0 (said_all t ps part (Err d.0) x y d.1.0) (ended_badly (run_error ps d.0) e h d.1.1) sound)
 
 -- ---- no refusal of settings is such an error
 
@@ -148,21 +156,20 @@ unmemory : (refusal : Option ErrorSeen) (e : ErrorSeen) → NeverRan refusal →
 unmemory refusal e f (inl memory) h = let k : no_memory.kind ≡ ToolExecError = ap (λ o. o.kind) (sym memory) ∙ h in cc
 unmemory refusal e f (inr refused) h = f e refused h
 
--- the stages up to the one that ended badly, whose commands were all started
-record Reached (shows : Shows) (before after : List Stage) (rest : List Event) : Type 0 where
+-- the stages up to the one that ended badly
+record Reached (t : Terms) (before after : List Stage) (rest : List Event) : Type 0 where
   stage : Stage
   more : List Stage
   are : after ≡ stage ∷ more
   loud : is_quiet stage ≡ false
-  begun : started rest ≡ asked shows (children_of stage)
-  kept : abandoned rest ≡ []
+  badly : Badly t.shows t.shows.stop (children_of stage) rest
 
-reached : (t : Terms) (refusal : Option ErrorSeen) (before after : List Stage) (rest : List Event) (e : ErrorSeen) (x y : Means) → NeverRan refusal → ArePlain after → Halts t refusal after rest e x y → e.kind ≡ ToolExecError → (HasFault rest → ⊥) → Reached t.shows before after rest
+reached : (t : Terms) (refusal : Option ErrorSeen) (before after : List Stage) (rest : List Event) (e : ErrorSeen) (x y : Means) → NeverRan refusal → ArePlain after → Halts t refusal after rest e x y → e.kind ≡ ToolExecError → (HasFault rest → ⊥) → Reached t before after rest
 reached t refusal before [] rest e x y f plain h k sound = absurd (unmemory refusal e f h.0 k)
 reached t refusal before (s ∷ ss) rest e x y f plain (inl h) k sound = absurd (unmemory refusal e f (inl h.0) k)
 reached t refusal before (s ∷ ss) rest e x y f plain (inr stop) k sound =
-    let r = stop_started t s rest e x y plain.0 stop k sound in
-    record { stage = s; more = ss; are = refl; loud = r.0; begun = r.1; kept = r.2 }
+    let r = stop_badly t s rest e x y plain.0 stop k sound in
+    record { stage = s; more = ss; are = refl; loud = r.0; badly = r.1 }
 
 loud_in : (before more : List Stage) (s : Stage) → is_quiet s ≡ false → AreQuiet (before ++ s ∷ more) → ⊥
 loud_in [] more s loud q = let k : false ≡ true = sym loud ∙ q.0 in cc
@@ -181,14 +188,12 @@ quiet_none (Tries refused p) q = absurd (let k : false ≡ true = q in cc)
 quiet_none (RunsOne p) q = absurd (let k : false ≡ true = q in cc)
 quiet_none (RunsAll ps) q = absurd (let k : false ≡ true = q in cc)
 
--- a stage of commands stands at the first one of these, or behind it
-behind_shape : (ps : List Planned) (first more before after : List Stage) (s : Stage) → AreQuiet first → is_quiet s ≡ false → before ++ s ∷ after ≡ first ++ RunsAll ps ∷ more → (rest : List Planned) × (children_in before ++ children_of s ≡ ps ++ rest)
-behind_shape ps [] more [] after s q loud e = ([], ap children_of (first_eq s (RunsAll ps) after more e) ∙ sym (append-nil ps))
+-- a stage of commands is the first one of these, or stands behind it
+behind_shape : (ps : List Planned) (first more before after : List Stage) (s : Stage) → AreQuiet first → is_quiet s ≡ false → before ++ s ∷ after ≡ first ++ RunsAll ps ∷ more → ((children_in before ≡ []) × (children_of s ≡ ps)) ⊎ ((rest : List Planned) × (children_in before ≡ ps ++ rest))
+behind_shape ps [] more [] after s q loud e = inl (refl, ap children_of (first_eq s (RunsAll ps) after more e))
 behind_shape ps [] more (b ∷ before) after s q loud e =
-    let same : b ≡ RunsAll ps = first_eq b (RunsAll ps) (before ++ s ∷ after) more e in (
-      children_in before ++ children_of s,
-      ap (λ l. (l ++ children_in before) ++ children_of s) (ap children_of same) ∙ append_assoc ps (children_in before) (children_of s),
-    )
+    let same : b ≡ RunsAll ps = first_eq b (RunsAll ps) (before ++ s ∷ after) more e in
+    inr (children_in before, ap (λ l. l ++ children_in before) (ap children_of same))
 behind_shape ps (f ∷ first) more [] after s q loud e =
     let same : s ≡ f = first_eq s f after (first ++ RunsAll ps ∷ more) e in
     let k : false ≡ true = sym loud ∙ ap is_quiet same ∙ q.0 in
@@ -196,32 +201,59 @@ behind_shape ps (f ∷ first) more [] after s q loud e =
 behind_shape ps (f ∷ first) more (b ∷ before) after s q loud e =
     let same : b ≡ f = first_eq b f (before ++ s ∷ after) (first ++ RunsAll ps ∷ more) e in
     let none : children_of b ≡ [] = quiet_none b (ap is_quiet same ∙ q.0) in
-    let r = behind_shape ps first more before after s q.1 loud (rest_eq b f (before ++ s ∷ after) (first ++ RunsAll ps ∷ more) e) in
-    (r.0, ap (λ l. (l ++ children_in before) ++ children_of s) none ∙ r.1)
+    elim (behind_shape ps first more before after s q.1 loud (rest_eq b f (before ++ s ∷ after) (first ++ RunsAll ps ∷ more) e)) [
+      | inl k ↦ inl (ap (λ l. l ++ children_in before) none ∙ k.0, k.1)
+      | inr k ↦ inr (k.0, ap (λ l. l ++ children_in before) none ∙ k.1)
+    ]
 
 module _ (t : Terms) (ps : List Planned) (refusal : Option ErrorSeen) (stages : List Stage) (part : List Event) (e : ErrorSeen) (x z : Means) (never : NeverRan refusal) (plain : ArePlain stages) (shape : AreQuiet stages ⊎ Shape ps stages) (h : Halted t refusal stages part e x z) (badly : e.kind ≡ ToolExecError) where
   -- these were started, and none was left alone
   abbrev AreStarted : Type 0
   AreStarted = ((more : List Asked) × (started part ≡ asked t.shows ps ++ more)) × (abandoned part ≡ [])
 
-  all_by : (r : Reached t.shows h.before h.after h.rest) → AreQuiet stages ⊎ Shape ps stages → AreStarted
-  all_by r (inl q) = absurd (loud_in h.before r.more r.stage r.loud (subst AreQuiet (h.stages_are ∙ ap (λ l. h.before ++ l) r.are) q))
-  all_by r (inr s) =
-      let k = behind_shape ps s.first s.more h.before r.more r.stage s.quiet r.loud (sym (h.stages_are ∙ ap (λ l. h.before ++ l) r.are) ∙ s.are) in (
-        (
-          map (asked_by t.shows) k.0,
-          ap started h.cut
-              ∙ flat_map-append started_of h.front h.rest
-              ∙ ap₂ (λ u v. u ++ v) (went_started t h.before h.front x h.y h.went) r.begun
-              ∙ sym (map-append (asked_by t.shows) (children_in h.before) (children_of r.stage))
-              ∙ ap (map (asked_by t.shows)) k.1
-              ∙ map-append (asked_by t.shows) ps k.0,
-        ),
-        ap abandoned h.cut ∙ flat_map-append abandoned_of h.front h.rest ∙ ap₂ (λ u v. u ++ v) (went_kept t h.before h.front x h.y h.went) r.kept,
-      )
+  -- or the first of these alone, and one failed
+  abbrev AreStopped : Type 0
+  AreStopped = AreStarted ⊎ (((count : ℕ) × (started part ≡ take count (asked t.shows ps))) × (has_failure part ≡ true) × (abandoned part ≡ []))
 
-  -- where a command ended badly and the host is sound, each of the commands was started, and none was left alone
-  pub all_started : (HasFault part → ⊥) → AreStarted
-  all_started sound =
+  module _ (r : Reached t h.before h.after h.rest) where
+    both : started part ≡ asked t.shows (children_in h.before) ++ started h.rest
+    both = ap started h.cut ∙ flat_map-append started_of h.front h.rest ∙ ap (λ l. l ++ started h.rest) (went_started t h.before h.front x h.y h.went)
+
+    kept : abandoned part ≡ []
+    kept = ap abandoned h.cut ∙ flat_map-append abandoned_of h.front h.rest ∙ ap₂ (λ u v. u ++ v) (went_kept t h.before h.front x h.y h.went) r.badly.kept
+
+    failure : has_failure part ≡ true
+    failure = ap has_failure h.cut ∙ failure_behind h.front h.rest (went_well t h.before h.front x h.y h.went).settled ∙ or_right (has_failure h.front) (has_failure h.rest) r.badly.failure
+
+    by_place : ((children_in h.before ≡ []) × (children_of r.stage ≡ ps)) ⊎ ((rest : List Planned) × (children_in h.before ≡ ps ++ rest)) → AreStopped × (t.shows.stop ≡ false → AreStarted)
+    by_place (inl (none, are)) =
+        let front : started part ≡ started h.rest = both ∙ ap (λ l. asked t.shows l ++ started h.rest) none in (
+          inr ((r.badly.count, front ∙ r.badly.first ∙ ap (λ l. take r.badly.count (asked t.shows l)) are), failure, kept),
+          λ going. (([], front ∙ r.badly.all going ∙ ap (asked t.shows) are ∙ sym (append-nil (asked t.shows ps))), kept),
+        )
+    by_place (inr (rest, are)) =
+        let all : AreStarted = (
+          (
+            asked t.shows rest ++ started h.rest,
+            both ∙ ap (λ l. asked t.shows l ++ started h.rest) are ∙ ap (λ l. l ++ started h.rest) (map-append (asked_by t.shows) ps rest) ∙ append_assoc (asked t.shows ps) (asked t.shows rest) (started h.rest),
+          ),
+          kept,
+        ) in
+        (inl all, λ going. all)
+
+    all_by : AreQuiet stages ⊎ Shape ps stages → AreStopped × (t.shows.stop ≡ false → AreStarted)
+    all_by (inl q) = absurd (loud_in h.before r.more r.stage r.loud (subst AreQuiet (h.stages_are ∙ ap (λ l. h.before ++ l) r.are) q))
+    all_by (inr s) = by_place (behind_shape ps s.first s.more h.before r.more r.stage s.quiet r.loud (sym (h.stages_are ∙ ap (λ l. h.before ++ l) r.are) ∙ s.are))
+
+  found : (HasFault part → ⊥) → AreStopped × (t.shows.stop ≡ false → AreStarted)
+  found sound =
       all_by (reached t refusal h.before h.after h.rest e h.y z never (plain_behind h.before h.after (subst ArePlain h.stages_are plain)) h.halts badly (λ fault. sound (ap (list_any is_fault) h.cut ∙ list_any-append is_fault h.front h.rest ∙ or_right (list_any is_fault h.front) (list_any is_fault h.rest) fault)))
       shape
+
+  -- where a command ended badly and the host is sound, each of the commands was started, and none was left alone, unless a failure stops the run
+  pub all_started : t.shows.stop ≡ false → (HasFault part → ⊥) → AreStarted
+  all_started going sound = (found sound).1 going
+
+  -- where it does, none was left alone, and where not each was started one failed
+  pub all_stopped : (HasFault part → ⊥) → AreStopped
+  all_stopped sound = (found sound).0

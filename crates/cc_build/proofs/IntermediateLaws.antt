@@ -1,13 +1,12 @@
 -- How a run that compiles the sources alone ends, by what it checked and did.
-use Rattle.std.proofs.Common.{◌≡◌, ◌⊎◌, inl, inr, ℕ, List, [], ◌∷◌, ◌++◌, length, Bool, true, false, if◌then◌else◌, is_some, Option, Some, None, option_map, Result, Ok, Err, refl, sym, ◌∙◌, ap, ap₂, subst, append_assoc, append-nil}
+use Rattle.std.proofs.Common.{◌≡◌, ◌⊎◌, inl, inr, ℕ, List, [], ◌∷◌, ◌++◌, Bool, true, false, if◌then◌else◌, is_some, Option, Some, None, option_map, Result, Ok, Err, refl, sym, ◌∙◌, ap, ap₂, subst, append_assoc, append-nil}
 use Rattle.cc_env.specs.Env.{EnvSeen}
 use Rattle.cc_host.specs.Part.{since}
 use Rattle.cc_host.specs.Question.{Look}
 use Rattle.cc_host.specs.declared.event.Event.{Event}
-use Rattle.cc_host.specs.declared.event.Role.TheVariants.{Compile}
 use Rattle.cc_plan.proofs.LineLemmas.{since_none}
 use Rattle.cc_flags.specs.Given.{is_disabled}
-use Rattle.cc_plan.specs.Plan.{compiles_of, folder_steps}
+use Rattle.cc_plan.specs.Plan.{folder_steps}
 use Rattle.cc_plan.specs.Refusal.{intermediate_refusal, late_refusal}
 use Rattle.cc_flags.specs.Given.{first_of}
 use Rattle.cc_plan.specs.declared.error.PlanError.{PlanError}
@@ -26,13 +25,13 @@ use Rattle.cc_build.specs.Stage.{Stage, calls, compiles_planned, asked_then, fol
 use Rattle.cc_build.specs.Stage.Stage.{Asks}
 use Rattle.cc_build.specs.Way.{Found, Firsts, Hears, Repeats, all_firsts}
 use Rattle.cc_build.specs.Went.{Terms, Means, terms, Went, Halted, Ends}
-use Rattle.cc_build.proofs.BuiltLaws.{folder_children, compile_children, started_from, ended_from}
-use Rattle.cc_build.proofs.SourceLaws.{asked_planned, planned_count, unfound, unfound_hears}
+use Rattle.cc_build.proofs.BuiltLaws.{folder_children, compile_children, started_from}
+use Rattle.cc_build.proofs.SourceLaws.{asked_planned, unfound, unfound_hears}
 use Rattle.cc_build.proofs.Going.{IsOpen, went_none, halted_none, halted_more, halted_end, halted_from, ends_from}
 use Rattle.cc_build.proofs.OrderLaws.{ended_partly}
 use Rattle.cc_build.proofs.PromiseLaws.{fault_ends}
 use Rattle.cc_build.proofs.RerunLaws.{name_children}
-use Rattle.cc_build.proofs.RunLaws.{children_then, went_split}
+use Rattle.cc_build.proofs.RunLaws.{children_then, went_split, went_well}
 use Rattle.cc_build.proofs.SettledLaws.{partly_settled}
 use Rattle.cc_build.proofs.Stages.{both_none, folder_is, plan_cause}
 
@@ -165,7 +164,7 @@ compiled_by t b look part x y found firsts repeats h w =
     let halves = went_split t sources told part x y all in
     record {
       compiles = started_from t (sources ++ told) part x y cmds all own ∙ asked_planned t.shows b.config b.env found.here look;
-      ended = ended_from t (sources ++ told) part x y cmds (length (compiles_of b.config b.env look)) all own (planned_count b.config b.env found.here look);
+      ended = went_well t (sources ++ told) part x y all;
       runs = halves.0;
       lines = halves.1;
       cut = halves.3.0;
@@ -182,7 +181,7 @@ module _ {T : Type 0} (b : BuildSeen) (listens : Bool) (look : Look) (part : Lis
   pub alone_settled : (result : Result T ErrorSeen) → IntermediateEnds b listens result look part c → NothingRuns part
   alone_settled result h =
       let stages = intermediate_stages b.config b.env h.0 look h.1 in
-      partly_settled (terms_for b listens c) stages part c.before c.after 0 (ended_partly (terms_for b listens c) (intermediate_error b.config b.env look) stages part result c.before c.after h.2.2)
+      partly_settled (terms_for b listens c) stages part c.before c.after (ended_partly (terms_for b listens c) (intermediate_error b.config b.env look) stages part result c.before c.after h.2.2)
 
   pub alone_faults : (result : Result T ErrorSeen) → IntermediateEnds b listens result look part c → FaultsEnd part
   alone_faults result h before after call why real is =

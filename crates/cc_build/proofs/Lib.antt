@@ -3,6 +3,7 @@ pub mod ArchivingLaws
 pub mod Asking
 pub mod BesideLaws
 pub mod BuiltLaws
+pub mod ChildLaws
 pub mod Doing
 pub mod ExpandLaws
 pub mod FailedLaws
@@ -22,6 +23,7 @@ pub mod PartLaws
 pub mod PhaseLaws
 pub mod PrintedLaws
 pub mod PromiseLaws
+pub mod RanLaws
 pub mod RerunLaws
 pub mod RunLaws
 pub mod Running
@@ -31,6 +33,7 @@ pub mod Stages
 pub mod StopLaws
 pub mod SupportLaws
 pub mod Telling
+pub mod TogetherLaws
 pub mod ToldLaws
 pub mod Trying
 pub mod TurnLaws

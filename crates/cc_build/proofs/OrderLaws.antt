@@ -1,33 +1,28 @@
 -- A compile run archives last.
-use Rattle.std.proofs.Common.{◌≡◌, ◌⊎◌, inl, inr, ℕ, List, [], ◌∷◌, ◌++◌, map, take, drop, Option, Result, Ok, Err, Bool, true, false, if◌then◌else◌, is_some, refl, sym, ◌∙◌, ap, subst, append_assoc, append-nil, take-append-drop}
+use Rattle.std.proofs.Common.{◌≡◌, ◌⊎◌, inl, inr, ℕ, List, [], ◌∷◌, ◌++◌, map, take, drop, Option, Result, Ok, Err, Bool, true, false, if◌then◌else◌, is_some, refl, sym, ◌∙◌, ap, subst, append_assoc, take-append-drop}
 use Rattle.std.specs.List.{list_any, list_all}
 use Rattle.std.proofs.lemmas.Bool.{and_parts, or_parts, or_from}
-use Rattle.std.proofs.lemmas.Grind.{flat_map-append}
 use Rattle.std.proofs.lemmas.List.Folds.{list_any-append}
 use Rattle.cc_env.specs.Env.{EnvSeen}
 use Rattle.cc_host.specs.Command.{CommandSeen}
-use Rattle.cc_host.specs.Part.{Step, since, step_of, Refuses}
+use Rattle.cc_host.specs.Part.{Step, step_of, Refuses}
 use Rattle.cc_host.specs.Part.Step.{Runs, Makes, Removes, Writes, Copies, Finds, Says, Prints, Lists}
 use Rattle.cc_host.specs.Question.{Look}
 use Rattle.cc_host.specs.Status.{is_success}
 use Rattle.cc_host.specs.declared.event.Event.{Event}
 use Rattle.cc_host.specs.declared.event.Event.TheVariants.{Started, Ran, Missing}
 use Rattle.cc_host.specs.declared.event.LineKind.{LineKind}
-use Rattle.cc_host.specs.declared.event.LineKind.TheVariants.{Warning}
 use Rattle.cc_host.specs.declared.event.Role.{Role}
-use Rattle.cc_host.specs.declared.event.Role.TheVariants.{Compile}
 use Rattle.cc_host.specs.declared.event.Scope.TheVariants.{Build}
-use Rattle.cc_host.proofs.Parts.{since_append}
 use Rattle.cc_flags.specs.Given.{is_disabled}
 use Rattle.cc_plan.specs.Plan.{compile_in, dir_of, objects_of, prints, folder_steps}
 use Rattle.cc_plan.specs.Refusal.{early_refusal, late_refusal, is_empty}
 use Rattle.cc_flags.specs.declared.object.Object.{Object}
 use Rattle.cc_flags.specs.declared.settings.BuildConfig.{BuildConfig}
-use Rattle.cc_run.specs.Outcome.{missing_in, missing_by}
+use Rattle.cc_run.specs.Book.{missing_in, missing_by}
 use Rattle.cc_run.specs.Own.{is_of_run}
-use Rattle.cc_run.specs.Part.{started, started_of, missing}
+use Rattle.cc_run.specs.Part.{started, missing}
 use Rattle.cc_run.specs.Planned.{Asked, asked}
-use Rattle.cc_run.specs.Run.{Run, gone}
 use Rattle.cc_run.specs.declared.error.RunError.{RunError}
 use Rattle.cc_run.specs.declared.error.RunError.TheVariants.{ToolNotFound}
 use Rattle.cc_run.specs.declared.planned.Planned.{Planned}
@@ -41,6 +36,7 @@ use Rattle.cc_build.specs.Way.{Way, Found}
 use Rattle.cc_build.proofs.SourceLaws.{AreNotes, opening_notes}
 use Rattle.cc_build.specs.Stage.Stage.{Calls, Asks, Tries, RunsOne, RunsAll}
 use Rattle.cc_build.specs.Went.{Terms, Means, RanAll, RanOne, Did, Went, Stops, Halts, Halted, Ends, Partly, Goes}
+use Rattle.cc_build.proofs.RanLaws.{Said, said_all, said_one}
 use Rattle.cc_build.proofs.Trying.{done_of, done_silent, broken_of, broken_silent}
 
 -- ---- a part that went through the first of its stages
@@ -132,20 +128,20 @@ asked_none shows (p ∷ ps) none =
     let k = or_parts (is_archive_command p) (list_any is_archive_command ps) none in
     or_from (is_archive_command p) (list_any asks_archive (asked shows ps)) k.0 (asked_none shows ps k.1)
 
-lacking_none : (cmds : List Asked) → list_any asks_archive cmds ≡ false → list_any lacks_archive (map (λ a. (a.role, a.cmd)) cmds) ≡ false
-unfolding asks_archive lacks_archive
+lacking_none : (ps : List Planned) → list_any is_archive_command ps ≡ false → list_any lacks_archive (map (λ p. (p.role, p.cmd)) ps) ≡ false
+unfolding lacks_archive
 lacking_none [] none = refl
-lacking_none (a ∷ cmds) none =
-    let k = or_parts (is_archive_role a.role) (list_any asks_archive cmds) none in
-    or_from (is_archive_role a.role) (list_any lacks_archive (map (λ c. (c.role, c.cmd)) cmds)) k.0 (lacking_none cmds k.1)
+lacking_none (p ∷ ps) none =
+    let k = or_parts (is_archive_role p.role) (list_any is_archive_command ps) none in
+    or_from (is_archive_role p.role) (list_any lacks_archive (map (λ c. (c.role, c.cmd)) ps)) k.0 (lacking_none ps k.1)
 
-missing_none : (cmds : List Asked) (e : RunError) → list_any asks_archive cmds ≡ false → list_any lacks_archive (missing_in cmds e) ≡ false
-missing_none cmds (ToolNotFound place) none = lacking_none (take 1 (drop place cmds)) (none_taken asks_archive 1 (drop place cmds) (none_taken asks_archive place cmds none).1).0
-missing_none cmds e none = refl
+missing_none : (ps : List Planned) (e : RunError) → list_any is_archive_command ps ≡ false → list_any lacks_archive (missing_in ps e) ≡ false
+missing_none ps (ToolNotFound place) none = lacking_none (take 1 (drop place ps)) (none_taken is_archive_command 1 (drop place ps) (none_taken is_archive_command place ps none).1).0
+missing_none ps e none = refl
 
-by_answer : (cmds : List Asked) (result : Result (Unit {0}) RunError) → list_any asks_archive cmds ≡ false → list_any lacks_archive (missing_by cmds result) ≡ false
-by_answer cmds (Ok v) none = refl
-by_answer cmds (Err e) none = missing_none cmds e none
+by_answer : (ps : List Planned) (result : Result (Unit {0}) RunError) → list_any is_archive_command ps ≡ false → list_any lacks_archive (missing_by ps result) ≡ false
+by_answer ps (Ok v) none = refl
+by_answer ps (Err e) none = missing_none ps e none
 
 -- an event of a run is one of an archive command only by its role
 run_silent : (part : List Event) → list_all is_of_run part ≡ true → list_any asks_archive (started part) ≡ false → list_any lacks_archive (missing part) ≡ false → IsSilent part
@@ -160,29 +156,18 @@ run_silent (Missing role cmd ∷ part) own s m =
 run_silent (Ran role cmd pipes status out err ∷ part) own s m = absurd (cc)
 run_silent (event ∷ part) own s m = run_silent part (and_parts (is_of_run event) (list_all is_of_run part) own).1 s m
 
-gone_started : (live : List (ℕ × ℕ)) → started (gone live) ≡ []
-gone_started [] = refl
-gone_started (c ∷ live) = gone_started live
-
--- the commands that were started are the first of the list
-first_started : (cmds : List Asked) (log mid part : List Event) (r : Run) → mid ≡ log ++ since log mid → started (since log mid) ≡ take r.begun cmds → log ++ part ≡ mid ++ gone r.live → started part ≡ take r.begun cmds
-first_started cmds log mid part r grew begun dropped =
-    let whole : log ++ part ≡ log ++ (since log mid ++ gone r.live) = dropped ∙ ap (λ l. l ++ gone r.live) grew ∙ append_assoc log (since log mid) (gone r.live) in
-    let cut : part ≡ since log mid ++ gone r.live = sym (since_append log part) ∙ ap (since log) whole ∙ since_append log (since log mid ++ gone r.live) in
-    ap started cut ∙ flat_map-append started_of (since log mid) (gone r.live) ∙ ap (λ l. started (since log mid) ++ l) (gone_started r.live) ∙ append-nil (started (since log mid)) ∙ begun
-
-commands_silent : (cmds : List Asked) (log mid part : List Event) (r : Run) (result : Result (Unit {0}) RunError) → list_any asks_archive cmds ≡ false → list_all is_of_run part ≡ true → mid ≡ log ++ since log mid → started (since log mid) ≡ take r.begun cmds → log ++ part ≡ mid ++ gone r.live → missing (since log (log ++ part)) ≡ missing_by cmds result → IsSilent part
-commands_silent cmds log mid part r result none own grew begun dropped lacking =
-    run_silent part own
-    (ap (list_any asks_archive) (first_started cmds log mid part r grew begun dropped) ∙ (none_taken asks_archive r.begun cmds none).0)
-    (ap (list_any lacks_archive) (ap missing (sym (since_append log part)) ∙ lacking) ∙ by_answer cmds result none)
+commands_silent : (shows : Shows) (stop : Bool) (ps : List Planned) (part : List Event) (result : Result (Unit {0}) RunError) → list_any is_archive_command ps ≡ false → Said shows stop ps part result → IsSilent part
+commands_silent shows stop ps part result none s =
+    run_silent part s.own
+    (ap (list_any asks_archive) s.begun ∙ (none_taken asks_archive s.count (asked shows ps) (asked_none shows ps none)).0)
+    (ap (list_any lacks_archive) s.missing_is ∙ by_answer ps result none)
 
 module _ (t : Terms) (part : List Event) (result : Result (Unit {0}) RunError) (x y : Means) where
   all_silent : (ps : List Planned) → list_any is_archive_command ps ≡ false → RanAll t ps part result x y → IsSilent part
-  all_silent ps none h = commands_silent (asked t.shows ps) h.log h.run.mid part h.run.run result (asked_none t.shows ps none) h.own h.run.work.extends h.run.work.steps.asked h.run.dropped h.run.missing_is
+  all_silent ps none h = commands_silent t.shows t.shows.stop ps part result none (said_all t ps part result x y h)
 
   one_silent : (p : Planned) → is_archive_command p ≡ false → RanOne t p part result x y → IsSilent part
-  one_silent p none h = commands_silent (asked t.shows (p ∷ [])) h.log h.run.mid part h.run.run result (asked_none t.shows (p ∷ []) (or_from (is_archive_command p) false none refl)) h.own h.run.work.extends h.run.work.begun h.run.dropped h.run.missing_is
+  one_silent p none h = commands_silent t.shows false (p ∷ []) part result (or_from (is_archive_command p) false none refl) (said_one t p part result x y h)
 
 -- ---- the events of stages without an archive command
 

@@ -1,5 +1,5 @@
 -- Runs of commands as stages.
-use Rattle.std.proofs.Common.{◌≡◌, ◌⊎◌, ◌+◌, inl, inr, Bool, List, [], ◌∷◌, ◌++◌, length, ◌≤◌, true, false, None, Result, Ok, Err, refl, sym, ◌∙◌, ap, subst}
+use Rattle.std.proofs.Common.{◌≡◌, ◌⊎◌, ◌+◌, inl, inr, Bool, ℕ, List, [], ◌∷◌, ◌++◌, ◌≤◌, true, false, Option, None, Some, Result, Ok, Err, refl, ◌∙◌, ap, subst, arith}
 use Rattle.std.specs.Prelude.{IfSome}
 use Rattle.std.specs.List.{list_all}
 use Rattle.std.proofs.lemmas.Bool.{and_parts}
@@ -8,29 +8,28 @@ use Rattle.cc_host.specs.declared.event.Event.{Event}
 use Rattle.cc_host.specs.declared.event.Event.TheVariants.{Answered, Reused, Unasked, Drawn, Opened, Taken, Dropped, Made, Fault}
 use Rattle.cc_host.specs.declared.event.HostCall.TheVariants.{Start as Starts, Turn as Turns, Print as Printing, Output, Probe, MakeDir, CreateProbe, Write, Remove, Vars}
 use Rattle.cc_host.specs.declared.event.Scope.TheVariants.{Build, Probe as ForProbes}
-use Rattle.cc_host.proofs.Parts.{since_extends}
 use Rattle.cc_run.specs.Children.{nothing_kept}
 use Rattle.cc_run.specs.Own.{is_of_run}
+use Rattle.cc_run.specs.Keeping.{TurnsMade}
 use Rattle.cc_run.specs.Part.{turns}
-use Rattle.cc_run.specs.Patience.{Bounded, Unspent}
-use Rattle.cc_run.specs.Planned.{asked}
 use Rattle.cc_run.specs.Printing.{IsPrinted}
-use Rattle.cc_run.specs.Run.{gone}
-use Rattle.cc_run.specs.Solo.{IsSolo}
-use Rattle.cc_run.specs.Whole.{IsRun}
+use Rattle.cc_run.specs.Rules.{Rules}
+use Rattle.cc_run.specs.Seat.{SeatSeen}
+use Rattle.cc_run.specs.State.{State}
+use Rattle.cc_run.specs.Whole.{RanList}
 use Rattle.cc_run.specs.declared.error.RunError.{RunError}
-use Rattle.cc_run.specs.declared.error.RunError.TheVariants.{TurnsSpent, JobFault}
 use Rattle.cc_run.specs.declared.planned.Planned.{Planned}
-use Rattle.cc_jobs.specs.Seats.{Rose}
 use Rattle.cc_tool.specs.Asked.{question_event, question_events}
 use Rattle.cc_build.specs.Error.{ErrorSeen, no_memory}
 use Rattle.cc_build.specs.RunErrors.{run_error}
 use Rattle.cc_build.specs.Stage.Stage.{RunsOne, RunsAll}
 use Rattle.cc_run.specs.Output.{IsSilentRun}
 use Rattle.cc_run.specs.declared.planned.Shows.{Shows}
-use Rattle.cc_build.specs.Went.{Terms, Means, terms, is_refusal, Tried, RanOne, RanAll, IsOf, Went, Halted}
+use Rattle.cc_run.specs.declared.planned.Turns.{Turns as TurnsSeen}
+use Rattle.cc_run.proofs.Ends.{ran_extends, ran_patient, ran_own, ran_turns, ran_total}
+use Rattle.cc_build.specs.Went.{Terms, Means, terms, beside_rules, alone_rules, idle_seat, turns_at, begins, is_refusal, Tried, RanOne, RanAll, IsOf, Went, Halted}
 use Rattle.cc_build.proofs.Trying.{done_of, done_sole, broken_of, broken_sole, sole_asks_none}
-use Rattle.cc_build.proofs.Going.{went_one, halted_at, part_is}
+use Rattle.cc_build.proofs.Going.{went_one, halted_at}
 
 -- ---- a run asks nothing
 
@@ -60,23 +59,45 @@ pub own_asks_none : (part : List Event) → list_all is_of_run part ≡ true →
 own_asks_none [] own = refl
 own_asks_none (event ∷ part) own = let p = and_parts _ _ own in ap (λ l. l ++ question_events part) (own_event event p.0) ∙ own_asks_none part p.1
 
--- ---- a run only adds to the log
+-- ---- a run of commands only adds such events to the log
 
-pub solo_extends : {T : Type 0} (p : Planned) (t : Terms) (old new : List Event) (r : Result T RunError) → IsSolo (asked t.shows (p ∷ [])) old new r → new ≡ old ++ since old new
-solo_extends p t old new r s = since_extends old s.mid new s.work.extends (s.dropped ∙ ap (λ l. s.mid ++ l) (sym (part_is s.mid new (gone s.run.live) s.dropped)))
+module _ (rules : Rules) (total : Option ℕ) (old : State) (result : Result (Unit {0}) RunError) (log : List Event) (patience : Option ℕ) (seat : SeatSeen) (made : TurnsSeen) (ran : RanList rules total old result log patience seat made) where
+  pub list_extends : log ≡ old.log ++ since old.log log
+  list_extends = ran_extends rules total old ran.general log patience seat made ran.ran
+
+  pub list_patient : patience ≡ old.patience
+  list_patient = ran_patient rules total old ran.general log patience seat made ran.ran
+
+  pub list_asks_none : question_events (since old.log log) ≡ []
+  list_asks_none = own_asks_none (since old.log log) (ran_own rules total old ran.general log patience seat made ran.ran)
+
+  -- the sum of the turns that are left and of those that were made
+  pub list_sum : made.left + made.used ≡ old.turns.left + old.turns.used
+  list_sum =
+      let m : TurnsMade old.turns made (since old.log log) = ran_turns rules total old ran.general log patience seat made ran.ran in
+      let a : made.left + turns (since old.log log) ≡ old.turns.left = m.left in
+      let b : made.used ≡ old.turns.used + turns (since old.log log) = m.used in
+      omega arith
+
+-- a run from a log on, to one that it added to and on a host of the same patience
+from_part : (rules : Rules) (total : Option ℕ) (old : State) (result : Result (Unit {0}) RunError) (log : List Event) (patience : Option ℕ) (seat : SeatSeen) (made : TurnsSeen) → RanList rules total old result log patience seat made → RanList rules total old result (old.log ++ since old.log log) old.patience seat made
+from_part rules total old result log patience seat made ran =
+    subst (λ (p : Option ℕ). RanList rules total old result (old.log ++ since old.log log) p seat made) (list_patient rules total old result log patience seat made ran)
+    (subst (λ (l : List Event). RanList rules total old result l patience seat made) (list_extends rules total old result log patience seat made ran) ran)
 
 -- ---- a command alone
 
-module _ (t : Terms) (p : Planned) (old new : List Event) (x y : Means) where
-  pub ran_one : (r : Result (Unit {0}) RunError) → IsSolo (asked t.shows (p ∷ [])) old new r → list_all is_of_run (since old new) ≡ true → y.left + turns (since old new) ≡ x.left → (r ≡ Err TurnsSpent → y.left ≡ 0) → Bounded t.patience 1 (since old new) → (r ≡ Err TurnsSpent → Unspent t.patience 1 (since old new)) → (y.faults ≡ x.faults) × (y.taken ≡ x.taken) × (y.load ≡ x.load) → IsPrinted t.shows false (p ∷ []) nothing_kept r (since old new) → RanOne t p (since old new) r x y
-  ran_one r solo own turned spent bound enough seat lines = record {
+module _ (t : Terms) (p : Planned) (old new : List Event) (patience : Option ℕ) (x y : Means) (before behind : ℕ) where
+  pub ran_one : (r : Result (Unit {0}) RunError) (s s' : SeatSeen) → (s.faults ≡ 0) × (s'.faults ≡ 0) → IfSome t.patience (λ most. 1 ≤ most) → RanList (alone_rules t p) (Some 1) (begins t old s (turns_at x before)) r new patience s' (turns_at y behind) → IsPrinted (alone_rules t p) nothing_kept r (since old new) → (y.faults ≡ x.faults) × (y.taken ≡ x.taken) × (y.load ≡ x.load) → RanOne t p (since old new) r x y
+  ran_one r s s' sound least ran lines seat = record {
     log = old;
-    run = subst (λ (l : List Event). IsSolo (asked t.shows (p ∷ [])) old l r) (solo_extends p t old new r solo) solo;
-    own = own;
-    turned = turned;
-    spent = spent;
-    bound = bound;
-    enough = enough;
+    before = before;
+    behind = behind;
+    old = s;
+    new = s';
+    sound = sound;
+    least = least;
+    run = from_part (alone_rules t p) (Some 1) (begins t old s (turns_at x before)) r new patience s' (turns_at y behind) ran;
     lines = lines;
     seat = seat;
   }
@@ -103,19 +124,20 @@ cause_of p error e (inr memory) = inl memory
 
 -- ---- commands beside each other
 
-module _ (t : Terms) (ps : List Planned) (old new : List Event) (x y : Means) where
-  pub ran_all : (r : Result (Unit {0}) RunError) → IsRun t.total (asked t.shows ps) old new r x.taken x.load y.taken y.load → list_all is_of_run (since old new) ≡ true → y.left + turns (since old new) ≡ x.left → (r ≡ Err TurnsSpent → y.left ≡ 0) → IfSome t.total (λ _. Bounded t.patience (length ps) (since old new)) → (r ≡ Err TurnsSpent → IfSome t.total (λ _. Unspent t.patience (length ps) (since old new))) → x.faults ≤ y.faults → (r ≡ Err JobFault → Rose x.faults y.faults) → IsPrinted t.shows true ps nothing_kept r (since old new) → RanAll t ps (since old new) r x y
-  ran_all r run own turned spent bound enough later job_fault lines = record {
+module _ (t : Terms) (ps : List Planned) (old new : List Event) (patience : Option ℕ) (x y : Means) (before behind : ℕ) where
+  pub ran_all : (r : Result (Unit {0}) RunError) (held held' : ℕ) (total' : Option ℕ) → held ≡ 0 → held' ≡ 0 → IfSome t.patience (λ most. 1 ≤ most) → RanList (beside_rules t ps) t.total (begins t old (record (idle_seat t.total x) { held = held }) (turns_at x before)) r new patience (record (idle_seat total' y) { held = held' }) (turns_at y behind) → IsPrinted (beside_rules t ps) nothing_kept r (since old new) → RanAll t ps (since old new) r x y
+  ran_all r held held' total' none none' least ran lines = record {
     log = old;
-    run = subst (λ (l : List Event). IsRun t.total (asked t.shows ps) old l r x.taken x.load y.taken y.load) run.whole.extends run;
-    own = own;
-    turned = turned;
-    spent = spent;
-    bound = bound;
-    enough = enough;
+    before = before;
+    behind = behind;
+    least = least;
+    run =
+        subst (λ (k : ℕ). RanList (beside_rules t ps) t.total (begins t old (record (idle_seat t.total x) { held = k }) (turns_at x before)) r (old ++ since old new) t.patience (idle_seat t.total y) (turns_at y behind)) none
+        (subst (λ (o : Option ℕ). RanList (beside_rules t ps) t.total (begins t old (record (idle_seat t.total x) { held = held }) (turns_at x before)) r (old ++ since old new) t.patience (idle_seat o y) (turns_at y behind))
+        (ran_total (beside_rules t ps) t.total (begins t old (record (idle_seat t.total x) { held = held }) (turns_at x before)) ran.general new patience (record (idle_seat total' y) { held = held' }) (turns_at y behind) ran.ran)
+        (subst (λ (k : ℕ). RanList (beside_rules t ps) t.total (begins t old (record (idle_seat t.total x) { held = held }) (turns_at x before)) r (old ++ since old new) t.patience (record (idle_seat total' y) { held = k }) (turns_at y behind)) none'
+        (from_part (beside_rules t ps) t.total (begins t old (record (idle_seat t.total x) { held = held }) (turns_at x before)) r new patience (record (idle_seat total' y) { held = held' }) (turns_at y behind) ran)));
     lines = lines;
-    later = later;
-    job_fault = job_fault;
   }
 
 pub together_done : (t : Terms) (ps : List Planned) (part : List Event) (x y : Means) → RanAll t ps part (Ok tt) x y → Went t (RunsAll ps ∷ []) part x y

@@ -1,10 +1,9 @@
 -- The planned compile commands: one for each source, with its message where the current folder is known.
-use Rattle.std.proofs.Common.{◌≡◌, ℕ, zero, suc, ◌+◌, ◌<◌, List, [], ◌∷◌, ◌++◌, length, map, drop, get_or, Bool, true, false, Option, Some, None, refl, sym, ◌∙◌, ap, ap₂, add-one, subst, append_assoc, append-nil, if◌then◌else◌}
+use Rattle.std.proofs.Common.{◌≡◌, ℕ, zero, suc, ◌+◌, ◌<◌, List, [], ◌∷◌, ◌++◌, length, map, drop, get_or, Bool, true, false, Option, Some, None, refl, sym, ◌∙◌, ap, ap₂, add-one, append_assoc, append-nil, if◌then◌else◌}
 use Rattle.std.specs.Prelude.{option_to_list}
-use Rattle.std.specs.List.{All, flat_map, list_all, slice_get}
+use Rattle.std.specs.List.{flat_map, list_all, slice_get}
 use Rattle.std.specs.Cmp.Derive.{both_true}
 use Rattle.std.proofs.lemmas.List.{length-map}
-use Rattle.std.proofs.lemmas.List.Elements.{All-nil, All-cons}
 use Rattle.std.proofs.lemmas.List.Folds.{list_all-append}
 use Rattle.std.proofs.lemmas.Option.{slice_get_read}
 use Rattle.cc_env.specs.Env.{EnvSeen}
@@ -75,12 +74,6 @@ compiles_next here objects cmds i object old new all within is made so_far = by_
     by_cmd : (found : Option CommandSeen) → slice_get cmds i ≡ found → new ≡ old ++ map (compile_planned here object) (option_to_list found) → new ++ compiles_by here (drop (i + 1) objects) (drop (i + 1) cmds) ≡ all
     by_cmd (Some cmd) found so = compiles_some here objects cmds i object cmd old new all within is found so so_far
     by_cmd None none so = compiles_none here objects cmds i old new all none (so ∙ append-nil old) so_far
-
--- each of them compiles
-pub all_compile : (here : Option (List ℕ)) (objects : List Object) (cmds : List CommandSeen) (ps : List Planned) → ps ≡ compiles_by here objects cmds → All (λ (p : Planned). p.role ≡ Compile) ps
-all_compile here [] cmds ps is = subst (All (λ (p : Planned). p.role ≡ Compile)) (sym is) (All-nil (λ (p : Planned). p.role ≡ Compile))
-all_compile here (object ∷ objects) [] ps is = subst (All (λ (p : Planned). p.role ≡ Compile)) (sym is) (All-nil (λ (p : Planned). p.role ≡ Compile))
-all_compile here (object ∷ objects) (cmd ∷ cmds) ps is = subst (All (λ (p : Planned). p.role ≡ Compile)) (sym is) (All-cons (λ (p : Planned). p.role ≡ Compile) (compile_planned here object cmd) (compiles_by here objects cmds) refl (all_compile here objects cmds (compiles_by here objects cmds) refl))
 
 -- ---- what is planned
 

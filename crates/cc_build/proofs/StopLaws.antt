@@ -1,14 +1,14 @@
 -- What stands behind a fault, and for what cause a run stopped.
 use Rattle.cc_plan.specs.Reruns.{rerun_names}
-use Rattle.std.proofs.Common.{◌≡◌, ◌≢◌, ◌⊎◌, inl, inr, ℕ, zero, suc, ◌+◌, ◌<◌, ◌≤◌, List, [], ◌∷◌, ◌++◌, length, map, take, drop, Bool, true, false, not, ◌||◌, if◌then◌else◌, is_some, Option, Some, None, option_map, Result, Ok, Err, IfErr, OnOk, refl, sym, ◌∙◌, ap, subst, zero-add, add-zero, arith, append_assoc, append-nil}
+use Rattle.std.proofs.Common.{◌≡◌, ◌≢◌, ◌⊎◌, inl, inr, ℕ, zero, suc, ◌+◌, ◌<◌, ◌≤◌, List, [], ◌∷◌, ◌++◌, length, map, take, drop, Bool, true, false, not, ◌||◌, if◌then◌else◌, is_some, Option, Some, Result, Ok, Err, refl, sym, ◌∙◌, ap, subst, arith, append-nil}
 use Rattle.std.proofs.lemmas.Bool.{and_parts, true≢false}
 use Rattle.std.proofs.lemmas.Grind.{flat_map-append}
 use Rattle.std.proofs.lemmas.List.{length-append}
 use Rattle.std.proofs.lemmas.List.Folds.{list_any-append}
-use Rattle.std.specs.List.{list_all, list_any}
+use Rattle.std.specs.List.{list_all, list_any, slice_get}
 use Rattle.cc_env.specs.Env.{EnvSeen}
 use Rattle.cc_host.specs.Command.{CommandSeen}
-use Rattle.cc_host.specs.Part.{Step, since, step_of, Refuses, is_probing}
+use Rattle.cc_host.specs.Part.{Step, step_of, Refuses, is_probing}
 use Rattle.cc_host.specs.Part.Step.{Runs, Makes, Removes, Writes, Copies, Finds, Says, Prints, Lists}
 use Rattle.cc_host.specs.Question.{Look}
 use Rattle.cc_host.specs.declared.event.Event.{Event}
@@ -17,41 +17,37 @@ use Rattle.cc_host.specs.declared.event.HostCall.{HostCall}
 use Rattle.cc_host.specs.declared.event.HostCall.TheVariants.{Start, Turn as Turning}
 use Rattle.cc_host.specs.declared.event.LineKind.{LineKind}
 use Rattle.cc_host.specs.declared.event.Role.{Role}
-use Rattle.cc_host.specs.declared.event.Role.TheVariants.{Compile}
 use Rattle.cc_host.specs.declared.event.Scope.TheVariants.{Build, Probe as ForProbes}
-use Rattle.cc_host.specs.declared.event.Status.{Status}
 use Rattle.cc_host.specs.declared.event.Why.{Why}
-use Rattle.cc_host.proofs.Parts.{since_append}
 use Rattle.cc_jobs.specs.Seats.{Rose}
 use Rattle.cc_flags.specs.Given.{is_disabled}
 use Rattle.cc_plan.specs.Quiet.{quiet_warnings}
 use Rattle.cc_plan.specs.Plan.{dir_of, link_lines, lists_of_run, archive_refusal, prints, folder_steps, removal_steps, run_has_one_form, run_asks_folder, copy_steps, copy_by, copy_of, library_of}
 use Rattle.cc_plan.specs.Refusal.{early_refusal, late_refusal, link_refusal, is_empty}
 use Rattle.cc_flags.specs.declared.settings.BuildConfig.{BuildConfig}
-use Rattle.cc_run.specs.Outcome.{missing_by, faults_by, IsDone, IsRunError, EndsAt}
-use Rattle.cc_run.specs.Own.{is_of_run}
-use Rattle.cc_run.specs.Part.{started, missing, missing_of, faults, fault_of, abandoned, abandoned_of}
-use Rattle.cc_run.specs.Planned.{Asked, asked}
-use Rattle.cc_run.specs.Run.{Run, nothing, run_from, ids, gone}
+use Rattle.cc_run.specs.Part.{missing, missing_of, faults, fault_of, abandoned, abandoned_of}
+use Rattle.cc_run.specs.Run.{ids, gone}
 use Rattle.cc_run.specs.declared.error.RunError.{RunError}
 use Rattle.cc_run.specs.declared.error.RunError.TheVariants.{ToolNotFound, Failed as Fails, StartFault, WaitFault, HostFault, JobFault, TurnsSpent, NoMemory}
 use Rattle.cc_run.specs.declared.planned.Planned.{Planned}
-use Rattle.cc_run.proofs.Runs.{run_from-append}
+use Rattle.cc_run.specs.declared.planned.Shows.{Shows}
 use Rattle.cc_tool.specs.Probing.{is_asked}
 use Rattle.cc_flags.specs.ArchiveNames.{is_msvc}
 use Rattle.cc_flags.specs.Target.{target_info}
-use Rattle.cc_build.specs.Built.{ended_well}
+use Rattle.cc_build.specs.Children.{has_failure}
 use Rattle.cc_build.specs.Error.{ErrorSeen, no_memory}
 use Rattle.cc_build.specs.Failed.{Failed, is_fault, is_form, form_aside, unforgiven, HasFault}
 use Rattle.cc_build.specs.Order.{is_archive_role, is_archive_event}
 use Rattle.cc_build.specs.RunErrors.{run_error}
-use Rattle.cc_build.specs.Stage.{Stage, children_in, calls, beside, compiles_planned, opening_steps, in_turn, tried, written, writings, asking_steps, folder_stages, compile_stages, removal_stages, library_commands, ready_stages, archive_stages, copy_stages, writing_stages, link_stages, library_stages, ending_stages, later_stages, asked_stages, late_stages, planned_stages, run_reads, ending_steps}
+use Rattle.cc_build.specs.Stage.{Stage, calls, beside, compiles_planned, opening_steps, in_turn, tried, written, writings, asking_steps, folder_stages, compile_stages, removal_stages, library_commands, ready_stages, archive_stages, copy_stages, writing_stages, link_stages, library_stages, ending_stages, later_stages, asked_stages, late_stages, planned_stages, run_reads, ending_steps}
 use Rattle.cc_build.specs.Stage.Stage.{Calls, Asks, Tries, RunsOne, RunsAll}
 use Rattle.cc_build.specs.Way.{Way, Found, Firsts, Writing}
 use Rattle.cc_build.proofs.SourceLaws.{AreNotes, opening_notes, ending_notes}
-use Rattle.cc_build.specs.Went.{Terms, Means, RanAll, RanOne, Did, Went, IsOf, Stops, Halts}
+use Rattle.cc_build.specs.Went.{Terms, Means, Did, Went, IsOf, Stops, Halts}
 use Rattle.cc_build.specs.declared.error.ErrorKind.TheVariants.{TurnsSpent as SpendsTurns}
-use Rattle.cc_build.proofs.RunLaws.{shift, shifted, went_run}
+use Rattle.cc_build.proofs.ChildLaws.{failure_behind}
+use Rattle.cc_build.proofs.RanLaws.{Said, said_all, said_one, all_spent, all_rose, one_spent, one_sound}
+use Rattle.cc_build.proofs.RunLaws.{went_well}
 use Rattle.cc_build.proofs.Trying.{notice_unprobed, done_of, done_sole, done_faultless, done_forms, broken_of, broken_fault, broken_last, sole_kept, no_such_fault}
 use Rattle.cc_build.proofs.TurnLaws.{went_faults}
 
@@ -112,75 +108,8 @@ count part = length (faults part)
 
 -- ---- runs
 
--- what a run of one command or more says of its part
-pub record Said (cmds : List Asked) (part : List Event) (result : Result (Unit {0}) RunError) : Type 0 where
-  pub log : List Event
-  pub mid : List Event
-  pub run : Run
-  pub work : List Event
-  pub dropped : log ++ part ≡ mid ++ gone run.live
-  pub extends : mid ≡ log ++ work
-  pub cut : part ≡ work ++ gone run.live
-  pub own : list_all is_of_run part ≡ true
-  pub is : run_from nothing work ≡ run
-  pub begun : started work ≡ take run.begun cmds
-  pub kept : abandoned work ≡ []
-  pub missing_is : missing part ≡ missing_by cmds result
-  pub faults_are : faults part ≡ faults_by result
-  pub done : OnOk result (IsDone (length cmds) run × (run.failed ≡ None))
-  pub cause : IfErr result (IsRunError (length cmds) run)
-  pub ends : IfErr result (EndsAt mid)
-
-cut_of : (log part mid : List Event) (live : List (ℕ × ℕ)) → mid ≡ log ++ since log mid → log ++ part ≡ mid ++ gone live → part ≡ since log mid ++ gone live
-cut_of log part mid live e f =
-    sym (since_append log part) ∙ ap (since log) (f ∙ ap (λ m. m ++ gone live) e ∙ append_assoc log (since log mid) (gone live)) ∙ since_append log (since log mid ++ gone live)
-
-pub said_all : (t : Terms) (ps : List Planned) (part : List Event) (result : Result (Unit {0}) RunError) (x y : Means) → RanAll t ps part result x y → Said (asked t.shows ps) part result
-said_all t ps part result x y r = record {
-  log = r.log;
-  mid = r.run.mid;
-  run = r.run.run;
-  work = since r.log r.run.mid;
-  dropped = r.run.dropped;
-  extends = r.run.work.extends;
-  cut = cut_of r.log part r.run.mid r.run.run.live r.run.work.extends r.run.dropped;
-  own = r.own;
-  is = r.run.work.steps.run;
-  begun = r.run.work.steps.asked;
-  kept = r.run.kept;
-  missing_is = ap missing (sym (since_append r.log part)) ∙ r.run.missing_is;
-  faults_are = ap faults (sym (since_append r.log part)) ∙ r.run.faults_are;
-  done = r.run.done;
-  cause = r.run.cause;
-  ends = r.run.ends;
-}
-
-pub said_one : (t : Terms) (p : Planned) (part : List Event) (result : Result (Unit {0}) RunError) (x y : Means) → RanOne t p part result x y → Said (asked t.shows (p ∷ [])) part result
-said_one t p part result x y r = record {
-  log = r.log;
-  mid = r.run.mid;
-  run = r.run.run;
-  work = since r.log r.run.mid;
-  dropped = r.run.dropped;
-  extends = r.run.work.extends;
-  cut = cut_of r.log part r.run.mid r.run.run.live r.run.work.extends r.run.dropped;
-  own = r.own;
-  is = r.run.work.run;
-  begun = r.run.work.begun;
-  kept = r.run.kept;
-  missing_is = ap missing (sym (since_append r.log part)) ∙ r.run.missing_is;
-  faults_are = ap faults (sym (since_append r.log part)) ∙ r.run.faults_are;
-  done = r.run.done;
-  cause = r.run.cause;
-  ends = r.run.ends;
-}
-
--- where no child runs at the end, nothing was abandoned
-pub whole_work : (part work : List Event) (live : List (ℕ × ℕ)) → part ≡ work ++ gone live → live ≡ [] → part ≡ work
-whole_work part work live cut none = cut ∙ ap (λ l. work ++ gone l) none ∙ append-nil work
-
-run_kept : (cmds : List Asked) (part : List Event) → Said cmds part (Ok tt) → abandoned part ≡ []
-run_kept cmds part s = ap abandoned (whole_work part s.work s.run.live s.cut s.done.0.1) ∙ s.kept
+run_kept : (shows : Shows) (stop : Bool) (ps : List Planned) (part : List Event) → Said shows stop ps part (Ok tt) → abandoned part ≡ []
+run_kept shows stop ps part s = s.left ∙ ap ids s.ends.1
 
 did_faultless : (t : Terms) (s : Stage) (part : List Event) (x y : Means) → Did t s part x y → list_any is_fault part ≡ false
 did_faultless t (Calls step) part x y d = ap (list_any is_fault) d.1.0 ∙ step_faultless step d.0 d.1.1
@@ -199,8 +128,8 @@ did_kept : (t : Terms) (s : Stage) (part : List Event) (x y : Means) → Did t s
 did_kept t (Calls step) part x y d = ap abandoned d.1.0 ∙ step_kept step d.0 d.1.1
 did_kept t Asks part x y d = all_kept part d.0
 did_kept t (Tries refused p) part x y d = sole_kept part (done_sole p refused part (done_of t p part refused d.0))
-did_kept t (RunsOne p) part x y d = run_kept (asked t.shows (p ∷ [])) part (said_one t p part (Ok tt) x y d)
-did_kept t (RunsAll ps) part x y d = run_kept (asked t.shows ps) part (said_all t ps part (Ok tt) x y d)
+did_kept t (RunsOne p) part x y d = run_kept t.shows false (p ∷ []) part (said_one t p part (Ok tt) x y d)
+did_kept t (RunsAll ps) part x y d = run_kept t.shows t.shows.stop ps part (said_all t ps part (Ok tt) x y d)
 
 -- and no child was abandoned in them
 pub went_kept : (t : Terms) (stages : List Stage) (part : List Event) (x y : Means) → Went t stages part x y → abandoned part ≡ []
@@ -240,17 +169,6 @@ module _ (call c : HostCall) (why w : Why) (after q : List Event) (none : count 
       let all : count ((x ∷ before) ++ Fault call why ∷ after) ≡ count (x ∷ []) + count (before ++ Fault call why ∷ after) = count_append (x ∷ []) (before ++ Fault call why ∷ after) in
       one_behind before b (omega arith) tail
 
-  -- the same of the end of a log
-  last_behind : (log before b : List Event) → count (before ++ Fault call why ∷ after) ≤ 1 → log ++ (before ++ Fault call why ∷ after) ≡ b ++ Fault c w ∷ q → after ≡ q
-  last_behind [] before b few e = one_behind before b few e
-  last_behind (x ∷ log) before [] few e =
-      let tail : log ++ (before ++ Fault call why ∷ after) ≡ q = cc in
-      let all : count (log ++ (before ++ Fault call why ∷ after)) ≡ count log + count (before ++ Fault call why ∷ after) = count_append log (before ++ Fault call why ∷ after) in
-      let some : count (before ++ Fault call why ∷ after) ≡ count before + (1 + count after) = count_fault call why before after in
-      let same : count (log ++ (before ++ Fault call why ∷ after)) ≡ count q = ap count tail in
-      absurd (omega arith)
-  last_behind (x ∷ log) before (y ∷ b) few e = last_behind log before b few (cc)
-
 gone_ids : (live : List (ℕ × ℕ)) → gone live ≡ map Abandoned (ids live)
 gone_ids [] = refl
 gone_ids (c ∷ cs) = ap (λ l. Abandoned c.0 ∷ l) (gone_ids cs)
@@ -260,7 +178,7 @@ unfolding count
 gone_count [] = refl
 gone_count (c ∷ cs) = gone_count cs
 
-module _ (cmds : List Asked) (part : List Event) (before after : List Event) (call : HostCall) (why : Why) (here : part ≡ before ++ Fault call why ∷ after) where
+module _ (shows : Shows) (stop : Bool) (ps : List Planned) (part : List Event) (before after : List Event) (call : HostCall) (why : Why) (here : part ≡ before ++ Fault call why ∷ after) where
   -- a run whose answer tells no fault has none
   no_fault_told : faults part ≡ [] → ⊥
   unfolding count
@@ -270,19 +188,18 @@ module _ (cmds : List Asked) (part : List Event) (before after : List Event) (ca
       omega arith
 
   -- behind the one that it tells children are abandoned
-  fault_told : (result : Result (Unit {0}) RunError) (s : Said cmds part result) (c : HostCall) (w : Why) (b : List Event) → faults part ≡ c ∷ [] → s.mid ≡ b ++ Fault c w ∷ [] → (ids : List ℕ) × (after ≡ map Abandoned ids)
+  fault_told : (result : Result (Unit {0}) RunError) (s : Said shows stop ps part result) (c : HostCall) (w : Why) → faults part ≡ c ∷ [] → s.tail ≡ Fault c w ∷ [] → (ids : List ℕ) × (after ≡ map Abandoned ids)
   unfolding count
-  fault_told result s c w b one last =
+  fault_told result s c w one last =
       let few : count part ≡ 1 = ap length one in
       let same : count part ≡ count (before ++ Fault call why ∷ after) = ap count here in
-      let whole : s.log ++ (before ++ Fault call why ∷ after) ≡ b ++ Fault c w ∷ gone s.run.live =
-      ap (λ p. s.log ++ p) (sym here) ∙ s.dropped ∙ ap (λ m. m ++ gone s.run.live) last ∙ append_assoc b (Fault c w ∷ []) (gone s.run.live) in
-      (ids s.run.live, last_behind call c why w after (gone s.run.live) (gone_count s.run.live) s.log before b (omega arith) whole ∙ gone_ids s.run.live)
+      let whole : before ++ Fault call why ∷ after ≡ s.work ++ Fault c w ∷ gone s.live = sym here ∙ s.cut ∙ ap (λ l. s.work ++ (l ++ gone s.live)) last in
+      (ids s.live, one_behind call c why w after (gone s.live) (gone_count s.live) before s.work (omega arith) whole ∙ gone_ids s.live)
 
-  run_faults : (error : RunError) → Said cmds part (Err error) → (ids : List ℕ) × (after ≡ map Abandoned ids)
-  run_faults (StartFault place) s = fault_told (Err (StartFault place)) s Start s.ends.1.0 s.ends.0 s.faults_are s.ends.1.1
-  run_faults WaitFault s = fault_told (Err WaitFault) s Turning s.ends.1.0 s.ends.0 s.faults_are s.ends.1.1
-  run_faults (HostFault c w) s = fault_told (Err (HostFault c w)) s c w s.ends.0 s.faults_are s.ends.1
+  run_faults : (error : RunError) → Said shows stop ps part (Err error) → (ids : List ℕ) × (after ≡ map Abandoned ids)
+  run_faults (StartFault place) s = fault_told (Err (StartFault place)) s Start s.ends.0.0 s.faults_are s.ends.0.1
+  run_faults WaitFault s = fault_told (Err WaitFault) s Turning s.ends.0.0 s.faults_are s.ends.0.1
+  run_faults (HostFault c w) s = fault_told (Err (HostFault c w)) s c w s.faults_are s.ends.0
   run_faults (ToolNotFound place) s = absurd (no_fault_told s.faults_are)
   run_faults (Fails place status) s = absurd (no_fault_told s.faults_are)
   run_faults JobFault s = absurd (no_fault_told s.faults_are)
@@ -299,8 +216,8 @@ pub stop_faults : (t : Terms) (s : Stage) (part : List Event) (e : ErrorSeen) (x
 stop_faults t (Calls step) part e x y d before after call why p here = ([], alone_after before after d.0 (Fault call why) (sym d.1.0 ∙ here))
 stop_faults t Asks part e x y d before after call why p here = absurd (no_such_fault part before after call why (all_faultless part d.1) p here)
 stop_faults t (Tries refused c) part e x y d before after call why p here = ([], broken_last c part before after call why (broken_of t.shows c part d.0 d.1.0 d.1.1) p here)
-stop_faults t (RunsOne c) part e x y d before after call why p here = run_faults (asked t.shows (c ∷ [])) part before after call why here d.0 (said_one t c part (Err d.0) x y d.1.0)
-stop_faults t (RunsAll ps) part e x y d before after call why p here = run_faults (asked t.shows ps) part before after call why here d.0 (said_all t ps part (Err d.0) x y d.1.0)
+stop_faults t (RunsOne c) part e x y d before after call why p here = run_faults t.shows false (c ∷ []) part before after call why here d.0 (said_one t c part (Err d.0) x y d.1.0)
+stop_faults t (RunsAll ps) part e x y d before after call why p here = run_faults t.shows t.shows.stop ps part before after call why here d.0 (said_all t ps part (Err d.0) x y d.1.0)
 
 -- ---- the causes
 
@@ -314,32 +231,23 @@ abbrev pub ArePlain : List Stage → Type 0
 ArePlain [] = Unit {0}
 ArePlain (s ∷ ss) = IsPlain s × ArePlain ss
 
--- for what cause a stage was refused, where so many commands were run before it
-abbrev pub IsCause : ℕ → List Event → ErrorSeen → Means → Means → Type 0
-IsCause k part e x y = (e ≡ no_memory) ⊎ (HasFault part ⊎ ((missing part ≢ []) ⊎ (((run_from (ended_well k) part).failed ≢ None) ⊎ (Rose x.faults y.faults ⊎ ((e.kind ≡ SpendsTurns) × (y.left ≡ 0))))))
+-- for what cause a stage was refused
+abbrev pub IsCause : List Event → ErrorSeen → Means → Means → Type 0
+IsCause part e x y = (e ≡ no_memory) ⊎ (HasFault part ⊎ ((missing part ≢ []) ⊎ ((has_failure part ≡ true) ⊎ (Rose x.faults y.faults ⊎ ((e.kind ≡ SpendsTurns) × (y.left ≡ 0))))))
 
-some_missing : (cmds : List Asked) (place : ℕ) → place < length cmds → map {B = Role × CommandSeen} (λ a. (a.role, a.cmd)) (take 1 (drop place cmds)) ≢ []
-some_missing [] place lt h = absurd (omega arith)
-some_missing (c ∷ cs) zero lt h = cc
-some_missing (c ∷ cs) (suc place) lt h = some_missing cs place (omega arith) h
+some_missing : (ps : List Planned) (place : ℕ) (p : Planned) → slice_get ps place ≡ Some p → map {B = Role × CommandSeen} (λ p. (p.role, p.cmd)) (take 1 (drop place ps)) ≢ []
+some_missing [] place p is h = cc
+some_missing (q ∷ ps) zero p is h = cc
+some_missing (q ∷ ps) (suc place) p is h = some_missing ps place p is h
 
-some_failed : (k : ℕ) (work : List Event) (r : Run) (place : ℕ) (status : Status) → run_from nothing work ≡ r → r.failed ≡ Some (place, status) → (run_from (ended_well k) work).failed ≢ None
-some_failed k work r place status is failed none =
-    let same : run_from (ended_well k) work ≡ shift k r = ap (λ n. run_from (ended_well n) work) (sym (add-zero k)) ∙ shifted k nothing work ∙ ap (shift k) is in
-    let gone : (shift k r).failed ≡ None = sym (ap (λ s. s.failed) same) ∙ none in
-    let here : (shift k r).failed ≡ Some (k + place, status) = ap (option_map (λ f. (k + f.0, f.1))) failed in
-    cc
-
-module _ (cmds : List Asked) (ps : List Planned) (part : List Event) (e : ErrorSeen) (k : ℕ) (x y : Means) where
-  run_cause : (error : RunError) → Said cmds part (Err error) → IsOf (run_error ps error) e → (error ≡ JobFault → Rose x.faults y.faults) → (error ≡ TurnsSpent → y.left ≡ 0) → IsCause k part e x y
+module _ (shows : Shows) (stop : Bool) (ps : List Planned) (part : List Event) (e : ErrorSeen) (x y : Means) where
+  run_cause : (error : RunError) → Said shows stop ps part (Err error) → IsOf (run_error ps error) e → (error ≡ JobFault → Rose x.faults y.faults) → (error ≡ TurnsSpent → y.left ≡ 0) → IsCause part e x y
   run_cause error s (inl memory) job spent = inl memory
-  run_cause (ToolNotFound place) s (inr is) job spent = inr (inr (inl (λ none. some_missing cmds place s.cause.1 (sym s.missing_is ∙ none))))
-  run_cause (Fails place status) s (inr is) job spent =
-      let all : part ≡ s.work = whole_work part s.work s.run.live s.cut s.cause.1.1 in
-      inr (inr (inr (inl (λ none. some_failed k s.work s.run place status s.is s.cause.0 (ap (λ p. (run_from (ended_well k) p).failed) (sym all) ∙ none)))))
+  run_cause (ToolNotFound place) s (inr is) job spent = inr (inr (inl (λ none. some_missing ps place s.ends.0.0 s.ends.0.1.0 (sym s.missing_is ∙ none))))
+  run_cause (Fails place status) s (inr is) job spent = inr (inr (inr (inl s.ends.2)))
   run_cause (StartFault place) s (inr is) job spent = inr (inl (some_fault part Start [] s.faults_are refl))
   run_cause WaitFault s (inr is) job spent = inr (inl (some_fault part Turning [] s.faults_are refl))
-  run_cause (HostFault call why) s (inr is) job spent = inr (inl (some_fault part call [] s.faults_are (notice_unprobed call s.cause)))
+  run_cause (HostFault call why) s (inr is) job spent = inr (inl (some_fault part call [] s.faults_are (notice_unprobed call s.ends.1)))
   run_cause JobFault s (inr is) job spent = inr (inr (inr (inr (inl (job refl)))))
   run_cause TurnsSpent s (inr is) job spent = inr (inr (inr (inr (inr (ap (λ o. o.kind) is, spent refl)))))
   run_cause NoMemory s (inr is) job spent = inl is
@@ -358,23 +266,23 @@ call_cause (Prints kind bytes) (Fault call why) plain r = some_fault (Fault call
 call_cause Lists (Fault call why) plain r = some_fault (Fault call why ∷ []) call [] refl (ap is_probing r)
 call_cause _ _ plain r = absurd r
 
--- a stage is refused for one of these causes, wherever in the run it stands
-pub stop_cause : (t : Terms) (s : Stage) (part : List Event) (e : ErrorSeen) (x y : Means) (k : ℕ) → IsPlain s → Stops t s part e x y → (e ≡ no_memory) ⊎ (HasFault part ⊎ ((missing part ≢ []) ⊎ (((run_from (ended_well k) part).failed ≢ None) ⊎ (Rose x.faults y.faults ⊎ ((e.kind ≡ SpendsTurns) × (y.left ≡ 0))))))
-stop_cause t (Calls step) part e x y k plain d = inr (inl (subst HasFault (sym d.1.0) (call_cause step d.0 plain d.1.1)))
-stop_cause t Asks part e x y k plain d = inl d.0
-stop_cause t (Tries refused p) part e x y k plain d = tried_cause p e d.0 d.1.2 (broken_fault t.shows p part d.0 d.1.0 d.1.1)
+-- a stage is refused for one of these causes
+pub stop_cause : (t : Terms) (s : Stage) (part : List Event) (e : ErrorSeen) (x y : Means) → IsPlain s → Stops t s part e x y → (e ≡ no_memory) ⊎ (HasFault part ⊎ ((missing part ≢ []) ⊎ ((has_failure part ≡ true) ⊎ (Rose x.faults y.faults ⊎ ((e.kind ≡ SpendsTurns) × (y.left ≡ 0))))))
+stop_cause t (Calls step) part e x y plain d = inr (inl (subst HasFault (sym d.1.0) (call_cause step d.0 plain d.1.1)))
+stop_cause t Asks part e x y plain d = inl d.0
+stop_cause t (Tries refused p) part e x y plain d = tried_cause p e d.0 d.1.2 (broken_fault t.shows p part d.0 d.1.0 d.1.1)
   where
-    tried_cause : (p : Planned) (e : ErrorSeen) (error : RunError) → IsOf (run_error (p ∷ []) error) e → (error ≡ NoMemory) ⊎ (list_any is_fault part ≡ true) → IsCause k part e x y
+    tried_cause : (p : Planned) (e : ErrorSeen) (error : RunError) → IsOf (run_error (p ∷ []) error) e → (error ≡ NoMemory) ⊎ (list_any is_fault part ≡ true) → IsCause part e x y
     tried_cause p e error (inl memory) cause = inl memory
     tried_cause p e error (inr is) (inl wanted) = inl (is ∙ ap (run_error (p ∷ [])) wanted)
     tried_cause p e error (inr is) (inr fault) = inr (inl fault)
-stop_cause t (RunsOne p) part e x y k plain d =
+stop_cause t (RunsOne p) part e x y plain d =
     let r = d.1.0 in
-    run_cause (asked t.shows (p ∷ [])) (p ∷ []) part e k x y d.0 (said_one t p part (Err d.0) x y r) d.1.1
-    (λ is. absurd (r.run.tokenless (ap Err is))) (λ is. r.spent (ap Err is))
-stop_cause t (RunsAll ps) part e x y k plain d =
+    run_cause t.shows false (p ∷ []) part e x y d.0 (said_one t p part (Err d.0) x y r) d.1.1
+    (λ is. absurd (one_sound t p part (Err d.0) x y r (ap Err is))) (λ is. one_spent t p part (Err d.0) x y r (ap Err is))
+stop_cause t (RunsAll ps) part e x y plain d =
     let r = d.1.0 in
-    run_cause (asked t.shows ps) ps part e k x y d.0 (said_all t ps part (Err d.0) x y r) d.1.1 (λ is. r.job_fault (ap Err is)) (λ is. r.spent (ap Err is))
+    run_cause t.shows t.shows.stop ps part e x y d.0 (said_all t ps part (Err d.0) x y r) d.1.1 (λ is. all_rose t ps part (Err d.0) x y r (ap Err is)) (λ is. all_spent t ps part (Err d.0) x y r (ap Err is))
 
 -- ---- the stages of a plan
 
@@ -595,15 +503,12 @@ missing_unforgiven true front rest formed some none = some (last_none (missing f
 missing_unforgiven false front rest formed some none = missing_aside front rest (formed refl) some none
 
 module _ (t : Terms) (one_form : Bool) (refusal : Option ErrorSeen) (before : List Stage) (front rest part : List Event) (e : ErrorSeen) (x y z : Means) (cut : part ≡ front ++ rest) (w : Went t before front x y) (formed : missing rest ≢ [] → one_form ≡ false → IsFormed front rest) where
-  behind_cause : IsCause (length (children_in before)) rest e y z → HasCause one_form refusal part e x z
+  behind_cause : IsCause rest e y z → HasCause one_form refusal part e x z
   behind_cause (inl memory) = inl memory
   behind_cause (inr (inl fault)) = inr (inr (inl (ap (list_any is_fault) cut ∙ list_any-append is_fault front rest ∙ or_right (list_any is_fault front) (list_any is_fault rest) fault)))
   behind_cause (inr (inr (inl absent))) = inr (inr (inr (inl (inl (subst (λ (l : List Event). missing (unforgiven one_form l) ≢ []) (sym cut) (missing_unforgiven one_form front rest (formed absent) absent))))))
   behind_cause (inr (inr (inr (inl failed)))) =
-      let count = length (children_in before) in
-      let begun : run_from nothing front ≡ ended_well count = went_run t before front x y 0 w ∙ ap ended_well (zero-add count) in
-      let same : run_from nothing part ≡ run_from (ended_well count) rest = ap (run_from nothing) cut ∙ run_from-append nothing front rest ∙ ap (λ r. run_from r rest) begun in
-      inr (inr (inr (inl (inr (inl (λ none. failed (sym (ap (λ r. r.failed) same) ∙ none)))))))
+      inr (inr (inr (inl (inr (inl (ap has_failure cut ∙ failure_behind front rest (went_well t before front x y w).settled ∙ or_right (has_failure front) (has_failure rest) failed))))))
   behind_cause (inr (inr (inr (inr (inl rose))))) = let first : x.faults ≤ y.faults = went_faults t before front x y w in inr (inr (inr (inr (inl (λ below. let more : y.faults < z.faults = rose below in omega arith)))))
   behind_cause (inr (inr (inr (inr (inr spent))))) = inr (inr (inr (inr (inr spent))))
 
@@ -614,4 +519,4 @@ module _ (t : Terms) (one_form : Bool) (refusal : Option ErrorSeen) (before : Li
   pub halts_cause : (after : List Stage) → ArePlain after → Halts t refusal after rest e y z → HasCause one_form refusal part e x z
   halts_cause [] plain h = unbegun_cause h.0
   halts_cause (s ∷ ss) plain (inl h) = inl h.0
-  halts_cause (s ∷ ss) plain (inr stop) = behind_cause (stop_cause t s rest e y z (length (children_in before)) plain.0 stop)
+  halts_cause (s ∷ ss) plain (inr stop) = behind_cause (stop_cause t s rest e y z plain.0 stop)

@@ -21,7 +21,6 @@ use Rattle.cc_run.specs.Outcome.{IsNotice}
 use Rattle.cc_run.specs.Output.{behind, IsSilentRun}
 use Rattle.cc_run.specs.Part.{started, missing, missing_of, turns, abandoned}
 use Rattle.cc_run.specs.Prints.{prints}
-use Rattle.cc_run.specs.Run.{Run, run_from}
 use Rattle.cc_run.specs.Texts.{announced}
 use Rattle.cc_run.specs.declared.error.RunError.{RunError}
 use Rattle.cc_run.specs.declared.error.RunError.TheVariants.{ToolNotFound, Failed as Fails, StartFault, WaitFault, HostFault, JobFault, TurnsSpent, NoMemory}
@@ -34,6 +33,7 @@ use Rattle.cc_build.specs.Attempts.{attempt_of, attempts, to_attempt, tried_of, 
 use Rattle.cc_build.specs.Failed.{is_fault, is_form}
 use Rattle.cc_build.specs.Order.{is_archive_role, is_archive_event}
 use Rattle.cc_build.specs.Went.{Terms, is_refusal, Tried}
+use Rattle.cc_build.proofs.ChildLaws.{AreAside}
 
 -- no line and no message is a question
 pub notice_unprobed : (call : HostCall) → IsNotice call → is_probing call ≡ false
@@ -245,14 +245,14 @@ broken_sole p part b =
     ∙ sole_then b.front (b.tried ++ (b.rest ++ b.last)) (sole_lines b.front b.lines_before) (sole_then b.tried (b.rest ++ b.last) (sole_tried p b.tried b.of_command) (sole_then b.rest b.last (sole_lines b.rest b.lines_behind) (sole_last b.last b.ended)))
 
 -- it starts no child, and none ends
-pub sole_run : (r : Run) (part : List Event) → list_all is_sole part ≡ true → run_from r part ≡ r
-sole_run r [] h = refl
-sole_run r (Printed kind bytes ∷ part) h = sole_run r part h
-sole_run r (Said message ∷ part) h = sole_run r part h
-sole_run r (Ran role cmd pipes status out err ∷ part) h = sole_run r part h
-sole_run r (Missing role cmd ∷ part) h = sole_run r part h
-sole_run r (Fault call why ∷ part) h = sole_run r part (and_parts _ _ h).1
-sole_run r (event ∷ part) h = absurd (cc)
+pub sole_aside : (part : List Event) → list_all is_sole part ≡ true → AreAside part
+sole_aside [] h = tt
+sole_aside (Printed kind bytes ∷ part) h = (((λ ls. refl), (λ ls. refl)), sole_aside part h)
+sole_aside (Said message ∷ part) h = (((λ ls. refl), (λ ls. refl)), sole_aside part h)
+sole_aside (Ran role cmd pipes status out err ∷ part) h = (((λ ls. refl), (λ ls. refl)), sole_aside part h)
+sole_aside (Missing role cmd ∷ part) h = (((λ ls. refl), (λ ls. refl)), sole_aside part h)
+sole_aside (Fault call why ∷ part) h = (((λ ls. refl), (λ ls. refl)), sole_aside part (and_parts _ _ h).1)
+sole_aside (event ∷ part) h = absurd (cc)
 
 pub sole_started : (part : List Event) → list_all is_sole part ≡ true → started part ≡ []
 sole_started [] h = refl

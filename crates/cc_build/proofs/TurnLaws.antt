@@ -1,5 +1,5 @@
 -- How many turns the stages of a run take, and how many faults of its pool they count.
-use Rattle.std.proofs.Common.{◌≡◌, ◌⊎◌, inl, inr, ℕ, ◌+◌, ◌*◌, ◌<◌, ◌≤◌, List, [], ◌∷◌, ◌++◌, length, Bool, true, Option, Some, None, Err, IfSome, refl, sym, ◌∙◌, ap, subst, arith}
+use Rattle.std.proofs.Common.{◌≡◌, ◌⊎◌, inl, inr, ℕ, ◌+◌, ◌*◌, ◌<◌, ◌≤◌, List, [], ◌∷◌, ◌++◌, length, Bool, true, Option, Some, None, Ok, Err, IfSome, refl, sym, ◌∙◌, ap, subst, arith}
 use Rattle.std.proofs.lemmas.Bool.{and_parts}
 use Rattle.std.proofs.lemmas.List.{length-append}
 use Rattle.std.proofs.lemmas.List.Sums.{sum_by-cons, sum_by-append}
@@ -24,6 +24,7 @@ use Rattle.cc_build.specs.Stage.Stage.{Calls, Asks, Tries, RunsOne, RunsAll}
 use Rattle.cc_build.specs.Stop.{stop_error, missing_error, failed_error, unstarted_error, fault_error}
 use Rattle.cc_build.specs.Went.{Terms, Means, Tried, Did, Went, IsOf, Stops, Halts, Halted}
 use Rattle.cc_build.specs.declared.error.ErrorKind.TheVariants.{TurnsSpent as SpendsTurns}
+use Rattle.cc_build.proofs.RanLaws.{all_turned, all_later, all_bound, all_enough, one_turned, one_bound, one_enough}
 use Rattle.cc_build.proofs.RunLaws.{commands_then}
 use Rattle.cc_build.proofs.Trying.{done_of, done_sole, broken_of, broken_sole, sole_turns}
 
@@ -78,8 +79,8 @@ did_turns t (Tries refused p) part x y d =
     let none : turns part ≡ 0 = tried_turns t p refused part d.0 in
     let same : y.left ≡ x.left = ap (λ m. m.left) d.1 in
     omega arith
-did_turns t (RunsOne p) part x y d = d.turned
-did_turns t (RunsAll ps) part x y d = d.turned
+did_turns t (RunsOne p) part x y d = one_turned t p part (Ok tt) x y d
+did_turns t (RunsAll ps) part x y d = all_turned t ps part (Ok tt) x y d
 
 -- the turns of the stages are taken from those that are left
 pub went_turns : (t : Terms) (stages : List Stage) (part : List Event) (x y : Means) → Went t stages part x y → y.left + turns part ≡ x.left
@@ -106,8 +107,8 @@ stops_turns t (Tries refused p) part e x y d =
     let none : turns part ≡ 0 = sole_turns part (broken_sole p part (broken_of t.shows p part d.0 d.1.0 d.1.1)) in
     let same : y.left ≡ x.left = ap (λ m. m.left) d.1.3 in
     omega arith
-stops_turns t (RunsOne p) part e x y d = d.1.0.turned
-stops_turns t (RunsAll ps) part e x y d = d.1.0.turned
+stops_turns t (RunsOne p) part e x y d = one_turned t p part (Err d.0) x y d.1.0
+stops_turns t (RunsAll ps) part e x y d = all_turned t ps part (Err d.0) x y d.1.0
 
 unmoved_turns : (part : List Event) (x y : Means) → part ≡ [] → y ≡ x → y.left + turns part ≡ x.left
 unmoved_turns part x y none is =
@@ -135,7 +136,7 @@ did_faults t (Calls step) part x y d = let same : y.faults ≡ x.faults = ap (λ
 did_faults t Asks part x y d = let same : y.faults ≡ x.faults = ap (λ m. m.faults) d.1 in omega arith
 did_faults t (Tries refused p) part x y d = let same : y.faults ≡ x.faults = ap (λ m. m.faults) d.1 in omega arith
 did_faults t (RunsOne p) part x y d = let same : y.faults ≡ x.faults = d.seat.0 in omega arith
-did_faults t (RunsAll ps) part x y d = d.later
+did_faults t (RunsAll ps) part x y d = all_later t ps part (Ok tt) x y d
 
 -- the count of faults never falls
 pub went_faults : (t : Terms) (stages : List Stage) (part : List Event) (x y : Means) → Went t stages part x y → x.faults ≤ y.faults
@@ -150,7 +151,7 @@ stops_faults t (Calls step) part e x y d = let same : y.faults ≡ x.faults = ap
 stops_faults t Asks part e x y d = let same : y.faults ≡ x.faults = ap (λ m. m.faults) d.2 in omega arith
 stops_faults t (Tries refused p) part e x y d = let same : y.faults ≡ x.faults = ap (λ m. m.faults) d.1.3 in omega arith
 stops_faults t (RunsOne p) part e x y d = let same : y.faults ≡ x.faults = d.1.0.seat.0 in omega arith
-stops_faults t (RunsAll ps) part e x y d = d.1.0.later
+stops_faults t (RunsAll ps) part e x y d = all_later t ps part (Err d.0) x y d.1.0
 
 halts_faults : (t : Terms) (refusal : Option ErrorSeen) (stages : List Stage) (part : List Event) (e : ErrorSeen) (x y : Means) → Halts t refusal stages part e x y → x.faults ≤ y.faults
 halts_faults t refusal [] part e x y h = let same : y.faults ≡ x.faults = ap (λ m. m.faults) h.2 in omega arith
@@ -179,8 +180,8 @@ module _ (t : Terms) (total p : ℕ) (owned : t.total ≡ Some total) (patient :
   did_bound (Calls step) part x y d = let none : turns part ≡ 0 = ap turns d.1.0 ∙ step_turns step d.0 d.1.1 in omega arith
   did_bound Asks part x y d = let none : turns part ≡ 0 = asked_turns part d.0 in omega arith
   did_bound (Tries refused c) part x y d = let none : turns part ≡ 0 = tried_turns t c refused part d.0 in omega arith
-  did_bound (RunsOne c) part x y d = bounded t.patience p 1 part patient d.bound
-  did_bound (RunsAll ps) part x y d = bounded t.patience p (length ps) part patient (where_some (λ _. Bounded t.patience (length ps) part) t.total total owned d.bound)
+  did_bound (RunsOne c) part x y d = bounded t.patience p 1 part patient (one_bound t c part (Ok tt) x y d)
+  did_bound (RunsAll ps) part x y d = bounded t.patience p (length ps) part patient (where_some (λ _. Bounded t.patience (length ps) part) t.total total owned (all_bound t ps part (Ok tt) x y d))
 
   stages_bound : (stages : List Stage) (part : List Event) (x y : Means) → Went t stages part x y → turns part ≤ p * length (commands_in stages)
   stages_bound [] part x y w = let none : turns part ≡ 0 = ap turns w.0 in omega arith
@@ -243,10 +244,10 @@ module _ (t : Terms) (total p : ℕ) (owned : t.total ≡ Some total) (patient :
   stops_bound (Tries refused c) part e x y d h = absurd (not_tried c part d.0 (run_kind (c ∷ []) d.0 (spends (run_error (c ∷ []) d.0) e h d.1.2)) d.1.1)
   stops_bound (RunsOne c) part e x y d h =
       let is : d.0 ≡ TurnsSpent = run_kind (c ∷ []) d.0 (spends (run_error (c ∷ []) d.0) e h d.1.1) in
-      unspent t.patience p 1 part patient (d.1.0.enough (ap Err is))
+      unspent t.patience p 1 part patient (one_enough t c part (Err d.0) x y d.1.0 (ap Err is))
   stops_bound (RunsAll ps) part e x y d h =
       let is : d.0 ≡ TurnsSpent = run_kind ps d.0 (spends (run_error ps d.0) e h d.1.1) in
-      unspent t.patience p (length ps) part patient (where_some (λ _. Unspent t.patience (length ps) part) t.total total owned (d.1.0.enough (ap Err is)))
+      unspent t.patience p (length ps) part patient (where_some (λ _. Unspent t.patience (length ps) part) t.total total owned (all_enough t ps part (Err d.0) x y d.1.0 (ap Err is)))
 
   unspent_refusal : (refusal : Option ErrorSeen) (e : ErrorSeen) → ((e' : ErrorSeen) → refusal ≡ Some e' → e'.kind ≡ SpendsTurns → ⊥) → (e ≡ no_memory) ⊎ (refusal ≡ Some e) → e.kind ≡ SpendsTurns → ⊥
   unspent_refusal refusal e other (inl memory) h = let k : no_memory.kind ≡ SpendsTurns = ap (λ o. o.kind) (sym memory) ∙ h in cc

@@ -1,12 +1,12 @@
 -- A part in which a command failed, and one in which the host did.
-use Rattle.std.specs.Prelude.{◌≡◌, ◌≢◌, ◌⊎◌, List, [], ◌∷◌, None, Bool, true, false, not, if◌then◌else◌}
+use Rattle.std.specs.Prelude.{◌≡◌, ◌≢◌, ◌⊎◌, List, [], ◌∷◌, Bool, true, false, not, if◌then◌else◌}
 use Rattle.std.specs.List.{list_any}
 use Rattle.cc_host.specs.Part.{is_probing}
 use Rattle.cc_host.specs.declared.event.Event.{Event}
 use Rattle.cc_host.specs.Status.{is_success}
 use Rattle.cc_host.specs.declared.event.Event.TheVariants.{Fault, Ran, Missing}
 use Rattle.cc_run.specs.Part.{missing}
-use Rattle.cc_run.specs.Run.{run_from, nothing}
+use Rattle.cc_build.specs.Children.{has_failure}
 use Rattle.cc_build.specs.Order.{is_archive_role}
 
 -- a command was run to another end than 0
@@ -32,7 +32,7 @@ unforgiven one_form part = if one_form then part else form_aside part
 -- The first form of the archive aside, where there are two, some command of the part is missing, was started in it and ended with another status
 -- than 0, or was run to such an end.
 abbrev pub Failed : Bool → List Event → Type 0
-Failed one_form part = (missing (unforgiven one_form part) ≢ []) ⊎ (((run_from nothing part).failed ≢ None) ⊎ (list_any ran_badly (unforgiven one_form part) ≡ true))
+Failed one_form part = (missing (unforgiven one_form part) ≢ []) ⊎ ((has_failure part ≡ true) ⊎ (list_any ran_badly (unforgiven one_form part) ≡ true))
 
 -- a fault, but one of what a question wants
 abbrev pub is_fault : Event → Bool

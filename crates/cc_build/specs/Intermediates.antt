@@ -1,5 +1,5 @@
 -- A run that compiles the sources alone: their objects are made, and nothing is archived or linked.
-use Rattle.std.specs.Prelude.{◌≡◌, Bool, true, false, not, List, [], ◌∷◌, ◌++◌, length, Option, Result, OnOk, is_some, if◌then◌else◌}
+use Rattle.std.specs.Prelude.{◌≡◌, Bool, true, false, not, List, [], ◌∷◌, ◌++◌, Option, Result, OnOk, is_some, if◌then◌else◌}
 use Rattle.std.specs.Option.{option_map}
 use Rattle.cc_env.specs.Env.{EnvSeen}
 use Rattle.cc_host.specs.Question.{Look}
@@ -13,9 +13,8 @@ use Rattle.cc_flags.specs.Given.{first_of}
 use Rattle.cc_flags.specs.declared.settings.BuildConfig.{BuildConfig}
 use Rattle.cc_run.specs.Part.{started}
 use Rattle.cc_run.specs.Planned.{asked}
-use Rattle.cc_run.specs.Run.{run_from, nothing}
 use Rattle.cc_build.specs.Build.{BuildSeen}
-use Rattle.cc_build.specs.Built.{ended_well}
+use Rattle.cc_build.specs.Children.{AllWell}
 use Rattle.cc_build.specs.Course.{Course}
 use Rattle.cc_build.specs.Error.{ErrorSeen}
 use Rattle.cc_build.specs.Promises.{terms_for}
@@ -48,7 +47,7 @@ IntermediateEnds b listens result look part c =
 -- one planned compile command per source was started, in the order added, and nothing else; and each of them has ended with 0
 pub record Compiled (t : Terms) (b : BuildSeen) (look : Look) (part : List Event) : Type 0 where
   pub compiles : started part ≡ asked t.shows (planned Compile (compiles_of b.config b.env look))
-  pub ended : run_from nothing part ≡ ended_well (length (compiles_of b.config b.env look))
+  pub ended : AllWell part
   pub runs : List Event
   pub lines : List Event
   pub cut : part ≡ runs ++ lines

@@ -3,6 +3,7 @@ pub mod Attempts
 pub mod Build
 pub mod Built
 pub mod Captured
+pub mod Children
 pub mod Compiler
 pub mod Course
 pub mod Error

@@ -1,22 +1,21 @@
 -- What a part says of the stages of a run.
-use Rattle.std.specs.Prelude.{◌≡◌, ◌⊎◌, ◌≤◌, ◌+◌, ℕ, Bool, true, false, List, [], ◌∷◌, ◌++◌, Option, Some, None, IfSome, is_some, length, Result, Ok, Err}
+use Rattle.std.specs.Prelude.{◌≡◌, ◌⊎◌, ◌≤◌, ℕ, Bool, true, false, List, [], ◌∷◌, ◌++◌, Option, Some, None, IfSome, is_some, Result, Ok, Err}
 use Rattle.std.specs.List.{list_all}
 use Rattle.cc_host.specs.Part.{step_of, Refuses}
 use Rattle.cc_host.specs.declared.event.Event.{Event}
-use Rattle.cc_jobs.specs.Seats.{Rose}
 use Rattle.cc_run.specs.Children.{nothing_kept}
-use Rattle.cc_run.specs.Own.{is_of_run}
-use Rattle.cc_run.specs.Part.{turns}
+use Rattle.cc_run.specs.Listed.{listed_plan}
 use Rattle.cc_run.specs.Output.{IsSilentRun}
-use Rattle.cc_run.specs.Patience.{Bounded, Unspent}
-use Rattle.cc_run.specs.Planned.{asked}
 use Rattle.cc_run.specs.Printing.{IsPrinted}
-use Rattle.cc_run.specs.Solo.{IsSolo}
-use Rattle.cc_run.specs.Whole.{IsRun}
+use Rattle.cc_run.specs.Rules.{Rules, rules, lone_rules}
+use Rattle.cc_run.specs.Seat.{SeatSeen}
+use Rattle.cc_run.specs.State.{State}
+use Rattle.cc_run.specs.Whole.{RanList}
 use Rattle.cc_run.specs.declared.error.RunError.{RunError}
-use Rattle.cc_run.specs.declared.error.RunError.TheVariants.{ToolNotFound, Failed, TurnsSpent, JobFault}
+use Rattle.cc_run.specs.declared.error.RunError.TheVariants.{ToolNotFound, Failed}
 use Rattle.cc_run.specs.declared.planned.Planned.{Planned}
 use Rattle.cc_run.specs.declared.planned.Shows.{Shows}
+use Rattle.cc_run.specs.declared.planned.Turns.{Turns}
 use Rattle.cc_tool.specs.Probing.{is_asked}
 use Rattle.cc_build.specs.Error.{ErrorSeen, no_memory}
 use Rattle.cc_build.specs.RunErrors.{run_error}
@@ -43,29 +42,47 @@ terms shows total patience = record { shows = shows; total = total; patience = p
 abbrev pub means : ℕ → ℕ → ℕ → ℕ → Means
 means left faults taken load = record { left = left; faults = faults; taken = taken; load = load }
 
--- these commands were run beside each other: each start is paid for, the turns are counted, and the lines are those that its events give
+-- the rules by which commands run beside each other: each under a token, and a failure is warned of
+abbrev pub beside_rules : Terms → List Planned → Rules
+beside_rules t ps = rules (listed_plan t.shows.stop ps) t.shows
+
+-- the rules by which a command runs alone: without a token, and a failure is no warning
+abbrev pub alone_rules : Terms → Planned → Rules
+alone_rules t p = lone_rules (listed_plan false (p ∷ [])) t.shows
+
+-- a seat that holds nothing, with these counts
+abbrev pub idle_seat : Option ℕ → Means → SeatSeen
+idle_seat total x = record { held = 0; total = total; taken = x.taken; load = x.load; faults = x.faults }
+
+-- the turns that are left, and how many were made
+abbrev pub turns_at : Means → ℕ → Turns
+turns_at x used = record { left = x.left; used = used }
+
+-- a run of which nothing was started
+abbrev pub begins : Terms → List Event → SeatSeen → Turns → State
+begins t log seat turns = record { log = log; patience = t.patience; kept = nothing_kept; seat = seat; turns = turns }
+
+-- these commands were run beside each other, from a log on by this part, and the lines are those that its events give
 pub record RanAll (t : Terms) (ps : List Planned) (part : List Event) (result : Result (Unit {0}) RunError) (x y : Means) : Type 0 where
   pub log : List Event
-  pub run : IsRun t.total (asked t.shows ps) log (log ++ part) result x.taken x.load y.taken y.load
-  pub own : list_all is_of_run part ≡ true
-  pub turned : y.left + turns part ≡ x.left
-  pub spent : result ≡ Err TurnsSpent → y.left ≡ 0
-  pub bound : IfSome t.total (λ _. Bounded t.patience (length ps) part)
-  pub enough : result ≡ Err TurnsSpent → IfSome t.total (λ _. Unspent t.patience (length ps) part)
-  pub lines : IsPrinted t.shows true ps nothing_kept result part
-  pub later : x.faults ≤ y.faults
-  pub job_fault : result ≡ Err JobFault → Rose x.faults y.faults
+  pub before : ℕ
+  pub behind : ℕ
+  pub least : IfSome t.patience (λ most. 1 ≤ most)
+  pub run : RanList (beside_rules t ps) t.total (begins t log (idle_seat t.total x) (turns_at x before)) result (log ++ part) t.patience
+      (idle_seat t.total y) (turns_at y behind)
+  pub lines : IsPrinted (beside_rules t ps) nothing_kept result part
 
--- this command was run alone: it takes no token, and a failure is no warning
+-- this command was run alone, on a seat of a pool of one, which never fails
 pub record RanOne (t : Terms) (p : Planned) (part : List Event) (result : Result (Unit {0}) RunError) (x y : Means) : Type 0 where
   pub log : List Event
-  pub run : IsSolo (asked t.shows (p ∷ [])) log (log ++ part) result
-  pub own : list_all is_of_run part ≡ true
-  pub turned : y.left + turns part ≡ x.left
-  pub spent : result ≡ Err TurnsSpent → y.left ≡ 0
-  pub bound : Bounded t.patience 1 part
-  pub enough : result ≡ Err TurnsSpent → Unspent t.patience 1 part
-  pub lines : IsPrinted t.shows false (p ∷ []) nothing_kept result part
+  pub before : ℕ
+  pub behind : ℕ
+  pub old : SeatSeen
+  pub new : SeatSeen
+  pub sound : (old.faults ≡ 0) × (new.faults ≡ 0)
+  pub least : IfSome t.patience (λ most. 1 ≤ most)
+  pub run : RanList (alone_rules t p) (Some 1) (begins t log old (turns_at x before)) result (log ++ part) t.patience new (turns_at y behind)
+  pub lines : IsPrinted (alone_rules t p) nothing_kept result part
   pub seat : (y.faults ≡ x.faults) × (y.taken ≡ x.taken) × (y.load ≡ x.load)
 
 -- the command is missing, or it ended with another status than 0

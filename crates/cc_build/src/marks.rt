@@ -175,6 +175,15 @@ impl<W: World> Build<W> {
         self.config.prefer_clang_cl_over_msvc = prefer_clang_cl_over_msvc;
     }
 
+    /// Sets whether a failure stops the run: no compile command is started after one ended with another status than 0, or with none, and
+    /// those that run are waited for. The error is that of the failure that came last, as ever. At first it is off: every source is
+    /// compiled, whichever failed. It takes no memory.
+    pub fn stop_on_failure(&mut self, stop_on_failure: bool)
+        ensures { Sets self.old self.new (λ c. record c { stop_on_failure = stop_on_failure }) }
+    {
+        self.config.stop_on_failure = stop_on_failure;
+    }
+
     /// Sets whether GCC and Clang keep frame pointers, by which profilers walk the stack: `-fno-omit-frame-pointer` (GCC's manual,
     /// "Options That Control Optimization"), and `-mno-omit-leaf-frame-pointer` where it is taken. Unset, they are kept where there is
     /// debug information. It takes no memory.

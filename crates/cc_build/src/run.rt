@@ -1,10 +1,8 @@
 // What the stages of a run ask of a host.
-ghost use Rattle.std.specs.Prelude.{◌≡◌, ◌+◌, ◌<◌, ◌≤◌, ◌^◌, [], ◌∷◌, length, IfOk};
-ghost use Rattle.std.specs.List.{All};
+ghost use Rattle.std.specs.Prelude.{◌≡◌, ◌+◌, ◌<◌, ◌^◌, [], ◌∷◌, IfOk};
 ghost use Rattle.cc_host.specs.Call.{part};
 ghost use Rattle.cc_host.specs.Part.Step.{Makes, Removes, Writes, Copies, Prints, Says, Lists};
 ghost use Rattle.cc_host.specs.declared.event.Event.TheVariants.{Listed};
-ghost use Rattle.cc_host.specs.declared.event.Role.TheVariants.{Compile};
 ghost use Rattle.cc_host.specs.declared.event.Scope.TheVariants.{Build};
 ghost use Rattle.cc_plan.specs.Link.{printed_line as line_of};
 ghost use Rattle.cc_run.specs.Keeping.{IsIdle};
@@ -55,6 +53,8 @@ pub(crate) fn run_alone<W: World, H: Host<W>>(
     ensures outcome { DoesAlone H.log H.patience turns.old.left turns.new.left host.old host.new
         reporting.shows (RunsOne cmd.now ∷ []) result }
 {
+    // (where the host tells its patience it is at least 1: a law of the log that is lent)
+    let _least = host.log();
     match run_one(reporting.alloc, host, turns, cmd, &reporting.shows) {
         Ok(()) => Ok(()),
         Err(e) => Err(Error::of_run(reporting.alloc, e, slice::from_ref(cmd))),
@@ -90,8 +90,8 @@ pub(crate) fn try_form<W: World, H: Host<W>>(
     }
 }
 
-/// Runs two commands or more beside each other, each under a token.
-#[tactic(auto, using(cc_host::proofs::Parts::since_append, crate::proofs::Running::own_asks_none))]
+/// Runs commands beside each other, each under a token.
+#[tactic(auto, using(cc_host::proofs::Parts::since_append))]
 pub(crate) fn run_together<W: World, H: Host<W>, J: Jobs>(
     reporting: Reporting,
     host: &mut H,
@@ -102,8 +102,6 @@ pub(crate) fn run_together<W: World, H: Host<W>, J: Jobs>(
 ) -> Result<(), Error>
     requires idle { IsIdle J.fits J.held jobs.now seat.old }
     requires few { turns.old.left + turns.old.used < 2 ^ 64 }
-    requires some { 2 ≤ length cmds.now }
-    requires compiles { All (λ p. p.role ≡ Compile) cmds.now }
     ensures idle { IsIdle J.fits J.held jobs.now seat.new }
     ensures total { J.total seat.new ≡ J.total seat.old }
     ensures aside { Aside H.log H.patience host.old host.new }
@@ -114,6 +112,8 @@ pub(crate) fn run_together<W: World, H: Host<W>, J: Jobs>(
         (Does reporting.shows (RunsAll cmds.now ∷ []) result) }
 {
     let Reporting { alloc, shows } = reporting;
+    // (where the host tells its patience it is at least 1: a law of the log that is lent)
+    let _least = host.log();
     match run_all(alloc, host, jobs, seat, turns, cmds, &shows) {
         Ok(()) => Ok(()),
         Err(e) => Err(Error::of_run(alloc, e, cmds)),

@@ -1,7 +1,5 @@
 // Compile commands that run beside each other.
-ghost use Rattle.std.specs.Prelude.{◌≡◌, ◌≤◌, vec_len};
-ghost use Rattle.std.specs.List.{All};
-ghost use Rattle.cc_host.specs.declared.event.Role.TheVariants.{Compile};
+ghost use Rattle.std.specs.Prelude.{◌≤◌, vec_len};
 
 use cc_run::Planned;
 
@@ -10,5 +8,4 @@ use cc_run::Planned;
 pub(crate) struct Several {
     pub cmds: Vec<Planned>,
     ghost several: { 2 ≤ vec_len cmds },
-    ghost compiles: { All (λ p. p.role ≡ Compile) cmds.items },
 }

@@ -43,7 +43,7 @@ fn output_kind(on: bool) -> OutputKind
     }
 }
 
-// What of a run the settings show, and the environment where they are silent, on a host that listens or not.
+// What of a run the settings show, and the environment where they are silent, on a host that listens or not, and whether a failure stops it.
 pub(crate) fn shows_of(set: &BuildConfig, env: &BuildEnv, listens: bool) -> Shows
     ensures { result ≡ shows_of set.now env.now listens }
 {
@@ -52,5 +52,6 @@ pub(crate) fn shows_of(set: &BuildConfig, env: &BuildEnv, listens: bool) -> Show
         debug: is_debug_on(set, env),
         out: output_kind(set.cargo_output),
         listens,
+        stop: set.stop_on_failure,
     }
 }

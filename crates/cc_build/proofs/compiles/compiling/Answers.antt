@@ -3,7 +3,6 @@ use Rattle.std.specs.Option.{option_copied}
 use Rattle.cc_build.specs.Seen.{stages_seen, compiles_by}
 use Rattle.cc_build.specs.Stage.{beside}
 use Rattle.cc_build.proofs.OpeningLaws.{nothing_in, something_in, no_compiles, some_compiles, whichever}
-use Rattle.cc_build.proofs.SourceLaws.{all_compile}
 use Rattle.cc_build.proofs.compiles.compiling.Goals as goal
 use Rattle.cc_build.proofs.compiles.compiling.Goals.{then-is_empty-via-then-is_empty, then-is_empty-via-else-is_empty+then-is_empty-2}
 
@@ -26,7 +25,6 @@ returns-in_err-cmds-clause-wanted c =
 pub invariant_of-push : goal.invariant_of-push
 invariant_of-push c = record {
   several = omega (arith, c.in_ok-cmds.cmds.ok.0);
-  compiles = all_compile _ c.args.objects.now c.args.cmds.now c.in_ok-cmds.cmds.items c.in_ok-cmds.ensures;
 }
 
 pub returns-then-len-lt2-clause-wanted : goal.returns-then-len-lt2-clause-wanted

@@ -1,41 +1,75 @@
-use Rattle.std.proofs.Common.{◌≡◌, ◌⊎◌, List, None, Ok, Err, refl, subst}
+use Rattle.std.proofs.Common.{◌≡◌, ◌⊎◌, List, Some, Ok, Err, refl, subst}
 use Rattle.cc_host.specs.Part.{since}
 use Rattle.cc_run.specs.declared.planned.Planned.{Planned}
 use Rattle.cc_build.specs.Error.{no_memory}
 use Rattle.cc_build.specs.RunErrors.{run_error}
-use Rattle.cc_build.specs.Went.{terms, means}
-use Rattle.cc_build.proofs.Running.{own_asks_none, solo_extends, ran_one, alone_done, alone_refused}
+use Rattle.cc_build.specs.Went.{terms, means, alone_rules, begins, turns_at}
+use Rattle.cc_build.proofs.Running.{ran_one, list_extends, list_patient, list_asks_none, list_sum, alone_done, alone_refused}
 use Rattle.cc_build.proofs.run.run_alone.Goals as goal
 
 pub returns-in-Ok-clause-outcome : goal.returns-in-Ok-clause-outcome
 returns-in-Ok-clause-outcome g c = λ total faults taken load.
     let t = terms c.args.reporting.shows total (g.H.Host.patience c.args.host.now) in
+    let old = g.H.Host.log c.args.host.now in
+    let new = g.H.Host.log c.run_one.new.host in
     let x = means c.args.turns.now.left faults taken load in
-    let y = means c.run_one.new.turns.left faults taken load in (
+    let y = means c.run_one.new.turns.left faults taken load in
+    let ran = c.in-Ok.ensures.ran in (
       refl,
-      alone_done t c.args.cmd.now (since (g.H.Host.log c.args.host.now) (g.H.Host.log c.run_one.new.host)) x y
-          (ran_one t c.args.cmd.now (g.H.Host.log c.args.host.now) (g.H.Host.log c.run_one.new.host) x y (Ok tt) c.in-Ok.ensures.outcome c.run_one.ensures.own c.run_one.ensures.turns.left c.in-Ok.ensures.spent c.run_one.ensures.bound c.in-Ok.ensures.enough (refl, refl, refl) c.in-Ok.ensures.lines),
+      alone_done t c.args.cmd.now (since old new) x y
+          (ran_one t c.args.cmd.now old new (g.H.Host.patience c.run_one.new.host) x y c.args.turns.now.used c.run_one.new.turns.used (Ok tt) ran.0 ran.1 (ran.2.0, ran.2.1) c.log-least.ensures.least ran.2.2 c.in-Ok.ensures.lines (refl, refl, refl)),
     )
 
 pub returns-in-Err-clause-outcome : goal.returns-in-Err-clause-outcome
 returns-in-Err-clause-outcome g c = λ total faults taken load.
     let t = terms c.args.reporting.shows total (g.H.Host.patience c.args.host.now) in
+    let old = g.H.Host.log c.args.host.now in
+    let new = g.H.Host.log c.run_one.new.host in
     let x = means c.args.turns.now.left faults taken load in
     let y = means c.run_one.new.turns.left faults taken load in
-    alone_refused t c.args.cmd.now (since (g.H.Host.log c.args.host.now) (g.H.Host.log c.run_one.new.host)) x y c.in-Err.e c.of_run.result
-    (ran_one t c.args.cmd.now (g.H.Host.log c.args.host.now) (g.H.Host.log c.run_one.new.host) x y (Err c.in-Err.e) c.in-Err.ensures.outcome c.run_one.ensures.own c.run_one.ensures.turns.left c.in-Err.ensures.spent c.run_one.ensures.bound c.in-Err.ensures.enough (refl, refl, refl) c.in-Err.ensures.lines)
+    let ran = c.in-Err.ensures.ran in
+    alone_refused t c.args.cmd.now (since old new) x y c.in-Err.e c.of_run.result
+    (ran_one t c.args.cmd.now old new (g.H.Host.patience c.run_one.new.host) x y c.args.turns.now.used c.run_one.new.turns.used (Err c.in-Err.e) ran.0 ran.1 (ran.2.0, ran.2.1) c.log-least.ensures.least ran.2.2 c.in-Err.ensures.lines (refl, refl, refl))
     (subst (λ (l : List Planned). (c.of_run.result ≡ run_error l c.in-Err.e) ⊎ (c.of_run.result ≡ no_memory)) c.from_ref.ensures.value c.of_run.ensures)
 
 pub returns-in-Ok-clause-aside : goal.returns-in-Ok-clause-aside
-returns-in-Ok-clause-aside g c = record {
-  patient = c.run_one.ensures.patient;
-  extends = solo_extends c.args.cmd.now (terms c.args.reporting.shows None None) (g.H.Host.log c.args.host.now) (g.H.Host.log c.run_one.new.host) (Ok tt) c.in-Ok.ensures.outcome;
-  asks_none = own_asks_none (since (g.H.Host.log c.args.host.now) (g.H.Host.log c.run_one.new.host)) c.run_one.ensures.own;
-}
+returns-in-Ok-clause-aside g c =
+    let t = terms c.args.reporting.shows (Some 1) (g.H.Host.patience c.args.host.now) in
+    let x = means c.args.turns.now.left 0 0 0 in
+    let y = means c.run_one.new.turns.left 0 0 0 in
+    let ran = c.in-Ok.ensures.ran in
+    let old = begins t (g.H.Host.log c.args.host.now) ran.0 (turns_at x c.args.turns.now.used) in
+    record {
+      patient = list_patient (alone_rules t c.args.cmd.now) (Some 1) old (Ok tt) (g.H.Host.log c.run_one.new.host) (g.H.Host.patience c.run_one.new.host) ran.1 (turns_at y c.run_one.new.turns.used) ran.2.2;
+      extends = list_extends (alone_rules t c.args.cmd.now) (Some 1) old (Ok tt) (g.H.Host.log c.run_one.new.host) (g.H.Host.patience c.run_one.new.host) ran.1 (turns_at y c.run_one.new.turns.used) ran.2.2;
+      asks_none = list_asks_none (alone_rules t c.args.cmd.now) (Some 1) old (Ok tt) (g.H.Host.log c.run_one.new.host) (g.H.Host.patience c.run_one.new.host) ran.1 (turns_at y c.run_one.new.turns.used) ran.2.2;
+    }
 
 pub returns-in-Err-clause-aside : goal.returns-in-Err-clause-aside
-returns-in-Err-clause-aside g c = record {
-  patient = c.run_one.ensures.patient;
-  extends = solo_extends c.args.cmd.now (terms c.args.reporting.shows None None) (g.H.Host.log c.args.host.now) (g.H.Host.log c.run_one.new.host) (Err c.in-Err.e) c.in-Err.ensures.outcome;
-  asks_none = own_asks_none (since (g.H.Host.log c.args.host.now) (g.H.Host.log c.run_one.new.host)) c.run_one.ensures.own;
-}
+returns-in-Err-clause-aside g c =
+    let t = terms c.args.reporting.shows (Some 1) (g.H.Host.patience c.args.host.now) in
+    let x = means c.args.turns.now.left 0 0 0 in
+    let y = means c.run_one.new.turns.left 0 0 0 in
+    let ran = c.in-Err.ensures.ran in
+    let old = begins t (g.H.Host.log c.args.host.now) ran.0 (turns_at x c.args.turns.now.used) in
+    record {
+      patient = list_patient (alone_rules t c.args.cmd.now) (Some 1) old (Err c.in-Err.e) (g.H.Host.log c.run_one.new.host) (g.H.Host.patience c.run_one.new.host) ran.1 (turns_at y c.run_one.new.turns.used) ran.2.2;
+      extends = list_extends (alone_rules t c.args.cmd.now) (Some 1) old (Err c.in-Err.e) (g.H.Host.log c.run_one.new.host) (g.H.Host.patience c.run_one.new.host) ran.1 (turns_at y c.run_one.new.turns.used) ran.2.2;
+      asks_none = list_asks_none (alone_rules t c.args.cmd.now) (Some 1) old (Err c.in-Err.e) (g.H.Host.log c.run_one.new.host) (g.H.Host.patience c.run_one.new.host) ran.1 (turns_at y c.run_one.new.turns.used) ran.2.2;
+    }
+
+pub returns-in-Ok-clause-sum : goal.returns-in-Ok-clause-sum
+returns-in-Ok-clause-sum g c =
+    let t = terms c.args.reporting.shows (Some 1) (g.H.Host.patience c.args.host.now) in
+    let x = means c.args.turns.now.left 0 0 0 in
+    let y = means c.run_one.new.turns.left 0 0 0 in
+    let ran = c.in-Ok.ensures.ran in
+    list_sum (alone_rules t c.args.cmd.now) (Some 1) (begins t (g.H.Host.log c.args.host.now) ran.0 (turns_at x c.args.turns.now.used)) (Ok tt) (g.H.Host.log c.run_one.new.host) (g.H.Host.patience c.run_one.new.host) ran.1 (turns_at y c.run_one.new.turns.used) ran.2.2
+
+pub returns-in-Err-clause-sum : goal.returns-in-Err-clause-sum
+returns-in-Err-clause-sum g c =
+    let t = terms c.args.reporting.shows (Some 1) (g.H.Host.patience c.args.host.now) in
+    let x = means c.args.turns.now.left 0 0 0 in
+    let y = means c.run_one.new.turns.left 0 0 0 in
+    let ran = c.in-Err.ensures.ran in
+    list_sum (alone_rules t c.args.cmd.now) (Some 1) (begins t (g.H.Host.log c.args.host.now) ran.0 (turns_at x c.args.turns.now.used)) (Err c.in-Err.e) (g.H.Host.log c.run_one.new.host) (g.H.Host.patience c.run_one.new.host) ran.1 (turns_at y c.run_one.new.turns.used) ran.2.2
