@@ -1,7 +1,7 @@
 -- What an archive alone answers, and what follows from it.
 use Rattle.cc_build.specs.Way.{all_firsts, Writing, writing_of}
 use Rattle.cc_plan.specs.Reruns.{rerun_names}
-use Rattle.std.proofs.Common.{◌≡◌, ◌⊎◌, inl, inr, ℕ, ◌+◌, ◌<◌, List, [], ◌∷◌, ◌++◌, length, map, Bool, true, false, if◌then◌else◌, is_some, Option, Some, None, option_map, Result, Ok, Err, refl, sym, ◌∙◌, ap, ap₂, subst, append_assoc, append-nil, zero-add, arith}
+use Rattle.std.proofs.Common.{◌≡◌, ◌⊎◌, inl, inr, ℕ, ◌+◌, ◌<◌, List, [], ◌∷◌, ◌++◌, length, map, Bool, true, false, if◌then◌else◌, is_some, Option, Some, None, option_map, Result, Ok, Err, refl, sym, ◌∙◌, ap, ap₂, subst, append_assoc, append-nil, arith}
 use Rattle.std.specs.Prelude.{◌≤◌, ◌*◌}
 use Rattle.std.proofs.Math.Nat.{mul-le-mul_left}
 use Rattle.cc_env.specs.Env.{EnvSeen}
@@ -31,7 +31,6 @@ use Rattle.cc_tool.specs.Asked.{question_events}
 use Rattle.cc_build.specs.Archiving.{archive_reads, unarchived_error}
 use Rattle.cc_build.specs.Attempts.{to_attempt}
 use Rattle.cc_build.specs.Build.{BuildSeen, AsksByRun, probes}
-use Rattle.cc_build.specs.Built.{ended_well as all_ended}
 use Rattle.cc_build.specs.Captured.{with_vars, Captures, CaptureEnds}
 use Rattle.cc_build.specs.Course.{Course, course_alone}
 use Rattle.cc_build.specs.Error.{ErrorSeen, no_memory}
@@ -47,7 +46,7 @@ use Rattle.cc_build.proofs.FormLaws.{FormFirst, formed_then, formed_unless, libr
 use Rattle.cc_build.proofs.Going.{called, part_is, halted_among, halted_more, halted_none, ends_then}
 use Rattle.cc_build.proofs.OrderLaws.{ended_partly, no_line_archives, no_note_archives}
 use Rattle.cc_build.proofs.RerunLaws.{name_commands, name_children}
-use Rattle.cc_build.proofs.RunLaws.{commands_then, commands_calls, commands_written, children_then, children_calls, children_written, went_started, went_run}
+use Rattle.cc_build.proofs.RunLaws.{commands_then, commands_calls, commands_written, children_then, children_calls, children_written, went_started, went_well}
 use Rattle.cc_build.proofs.SettledLaws.{went_attempts, partly_first}
 use Rattle.cc_build.proofs.SourceLaws.{AreNotes, ending_notes}
 use Rattle.cc_build.proofs.StopLaws.{ArePlain, plain_then, plain_lines, plain_notes, plain_unless, plain_library}
@@ -364,7 +363,7 @@ module _ (listens : Bool) (q : Request) (patience : Option ℕ) (turned : ℕ) (
       went = o.1;
       writes = went_attempts t stages run x y (alone_plain b listens writing look links q.0) o.1 ∙ ap (map to_attempt) (commands_are b listens writing look links q.0 o.0);
       others = went_started t stages run x y o.1 ∙ ap (asked (shows_of (alone b).config (alone b).env listens)) (children_are b listens writing look links q.0 o.0);
-      ended = went_run t stages run x y 0 o.1 ∙ ap all_ended (zero-add (length (children_in stages))) ∙ ap (λ l. all_ended (length l)) (children_are b listens writing look links q.0 o.0);
+      ended = went_well t stages run x y o.1;
     },
   )
   written_of (Err e) (inl printed) zero_is o = let s : ended.status ≡ 1 = ap (λ (v : Ended). v.status) printed.0 in absurd (cc)

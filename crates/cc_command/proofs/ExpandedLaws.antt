@@ -22,7 +22,6 @@ use Rattle.cc_plan.specs.Planned.{warnings_of}
 use Rattle.cc_flags.specs.Given.{first_of}
 use Rattle.cc_plan.specs.Reruns.{rerun_names}
 use Rattle.cc_run.specs.Part.{missing, missing_of}
-use Rattle.cc_run.specs.Run.{Run, nothing}
 use Rattle.cc_run.specs.declared.planned.Planned.{Planned}
 use Rattle.cc_tool.proofs.Asides.{asked_around, asked_none, none_then}
 use Rattle.cc_tool.proofs.SomeLemmas.{some_agree}
@@ -61,7 +60,7 @@ use Rattle.cc_command.specs.declared.words.Job.TheVariants.{Compile, Archive, Ge
 use Rattle.cc_command.proofs.ArchivedLaws.{says_last, says_line}
 use Rattle.cc_command.proofs.PromiseLaws.{faults_behind, known_memory}
 use Rattle.cc_build.proofs.PrintedLaws.{IsChildless, is_told, told_printed, told_warned, told_refused, or_false, neither, childless_then, calls_outcome}
-use Rattle.cc_command.proofs.ShownLaws.{childless_line, childless_run, outcome_partly, partly_faults, stopped_fault}
+use Rattle.cc_command.proofs.ShownLaws.{childless_line, childless_settled, outcome_partly, partly_faults, stopped_fault}
 
 -- ---- parts in which no command is attempted
 
@@ -471,7 +470,7 @@ module _ (listens : Bool) (steady : Bool) (world : Question → Verdicts) (b : B
 
     pub expanded_settled : NothingRuns part
     expanded_settled =
-        ap (λ (r : Run). r.live) (childless_run part nothing (ap (list_any is_of_children) s.cut ∙ childless_then s.run s.line s.childless (childless_line s.line its_line)))
+        childless_settled part (ap (list_any is_of_children) s.cut ∙ childless_then s.run s.line s.childless (childless_line s.line its_line))
 
     lists_sole : (r : Result (Unit {0}) ErrorSeen) (look : Look) → ListsThenExpands listens b r look s.run → IsSole (expansion_in (listed_build b part) look) s.run
     lists_sole r look k =

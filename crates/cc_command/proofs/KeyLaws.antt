@@ -58,9 +58,9 @@ unfolding is_choice_key
 no_choice_key key n1 n2 n3 n4 n5 n6 n7 n8 n9 n10 = rw (is_not key "shared_flag" n1, is_not key "static_flag" n2, is_not key "warnings" n3, is_not key "extra_warnings" n4, is_not key "pic" n5, is_not key "use_plt" n6, is_not key "static_crt" n7, is_not key "shell_escaped_flags" n8, is_not key "force_frame_pointer" n9, is_not key "cargo_debug" n10) refl
 
 -- a key that is none of these is no such key
-pub no_switch_key : (key : List ℕ) → (key ≡ codes "no_default_flags" → ⊥) → (key ≡ codes "reproducible_codeview" → ⊥) → (key ≡ codes "cpp" → ⊥) → (key ≡ codes "warnings_into_errors" → ⊥) → (key ≡ codes "cpp_link_stdlib_static" → ⊥) → (key ≡ codes "cargo_metadata" → ⊥) → (key ≡ codes "cargo_warnings" → ⊥) → (key ≡ codes "cargo_output" → ⊥) → (key ≡ codes "emit_rerun_if_env_changed" → ⊥) → (key ≡ codes "prefer_clang_cl_over_msvc" → ⊥) → (key ≡ codes "inherit_rustflags" → ⊥) → (key ≡ codes "inherit_trim_paths" → ⊥) → is_switch_key key ≡ false
+pub no_switch_key : (key : List ℕ) → (key ≡ codes "no_default_flags" → ⊥) → (key ≡ codes "reproducible_codeview" → ⊥) → (key ≡ codes "cpp" → ⊥) → (key ≡ codes "warnings_into_errors" → ⊥) → (key ≡ codes "cpp_link_stdlib_static" → ⊥) → (key ≡ codes "cargo_metadata" → ⊥) → (key ≡ codes "cargo_warnings" → ⊥) → (key ≡ codes "cargo_output" → ⊥) → (key ≡ codes "emit_rerun_if_env_changed" → ⊥) → (key ≡ codes "prefer_clang_cl_over_msvc" → ⊥) → (key ≡ codes "stop_on_failure" → ⊥) → (key ≡ codes "inherit_rustflags" → ⊥) → (key ≡ codes "inherit_trim_paths" → ⊥) → is_switch_key key ≡ false
 unfolding is_switch_key
-no_switch_key key n1 n2 n3 n4 n5 n6 n7 n8 n9 n10 n11 n12 = rw (is_not key "no_default_flags" n1, is_not key "reproducible_codeview" n2, is_not key "cpp" n3, is_not key "warnings_into_errors" n4, is_not key "cpp_link_stdlib_static" n5, is_not key "cargo_metadata" n6, is_not key "cargo_warnings" n7, is_not key "cargo_output" n8, is_not key "emit_rerun_if_env_changed" n9, is_not key "prefer_clang_cl_over_msvc" n10, is_not key "inherit_rustflags" n11, is_not key "inherit_trim_paths" n12) refl
+no_switch_key key n1 n2 n3 n4 n5 n6 n7 n8 n9 n10 n11 n12 n13 = rw (is_not key "no_default_flags" n1, is_not key "reproducible_codeview" n2, is_not key "cpp" n3, is_not key "warnings_into_errors" n4, is_not key "cpp_link_stdlib_static" n5, is_not key "cargo_metadata" n6, is_not key "cargo_warnings" n7, is_not key "cargo_output" n8, is_not key "emit_rerun_if_env_changed" n9, is_not key "prefer_clang_cl_over_msvc" n10, is_not key "stop_on_failure" n11, is_not key "inherit_rustflags" n12, is_not key "inherit_trim_paths" n13) refl
 
 -- a key of no kind is unknown
 pub unknown_key : (old : BuildSeen) (key value : List ℕ) → is_text_key key ≡ false → is_item_key key ≡ false → is_choice_key key ≡ false → is_switch_key key ≡ false → (key ≡ codes "opt_level" → ⊥) → (key ≡ codes "debug" → ⊥) → (key ≡ codes "env" → ⊥) → (key ≡ codes "remap_source_path" → ⊥) → SetsKey old old key value (Some UnknownKey)

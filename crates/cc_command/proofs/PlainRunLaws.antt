@@ -1,17 +1,17 @@
 -- A run whose log is plain: none of its commands failed or is missing, its host didn't fault, and the first form of its archive was taken.
-use Rattle.std.proofs.Common.{◌≡◌, ◌∙◌, inl, inr, refl, sym, ap, ℕ, List, [], ◌∷◌, ◌++◌, Bool, true, false, not, ◌&&◌, Option, Some, None, if◌then◌else◌}
+use Rattle.std.proofs.Common.{◌≡◌, ◌∙◌, inl, inr, refl, sym, ap, List, [], ◌∷◌, ◌++◌, Bool, true, false, not, ◌&&◌, ◌||◌, if◌then◌else◌}
 use Rattle.std.specs.List.{list_all, list_any}
 use Rattle.std.proofs.lemmas.Bool.{and_parts, false≢true}
 use Rattle.std.proofs.lemmas.List.Folds.{list_all-append}
+use Rattle.cc_host.specs.Children.{Live, live_after}
 use Rattle.cc_host.specs.Status.{is_success}
 use Rattle.cc_host.specs.declared.event.Event.{Event}
-use Rattle.cc_host.specs.declared.event.Event.TheVariants.{Started, Ended, Abandoned, Ran, Missing, Fault}
-use Rattle.cc_host.specs.declared.event.Status.{Status}
+use Rattle.cc_host.specs.declared.event.Event.TheVariants.{Ended, Ran, Missing, Fault}
 use Rattle.cc_run.specs.Part.{missing}
-use Rattle.cc_run.specs.Run.{Run, nothing, failed_at, place_of, run_after, run_from}
 use Rattle.cc_run.specs.declared.planned.Planned.{Planned}
 use Rattle.cc_hosts.specs.Plain.{is_plain, IsPlainLog}
 use Rattle.cc_build.specs.Attempts.{all_tried, first_tried}
+use Rattle.cc_build.specs.Children.{runs, fails, fails_from}
 use Rattle.cc_build.specs.Failed.{ran_badly, is_form, form_aside, unforgiven, Failed, is_fault, HasFault}
 
 -- the first event, and the others
@@ -30,18 +30,20 @@ none_badly (Ran role cmd pipes status out err ∷ part) p =
     rw cut.0 (none_badly part cut.1)
 none_badly (event ∷ part) p = none_badly part (plain_cut event part p).1
 
-none_failed : (r : Run) (part : List Event) → r.failed ≡ None → IsPlainLog part → (run_from r part).failed ≡ None
-none_failed r [] none p = none
-none_failed r (Ended id status ∷ part) none p =
+neither : (a b : Bool) → a ≡ false → b ≡ false → (a || b) ≡ false
+neither true b p q = absurd (false≢true (sym p))
+neither false b p q = q
+
+sound_end : (live success : Bool) → success ≡ true → (live && not success) ≡ false
+sound_end true success well = ap not well
+sound_end false success well = refl
+
+none_fails : (live : List Live) (part : List Event) → IsPlainLog part → fails_from live part ≡ false
+none_fails live [] p = refl
+none_fails live (Ended id status ∷ part) p =
     let cut = plain_cut (Ended id status) part p in
-    none_failed (run_after r (Ended id status)) part (kept (place_of id r.live) status r.failed cut.0 none) cut.1
-  where
-    kept : (place : Option ℕ) (status : Status) (last : Option (ℕ × Status)) → is_success status ≡ true → last ≡ None → failed_at place status last ≡ None
-    kept None status last well none = none
-    kept (Some place) status last well none = rw well none
-none_failed r (Started id role cmd pipes held ∷ part) none p = none_failed (run_after r (Started id role cmd pipes held)) part none (plain_cut (Started id role cmd pipes held) part p).1
-none_failed r (Abandoned id ∷ part) none p = none_failed (run_after r (Abandoned id)) part none (plain_cut (Abandoned id) part p).1
-none_failed r (event ∷ part) none p = none_failed r part none (plain_cut event part p).1
+    neither (fails live (Ended id status)) (fails_from (live_after live (Ended id status)) part) (sound_end (runs id live) (is_success status) cut.0) (none_fails (live_after live (Ended id status)) part cut.1)
+none_fails live (event ∷ part) p = none_fails (live_after live event) part (plain_cut event part p).1
 
 plain_aside : (part : List Event) → IsPlainLog part → IsPlainLog (form_aside part)
 plain_aside [] p = refl
@@ -60,7 +62,7 @@ plain_unforgiven false part p = plain_aside part p
 -- no command failed or is missing
 pub plain_sound : (one_form : Bool) (part : List Event) → IsPlainLog part → Failed one_form part → ⊥
 plain_sound one_form part p (inl lost) = lost (no_missing (unforgiven one_form part) (plain_unforgiven one_form part p))
-plain_sound one_form part p (inr (inl failed)) = failed (none_failed nothing part refl p)
+plain_sound one_form part p (inr (inl failed)) = false≢true (sym (none_fails [] part p) ∙ failed)
 plain_sound one_form part p (inr (inr badly)) = false≢true (sym (none_badly (unforgiven one_form part) (plain_unforgiven one_form part p)) ∙ badly)
 
 none_faulted : (part : List Event) → IsPlainLog part → list_any is_fault part ≡ false

@@ -7,6 +7,7 @@ use Rattle.std.proofs.lemmas.Grind.{flat_map-append}
 use Rattle.std.proofs.lemmas.List.Sums.{sum_by-append}
 use Rattle.cc_plan.specs.Plan.{run_has_one_form}
 use Rattle.cc_env.specs.Env.{EnvSeen}
+use Rattle.cc_host.specs.Children.{live_from, running}
 use Rattle.cc_host.specs.Question.{Look}
 use Rattle.cc_host.specs.Part.{listings}
 use Rattle.cc_host.specs.Part.Step.{Lists}
@@ -20,9 +21,8 @@ use Rattle.cc_flags.specs.declared.settings.BuildConfig.{BuildConfig}
 use Rattle.cc_plan.specs.Valid.{Valid}
 use Rattle.cc_plan.proofs.ValidLaws.{early_accepted, late_accepted, archive_accepted, links_accepted}
 use Rattle.cc_run.specs.Part.{missing, missing_of, turns, turns_of}
-use Rattle.cc_run.specs.Run.{Run, run_from, nothing}
-use Rattle.cc_run.proofs.Runs.{run_from-append}
 use Rattle.cc_build.specs.Captured.{with_vars}
+use Rattle.cc_build.specs.Children.{fails_from, has_failure}
 use Rattle.cc_build.specs.Error.{ErrorSeen, no_memory}
 use Rattle.cc_build.specs.Course.{Course}
 use Rattle.cc_build.specs.Failed.{Failed, HasFault, is_fault, is_form, form_aside, unforgiven, ran_badly}
@@ -33,6 +33,7 @@ use Rattle.cc_build.specs.Stage.Stage.{Asks, Calls}
 use Rattle.cc_build.specs.Went.{Terms, Means, Halted, Partly, Goes}
 use Rattle.cc_build.specs.declared.error.ErrorKind.TheVariants.{TurnsSpent}
 use Rattle.cc_build.specs.Promises.{FaultsEnd}
+use Rattle.cc_build.proofs.ChildLaws.{fails_then}
 use Rattle.cc_build.proofs.OrderLaws.{NoArchive, planned, archives_behind, no_source_archives, went_partly, halted_partly}
 use Rattle.cc_build.proofs.PromiseLaws.{none_inside, fault_ends}
 use Rattle.cc_build.proofs.FormLaws.{FormFirst, planned_first, halted_cause}
@@ -156,14 +157,15 @@ turns_same part run line cut printed =
     let none : turns line ≡ 0 = no_turn line printed in
     omega arith
 
-pub no_child : (r : Run) (line : List Event) → IsLine line → run_from r line ≡ r
-no_child r line (inl none) = ap (run_from r) none
-no_child r line (inr (inl printed)) = ap (run_from r) printed.1
-no_child r line (inr (inr faulted)) = ap (run_from r) faulted.1
+-- it starts no child
+pub line_settled : (line : List Event) → IsLine line → running line ≡ []
+line_settled line (inl none) = ap running none
+line_settled line (inr (inl printed)) = ap running printed.1
+line_settled line (inr (inr faulted)) = ap running faulted.1
 
--- nor does it change what became of the commands
-pub run_same : (part run line : List Event) → part ≡ run ++ line → IsLine line → run_from nothing part ≡ run_from nothing run
-run_same part run line cut printed = ap (run_from nothing) cut ∙ run_from-append nothing run line ∙ no_child (run_from nothing run) line printed
+-- a failure before it is one with it
+pub failure_same : (part run line : List Event) → part ≡ run ++ line → has_failure run ≡ true → has_failure part ≡ true
+failure_same part run line cut failed = ap has_failure cut ∙ fails_then [] run line ∙ ap (λ b. b || fails_from (live_from [] run) line) failed
 
 -- ---- the sources are compiled first
 
@@ -322,7 +324,7 @@ module _ (t : Terms) (one_form : Bool) (refusal : Option ErrorSeen) (stages : Li
 
   failed_in : Failed one_form run → Failed one_form part
   failed_in (inl some) = inl (λ none. some (front_empty (missing (unforgiven one_form run)) (missing line) (sym (flat_map-append missing_of (unforgiven one_form run) line) ∙ sym (ap missing aside) ∙ none)))
-  failed_in (inr (inl some)) = inr (inl (λ none. some (sym (ap (λ (s : Run). s.failed) (run_same part run line cut printed)) ∙ none)))
+  failed_in (inr (inl some)) = inr (inl (failure_same part run line cut some))
   failed_in (inr (inr some)) = inr (inr (ap (list_any ran_badly) aside ∙ any_before ran_badly (unforgiven one_form run) line some))
 
   spent_of : (e.kind ≡ TurnsSpent) × (y.left ≡ 0) → EndsSpent x.left part ended

@@ -1,15 +1,16 @@
 -- No child runs behind a request, and its commands are the first of the planned ones.
 use Rattle.std.proofs.Common.{◌≡◌, inl, inr, ℕ, List, ◌∷◌, ◌++◌, map, Result, Ok, Err, sym, ◌∙◌, ap, append-nil, Bool}
 use Rattle.std.proofs.lemmas.Grind.{flat_map-append}
+use Rattle.cc_host.specs.Children.{running}
 use Rattle.cc_host.specs.Part.Step.{Lists}
 use Rattle.cc_host.specs.Question.{Look}
 use Rattle.cc_host.specs.declared.event.Event.{Event}
-use Rattle.cc_run.specs.Run.{Run, nothing}
 use Rattle.cc_build.specs.Attempts.{attempt_of, attempts, to_attempt}
 use Rattle.cc_build.specs.Captured.{with_vars}
 use Rattle.cc_build.specs.Stage.{Stage, commands_in, planned_stages}
 use Rattle.cc_build.specs.Went.{Terms, Means, Partly}
 use Rattle.cc_build.specs.Stage.Stage.{Calls}
+use Rattle.cc_build.proofs.ChildLaws.{running_behind}
 use Rattle.cc_build.proofs.SettledLaws.{partly_settled, partly_first}
 use Rattle.cc_build.proofs.StopLaws.{planned_plain}
 use Rattle.cc_build.specs.Course.{Course}
@@ -20,20 +21,17 @@ use Rattle.cc_command.specs.Read.{Request, Wish}
 use Rattle.cc_command.specs.Read.Wish.{Compiles, Records, Archives, Generates, Expands, Shows}
 use Rattle.cc_command.specs.declared.ended.Ended.{Ended}
 use Rattle.cc_command.specs.declared.words.BadWord.{BadWord}
-use Rattle.cc_command.proofs.PromiseLaws.{is_begun, compiles_first, complete, enough, line_of, heard_same, run_same, no_child}
-use Rattle.cc_command.proofs.StartedPromises.{no_attempt, beside, failed}
+use Rattle.cc_command.proofs.PromiseLaws.{is_begun, compiles_first, complete, enough, line_of, heard_same, line_settled}
+use Rattle.cc_command.proofs.StartedPromises.{no_attempt, beside, failed, stopped}
 
 -- ---- no child runs
 
 -- stages that were begun, with a line behind them, leave no child
 pub stages_settled : (t : Terms) (stages : List Stage) (part run line : List Event) (x y : Means) → part ≡ run ++ line → Partly t stages run x y → IsLine line → NothingRuns part
-stages_settled t stages part run line x y cut begun printed = ap (λ (r : Run). r.live) (run_same part run line cut printed) ∙ partly_settled t stages run x y 0 begun
+stages_settled t stages part run line x y cut begun printed = ap running cut ∙ running_behind run line (partly_settled t stages run x y begun) ∙ line_settled line printed
 
 pub request_settled : (listens : Bool) (look : Look) (q : Request) (part : List Event) (c : Course) → Begun listens look q part c → NothingRuns part
 request_settled listens look q part c b = stages_settled (terms_in listens q b.run c) (stages_of listens look q b.finds b.run) part b.run b.line c.before c.after b.cut b.partly b.printed
-
-line_settled : (part : List Event) → IsLine part → NothingRuns part
-line_settled part line = ap (λ (r : Run). r.live) (no_child nothing part line)
 
 pub word_settled : (bad : BadWord) (part : List Event) (ended : Ended) → AnswersBad bad part ended → NothingRuns part
 word_settled bad part ended (inl printed) = line_settled part (line_of (word_line bad) part printed.1)
@@ -77,6 +75,7 @@ promised listens words ended look part c a = record {
   prefix = first listens look words part ended c a;
   beside = beside listens look words part ended c a;
   failed = failed listens look words part ended c a;
+  stopped = stopped listens look words part ended c a;
   complete = complete listens look words part ended c a;
   enough = enough listens look words part ended c a;
 }

@@ -9,7 +9,7 @@ use Rattle.cc_host.specs.Part.{Step, since, stop_of, calm_of, stops, calm, done,
 use Rattle.cc_host.specs.Part.Step.{Lists}
 use Rattle.cc_host.specs.Question.{Look, Agrees, answers, Holds}
 use Rattle.cc_host.specs.declared.event.Event.{Event}
-use Rattle.cc_host.specs.declared.event.Event.TheVariants.{Started, Ended as EndedChild, Abandoned, Fault, Listed}
+use Rattle.cc_host.specs.declared.event.Event.TheVariants.{Started, Ended as EndedChild, Abandoned, Turn, Fault, Listed}
 use Rattle.cc_host.specs.declared.event.LineKind.TheVariants.{Rerun, Shown as ShownLine}
 use Rattle.cc_host.specs.declared.question.Outcome.{Outcome as Verdicts}
 use Rattle.cc_host.specs.declared.question.Question.{Question}
@@ -21,7 +21,6 @@ use Rattle.cc_plan.specs.Questions.{PlanAsks, ArchiverAsks, RanlibAsks}
 use Rattle.cc_plan.specs.Refusal.{archiver_refusal, ranlib_refusal}
 use Rattle.cc_plan.specs.Reruns.{rerun_names}
 use Rattle.cc_flags.specs.declared.variables.Reads.{Reads}
-use Rattle.cc_run.specs.Run.{Run, run_after, run_from, nothing}
 use Rattle.cc_tool.proofs.Asides.{asked_around, asked_none, none_then}
 use Rattle.cc_tool.proofs.SomeLemmas.{some_agree}
 use Rattle.cc_tool.specs.Asked.{question_events}
@@ -40,6 +39,7 @@ use Rattle.cc_build.specs.Stop.{stopped_by}
 use Rattle.cc_build.specs.Told.{compiler_reads, archiver_reads, ranlib_reads, name_steps, unless_refused, DoesAndTells}
 use Rattle.cc_build.specs.Tools.{IsArchiver, IsRanlib, archiver_error, ranlib_error, ArchiverEnds, RanlibEnds, AsksForArchiver, AsksForRanlib}
 use Rattle.cc_build.specs.Way.{Firsts}
+use Rattle.cc_build.proofs.ChildLaws.{IsAside, AreAside, aside_well}
 use Rattle.cc_build.proofs.Going.{part_is}
 use Rattle.cc_build.proofs.Outcomes.{outcome_then}
 use Rattle.cc_build.proofs.PrintedLaws.{is_told, told_prints, told_printed, told_warned, IsRealFault, told_refused, fault_stops, fault_is, neither, IsChildless, childless_then, calls_outcome, refused_more}
@@ -318,17 +318,21 @@ module _ (listens : Bool) (steady : Bool) (world : Question → Verdicts) (b : B
 
 -- ---- what follows from it
 
-children_after : (event : Event) (r : Run) → is_of_children event ≡ false → run_after r event ≡ r
-children_after (Started id role cmd pipes held) r h = absurd (cc)
-children_after (EndedChild id status) r h = absurd (cc)
-children_after (Abandoned id) r h = absurd (cc)
-children_after event r h = refl
+event_aside : (event : Event) → is_of_children event ≡ false → IsAside event
+event_aside (Started id role cmd pipes held) h = absurd (cc)
+event_aside (EndedChild id status) h = absurd (cc)
+event_aside (Abandoned id) h = absurd (cc)
+event_aside (Turn count) h = absurd (cc)
+event_aside event h = ((λ ls. refl), (λ ls. refl))
 
-pub childless_run : (part : List Event) (r : Run) → IsChildless part → run_from r part ≡ r
-childless_run [] r h = refl
-childless_run (event ∷ part) r h =
+all_aside : (part : List Event) → IsChildless part → AreAside part
+all_aside [] h = tt
+all_aside (event ∷ part) h =
     let k = neither (is_of_children event) (list_any is_of_children part) h in
-    ap (λ s. run_from s part) (children_after event r k.0) ∙ childless_run part r k.1
+    (event_aside event k.0, all_aside part k.1)
+
+pub childless_settled : (part : List Event) → IsChildless part → NothingRuns part
+childless_settled part h = (aside_well part (all_aside part h)).settled
 
 pub childless_line : (line : List Event) → IsLine line → IsChildless line
 childless_line line (inl none) = ap (list_any is_of_children) none
@@ -444,7 +448,7 @@ module _ (listens : Bool) (steady : Bool) (world : Question → Verdicts) (b : B
 
     pub shown_settled : NothingRuns part
     shown_settled =
-        ap (λ (r : Run). r.live) (childless_run part nothing (ap (list_any is_of_children) s.cut ∙ childless_then s.run s.line s.childless (childless_line s.line its_line)))
+        childless_settled part (ap (list_any is_of_children) s.cut ∙ childless_then s.run s.line s.childless (childless_line s.line its_line))
 
     not_done : (e : ErrorSeen) (line : List Event) → Says (Err e) line ended → ended.status ≡ 0 → ⊥
     not_done e line (inl printed) zero_is = let is : ended.status ≡ 1 = ap (λ (v : Ended). v.status) printed.0 in absurd (cc)

@@ -1,5 +1,5 @@
 -- What the log of a large run counts: the lines that sum up its log are those of its summary.
-use Rattle.std.proofs.Common.{◌≡◌, ◌∙◌, refl, sym, ap, ap₂, subst, ℕ, ◌+◌, ◌≤◌, List, [], ◌∷◌, ◌++◌, length, map, Bool, true, false, Option, Some, None, is_some, if◌then◌else◌, zero-add, add-zero, add_assoc, append-nil, length-append, arith, append_assoc}
+use Rattle.std.proofs.Common.{◌≡◌, ◌∙◌, refl, sym, ap, ap₂, subst, ℕ, ◌+◌, ◌≤◌, List, [], ◌∷◌, ◌++◌, length, map, Bool, true, false, Option, Some, None, Ok, is_some, if◌then◌else◌, zero-add, add-zero, add_assoc, append-nil, length-append, arith, append_assoc}
 use Rattle.std.specs.List.{flat_map}
 use Rattle.std.proofs.lemmas.Grind.{flat_map-append}
 use Rattle.std.proofs.lemmas.List.{map-append, length-map}
@@ -35,6 +35,7 @@ use Rattle.cc_build.specs.Stage.{Stage, rerun_lines, run_reads, calls, planned, 
 use Rattle.cc_build.specs.Stage.Stage.{Calls, Asks, Tries, RunsOne, RunsAll}
 use Rattle.cc_build.specs.Way.{Found, Firsts, chosen, Writing}
 use Rattle.cc_build.specs.Went.{Terms, Means, Did, Went}
+use Rattle.cc_build.proofs.RanLaws.{said_all, said_one}
 use Rattle.cc_build.proofs.RunLaws.{commands_then, commands_calls, commands_beside}
 use Rattle.cc_build.proofs.SettledLaws.{went_attempts}
 use Rattle.cc_build.proofs.SourceLaws.{opening_notes, ending_notes, attempts_planned}
@@ -86,8 +87,8 @@ did_links : (t : Terms) (s : Stage) (part : List Event) (x y : Means) → Did t 
 did_links t (Calls step) part x y d = ap (number links) d.1.0 ∙ called_links step d.0 d.1.1
 did_links t Asks part x y d = asked_links part d.0
 did_links t (Tries refused p) part x y d = tried_links t p part refused d.0
-did_links t (RunsOne p) part x y d = own_links part d.own
-did_links t (RunsAll ps) part x y d = own_links part d.own
+did_links t (RunsOne p) part x y d = own_links part (said_one t p part (Ok tt) x y d).own
+did_links t (RunsAll ps) part x y d = own_links part (said_all t ps part (Ok tt) x y d).own
 
 went_links : (t : Terms) (stages : List Stage) (part : List Event) (x y : Means) → Went t stages part x y → number links part ≡ links_in stages
 went_links t [] part x y w = ap (number links) w.0

@@ -13,11 +13,10 @@ use Rattle.cc_plan.specs.Refusal.{path_refusal, link_refusal}
 use Rattle.cc_flags.specs.Given.{first_of}
 use Rattle.cc_run.specs.Part.{started}
 use Rattle.cc_run.specs.Planned.{asked}
-use Rattle.cc_run.specs.Run.{run_from, nothing}
 use Rattle.cc_build.specs.Archiving.{archive_reads, with_objects, unarchived_error}
 use Rattle.cc_build.specs.Attempts.{attempts, to_attempt}
 use Rattle.cc_build.specs.Build.{BuildSeen, AsksByRun}
-use Rattle.cc_build.specs.Built.{ended_well as all_ended}
+use Rattle.cc_build.specs.Children.{AllWell}
 use Rattle.cc_build.specs.Course.{course_alone}
 use Rattle.cc_build.specs.Error.{ErrorSeen}
 use Rattle.cc_build.specs.Failed.{Failed, HasFault}
@@ -120,7 +119,7 @@ pub record Written (listens : Bool) (b : BuildSeen) (patience : Option ℕ) (tur
   pub went : Went (terms_for (alone b) listens (course_alone patience turns left)) (Calls Lists ∷ archive_stages b listens writing look links output) part (course_alone patience turns left).before (course_alone patience turns left).after
   pub writes : attempts part ≡ map to_attempt (library_commands (alone b).config (alone b).env look writing output)
   pub others : started part ≡ asked (shows_of (alone b).config (alone b).env listens) (written_children (run_has_one_form (alone b).config (alone b).env look) (library_commands (alone b).config (alone b).env look writing output))
-  pub ended : run_from nothing part ≡ all_ended (length (written_children (run_has_one_form (alone b).config (alone b).env look) (library_commands (alone b).config (alone b).env look writing output)))
+  pub ended : AllWell part
 
 -- What an archive alone promises of its answer and its part.
 pub record ArchivePromises (listens steady : Bool) (world : Question → Outcome) (request : Request) (patience : Option ℕ) (turns : ℕ) (part : List Event) (ended : Ended) : Type 0 where

@@ -17,7 +17,7 @@ use Rattle.cc_build.specs.Course.{Course}
 use Rattle.cc_build.specs.Error.{ErrorSeen}
 use Rattle.cc_build.specs.Failed.{Failed, HasFault}
 use Rattle.cc_build.specs.Order.{is_archive_event}
-use Rattle.cc_build.specs.Promises.{AreFirst, RunBeside, AllStarted}
+use Rattle.cc_build.specs.Promises.{AreFirst, RunBeside, AllStarted, StartsTill}
 use Rattle.cc_build.specs.Shows.{shows_of}
 use Rattle.cc_build.specs.Stage.{folder_stages, compile_stages}
 use Rattle.cc_build.specs.Stage.Stage.{Asks, Calls}
@@ -99,11 +99,23 @@ IsPrefix listens look words part = IfCompiles words (λ request. (finds : Findin
 
 -- Two sources or more are compiled beside each other, each under a token, and as many at once as there are tokens.
 abbrev pub IsBeside : Result Wish BadWord → List Event → Course → Type 0
-IsBeside words part c = IfCompiles words (λ request. 2 ≤ length request.1.config.files → RunBeside c.total (length request.1.config.files) part)
+IsBeside words part c = IfCompiles words (λ request. 2 ≤ length request.1.config.files
+    → RunBeside c.total request.1.config.stop_on_failure (length request.1.config.files) part)
 
--- A failed child stops no later start: where a command ended badly and the host is sound, every source's command was started, and none was left alone.
+-- Unless the settings stop a run at a failure, a failed child stops no later start: where a command ended badly and the host is sound, every source's
+-- command was started, and none was left alone.
 abbrev pub StartsAll : Bool → Look → Result Wish BadWord → List Event → Ended → Type 0
-StartsAll listens look words part ended = IfCompiles words (λ request. (e : ErrorSeen) → 2 ≤ length request.1.config.files → ended ≡ ended_refused e → e.kind ≡ ToolExecError → (HasFault part → ⊥) → AllStarted (shows_of request.1.config (env_in request part) listens) (compiles_of request.1.config (env_in request part) look) part)
+StartsAll listens look words part ended = IfCompiles words (λ request. request.1.config.stop_on_failure ≡ false
+    → (e : ErrorSeen) → 2 ≤ length request.1.config.files → ended ≡ ended_refused e → e.kind ≡ ToolExecError
+    → (HasFault part → ⊥) → AllStarted (shows_of request.1.config (env_in request part) listens)
+    (compiles_of request.1.config (env_in request part) look) part)
+
+-- Where they do, every source's command was started then, or the first of them alone and one of these failed, and none was left alone.
+abbrev pub StopsAtFailure : Bool → Look → Result Wish BadWord → List Event → Ended → Type 0
+StopsAtFailure listens look words part ended = IfCompiles words (λ request. request.1.config.stop_on_failure ≡ true
+    → (e : ErrorSeen) → 2 ≤ length request.1.config.files → ended ≡ ended_refused e → e.kind ≡ ToolExecError
+    → (HasFault part → ⊥) → StartsTill (shows_of request.1.config (env_in request part) listens)
+    (compiles_of request.1.config (env_in request part) look) part)
 
 -- the turns are spent: as many were made as there are
 abbrev pub EndsSpent : ℕ → List Event → Ended → Type 0
@@ -130,8 +142,10 @@ pub record Promises (listens : Bool) (words : Result Wish BadWord) (ended : Ende
   pub prefix : IsPrefix listens look words part
   -- two sources or more are compiled beside each other, each under a token, and as many at once as there are tokens
   pub beside : IsBeside words part c
-  -- a failed child stops no later start
+  -- unless the settings stop a run at a failure, a failed child stops no later start
   pub failed : StartsAll listens look words part ended
+  -- where they do, a source's command was left out only where one that was started failed
+  pub stopped : StopsAtFailure listens look words part ended
   -- valid settings, no failed command but the first form of the archive, no fault of the host and none of the pool: it is done, the turns are spent, or
   -- memory was wanted
   pub complete : IsComplete look words part ended c

@@ -60,8 +60,10 @@ is_choice_key key =
 -- a key of a setting that is on or off
 unfoldable pub is_switch_key : List ℕ → Bool
 is_switch_key key =
-    is key "no_default_flags" || is key "reproducible_codeview" || is key "cpp" || is key "warnings_into_errors" || is key "cpp_link_stdlib_static" || is key "cargo_metadata"
-    || is key "cargo_warnings" || is key "cargo_output" || is key "emit_rerun_if_env_changed" || is key "prefer_clang_cl_over_msvc" || is key "inherit_rustflags" || is key "inherit_trim_paths"
+    is key "no_default_flags" || is key "reproducible_codeview" || is key "cpp" || is key "warnings_into_errors"
+    || is key "cpp_link_stdlib_static" || is key "cargo_metadata" || is key "cargo_warnings" || is key "cargo_output"
+    || is key "emit_rerun_if_env_changed" || is key "prefer_clang_cl_over_msvc" || is key "stop_on_failure"
+    || is key "inherit_rustflags" || is key "inherit_trim_paths"
 
 abbrev pub cause_unless : Bool → Option WordCause
 cause_unless fine = if fine then None else Some BadValue
@@ -219,6 +221,7 @@ settings_of words = record {
     inherit_rustflags = latest_truth true (values (by "inherit_rustflags") words);
     inherit_trim_paths = latest_truth true (values (by "inherit_trim_paths") words);
     prefer_clang_cl_over_msvc = latest_truth false (values (by "prefer_clang_cl_over_msvc") words);
+    stop_on_failure = latest_truth false (values (by "stop_on_failure") words);
     repeat_lines = true;
   };
   env = record { inherited = []; explicit = map variable_of (values (by "env") words) };

@@ -65,6 +65,7 @@ with_key set key value = record {
     inherit_rustflags = latest_truth set.config.inherit_rustflags (value_of (by "inherit_rustflags") key value);
     inherit_trim_paths = latest_truth set.config.inherit_trim_paths (value_of (by "inherit_trim_paths") key value);
     prefer_clang_cl_over_msvc = latest_truth set.config.prefer_clang_cl_over_msvc (value_of (by "prefer_clang_cl_over_msvc") key value);
+    stop_on_failure = latest_truth set.config.stop_on_failure (value_of (by "stop_on_failure") key value);
     repeat_lines = set.config.repeat_lines;
   };
   env = record { inherited = set.env.inherited; explicit = added set.env.explicit (map variable_of (value_of (by "env") key value)) };

@@ -159,6 +159,7 @@ fn is_switch_key(key: &str) -> bool
             | "cargo_output"
             | "emit_rerun_if_env_changed"
             | "prefer_clang_cl_over_msvc"
+            | "stop_on_failure"
             | "inherit_rustflags"
             | "inherit_trim_paths"
     )
@@ -260,6 +261,10 @@ fn set_switch<W: World>(build: &mut Build<W>, key: &str, on: bool) -> bool
         }
         "prefer_clang_cl_over_msvc" => {
             build.prefer_clang_cl_over_msvc(on);
+            true
+        }
+        "stop_on_failure" => {
+            build.stop_on_failure(on);
             true
         }
         "inherit_rustflags" => {

@@ -75,6 +75,7 @@ keys of true or false:
   no_default_flags  reproducible_codeview  shell_escaped_flags  cargo_metadata  cargo_warnings  cargo_output
   cargo_debug  prefer_clang_cl_over_msvc  force_frame_pointer  inherit_rustflags  inherit_trim_paths
   emit_rerun_if_env_changed   whether Cargo is told of the variables that were read: where one changes, it runs the script again
+  stop_on_failure             whether no further source is compiled once one failed; those that are being compiled are waited for
 
 options:
   --help      print this text

@@ -4,7 +4,7 @@ use Rattle.cc_command.proofs.KeyLaws.{known_key, no_switch_key}
 use Rattle.cc_command.proofs.reading.set_switch.Goals as goal
 
 pub returns-in_default-clause-known : goal.returns-in_default-clause-known
-returns-in_default-clause-known g c = sym (no_switch_key c.args.key.now c.in_default.not-no_default_flags c.in_default.not-reproducible_codeview c.in_default.not-cpp c.in_default.not-warnings_into_errors c.in_default.not-cpp_link_stdlib_static c.in_default.not-cargo_metadata c.in_default.not-cargo_warnings c.in_default.not-cargo_output c.in_default.not-emit_rerun_if_env_changed c.in_default.not-prefer_clang_cl_over_msvc c.in_default.not-inherit_rustflags c.in_default.not-inherit_trim_paths)
+returns-in_default-clause-known g c = sym (no_switch_key c.args.key.now c.in_default.not-no_default_flags c.in_default.not-reproducible_codeview c.in_default.not-cpp c.in_default.not-warnings_into_errors c.in_default.not-cpp_link_stdlib_static c.in_default.not-cargo_metadata c.in_default.not-cargo_warnings c.in_default.not-cargo_output c.in_default.not-emit_rerun_if_env_changed c.in_default.not-prefer_clang_cl_over_msvc c.in_default.not-stop_on_failure c.in_default.not-inherit_rustflags c.in_default.not-inherit_trim_paths)
 
 pub returns-in-no_default_flags-clause-known : goal.returns-in-no_default_flags-clause-known
 unfolding is_switch_key
@@ -45,6 +45,10 @@ returns-in-emit_rerun_if_env_changed-clause-known g c = known_key is_switch_key 
 pub returns-in-prefer_clang_cl_over_msvc-clause-known : goal.returns-in-prefer_clang_cl_over_msvc-clause-known
 unfolding is_switch_key
 returns-in-prefer_clang_cl_over_msvc-clause-known g c = known_key is_switch_key c.args.key.now (codes "prefer_clang_cl_over_msvc") c.in-prefer_clang_cl_over_msvc.is refl
+
+pub returns-in-stop_on_failure-clause-known : goal.returns-in-stop_on_failure-clause-known
+unfolding is_switch_key
+returns-in-stop_on_failure-clause-known g c = known_key is_switch_key c.args.key.now (codes "stop_on_failure") c.in-stop_on_failure.is refl
 
 pub returns-in-inherit_rustflags-clause-known : goal.returns-in-inherit_rustflags-clause-known
 unfolding is_switch_key
