@@ -1,0 +1,5 @@
+pub mod TargetLemmas
+pub mod ReaderLemmas
+pub mod DigestLemmas
+pub mod RecordLaws
+pub mod ReadLemmas

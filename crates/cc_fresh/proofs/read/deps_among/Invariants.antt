@@ -1,0 +1,8 @@
+use Rattle.std.proofs.Common.{◌≡◌, map, take, Some}
+use Rattle.serde_json.specs.View.{view}
+use Rattle.cc_fresh.specs.Record.{dep_of}
+use Rattle.cc_fresh.proofs.read.deps_among.Given as goal
+
+-- the files so far
+abbrev pub invariant-loop-value : goal.invariant-loop-value
+invariant-loop-value l = map dep_of (map view (take l.value-index l.values)) ≡ map Some l.deps

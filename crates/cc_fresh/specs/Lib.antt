@@ -1,0 +1,4 @@
+pub mod Deps
+pub mod Reading
+pub mod Digests
+pub mod Record
