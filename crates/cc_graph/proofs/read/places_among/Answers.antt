@@ -1,0 +1,11 @@
+use Rattle.std.proofs.Common.{sym}
+use Rattle.serde_json.specs.View.{view}
+use Rattle.cc_graph.specs.Read.{place_of}
+use Rattle.cc_graph.proofs.ReadLemmas.{first_refused, all_read}
+use Rattle.cc_graph.proofs.read.places_among.Goals as goal
+
+pub returns-in-None : goal.returns-in-None
+returns-in-None c = sym (first_refused view place_of c.args.values.now c.loop-value.value-index c.value-item.result c.loop-value.needs c.loop-value-test.true c.value-item.is c.loop-value.invariant (sym c.in-None.ensures)).0
+
+pub returns : goal.returns
+returns c = sym (all_read view place_of c.args.values.now c.loop-value.value-index c.loop-value.needs c.loop-value-test.false c.loop-value.invariant)
