@@ -157,11 +157,15 @@ pub still_unless : (b : Bool) (stages : List Stage) → AreStill stages → AreS
 still_unless true stages h = tt
 still_unless false stages h = h
 
-still_behind : (a b : List Stage) → AreStill (a ++ b) → AreStill b
+pub still_then : (a b : List Stage) → AreStill a → AreStill b → AreStill (a ++ b)
+still_then [] b h k = k
+still_then (s ∷ a) b h k = (h.0, still_then a b h.1 k)
+
+pub still_behind : (a b : List Stage) → AreStill (a ++ b) → AreStill b
 still_behind [] b h = h
 still_behind (s ∷ a) b h = still_behind a b h.1
 
-still_before : (a b : List Stage) → AreStill (a ++ b) → AreStill a
+pub still_before : (a b : List Stage) → AreStill (a ++ b) → AreStill a
 still_before [] b h = tt
 still_before (s ∷ a) b h = (h.0, still_before a b h.1)
 

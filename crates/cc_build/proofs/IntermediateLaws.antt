@@ -60,7 +60,7 @@ module _ (t : Terms) (f : PlanError → ErrorSeen) (late : Option ErrorSeen) (fo
   never_begun (Some error) disabled part e x none (inr is) = halted_end t (error_by f (Some error) disabled late) [] part e x x (went_none t part x none) is
 
   -- the folder wasn't made
-  unfoldered : (early : Option PlanError) (disabled : Bool) (part : List Event) (e : ErrorSeen) (x : Means) → early ≡ None → Halted t None folder part e x x → Halted t (error_by f early disabled late) (checked early disabled folder run) part e x x
+  pub unfoldered : (early : Option PlanError) (disabled : Bool) (part : List Event) (e : ErrorSeen) (x : Means) → early ≡ None → Halted t None folder part e x x → Halted t (error_by f early disabled late) (checked early disabled folder run) part e x x
   unfoldered None disabled part e x is h = halted_more t (error_by f None disabled late) folder (if disabled then [] else Asks ∷ run) part e x x h
   unfoldered (Some error) disabled part e x is h = absurd (cc)
 
@@ -74,7 +74,7 @@ module _ (t : Terms) (f : PlanError → ErrorSeen) (late : Option ErrorSeen) (fo
     wanting (Some error) disabled e is memory = absurd (cc)
 
     -- no command may run
-    stopped : (early : Option PlanError) (disabled : Bool) (e : ErrorSeen) → early ≡ None → disabled ≡ true → (e ≡ no_memory) ⊎ (e ≡ disabled_error) → Halted t (error_by f early disabled late) (checked early disabled folder run) (since old made) e x x
+    pub stopped : (early : Option PlanError) (disabled : Bool) (e : ErrorSeen) → early ≡ None → disabled ≡ true → (e ≡ no_memory) ⊎ (e ≡ disabled_error) → Halted t (error_by f early disabled late) (checked early disabled folder run) (since old made) e x x
     stopped early disabled e is on (inl memory) = wanting early disabled e is memory
     stopped None true e is on (inr same) =
         halted_from t (Some disabled_error) old made made folder [] e x x x first (sym (ap (λ l. made ++ l) (since_none made) ∙ append-nil made)) w
@@ -83,7 +83,7 @@ module _ (t : Terms) (f : PlanError → ErrorSeen) (late : Option ErrorSeen) (fo
     stopped (Some error) disabled e is on (inr same) = absurd (cc)
 
     -- the questions were asked, and the run ended so
-    behind : {T : Type 0} (early : Option PlanError) (disabled : Bool) (new : List Event) (r : Result T ErrorSeen) (z : Means) → early ≡ None → disabled ≡ false → new ≡ made ++ since made new → Ends t late (Asks ∷ run) (since made new) r x z → Ends t (error_by f early disabled late) (checked early disabled folder run) (since old new) r x z
+    pub behind : {T : Type 0} (early : Option PlanError) (disabled : Bool) (new : List Event) (r : Result T ErrorSeen) (z : Means) → early ≡ None → disabled ≡ false → new ≡ made ++ since made new → Ends t late (Asks ∷ run) (since made new) r x z → Ends t (error_by f early disabled late) (checked early disabled folder run) (since old new) r x z
     behind None false new r z is off last o = ends_from t late old made new folder (Asks ∷ run) r x x z first last w o
     behind None true new r z is off last o = absurd (cc)
     behind (Some error) disabled new r z is off last o = absurd (cc)

@@ -21,6 +21,7 @@ pub mod OrderLaws
 pub mod Outcomes
 pub mod PartLaws
 pub mod PhaseLaws
+pub mod PlanningLaws
 pub mod PrintedLaws
 pub mod PromiseLaws
 pub mod RanLaws

@@ -50,12 +50,12 @@ module _ (t : Terms) (f : PlanError → ErrorSeen) (p : Option PlanError) (a nam
       subst (λ (refusal : Option ErrorSeen). Halted t refusal (asked_then p (a ++ Asks ∷ names)) part e x z) (first_alone (option_map f p)) (halted_join t f p None a (Asks ∷ names) part e x z h)
 
   -- or before the questions behind them
-  told_before : (part : List Event) (e : ErrorSeen) (x z : Means) → Halted t (option_map f p) (asked_then p (a ++ Asks ∷ [])) part e x z → Halted t (option_map f p) (asked_then p (a ++ Asks ∷ names)) part e x z
+  pub told_before : (part : List Event) (e : ErrorSeen) (x z : Means) → Halted t (option_map f p) (asked_then p (a ++ Asks ∷ [])) part e x z → Halted t (option_map f p) (asked_then p (a ++ Asks ∷ names)) part e x z
   told_before part e x z h =
       subst (λ (refusal : Option ErrorSeen). Halted t refusal (asked_then p (a ++ Asks ∷ names)) part e x z) (first_alone (option_map f p)) (part_before t f p None None a names part e x z h)
 
   -- the part was done, and the lines ended so
-  told_then : {T : Type 0} (old mid new : List Event) (r : Result T ErrorSeen) (x y z : Means) → mid ≡ old ++ since old mid → new ≡ mid ++ since mid new → p ≡ None → Went t (Asks ∷ a) (since old mid) x y → Ends t None (Asks ∷ names) (since mid new) r y z → Ends t (option_map f p) (asked_then p (a ++ Asks ∷ names)) (since old new) r x z
+  pub told_then : {T : Type 0} (old mid new : List Event) (r : Result T ErrorSeen) (x y z : Means) → mid ≡ old ++ since old mid → new ≡ mid ++ since mid new → p ≡ None → Went t (Asks ∷ a) (since old mid) x y → Ends t None (Asks ∷ names) (since mid new) r y z → Ends t (option_map f p) (asked_then p (a ++ Asks ∷ names)) (since old new) r x z
   told_then old mid new r x y z first last allowed w o =
       subst (λ (refusal : Option ErrorSeen). Ends t refusal (asked_then p (a ++ Asks ∷ names)) (since old new) r x z) (first_alone (option_map f p)) (part_then t f p None a (Asks ∷ names) old mid new r x y z first last allowed w o)
 

@@ -19,6 +19,7 @@ pub mod Linking
 pub mod Order
 pub mod Outcome
 pub mod Phases
+pub mod Planning
 pub mod Promises
 pub mod Questions
 pub mod Refusal

@@ -1,5 +1,6 @@
 -- How the parts of a run end: each asks what it wants to know, and then does its stages.
-use Rattle.std.specs.Prelude.{◌≡◌, ℕ, Bool, List, ◌∷◌, [], ◌++◌, Option, None, is_some, unwrap_or, Result, Ok, Err}
+use Rattle.std.specs.Prelude.{◌≡◌, ℕ, Bool, List, ◌∷◌, [], ◌++◌, Option, None, is_some, unwrap_or, Result, Ok, Err, IfOk}
+use Rattle.std.specs.Global.{Vec}
 use Rattle.std.specs.Option.{option_map}
 use Rattle.cc_host.specs.Question.{Look, Answer, Holds}
 use Rattle.cc_host.specs.declared.event.Event.{Event}
@@ -17,8 +18,8 @@ use Rattle.cc_run.specs.declared.planned.Shows.{Shows}
 use Rattle.cc_build.specs.Course.{Course, OnCourse, CallsEnd}
 use Rattle.cc_build.specs.Error.{ErrorSeen}
 use Rattle.cc_build.specs.Refusal.{plan_error}
-use Rattle.cc_build.specs.Seen.{stages_seen, opening_of, stages_of, ready_steps, form_stages, library_seen}
-use Rattle.cc_build.specs.Stage.{Stage, calls, finding_steps, asked_then, compile_stages, library_stages, link_stages, links_of, name_stages, printed_stages, asked_stages, told_sources, told_library}
+use Rattle.cc_build.specs.Seen.{stages_seen, opening_of, compiles_by, stages_of, ready_steps, form_stages, library_seen}
+use Rattle.cc_build.specs.Stage.{Stage, calls, finding_steps, asked_then, opening_steps, compiles_planned, compile_stages, library_stages, link_stages, links_of, name_stages, printed_stages, asked_stages, told_sources, told_opening, told_library}
 use Rattle.cc_build.specs.Stage.Stage.{Asks, Tries}
 use Rattle.cc_build.specs.Way.{Way, Found, Writing, writing_of, Firsts, Hears, Repeats}
 use Rattle.cc_build.specs.Went.{Terms, Means, terms, Went, Halted, Ends}
@@ -53,6 +54,38 @@ OpensEnd task texts (Err e) part c =
 abbrev pub PlanEnds : {T : Type 0} → Task → Plan → List Object → Result T ErrorSeen → List Event → Course → Type 0
 PlanEnds task plan objects result part c =
     (here : Option (List ℕ)) × ((is_some here ≡ task.reporting.shows.listens) × Ends (task_terms task c) None (Asks ∷ stages_of task.set.now plan objects here) part result c.before c.after)
+
+-- The run was opened right behind questions, and these are the commands that compile the objects; or it ended before the
+-- questions behind that.
+abbrev pub CommandsEnd : Task → Plan → List Object → Result (Vec Planned) ErrorSeen → List Event → Course → Type 0
+CommandsEnd task plan objects (Ok cmds) part c =
+    (here : Option (List ℕ)) × ((is_some here ≡ task.reporting.shows.listens)
+    × (cmds.items ≡ compiles_by here objects plan.compiles.items)
+    × Went (task_terms task c) (Asks ∷ calls (opening_of task.set.now (is_some here) plan.warnings here)) part c.before c.after)
+CommandsEnd task plan objects (Err e) part c =
+    (here : Option (List ℕ)) × ((is_some here ≡ task.reporting.shows.listens)
+    × Halted (task_terms task c) None
+    (Asks ∷ calls (opening_of task.set.now (is_some here) plan.warnings here) ++ Asks ∷ []) part e c.before c.after)
+
+-- nothing is refused, the run was opened, and these are the commands that compile the sources; or it ended before the
+-- questions behind that
+abbrev pub OpenedEnds : Task → Result (Vec Planned) ErrorSeen → Look → List Event → Course → Type 0
+OpenedEnds task (Ok cmds) look part c =
+    (found : Found) × (Hears task.reporting.shows.listens found × (late_refusal task.set.now task.env.now look ≡ None)
+    × (cmds.items ≡ compiles_planned task.set.now task.env.now found.here look)
+    × Went (task_terms task c) (Asks ∷ calls (opening_steps task.set.now task.env.now found look)) part c.before c.after)
+OpenedEnds task (Err e) look part c =
+    (found : Found) × (Hears task.reporting.shows.listens found
+    × PhaseEnds {T = Unit {0}} task (late_refusal task.set.now task.env.now look)
+    (calls (opening_steps task.set.now task.env.now found look) ++ Asks ∷ []) (Err e) part c)
+
+-- those lines were printed behind it, and these are the commands; or the error has its cause
+abbrev pub PlannedEnds : Task → Reads → Result (Vec Planned) ErrorSeen → Look → List Event → Course → Type 0
+PlannedEnds task reads result look part c =
+    (found : Found) × (firsts : Firsts) × (Hears task.reporting.shows.listens found × Repeats task.set.now firsts
+    × IfOk result (λ cmds. cmds.items ≡ compiles_planned task.set.now task.env.now found.here look)
+    × PhaseEnds task (late_refusal task.set.now task.env.now look)
+    (told_opening task.set.now task.env.now reads found look firsts) result part c)
 
 -- the sources were compiled
 abbrev pub CompileEnds : {T : Type 0} → Task → Result T ErrorSeen → Look → List Event → Course → Type 0

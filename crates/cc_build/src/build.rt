@@ -10,6 +10,7 @@ ghost use Rattle.cc_build.specs.Compiler.{IsTool, CompilerEnds};
 ghost use Rattle.cc_build.specs.Course.{ByPart, ByRun};
 ghost use Rattle.cc_build.specs.Error.{no_memory};
 ghost use Rattle.cc_build.specs.Flags.{always, flags_error};
+ghost use Rattle.cc_build.specs.Planning.{PlanningEnds};
 ghost use Rattle.cc_build.specs.Shows.{shows_of};
 ghost use Rattle.cc_build.specs.Tools.{AsksForArchiver, AsksForRanlib, IsArchiver, IsRanlib, ArchiverEnds, RanlibEnds};
 ghost use Rattle.cc_build.specs.Intermediates.{AreCompiled, IntermediateEnds};
@@ -17,7 +18,6 @@ ghost use Rattle.cc_plan.specs.Archive.{paths_of};
 ghost use Rattle.cc_plan.specs.Plan.{objects_of};
 ghost use Rattle.cc_build.specs.Promises.{IsBuilt, Promises, NothingRuns, FaultsEnd};
 
-use crate::Error;
 use crate::compiler::told_compiler;
 use crate::environment::flags_of_variable;
 use crate::goal::Goal;
@@ -27,6 +27,7 @@ use crate::run::list_vars;
 use crate::shows::shows_of;
 use crate::task::Task;
 use crate::tools::{told_archiver, told_ranlib};
+use crate::{CompilePlan, Error};
 use cc_env::{BuildEnv, EnvSnapshot};
 use cc_host::{Command, Host, World};
 use cc_jobs::Jobs;
@@ -242,6 +243,29 @@ impl<W: World> Build<W> {
             (RanlibEnds self.now.config self.now.env result) }
     {
         told_ranlib(rt, &self.task(host.listens()), &self.caches, host)
+    }
+
+    /// Plans a compile run for the library of `output`, and begins none: what `try_compile` would run for the sources, as values, so that a
+    /// caller may run it beside the commands of other builds.
+    ///
+    /// Makes the out dir where there is a source, asks what the compile commands want to know, prints the warnings, and asks a host that
+    /// listens for the current folder; behind that are the lines of the variables that were read, where they are wanted. It is refused as
+    /// `try_compile` is up to its first command, and where a line couldn't be printed. No command but those of questions is started. The
+    /// build is as before.
+    pub fn try_plan_compile<H: Host<W>>(
+        &self,
+        rt: &impl Wait,
+        host: &mut H,
+        output: &str,
+    ) -> Result<CompilePlan, Error>
+        ensures patient { H.patience host.new ≡ H.patience host.old }
+        ensures extends { H.log host.new ≡ H.log host.old ++ part H.log host.old host.new }
+        ensures asked { AsksByRun W.steady W.answer self.now (part H.log host.old host.new) }
+        ensures childless { list_any is_of_children (part H.log host.old host.new) ≡ false }
+        ensures outcome { ByPart H.log host.old host.new
+            (PlanningEnds self.now (H.listens host.old) output.now result) }
+    {
+        self.plan_alone(rt, host, output)
     }
 
     /// Compiles the sources alone, and answers the paths of their objects, in the order in which the sources were added. Nothing is

@@ -14,7 +14,7 @@ ghost use Rattle.cc_plan.specs.Plan.{warning_line, warning_steps};
 ghost use Rattle.cc_run.specs.Keeping.{IsIdle};
 ghost use Rattle.cc_build.specs.Course.{OnCourse};
 ghost use Rattle.cc_build.specs.Kept.{Aside};
-ghost use Rattle.cc_build.specs.Phases.{HereEnds, OpensEnd, PlanEnds};
+ghost use Rattle.cc_build.specs.Phases.{HereEnds, OpensEnd, CommandsEnd, PlanEnds};
 ghost use Rattle.cc_build.specs.Seen.{stages_seen, compiles_by, Adds};
 ghost use Rattle.cc_build.specs.Stage.{calls, beside, compile_planned};
 
@@ -234,6 +234,33 @@ fn known(here: &Option<Text>) -> Option<&str>
         Some(folder) => Some(folder.as_str()),
         None => None,
     }
+}
+
+/// Gives the host the warnings of a plan, asks it for the current folder where it listens, and makes the commands that compile these objects.
+#[tactic(auto, using(crate::proofs::Keeping::aside_then))]
+pub(crate) fn open_commands<W: World, H: Host<W>, J: Jobs>(
+    task: &Task<'_>,
+    host: &mut H,
+    jobs: &J,
+    seat: &mut J::Seat,
+    turns: &mut Turns,
+    plan: &Plan,
+    objects: &[Object],
+) -> Result<Vec<Planned>, Error>
+    requires idle { IsIdle J.fits J.held jobs.now seat.old }
+    requires few { turns.old.left + turns.old.used < 2 ^ 64 }
+    ensures idle { IsIdle J.fits J.held jobs.now seat.new }
+    ensures total { J.total seat.new ≡ J.total seat.old }
+    ensures aside { Aside H.log H.patience host.old host.new }
+    ensures sum { turns.new.left + turns.new.used ≡ turns.old.left + turns.old.used }
+    ensures outcome { OnCourse H.log H.patience J.total J.faults J.taken J.load
+        turns.old.left turns.new.left
+        host.old host.new seat.old seat.new (CommandsEnd task.now plan.now objects.now result) }
+{
+    let here = open(task, host, jobs, seat, turns, &plan.warnings)?;
+    let cmds = plan.compiles.as_slice();
+    let commands = compiles_by(task.reporting.alloc, known(&here), objects, cmds)?;
+    Ok(commands)
 }
 
 /// Does what is planned for these objects.

@@ -40,7 +40,7 @@ fn object_paths(alloc: Global, objects: &[Object]) -> Mem<Words>
 }
 
 // What a run that compiles the sources alone reads variables for.
-fn source_reads(set: &BuildConfig) -> Reads
+pub(crate) fn source_reads(set: &BuildConfig) -> Reads
     ensures { result ≡ reads_of set.now }
 {
     let is_any = !set.files.is_empty();

@@ -49,7 +49,7 @@ fn refused(task: &Task<'_>, error: PlanError) -> Error
 
 // Plans the warnings and the compile commands.
 #[tactic(auto, using(cc_host::proofs::Parts::since_append))]
-fn plan_compiles<W: World, H: Host<W>>(
+pub(crate) fn plan_compiles<W: World, H: Host<W>>(
     rt: &impl Wait,
     task: &Task<'_>,
     host: &mut H,
