@@ -1,34 +1,24 @@
 -- What the answers of the program say.
-use Rattle.std.proofs.Common.{◌≡◌, ◌⊎◌, inl, inr, ℕ, List, [], ◌∷◌, ◌++◌, Bool, true, Option, None, Some, Result, Ok, Err, refl, sym, ◌∙◌, ap, subst, append-nil}
+use Rattle.std.proofs.Common.{◌≡◌, ◌⊎◌, inl, inr, ℕ, List, [], ◌∷◌, ◌++◌, Bool, true, Option, Some, Result, Ok, Err, refl, sym, ◌∙◌, ap, subst, append-nil}
 use Rattle.cc_host.specs.Question.{Look}
-use Rattle.cc_host.specs.Part.{since}
 use Rattle.cc_host.specs.Part.Step.{Lists}
-use Rattle.cc_host.proofs.Parts.{since_since}
 use Rattle.cc_host.specs.declared.event.Event.{Event}
 use Rattle.cc_host.specs.declared.event.Event.TheVariants.{Listed}
 use Rattle.cc_build.specs.Build.{BuildSeen}
 use Rattle.cc_build.specs.Built.{Built}
 use Rattle.cc_build.specs.Captured.{with_vars, Captures, CaptureEnds}
 use Rattle.cc_build.specs.Course.{Course, course}
-use Rattle.cc_build.specs.Error.{ErrorSeen, no_memory}
+use Rattle.cc_build.specs.Error.{ErrorSeen}
 use Rattle.cc_build.specs.Promises.{terms_for, Promises}
 use Rattle.cc_build.specs.Refusal.{refusal_error}
 use Rattle.cc_build.specs.Stage.{planned_stages}
 use Rattle.cc_build.specs.Stage.Stage.{Calls}
 use Rattle.cc_build.specs.Went.{Terms, Means, Did, Went, Halted}
-use Rattle.cc_build.proofs.Going.{called, halted_none, halted_among, halted_then, halted_more, part_is}
+use Rattle.cc_build.proofs.Going.{called, halted_among, halted_then, halted_more}
 use Rattle.cc_build.proofs.Stages.{planned_open}
-use Rattle.cc_host.specs.declared.question.Outcome.{Outcome}
-use Rattle.cc_host.specs.declared.question.Question.{Question}
-use Rattle.cc_tool.specs.Asked.{Asked}
-use Rattle.cc_tool.proofs.Asides.{asked_around}
-use Rattle.cc_flags.specs.Given.{probe_folder}
-use Rattle.cc_plan.specs.Questions.{RunAsks}
-use Rattle.cc_command.specs.Asks.{AsksFor}
-use Rattle.cc_command.specs.Answer.{IsHalted, Answers, AnswersError, AnswersWords, Unbegun, env_in, terms_in, error_of, repeating, Findings, stages_of, ended_well, ended_wanting}
+use Rattle.cc_command.specs.Answer.{IsHalted, Answers, AnswersError, env_in, terms_in, error_of, repeating, Findings, stages_of, ended_well}
 use Rattle.cc_command.proofs.RepeatLaws.{finds_of, unfound, went_same, halted_same}
 use Rattle.cc_command.specs.Read.{Request, Wish, refusal_of}
-use Rattle.cc_command.specs.Read.Wish.{Compiles, Records, Archives, Generates, Expands, Shows}
 use Rattle.cc_command.specs.declared.ended.Ended.{Ended}
 use Rattle.cc_command.specs.declared.words.BadWord.{BadWord}
 use Rattle.cc_command.specs.declared.words.ReadError.{ReadError}
@@ -57,99 +47,52 @@ uncaptured listens look q run e t x (inr w) = (
 listing_done : (t : Terms) (vars : List (List ℕ × List ℕ)) (x : Means) → Did t (Calls Lists) (Listed vars ∷ []) x x
 listing_done t vars x = (Listed vars, (refl, refl, refl))
 
-module _ (listens : Bool) (look : Look) (name : List ℕ) (before after : BuildSeen) (old mid new : List Event) (first : mid ≡ old ++ since old mid) (last : new ≡ mid ++ since mid new) (k : Captures before after (since old mid)) (total p q : Option ℕ) (same : p ≡ q) (x y : Means) (repeats : before.config.repeat_lines ≡ true) where
+module _ (listens : Bool) (look : Look) (name : List ℕ) (before after : BuildSeen) (front run part : List Event) (cut : part ≡ front ++ run) (k : Captures before after front) (total p q : Option ℕ) (same : p ≡ q) (x y : Means) (repeats : before.config.repeat_lines ≡ true) where
   -- the build with the variables that were listed
   abbrev taken : BuildSeen
   taken = record before { env = with_vars before.env k.vars }
 
-  listed : since old new ≡ Listed k.vars ∷ since mid new
-  listed = since_since old mid new first last ∙ ap (λ l. l ++ since mid new) k.listed
+  listed : part ≡ Listed k.vars ∷ run
+  listed = cut ∙ ap (λ l. l ++ run) k.listed
 
   abbrev t : Terms
   t = terms_for taken listens (course total q x y)
 
   -- the run is that of the listed variables, with the patience that the host had before
-  as_taken : {T : Type 0} (r : Result T ErrorSeen) → Promises after listens name r look (since mid new) (course total p x y) → Promises taken listens name r look (since mid new) (course total q x y)
+  as_taken : {T : Type 0} (r : Result T ErrorSeen) → Promises after listens name r look run (course total p x y) → Promises taken listens name r look run (course total q x y)
   as_taken r h =
-      subst (λ (patience : Option ℕ). Promises taken listens name r look (since mid new) (course total patience x y)) same
-      (subst (λ (b : BuildSeen). Promises b listens name r look (since mid new) (course total p x y)) k.is h)
+      subst (λ (patience : Option ℕ). Promises taken listens name r look run (course total patience x y)) same
+      (subst (λ (b : BuildSeen). Promises b listens name r look run (course total p x y)) k.is h)
 
-  built_taken : Built (terms_for after listens (course total p x y)) after.config after.env look name (since mid new) → Built t taken.config taken.env look name (since mid new)
+  built_taken : Built (terms_for after listens (course total p x y)) after.config after.env look name run → Built t taken.config taken.env look name run
   built_taken h =
-      subst (λ (patience : Option ℕ). Built (terms_for taken listens (course total patience x y)) taken.config taken.env look name (since mid new)) same
-      (subst (λ (b : BuildSeen). Built (terms_for b listens (course total p x y)) b.config b.env look name (since mid new)) k.is h)
+      subst (λ (patience : Option ℕ). Built (terms_for taken listens (course total patience x y)) taken.config taken.env look name run) same
+      (subst (λ (b : BuildSeen). Built (terms_for b listens (course total p x y)) b.config b.env look name run) k.is h)
 
   -- the library was built
-  pub answers_built : (ended : Ended) → ended ≡ ended_well → Built (terms_for after listens (course total p x y)) after.config after.env look name (since mid new) → Promises {T = Unit {0}} after listens name (Ok tt) look (since mid new) (course total p x y) → Answers listens look (name, before) (since old new) ended (course total q x y)
+  pub answers_built : (ended : Ended) → ended ≡ ended_well → Built (terms_for after listens (course total p x y)) after.config after.env look name run → Promises {T = Unit {0}} after listens name (Ok tt) look run (course total p x y) → Answers listens look (name, before) part ended (course total q x y)
   answers_built ended is built h =
       let promises = as_taken {T = Unit {0}} (Ok tt) h in
       let way = promises.way in
-      let run : Went t (planned_stages before.config taken.env (repeating way.found.here way.writing) look name) (since mid new) x y = went_same before.config taken.env way look name t (since mid new) x y repeats promises.repeats promises.outcome.1 in
-      let went : Went t (Calls Lists ∷ planned_stages before.config taken.env (repeating way.found.here way.writing) look name) (Listed k.vars ∷ since mid new) x y = (Listed k.vars ∷ [], since mid new, x, (refl, listing_done t k.vars x, run)) in
-      subst (λ (part : List Event). Answers listens look (name, before) part ended (course total q x y)) (sym listed)
-      (inl (is, (record { vars = k.vars; run = since mid new; cut = refl; built = built_taken built }, (finds_of listens way promises.hears, went))))
+      let ran : Went t (planned_stages before.config taken.env (repeating way.found.here way.writing) look name) run x y = went_same before.config taken.env way look name t run x y repeats promises.repeats promises.outcome.1 in
+      let went : Went t (Calls Lists ∷ planned_stages before.config taken.env (repeating way.found.here way.writing) look name) (Listed k.vars ∷ run) x y = (Listed k.vars ∷ [], run, x, (refl, listing_done t k.vars x, ran)) in
+      subst (λ (l : List Event). Answers listens look (name, before) l ended (course total q x y)) (sym listed)
+      (inl (is, (record { vars = k.vars; run = run; cut = refl; built = built_taken built }, (finds_of listens way promises.hears, went))))
 
   -- it was refused behind the listing
-  pub halted_listed : (e : ErrorSeen) → Promises {T = Unit {0}} after listens name (Err e) look (since mid new) (course total p x y) → (finds : Findings listens) × Halted (terms_in listens (name, before) (since old new) (course total q x y)) (error_of look (name, before) (since old new)) (stages_of listens look (name, before) finds (since old new)) (since old new) e x y
+  pub halted_listed : (e : ErrorSeen) → Promises {T = Unit {0}} after listens name (Err e) look run (course total p x y) → (finds : Findings listens) × Halted (terms_in listens (name, before) part (course total q x y)) (error_of look (name, before) part) (stages_of listens look (name, before) finds part) part e x y
   halted_listed e h =
       let promises = as_taken {T = Unit {0}} (Err e) h in
       let way = promises.way in
       let refusal = refusal_error before.config taken.env look name in
-      let run : Halted t refusal (planned_stages before.config taken.env (repeating way.found.here way.writing) look name) (since mid new) e x y = halted_same before.config taken.env way look name t refusal (since mid new) e x y repeats promises.repeats promises.outcome in (
+      let ran : Halted t refusal (planned_stages before.config taken.env (repeating way.found.here way.writing) look name) run e x y = halted_same before.config taken.env way look name t refusal run e x y repeats promises.repeats promises.outcome in (
         finds_of listens way promises.hears,
-        subst (λ (part : List Event). Halted (terms_in listens (name, before) part (course total q x y)) (error_of look (name, before) part) (stages_of listens look (name, before) (finds_of listens way promises.hears) part) part e x y) (sym listed)
-            (halted_then t refusal (Calls Lists ∷ []) (planned_stages before.config taken.env (repeating way.found.here way.writing) look name) (Listed k.vars ∷ []) (since mid new) e x x y (called t Lists (Listed k.vars) (Listed k.vars ∷ []) x refl refl) run),
+        subst (λ (l : List Event). Halted (terms_in listens (name, before) l (course total q x y)) (error_of look (name, before) l) (stages_of listens look (name, before) (finds_of listens way promises.hears) l) l e x y) (sym listed)
+            (halted_then t refusal (Calls Lists ∷ []) (planned_stages before.config taken.env (repeating way.found.here way.writing) look name) (Listed k.vars ∷ []) run e x x y (called t Lists (Listed k.vars) (Listed k.vars ∷ []) x refl refl) ran),
       )
-
--- the same request, by its name
-pub answers_named : (listens : Bool) (look : Look) (a b : List ℕ) (build : BuildSeen) (part : List Event) (ended : Ended) (c : Course) → a ≡ b → Answers listens look (a, build) part ended c → Answers listens look (b, build) part ended c
-answers_named listens look a b build part ended c same h = subst (λ (name : List ℕ). Answers listens look (name, build) part ended c) same h
-
--- the same words, as they were read
-pub answers_read : (listens : Bool) (look : Look) (words known : Result Wish BadWord) (part : List Event) (ended : Ended) (c : Course) → words ≡ known → AnswersWords listens look known part ended c → AnswersWords listens look words part ended c
-answers_read listens look words known part ended c same a = subst (λ (w : Result Wish BadWord). AnswersWords listens look w part ended c) (sym same) a
 
 -- a bad word that was read is the first of the words
 pub bad_read : (words : Result Wish BadWord) (e : ReadError) (bad : BadWord) → e ≡ Bad bad → (e ≡ WantsMemory) ⊎ (refusal_of words ≡ Some e) → words ≡ Err bad
 bad_read words e bad is (inl wants) = let clash : Bad bad ≡ WantsMemory = sym is ∙ wants in absurd (cc)
 bad_read (Ok wish) e bad is (inr refused) = absurd (cc)
 bad_read (Err found) e bad is (inr refused) = let same : Some (Bad found) ≡ Some (Bad bad) = refused ∙ ap Some is in let one : found ≡ bad = cc in ap Err one
-
--- memory was wanted before a run that is to be recorded was begun
-wanting_unbegun : (log : List Event) (ended : Ended) (c : Course) → ended ≡ ended_wanting → c.after ≡ c.before → Unbegun (since log log) ended c
-wanting_unbegun log ended c is same = record {
-  error = no_memory;
-  front = since log log;
-  line = [];
-  cut = sym (append-nil (since log log));
-  cause = inl (inl (λ t x. halted_none t None (Calls Lists ∷ []) (since log log) no_memory x (part_is log log [] (sym (append-nil log))) refl (λ empty. absurd (cc))));
-  says = inr (is, refl);
-  idle = same;
-}
-
--- memory was wanted before anything was done
-pub answers_wanting : (listens : Bool) (look : Look) (words : Result Wish BadWord) (log : List Event) (ended : Ended) (c : Course) → ended ≡ ended_wanting → c.after ≡ c.before → AnswersWords listens look words (since log log) ended c
-answers_wanting listens look (Ok (Records path q)) log ended c is same = inl (wanting_unbegun log ended c is same)
-answers_wanting listens look (Ok (Archives q)) log ended c is same = tt
-answers_wanting listens look (Ok (Generates n)) log ended c is same = same
-answers_wanting listens look (Ok (Expands b)) log ended c is same = same
-answers_wanting listens look (Ok (Shows b)) log ended c is same = same
-answers_wanting listens look (Ok (Compiles q)) log ended c is same =
-    let none : since log log ≡ [] = part_is log log [] (sym (append-nil log)) in
-    inr (inr (
-      is,
-      (
-        unfound listens,
-        subst (λ (y : Means). IsHalted (terms_in listens q (since log log) c) (error_of look q (since log log)) (stages_of listens look q (unfound listens) (since log log)) (since log log) c.before y) (sym same)
-            (no_memory, halted_none (terms_in listens q (since log log) c) (error_of look q (since log log)) (stages_of listens look q (unfound listens) (since log log)) (since log log) no_memory c.before none refl (λ empty. absurd (cc))),
-      ),
-    ))
-answers_wanting listens look (Err bad) log ended c is same = (inr (is, part_is log log [] (sym (append-nil log))), same)
-
--- what a call asks behind the listing of the variables, it asks for the request
-pub asked_captured : (steady : Bool) (world : Question → Outcome) (name : List ℕ) (before after : BuildSeen) (old mid new : List Event) → mid ≡ old ++ since old mid → new ≡ mid ++ since mid new → Captures before after (since old mid) → Asked steady world (probe_folder after.config after.env) (RunAsks after.config after.env) (since mid new) → AsksFor steady world (name, before) (since old new)
-asked_captured steady world name before after old mid new f h c k =
-    let part : since old new ≡ (Listed c.vars ∷ []) ++ (since mid new ++ []) = since_since old mid new f h ∙ ap (λ l. l ++ since mid new) c.listed ∙ ap (λ l. Listed c.vars ∷ l) (sym (append-nil (since mid new))) in
-    let there : Asked steady world (probe_folder before.config (with_vars before.env c.vars)) (RunAsks before.config (with_vars before.env c.vars)) (since mid new) =
-    subst (λ (b : BuildSeen). Asked steady world (probe_folder b.config b.env) (RunAsks b.config b.env) (since mid new)) c.is k in
-    subst (λ (p : List Event). AsksFor steady world (name, before) p) (sym part) (asked_around steady world (probe_folder before.config (with_vars before.env c.vars)) (RunAsks before.config (with_vars before.env c.vars)) (Listed c.vars ∷ []) (since mid new) [] refl refl there)

@@ -6,15 +6,15 @@ use Rattle.std.specs.Prelude.{◌≤◌, ◌*◌}
 use Rattle.std.proofs.Math.Nat.{mul-le-mul_left}
 use Rattle.cc_env.specs.Env.{EnvSeen}
 use Rattle.cc_host.specs.Question.{Look, answers}
-use Rattle.cc_host.specs.Part.{Step, since}
+use Rattle.cc_host.specs.Part.{Step}
 use Rattle.cc_host.specs.Part.Step.{Lists}
 use Rattle.cc_host.specs.declared.event.Event.{Event}
 use Rattle.cc_host.specs.declared.event.Event.TheVariants.{Listed}
-use Rattle.cc_host.specs.declared.event.LineKind.TheVariants.{Link, Rerun}
+use Rattle.cc_host.specs.declared.event.LineKind.TheVariants.{Rerun}
 use Rattle.cc_host.specs.declared.question.Outcome.{Outcome}
 use Rattle.cc_host.specs.declared.question.Question.{Question}
 use Rattle.cc_jobs.specs.Seats.{Rose}
-use Rattle.cc_flags.specs.Given.{is_disabled, probe_folder}
+use Rattle.cc_flags.specs.Given.{is_disabled}
 use Rattle.cc_plan.specs.Plan.{archive_refusal, lists_of_run, removal_steps, run_asks_folder, copy_steps, run_has_one_form}
 use Rattle.cc_plan.specs.Questions.{RunAsks, PlanAsks, ArchiverAsks, RanlibAsks}
 use Rattle.cc_plan.specs.Quiet.{quiet_warnings}
@@ -32,8 +32,8 @@ use Rattle.cc_build.specs.Archiving.{archive_reads, unarchived_error}
 use Rattle.cc_build.specs.Attempts.{to_attempt}
 use Rattle.cc_build.specs.Build.{BuildSeen, AsksByRun, probes}
 use Rattle.cc_build.specs.Captured.{with_vars, Captures, CaptureEnds}
-use Rattle.cc_build.specs.Course.{Course, course_alone}
-use Rattle.cc_build.specs.Error.{ErrorSeen, no_memory}
+use Rattle.cc_build.specs.Course.{course_alone}
+use Rattle.cc_build.specs.Error.{ErrorSeen}
 use Rattle.cc_build.specs.Failed.{Failed, HasFault}
 use Rattle.cc_build.specs.Linking.{linked_name, link_reads}
 use Rattle.cc_build.specs.Promises.{terms_for, AreFirst, NothingRuns}
@@ -43,7 +43,7 @@ use Rattle.cc_build.specs.Stage.{Stage, asked_then, archive_stages as library_ar
 use Rattle.cc_build.specs.Stage.Stage.{Asks, Calls}
 use Rattle.cc_build.specs.Went.{Terms, Means, Ends, Partly}
 use Rattle.cc_build.proofs.FormLaws.{FormFirst, formed_then, formed_unless, library_first, none_first}
-use Rattle.cc_build.proofs.Going.{called, part_is, halted_among, halted_more, halted_none, ends_then}
+use Rattle.cc_build.proofs.Going.{called, halted_among, halted_more, ends_then}
 use Rattle.cc_build.proofs.OrderLaws.{ended_partly, no_line_archives, no_note_archives}
 use Rattle.cc_build.proofs.RerunLaws.{name_commands, name_children}
 use Rattle.cc_build.proofs.RunLaws.{commands_then, commands_calls, commands_written, children_then, children_calls, children_written, went_started, went_well}
@@ -51,16 +51,12 @@ use Rattle.cc_build.proofs.SettledLaws.{went_attempts, partly_first}
 use Rattle.cc_build.proofs.SourceLaws.{AreNotes, ending_notes}
 use Rattle.cc_build.proofs.StopLaws.{ArePlain, plain_then, plain_lines, plain_notes, plain_unless, plain_library}
 use Rattle.cc_build.proofs.TurnLaws.{halted_bound}
-use Rattle.cc_command.specs.Answer.{AnswersError, IfArchives, IsAnswerOf, env_in, error_line, heard, repeating, told, ended_well, ended_wanting}
+use Rattle.cc_command.specs.Answer.{AnswersError, error_line, heard, repeating, told, ended_well, ended_wanting}
 use Rattle.cc_command.specs.Archived.{alone, library_at, directed_stages, behind_library, archive_stages, archive_refused, Agree, Archiving, build_in, wished_stages, wished_refusal, WishEnds, Says, Archived, Written, ArchivePromises}
 use Rattle.cc_command.specs.Promises.{PrintsLast, IsLine, FaultsLast, EndsSpent}
-use Rattle.cc_command.specs.Asks.{AsksAlone, AsksWish, AsksWords}
-use Rattle.cc_command.specs.Shown.{AsksTools, listed_build}
-use Rattle.cc_command.specs.Read.{Request, Wish, name_of, compile_wish, wish_of}
-use Rattle.cc_command.specs.declared.words.Job.{Job}
-use Rattle.cc_command.specs.declared.words.Job.TheVariants.{Compile, Archive, Generate, Expand, Show}
-use Rattle.cc_command.specs.Read.Wish.{Compiles, Records, Archives, Generates, Expands, Shows}
-use Rattle.cc_command.specs.declared.words.BadWord.{BadWord}
+use Rattle.cc_command.specs.Asks.{AsksAlone}
+use Rattle.cc_command.specs.Shown.{AsksTools}
+use Rattle.cc_command.specs.Read.{Request}
 use Rattle.cc_command.specs.declared.ended.Ended.{Ended}
 use Rattle.cc_command.proofs.EnoughLaws.{count, unless_few, ended_count, mapped, disabled_or, first_never, NeverSpent}
 use Rattle.cc_command.proofs.PromiseLaws.{line_of, heard_same, turns_same, same_error, stages_last, spends}
@@ -117,22 +113,6 @@ module _ (listens : Bool) (steady : Bool) (world : Question → Outcome) (patien
       says = says;
     }
 
-  -- memory for the words was wanted, and nothing was done
-  pub unread : (request : Request) (part : List Event) (ended : Ended) → part ≡ [] → ended ≡ ended_wanting → Archived listens steady world request patience turns part ended
-  unread request part ended none is = record {
-    run = [];
-    line = [];
-    cut = none;
-    made = [];
-    linked = [];
-    parts = refl;
-    made_asks = none_asked (alone (build_in request []));
-    linked_asks = none_asked (build_in request []);
-    result = Err no_memory;
-    ends = λ look links agree. (turns, unwritten, halted_none (terms_for (alone (build_in request [])) listens (course_alone patience turns turns)) (wished_refusal request look links []) (wished_stages request listens unwritten look links []) [] no_memory (course_alone patience turns turns).before refl refl (λ empty. absurd (cc)));
-    says = inr (is, refl);
-  }
-
   -- they were listed, and then the archive and its link lines ended so
   module _ (name : List ℕ) (before after : BuildSeen) (listing part : List Event) (k : Captures before after listing) (result : Result (Unit {0}) ErrorSeen) where
     abbrev listed_run : List Event
@@ -165,16 +145,6 @@ module _ (listens : Bool) (steady : Bool) (world : Question → Outcome) (patien
           ends = λ look links agree. let o = h.ends look links agree in (o.0, o.1, listed_ends look links o.0 o.1 o.2);
           says = says;
         }
-
--- words that were not read for want of memory
-pub archived_wanting : (listens : Bool) (steady : Bool) (world : Question → Outcome) (patience : Option ℕ) (turns : ℕ) (log : List Event) (words : Result Wish BadWord) (ended : Ended) → ended ≡ ended_wanting → IfArchives words (λ q. Archived listens steady world q patience turns (since log log) ended)
-archived_wanting listens steady world patience turns log (Ok (Compiles q)) ended is = tt
-archived_wanting listens steady world patience turns log (Ok (Records path q)) ended is = tt
-archived_wanting listens steady world patience turns log (Ok (Archives q)) ended is = unread listens steady world patience turns q (since log log) ended (part_is log log [] (sym (append-nil log))) is
-archived_wanting listens steady world patience turns log (Ok (Generates n)) ended is = tt
-archived_wanting listens steady world patience turns log (Ok (Expands b)) ended is = tt
-archived_wanting listens steady world patience turns log (Ok (Shows b)) ended is = tt
-archived_wanting listens steady world patience turns log (Err bad) ended is = tt
 
 -- ---- the commands of a library
 
@@ -499,34 +469,6 @@ module _ (listens : Bool) (steady : Bool) (world : Question → Outcome) (q : Re
     enough = its_enough;
   }
 
--- the same of words
-pub archive_promises : (listens : Bool) (steady : Bool) (world : Question → Outcome) (patience : Option ℕ) (turned : ℕ) (part : List Event) (ended : Ended) (words : Result Wish BadWord) → IfArchives words (λ q. Archived listens steady world q patience turned part ended) → IfArchives words (λ q. ArchivePromises listens steady world q patience turned part ended)
-archive_promises listens steady world patience turned part ended (Ok (Compiles q)) h = tt
-archive_promises listens steady world patience turned part ended (Ok (Records path q)) h = tt
-archive_promises listens steady world patience turned part ended (Ok (Archives q)) h = archive_promised listens steady world q patience turned part ended h
-archive_promises listens steady world patience turned part ended (Ok (Generates n)) h = tt
-archive_promises listens steady world patience turned part ended (Ok (Expands b)) h = tt
-archive_promises listens steady world patience turned part ended (Ok (Shows b)) h = tt
-archive_promises listens steady world patience turned part ended (Err bad) h = tt
-
--- ---- by the job
-
--- a job that compiles answers its wish so
-pub of_compile : (listens : Bool) (job : Job) (name : List ℕ) (build : BuildSeen) (database : Option (List ℕ)) (ended : Ended) (look : Look) (part : List Event) (c : Course) → job ≡ Compile name → IsAnswerOf listens (compile_wish database (name_of job, build)) ended look part c → IsAnswerOf listens (wish_of job database build) ended look part c
-of_compile listens (Compile n) name build database ended look part c is h = h
-of_compile listens (Archive n) name build database ended look part c is h = absurd (cc)
-of_compile listens (Generate n) name build database ended look part c is h = absurd (cc)
-of_compile listens Expand name build database ended look part c is h = absurd (cc)
-of_compile listens Show name build database ended look part c is h = absurd (cc)
-
--- a job that archives asks what its wish does
-pub of_archive : (listens : Bool) (job : Job) (name : List ℕ) (build : BuildSeen) (database : Option (List ℕ)) (steady : Bool) (world : Question → Outcome) (patience : Option ℕ) (turned : ℕ) (part : List Event) (ended : Ended) → job ≡ Archive name → Archived listens steady world (name_of job, build) patience turned part ended → AsksWish steady world (wish_of job database build) part
-of_archive listens (Compile n) name build database steady world patience turned part ended is h = absurd (cc)
-of_archive listens (Generate n) name build database steady world patience turned part ended is h = absurd (cc)
-of_archive listens Expand name build database steady world patience turned part ended is h = absurd (cc)
-of_archive listens Show name build database steady world patience turned part ended is h = absurd (cc)
-of_archive listens (Archive n) name build database steady world patience turned part ended is h = archived_asks listens steady world (n, build) patience turned part ended h
-
 -- ---- nothing was asked
 
 -- a part without a question asks for no tool
@@ -542,25 +484,3 @@ no_tools_asked steady world b part none = record {
   ranlib_asks = asked_none steady world (probes b) (RanlibAsks b.config b.env) [] refl;
   quiet = none;
 }
-
-pub asked_wanting : (steady : Bool) (world : Question → Outcome) (log : List Event) (words : Result Wish BadWord) → AsksWords steady world words (since log log)
-asked_wanting steady world log (Ok (Compiles q)) =
-    let none : since log log ≡ [] = part_is log log [] (sym (append-nil log)) in
-    asked_none steady world (probe_folder q.1.config (env_in q (since log log))) (RunAsks q.1.config (env_in q (since log log))) (since log log) (ap question_events none)
-asked_wanting steady world log (Ok (Records path q)) =
-    let none : since log log ≡ [] = part_is log log [] (sym (append-nil log)) in
-    asked_none steady world (probe_folder q.1.config (env_in q (since log log))) (RunAsks q.1.config (env_in q (since log log))) (since log log) (ap question_events none)
-asked_wanting steady world log (Ok (Archives q)) =
-    let none : since log log ≡ [] = part_is log log [] (sym (append-nil log)) in
-    let b = build_in q (since log log) in
-    ([], [], (none, asked_none steady world (probes (alone b)) (RunAsks (alone b).config (alone b).env) [] refl, asked_none steady world (probes b) (RunAsks b.config b.env) [] refl))
-asked_wanting steady world log (Ok (Generates n)) =
-    let none : since log log ≡ [] = part_is log log [] (sym (append-nil log)) in
-    ap question_events none
-asked_wanting steady world log (Ok (Expands b)) =
-    let none : since log log ≡ [] = part_is log log [] (sym (append-nil log)) in
-    asked_none steady world (probes (listed_build b (since log log))) (PlanAsks (listed_build b (since log log)).config (listed_build b (since log log)).env) (since log log) (ap question_events none)
-asked_wanting steady world log (Ok (Shows b)) = no_tools_asked steady world (listed_build b (since log log)) (since log log) (ap question_events (part_is log log [] (sym (append-nil log))))
-asked_wanting steady world log (Err bad) =
-    let none : since log log ≡ [] = part_is log log [] (sym (append-nil log)) in
-    ap question_events none

@@ -1,83 +1,112 @@
--- What was answered of words, one way or the other.
-use Rattle.std.proofs.Common.{ℕ, List, Bool, Option, Result, Ok, Err, sym, subst}
+-- What follows of any words from what was answered to them.
+use Rattle.std.proofs.Common.{◌≡◌, inl, inr, ap, ℕ, List, [], Result, Ok, Err}
+use Rattle.cc_host.specs.Question.{Look, answers}
 use Rattle.cc_host.specs.declared.event.Event.{Event}
-use Rattle.cc_host.specs.declared.question.Outcome.{Outcome}
-use Rattle.cc_host.specs.declared.question.Question.{Question}
-use Rattle.cc_host.specs.Question.{Look, answers, Holds, NoTwice}
-use Rattle.cc_tool.proofs.Asides.{aside_answers}
+use Rattle.cc_tool.specs.Asked.{question_events}
 use Rattle.cc_tool.proofs.SomeLemmas.{some_agree}
 use Rattle.cc_build.specs.Course.{Course}
 use Rattle.cc_build.specs.Promises.{NothingRuns}
-use Rattle.cc_command.specs.Answer.{Answers, AnswersRecord, AnswersBad, AnswersWords, IfArchives, IfExpands, IfGenerates, IfShows}
-use Rattle.cc_command.specs.Archived.{Archived}
+use Rattle.cc_command.specs.Answer.{Answers, AnswersRecord, AnswersBad, BuiltBy, IfCompiles}
+use Rattle.cc_command.specs.Answered.{Answered}
 use Rattle.cc_command.specs.Asks.{AsksWords}
-use Rattle.cc_command.specs.Expanded.{Expanded}
+use Rattle.cc_command.specs.Call.{Call, ByVerdicts, course_of}
+use Rattle.cc_command.specs.Promised.{Promised}
 use Rattle.cc_command.specs.Promises.{PrintsLast, FaultsLast}
-use Rattle.cc_command.specs.Read.{Wish}
-use Rattle.cc_command.specs.Shown.{Shown}
-use Rattle.cc_command.specs.Summary.{Sums}
+use Rattle.cc_command.specs.Read.{Request, Wish}
 use Rattle.cc_command.specs.Read.Wish.{Compiles, Records, Archives, Generates, Expands, Shows}
 use Rattle.cc_command.specs.declared.ended.Ended.{Ended}
 use Rattle.cc_command.specs.declared.words.BadWord.{BadWord}
-use Rattle.cc_command.proofs.ArchivedLaws.{archived_last, archived_faults, archived_settled}
-use Rattle.cc_command.proofs.ExpandedLaws.{expanded_last, expanded_faults, expanded_settled}
-use Rattle.cc_command.proofs.PromiseLaws.{begun_of, request_last, word_last, request_faults, word_faults}
+use Rattle.cc_command.proofs.ArchivedLaws.{archived_asks, archived_last, archived_faults, archived_settled, archive_promised}
+use Rattle.cc_command.proofs.ExpandedLaws.{expanded_last, expanded_faults, expanded_settled, expand_promises}
+use Rattle.cc_command.proofs.PromiseLaws.{begun_of, built_of, request_last, word_last, request_faults, word_faults}
+use Rattle.cc_command.proofs.RecordPromises.{record_promises}
 use Rattle.cc_command.proofs.RecordedLaws.{record_last, record_faults, record_settled}
-use Rattle.cc_command.proofs.SettledPromises.{request_settled, word_settled}
-use Rattle.cc_command.proofs.ShownLaws.{shown_last, shown_faults, shown_settled}
-use Rattle.cc_command.proofs.SummedLaws.{summed_last, summed_faults, summed_settled}
+use Rattle.cc_command.proofs.SettledPromises.{promised, request_settled, word_settled}
+use Rattle.cc_command.proofs.ShownLaws.{shown_last, shown_faults, shown_settled, show_promises}
+use Rattle.cc_command.proofs.SummedLaws.{summed_last, summed_faults, summed_settled, sums_promise}
 
--- a compile run by some verdicts and on some course, an archive alone, a large run, or bad words
-abbrev pub Said : (listens : Bool) → Bool → (Question → Outcome) → Option ℕ → ℕ → Result Wish BadWord → List Event → Ended → Type 0
-Said listens steady world patience turns (Ok (Compiles q)) part ended = (look : Look) × (c : Course) × Answers listens look q part ended c
-Said listens steady world patience turns (Ok (Records path q)) part ended = (look : Look) × (c : Course) × AnswersRecord listens look path q part ended c
-Said listens steady world patience turns (Ok (Archives q)) part ended = Archived listens steady world q patience turns part ended
-Said listens steady world patience turns (Ok (Generates count)) part ended = Sums count turns part ended
-Said listens steady world patience turns (Ok (Expands b)) part ended = Expanded listens steady world b part ended
-Said listens steady world patience turns (Ok (Shows b)) part ended = Shown listens steady world b part ended
-Said listens steady world patience turns (Err bad) part ended = AnswersBad bad part ended
+-- the line of a bad word asks nothing
+word_asks : (bad : BadWord) (part : List Event) (ended : Ended) → AnswersBad bad part ended → question_events part ≡ []
+word_asks bad part ended (inl (is, inl printed)) = ap question_events printed
+word_asks bad part ended (inl (is, inr faulted)) = ap question_events faulted.1
+word_asks bad part ended (inr (is, none)) = ap question_events none
 
-module _ (listens : Bool) (steady : Bool) (world : Question → Outcome) (patience : Option ℕ) (turns : ℕ) (part : List Event) (ended : Ended) where
-  pub said : (words : Result Wish BadWord) (on : ℕ → Course) → AsksWords steady world words part → Holds (answers part) (λ look. (left : ℕ) × AnswersWords listens look words part ended (on left)) → IfArchives words (λ q. Archived listens steady world q patience turns part ended) → IfGenerates words (λ count. Sums count turns part ended) → IfExpands words (λ b. Expanded listens steady world b part ended) → IfShows words (λ b. Shown listens steady world b part ended) → Said listens steady world patience turns words part ended
-  said (Ok (Compiles q)) on asked run archived generated expanded shown =
-      let some = some_agree (answers part) asked.once in
-      let answer = run.under some.0 some.1 in
-      (some.0, on answer.0, answer.1)
-  said (Ok (Records path q)) on asked run archived generated expanded shown =
-      let some = some_agree (answers part) asked.once in
-      let answer = run.under some.0 some.1 in
-      (some.0, on answer.0, answer.1)
-  said (Ok (Archives q)) on asked run archived generated expanded shown = archived
-  said (Ok (Generates count)) on asked run archived generated expanded shown = generated
-  said (Ok (Expands b)) on asked run archived generated expanded shown = expanded
-  said (Ok (Shows b)) on asked run archived generated expanded shown = shown
-  said (Err bad) on asked run archived generated expanded shown =
-      let some = some_agree (answers part) (subst NoTwice (sym (aside_answers part asked)) tt) in
-      (run.under some.0 some.1).1.0
+module _ (c : Call) (ended : Ended) where
+  -- a compile run is answered so by some verdicts, and on some course
+  some_answer : (q : Request) → Answered c (Ok (Compiles q)) ended → (look : Look) × (k : Course) × Answers c.listens look q c.part ended k
+  some_answer q a =
+      let some = some_agree (answers c.part) a.0.once in
+      let answer = a.1.under some.0 some.1 in
+      (some.0, course_of c answer.0, answer.1)
 
-  pub prints_last : (words : Result Wish BadWord) → Said listens steady world patience turns words part ended → PrintsLast part ended
-  prints_last (Ok (Compiles q)) s = request_last listens s.0 q part ended s.1 s.2
-  prints_last (Ok (Records path q)) s = record_last listens s.0 path q part ended s.1 s.2
-  prints_last (Ok (Archives q)) s = archived_last listens steady world q patience turns part ended s
-  prints_last (Ok (Generates count)) s = summed_last count turns part ended s
-  prints_last (Ok (Expands b)) s = expanded_last listens steady world b part ended s
-  prints_last (Ok (Shows b)) s = shown_last listens steady world b part ended s
-  prints_last (Err bad) s = word_last bad part ended s
+  some_record : (path : List ℕ) (q : Request) → Answered c (Ok (Records path q)) ended → (look : Look) × (k : Course) × AnswersRecord c.listens look path q c.part ended k
+  some_record path q a =
+      let some = some_agree (answers c.part) a.0.once in
+      let answer = a.1.under some.0 some.1 in
+      (some.0, course_of c answer.0, answer.1)
 
-  pub faults_last : (words : Result Wish BadWord) → Said listens steady world patience turns words part ended → FaultsLast part
-  faults_last (Ok (Compiles q)) s = request_faults listens s.0 q part s.1 (begun_of listens s.0 q part ended s.1 s.2)
-  faults_last (Ok (Records path q)) s = record_faults listens s.0 path q part ended s.1 s.2
-  faults_last (Ok (Archives q)) s = archived_faults listens steady world q patience turns part ended s
-  faults_last (Ok (Generates count)) s = summed_faults count turns part ended s
-  faults_last (Ok (Expands b)) s = expanded_faults listens steady world b part ended s
-  faults_last (Ok (Shows b)) s = shown_faults listens steady world b part ended s
-  faults_last (Err bad) s = word_faults bad part ended s
+  pub headline : (words : Result Wish BadWord) → Answered c words ended → ByVerdicts c (λ look part k. IfCompiles words (λ q. ended.status ≡ 0 → BuiltBy c.listens look q part k))
+  headline (Ok (Compiles q)) a = record {
+    under = λ look agree.
+        let answer = a.1.under look agree in
+        (answer.0, built_of c.listens look q c.part ended (course_of c answer.0) answer.1);
+  }
+  headline (Ok (Records path q)) a = record { under = λ look agree. (0, tt) }
+  headline (Ok (Archives q)) a = record { under = λ look agree. (0, tt) }
+  headline (Ok (Generates count)) a = record { under = λ look agree. (0, tt) }
+  headline (Ok (Expands b)) a = record { under = λ look agree. (0, tt) }
+  headline (Ok (Shows b)) a = record { under = λ look agree. (0, tt) }
+  headline (Err bad) a = record { under = λ look agree. (0, tt) }
 
-  pub settled : (words : Result Wish BadWord) → Said listens steady world patience turns words part ended → NothingRuns part
-  settled (Ok (Compiles q)) s = request_settled listens s.0 q part s.1 (begun_of listens s.0 q part ended s.1 s.2)
-  settled (Ok (Records path q)) s = record_settled listens s.0 path q part ended s.1 s.2
-  settled (Ok (Archives q)) s = archived_settled listens steady world q patience turns part ended s
-  settled (Ok (Generates count)) s = summed_settled count turns part ended s
-  settled (Ok (Expands b)) s = expanded_settled listens steady world b part ended s
-  settled (Ok (Shows b)) s = shown_settled listens steady world b part ended s
-  settled (Err bad) s = word_settled bad part ended s
+  pub all_promised : (words : Result Wish BadWord) → Answered c words ended → Promised c words ended
+  all_promised (Ok (Compiles q)) a = record {
+    under = λ look agree.
+        let answer = a.1.under look agree in
+        (answer.0, promised c.listens q ended look c.part (course_of c answer.0) answer.1);
+  }
+  all_promised (Ok (Records path q)) a = record {
+    under = λ look agree.
+        let answer = a.1.under look agree in
+        (answer.0, record_promises c.listens look path q c.part ended (course_of c answer.0) answer.1);
+  }
+  all_promised (Ok (Archives q)) a = (a.0, archive_promised c.listens c.steady c.world q c.patience c.turns c.part ended a.1)
+  all_promised (Ok (Generates count)) a = (a.0, sums_promise count c.turns c.part ended a.2)
+  all_promised (Ok (Expands b)) a = (a.0, expand_promises c.listens c.steady c.world b c.part ended a.1)
+  all_promised (Ok (Shows b)) a = (a.0, show_promises c.listens c.steady c.world b c.part ended a.1)
+  all_promised (Err bad) a = a
+
+  pub prints_last : (words : Result Wish BadWord) → Answered c words ended → PrintsLast c.part ended
+  prints_last (Ok (Compiles q)) a = let s = some_answer q a in request_last c.listens s.0 q c.part ended s.1 s.2
+  prints_last (Ok (Records path q)) a = let s = some_record path q a in record_last c.listens s.0 path q c.part ended s.1 s.2
+  prints_last (Ok (Archives q)) a = archived_last c.listens c.steady c.world q c.patience c.turns c.part ended a.1
+  prints_last (Ok (Generates count)) a = summed_last count c.turns c.part ended a.2
+  prints_last (Ok (Expands b)) a = expanded_last c.listens c.steady c.world b c.part ended a.1
+  prints_last (Ok (Shows b)) a = shown_last c.listens c.steady c.world b c.part ended a.1
+  prints_last (Err bad) a = word_last bad c.part ended a.1
+
+  pub faults_last : (words : Result Wish BadWord) → Answered c words ended → FaultsLast c.part
+  faults_last (Ok (Compiles q)) a = let s = some_answer q a in request_faults c.listens s.0 q c.part s.1 (begun_of c.listens s.0 q c.part ended s.1 s.2)
+  faults_last (Ok (Records path q)) a = let s = some_record path q a in record_faults c.listens s.0 path q c.part ended s.1 s.2
+  faults_last (Ok (Archives q)) a = archived_faults c.listens c.steady c.world q c.patience c.turns c.part ended a.1
+  faults_last (Ok (Generates count)) a = summed_faults count c.turns c.part ended a.2
+  faults_last (Ok (Expands b)) a = expanded_faults c.listens c.steady c.world b c.part ended a.1
+  faults_last (Ok (Shows b)) a = shown_faults c.listens c.steady c.world b c.part ended a.1
+  faults_last (Err bad) a = word_faults bad c.part ended a.1
+
+  pub settled : (words : Result Wish BadWord) → Answered c words ended → NothingRuns c.part
+  settled (Ok (Compiles q)) a = let s = some_answer q a in request_settled c.listens s.0 q c.part s.1 (begun_of c.listens s.0 q c.part ended s.1 s.2)
+  settled (Ok (Records path q)) a = let s = some_record path q a in record_settled c.listens s.0 path q c.part ended s.1 s.2
+  settled (Ok (Archives q)) a = archived_settled c.listens c.steady c.world q c.patience c.turns c.part ended a.1
+  settled (Ok (Generates count)) a = summed_settled count c.turns c.part ended a.2
+  settled (Ok (Expands b)) a = expanded_settled c.listens c.steady c.world b c.part ended a.1
+  settled (Ok (Shows b)) a = shown_settled c.listens c.steady c.world b c.part ended a.1
+  settled (Err bad) a = word_settled bad c.part ended a.1
+
+  pub asks_words : (words : Result Wish BadWord) → Answered c words ended → AsksWords c.steady c.world words c.part
+  asks_words (Ok (Compiles q)) a = a.0
+  asks_words (Ok (Records path q)) a = a.0
+  asks_words (Ok (Archives q)) a = archived_asks c.listens c.steady c.world q c.patience c.turns c.part ended a.1
+  asks_words (Ok (Generates count)) a = a.1
+  asks_words (Ok (Expands b)) a = a.1.asks
+  asks_words (Ok (Shows b)) a = a.1.asks
+  asks_words (Err bad) a = word_asks bad c.part ended a.1

@@ -4,7 +4,7 @@ use Rattle.std.specs.List.{list_all, list_any}
 use Rattle.std.proofs.lemmas.Bool.{and_parts}
 use Rattle.std.proofs.lemmas.Grind.{flat_map-append}
 use Rattle.std.proofs.lemmas.List.Folds.{list_all-append, list_any-append}
-use Rattle.cc_host.specs.Part.{Step, since, step_of, stop_of, stops, done, left, is_probing, StopsAt, IsPartly, IsWhole}
+use Rattle.cc_host.specs.Part.{Step, step_of, stop_of, stops, done, left, is_probing, StopsAt, IsPartly, IsWhole}
 use Rattle.cc_host.specs.Part.Step.{Runs, Prints, Lists}
 use Rattle.cc_host.specs.Question.{Look, Agrees, answers, Holds}
 use Rattle.cc_host.specs.declared.event.Event.{Event}
@@ -30,33 +30,26 @@ use Rattle.cc_build.specs.Attempts.{attempt_of, attempts, to_attempt}
 use Rattle.cc_build.specs.Build.{BuildSeen, AsksByPlan, probes}
 use Rattle.cc_build.specs.Captured.{with_vars, Captures, CaptureEnds}
 use Rattle.cc_build.specs.Compiler.{tool_error, tool_steps}
-use Rattle.cc_build.specs.Course.{Course, CallsEnd}
+use Rattle.cc_build.specs.Course.{CallsEnd}
 use Rattle.cc_build.specs.Error.{ErrorSeen, no_memory}
 use Rattle.cc_build.specs.Expand.{unexpanded_error, RunsTool, ExpandEnds, ExpandsAndTells, ExpandedEnds}
 use Rattle.cc_build.specs.Failed.{HasFault, is_fault, ran_badly}
 use Rattle.cc_build.specs.Outcome.{Outcome, IsCausedBy}
 use Rattle.cc_build.specs.Promises.{NothingRuns, FaultsEnd}
 use Rattle.cc_build.specs.Shows.{shows_of}
-use Rattle.cc_build.specs.Stage.{calls, rerun_lines}
+use Rattle.cc_build.specs.Stage.{rerun_lines}
 use Rattle.cc_build.specs.Told.{expand_reads, name_steps}
 use Rattle.cc_build.specs.Way.{Firsts, chosen}
 use Rattle.cc_build.specs.Went.{terms, means}
 use Rattle.cc_build.proofs.ExpandLaws.{Shape, gives_shape, given_faultless, given_attempts, gives_none, shape_faults, shape_first}
-use Rattle.cc_build.proofs.Going.{halted_none, part_is}
 use Rattle.cc_build.proofs.Looks.{agrees_parts}
 use Rattle.cc_build.proofs.Trying.{beyond, no_such_fault}
-use Rattle.cc_command.specs.Answer.{AnswersError, IfExpands, IsAnswerOf, ended_well, ended_wanting}
+use Rattle.cc_command.specs.Answer.{AnswersError, ended_well, ended_wanting}
 use Rattle.cc_command.specs.Archived.{Says}
-use Rattle.cc_command.specs.Asks.{AsksWish}
 use Rattle.cc_command.specs.Expanded.{PrintsOutput, ExpandsSource, Expanding, ListsThenExpands, ExpandJobEnds, Expanded, expand_error, expansion_in, ignored_in, IsExpanded, IsFailed, IsSole, ExpandPromises}
 use Rattle.cc_command.specs.Promises.{PrintsLast, FaultsLast, IsLine}
-use Rattle.cc_command.specs.Read.{Wish, wish_of}
-use Rattle.cc_command.specs.Read.Wish.{Compiles, Records, Archives, Generates, Expands, Shows}
 use Rattle.cc_command.specs.Shown.{listed_build}
 use Rattle.cc_command.specs.declared.ended.Ended.{Ended}
-use Rattle.cc_command.specs.declared.words.BadWord.{BadWord}
-use Rattle.cc_command.specs.declared.words.Job.{Job}
-use Rattle.cc_command.specs.declared.words.Job.TheVariants.{Compile, Archive, Generate, Expand, Show}
 use Rattle.cc_command.proofs.ArchivedLaws.{says_last, says_line}
 use Rattle.cc_command.proofs.PromiseLaws.{faults_behind, known_memory}
 use Rattle.cc_build.proofs.PrintedLaws.{IsChildless, is_told, told_printed, told_warned, told_refused, or_false, neither, childless_then, calls_outcome}
@@ -378,19 +371,6 @@ module _ (listens : Bool) (steady : Bool) (world : Question → Verdicts) (b : B
     says = says;
   }
 
-  -- memory for the words was wanted, and nothing was done
-  unread : (part : List Event) (ended : Ended) → part ≡ [] → ended ≡ ended_wanting → Expanded listens steady world b part ended
-  unread part ended none is = record {
-    asks = nothing_asked part (ap question_events none);
-    run = [];
-    line = [];
-    cut = none;
-    childless = refl;
-    result = Err no_memory;
-    ends = λ look agree. inl (inl (λ t x. halted_none t None (calls (Lists ∷ [])) [] no_memory x refl refl (λ empty. absurd (cc))));
-    says = inr (is, refl);
-  }
-
   -- they were listed, and then the source was expanded so
   module _ (after : BuildSeen) (listing run : List Event) (k : Captures b after listing) (result : Result (Unit {0}) ErrorSeen) (line : List Event) (ended : Ended) where
     abbrev taken : BuildSeen
@@ -590,54 +570,10 @@ module _ (listens : Bool) (steady : Bool) (world : Question → Verdicts) (b : B
               ∙ flat_map-append attempt_of tool.run behind ∙ ap (λ l. attempts tool.run ++ l) behind_untried ∙ append-nil (attempts tool.run)
               ∙ given_attempts (shows_of (heard_by h.vars).config (heard_by h.vars).env listens) (expansion_in (heard_by h.vars) look) (ignored_in (heard_by h.vars) look) tool.run x.output tool.gives
 
-    promises : ExpandPromises listens steady world b part ended
-    promises = record {
+    pub expand_promises : ExpandPromises listens steady world b part ended
+    expand_promises = record {
       answer = s;
       expanded = λ zero_is look agree. done_by look s.result s.says (s.ends look agree) zero_is;
       sole = sole_so;
       complete = λ look agree accepted failed fault. complete_by look s.result s.says (s.ends look agree) accepted failed fault;
     }
-
--- the same of words
-pub expand_promises : (listens : Bool) (steady : Bool) (world : Question → Verdicts) (part : List Event) (ended : Ended) (words : Result Wish BadWord) → IfExpands words (λ b. Expanded listens steady world b part ended) → IfExpands words (λ b. ExpandPromises listens steady world b part ended)
-expand_promises listens steady world part ended (Ok (Compiles q)) s = tt
-expand_promises listens steady world part ended (Ok (Records path q)) s = tt
-expand_promises listens steady world part ended (Ok (Archives q)) s = tt
-expand_promises listens steady world part ended (Ok (Generates count)) s = tt
-expand_promises listens steady world part ended (Ok (Expands b)) s = promises listens steady world b part ended s
-expand_promises listens steady world part ended (Ok (Shows b)) s = tt
-expand_promises listens steady world part ended (Err bad) s = tt
-
--- ---- by the job
-
--- words that were not read for want of memory
-pub expanded_wanting : (listens : Bool) (steady : Bool) (world : Question → Verdicts) (log : List Event) (words : Result Wish BadWord) (ended : Ended) → ended ≡ ended_wanting → IfExpands words (λ b. Expanded listens steady world b (since log log) ended)
-expanded_wanting listens steady world log (Ok (Compiles q)) ended is = tt
-expanded_wanting listens steady world log (Ok (Records path q)) ended is = tt
-expanded_wanting listens steady world log (Ok (Archives q)) ended is = tt
-expanded_wanting listens steady world log (Ok (Generates count)) ended is = tt
-expanded_wanting listens steady world log (Ok (Expands b)) ended is = unread listens steady world b (since log log) ended (part_is log log [] (sym (append-nil log))) is
-expanded_wanting listens steady world log (Ok (Shows b)) ended is = tt
-expanded_wanting listens steady world log (Err bad) ended is = tt
-
--- a job that expands a source leaves the course as it was
-pub of_expand : (listens : Bool) (job : Job) (build : BuildSeen) (database : Option (List ℕ)) (ended : Ended) (look : Look) (part : List Event) (c : Course) → job ≡ Expand → c.after ≡ c.before → IsAnswerOf listens (wish_of job database build) ended look part c
-of_expand listens (Compile name) build database ended look part c is same = absurd (cc)
-of_expand listens (Archive name) build database ended look part c is same = absurd (cc)
-of_expand listens (Generate count) build database ended look part c is same = absurd (cc)
-of_expand listens Expand build database ended look part c is same = same
-of_expand listens Show build database ended look part c is same = absurd (cc)
-
-pub asks_expand : (listens : Bool) (job : Job) (build : BuildSeen) (database : Option (List ℕ)) (steady : Bool) (world : Question → Verdicts) (part : List Event) (ended : Ended) → job ≡ Expand → Expanded listens steady world build part ended → AsksWish steady world (wish_of job database build) part
-asks_expand listens (Compile name) build database steady world part ended is s = absurd (cc)
-asks_expand listens (Archive name) build database steady world part ended is s = absurd (cc)
-asks_expand listens (Generate count) build database steady world part ended is s = absurd (cc)
-asks_expand listens Expand build database steady world part ended is s = s.asks
-asks_expand listens Show build database steady world part ended is s = absurd (cc)
-
-pub expanded_expand : (listens : Bool) (job : Job) (build : BuildSeen) (database : Option (List ℕ)) (steady : Bool) (world : Question → Verdicts) (part : List Event) (ended : Ended) → job ≡ Expand → Expanded listens steady world build part ended → IfExpands (Ok (wish_of job database build)) (λ b. Expanded listens steady world b part ended)
-expanded_expand listens (Compile name) build database steady world part ended is s = absurd (cc)
-expanded_expand listens (Archive name) build database steady world part ended is s = tt
-expanded_expand listens (Generate count) build database steady world part ended is s = tt
-expanded_expand listens Expand build database steady world part ended is s = s
-expanded_expand listens Show build database steady world part ended is s = tt

@@ -7,10 +7,14 @@ pub mod DottedPaths
 pub mod EnoughLaws
 pub mod EntryLaws
 pub mod ExpandedLaws
+pub mod FailingLaws
 pub mod FlagLaws
 pub mod GeneratedLaws
 pub mod GeneratedObjects
 pub mod GeneratedRunLaws
+pub mod GraphFailures
+pub mod GraphLaws
+pub mod GraphedLaws
 pub mod JobLaws
 pub mod KeyLaws
 pub mod NumberLaws
@@ -21,6 +25,7 @@ pub mod RecordPromises
 pub mod RecordedLaws
 pub mod RecordingLaws
 pub mod RepeatLaws
+pub mod ServedLaws
 pub mod SettingLaws
 pub mod SettledPromises
 pub mod ShowLaws

@@ -1,5 +1,5 @@
 -- What follows from an answer.
-use Rattle.std.proofs.Common.{◌≡◌, ◌⊎◌, inl, inr, ℕ, ◌+◌, ◌<◌, List, [], ◌∷◌, ◌++◌, length, map, Bool, true, false, ◌||◌, if◌then◌else◌, Option, None, Some, Result, Ok, Err, refl, sym, ◌∙◌, ap, subst, append-nil, arith}
+use Rattle.std.proofs.Common.{◌≡◌, ◌⊎◌, inl, inr, ℕ, ◌+◌, ◌<◌, List, [], ◌∷◌, ◌++◌, length, map, Bool, true, false, ◌||◌, if◌then◌else◌, Option, None, Some, refl, sym, ◌∙◌, ap, subst, append-nil, arith}
 use Rattle.std.specs.Prelude.{◌≤◌, ◌*◌}
 use Rattle.std.specs.List.{list_any}
 use Rattle.std.proofs.Math.Nat.{mul-le-mul_left}
@@ -39,10 +39,9 @@ use Rattle.cc_build.proofs.PromiseLaws.{none_inside, fault_ends}
 use Rattle.cc_build.proofs.FormLaws.{FormFirst, planned_first, halted_cause}
 use Rattle.cc_build.proofs.StopLaws.{ArePlain, HasCause, planned_plain}
 use Rattle.cc_build.proofs.TurnLaws.{halted_turns, halted_bound}
-use Rattle.cc_command.specs.Answer.{Answers, AnswersBad, AnswersWords, IfCompiles, BuiltBy, Refused, PrintsLine, first_listing, heard, env_in, terms_of, terms_in, warning, repeating, Findings, stages_of, error_of, error_line, word_line, is_wanting, told, ended_well, ended_refused, ended_wanting}
-use Rattle.cc_command.specs.Promises.{PrintsLast, IsLine, Begun, IsBegun, ArchivesBehind, CompilesFirst, EndsAlone, FaultsLast, EndsSpent, IsComplete, IsEnough}
-use Rattle.cc_command.specs.Read.{Request, Wish}
-use Rattle.cc_command.specs.Read.Wish.{Compiles, Records, Archives, Generates, Expands, Shows}
+use Rattle.cc_command.specs.Answer.{Answers, AnswersBad, BuiltBy, Refused, PrintsLine, first_listing, heard, env_in, terms_of, terms_in, warning, repeating, Findings, stages_of, error_of, error_line, word_line, is_wanting, told, ended_well, ended_refused, ended_wanting}
+use Rattle.cc_command.specs.Promises.{PrintsLast, IsLine, Begun, ArchivesBehind, EndsAlone, FaultsLast, EndsSpent}
+use Rattle.cc_command.specs.Read.{Request}
 use Rattle.cc_command.specs.declared.ended.Ended.{Ended}
 use Rattle.cc_command.specs.declared.words.BadWord.{BadWord}
 use Rattle.cc_command.proofs.EnoughLaws.{planned_count, never_spent}
@@ -53,15 +52,6 @@ pub built_of : (listens : Bool) (look : Look) (q : Request) (part : List Event) 
 built_of listens look q part ended c (inl well) zero_is = well.1.0
 built_of listens look q part ended c (inr (inl r)) zero_is = let s : ended.status ≡ 1 = ap (λ (x : Ended). x.status) r.is in absurd (cc)
 built_of listens look q part ended c (inr (inr wanting)) zero_is = let s : ended.status ≡ 3 = ap (λ (x : Ended). x.status) wanting.0 in absurd (cc)
-
-pub headline : (listens : Bool) (look : Look) (words : Result Wish BadWord) (part : List Event) (ended : Ended) (c : Course) → AnswersWords listens look words part ended c → IfCompiles words (λ request. ended.status ≡ 0 → BuiltBy listens look request part c)
-headline listens look (Ok (Compiles q)) part ended c a = built_of listens look q part ended c a
-headline listens look (Ok (Records path q)) part ended c a = tt
-headline listens look (Ok (Archives q)) part ended c a = tt
-headline listens look (Ok (Generates n)) part ended c a = tt
-headline listens look (Ok (Expands b)) part ended c a = tt
-headline listens look (Ok (Shows b)) part ended c a = tt
-headline listens look (Err bad) part ended c a = tt
 
 -- ---- the line of it is last
 
@@ -98,15 +88,6 @@ begun_of listens look q part ended c (inr (inr wanting)) = record {
   partly = halted_partly (terms_in listens q part c) (error_of look q part) (stages_of listens look q wanting.1.0 part) part wanting.1.1.0 c.before c.after wanting.1.1.1;
   printed = inl refl;
 }
-
-pub is_begun : (listens : Bool) (look : Look) (words : Result Wish BadWord) (part : List Event) (ended : Ended) (c : Course) → AnswersWords listens look words part ended c → IsBegun listens look words part c
-is_begun listens look (Ok (Compiles q)) part ended c a = begun_of listens look q part ended c a
-is_begun listens look (Ok (Records path q)) part ended c a = tt
-is_begun listens look (Ok (Archives q)) part ended c a = tt
-is_begun listens look (Ok (Generates n)) part ended c a = tt
-is_begun listens look (Ok (Expands b)) part ended c a = tt
-is_begun listens look (Ok (Shows b)) part ended c a = tt
-is_begun listens look (Err bad) part ended c a = tt
 
 -- ---- the line behind a run
 
@@ -208,14 +189,8 @@ order_of listens look q part c b before after event is archive =
     let found = order before after event is archive in
     record { runs = found.0; rest = found.1; cut = found.2.0; here = b.finds.here; hears = b.finds.hears; compiled = found.2.1 }
 
-pub compiles_first : (listens : Bool) (look : Look) (words : Result Wish BadWord) (part : List Event) (ended : Ended) (c : Course) → AnswersWords listens look words part ended c → CompilesFirst listens look words part c
-compiles_first listens look (Ok (Compiles q)) part ended c a = order_of listens look q part c (begun_of listens look q part ended c a)
-compiles_first listens look (Ok (Records path q)) part ended c a = tt
-compiles_first listens look (Ok (Archives q)) part ended c a = tt
-compiles_first listens look (Ok (Generates n)) part ended c a = tt
-compiles_first listens look (Ok (Expands b)) part ended c a = tt
-compiles_first listens look (Ok (Shows b)) part ended c a = tt
-compiles_first listens look (Err bad) part ended c a = tt
+pub compiles_first : (listens : Bool) (look : Look) (q : Request) (part : List Event) (ended : Ended) (c : Course) → Answers listens look q part ended c → ArchivesBehind listens look q part c
+compiles_first listens look q part ended c a = order_of listens look q part c (begun_of listens look q part ended c a)
 
 -- ---- a fault is last
 
@@ -352,19 +327,10 @@ request_spends listens look q part ended c r valid nothing_failed no_fault none_
     (tt, planned_plain q.1.config (env_in q r.run) (repeating r.finds.here r.finds.writing) look q.0) (λ other. inr (refl, planned_first q.1.config (env_in q r.run) (repeating r.finds.here r.finds.writing) look q.0 other))
     (no_refusal look q.1.config (env_in q r.run) q.0 r.error valid) nothing_failed no_fault none_rose
 
-complete_of : (listens : Bool) (look : Look) (q : Request) (part : List Event) (ended : Ended) (c : Course) → Answers listens look q part ended c → Valid q.1.config (env_in q part) look q.0 → (Failed (run_has_one_form q.1.config (env_in q part) look) part → ⊥) → (HasFault part → ⊥) → (Rose c.before.faults c.after.faults → ⊥) → (ended ≡ ended_well) ⊎ (EndsSpent c.before.left part ended ⊎ (ended ≡ ended_wanting))
-complete_of listens look q part ended c (inl well) valid failed fault rose = inl well.0
-complete_of listens look q part ended c (inr (inl r)) valid failed fault rose = inr (inl (request_spends listens look q part ended c r (valid_in listens look q part ended c r valid) (failed_then listens look q part ended c r failed) fault rose))
-complete_of listens look q part ended c (inr (inr wanting)) valid failed fault rose = inr (inr wanting.0)
-
-pub complete : (listens : Bool) (look : Look) (words : Result Wish BadWord) (part : List Event) (ended : Ended) (c : Course) → AnswersWords listens look words part ended c → IsComplete look words part ended c
-complete listens look (Ok (Compiles q)) part ended c a = λ valid failed fault rose. complete_of listens look q part ended c a valid failed fault rose
-complete listens look (Ok (Records path q)) part ended c a = tt
-complete listens look (Ok (Archives q)) part ended c a = tt
-complete listens look (Ok (Generates n)) part ended c a = tt
-complete listens look (Ok (Expands b)) part ended c a = tt
-complete listens look (Ok (Shows b)) part ended c a = tt
-complete listens look (Err bad) part ended c a = tt
+pub complete : (listens : Bool) (look : Look) (q : Request) (part : List Event) (ended : Ended) (c : Course) → Answers listens look q part ended c → Valid q.1.config (env_in q part) look q.0 → (Failed (run_has_one_form q.1.config (env_in q part) look) part → ⊥) → (HasFault part → ⊥) → (Rose c.before.faults c.after.faults → ⊥) → (ended ≡ ended_well) ⊎ (EndsSpent c.before.left part ended ⊎ (ended ≡ ended_wanting))
+complete listens look q part ended c (inl well) valid failed fault rose = inl well.0
+complete listens look q part ended c (inr (inl r)) valid failed fault rose = inr (inl (request_spends listens look q part ended c r (valid_in listens look q part ended c r valid) (failed_then listens look q part ended c r failed) fault rose))
+complete listens look q part ended c (inr (inr wanting)) valid failed fault rose = inr (inr wanting.0)
 
 -- ---- the turns are enough
 
@@ -377,28 +343,19 @@ too_few p n files objects most turned few count enough same =
     let more : p * n ≤ p * (2 * files + objects + 2) = mul-le-mul_left p (omega (arith, count)) in
     omega arith
 
-enough_of : (listens : Bool) (look : Look) (q : Request) (part : List Event) (ended : Ended) (c : Course) → Answers listens look q part ended c → (total p : ℕ) → c.total ≡ Some total → c.patience ≡ Some p → p * (2 * length q.1.config.files + length q.1.config.objects + 2) ≤ c.before.left → EndsSpent c.before.left part ended → ⊥
-enough_of listens look q part ended c (inl well) total p one patient enough spent =
+pub enough : (listens : Bool) (look : Look) (q : Request) (part : List Event) (ended : Ended) (c : Course) → Answers listens look q part ended c → (total p : ℕ) → c.total ≡ Some total → c.patience ≡ Some p → p * (2 * length q.1.config.files + length q.1.config.objects + 2) ≤ c.before.left → EndsSpent c.before.left part ended → ⊥
+enough listens look q part ended c (inl well) total p one patient many spent =
     let s : ended.status ≡ 0 = ap (λ (x : Ended). x.status) well.0 in
     let r : ended.status ≡ 1 = ap (λ (x : Ended). x.status) spent.1.0 in
     cc
-enough_of listens look q part ended c (inr (inr wanting)) total p one patient enough spent =
+enough listens look q part ended c (inr (inr wanting)) total p one patient many spent =
     let s : ended.status ≡ 3 = ap (λ (x : Ended). x.status) wanting.0 in
     let r : ended.status ≡ 1 = ap (λ (x : Ended). x.status) spent.1.0 in
     cc
-enough_of listens look q part ended c (inr (inl r)) total p one patient enough spent =
+enough listens look q part ended c (inr (inl r)) total p one patient many spent =
     let same : r.error ≡ spent.0 = same_error r.error spent.0 ended r.is spent.1.0 in
     let few : turns r.run < p * length (commands_in (stages_of listens look q r.finds r.run)) =
     halted_bound (terms_in listens q r.run c) (error_of look q r.run) (stages_of listens look q r.finds r.run) r.run r.error c.before c.after total p one patient
     (never_spent q.1.config (env_in q r.run) look q.0) r.refused (ap (λ (x : ErrorSeen). x.kind) same ∙ spent.1.1) in
-    too_few p (length (commands_in (stages_of listens look q r.finds r.run))) (length q.1.config.files) (length q.1.config.objects) c.before.left (turns r.run) few (planned_count q.1.config (env_in q r.run) (repeating r.finds.here r.finds.writing) look q.0) enough
+    too_few p (length (commands_in (stages_of listens look q r.finds r.run))) (length q.1.config.files) (length q.1.config.objects) c.before.left (turns r.run) few (planned_count q.1.config (env_in q r.run) (repeating r.finds.here r.finds.writing) look q.0) many
     (sym (turns_same part r.run r.line r.cut (line_of (error_line r.error) r.line r.printed)) ∙ spent.1.2)
-
-pub enough : (listens : Bool) (look : Look) (words : Result Wish BadWord) (part : List Event) (ended : Ended) (c : Course) → AnswersWords listens look words part ended c → IsEnough look words part ended c
-enough listens look (Ok (Compiles q)) part ended c a = enough_of listens look q part ended c a
-enough listens look (Ok (Records path q)) part ended c a = tt
-enough listens look (Ok (Archives q)) part ended c a = tt
-enough listens look (Ok (Generates n)) part ended c a = tt
-enough listens look (Ok (Expands b)) part ended c a = tt
-enough listens look (Ok (Shows b)) part ended c a = tt
-enough listens look (Err bad) part ended c a = tt

@@ -1,5 +1,5 @@
 -- A compile run that is recorded ends well, where nothing keeps it from that.
-use Rattle.std.proofs.Common.{◌≡◌, ◌⊎◌, inl, inr, ℕ, ◌+◌, ◌<◌, ◌*◌, List, [], ◌∷◌, ◌++◌, Bool, true, false, not, ◌||◌, None, Some, Ok, Err, refl, sym, ◌∙◌, ap, subst, append-nil, arith}
+use Rattle.std.proofs.Common.{◌≡◌, ◌⊎◌, inl, inr, ℕ, ◌+◌, ◌<◌, ◌*◌, List, [], ◌∷◌, ◌++◌, Bool, true, false, not, ◌||◌, None, Some, Err, refl, sym, ◌∙◌, ap, subst, append-nil, arith}
 use Rattle.std.specs.List.{list_any}
 use Rattle.std.proofs.lemmas.List.Sums.{sum_by-append}
 use Rattle.std.specs.Prelude.{◌≢◌}
@@ -29,7 +29,6 @@ use Rattle.cc_command.specs.Answer.{AnswersError, AnswersRecord, Behind, Recorde
 use Rattle.cc_command.specs.Database.{Faults}
 use Rattle.cc_command.specs.Promises.{EndsSpent, IsComplete, IsEnough}
 use Rattle.cc_command.specs.Read.{Request}
-use Rattle.cc_command.specs.Read.Wish.{Compiles}
 use Rattle.cc_command.specs.declared.ended.Ended.{Ended}
 use Rattle.cc_command.proofs.PromiseLaws.{any_before, complete, enough, known_memory, same_error}
 use Rattle.cc_command.proofs.ShownLaws.{stopped_fault}
@@ -102,7 +101,7 @@ module _ (vars : List (List ℕ × List ℕ)) (here : List ℕ) (run : List Even
   spent_untold : (most : ℕ) (ended : Ended) → EndsSpent most (Listed vars ∷ Here here ∷ run) ended → EndsSpent most (Listed vars ∷ run) ended
   spent_untold most ended s = (s.0, (s.1.0, s.1.1, sym turns_told ∙ s.1.2))
 
-  complete_told : (look : Look) (q : Request) (ended : Ended) (c : Course) → IsComplete look (Ok (Compiles q)) (Listed vars ∷ run) ended c → IsComplete look (Ok (Compiles q)) (Listed vars ∷ Here here ∷ run) ended c
+  complete_told : (look : Look) (q : Request) (ended : Ended) (c : Course) → IsComplete look q (Listed vars ∷ run) ended c → IsComplete look q (Listed vars ∷ Here here ∷ run) ended c
   complete_told look q ended c so = λ valid failed fault rose. by_end (so valid (λ h. failed (failed_told (run_has_one_form q.1.config (env_in q (Listed vars ∷ run)) look) h)) fault rose)
     where
       by_end : (ended ≡ ended_well) ⊎ (EndsSpent c.before.left (Listed vars ∷ run) ended ⊎ (ended ≡ ended_wanting)) → (ended ≡ ended_well) ⊎ (EndsSpent c.before.left (Listed vars ∷ Here here ∷ run) ended ⊎ (ended ≡ ended_wanting))
@@ -110,7 +109,7 @@ module _ (vars : List (List ℕ × List ℕ)) (here : List ℕ) (run : List Even
       by_end (inr (inl spent)) = inr (inl (spent_told c.before.left ended spent))
       by_end (inr (inr wanting)) = inr (inr wanting)
 
-  enough_told : (look : Look) (q : Request) (ended : Ended) (c : Course) → IsEnough look (Ok (Compiles q)) (Listed vars ∷ run) ended c → IsEnough look (Ok (Compiles q)) (Listed vars ∷ Here here ∷ run) ended c
+  enough_told : (look : Look) (q : Request) (ended : Ended) (c : Course) → IsEnough look q (Listed vars ∷ run) ended c → IsEnough look q (Listed vars ∷ Here here ∷ run) ended c
   enough_told look q ended c so = λ total p one patient many spent. so total p one patient many (spent_untold c.before.left ended spent)
 
 -- ---- all of it
@@ -141,7 +140,7 @@ module _ (listens : Bool) (look : Look) (path : List ℕ) (q : Request) (part : 
           (ap (list_any is_fault) cut
           ∙ any_behind is_fault run rest (ap (list_any is_fault) u.cut ∙ any_before is_fault u.front u.line (faults_fault Write path u.front u.error refl printed.1 u.cause)))
 
-  stopped_complete : Stopped → IsComplete look (Ok (Compiles q)) part ended c
+  stopped_complete : Stopped → IsComplete look q part ended c
   stopped_complete (inl wanting) = λ valid failed fault rose. inr (inr wanting)
   stopped_complete (inr some) = λ valid failed fault rose. absurd (fault some)
 
@@ -162,32 +161,32 @@ module _ (listens : Bool) (look : Look) (path : List ℕ) (q : Request) (part : 
     refused_all : part ≡ Listed r.vars ∷ Here r.here ∷ r.run
     refused_all = r.cut ∙ ap (λ l. Listed r.vars ∷ Here r.here ∷ (r.run ++ l)) h.1 ∙ ap (λ l. Listed r.vars ∷ Here r.here ∷ l) (append-nil r.run)
 
-    refused_complete : IsComplete look (Ok (Compiles q)) part ended c
+    refused_complete : IsComplete look q part ended c
     refused_complete =
-        subst (λ (p : List Event). IsComplete look (Ok (Compiles q)) p ended c) (sym refused_all)
-        (subst (λ (x : Ended). IsComplete look (Ok (Compiles q)) (Listed r.vars ∷ Here r.here ∷ r.run) x c) (sym h.0)
-        (complete_told r.vars r.here r.run look q r.ran c (complete listens look (Ok (Compiles q)) (Listed r.vars ∷ r.run) r.ran c r.answer)))
+        subst (λ (p : List Event). IsComplete look q p ended c) (sym refused_all)
+        (subst (λ (x : Ended). IsComplete look q (Listed r.vars ∷ Here r.here ∷ r.run) x c) (sym h.0)
+        (complete_told r.vars r.here r.run look q r.ran c (complete listens look q (Listed r.vars ∷ r.run) r.ran c r.answer)))
 
-    refused_enough : IsEnough look (Ok (Compiles q)) part ended c
+    refused_enough : IsEnough look q part ended c
     refused_enough =
-        subst (λ (p : List Event). IsEnough look (Ok (Compiles q)) p ended c) (sym refused_all)
-        (subst (λ (x : Ended). IsEnough look (Ok (Compiles q)) (Listed r.vars ∷ Here r.here ∷ r.run) x c) (sym h.0)
-        (enough_told r.vars r.here r.run look q r.ran c (enough listens look (Ok (Compiles q)) (Listed r.vars ∷ r.run) r.ran c r.answer)))
+        subst (λ (p : List Event). IsEnough look q p ended c) (sym refused_all)
+        (subst (λ (x : Ended). IsEnough look q (Listed r.vars ∷ Here r.here ∷ r.run) x c) (sym h.0)
+        (enough_told r.vars r.here r.run look q r.ran c (enough listens look q (Listed r.vars ∷ r.run) r.ran c r.answer)))
 
-  pub record_complete : AnswersRecord listens look path q part ended c → IsComplete look (Ok (Compiles q)) part ended c
+  pub record_complete : AnswersRecord listens look path q part ended c → IsComplete look q part ended c
   record_complete (inl u) = stopped_complete (unbegun_stopped u)
   record_complete (inr r) = by_rest r.behind
     where
-      by_rest : Behind path (database_in look q r.vars r.here) r.ran r.rest ended → IsComplete look (Ok (Compiles q)) part ended c
+      by_rest : Behind path (database_in look q r.vars r.here) r.ran r.rest ended → IsComplete look q part ended c
       by_rest (inl (well, inl written)) = λ valid failed fault rose. inl written.0
       by_rest (inl (well, inr u)) = stopped_complete (unwritten_stopped r.vars r.here r.run r.rest r.cut u)
       by_rest (inr h) = refused_complete r h
 
-  pub record_enough : AnswersRecord listens look path q part ended c → IsEnough look (Ok (Compiles q)) part ended c
+  pub record_enough : AnswersRecord listens look path q part ended c → IsEnough look q part ended c
   record_enough (inl u) = λ total p one patient many spent. unbegun_unspent u spent
   record_enough (inr r) = by_rest r.behind
     where
-      by_rest : Behind path (database_in look q r.vars r.here) r.ran r.rest ended → IsEnough look (Ok (Compiles q)) part ended c
+      by_rest : Behind path (database_in look q r.vars r.here) r.ran r.rest ended → IsEnough look q part ended c
       by_rest (inl (well, inl written)) = λ total p one patient many spent. well_unspent written.0 spent
       by_rest (inl (well, inr u)) = λ total p one patient many spent. faults_unspent Write path u.front u.error u.cause (error_unspent u.error u.line ended c.before.left part u.says spent)
       by_rest (inr h) = refused_enough r h

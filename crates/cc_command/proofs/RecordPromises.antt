@@ -1,16 +1,14 @@
 -- What an answer to a compile run that is recorded promises.
-use Rattle.std.proofs.Common.{◌≡◌, inl, inr, ℕ, List, ◌∷◌, ◌++◌, Bool, Result, Ok, Err, sym, ◌∙◌, ap}
+use Rattle.std.proofs.Common.{◌≡◌, inl, inr, ℕ, List, ◌∷◌, ◌++◌, Bool, sym, ◌∙◌, ap}
 use Rattle.cc_host.specs.Question.{Look}
 use Rattle.cc_host.specs.declared.event.Event.{Event}
 use Rattle.cc_host.specs.declared.event.Event.TheVariants.{Listed, Here}
 use Rattle.cc_build.specs.Course.{Course}
 use Rattle.cc_build.specs.Error.{ErrorSeen}
-use Rattle.cc_command.specs.Answer.{Answers, AnswersError, AnswersRecord, AnswersWords, Behind, IfRecords, database_in, ended_well}
+use Rattle.cc_command.specs.Answer.{Answers, AnswersError, AnswersRecord, Behind, database_in, ended_well}
 use Rattle.cc_command.specs.Promises.{RecordedBy, RecordPromises}
-use Rattle.cc_command.specs.Read.{Request, Wish}
-use Rattle.cc_command.specs.Read.Wish.{Compiles, Records, Archives, Generates, Expands, Shows}
+use Rattle.cc_command.specs.Read.{Request}
 use Rattle.cc_command.specs.declared.ended.Ended.{Ended}
-use Rattle.cc_command.specs.declared.words.BadWord.{BadWord}
 use Rattle.cc_command.proofs.PromiseLaws.{built_of}
 use Rattle.cc_command.proofs.RecordEnds.{record_complete, record_enough}
 use Rattle.cc_command.proofs.SettledPromises.{promised}
@@ -42,20 +40,11 @@ module _ (listens : Bool) (look : Look) (path : List ℕ) (q : Request) (part : 
           let ran : r.ran.status ≡ 0 = ap (λ (x : Ended). x.status) (sym refused.0) ∙ zero_is in
           absurd (refused.2 (refused.0 ∙ answered_well listens look q (Listed r.vars ∷ r.run) r.ran c r.answer ran))
 
-  promises : AnswersRecord listens look path q part ended c → RecordPromises listens look path q part ended c
-  promises a = record {
+  pub record_promises : AnswersRecord listens look path q part ended c → RecordPromises listens look path q part ended c
+  record_promises a = record {
     answer = a;
     recorded = recorded_by a;
-    promises = λ r. promised listens (Ok (Compiles q)) r.ran look (Listed r.vars ∷ r.run) c r.answer;
+    promises = λ r. promised listens q r.ran look (Listed r.vars ∷ r.run) c r.answer;
     complete = record_complete listens look path q part ended c a;
     enough = record_enough listens look path q part ended c a;
   }
-
-pub record_promises : (listens : Bool) (look : Look) (words : Result Wish BadWord) (part : List Event) (ended : Ended) (c : Course) → AnswersWords listens look words part ended c → IfRecords words (λ path q. RecordPromises listens look path q part ended c)
-record_promises listens look (Ok (Compiles q)) part ended c a = tt
-record_promises listens look (Ok (Records path q)) part ended c a = promises listens look path q part ended c a
-record_promises listens look (Ok (Archives q)) part ended c a = tt
-record_promises listens look (Ok (Generates n)) part ended c a = tt
-record_promises listens look (Ok (Expands b)) part ended c a = tt
-record_promises listens look (Ok (Shows b)) part ended c a = tt
-record_promises listens look (Err bad) part ended c a = tt

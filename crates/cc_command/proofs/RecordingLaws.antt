@@ -74,11 +74,11 @@ module _ (listens : Bool) (look : Look) (path name : List ℕ) (before after : B
   alone = record { vars = k.vars; listed = refl; is = k.is }
 
   answered : (run : List Event) → Built (terms_for after listens (course total p x y)) after.config after.env look name run → Promises {T = Unit {0}} after listens name (Ok tt) look run (course total p x y) → Answers listens look (name, before) (Listed k.vars ∷ run) ended_well c
-  answered run built promises = answers_built listens look name before after [] (Listed k.vars ∷ []) (Listed k.vars ∷ run) refl refl alone total p q same x y repeats ended_well refl built promises
+  answered run built promises = answers_built listens look name before after (Listed k.vars ∷ []) run (Listed k.vars ∷ run) refl alone total p q same x y repeats ended_well refl built promises
 
   refused : (run line : List Event) (e : ErrorSeen) (ended : Ended) → Promises {T = Unit {0}} after listens name (Err e) look run (course total p x y) → AnswersError e line ended → Answers listens look (name, before) (Listed k.vars ∷ (run ++ line)) ended c
   refused run line e ended promises says =
-      answers_refused listens look (name, before) (Listed k.vars ∷ run) line (Listed k.vars ∷ (run ++ line)) e ended c refl (halted_listed listens look name before after [] (Listed k.vars ∷ []) (Listed k.vars ∷ run) refl refl alone total p q same x y repeats e promises) says
+      answers_refused listens look (name, before) (Listed k.vars ∷ run) line (Listed k.vars ∷ (run ++ line)) e ended c refl (halted_listed listens look name before after (Listed k.vars ∷ []) run (Listed k.vars ∷ run) refl alone total p q same x y repeats e promises) says
 
   bytes_same : (here : List ℕ) → database (entries_of after.config after.env look here) ≡ database_in look (name, before) k.vars here
   bytes_same here = ap (λ (b : BuildSeen). database (entries_of b.config b.env look here)) k.is

@@ -1,5 +1,5 @@
 -- No child runs behind a request, and its commands are the first of the planned ones.
-use Rattle.std.proofs.Common.{◌≡◌, inl, inr, ℕ, List, ◌∷◌, ◌++◌, map, Result, Ok, Err, sym, ◌∙◌, ap, append-nil, Bool}
+use Rattle.std.proofs.Common.{◌≡◌, inl, inr, ℕ, List, ◌∷◌, ◌++◌, map, sym, ◌∙◌, ap, append-nil, Bool}
 use Rattle.std.proofs.lemmas.Grind.{flat_map-append}
 use Rattle.cc_host.specs.Children.{running}
 use Rattle.cc_host.specs.Part.Step.{Lists}
@@ -15,13 +15,12 @@ use Rattle.cc_build.proofs.SettledLaws.{partly_settled, partly_first}
 use Rattle.cc_build.proofs.StopLaws.{planned_plain}
 use Rattle.cc_build.specs.Course.{Course}
 use Rattle.cc_build.specs.Promises.{NothingRuns}
-use Rattle.cc_command.specs.Answer.{AnswersBad, AnswersWords, env_in, terms_in, repeating, stages_of, word_line}
+use Rattle.cc_command.specs.Answer.{Answers, AnswersBad, env_in, terms_in, repeating, stages_of, word_line}
 use Rattle.cc_command.specs.Promises.{Begun, IsLine, IsPrefix, Promises}
-use Rattle.cc_command.specs.Read.{Request, Wish}
-use Rattle.cc_command.specs.Read.Wish.{Compiles, Records, Archives, Generates, Expands, Shows}
+use Rattle.cc_command.specs.Read.{Request}
 use Rattle.cc_command.specs.declared.ended.Ended.{Ended}
 use Rattle.cc_command.specs.declared.words.BadWord.{BadWord}
-use Rattle.cc_command.proofs.PromiseLaws.{is_begun, compiles_first, complete, enough, line_of, heard_same, line_settled}
+use Rattle.cc_command.proofs.PromiseLaws.{begun_of, built_of, compiles_first, complete, enough, line_of, heard_same, line_settled}
 use Rattle.cc_command.proofs.StartedPromises.{no_attempt, beside, failed, stopped}
 
 -- ---- no child runs
@@ -44,14 +43,9 @@ pub attempts_same : (part run line : List Event) → part ≡ run ++ line → Is
 attempts_same part run line cut printed =
     ap attempts cut ∙ flat_map-append attempt_of run line ∙ ap (λ l. attempts run ++ l) (no_attempt line printed) ∙ append-nil (attempts run)
 
-pub first : (listens : Bool) (look : Look) (words : Result Wish BadWord) (part : List Event) (ended : Ended) (c : Course) → AnswersWords listens look words part ended c → IsPrefix listens look words part
-first listens look (Ok (Records path q)) part ended c a = tt
-first listens look (Ok (Archives q)) part ended c a = tt
-first listens look (Ok (Generates n)) part ended c a = tt
-first listens look (Ok (Expands b)) part ended c a = tt
-first listens look (Ok (Shows b)) part ended c a = tt
-first listens look (Ok (Compiles q)) part ended c a =
-    let b : Begun listens look q part c = is_begun listens look (Ok (Compiles q)) part ended c a in
+pub first : (listens : Bool) (look : Look) (q : Request) (part : List Event) (ended : Ended) (c : Course) → Answers listens look q part ended c → IsPrefix listens look q part
+first listens look q part ended c a =
+    let b : Begun listens look q part c = begun_of listens look q part ended c a in
     let p = partly_first (terms_in listens q b.run c) (stages_of listens look q b.finds b.run) b.run c.before c.after (tt, planned_plain q.1.config (env_in q b.run) (repeating b.finds.here b.finds.writing) look q.0) b.partly in
     let same = attempts_same part b.run b.line b.cut b.printed in (
       b.finds,
@@ -62,20 +56,20 @@ first listens look (Ok (Compiles q)) part ended c a =
             ∙ ap (λ l. l ++ p.0) (sym same),
       ),
     )
-first listens look (Err bad) part ended c a = tt
 
 -- ---- all of it
 
 -- what an answer promises
-pub promised : (listens : Bool) (words : Result Wish BadWord) (ended : Ended) (look : Look) (part : List Event) (c : Course) → AnswersWords listens look words part ended c → Promises listens words ended look part c
-promised listens words ended look part c a = record {
+pub promised : (listens : Bool) (q : Request) (ended : Ended) (look : Look) (part : List Event) (c : Course) → Answers listens look q part ended c → Promises listens q ended look part c
+promised listens q ended look part c a = record {
   answer = a;
-  begun = is_begun listens look words part ended c a;
-  order = compiles_first listens look words part ended c a;
-  prefix = first listens look words part ended c a;
-  beside = beside listens look words part ended c a;
-  failed = failed listens look words part ended c a;
-  stopped = stopped listens look words part ended c a;
-  complete = complete listens look words part ended c a;
-  enough = enough listens look words part ended c a;
+  built = built_of listens look q part ended c a;
+  begun = begun_of listens look q part ended c a;
+  order = compiles_first listens look q part ended c a;
+  prefix = first listens look q part ended c a;
+  beside = beside listens look q part ended c a;
+  failed = failed listens look q part ended c a;
+  stopped = stopped listens look q part ended c a;
+  complete = complete listens look q part ended c a;
+  enough = enough listens look q part ended c a;
 }

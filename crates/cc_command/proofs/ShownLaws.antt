@@ -5,7 +5,7 @@ use Rattle.std.proofs.lemmas.Bool.{and_parts}
 use Rattle.std.proofs.lemmas.List.{append_cancel_left}
 use Rattle.std.proofs.lemmas.List.Folds.{list_all-append, list_any-append}
 use Rattle.cc_host.specs.Command.{CommandSeen}
-use Rattle.cc_host.specs.Part.{Step, since, stop_of, calm_of, stops, calm, done, left, StopsAt, IsPartly, IsWhole}
+use Rattle.cc_host.specs.Part.{Step, stop_of, calm_of, stops, calm, done, left, StopsAt, IsPartly, IsWhole}
 use Rattle.cc_host.specs.Part.Step.{Lists}
 use Rattle.cc_host.specs.Question.{Look, Agrees, answers, Holds}
 use Rattle.cc_host.specs.declared.event.Event.{Event}
@@ -13,7 +13,7 @@ use Rattle.cc_host.specs.declared.event.Event.TheVariants.{Started, Ended as End
 use Rattle.cc_host.specs.declared.event.LineKind.TheVariants.{Rerun, Shown as ShownLine}
 use Rattle.cc_host.specs.declared.question.Outcome.{Outcome as Verdicts}
 use Rattle.cc_host.specs.declared.question.Question.{Question}
-use Rattle.cc_host.proofs.Parts.{stops_both, calm_then, calm_whole, partly_whole, partly_none, whole_step}
+use Rattle.cc_host.proofs.Parts.{stops_both, calm_then, calm_whole, partly_whole, whole_step}
 use Rattle.cc_plan.specs.Archive.{archiver_of}
 use Rattle.cc_plan.specs.Asking.{is_of_children}
 use Rattle.cc_plan.specs.Planned.{tool_of, warnings_of}
@@ -28,8 +28,8 @@ use Rattle.cc_tool.specs.Tool.{ToolSeen}
 use Rattle.cc_build.specs.Build.{BuildSeen, AsksByPlan, probes}
 use Rattle.cc_build.specs.Captured.{with_vars, Captures, CaptureEnds}
 use Rattle.cc_build.specs.Compiler.{tool_error, tool_steps, IsTool, CompilerEnds}
-use Rattle.cc_build.specs.Course.{Course, CallsEnd}
-use Rattle.cc_build.specs.Error.{ErrorSeen, no_memory}
+use Rattle.cc_build.specs.Course.{CallsEnd}
+use Rattle.cc_build.specs.Error.{ErrorSeen}
 use Rattle.cc_build.specs.Failed.{HasFault, is_fault}
 use Rattle.cc_build.specs.Outcome.{Outcome, IsRefused, IsCausedBy}
 use Rattle.cc_build.specs.Promises.{NothingRuns, FaultsEnd}
@@ -40,21 +40,14 @@ use Rattle.cc_build.specs.Told.{compiler_reads, archiver_reads, ranlib_reads, na
 use Rattle.cc_build.specs.Tools.{IsArchiver, IsRanlib, archiver_error, ranlib_error, ArchiverEnds, RanlibEnds, AsksForArchiver, AsksForRanlib}
 use Rattle.cc_build.specs.Way.{Firsts}
 use Rattle.cc_build.proofs.ChildLaws.{IsAside, AreAside, aside_well}
-use Rattle.cc_build.proofs.Going.{part_is}
 use Rattle.cc_build.proofs.Outcomes.{outcome_then}
 use Rattle.cc_build.proofs.PrintedLaws.{is_told, told_prints, told_printed, told_warned, IsRealFault, told_refused, fault_stops, fault_is, neither, IsChildless, childless_then, calls_outcome, refused_more}
-use Rattle.cc_command.specs.Answer.{AnswersError, IfShows, IsAnswerOf, ended_well, ended_wanting}
+use Rattle.cc_command.specs.Answer.{AnswersError, ended_well, ended_wanting}
 use Rattle.cc_command.specs.Archived.{Says}
-use Rattle.cc_command.specs.Asks.{AsksWish}
 use Rattle.cc_command.specs.Lines.{shows}
 use Rattle.cc_command.specs.Promises.{PrintsLast, FaultsLast, IsLine}
-use Rattle.cc_command.specs.Read.{Wish, wish_of}
-use Rattle.cc_command.specs.Read.Wish.{Compiles, Records, Archives, Generates, Expands, Shows}
 use Rattle.cc_command.specs.Shown.{tool_lines, Looks, lines_of, read_steps, compiler_steps, tools_steps, show_steps, show_error, AsksTools, Agree, Showing, listed_build, Shown, ShowPromises}
 use Rattle.cc_command.specs.declared.ended.Ended.{Ended}
-use Rattle.cc_command.specs.declared.words.BadWord.{BadWord}
-use Rattle.cc_command.specs.declared.words.Job.{Job}
-use Rattle.cc_command.specs.declared.words.Job.TheVariants.{Compile, Archive, Generate, Expand, Show}
 use Rattle.cc_command.proofs.ArchivedLaws.{no_tools_asked, says_last, says_line}
 use Rattle.cc_command.proofs.PromiseLaws.{any_before, faults_behind, known_memory}
 
@@ -257,19 +250,6 @@ module _ (listens : Bool) (steady : Bool) (world : Question → Verdicts) (b : B
       refused_so (inl k) = calls_outcome {T = Unit {0}} b None (Lists ∷ []) listing (Err e) refl refl k
       refused_so (inr k) = let o = calls_outcome {T = Unit {0}} b None (Lists ∷ []) listing (Ok tt) refl refl k.1 in ((partly_whole (Lists ∷ []) listing o.0.1, inl k.0), o.1)
 
-  -- memory for the words was wanted, and nothing was done
-  unread : (part : List Event) (ended : Ended) → part ≡ [] → ended ≡ ended_wanting → Shown listens steady world b part ended
-  unread part ended none is = record {
-    asks = no_tools_asked steady world (listed_build b part) part (ap question_events none);
-    run = [];
-    line = [];
-    cut = none;
-    childless = refl;
-    result = Err no_memory;
-    ends = λ looks agree. (true, (partly_none (show_steps listens (listed_build b part) true looks), inl refl));
-    says = inr (is, refl);
-  }
-
   -- they were listed, and then the tools were shown so
   module _ (after : BuildSeen) (listing run : List Event) (k : Captures b after listing) (result : Result (Unit {0}) ErrorSeen) (line : List Event) (ended : Ended) where
     abbrev taken : BuildSeen
@@ -469,8 +449,8 @@ module _ (listens : Bool) (steady : Bool) (world : Question → Verdicts) (b : B
         by_cause (inr (inl refused)) = let clash : None ≡ Some e = sym none ∙ refused in cc
         by_cause (inr (inr stopped)) = fault (ap (list_any is_fault) cut ∙ any_before is_fault run line (stopped_fault refusal steps run e told o.0 stopped))
 
-    promises : ShowPromises listens steady world b part ended
-    promises = record {
+    pub show_promises : ShowPromises listens steady world b part ended
+    show_promises = record {
       answer = s;
       shown = λ zero_is looks agree.
           let o = s.ends looks agree in
@@ -479,47 +459,3 @@ module _ (listens : Bool) (steady : Bool) (world : Question → Verdicts) (b : B
           let o = s.ends looks agree in
           complete_by (show_error (listed_build b part) looks) (show_steps listens (listed_build b part) o.0 looks) s.run s.line s.result (told_all listens (listed_build b part) o.0 looks) s.cut s.says none fault o.1;
     }
-
--- the same of words
-pub show_promises : (listens : Bool) (steady : Bool) (world : Question → Verdicts) (part : List Event) (ended : Ended) (words : Result Wish BadWord) → IfShows words (λ b. Shown listens steady world b part ended) → IfShows words (λ b. ShowPromises listens steady world b part ended)
-show_promises listens steady world part ended (Ok (Compiles q)) s = tt
-show_promises listens steady world part ended (Ok (Records path q)) s = tt
-show_promises listens steady world part ended (Ok (Archives q)) s = tt
-show_promises listens steady world part ended (Ok (Generates count)) s = tt
-show_promises listens steady world part ended (Ok (Expands b)) s = tt
-show_promises listens steady world part ended (Ok (Shows b)) s = promises listens steady world b part ended s
-show_promises listens steady world part ended (Err bad) s = tt
-
--- ---- by the job
-
--- words that were not read for want of memory
-pub shown_wanting : (listens : Bool) (steady : Bool) (world : Question → Verdicts) (log : List Event) (words : Result Wish BadWord) (ended : Ended) → ended ≡ ended_wanting → IfShows words (λ b. Shown listens steady world b (since log log) ended)
-shown_wanting listens steady world log (Ok (Compiles q)) ended is = tt
-shown_wanting listens steady world log (Ok (Records path q)) ended is = tt
-shown_wanting listens steady world log (Ok (Archives q)) ended is = tt
-shown_wanting listens steady world log (Ok (Generates count)) ended is = tt
-shown_wanting listens steady world log (Ok (Expands b)) ended is = tt
-shown_wanting listens steady world log (Ok (Shows b)) ended is = unread listens steady world b (since log log) ended (part_is log log [] (sym (append-nil log))) is
-shown_wanting listens steady world log (Err bad) ended is = tt
-
--- a job that shows tools leaves the course as it was
-pub of_show : (listens : Bool) (job : Job) (build : BuildSeen) (database : Option (List ℕ)) (ended : Ended) (look : Look) (part : List Event) (c : Course) → job ≡ Show → c.after ≡ c.before → IsAnswerOf listens (wish_of job database build) ended look part c
-of_show listens (Compile name) build database ended look part c is same = absurd (cc)
-of_show listens (Archive name) build database ended look part c is same = absurd (cc)
-of_show listens (Generate count) build database ended look part c is same = absurd (cc)
-of_show listens Expand build database ended look part c is same = absurd (cc)
-of_show listens Show build database ended look part c is same = same
-
-pub asks_show : (listens : Bool) (job : Job) (build : BuildSeen) (database : Option (List ℕ)) (steady : Bool) (world : Question → Verdicts) (part : List Event) (ended : Ended) → job ≡ Show → Shown listens steady world build part ended → AsksWish steady world (wish_of job database build) part
-asks_show listens (Compile name) build database steady world part ended is s = absurd (cc)
-asks_show listens (Archive name) build database steady world part ended is s = absurd (cc)
-asks_show listens (Generate count) build database steady world part ended is s = absurd (cc)
-asks_show listens Expand build database steady world part ended is s = absurd (cc)
-asks_show listens Show build database steady world part ended is s = s.asks
-
-pub shown_show : (listens : Bool) (job : Job) (build : BuildSeen) (database : Option (List ℕ)) (steady : Bool) (world : Question → Verdicts) (part : List Event) (ended : Ended) → job ≡ Show → Shown listens steady world build part ended → IfShows (Ok (wish_of job database build)) (λ b. Shown listens steady world b part ended)
-shown_show listens (Compile name) build database steady world part ended is s = absurd (cc)
-shown_show listens (Archive name) build database steady world part ended is s = tt
-shown_show listens (Generate count) build database steady world part ended is s = tt
-shown_show listens Expand build database steady world part ended is s = tt
-shown_show listens Show build database steady world part ended is s = s

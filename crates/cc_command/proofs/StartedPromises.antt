@@ -1,5 +1,5 @@
 -- Sources of a request that are compiled beside each other: where in the part they are, and what a failed one stops.
-use Rattle.std.proofs.Common.{◌≡◌, ◌⊎◌, inl, inr, ℕ, List, [], ◌++◌, length, take, Option, Result, Ok, Err, sym, ◌∙◌, ap, subst, append_assoc, append-nil, Bool, false}
+use Rattle.std.proofs.Common.{◌≡◌, ◌⊎◌, inl, inr, ℕ, List, [], ◌++◌, length, take, Option, sym, ◌∙◌, ap, subst, append_assoc, append-nil, Bool, false}
 use Rattle.std.specs.Prelude.{◌≤◌}
 use Rattle.std.specs.List.{list_any}
 use Rattle.std.proofs.lemmas.Grind.{flat_map-append}
@@ -27,13 +27,11 @@ use Rattle.cc_build.proofs.BesideLaws.{AreQuiet, Shape, sources, source_count, s
 use Rattle.cc_build.proofs.FailedLaws.{never_ran, all_started, all_stopped}
 use Rattle.cc_build.proofs.SourceLaws.{asked_planned}
 use Rattle.cc_build.proofs.StopLaws.{ArePlain, planned_plain}
-use Rattle.cc_command.specs.Answer.{AnswersWords, Refused, env_in, terms_in, repeating, stages_of, error_of, error_line, ended_well, ended_refused, ended_wanting}
+use Rattle.cc_command.specs.Answer.{Answers, Refused, env_in, terms_in, repeating, stages_of, error_of, error_line, ended_well, ended_refused, ended_wanting}
 use Rattle.cc_command.specs.Promises.{Begun, IsLine, IsBeside, StartsAll, StopsAtFailure}
-use Rattle.cc_command.specs.Read.{Request, Wish}
-use Rattle.cc_command.specs.Read.Wish.{Compiles, Records, Archives, Generates, Expands, Shows}
+use Rattle.cc_command.specs.Read.{Request}
 use Rattle.cc_command.specs.declared.ended.Ended.{Ended}
-use Rattle.cc_command.specs.declared.words.BadWord.{BadWord}
-use Rattle.cc_command.proofs.PromiseLaws.{is_begun, line_of, heard_same, any_before, failure_same, same_error}
+use Rattle.cc_command.proofs.PromiseLaws.{begun_of, line_of, heard_same, any_before, failure_same, same_error}
 
 -- ---- one stretch of the part
 
@@ -66,14 +64,8 @@ beside_of listens look q part c b many =
     (shaped_beside (terms_in listens q b.run c) (sources set env (repeating b.finds.here b.finds.writing) look q.0) (stages_of listens look q b.finds b.run) b.run c.before c.after (tt, planned_plain set env (repeating b.finds.here b.finds.writing) look q.0)
     (shape_behind (sources set env (repeating b.finds.here b.finds.writing) look q.0) Lists (planned_stages set env (repeating b.finds.here b.finds.writing) look q.0) (shape_of set env (repeating b.finds.here b.finds.writing) look q.0 many)) b.partly))
 
-pub beside : (listens : Bool) (look : Look) (words : Result Wish BadWord) (part : List Event) (ended : Ended) (c : Course) → AnswersWords listens look words part ended c → IsBeside words part c
-beside listens look (Ok (Compiles q)) part ended c a = beside_of listens look q part c (is_begun listens look (Ok (Compiles q)) part ended c a)
-beside listens look (Ok (Records path q)) part ended c a = tt
-beside listens look (Ok (Archives q)) part ended c a = tt
-beside listens look (Ok (Generates n)) part ended c a = tt
-beside listens look (Ok (Expands b)) part ended c a = tt
-beside listens look (Ok (Shows b)) part ended c a = tt
-beside listens look (Err bad) part ended c a = tt
+pub beside : (listens : Bool) (look : Look) (q : Request) (part : List Event) (ended : Ended) (c : Course) → Answers listens look q part ended c → IsBeside q part c
+beside listens look q part ended c a = beside_of listens look q part c (begun_of listens look q part ended c a)
 
 -- ---- what a failed child stops
 
@@ -147,24 +139,12 @@ module _ (listens : Bool) (look : Look) (q : Request) (part : List Event) (ended
 not_refused : (e : ErrorSeen) (ended other : Ended) → ended ≡ other → (other.status ≡ 1 → ⊥) → ended ≡ ended_refused e → ⊥
 not_refused e ended other so never is = never (sym (ap (λ (x : Ended). x.status) so) ∙ ap (λ (x : Ended). x.status) is)
 
-pub failed : (listens : Bool) (look : Look) (words : Result Wish BadWord) (part : List Event) (ended : Ended) (c : Course) → AnswersWords listens look words part ended c → StartsAll listens look words part ended
-failed listens look (Ok (Compiles q)) part ended c (inl well) = λ going e many is badly sound. absurd (not_refused e ended ended_well well.0 (λ k. cc) is)
-failed listens look (Ok (Compiles q)) part ended c (inr (inl r)) = λ going e many is badly sound. failed_of listens look q part ended c r many (ap (λ (x : ErrorSeen). x.kind) (same_error r.error e ended r.is is) ∙ badly) sound going
-failed listens look (Ok (Compiles q)) part ended c (inr (inr wanting)) = λ going e many is badly sound. absurd (not_refused e ended ended_wanting wanting.0 (λ k. cc) is)
-failed listens look (Ok (Records path q)) part ended c a = tt
-failed listens look (Ok (Archives q)) part ended c a = tt
-failed listens look (Ok (Generates n)) part ended c a = tt
-failed listens look (Ok (Expands b)) part ended c a = tt
-failed listens look (Ok (Shows b)) part ended c a = tt
-failed listens look (Err bad) part ended c a = tt
+pub failed : (listens : Bool) (look : Look) (q : Request) (part : List Event) (ended : Ended) (c : Course) → Answers listens look q part ended c → StartsAll listens look q part ended
+failed listens look q part ended c (inl well) = λ going e many is badly sound. absurd (not_refused e ended ended_well well.0 (λ k. cc) is)
+failed listens look q part ended c (inr (inl r)) = λ going e many is badly sound. failed_of listens look q part ended c r many (ap (λ (x : ErrorSeen). x.kind) (same_error r.error e ended r.is is) ∙ badly) sound going
+failed listens look q part ended c (inr (inr wanting)) = λ going e many is badly sound. absurd (not_refused e ended ended_wanting wanting.0 (λ k. cc) is)
 
-pub stopped : (listens : Bool) (look : Look) (words : Result Wish BadWord) (part : List Event) (ended : Ended) (c : Course) → AnswersWords listens look words part ended c → StopsAtFailure listens look words part ended
-stopped listens look (Ok (Compiles q)) part ended c (inl well) = λ stops e many is badly sound. absurd (not_refused e ended ended_well well.0 (λ k. cc) is)
-stopped listens look (Ok (Compiles q)) part ended c (inr (inl r)) = λ stops e many is badly sound. stopped_of listens look q part ended c r many (ap (λ (x : ErrorSeen). x.kind) (same_error r.error e ended r.is is) ∙ badly) sound
-stopped listens look (Ok (Compiles q)) part ended c (inr (inr wanting)) = λ stops e many is badly sound. absurd (not_refused e ended ended_wanting wanting.0 (λ k. cc) is)
-stopped listens look (Ok (Records path q)) part ended c a = tt
-stopped listens look (Ok (Archives q)) part ended c a = tt
-stopped listens look (Ok (Generates n)) part ended c a = tt
-stopped listens look (Ok (Expands b)) part ended c a = tt
-stopped listens look (Ok (Shows b)) part ended c a = tt
-stopped listens look (Err bad) part ended c a = tt
+pub stopped : (listens : Bool) (look : Look) (q : Request) (part : List Event) (ended : Ended) (c : Course) → Answers listens look q part ended c → StopsAtFailure listens look q part ended
+stopped listens look q part ended c (inl well) = λ stops e many is badly sound. absurd (not_refused e ended ended_well well.0 (λ k. cc) is)
+stopped listens look q part ended c (inr (inl r)) = λ stops e many is badly sound. stopped_of listens look q part ended c r many (ap (λ (x : ErrorSeen). x.kind) (same_error r.error e ended r.is is) ∙ badly) sound
+stopped listens look q part ended c (inr (inr wanting)) = λ stops e many is badly sound. absurd (not_refused e ended ended_wanting wanting.0 (λ k. cc) is)

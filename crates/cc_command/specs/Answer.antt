@@ -12,7 +12,6 @@ use Rattle.cc_host.specs.declared.event.HostCall.TheVariants.{Print, CurrentDir,
 use Rattle.cc_host.specs.declared.event.LineKind.TheVariants.{Fault as FaultLine}
 use Rattle.cc_host.specs.declared.event.Why.{Why}
 use Rattle.cc_flags.specs.declared.settings.BuildConfig.{BuildConfig}
-use Rattle.cc_build.specs.Build.{BuildSeen}
 use Rattle.cc_build.specs.Built.{Built}
 use Rattle.cc_build.specs.Captured.{with_vars, CaptureEnds}
 use Rattle.cc_build.specs.Course.{Course}
@@ -27,7 +26,7 @@ use Rattle.cc_build.specs.declared.error.ErrorKind.TheVariants.{NoMemory}
 use Rattle.cc_build.specs.Refusal.{refusal_error}
 use Rattle.cc_command.specs.Database.{entries_of, Faults}
 use Rattle.cc_command.specs.Read.{Request, Wish, read}
-use Rattle.cc_command.specs.Read.Wish.{Compiles, Records, Archives, Generates, Expands, Shows}
+use Rattle.cc_command.specs.Read.Wish.{Compiles}
 use Rattle.cc_command.specs.declared.words.BadWord.{BadWord}
 use Rattle.cc_command.specs.declared.words.WordCause.{WordCause}
 use Rattle.cc_command.specs.declared.words.WordCause.TheVariants.{NoCommand, UnknownCommand, NoName, NoValue, UnknownKey, BadValue}
@@ -53,21 +52,25 @@ error_line e = codes "error occurred in cc-rs: " ++ e.message ++ 10 ∷ []
 abbrev pub PrintsLine : List ℕ → List Event → Type 0
 PrintsLine line part = (part ≡ Printed FaultLine line ∷ []) ⊎ ((why : Why) × (part ≡ Fault Print why ∷ []))
 
+-- an end with this status, which tells nothing else
+abbrev pub ended_with : ℕ → Ended
+ended_with status = record { status = status; error = None; word = None; bench = None; graph = None }
+
 -- status 0: neither an error nor a word
 abbrev pub ended_well : Ended
-ended_well = record { status = 0; error = None; word = None; bench = None }
+ended_well = ended_with 0
 
 -- status 1: the error
 abbrev pub ended_refused : ErrorSeen → Ended
-ended_refused e = record { status = 1; error = Some e; word = None; bench = None }
+ended_refused e = record (ended_with 1) { error = Some e }
 
 -- status 2: the bad word
 abbrev pub ended_bad : BadWord → Ended
-ended_bad bad = record { status = 2; error = None; word = Some bad; bench = None }
+ended_bad bad = record (ended_with 2) { word = Some bad }
 
 -- status 3: neither
 abbrev pub ended_wanting : Ended
-ended_wanting = record { status = 3; error = None; word = None; bench = None }
+ended_wanting = ended_with 3
 
 -- an end without the host of a large run, if it has one
 abbrev pub told : Ended → Ended
@@ -159,6 +162,15 @@ Answers listens look request part ended c =
 abbrev pub Untold : List Event → ErrorSeen → Type 0
 Untold part e = (vars : List (List ℕ × List ℕ)) × (rest : List Event) × ((part ≡ Listed vars ∷ rest) × Faults CurrentDir [] rest e)
 
+-- The variables weren't listed, or memory for them was wanted. The line of the error was printed last.
+pub record Unlisted (part : List Event) (ended : Ended) : Type 0 where
+  pub error : ErrorSeen
+  pub front : List Event
+  pub line : List Event
+  pub cut : part ≡ front ++ line
+  pub cause : CaptureEnds front (Err error)
+  pub says : AnswersError error line ended
+
 -- A run that is to be recorded wasn't begun: its variables weren't listed, or its folder wasn't told. The line of the error was printed last.
 pub record Unbegun (part : List Event) (ended : Ended) (c : Course) : Type 0 where
   pub error : ErrorSeen
@@ -214,73 +226,7 @@ AnswersBad bad part ended = ((ended ≡ ended_bad bad) × PrintsLine (word_line 
 -- a fact of a compile run, where the words wish one
 abbrev pub IfCompiles : Result Wish BadWord → (Request → Type 0) → Type 0
 IfCompiles (Ok (Compiles request)) fact = fact request
-IfCompiles (Ok (Records path request)) fact = Unit {0}
-IfCompiles (Ok (Archives request)) fact = Unit {0}
-IfCompiles (Ok (Generates count)) fact = Unit {0}
-IfCompiles (Ok (Expands build)) fact = Unit {0}
-IfCompiles (Ok (Shows build)) fact = Unit {0}
-IfCompiles (Err bad) fact = Unit {0}
-
--- a fact of a compile run that is recorded, with the path of its database, where they wish that
-abbrev pub IfRecords : Result Wish BadWord → (List ℕ → Request → Type 0) → Type 0
-IfRecords (Ok (Compiles request)) fact = Unit {0}
-IfRecords (Ok (Records path request)) fact = fact path request
-IfRecords (Ok (Archives request)) fact = Unit {0}
-IfRecords (Ok (Generates count)) fact = Unit {0}
-IfRecords (Ok (Expands build)) fact = Unit {0}
-IfRecords (Ok (Shows build)) fact = Unit {0}
-IfRecords (Err bad) fact = Unit {0}
-
--- a fact of an archive alone, where they wish that
-abbrev pub IfArchives : Result Wish BadWord → (Request → Type 0) → Type 0
-IfArchives (Ok (Compiles request)) fact = Unit {0}
-IfArchives (Ok (Records path request)) fact = Unit {0}
-IfArchives (Ok (Archives request)) fact = fact request
-IfArchives (Ok (Generates count)) fact = Unit {0}
-IfArchives (Ok (Expands build)) fact = Unit {0}
-IfArchives (Ok (Shows build)) fact = Unit {0}
-IfArchives (Err bad) fact = Unit {0}
-
--- a fact of a large run, where they wish one of so many sources
-abbrev pub IfGenerates : Result Wish BadWord → (ℕ → Type 0) → Type 0
-IfGenerates (Ok (Compiles request)) fact = Unit {0}
-IfGenerates (Ok (Records path request)) fact = Unit {0}
-IfGenerates (Ok (Archives request)) fact = Unit {0}
-IfGenerates (Ok (Generates count)) fact = fact count
-IfGenerates (Ok (Expands build)) fact = Unit {0}
-IfGenerates (Ok (Shows build)) fact = Unit {0}
-IfGenerates (Err bad) fact = Unit {0}
-
--- a fact of a build whose source is expanded, where they wish that
-abbrev pub IfExpands : Result Wish BadWord → (BuildSeen → Type 0) → Type 0
-IfExpands (Ok (Compiles request)) fact = Unit {0}
-IfExpands (Ok (Records path request)) fact = Unit {0}
-IfExpands (Ok (Archives request)) fact = Unit {0}
-IfExpands (Ok (Generates count)) fact = Unit {0}
-IfExpands (Ok (Expands build)) fact = fact build
-IfExpands (Ok (Shows build)) fact = Unit {0}
-IfExpands (Err bad) fact = Unit {0}
-
--- a fact of a build whose tools are shown, where they wish that
-abbrev pub IfShows : Result Wish BadWord → (BuildSeen → Type 0) → Type 0
-IfShows (Ok (Compiles request)) fact = Unit {0}
-IfShows (Ok (Records path request)) fact = Unit {0}
-IfShows (Ok (Archives request)) fact = Unit {0}
-IfShows (Ok (Generates count)) fact = Unit {0}
-IfShows (Ok (Expands build)) fact = Unit {0}
-IfShows (Ok (Shows build)) fact = fact build
-IfShows (Err bad) fact = Unit {0}
-
--- Words that wish a compile run, or are bad, were answered. Those that can't be read for want of memory ask for nothing. A large run takes no token and
--- makes no turn but its own; nor does what expands a source or shows tools.
-abbrev pub AnswersWords : Bool → Look → Result Wish BadWord → List Event → Ended → Course → Type 0
-AnswersWords listens look (Ok (Compiles request)) part ended c = Answers listens look request part ended c
-AnswersWords listens look (Ok (Records path request)) part ended c = AnswersRecord listens look path request part ended c
-AnswersWords listens look (Ok (Archives request)) part ended c = Unit {0}
-AnswersWords listens look (Ok (Generates count)) part ended c = c.after ≡ c.before
-AnswersWords listens look (Ok (Expands build)) part ended c = c.after ≡ c.before
-AnswersWords listens look (Ok (Shows build)) part ended c = c.after ≡ c.before
-AnswersWords listens look (Err bad) part ended c = AnswersBad bad part ended × (c.after ≡ c.before)
+IfCompiles _ fact = Unit {0}
 
 -- what the words ask for, or the first bad one
 abbrev pub asked_for : {Z : Type 0} → List (String Z) → Result Wish BadWord
@@ -293,11 +239,3 @@ IsAnswer listens request ended look part c = Answers listens look request part e
 -- this answers a compile run that is recorded
 abbrev pub IsRecorded : Bool → List ℕ → Request → Ended → Look → List Event → Course → Type 0
 IsRecorded listens path request ended look part c = AnswersRecord listens look path request part ended c
-
--- this answers a wish
-abbrev pub IsAnswerOf : Bool → Wish → Ended → Look → List Event → Course → Type 0
-IsAnswerOf listens wish ended look part c = AnswersWords listens look (Ok wish) part ended c
-
--- this answers the words
-abbrev pub IsAnswerTo : {Z : Type 0} → Bool → List (String Z) → Ended → Look → List Event → Course → Type 0
-IsAnswerTo listens words ended look part c = AnswersWords listens look (asked_for words) part ended c

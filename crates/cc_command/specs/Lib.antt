@@ -1,10 +1,17 @@
 pub mod Answer
+pub mod Answered
 pub mod Archived
 pub mod Asks
+pub mod Call
 pub mod Database
+pub mod Driven
 pub mod Expanded
+pub mod Failing
 pub mod Generated
+pub mod Graphed
+pub mod Jobs
 pub mod Lines
+pub mod Promised
 pub mod Promises
 pub mod Read
 pub mod Recording

@@ -1,5 +1,5 @@
 -- What follows from an answer, each in one sentence.
-use Rattle.std.specs.Prelude.{◌≡◌, ◌⊎◌, ◌≤◌, ◌*◌, ◌+◌, ℕ, List, [], ◌∷◌, ◌++◌, length, map, Option, Some, Bool, true, false, Result, Ok, String}
+use Rattle.std.specs.Prelude.{◌≡◌, ◌⊎◌, ◌≤◌, ◌*◌, ◌+◌, ℕ, List, [], ◌∷◌, ◌++◌, length, map, Option, Some, Bool, true, false, String}
 use Rattle.cc_host.specs.Question.{Look}
 use Rattle.cc_host.specs.Part.{is_probing}
 use Rattle.cc_host.specs.Part.Step.{Lists}
@@ -24,9 +24,8 @@ use Rattle.cc_build.specs.Stage.Stage.{Asks, Calls}
 use Rattle.cc_build.specs.Way.{Hears}
 use Rattle.cc_build.specs.Went.{Goes, Partly}
 use Rattle.cc_build.specs.declared.error.ErrorKind.TheVariants.{TurnsSpent, ToolExecError}
-use Rattle.cc_command.specs.Answer.{PrintsLine, IfCompiles, IfRecords, AnswersRecord, AnswersWords, Recorded, database_in, BuiltBy, asked_for, env_in, terms_in, warning, Findings, stages_of, error_line, word_line, told, ended_well, ended_refused, ended_bad, ended_wanting}
-use Rattle.cc_command.specs.Read.{Request, Wish}
-use Rattle.cc_command.specs.Read.Wish.{Compiles}
+use Rattle.cc_command.specs.Answer.{PrintsLine, IfCompiles, Answers, AnswersRecord, Recorded, database_in, BuiltBy, asked_for, env_in, terms_in, warning, Findings, stages_of, error_line, word_line, told, ended_well, ended_refused, ended_bad, ended_wanting}
+use Rattle.cc_command.specs.Read.{Request}
 use Rattle.cc_command.specs.declared.ended.Ended.{Ended}
 use Rattle.cc_command.specs.declared.words.BadWord.{BadWord}
 
@@ -65,9 +64,6 @@ pub record Begun (listens : Bool) (look : Look) (request : Request) (part : List
   pub partly : Partly (terms_in listens request run c) (stages_of listens look request finds run) run c.before c.after
   pub printed : IsLine line
 
-abbrev pub IsBegun : Bool → Look → Result Wish BadWord → List Event → Course → Type 0
-IsBegun listens look words part c = IfCompiles words (λ request. Begun listens look request part c)
-
 -- before an archive command the variables were listed, the folder was made, and every source's compile command ended with 0
 pub record CompiledBefore (listens : Bool) (look : Look) (request : Request) (part before : List Event) (c : Course) : Type 0 where
   pub runs : List Event
@@ -81,9 +77,6 @@ pub record CompiledBefore (listens : Bool) (look : Look) (request : Request) (pa
 abbrev pub ArchivesBehind : Bool → Look → Request → List Event → Course → Type 0
 ArchivesBehind listens look request part c = (before after : List Event) (event : Event) → part ≡ before ++ event ∷ after → is_archive_event event ≡ true → CompiledBefore listens look request part before c
 
-abbrev pub CompilesFirst : Bool → Look → Result Wish BadWord → List Event → Course → Type 0
-CompilesFirst listens look words part c = IfCompiles words (λ request. ArchivesBehind listens look request part c)
-
 -- children that were abandoned, and then a line of kind Fault, or the fault of its print
 abbrev pub EndsAlone : List Event → Type 0
 EndsAlone part = (ids : List ℕ) × (line : List Event) × ((part ≡ map Abandoned ids ++ line) × IsLine line)
@@ -94,28 +87,28 @@ FaultsLast part = (before after : List Event) (call : HostCall) (why : Why) → 
 
 -- The commands of the part, those that are missing among them, are the first of the planned ones, where the first form of the archive was taken or where
 -- it was refused: one attempt for each, and no other command.
-abbrev pub IsPrefix : Bool → Look → Result Wish BadWord → List Event → Type 0
-IsPrefix listens look words part = IfCompiles words (λ request. (finds : Findings listens) × AreFirst (stages_of listens look request finds part) part)
+abbrev pub IsPrefix : Bool → Look → Request → List Event → Type 0
+IsPrefix listens look request part = (finds : Findings listens) × AreFirst (stages_of listens look request finds part) part
 
 -- Two sources or more are compiled beside each other, each under a token, and as many at once as there are tokens.
-abbrev pub IsBeside : Result Wish BadWord → List Event → Course → Type 0
-IsBeside words part c = IfCompiles words (λ request. 2 ≤ length request.1.config.files
-    → RunBeside c.total request.1.config.stop_on_failure (length request.1.config.files) part)
+abbrev pub IsBeside : Request → List Event → Course → Type 0
+IsBeside request part c = 2 ≤ length request.1.config.files
+    → RunBeside c.total request.1.config.stop_on_failure (length request.1.config.files) part
 
 -- Unless the settings stop a run at a failure, a failed child stops no later start: where a command ended badly and the host is sound, every source's
 -- command was started, and none was left alone.
-abbrev pub StartsAll : Bool → Look → Result Wish BadWord → List Event → Ended → Type 0
-StartsAll listens look words part ended = IfCompiles words (λ request. request.1.config.stop_on_failure ≡ false
+abbrev pub StartsAll : Bool → Look → Request → List Event → Ended → Type 0
+StartsAll listens look request part ended = request.1.config.stop_on_failure ≡ false
     → (e : ErrorSeen) → 2 ≤ length request.1.config.files → ended ≡ ended_refused e → e.kind ≡ ToolExecError
     → (HasFault part → ⊥) → AllStarted (shows_of request.1.config (env_in request part) listens)
-    (compiles_of request.1.config (env_in request part) look) part)
+    (compiles_of request.1.config (env_in request part) look) part
 
 -- Where they do, every source's command was started then, or the first of them alone and one of these failed, and none was left alone.
-abbrev pub StopsAtFailure : Bool → Look → Result Wish BadWord → List Event → Ended → Type 0
-StopsAtFailure listens look words part ended = IfCompiles words (λ request. request.1.config.stop_on_failure ≡ true
+abbrev pub StopsAtFailure : Bool → Look → Request → List Event → Ended → Type 0
+StopsAtFailure listens look request part ended = request.1.config.stop_on_failure ≡ true
     → (e : ErrorSeen) → 2 ≤ length request.1.config.files → ended ≡ ended_refused e → e.kind ≡ ToolExecError
     → (HasFault part → ⊥) → StartsTill (shows_of request.1.config (env_in request part) listens)
-    (compiles_of request.1.config (env_in request part) look) part)
+    (compiles_of request.1.config (env_in request part) look) part
 
 -- the turns are spent: as many were made as there are
 abbrev pub EndsSpent : ℕ → List Event → Ended → Type 0
@@ -123,38 +116,44 @@ EndsSpent most part ended = (e : ErrorSeen) × ((ended ≡ ended_refused e) × (
 
 -- Valid settings, no failed or missing command but the first form of the archive, which an archiver with one form alone hasn't, no fault of the host and none of the pool: it is done, or the turns
 -- are spent, or memory was wanted.
-abbrev pub IsComplete : Look → Result Wish BadWord → List Event → Ended → Course → Type 0
-IsComplete look words part ended c = IfCompiles words (λ request. Valid request.1.config (env_in request part) look request.0 → (Failed (run_has_one_form request.1.config (env_in request part) look) part → ⊥) → (HasFault part → ⊥) → (Rose c.before.faults c.after.faults → ⊥) → (ended ≡ ended_well) ⊎ (EndsSpent c.before.left part ended ⊎ (ended ≡ ended_wanting)))
+abbrev pub IsComplete : Look → Request → List Event → Ended → Course → Type 0
+IsComplete look request part ended c = Valid request.1.config (env_in request part) look request.0
+    → (Failed (run_has_one_form request.1.config (env_in request part) look) part → ⊥) → (HasFault part → ⊥)
+    → (Rose c.before.faults c.after.faults → ⊥) → (ended ≡ ended_well) ⊎ (EndsSpent c.before.left part ended ⊎ (ended ≡ ended_wanting))
 
 -- The turns are enough where one caller owns the pool, the host tells its patience, and there are as many times that as twice the sources, the added objects and two.
-abbrev pub IsEnough : Look → Result Wish BadWord → List Event → Ended → Course → Type 0
-IsEnough look words part ended c = IfCompiles words (λ request. (total p : ℕ) → c.total ≡ Some total → c.patience ≡ Some p → p * (2 * length request.1.config.files + length request.1.config.objects + 2) ≤ c.before.left → EndsSpent c.before.left part ended → ⊥)
+abbrev pub IsEnough : Look → Request → List Event → Ended → Course → Type 0
+IsEnough look request part ended c = (total p : ℕ) → c.total ≡ Some total → c.patience ≡ Some p
+    → p * (2 * length request.1.config.files + length request.1.config.objects + 2) ≤ c.before.left
+    → EndsSpent c.before.left part ended → ⊥
 
--- What a run of the words promises of its answer, its part and its course.
-pub record Promises (listens : Bool) (words : Result Wish BadWord) (ended : Ended) (look : Look) (part : List Event) (c : Course) : Type 0 where
+-- What a compile run promises of its answer, its part and its course.
+pub record Promises (listens : Bool) (request : Request) (ended : Ended) (look : Look) (part : List Event) (c : Course) : Type 0 where
   -- the whole answer: each status with its cause
-  pub answer : AnswersWords listens look words part ended c
+  pub answer : Answers listens look request part ended c
+  -- status 0: the library was built
+  pub built : ended.status ≡ 0 → BuiltBy listens look request part c
   -- on every exit the first stages were done, each once and in order
-  pub begun : IsBegun listens look words part c
+  pub begun : Begun listens look request part c
   -- no archive command stands in the part unless every source was compiled before it
-  pub order : CompilesFirst listens look words part c
+  pub order : ArchivesBehind listens look request part c
   -- one attempt for each of the first planned commands, and no other
-  pub prefix : IsPrefix listens look words part
+  pub prefix : IsPrefix listens look request part
   -- two sources or more are compiled beside each other, each under a token, and as many at once as there are tokens
-  pub beside : IsBeside words part c
+  pub beside : IsBeside request part c
   -- unless the settings stop a run at a failure, a failed child stops no later start
-  pub failed : StartsAll listens look words part ended
+  pub failed : StartsAll listens look request part ended
   -- where they do, a source's command was left out only where one that was started failed
-  pub stopped : StopsAtFailure listens look words part ended
+  pub stopped : StopsAtFailure listens look request part ended
   -- valid settings, no failed command but the first form of the archive, no fault of the host and none of the pool: it is done, the turns are spent, or
   -- memory was wanted
-  pub complete : IsComplete look words part ended c
+  pub complete : IsComplete look request part ended c
   -- where one caller owns the pool and the host tells its patience, so many turns are enough
-  pub enough : IsEnough look words part ended c
+  pub enough : IsEnough look request part ended c
 
--- the same of the words of the program
-abbrev pub IsPromised : {Z : Type 0} → Bool → List (String Z) → Ended → Look → List Event → Course → Type 0
-IsPromised listens words ended look part c = Promises listens (asked_for words) ended look part c
+-- the same, by what was answered
+abbrev pub IsPromised : Bool → Request → Ended → Look → List Event → Course → Type 0
+IsPromised listens request ended look part c = Promises listens request ended look part c
 
 -- The host listed its variables and told its folder; the rest, but for the last event, built the library; and that wrote the database, with an entry for
 -- each source.
@@ -172,12 +171,12 @@ pub record RecordPromises (listens : Bool) (look : Look) (path : List ℕ) (requ
   -- status 0: the library was built, and the database was written last
   pub recorded : ended.status ≡ 0 → RecordedBy listens look path request part c
   -- the run, without the folder and the file of the database, promises all that one does which isn't recorded
-  pub promises : (r : Recorded listens look path request part ended c) → Promises listens (Ok (Compiles request)) r.ran look (Listed r.vars ∷ r.run) c
+  pub promises : (r : Recorded listens look path request part ended c) → Promises listens request r.ran look (Listed r.vars ∷ r.run) c
   -- all of it is complete as a run is that isn't recorded: where nothing keeps it from that it is done, the turns are spent, or memory was wanted
-  pub complete : IsComplete look (Ok (Compiles request)) part ended c
+  pub complete : IsComplete look request part ended c
   -- and as many turns are enough for it
-  pub enough : IsEnough look (Ok (Compiles request)) part ended c
+  pub enough : IsEnough look request part ended c
 
--- the same of words that wish such a run
-abbrev pub IsRecordedSo : {Z : Type 0} → Bool → List (String Z) → Ended → Look → List Event → Course → Type 0
-IsRecordedSo listens words ended look part c = IfRecords (asked_for words) (λ path request. RecordPromises listens look path request part ended c)
+-- the same, by what was answered
+abbrev pub IsRecordedSo : Bool → List ℕ → Request → Ended → Look → List Event → Course → Type 0
+IsRecordedSo listens path request ended look part c = RecordPromises listens look path request part ended c

@@ -23,7 +23,7 @@ use cc_text::{Mem, NoMemory, Text};
 use std::alloc::Global;
 
 // The error of a call that the host refused.
-fn call_failed(alloc: Global, call: &str, why: Why, subject: &str) -> Mem<Error>
+pub(crate) fn call_failed(alloc: Global, call: &str, why: Why, subject: &str) -> Mem<Error>
     ensures { IfOk result (λ e. e ≡ record {
       kind = Io;
       subject = subject.now;

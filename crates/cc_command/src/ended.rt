@@ -3,15 +3,16 @@ ghost use Rattle.std.specs.Prelude.{◌≡◌, ◌++◌, [], false, string_bytes
 ghost use Rattle.std.specs.Fmt.{decimal};
 ghost use Rattle.cc_tool.specs.Asked.{question_events};
 ghost use Rattle.cc_host.specs.Call.{part};
-ghost use Rattle.cc_command.specs.Answer.{PrintsLine, AnswersError, AnswersBad, is_wanting, ended_well, ended_wanting as wanting, cause_text as text_of, word_line as line_of_word, error_line as line_of_error};
+ghost use Rattle.cc_command.specs.Answer.{PrintsLine, AnswersError, AnswersBad, is_wanting, ended_with, ended_well, ended_wanting as wanting, cause_text as text_of, word_line as line_of_word, error_line as line_of_error};
 
 use crate::words::{BadWord, WordCause};
 use cc_build::{Error, ErrorKind};
+use cc_graph::NodeEnds;
 use cc_host::{BenchHost, Host, HostError, LineKind, World};
 use cc_text::{Mem, NoMemory, Text};
 use std::alloc::{AllocError, Global};
 
-/// What a run answers: its status, with 1 the error, with 2 the bad word, and the host of a large run from a number.
+/// What a run answers: its status, with 1 the error, with 2 the bad word, the host of a large run from a number, and the ends of a graph.
 #[derive(Drop)]
 pub struct Ended {
     /// The exit status for a program: 0 done, 1 refused by the build, 2 words refused, 3 want of memory.
@@ -22,28 +23,33 @@ pub struct Ended {
     pub word: Option<BadWord>,
     /// The host in memory that `generate N` ran on, with the log of that run; none where it didn't run, and of any other job.
     pub bench: Option<BenchHost>,
+    /// What became of each command of `graph FILE`, by place; none where they weren't run to their ends, and of any other job.
+    pub graph: Option<NodeEnds>,
+}
+
+// An end with this status, which tells nothing else.
+pub(crate) fn ended_with(status: u8) -> Ended
+    ensures { result ≡ ended_with status }
+{
+    Ended {
+        status,
+        error: None,
+        word: None,
+        bench: None,
+        graph: None,
+    }
 }
 
 pub(crate) fn ended_done() -> Ended
     ensures { result ≡ ended_well }
 {
-    Ended {
-        status: 0,
-        error: None,
-        word: None,
-        bench: None,
-    }
+    ended_with(0)
 }
 
 pub(crate) fn ended_wanting() -> Ended
     ensures { result ≡ wanting }
 {
-    Ended {
-        status: 3,
-        error: None,
-        word: None,
-        bench: None,
-    }
+    ended_with(3)
 }
 
 /// The cause of a bad word as standard error has it behind the place: `word 2: no value`.
@@ -114,10 +120,8 @@ pub(crate) fn refuse_word<W: World, H: Host<W>>(alloc: Global, host: &mut H, bad
     };
     match print_fault(host, &line) {
         Ok(()) => Ended {
-            status: 2,
-            error: None,
             word: Some(bad),
-            bench: None,
+            ..ended_with(2)
         },
         Err(_) => ended_wanting(),
     }
@@ -155,10 +159,8 @@ pub(crate) fn refuse<W: World, H: Host<W>>(alloc: Global, host: &mut H, error: E
 {
     match print_error(alloc, host, &error) {
         Ok(()) => Ended {
-            status: 1,
             error: Some(error),
-            word: None,
-            bench: None,
+            ..ended_with(1)
         },
         Err(_) => {
             drop(error);

@@ -9,8 +9,16 @@
 mod archive;
 mod commands;
 mod database;
+mod done;
 mod ended;
 mod expand;
+mod failing;
+mod files;
+mod graph;
+mod graph_errors;
+mod graph_file;
+mod graph_lines;
+mod job;
 mod large_run;
 mod lines;
 mod reading;
@@ -23,6 +31,7 @@ mod words;
 
 pub use commands::read_words;
 pub use ended::{Ended, cause_text};
+pub use files::drive_files;
 pub use large_run::{Generated, generate};
 pub use top::drive;
 pub use words::{BadWord, Job, ReadError, Request, WordCause};

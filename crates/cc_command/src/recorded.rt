@@ -1,14 +1,11 @@
 // A compile run that is recorded in a compilation database.
-ghost use Rattle.std.specs.Prelude.{◌≡◌, ◌++◌, true};
+ghost use Rattle.std.specs.Prelude.{◌≡◌, ◌++◌};
 ghost use Rattle.cc_host.specs.Call.{part};
 ghost use Rattle.cc_build.specs.Build.{AsksByRun};
 ghost use Rattle.cc_build.specs.Course.{ByRun};
-ghost use Rattle.cc_command.specs.Answer.{IsRecorded};
-ghost use Rattle.cc_command.specs.Asks.{AsksFor};
 ghost use Rattle.cc_command.specs.Recording.{IsRecord};
 
 use crate::database::{find_folder, write_database};
-use crate::ended::{Ended, ended_done, refuse};
 use cc_build::{Build, Error};
 use cc_host::{Host, World};
 use cc_jobs::Jobs;
@@ -24,9 +21,9 @@ pub(crate) struct Record<'a> {
     pub turns: u64,
 }
 
-// Asks for the folder, compiles, and writes the database.
+/// Asks for the folder, compiles, and writes the compilation database.
 #[tactic(auto, using(cc_host::proofs::Parts::since_append))]
-fn run_between<W: World, H: Host<W>, J: Jobs>(
+pub(crate) fn compile_recorded<W: World, H: Host<W>, J: Jobs>(
     rt: &impl Wait,
     to: Record<'_>,
     build: &Build<W>,
@@ -48,35 +45,4 @@ fn run_between<W: World, H: Host<W>, J: Jobs>(
     build.try_compile(rt, host, jobs, seat, to.turns, to.name)?;
     write_database(to.alloc, build, to.path, here.as_str(), host)?;
     Ok(())
-}
-
-/// Takes the host's variables, and compiles; then writes the compilation database.
-#[tactic(auto, using(cc_host::proofs::Parts::since_append))]
-pub(crate) fn compile_recorded<W: World, H: Host<W>, J: Jobs>(
-    rt: &impl Wait,
-    to: Record<'_>,
-    build: &mut Build<W>,
-    host: &mut H,
-    jobs: &J,
-    seat: &mut J::Seat,
-) -> Ended
-    requires fits { J.fits jobs.now seat.old }
-    requires empty { J.held seat.old ≡ 0 }
-    requires repeats { build.old.config.repeat_lines ≡ true }
-    ensures fits { J.fits jobs.now seat.new }
-    ensures empty { J.held seat.new ≡ 0 }
-    ensures extends { H.log host.new ≡ H.log host.old ++ part H.log host.old host.new }
-    ensures asked { AsksFor W.steady W.answer (to.entry.name.now, build.old)
-        (part H.log host.old host.new) }
-    ensures answer { ByRun H.log H.patience J.total J.faults J.taken J.load to.entry.turns
-        host.old host.new seat.old seat.new
-        (IsRecorded (H.listens host.old) to.entry.path.now (to.entry.name.now, build.old) result) }
-{
-    match build.capture(host) {
-        Ok(()) => match run_between(rt, to, build, host, jobs, seat) {
-            Ok(()) => ended_done(),
-            Err(error) => refuse(to.alloc, host, error),
-        },
-        Err(error) => refuse(to.alloc, host, error),
-    }
 }

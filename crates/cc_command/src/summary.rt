@@ -2,20 +2,18 @@
 ghost use Rattle.std.specs.Prelude.{◌≡◌, ◌++◌, [], ◌∷◌, Some, IfOk, OnOk};
 ghost use Rattle.cc_host.specs.Call.{part};
 ghost use Rattle.cc_host.specs.Script.{same_role};
-ghost use Rattle.cc_tool.specs.Asked.{question_events};
 ghost use Rattle.cc_build.specs.Course.{CallsEnd};
 ghost use Rattle.cc_build.specs.Kept.{Aside};
-ghost use Rattle.cc_command.specs.Answer.{told};
 ghost use Rattle.cc_command.specs.Generated.{counted_line as line_of};
 ghost use Rattle.cc_command.specs.Lines.{shows};
-ghost use Rattle.cc_command.specs.Summary.{begins as is_begun, counts as is_counted, links as is_link, number, log_lines, SumsUp, Concludes, Sums};
+ghost use Rattle.cc_command.specs.Summary.{begins as is_begun, counts as is_counted, links as is_link, number, log_lines, SumsUp, Generating};
 
-use crate::ended::{Ended, ended_done, ended_wanting, refuse};
+use crate::done::{Done, plain};
 use crate::large_run::{Generated, generate};
 use crate::lines::print_lines;
 use cc_build::Error;
 use cc_host::{Event, Host, LineKind, Role, World};
-use cc_text::{Mem, NoMemory, Text, Words};
+use cc_text::{Mem, Text, Words};
 use std::alloc::Global;
 use std::sync::Wait;
 
@@ -135,62 +133,41 @@ fn sum_up<W: World, H: Host<W>>(
     }
 }
 
-// Sums a run up, and says how the job ended.
-#[tactic(auto, using(cc_host::proofs::Parts::since_append))]
-fn conclude<W: World, H: Host<W>>(
-    alloc: Global,
-    host: &mut H,
-    count: u32,
-    log: &[Event],
-    run: Result<(), Error>,
-) -> Ended
-    ensures extends { H.log host.new ≡ H.log host.old ++ part H.log host.old host.new }
-    ensures asks_none { question_events (part H.log host.old host.new) ≡ [] }
-    ensures concludes { Concludes (log_lines count log.now) run
-        (part H.log host.old host.new) result }
-{
-    match sum_up(alloc, host, count, log, run) {
-        Ok(()) => ended_done(),
-        Err(error) => refuse(alloc, host, error),
-    }
-}
-
 // Sums a run up, and hands its host back.
 fn hand_back<W: World, H: Host<W>>(
     alloc: Global,
     host: &mut H,
     count: u32,
     generated: Generated,
-) -> Ended
-    ensures extends { H.log host.new ≡ H.log host.old ++ part H.log host.old host.new }
-    ensures asks_none { question_events (part H.log host.old host.new) ≡ [] }
+) -> Done
+    ensures aside { Aside H.log H.patience host.old host.new }
     ensures back { result.bench ≡ Some generated.bench }
-    ensures concludes { Concludes (log_lines count generated.bench.log) generated.result
-        (part H.log host.old host.new) (told result) }
+    ensures sums { SumsUp (log_lines count generated.bench.log) generated.result
+        (part H.log host.old host.new) result.result }
 {
     let Generated { bench, result } = generated;
-    let ended = conclude(alloc, host, count, bench.log(), result);
-    Ended {
+    let result = sum_up(alloc, host, count, bench.log(), result);
+    Done {
+        result,
         bench: Some(bench),
-        ..ended
     }
 }
 
 /// Compiles so many generated sources on a host in memory of its own, and prints what that came to on the host that is handed in.
-#[tactic(auto, using(cc_host::proofs::Parts::since_append))]
+#[tactic(auto, using(cc_build::proofs::Keeping::aside_none))]
 pub(crate) fn generate_alone<W: World, H: Host<W>>(
     rt: &impl Wait,
     alloc: Global,
     count: u32,
     turns: u64,
     host: &mut H,
-) -> Ended
-    ensures extends { H.log host.new ≡ H.log host.old ++ part H.log host.old host.new }
-    ensures asks_none { question_events (part H.log host.old host.new) ≡ [] }
-    ensures sums { Sums count turns (part H.log host.old host.new) result }
+) -> Done
+    ensures aside { Aside H.log H.patience host.old host.new }
+    ensures ends { Generating count turns (part H.log host.old host.new)
+        result.result result.bench }
 {
     match generate(rt, alloc, count, turns) {
         Ok(generated) => hand_back(alloc, host, count, generated),
-        Err(NoMemory) => ended_wanting(),
+        Err(memory) => plain(Err(Error::from(memory))),
     }
 }

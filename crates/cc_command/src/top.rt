@@ -3,166 +3,25 @@ ghost use Rattle.std.specs.Prelude.{◌≡◌, ◌++◌, Ok, true};
 ghost use Rattle.cc_host.specs.Call.{part};
 ghost use Rattle.cc_build.specs.Course.{ByRun};
 ghost use Rattle.cc_build.specs.Promises.{NothingRuns};
-ghost use Rattle.cc_command.specs.Answer.{asked_for, IfArchives, IfExpands, IfGenerates, IfShows, IsAnswer, IsAnswerOf, IsAnswerTo};
-ghost use Rattle.cc_command.specs.Archived.{Archived, ArchivePromises};
-ghost use Rattle.cc_command.specs.Asks.{AsksFor, AsksWish, AsksWords};
-ghost use Rattle.cc_command.specs.Expanded.{Expanded, ExpandPromises};
-ghost use Rattle.cc_command.specs.Promises.{Headline, IsPromised, IsRecordedSo, PrintsLast, FaultsLast};
-ghost use Rattle.cc_command.specs.Read.{compile_wish, name_of, wish_of};
-ghost use Rattle.cc_command.specs.Shown.{Shown, ShowPromises};
-ghost use Rattle.cc_command.specs.Summary.{Sums, GeneratePromises};
+ghost use Rattle.cc_command.specs.Answer.{asked_for};
+ghost use Rattle.cc_command.specs.Answered.{Answered};
+ghost use Rattle.cc_command.specs.Asks.{AsksWords};
+ghost use Rattle.cc_command.specs.Call.{call_of};
+ghost use Rattle.cc_command.specs.Promised.{Promised};
+ghost use Rattle.cc_command.specs.Promises.{Headline, PrintsLast, FaultsLast};
+ghost use Rattle.cc_command.specs.Read.{wish_of};
 
-use crate::archive::archive;
 use crate::commands::read_words;
-use crate::ended::{Ended, ended_done, ended_wanting, refuse, refuse_word};
-use crate::expand::expand;
-use crate::recorded::{Record, compile_recorded};
-use crate::show::show;
-use crate::summary::generate_alone;
-use crate::words::{Invocation, Job, ReadError, Request};
+use crate::done::conclude;
+use crate::ended::{Ended, ended_wanting, refuse, refuse_word};
+use crate::job::do_job;
+use crate::words::{Invocation, ReadError, Request};
 use cc_host::{Host, World};
 use cc_jobs::Jobs;
 use std::alloc::Global;
 use std::sync::Wait;
 
-// Takes the host's variables, and compiles.
-#[tactic(auto, using(cc_host::proofs::Parts::since_append))]
-fn compile<W: World, H: Host<W>, J: Jobs>(
-    rt: &impl Wait,
-    request: &mut Request<W>,
-    turns: u64,
-    host: &mut H,
-    jobs: &J,
-    seat: &mut J::Seat,
-) -> Ended
-    requires fits { J.fits jobs.now seat.old }
-    requires empty { J.held seat.old ≡ 0 }
-    requires repeats { request.old.build.config.repeat_lines ≡ true }
-    ensures fits { J.fits jobs.now seat.new }
-    ensures empty { J.held seat.new ≡ 0 }
-    ensures extends { H.log host.new ≡ H.log host.old ++ part H.log host.old host.new }
-    ensures asked { AsksFor W.steady W.answer (name_of request.old.job, request.old.build)
-        (part H.log host.old host.new) }
-    ensures answer { ByRun H.log H.patience J.total J.faults J.taken J.load turns
-        host.old host.new seat.old seat.new
-        (IsAnswer (H.listens host.old) (name_of request.old.job, request.old.build) result) }
-{
-    let alloc = request.alloc;
-    let name = request.job.name();
-    let build = &mut request.build;
-    match build.capture(host) {
-        Ok(()) => match build.try_compile(rt, host, jobs, seat, turns, name) {
-            Ok(()) => ended_done(),
-            Err(error) => refuse(alloc, host, error),
-        },
-        Err(error) => refuse(alloc, host, error),
-    }
-}
-
-// Compiles, and records that where a database is asked for.
-#[tactic(auto, using(cc_host::proofs::Parts::since_append))]
-fn compile_job<W: World, H: Host<W>, J: Jobs>(
-    rt: &impl Wait,
-    request: &mut Request<W>,
-    turns: u64,
-    host: &mut H,
-    jobs: &J,
-    seat: &mut J::Seat,
-) -> Ended
-    requires fits { J.fits jobs.now seat.old }
-    requires empty { J.held seat.old ≡ 0 }
-    requires repeats { request.old.build.config.repeat_lines ≡ true }
-    ensures fits { J.fits jobs.now seat.new }
-    ensures empty { J.held seat.new ≡ 0 }
-    ensures extends { H.log host.new ≡ H.log host.old ++ part H.log host.old host.new }
-    ensures asked { AsksWish W.steady W.answer (compile_wish request.old.database
-        (name_of request.old.job, request.old.build)) (part H.log host.old host.new) }
-    ensures answer { ByRun H.log H.patience J.total J.faults J.taken J.load turns
-        host.old host.new seat.old seat.new (IsAnswerOf (H.listens host.old)
-        (compile_wish request.old.database (name_of request.old.job, request.old.build)) result) }
-{
-    match &request.database {
-        Some(path) => {
-            let alloc = request.alloc;
-            let name = request.job.name();
-            let path = path.as_str();
-            let to = Record {
-                alloc,
-                name,
-                path,
-                turns,
-            };
-            compile_recorded(rt, to, &mut request.build, host, jobs, seat)
-        }
-        None => compile(rt, request, turns, host, jobs, seat),
-    }
-}
-
-// Takes the host's variables, and archives the added objects alone.
-#[tactic(auto, using(cc_host::proofs::Parts::since_append))]
-fn archive_alone<W: World, H: Host<W>>(
-    rt: &impl Wait,
-    request: &mut Request<W>,
-    turns: u64,
-    host: &mut H,
-) -> Ended
-    requires repeats { request.old.build.config.repeat_lines ≡ true }
-    ensures extends { H.log host.new ≡ H.log host.old ++ part H.log host.old host.new }
-    ensures archived { Archived (H.listens host.old) W.steady W.answer
-        (name_of request.old.job, request.old.build) (H.patience host.old) turns
-        (part H.log host.old host.new) result }
-{
-    let alloc = request.alloc;
-    match request.build.capture(host) {
-        Ok(()) => match archive(rt, request, host, turns) {
-            Ok(()) => ended_done(),
-            Err(error) => refuse(alloc, host, error),
-        },
-        Err(error) => refuse(alloc, host, error),
-    }
-}
-
-// Takes the host's variables, and expands the source of the build.
-#[tactic(auto, using(cc_host::proofs::Parts::since_append))]
-fn expand_alone<W: World, H: Host<W>>(
-    rt: &impl Wait,
-    request: &mut Request<W>,
-    host: &mut H,
-) -> Ended
-    requires repeats { request.old.build.config.repeat_lines ≡ true }
-    ensures extends { H.log host.new ≡ H.log host.old ++ part H.log host.old host.new }
-    ensures expanded { Expanded (H.listens host.old) W.steady W.answer request.old.build
-        (part H.log host.old host.new) result }
-{
-    let alloc = request.alloc;
-    match request.build.capture(host) {
-        Ok(()) => match expand(rt, alloc, &request.build, host) {
-            Ok(()) => ended_done(),
-            Err(error) => refuse(alloc, host, error),
-        },
-        Err(error) => refuse(alloc, host, error),
-    }
-}
-
-// Takes the host's variables, and shows the tools of the build.
-#[tactic(auto, using(cc_host::proofs::Parts::since_append))]
-fn show_tools<W: World, H: Host<W>>(rt: &impl Wait, request: &mut Request<W>, host: &mut H) -> Ended
-    requires repeats { request.old.build.config.repeat_lines ≡ true }
-    ensures extends { H.log host.new ≡ H.log host.old ++ part H.log host.old host.new }
-    ensures shown { Shown (H.listens host.old) W.steady W.answer request.old.build
-        (part H.log host.old host.new) result }
-{
-    let alloc = request.alloc;
-    match request.build.capture(host) {
-        Ok(()) => match show(rt, alloc, &request.build, host) {
-            Ok(()) => ended_done(),
-            Err(error) => refuse(alloc, host, error),
-        },
-        Err(error) => refuse(alloc, host, error),
-    }
-}
-
-// Does what a request asks for.
+// Takes the host's variables, does the job of a request, and says how it ended.
 #[tactic(auto, using(cc_host::proofs::Parts::since_append))]
 fn serve<W: World, H: Host<W>, J: Jobs>(
     rt: &impl Wait,
@@ -178,35 +37,17 @@ fn serve<W: World, H: Host<W>, J: Jobs>(
     ensures fits { J.fits jobs.now seat.new }
     ensures empty { J.held seat.new ≡ 0 }
     ensures extends { H.log host.new ≡ H.log host.old ++ part H.log host.old host.new }
-    ensures asked { AsksWish W.steady W.answer
-        (wish_of request.old.job request.old.database request.old.build)
-        (part H.log host.old host.new) }
-    ensures answer { ByRun H.log H.patience J.total J.faults J.taken J.load turns
-        host.old host.new seat.old seat.new
-        (IsAnswerOf (H.listens host.old)
-        (wish_of request.old.job request.old.database request.old.build) result) }
-    ensures archived { IfArchives
-        (Ok (wish_of request.old.job request.old.database request.old.build))
-        (λ q. Archived (H.listens host.old) W.steady W.answer q
-        (H.patience host.old) turns (part H.log host.old host.new) result) }
-    ensures generated { IfGenerates
-        (Ok (wish_of request.old.job request.old.database request.old.build))
-        (λ count. Sums count turns (part H.log host.old host.new) result) }
-    ensures expanded { IfExpands
-        (Ok (wish_of request.old.job request.old.database request.old.build))
-        (λ b. Expanded (H.listens host.old) W.steady W.answer b
-        (part H.log host.old host.new) result) }
-    ensures shown { IfShows
-        (Ok (wish_of request.old.job request.old.database request.old.build))
-        (λ b. Shown (H.listens host.old) W.steady W.answer b
-        (part H.log host.old host.new) result) }
+    ensures answered { Answered (call_of H.log H.patience H.listens W.steady W.answer
+        J.total J.faults J.taken J.load turns host.old host.new seat.old seat.new)
+        (Ok (wish_of request.old.job request.old.database request.old.build)) result }
 {
-    match request.job {
-        Job::Compile(_) => compile_job(rt, request, turns, host, jobs, seat),
-        Job::Archive(_) => archive_alone(rt, request, turns, host),
-        Job::Generate(count) => generate_alone(rt, request.alloc, count, turns, host),
-        Job::Expand => expand_alone(rt, request, host),
-        Job::Show => show_tools(rt, request, host),
+    let alloc = request.alloc;
+    match request.build.capture(host) {
+        Ok(()) => {
+            let done = do_job(rt, request, turns, host, jobs, seat);
+            conclude(alloc, host, done)
+        }
+        Err(error) => refuse(alloc, host, error),
     }
 }
 
@@ -224,22 +65,9 @@ fn run<W: World, H: Host<W>, J: Jobs>(
     ensures fits { J.fits jobs.now seat.new }
     ensures empty { J.held seat.new ≡ 0 }
     ensures extends { H.log host.new ≡ H.log host.old ++ part H.log host.old host.new }
-    ensures asked { AsksWords W.steady W.answer (asked_for invocation.entry.words.now)
-        (part H.log host.old host.new) }
-    ensures answer { ByRun H.log H.patience J.total J.faults J.taken J.load invocation.entry.turns
-        host.old host.new seat.old seat.new
-        (IsAnswerTo (H.listens host.old) invocation.entry.words.now result) }
-    ensures archived { IfArchives (asked_for invocation.entry.words.now)
-        (λ q. Archived (H.listens host.old) W.steady W.answer q
-        (H.patience host.old) invocation.entry.turns (part H.log host.old host.new) result) }
-    ensures generated { IfGenerates (asked_for invocation.entry.words.now)
-        (λ count. Sums count invocation.entry.turns (part H.log host.old host.new) result) }
-    ensures expanded { IfExpands (asked_for invocation.entry.words.now)
-        (λ b. Expanded (H.listens host.old) W.steady W.answer b
-        (part H.log host.old host.new) result) }
-    ensures shown { IfShows (asked_for invocation.entry.words.now)
-        (λ b. Shown (H.listens host.old) W.steady W.answer b
-        (part H.log host.old host.new) result) }
+    ensures answered { Answered (call_of H.log H.patience H.listens W.steady W.answer J.total
+        J.faults J.taken J.load invocation.entry.turns host.old host.new seat.old seat.new)
+        (asked_for invocation.entry.words.now) result }
 {
     let Invocation {
         alloc,
@@ -267,8 +95,8 @@ fn run<W: World, H: Host<W>, J: Jobs>(
 /// that relative paths count from, and that the last event wrote the file of that path: the compilation database with one entry for each
 /// source, in order, of that folder, the source, its object, and the words of the command that compiled it.
 ///
-/// `generate N` leaves the host's variables, the pool and the seat alone: its run has a host in memory and four tokens of its own, and as many
-/// turns, of which two for each source and two more are enough. Status 0 of it means: over the whole log of that host, which is handed back
+/// `generate N` has its host list its variables, and leaves the pool and the seat alone: its run has a host in memory and four tokens of its own, and as
+/// many turns, of which two for each source and two more are enough. Status 0 of it means: over the whole log of that host, which is handed back
 /// as `bench` and was empty before, the library `gen` of N sources is built; and exactly five lines were printed on the host that was
 /// handed in, of kind Shown: `sources`, `compiles`, `archives`, `indexes` and `links`, each with its number.
 ///
@@ -307,33 +135,10 @@ pub fn drive<W: World, H: Host<W>, J: Jobs>(
     ensures built { ByRun H.log H.patience J.total J.faults J.taken J.load turns
         host.old host.new seat.old seat.new (Headline (H.listens host.old) words.now result) }
 
-    // The whole answer, each status with its cause, and what follows from it, sentence by sentence.
-    ensures promises { ByRun H.log H.patience J.total J.faults J.taken J.load turns
-        host.old host.new seat.old seat.new (IsPromised (H.listens host.old) words.now result) }
-
-    // The same of a compile run that is recorded in a database.
-    ensures recorded { ByRun H.log H.patience J.total J.faults J.taken J.load turns
-        host.old host.new seat.old seat.new (IsRecordedSo (H.listens host.old) words.now result) }
-
-    // The same of an archive alone.
-    ensures archived { IfArchives (asked_for words.now)
-        (λ q. ArchivePromises (H.listens host.old) W.steady W.answer q
-        (H.patience host.old) turns (part H.log host.old host.new) result) }
-
-    // A large run from a number.
-    ensures generated { IfGenerates (asked_for words.now)
-        (λ count. GeneratePromises count turns (part H.log host.old host.new) result) }
-
-    // A source that is expanded.
-    ensures expanded { IfExpands (asked_for words.now)
-        (λ b. ExpandPromises (H.listens host.old) W.steady W.answer b
-        (part H.log host.old host.new) result) }
-
-    // The tools of a build.
-    ensures shown { IfShows (asked_for words.now)
-        (λ b. ShowPromises (H.listens host.old) W.steady W.answer b
-        (part H.log host.old host.new) result) }
-
+    // The whole answer, each status with its cause, and what follows from it, sentence by sentence, by what the words ask for.
+    ensures promised { Promised (call_of H.log H.patience H.listens W.steady W.answer
+        J.total J.faults J.taken J.load turns host.old host.new seat.old seat.new)
+        (asked_for words.now) result }
     ensures printed { PrintsLast (part H.log host.old host.new) result }
     ensures faults_last { FaultsLast (part H.log host.old host.new) }
     ensures settled { NothingRuns (part H.log host.old host.new) }

@@ -1,9 +1,10 @@
-//! The command: its words ask for a compile run, an archive alone, a large run from a number, an expanded source, or the tools of a build, which
-//! it drives on the machine. Standard output bears the lines that Cargo reads from a build script (The Cargo Book, "Build Scripts"), those that
-//! sum a large run up or show the tools, or the expanded source; `HELP` lists the words and the statuses.
+//! The command: its words ask for a compile run, an archive alone, a large run from a number, an expanded source, the tools of a build, or a
+//! graph of commands, which it drives on the machine. Standard output bears the lines that Cargo reads from a build script (The Cargo Book,
+//! "Build Scripts"), those that sum a large run up, show the tools or tell what became of a graph, or the expanded source; `HELP` lists the
+//! words and the statuses.
 //!
-//! Stands on `cc_command`, whose `drive` reads the words and runs what they ask for: that call carries the theorem
-//! of the repository. Here is what knows the process: its words, the host that runs processes, and a pool of the
+//! Stands on `cc_command`, whose `drive_files` reads the words and runs what they ask for: that call carries the theorem
+//! of the repository. Here is what knows the process: its words, the host that runs processes, the files of the machine, and a pool of the
 //! size that its variables ask for.
 #![tactic(auto)]
 
@@ -13,10 +14,10 @@ ghost use Rattle.cc_env.specs.Snapshot.{snapshot_of};
 ghost use Rattle.cc_jobs.specs.Size.{pool_size as size_for};
 ghost use Rattle.cc_command.specs.Answer.{heard};
 
-use cc_command::drive;
+use cc_command::drive_files;
 use cc_env::EnvSnapshot;
-use cc_host::{Host, HostError, World};
-use cc_hosts::{ProcessHost, StandIns};
+use cc_host::{Files, Host, HostError, World};
+use cc_hosts::{ProcessHost, RealFiles, StandIns};
 use cc_jobs::{SharedPool, pool_size};
 use cc_text::{Mem, NoMemory, Vars};
 use std::alloc::Global;
@@ -32,6 +33,7 @@ usage: cc_main compile NAME key=value ...
        cc_main generate N
        cc_main expand key=value ...
        cc_main show key=value ...
+       cc_main graph FILE
 
 commands:
   compile NAME   compile the sources, and archive them into lib<NAME>.a
@@ -39,6 +41,9 @@ commands:
   generate N     compile N generated sources, from 1 to 10000, on a host in memory, and sum up what that took
   expand         print what the compiler's preprocessor makes of the one source
   show           print the compiler's family, and the commands of compiler, archiver and ranlib with the words that come first
+  graph FILE     run the commands of a JSON file, each once the commands that it needs ended with 0, beside each other as
+                 tokens are free, and print for each its place and its status, or that it was skipped: an array of objects
+                 with the program and its words under `command`, and the places that it needs under `needs`
 
 keys that may stand again, each adding one:
   file=PATH              a source
@@ -115,15 +120,16 @@ fn tokens<W: World, H: Host<W>>(alloc: Global, host: &mut H) -> Mem<u32>
 }
 
 // Runs what the words ask for on a host, and answers the status.
-fn run<W: World, H: Host<W>>(
+fn run<W: World, H: Host<W>, F: Files>(
     rt: &impl Wait,
     alloc: Global,
     host: &mut H,
+    files: &mut F,
     words: &[String],
 ) -> Mem<u8> {
     let total = tokens(alloc, host)?;
     let (jobs, mut seat) = SharedPool::new(alloc, total)?;
-    let ended = drive(rt, alloc, words, u64::MAX, host, &jobs, &mut seat);
+    let ended = drive_files(rt, alloc, words, u64::MAX, host, files, &jobs, &mut seat);
     let status = ended.status;
     // The process ends right behind this, and with it goes what the host of a large run has noted.
     mem::forget(ended);
@@ -167,7 +173,10 @@ fn main(rt: HostRuntime) -> ExitCode {
         return ExitCode::from(3);
     };
     host.lacks(stand_ins.closed());
-    match run(&rt, rt.alloc(), &mut host, &words) {
+    let Ok(mut files) = RealFiles::new(rt) else {
+        return ExitCode::from(3);
+    };
+    match run(&rt, rt.alloc(), &mut host, &mut files, &words) {
         Ok(status) => ExitCode::from(status),
         Err(NoMemory) => ExitCode::from(3),
     }

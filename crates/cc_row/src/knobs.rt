@@ -1,9 +1,9 @@
-// The host of a row.
+// The host of a row, and its files.
 ghost use Rattle.std.specs.Prelude.{◌≢◌, IfOk};
 ghost use Rattle.cc_host.specs.declared.question.Outcome.TheVariants.{Unanswered};
 
 use crate::row::{Answer, Commands, Failure, Given, Knobs, ScriptOf, Surroundings};
-use cc_host::{BenchHost, Outcome, Script};
+use cc_host::{BenchHost, MemoryFiles, Outcome, Script};
 use cc_text::{Bytes, Mem, Text};
 use std::alloc::Global;
 
@@ -104,4 +104,21 @@ pub fn host_of(alloc: Global, knobs: &Knobs) -> Mem<BenchHost> {
     let mut host = BenchHost::new(alloc)?;
     apply(alloc, knobs, &mut host)?;
     Ok(host)
+}
+
+fn put_files(knobs: &Knobs, files: &mut MemoryFiles) -> Mem<()> {
+    for file in &knobs.reads.files {
+        files.put(file.path.as_str(), file.bytes.as_slice())?;
+    }
+    for nth in &knobs.reads.failures {
+        files.fail(*nth)?;
+    }
+    Ok(())
+}
+
+/// Files that are those of these knobs, with the reads that fail.
+pub fn files_of(alloc: Global, knobs: &Knobs) -> Mem<MemoryFiles> {
+    let mut files = MemoryFiles::new(alloc)?;
+    put_files(knobs, &mut files)?;
+    Ok(files)
 }

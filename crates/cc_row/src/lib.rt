@@ -2,7 +2,7 @@
 //!
 //! Stands on `cc_text`, `cc_host` and the kit's `toml`. A row is one run of the command: its words, how its host differs from one at
 //! which all goes well, and what is expected of it. A call row is one call of a function: what it is given and what it gives. The
-//! program above uses four things: `read_book`, `host_of`, `log_lines`, and `left_over`, which finds what a run left undone or unused.
+//! program above uses five things: `read_book`, `host_of`, `files_of`, `log_lines`, and `left_over`, which finds what a run left undone or unused.
 #![tactic(auto)]
 
 mod commands;
@@ -17,12 +17,12 @@ mod row;
 mod used;
 
 pub use error::{Read, RowError};
-pub use knobs::host_of;
+pub use knobs::{files_of, host_of};
 pub use line::quoted_list;
 pub use lines::log_lines;
 pub use reading::read_book;
 pub use row::{
     Answer, Book, CallRow, Commands, Expected, ExpectedError, ExpectedLog, ExpectedWord, Failure,
-    Given, Knobs, Parts, Pool, Row, ScriptOf, Surroundings,
+    Given, Knobs, Parts, Pool, ReadFile, Reads, Row, ScriptOf, Surroundings,
 };
 pub use used::left_over;

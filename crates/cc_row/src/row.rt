@@ -34,6 +34,7 @@ pub struct Knobs {
     pub commands: Commands,
     pub answers: Vec<Answer>,
     pub failures: Vec<Failure>,
+    pub reads: Reads,
 }
 
 /// What is there before the run: variables, files, the words that are drawn, and whether the host listens.
@@ -89,6 +90,20 @@ pub enum Given {
 pub struct Failure {
     pub call: HostCall,
     pub nth: u64,
+}
+
+/// What reads of files come to: the files that there are, and the numbers of the reads that fail, from 1.
+#[derive(Drop)]
+pub struct Reads {
+    pub files: Vec<ReadFile>,
+    pub failures: Vec<u64>,
+}
+
+/// A file that may be read.
+#[derive(Drop)]
+pub struct ReadFile {
+    pub path: String,
+    pub bytes: Vec<u8>,
 }
 
 /// How many commands may run at a time, at least 1, and how many turns a run may make.

@@ -1,9 +1,9 @@
 // A row played on a host of its own.
 use crate::compare::{Compared, Difference, compare_end, compare_lines};
-use cc_command::{Ended, drive};
+use cc_command::{Ended, drive_files};
 use cc_host::{BenchHost, Event, Host};
 use cc_jobs::{Jobs, OneCaller};
-use cc_row::{Pool, Row, host_of, left_over, log_lines};
+use cc_row::{Row, files_of, host_of, left_over, log_lines};
 use cc_text::Mem;
 use std::alloc::Global;
 use std::sync::Wait;
@@ -15,12 +15,16 @@ struct Found {
     held: u64,
 }
 
-// The one call of `drive`. A pool has at least one token, and `max` says so.
-fn run(rt: &impl Wait, alloc: Global, words: &[String], pool: Pool, host: &mut BenchHost) -> Found {
+// The one call of `drive_files`. A pool has at least one token, and `max` says so.
+fn run(rt: &impl Wait, alloc: Global, row: &Row, host: &mut BenchHost) -> Mem<Found> {
+    let mut files = files_of(alloc, &row.knobs)?;
+    let pool = row.knobs.pool;
     let (jobs, mut seat) = OneCaller::new(pool.tokens.max(1));
-    let ended = drive(rt, alloc, words, pool.turns, host, &jobs, &mut seat);
+    let ended = drive_files(
+        rt, alloc, &row.words, pool.turns, host, &mut files, &jobs, &mut seat,
+    );
     let held = jobs.held(&seat);
-    Found { ended, held }
+    Ok(Found { ended, held })
 }
 
 // Compares what no row has to ask for: that nothing is held, runs, stands or is unused.
@@ -45,7 +49,7 @@ fn compare(alloc: Global, to: &mut Compared, row: &Row, found: &Found, log: &[Ev
 /// Plays the row. `None` says that all is as expected.
 pub fn play(rt: &impl Wait, alloc: Global, row: &Row) -> Mem<Option<Difference>> {
     let mut host = host_of(alloc, &row.knobs)?;
-    let found = run(rt, alloc, &row.words, row.knobs.pool, &mut host);
+    let found = run(rt, alloc, row, &mut host)?;
     let mut to = Compared::new(alloc);
     compare(alloc, &mut to, row, &found, host.log())?;
     Ok(to.first)

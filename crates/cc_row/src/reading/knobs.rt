@@ -2,7 +2,9 @@
 use crate::error::Read;
 use crate::fields::Fields;
 use crate::names::{ask_of, call_of, family_of, role_of};
-use crate::row::{Answer, Commands, Failure, Given, Knobs, Pool, ScriptOf, Surroundings};
+use crate::row::{
+    Answer, Commands, Failure, Given, Knobs, Pool, ReadFile, Reads, ScriptOf, Surroundings,
+};
 use cc_host::{Ask, HostCall, Role, Status};
 use cc_text::{ToolFamily, Vars};
 use toml::Value;
@@ -179,12 +181,71 @@ fn read_failure(fields: Fields<'_, '_>) -> Read<Failure> {
     })
 }
 
+// Whether what fails is a read of a file, which no host makes.
+fn is_read(fields: Fields<'_, '_>) -> Read<bool> {
+    let word = fields.wanted("call")?;
+    Ok(word.as_str() == "read")
+}
+
+// The calls of the host that fail.
 fn read_failures(fields: Fields<'_, '_>) -> Read<Vec<Failure>> {
     let mut failures = Vec::new(fields.alloc);
     for value in fields.values("fail")? {
-        failures.push(read_failure(fields.below("fail", value)?)?)?;
+        let failure = fields.below("fail", value)?;
+        if !is_read(failure)? {
+            failures.push(read_failure(failure)?)?;
+        }
     }
     Ok(failures)
+}
+
+// The numbers of the reads that fail.
+fn read_failing_reads(fields: Fields<'_, '_>) -> Read<Vec<u64>> {
+    let mut failures = Vec::new(fields.alloc);
+    for value in fields.values("fail")? {
+        let failure = fields.below("fail", value)?;
+        if is_read(failure)? {
+            failure.only(&["call", "nth"])?;
+            failures.push(failure.count("nth", 1, 1)?)?;
+        }
+    }
+    Ok(failures)
+}
+
+fn read_byte(fields: Fields<'_, '_>, value: &Value) -> Read<u8> {
+    let refusal = fields.refuse("bytes", "wants numbers from 0 to 255");
+    match value {
+        Value::Integer(number) => u8::try_from(*number).map_err(|_| refusal),
+        _ => Err(refusal),
+    }
+}
+
+// The bytes of a file: those of its text, and then these.
+fn read_bytes(fields: Fields<'_, '_>) -> Read<Vec<u8>> {
+    let mut bytes = fields.text_or_empty("text")?.into_bytes();
+    for value in fields.values("bytes")? {
+        bytes.push(read_byte(fields, value)?)?;
+    }
+    Ok(bytes)
+}
+
+fn read_read(fields: Fields<'_, '_>) -> Read<ReadFile> {
+    fields.only(&["path", "text", "bytes"])?;
+    Ok(ReadFile {
+        path: fields.wanted("path")?,
+        bytes: read_bytes(fields)?,
+    })
+}
+
+fn read_reads(fields: Fields<'_, '_>) -> Read<Reads> {
+    let mut files = Vec::new(fields.alloc);
+    for value in fields.values("read")? {
+        files.push(read_read(fields.below("read", value)?)?)?;
+    }
+    Ok(Reads {
+        files,
+        failures: read_failing_reads(fields)?,
+    })
 }
 
 fn read_pool(fields: Fields<'_, '_>) -> Read<Pool> {
@@ -202,5 +263,6 @@ pub fn read_knobs(fields: Fields<'_, '_>) -> Read<Knobs> {
         commands: read_commands(fields)?,
         answers: read_answers(fields)?,
         failures: read_failures(fields)?,
+        reads: read_reads(fields)?,
     })
 }

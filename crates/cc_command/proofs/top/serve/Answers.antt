@@ -1,84 +1,31 @@
-use Rattle.std.proofs.Common.{refl}
+use Rattle.std.proofs.Common.{◌∙◌, ◌++◌, Bool, Ok, ap, refl, subst}
 use Rattle.cc_host.specs.Part.{since}
-use Rattle.cc_build.specs.Course.{course}
-use Rattle.cc_build.specs.Went.{means}
-use Rattle.cc_command.proofs.ArchivedLaws.{of_compile, of_archive}
-use Rattle.cc_command.proofs.JobLaws.{asks_compile, no_archive, no_generate, no_expand, no_show}
-use Rattle.cc_command.proofs.ExpandedLaws.{of_expand, asks_expand, expanded_expand}
-use Rattle.cc_command.proofs.ShownLaws.{of_show, asks_show, shown_show}
-use Rattle.cc_command.proofs.SummedLaws.{of_generate, asks_generate, sums_generate}
+use Rattle.cc_host.proofs.Parts.{since_since, since_extends}
+use Rattle.cc_command.specs.Answered.{Answered}
+use Rattle.cc_command.specs.Call.{call_of, seat_counts}
+use Rattle.cc_command.specs.Read.{wish_of}
+use Rattle.cc_command.proofs.ServedLaws.{served, unlisted_answered}
 use Rattle.cc_command.proofs.top.serve.Goals as goal
 
-pub returns-in-Compile-clause-answer : goal.returns-in-Compile-clause-answer
-returns-in-Compile-clause-answer g c =
-    let part = since (g.H.Host.log c.args.host.now) (g.H.Host.log c.compile_job.new.host) in
-    let before = means c.args.turns (g.J.Jobs.faults c.args.seat.now) (g.J.Jobs.taken c.args.seat.now) (g.J.Jobs.load c.args.seat.now) in
-    record {
-      under = λ look agree.
-          let h = c.compile_job.ensures.answer.under look agree in
-          let after = means h.0 (g.J.Jobs.faults c.compile_job.new.seat) (g.J.Jobs.taken c.compile_job.new.seat) (g.J.Jobs.load c.compile_job.new.seat) in
-          (h.0, of_compile (g.H.Host.listens c.args.host.now) c.args.request.now.job _ c.args.request.now.build c.args.request.now.database c.compile_job.result look part (course (g.J.Jobs.total c.args.seat.now) (g.H.Host.patience c.args.host.now) before after) c.in-Compile.is h.1);
-    }
+pub returns-in-Ok-clause-answered : goal.returns-in-Ok-clause-answered
+returns-in-Ok-clause-answered g c =
+    let old = g.H.Host.log c.args.host.now in
+    let mid = g.H.Host.log c.capture.new.host in
+    let end = g.H.Host.log c.do_job-done.new.host in
+    let new = g.H.Host.log c.conclude.new.host in
+    let call = call_of g.H.Host.log g.H.Host.patience g.H.Host.listens g.W.World.steady g.W.World.answer g.J.Jobs.total g.J.Jobs.faults g.J.Jobs.taken g.J.Jobs.load c.args.turns c.args.host.now c.conclude.new.host c.args.seat.now c.do_job-done.new.seat in
+    subst (λ (l : Bool). Answered (record call { listens = l }) (Ok (wish_of c.args.request.now.job c.args.request.now.database c.args.request.now.build)) c.conclude.result) c.capture.ensures.ear
+    (served (g.H.Host.listens c.capture.new.host) g.W.World.steady g.W.World.answer (g.H.Host.patience c.capture.new.host) (g.H.Host.patience c.args.host.now) (g.J.Jobs.total c.args.seat.now) c.capture.ensures.patient c.args.turns
+    (seat_counts (g.J.Jobs.faults c.args.seat.now) (g.J.Jobs.taken c.args.seat.now) (g.J.Jobs.load c.args.seat.now)) (seat_counts (g.J.Jobs.faults c.do_job-done.new.seat) (g.J.Jobs.taken c.do_job-done.new.seat) (g.J.Jobs.load c.do_job-done.new.seat))
+    c.args.request.now.build c.capture.new.self (since old mid) (since mid end) (since end new) (since old new) c.in-Ok.ensures.captured
+    (since_since old end new (since_extends old mid end c.capture.ensures.extends c.do_job-done.ensures.extends) c.conclude.ensures.extends ∙ ap (λ l. l ++ since end new) (since_since old mid end c.capture.ensures.extends c.do_job-done.ensures.extends))
+    c.conclude.ensures.asks_none c.requires.repeats c.conclude.result c.args.request.now.job c.args.request.now.database c.do_job-done.result.result c.do_job-done.result.bench c.do_job-done.ensures.ends c.conclude.ensures.bench c.conclude.ensures.says)
 
-pub returns-in-Compile-clause-asked : goal.returns-in-Compile-clause-asked
-returns-in-Compile-clause-asked g c =
-    asks_compile c.args.request.now.job _ c.args.request.now.build c.args.request.now.database g.W.World.steady g.W.World.answer (since (g.H.Host.log c.args.host.now) (g.H.Host.log c.compile_job.new.host)) c.in-Compile.is c.compile_job.ensures.asked
-
-pub returns-in-Compile-clause-archived : goal.returns-in-Compile-clause-archived
-returns-in-Compile-clause-archived g c = no_archive c.args.request.now.job _ c.args.request.now.build c.args.request.now.database _ c.in-Compile.is
-
-pub returns-in-Compile-clause-generated : goal.returns-in-Compile-clause-generated
-returns-in-Compile-clause-generated g c = no_generate c.args.request.now.job _ c.args.request.now.build c.args.request.now.database _ c.in-Compile.is
-
-pub returns-in-Compile-clause-expanded : goal.returns-in-Compile-clause-expanded
-returns-in-Compile-clause-expanded g c = no_expand c.args.request.now.job _ c.args.request.now.build c.args.request.now.database _ c.in-Compile.is
-
-pub returns-in-Compile-clause-shown : goal.returns-in-Compile-clause-shown
-returns-in-Compile-clause-shown g c = no_show c.args.request.now.job _ c.args.request.now.build c.args.request.now.database _ c.in-Compile.is
-
-pub returns-in-Archive-clause-asked : goal.returns-in-Archive-clause-asked
-returns-in-Archive-clause-asked g c =
-    let part = since (g.H.Host.log c.args.host.now) (g.H.Host.log c.archive_alone.new.host) in
-    of_archive (g.H.Host.listens c.args.host.now) c.args.request.now.job _ c.args.request.now.build c.args.request.now.database g.W.World.steady g.W.World.answer (g.H.Host.patience c.args.host.now) c.args.turns part c.archive_alone.result c.in-Archive.is c.archive_alone.ensures.archived
-
-pub returns-in-Generate-clause-answer : goal.returns-in-Generate-clause-answer
-returns-in-Generate-clause-answer g c =
-    let part = since (g.H.Host.log c.args.host.now) (g.H.Host.log c.generate_alone.new.host) in
-    let left = means c.args.turns (g.J.Jobs.faults c.args.seat.now) (g.J.Jobs.taken c.args.seat.now) (g.J.Jobs.load c.args.seat.now) in
-    record { under = λ look agree. (c.args.turns, of_generate (g.H.Host.listens c.args.host.now) c.args.request.now.job _ c.args.request.now.build c.args.request.now.database c.generate_alone.result look part (course (g.J.Jobs.total c.args.seat.now) (g.H.Host.patience c.args.host.now) left left) c.in-Generate.is refl) }
-
-pub returns-in-Generate-clause-asked : goal.returns-in-Generate-clause-asked
-returns-in-Generate-clause-asked g c =
-    asks_generate c.args.request.now.job _ c.args.request.now.build c.args.request.now.database g.W.World.steady g.W.World.answer (since (g.H.Host.log c.args.host.now) (g.H.Host.log c.generate_alone.new.host)) c.in-Generate.is c.generate_alone.ensures.asks_none
-
-pub returns-in-Generate-clause-generated : goal.returns-in-Generate-clause-generated
-returns-in-Generate-clause-generated g c =
-    sums_generate c.args.request.now.job _ c.args.turns c.args.request.now.build c.args.request.now.database (since (g.H.Host.log c.args.host.now) (g.H.Host.log c.generate_alone.new.host)) c.generate_alone.result c.in-Generate.is c.generate_alone.ensures.sums
-
-pub returns-in-Expand-clause-answer : goal.returns-in-Expand-clause-answer
-returns-in-Expand-clause-answer g c =
-    let part = since (g.H.Host.log c.args.host.now) (g.H.Host.log c.expand_alone.new.host) in
-    let left = means c.args.turns (g.J.Jobs.faults c.args.seat.now) (g.J.Jobs.taken c.args.seat.now) (g.J.Jobs.load c.args.seat.now) in
-    record { under = λ look agree. (c.args.turns, of_expand (g.H.Host.listens c.args.host.now) c.args.request.now.job c.args.request.now.build c.args.request.now.database c.expand_alone.result look part (course (g.J.Jobs.total c.args.seat.now) (g.H.Host.patience c.args.host.now) left left) c.in-Expand.is refl) }
-
-pub returns-in-Expand-clause-asked : goal.returns-in-Expand-clause-asked
-returns-in-Expand-clause-asked g c =
-    asks_expand (g.H.Host.listens c.args.host.now) c.args.request.now.job c.args.request.now.build c.args.request.now.database g.W.World.steady g.W.World.answer (since (g.H.Host.log c.args.host.now) (g.H.Host.log c.expand_alone.new.host)) c.expand_alone.result c.in-Expand.is c.expand_alone.ensures.expanded
-
-pub returns-in-Expand-clause-expanded : goal.returns-in-Expand-clause-expanded
-returns-in-Expand-clause-expanded g c =
-    expanded_expand (g.H.Host.listens c.args.host.now) c.args.request.now.job c.args.request.now.build c.args.request.now.database g.W.World.steady g.W.World.answer (since (g.H.Host.log c.args.host.now) (g.H.Host.log c.expand_alone.new.host)) c.expand_alone.result c.in-Expand.is c.expand_alone.ensures.expanded
-
-pub returns-in-Show-clause-answer : goal.returns-in-Show-clause-answer
-returns-in-Show-clause-answer g c =
-    let part = since (g.H.Host.log c.args.host.now) (g.H.Host.log c.show_tools.new.host) in
-    let left = means c.args.turns (g.J.Jobs.faults c.args.seat.now) (g.J.Jobs.taken c.args.seat.now) (g.J.Jobs.load c.args.seat.now) in
-    record { under = λ look agree. (c.args.turns, of_show (g.H.Host.listens c.args.host.now) c.args.request.now.job c.args.request.now.build c.args.request.now.database c.show_tools.result look part (course (g.J.Jobs.total c.args.seat.now) (g.H.Host.patience c.args.host.now) left left) c.in-Show.is refl) }
-
-pub returns-in-Show-clause-asked : goal.returns-in-Show-clause-asked
-returns-in-Show-clause-asked g c =
-    asks_show (g.H.Host.listens c.args.host.now) c.args.request.now.job c.args.request.now.build c.args.request.now.database g.W.World.steady g.W.World.answer (since (g.H.Host.log c.args.host.now) (g.H.Host.log c.show_tools.new.host)) c.show_tools.result c.in-Show.is c.show_tools.ensures.shown
-
-pub returns-in-Show-clause-shown : goal.returns-in-Show-clause-shown
-returns-in-Show-clause-shown g c =
-    shown_show (g.H.Host.listens c.args.host.now) c.args.request.now.job c.args.request.now.build c.args.request.now.database g.W.World.steady g.W.World.answer (since (g.H.Host.log c.args.host.now) (g.H.Host.log c.show_tools.new.host)) c.show_tools.result c.in-Show.is c.show_tools.ensures.shown
+pub returns-in-Err-clause-answered : goal.returns-in-Err-clause-answered
+returns-in-Err-clause-answered g c =
+    let old = g.H.Host.log c.args.host.now in
+    let mid = g.H.Host.log c.capture.new.host in
+    let new = g.H.Host.log c.refuse.new.host in
+    unlisted_answered (call_of g.H.Host.log g.H.Host.patience g.H.Host.listens g.W.World.steady g.W.World.answer g.J.Jobs.total g.J.Jobs.faults g.J.Jobs.taken g.J.Jobs.load c.args.turns c.args.host.now c.refuse.new.host c.args.seat.now c.args.seat.now)
+    (since old mid) (since mid new) c.in-Err.error c.refuse.result (since_since old mid new c.capture.ensures.extends c.refuse.ensures.extends) c.in-Err.ensures.outcome c.refuse.ensures.answer refl c.capture.ensures.asks_none c.refuse.ensures.asks_none
+    (wish_of c.args.request.now.job c.args.request.now.database c.args.request.now.build)

@@ -1,0 +1,11 @@
+use Rattle.std.proofs.Common.{inl, []}
+use Rattle.cc_host.specs.Part.{since}
+use Rattle.cc_host.specs.declared.event.HostCall.TheVariants.{Vars}
+use Rattle.cc_build.proofs.Going.{part_is}
+use Rattle.cc_command.proofs.EntryLaws.{faulted}
+use Rattle.cc_command.proofs.graph_file.list_vars.Goals as goal
+
+pub returns-in-Err-clause-refused : goal.returns-in-Err-clause-refused
+returns-in-Err-clause-refused g c =
+    inl (faulted Vars [] c.in-Err.error (since (g.H.Host.log c.args.host.now) (g.H.Host.log c.vars.new.self)) c.unlisted.result (g.H.Host.faults c.args.host.now) (g.H.Host.faults c.vars.new.self)
+    (part_is (g.H.Host.log c.args.host.now) (g.H.Host.log c.vars.new.self) _ c.in-Err.ensures.adds) c.in-Err.ensures.cause c.unlisted.ensures)
