@@ -97,7 +97,8 @@ impl<W: World> Build<W> {
     }
 
     /// Sets whether the sources are C++: the compiler is then that of `CXX`, else `c++` or what the target has, and flags are those of
-    /// `CXXFLAGS`. At first they are C: `CC`, `cc` and `CFLAGS`. No C++ library is put among the link lines. It takes no memory.
+    /// `CXXFLAGS`. At first they are C: the compiler is that of `CC`, flags those of `CFLAGS`, and no C++ library is linked. It takes no
+    /// memory.
     pub fn cpp(&mut self, cpp: bool)
         ensures { Sets self.old self.new (λ c. record c { cpp = cpp }) }
     {

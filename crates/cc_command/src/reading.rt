@@ -165,7 +165,7 @@ fn is_switch_key(key: &str) -> bool
     )
 }
 
-// SetsKey what is on or off, or unset, where this is such a key.
+// Sets what is on or off, or unset, where this is such a key.
 fn set_choice<W: World>(build: &mut Build<W>, key: &str, on: bool) -> bool
     ensures known { result ≡ is_choice_key key.now }
     ensures set { result ≡ true → SetsTruth build.old build.new key.now on }
@@ -216,7 +216,7 @@ fn set_choice<W: World>(build: &mut Build<W>, key: &str, on: bool) -> bool
     }
 }
 
-// SetsKey what is on or off, where this is such a key.
+// Sets what is on or off, where this is such a key.
 fn set_switch<W: World>(build: &mut Build<W>, key: &str, on: bool) -> bool
     ensures known { result ≡ is_switch_key key.now }
     ensures set { result ≡ true → SetsTruth build.old build.new key.now on }
@@ -288,7 +288,7 @@ fn set_level<W: World>(alloc: Global, build: &mut Build<W>, value: &str) -> Mem<
     }
 }
 
-// SetsKey the variable of `K=V`.
+// Sets the variable of `K=V`.
 fn set_variable<W: World>(build: &mut Build<W>, value: &str) -> Mem<Option<WordCause>>
     ensures { IfOk result (SetsKey build.old build.new (codes "env") value.now) }
 {
