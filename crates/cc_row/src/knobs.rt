@@ -95,14 +95,20 @@ fn apply_failures(failures: &[Failure], host: &mut BenchHost) -> Mem<()> {
 fn apply(alloc: Global, knobs: &Knobs, host: &mut BenchHost) -> Mem<()> {
     knobs.around.apply(host)?;
     knobs.commands.apply(alloc, host)?;
-    apply_answers(alloc, &knobs.answers, host)?;
-    apply_failures(&knobs.failures, host)
+    apply_answers(alloc, &knobs.answers, host)
+}
+
+/// The same host as that of `host_of`, but that no call fails.
+pub fn healed_host_of(alloc: Global, knobs: &Knobs) -> Mem<BenchHost> {
+    let mut host = BenchHost::new(alloc)?;
+    apply(alloc, knobs, &mut host)?;
+    Ok(host)
 }
 
 /// A host that differs by these knobs from one at which all goes well.
 pub fn host_of(alloc: Global, knobs: &Knobs) -> Mem<BenchHost> {
-    let mut host = BenchHost::new(alloc)?;
-    apply(alloc, knobs, &mut host)?;
+    let mut host = healed_host_of(alloc, knobs)?;
+    apply_failures(&knobs.failures, &mut host)?;
     Ok(host)
 }
 
@@ -110,15 +116,26 @@ fn put_files(knobs: &Knobs, files: &mut MemoryFiles) -> Mem<()> {
     for file in &knobs.reads.files {
         files.put(file.path.as_str(), file.bytes.as_slice())?;
     }
-    for nth in &knobs.reads.failures {
+    Ok(())
+}
+
+fn fail_reads(failures: &[u64], files: &mut MemoryFiles) -> Mem<()> {
+    for nth in failures {
         files.fail(*nth)?;
     }
     Ok(())
 }
 
-/// Files that are those of these knobs, with the reads that fail.
-pub fn files_of(alloc: Global, knobs: &Knobs) -> Mem<MemoryFiles> {
+/// The same files as those of `files_of`, but that no read fails.
+pub fn healed_files_of(alloc: Global, knobs: &Knobs) -> Mem<MemoryFiles> {
     let mut files = MemoryFiles::new(alloc)?;
     put_files(knobs, &mut files)?;
+    Ok(files)
+}
+
+/// Files that are those of these knobs, with the reads that fail.
+pub fn files_of(alloc: Global, knobs: &Knobs) -> Mem<MemoryFiles> {
+    let mut files = healed_files_of(alloc, knobs)?;
+    fail_reads(&knobs.reads.failures, &mut files)?;
     Ok(files)
 }

@@ -2,7 +2,8 @@
 //!
 //! Stands on `cc_text`, `cc_host` and the kit's `toml`. A row is one run of the command: its words, how its host differs from one at
 //! which all goes well, and what is expected of it. A call row is one call of a function: what it is given and what it gives. The
-//! program above uses five things: `read_book`, `host_of`, `files_of`, `log_lines`, and `left_over`, which finds what a run left undone or unused.
+//! program above uses `read_book`, `host_of` and `files_of`, which give what a row runs on, with their `healed` twins at which no call fails, `log_lines`,
+//! and `left_over`, which finds what a run left undone or unused.
 #![tactic(auto)]
 
 mod commands;
@@ -17,7 +18,7 @@ mod row;
 mod used;
 
 pub use error::{Read, RowError};
-pub use knobs::{files_of, host_of};
+pub use knobs::{files_of, healed_files_of, healed_host_of, host_of};
 pub use line::quoted_list;
 pub use lines::log_lines;
 pub use reading::read_book;

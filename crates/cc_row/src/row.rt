@@ -113,10 +113,11 @@ pub struct Pool {
     pub turns: u64,
 }
 
-/// What is expected of a run: at least one of these.
+/// What is expected of a run: at least one of these. The status `healed` is that of the same run where no call fails, beside another one.
 #[derive(Drop)]
 pub struct Expected {
     pub status: Option<u8>,
+    pub healed: Option<u8>,
     pub error: Option<ExpectedError>,
     pub word: Option<ExpectedWord>,
     pub log: ExpectedLog,

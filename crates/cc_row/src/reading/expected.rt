@@ -3,14 +3,23 @@ use crate::error::Read;
 use crate::fields::Fields;
 use crate::row::{Expected, ExpectedError, ExpectedLog, ExpectedWord, Parts};
 
-fn read_status(fields: Fields<'_, '_>) -> Read<Option<u8>> {
-    let Some(number) = fields.number("status")? else {
+fn read_status(fields: Fields<'_, '_>, key: &str) -> Read<Option<u8>> {
+    let Some(number) = fields.number(key)? else {
         return Ok(None);
     };
     match u8::try_from(number) {
         Ok(status) => Ok(Some(status)),
-        Err(_) => Err(fields.refuse("status", "not from 0 to 255")),
+        Err(_) => Err(fields.refuse(key, "not from 0 to 255")),
     }
+}
+
+// The status of the same run where no call fails. There is one only where a call does.
+fn read_healed(fields: Fields<'_, '_>) -> Read<Option<u8>> {
+    let healed = read_status(fields, "healed")?;
+    if healed.is_some() && !fields.has_values("fail") {
+        return Err(fields.refuse("healed", "no call fails"));
+    }
+    Ok(healed)
 }
 
 fn error_of(fields: Fields<'_, '_>) -> Read<ExpectedError> {
@@ -81,7 +90,8 @@ pub fn read_expected(fields: Fields<'_, '_>) -> Read<Expected> {
         return Err(fields.refuse("status", "the row expects nothing"));
     }
     Ok(Expected {
-        status: read_status(fields)?,
+        status: read_status(fields, "status")?,
+        healed: read_healed(fields)?,
         error: read_error(fields)?,
         word: read_word(fields)?,
         log: read_log(fields)?,
