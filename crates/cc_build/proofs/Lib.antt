@@ -5,8 +5,10 @@ pub mod BesideLaws
 pub mod BuiltLaws
 pub mod ChildLaws
 pub mod Doing
+pub mod ExpandFaults
 pub mod ExpandLaws
 pub mod FailedLaws
+pub mod FaultLaws
 pub mod Finding
 pub mod FirstLaws
 pub mod FormLaws

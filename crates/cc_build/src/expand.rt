@@ -10,6 +10,7 @@ ghost use Rattle.cc_build.specs.Course.{ByPart};
 ghost use Rattle.cc_build.specs.Error.{no_memory};
 ghost use Rattle.cc_build.specs.Expand as spec;
 ghost use Rattle.cc_build.specs.Kept.{Aside};
+ghost use Rattle.cc_build.specs.Promises.{FaultsEnd};
 ghost use Rattle.cc_build.specs.Shows.{shows_of};
 
 use crate::compiler::compiler;
@@ -195,6 +196,7 @@ impl<W: World> Build<W> {
         ensures childless { list_any is_of_children (part H.log host.old host.new) ≡ false }
         ensures outcome { ByPart H.log host.old host.new
             (spec.ExpandedEnds self.now (H.listens host.old) result) }
+        ensures faults_last { FaultsEnd (part H.log host.old host.new) }
     {
         told_expand(rt, &self.task(host.listens()), &self.caches, host)
     }

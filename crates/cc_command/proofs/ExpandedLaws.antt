@@ -4,7 +4,7 @@ use Rattle.std.specs.List.{list_all, list_any}
 use Rattle.std.proofs.lemmas.Bool.{and_parts}
 use Rattle.std.proofs.lemmas.Grind.{flat_map-append}
 use Rattle.std.proofs.lemmas.List.Folds.{list_all-append, list_any-append}
-use Rattle.cc_host.specs.Part.{Step, step_of, stop_of, stops, done, left, is_probing, StopsAt, IsPartly, IsWhole}
+use Rattle.cc_host.specs.Part.{Step, step_of, stop_of, stops, done, left, StopsAt, IsPartly, IsWhole}
 use Rattle.cc_host.specs.Part.Step.{Runs, Prints, Lists}
 use Rattle.cc_host.specs.Question.{Look, Agrees, answers, Holds}
 use Rattle.cc_host.specs.declared.event.Event.{Event}
@@ -41,9 +41,10 @@ use Rattle.cc_build.specs.Stage.{rerun_lines}
 use Rattle.cc_build.specs.Told.{expand_reads, name_steps}
 use Rattle.cc_build.specs.Way.{Firsts, chosen}
 use Rattle.cc_build.specs.Went.{terms, means}
-use Rattle.cc_build.proofs.ExpandLaws.{Shape, gives_shape, given_faultless, given_attempts, gives_none, shape_faults, shape_first}
+use Rattle.cc_build.proofs.ExpandFaults.{expanded_faultless, telling_partly, tells_faults}
+use Rattle.cc_build.proofs.ExpandLaws.{Shape, gives_shape, given_attempts, gives_none, shape_first}
+use Rattle.cc_build.proofs.FaultLaws.{partly_faults, unstopped, then_faults}
 use Rattle.cc_build.proofs.Looks.{agrees_parts}
-use Rattle.cc_build.proofs.Trying.{beyond, no_such_fault}
 use Rattle.cc_command.specs.Answer.{AnswersError, ended_well, ended_wanting}
 use Rattle.cc_command.specs.Archived.{Says}
 use Rattle.cc_command.specs.Expanded.{PrintsOutput, ExpandsSource, Expanding, ListsThenExpands, ExpandJobEnds, Expanded, expand_error, expansion_in, ignored_in, IsExpanded, IsFailed, IsSole, ExpandPromises}
@@ -53,7 +54,7 @@ use Rattle.cc_command.specs.declared.ended.Ended.{Ended}
 use Rattle.cc_command.proofs.ArchivedLaws.{says_last, says_line}
 use Rattle.cc_command.proofs.PromiseLaws.{faults_behind, known_memory}
 use Rattle.cc_build.proofs.PrintedLaws.{IsChildless, is_told, told_printed, told_warned, told_refused, or_false, neither, childless_then, calls_outcome}
-use Rattle.cc_command.proofs.ShownLaws.{childless_line, childless_settled, outcome_partly, partly_faults, stopped_fault}
+use Rattle.cc_command.proofs.ShownLaws.{childless_line, childless_settled, outcome_partly, stopped_fault}
 
 -- ---- parts in which no command is attempted
 
@@ -107,26 +108,6 @@ module _ (steps : List Step) (told : list_all is_told steps ≡ true) (part : Li
   whole_untried : IsWhole steps part → IsChildless part → attempts part ≡ []
   whole_untried w none = partly_untried (partly_whole steps part w) none
 
--- ---- faults
-
--- where nothing ended it, no call of the host failed
-unstopped : (part : List Event) → stops part ≡ [] → list_any is_fault part ≡ false
-unstopped [] h = refl
-unstopped (Fault call why ∷ part) h = by_test (is_probing call) h (unstopped part (none_behind (stop_of (Fault call why)) (stops part) h))
-  where
-    by_test : (b : Bool) → (if b then [] else Fault call why ∷ []) ++ stops part ≡ [] → list_any is_fault part ≡ false → (not b || list_any is_fault part) ≡ false
-    by_test true k rest = rest
-    by_test false k rest = absurd (cc)
-unstopped (event ∷ part) h = unstopped part (none_behind (stop_of event) (stops part) h)
-
-nothing_faults : FaultsEnd []
-nothing_faults before after call why real here = absurd (no_such_fault [] before after call why refl real here)
-
-then_faults : (front rest : List Event) → list_any is_fault front ≡ false → FaultsEnd rest → FaultsEnd (front ++ rest)
-then_faults front rest none h before after call why real here =
-    let k = beyond front rest before after (Fault call why) none (ap not real) here in
-    h k.0 after call why real k.1
-
 -- ---- one command
 
 sole_none : (p : Planned) (part : List Event) → attempts part ≡ [] → IsSole p part
@@ -170,14 +151,8 @@ module _ (listens : Bool) (b : BuildSeen) (look : Look) where
   told_tool warns_of_link = told_warned b.config listens (warnings_of b.config b.env warns_of_link look)
 
   module _ (r : Result (List ℕ) ErrorSeen) (part : List Event) (h : RunsTool b listens r look part) where
-    asking_faultless : list_any is_fault h.asking ≡ false
-    asking_faultless = unstopped h.asking h.found.1.1.unstopped
-
     shape : Shape p h.run
     shape = gives_shape (shows_of b.config b.env listens) p (ignored_in b look) h.run r h.gives
-
-    runs_faults : FaultsEnd part
-    runs_faults = subst FaultsEnd (sym h.cut) (then_faults h.asking h.run asking_faultless (shape_faults p h.run shape))
 
     asking_untried : IsChildless part → attempts h.asking ≡ []
     asking_untried none = whole_untried (tool_steps b.config b.env listens h.found.0 look) (told_tool h.found.0) h.asking h.found.1.1 (both_childless h.asking h.run part h.cut none).0
@@ -185,22 +160,11 @@ module _ (listens : Bool) (b : BuildSeen) (look : Look) where
     runs_sole : IsChildless part → IsSole p part
     runs_sole none = subst (IsSole p) (sym h.cut) (sole_behind p h.asking h.run (asking_untried none) (shape_first p h.run shape))
 
-  expand_faults : (r : Result (List ℕ) ErrorSeen) (part : List Event) → ExpandEnds b listens r look part → FaultsEnd part
-  expand_faults (Ok output) part h = runs_faults (Ok output) part h.1
-  expand_faults (Err e) part (inl unasked) = subst FaultsEnd (sym unasked.0) nothing_faults
-  expand_faults (Err e) part (inr (fine, inl lacks)) = partly_faults (tool_steps b.config b.env listens lacks.0 look) part lacks.1.0
-  expand_faults (Err e) part (inr (fine, inr ran)) = runs_faults (Err e) part ran
-
   expand_sole : (r : Result (List ℕ) ErrorSeen) (part : List Event) → ExpandEnds b listens r look part → IsChildless part → IsSole p part
   expand_sole (Ok output) part h none = runs_sole (Ok output) part h.1 none
   expand_sole (Err e) part (inl unasked) none = sole_none p part (ap attempts unasked.0)
   expand_sole (Err e) part (inr (fine, inl lacks)) none = sole_none p part (partly_untried (tool_steps b.config b.env listens lacks.0 look) (told_tool lacks.0) part lacks.1.0 none)
   expand_sole (Err e) part (inr (fine, inr ran)) none = runs_sole (Err e) part ran none
-
-  expanded_faultless : (output : List ℕ) (part : List Event) → ExpandEnds b listens (Ok output) look part → list_any is_fault part ≡ false
-  expanded_faultless output part h =
-      ap (list_any is_fault) h.1.cut ∙ list_any-append is_fault h.1.asking h.1.run
-      ∙ or_false (list_any is_fault h.1.asking) (list_any is_fault h.1.run) (asking_faultless (Ok output) part h.1) (given_faultless (shows_of b.config b.env listens) p (ignored_in b look) h.1.run output h.1.gives)
 
   -- where nothing is refused: memory was wanted, or a call of the host failed, or the command did
   abbrev IsKnown : ErrorSeen → List Event → Type 0
@@ -239,26 +203,11 @@ module _ (listens : Bool) (b : BuildSeen) (look : Look) where
   told_names firsts = told_printed Rerun (rerun_lines (chosen firsts.names (rerun_names expand_reads b.config b.env look)))
 
   module _ (output : List ℕ) (r : Result (List ℕ) ErrorSeen) (part : List Event) (h : ExpandsAndTells b listens output r look part) where
-    telling_partly : IsPartly (told_steps h.told.0) h.telling
-    telling_partly = by_end r h.told.1.1
-      where
-        by_end : (r : Result (List ℕ) ErrorSeen) → Outcome None (told_steps h.told.0) h.telling r → IsPartly (told_steps h.told.0) h.telling
-        by_end (Ok v) o = partly_whole (told_steps h.told.0) h.telling o.1
-        by_end (Err e) o = o.0
-
     telling_untried : IsChildless part → attempts h.telling ≡ []
-    telling_untried none = partly_untried (told_steps h.told.0) (told_names h.told.0) h.telling telling_partly (both_childless h.expanding h.telling part h.cut none).1
-
-    telling_faults : FaultsEnd part
-    telling_faults = subst FaultsEnd (sym h.cut) (then_faults h.expanding h.telling (expanded_faultless output h.expanding h.expands) (partly_faults (told_steps h.told.0) h.telling telling_partly))
+    telling_untried none = partly_untried (told_steps h.told.0) (told_names h.told.0) h.telling (telling_partly listens b look output r part h) (both_childless h.expanding h.telling part h.cut none).1
 
     telling_sole : IsChildless part → IsSole p part
     telling_sole none = subst (IsSole p) (sym h.cut) (sole_then p h.expanding h.telling (expand_sole (Ok output) h.expanding h.expands (both_childless h.expanding h.telling part h.cut none).0) (telling_untried none))
-
-  tells_faults : (r : Result (List ℕ) ErrorSeen) (part : List Event) → ExpandedEnds b listens r look part → FaultsEnd part
-  tells_faults (Ok output) part h = telling_faults output (Ok output) part h
-  tells_faults (Err e) part (inl h) = expand_faults (Err e) part h
-  tells_faults (Err e) part (inr h) = telling_faults h.0 (Err e) part h.1
 
   tells_sole : (r : Result (List ℕ) ErrorSeen) (part : List Event) → ExpandedEnds b listens r look part → IsChildless part → IsSole p part
   tells_sole (Ok output) part h none = telling_sole output (Ok output) part h none
@@ -268,7 +217,7 @@ module _ (listens : Bool) (b : BuildSeen) (look : Look) where
   tells_faultless : (output : List ℕ) (part : List Event) → ExpandedEnds b listens (Ok output) look part → list_any is_fault part ≡ false
   tells_faultless output part h =
       ap (list_any is_fault) h.cut ∙ list_any-append is_fault h.expanding h.telling
-      ∙ or_false (list_any is_fault h.expanding) (list_any is_fault h.telling) (expanded_faultless output h.expanding h.expands) (unstopped h.telling h.told.1.1.1.unstopped)
+      ∙ or_false (list_any is_fault h.expanding) (list_any is_fault h.telling) (expanded_faultless listens b look output h.expanding h.expands) (unstopped h.telling h.told.1.1.1.unstopped)
 
   tells_known : expand_error b look ≡ None → (e : ErrorSeen) (part : List Event) → ExpandedEnds b listens (Err e) look part → IsKnown e part
   tells_known accepted e part (inl h) = expand_known accepted e part h
@@ -299,7 +248,7 @@ module _ (listens : Bool) (b : BuildSeen) (look : Look) where
 
   source_faults : (r : Result (Unit {0}) ErrorSeen) (part : List Event) → ExpandsSource listens b r look part → FaultsEnd part
   source_faults (Ok v) part k = printed_faults (Ok v) part k
-  source_faults (Err e) part (inl h) = tells_faults (Err e) part h
+  source_faults (Err e) part (inl h) = tells_faults listens b look (Err e) part h
   source_faults (Err e) part (inr k) = printed_faults (Err e) part k
 
   source_sole : (r : Result (Unit {0}) ErrorSeen) (part : List Event) → ExpandsSource listens b r look part → IsChildless part → IsSole p part

@@ -2,18 +2,17 @@
 use Rattle.std.proofs.Common.{◌≡◌, ◌⊎◌, inl, inr, ◌∙◌, refl, sym, ap, subst, ℕ, List, [], ◌∷◌, ◌++◌, Bool, true, false, ◌||◌, ◌&&◌, Option, Some, None, option_map, Result, Ok, Err, append-nil, append_assoc}
 use Rattle.std.specs.List.{list_all, list_any}
 use Rattle.std.proofs.lemmas.Bool.{and_parts}
-use Rattle.std.proofs.lemmas.List.{append_cancel_left}
 use Rattle.std.proofs.lemmas.List.Folds.{list_all-append, list_any-append}
 use Rattle.cc_host.specs.Command.{CommandSeen}
-use Rattle.cc_host.specs.Part.{Step, stop_of, calm_of, stops, calm, done, left, StopsAt, IsPartly, IsWhole}
+use Rattle.cc_host.specs.Part.{Step, stops, calm, done, left, StopsAt, IsPartly, IsWhole}
 use Rattle.cc_host.specs.Part.Step.{Lists}
 use Rattle.cc_host.specs.Question.{Look, Agrees, answers, Holds}
 use Rattle.cc_host.specs.declared.event.Event.{Event}
-use Rattle.cc_host.specs.declared.event.Event.TheVariants.{Started, Ended as EndedChild, Abandoned, Turn, Fault, Listed}
+use Rattle.cc_host.specs.declared.event.Event.TheVariants.{Started, Ended as EndedChild, Abandoned, Turn, Listed}
 use Rattle.cc_host.specs.declared.event.LineKind.TheVariants.{Rerun, Shown as ShownLine}
 use Rattle.cc_host.specs.declared.question.Outcome.{Outcome as Verdicts}
 use Rattle.cc_host.specs.declared.question.Question.{Question}
-use Rattle.cc_host.proofs.Parts.{stops_both, calm_then, calm_whole, partly_whole, whole_step}
+use Rattle.cc_host.proofs.Parts.{partly_whole, whole_step}
 use Rattle.cc_plan.specs.Archive.{archiver_of}
 use Rattle.cc_plan.specs.Asking.{is_of_children}
 use Rattle.cc_plan.specs.Planned.{tool_of, warnings_of}
@@ -32,7 +31,7 @@ use Rattle.cc_build.specs.Course.{CallsEnd}
 use Rattle.cc_build.specs.Error.{ErrorSeen}
 use Rattle.cc_build.specs.Failed.{HasFault, is_fault}
 use Rattle.cc_build.specs.Outcome.{Outcome, IsRefused, IsCausedBy}
-use Rattle.cc_build.specs.Promises.{NothingRuns, FaultsEnd}
+use Rattle.cc_build.specs.Promises.{NothingRuns}
 use Rattle.cc_build.specs.Refusal.{plan_error}
 use Rattle.cc_build.specs.Stage.{rerun_lines}
 use Rattle.cc_build.specs.Stop.{stopped_by}
@@ -40,8 +39,9 @@ use Rattle.cc_build.specs.Told.{compiler_reads, archiver_reads, ranlib_reads, na
 use Rattle.cc_build.specs.Tools.{IsArchiver, IsRanlib, archiver_error, ranlib_error, ArchiverEnds, RanlibEnds, AsksForArchiver, AsksForRanlib}
 use Rattle.cc_build.specs.Way.{Firsts}
 use Rattle.cc_build.proofs.ChildLaws.{IsAside, AreAside, aside_well}
+use Rattle.cc_build.proofs.FaultLaws.{partly_faults}
 use Rattle.cc_build.proofs.Outcomes.{outcome_then}
-use Rattle.cc_build.proofs.PrintedLaws.{is_told, told_prints, told_printed, told_warned, IsRealFault, told_refused, fault_stops, fault_is, neither, IsChildless, childless_then, calls_outcome, refused_more}
+use Rattle.cc_build.proofs.PrintedLaws.{is_told, told_prints, told_printed, told_warned, told_refused, fault_is, neither, IsChildless, childless_then, calls_outcome, refused_more}
 use Rattle.cc_command.specs.Answer.{AnswersError, ended_well, ended_wanting}
 use Rattle.cc_command.specs.Archived.{Says}
 use Rattle.cc_command.specs.Lines.{shows}
@@ -318,56 +318,6 @@ pub childless_line : (line : List Event) → IsLine line → IsChildless line
 childless_line line (inl none) = ap (list_any is_of_children) none
 childless_line line (inr (inl printed)) = ap (list_any is_of_children) printed.1
 childless_line line (inr (inr faulted)) = ap (list_any is_of_children) faulted.1
-
--- one event alone ends a run
-stop_alone : (steps : List Step) (before after : List Event) (event : Event) → StopsAt steps (before ++ event ∷ after) → (before ≡ []) × (after ≡ [])
-stop_alone [] [] after event stop = absurd stop
-stop_alone [] (x ∷ before) after event stop = absurd stop
-stop_alone (step ∷ steps) [] [] event stop = (refl, refl)
-stop_alone (step ∷ steps) [] (x ∷ after) event stop = absurd stop
-stop_alone (step ∷ steps) (x ∷ []) after event stop = absurd stop
-stop_alone (step ∷ steps) (x ∷ y ∷ before) after event stop = absurd stop
-
--- an event that ends a run is none of those that end none
-none_behind : (after : List Event) (event : Event) → stop_of event ≡ event ∷ [] → stops after ≡ [] → event ∷ after ≡ after ++ event ∷ [] → after ≡ []
-none_behind [] event stop none e = refl
-none_behind (x ∷ after) event stop none e =
-    let same : event ≡ x = cc in
-    let some : event ∷ stops after ≡ [] = ap (λ l. l ++ stops after) (sym stop) ∙ ap (λ v. stop_of v ++ stops after) same ∙ none in
-    absurd (cc)
-
--- a run whose first steps were done has its fault last
-pub partly_faults : (steps : List Step) (part : List Event) → IsPartly steps part → FaultsEnd part
-partly_faults steps part p before after call why real is = ([], nothing_behind)
-  where
-    fault : Event
-    fault = Fault call why
-
-    real_fault : IsRealFault fault
-    real_fault = (call, why, (refl, real))
-
-    stops_are : stops part ≡ stops before ++ fault ∷ stops after
-    stops_are = ap stops is ∙ stops_both before (fault ∷ after) ∙ ap (λ l. stops before ++ (l ++ stops after)) (fault_stops fault real_fault)
-
-    alone : (stops before ≡ []) × (stops after ≡ [])
-    alone = stop_alone (left steps part) (stops before) (stops after) fault (subst (λ (l : List Event). StopsAt (left steps part) l) stops_are p.stop)
-
-    no_calm : calm_of fault ≡ []
-    no_calm = rw real refl
-
-    calm_are : calm part ≡ before ++ after
-    calm_are =
-        ap calm is ∙ calm_then before (fault ∷ after) ∙ ap (λ l. l ++ calm (fault ∷ after)) (sym (calm_whole before alone.0))
-        ∙ ap (λ l. before ++ (l ++ calm after)) no_calm ∙ ap (λ l. before ++ l) (sym (calm_whole after alone.1))
-
-    stop_is : stops part ≡ fault ∷ []
-    stop_is = stops_are ∙ ap (λ l. l ++ fault ∷ stops after) alone.0 ∙ ap (λ l. fault ∷ l) alone.1
-
-    both : before ++ fault ∷ after ≡ before ++ (after ++ fault ∷ [])
-    both = sym is ∙ p.last ∙ ap (λ l. l ++ stops part) calm_are ∙ ap (λ l. (before ++ after) ++ l) stop_is ∙ append_assoc before after (fault ∷ [])
-
-    nothing_behind : after ≡ []
-    nothing_behind = none_behind after fault (fault_stops fault real_fault) alone.1 (append_cancel_left before (fault ∷ after) (after ++ fault ∷ []) both)
 
 pub outcome_partly : (refusal : Option ErrorSeen) (steps : List Step) (part : List Event) (r : Result (Unit {0}) ErrorSeen) → Outcome refusal steps part r → IsPartly steps part
 outcome_partly refusal steps part (Ok done) o = partly_whole steps part o.1
