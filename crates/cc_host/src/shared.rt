@@ -65,11 +65,16 @@ impl Parts {
         self.env.push(name, value)
     }
 
-    /// Adds each of these variables, in order, last. Refused for memory, the parts stay as they were.
+    /// Adds each of these variables, in order, last. Where there was none before, they are shared. Refused for memory, the parts stay as they
+    /// were.
     pub fn envs(&mut self, vars: &Vars) -> Mem<()>
         ensures ok { OnOk result (self.new ≡ record self.old { env = self.old.env ++ vars.now }) }
         ensures err { OnErr result (self.new ≡ self.old) }
     {
+        if self.env.is_empty() {
+            self.env = vars.try_clone()?;
+            return Ok(());
+        }
         self.env.extend(vars)
     }
 
