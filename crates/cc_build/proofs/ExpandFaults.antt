@@ -1,14 +1,17 @@
 -- A source that was expanded, and the variables told of that were read for it: where a call of the host failed, at the end.
-use Rattle.std.proofs.Common.{◌≡◌, inl, inr, ◌∙◌, sym, ap, subst, ℕ, List, ◌++◌, Bool, false, None, Result, Ok, Err}
+use Rattle.std.proofs.Common.{◌≡◌, inl, inr, ◌∙◌, sym, ap, subst, ℕ, List, ◌++◌, Bool, false, Option, None, Result, Ok, Err}
 use Rattle.std.specs.List.{list_any}
 use Rattle.std.proofs.lemmas.List.Folds.{list_any-append}
 use Rattle.cc_host.specs.Part.{Step, IsPartly}
-use Rattle.cc_host.specs.Question.{Look}
+use Rattle.cc_host.specs.Question.{Look, answers, Holds}
 use Rattle.cc_host.specs.declared.event.Event.{Event}
+use Rattle.cc_host.specs.declared.question.Outcome.{Outcome as Verdict}
+use Rattle.cc_host.specs.declared.question.Question.{Question}
 use Rattle.cc_host.proofs.Parts.{partly_whole}
 use Rattle.cc_plan.specs.Planned.{tool_of}
 use Rattle.cc_run.specs.declared.planned.Planned.{Planned}
-use Rattle.cc_build.specs.Build.{BuildSeen}
+use Rattle.cc_tool.proofs.SomeLemmas.{some_agree}
+use Rattle.cc_build.specs.Build.{BuildSeen, AsksByPlan}
 use Rattle.cc_build.specs.Compiler.{tool_steps}
 use Rattle.cc_build.specs.Error.{ErrorSeen}
 use Rattle.cc_build.specs.Expand.{expansion, ignored_line, source_of, RunsTool, ExpandEnds, ExpandsAndTells, ExpandedEnds}
@@ -68,3 +71,8 @@ module _ (listens : Bool) (b : BuildSeen) (look : Look) where
   tells_faults (Ok output) part h = telling_faults output (Ok output) part h
   tells_faults (Err e) part (inl h) = expand_faults (Err e) part h
   tells_faults (Err e) part (inr h) = telling_faults h.0 (Err e) part h.1
+
+pub told_faults : (listens steady : Bool) (world : Question → Verdict) (b : BuildSeen) (r : Result (List ℕ) ErrorSeen) (part : List Event) → AsksByPlan steady world b part → Holds (answers part) (λ look. ExpandedEnds b listens r look part) → FaultsEnd part
+told_faults listens steady world b r part asked ends =
+    let some = some_agree (answers part) asked.once in
+    tells_faults listens b some.0 r part (ends.under some.0 some.1)

@@ -1,8 +1,7 @@
-use Rattle.cc_tool.proofs.SomeLemmas.{some_agree}
 use Rattle.cc_plan.specs.Questions.{PlanAsks}
 use Rattle.cc_build.specs.Build.{BuildSeen}
 use Rattle.cc_build.specs.Expand.{ExpandedEnds}
-use Rattle.cc_build.proofs.ExpandFaults.{tells_faults}
+use Rattle.cc_build.proofs.ExpandFaults.{told_faults}
 use Rattle.cc_build.proofs.Asking.{asked_seen, ends_seen, build_is}
 use Rattle.cc_build.proofs.build.Build.try_expand.Goals as goal
 
@@ -13,6 +12,4 @@ pub returns-clause-outcome : goal.returns-clause-outcome
 returns-clause-outcome g c = ends_seen _ _ (λ (b : BuildSeen) look part. ExpandedEnds b (g.H.Host.listens c.args.host.now) c.told_expand.result look part) _ c.args.self.now (build_is c.args.self.now _ _ c.task.ensures.set c.task.ensures.env) c.told_expand.ensures.outcome
 
 pub returns-clause-faults_last : goal.returns-clause-faults_last
-returns-clause-faults_last g c =
-    let some = some_agree _ c.told_expand.ensures.asked.once in
-    tells_faults _ _ some.0 c.told_expand.result _ (c.told_expand.ensures.outcome some.0 some.1)
+returns-clause-faults_last g c = told_faults _ _ _ _ c.told_expand.result _ c.told_expand.ensures.asked c.told_expand.ensures.outcome
