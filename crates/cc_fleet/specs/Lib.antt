@@ -1,0 +1,3 @@
+pub mod Clash
+pub mod Failures
+pub mod Joined
