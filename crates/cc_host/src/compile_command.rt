@@ -1,6 +1,7 @@
 // A compile command, as a compilation database has it.
 ghost use Rattle.std.specs.Prelude.{◌≡◌, IfOk};
-ghost use Rattle.cc_host.specs.CompileCommand.{CompileCommandSeen, compile_command};
+ghost use Rattle.std.specs.Cmp.{partial_equiv_from_equiv};
+ghost use Rattle.cc_host.specs.CompileCommand.{CompileCommandSeen, compile_command, same_compile_command, same_compile_command-equiv};
 
 use crate::Command;
 use cc_text::{Mem, Text, Words, join};
@@ -101,4 +102,22 @@ impl CompileCommand {
             output: self.output.try_clone()?,
         })
     }
+}
+
+impl PartialEq for CompileCommand {
+    ghost eq = { same_compile_command };
+
+    ghost laws = { partial_equiv_from_equiv same_compile_command-equiv };
+
+    /// Whether the two are equal: the same folder, source, object and words, in the same order.
+    fn eq(&self, other: &CompileCommand) -> bool {
+        self.directory == other.directory
+            && self.file == other.file
+            && self.output == other.output
+            && self.arguments == other.arguments
+    }
+}
+
+impl Eq for CompileCommand {
+    ghost laws = { same_compile_command-equiv };
 }
