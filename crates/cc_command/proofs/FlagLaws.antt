@@ -7,13 +7,18 @@ use Rattle.cc_text.specs.Cuts.{key_and_value}
 use Rattle.cc_flags.specs.BuildFlags.{is_always, without}
 use Rattle.cc_flags.specs.declared.build_flags.BuildFlag.{BuildFlag}
 use Rattle.cc_flags.specs.declared.build_flags.BuildFlag.TheVariants.{Always, IfSupported}
-use Rattle.cc_command.specs.Read.{is, by, values, pair_value, is_among, flag_of, flags_of}
+use Rattle.cc_command.specs.Read.{is, by, values, pair_value, levels, pair_level, is_among, flag_of, flags_of}
 use Rattle.cc_command.specs.Step.{flags_behind}
 
 pub more_values : (test : List ℕ → Bool) (words : List (List ℕ)) (word : List ℕ) → values test (words ++ word ∷ []) ≡ values test words ++ pair_value test (key_and_value word)
 unfolding values
 more_values test words word =
     flat_map-append (λ w. pair_value test (key_and_value w)) words (word ∷ []) ∙ ap (λ l. flat_map (λ w. pair_value test (key_and_value w)) words ++ l) (append-nil (pair_value test (key_and_value word)))
+
+pub more_levels : (words : List (List ℕ)) (word : List ℕ) → levels (words ++ word ∷ []) ≡ levels words ++ pair_level (key_and_value word)
+unfolding levels
+more_levels words word =
+    flat_map-append (λ w. pair_level (key_and_value w)) words (word ∷ []) ∙ ap (λ l. flat_map (λ w. pair_level (key_and_value w)) words ++ l) (append-nil (pair_level (key_and_value word)))
 
 -- the flags with those of a pair, or without the one that it takes out
 abbrev pub flags_with : List BuildFlag → Option (List ℕ × List ℕ) → List BuildFlag

@@ -6,8 +6,8 @@ use Rattle.cc_build.specs.Build.{BuildSeen}
 use Rattle.cc_build.specs.Values.{lacks_equals, truth_text}
 use Prim.Native.String.{String}
 use Rattle.std.proofs.lemmas.Slice.Eq.{bytes_eq-Decides}
-use Rattle.cc_command.specs.Read.{is, cause_unless, is_number, is_truth, key_cause, is_text_key, is_item_key, is_choice_key, is_switch_key}
-use Rattle.cc_command.specs.SetsKey.{SetsKey, SetsAmong}
+use Rattle.cc_command.specs.Read.{is, cause_unless, level_of, is_truth, key_cause, is_text_key, is_item_key, is_choice_key, is_switch_key}
+use Rattle.cc_command.specs.SetsKey.{SetsKey, SetsAmong, SetsLevel}
 use Rattle.cc_command.specs.Step.{with_key}
 use Rattle.cc_command.specs.declared.words.WordCause.{WordCause}
 use Rattle.cc_command.specs.declared.words.WordCause.TheVariants.{UnknownKey, BadValue}
@@ -28,10 +28,14 @@ pub sets_on : {F : Type 0} (old new : BuildSeen) (key is value : List ℕ) (resu
 sets_on old new key is value (Ok cause) e s = sets_key old new key is value cause e s
 sets_on old new key is value (Err x) e s = tt
 
--- the setter of the level refuses what is no number
-pub set_level : {F : Type 0} (old new : BuildSeen) (key value : List ℕ) (result : Result (Option WordCause) F) → key ≡ codes "opt_level" → IfOk result (λ cause. (cause ≡ cause_unless (is_number value)) × (cause ≡ None → new ≡ record old { config = record old.config { opt_level = Some value } })) → IfOk result (SetsKey old new key value)
+-- the setter of the level refuses what is no level
+pub set_level : {F : Type 0} (old new : BuildSeen) (key value : List ℕ) (result : Result (Option WordCause) F) → key ≡ codes "opt_level" → IfOk result (SetsLevel old new value) → IfOk result (SetsKey old new key value)
 unfolding key_cause is_text_key is_item_key is_choice_key is_switch_key
-set_level old new key value (Ok cause) e h = sets_key old new key (codes "opt_level") value cause e h
+set_level old new key value (Ok cause) e h = sets_key old new key (codes "opt_level") value cause e (h.0, λ none. by_level (level_of value) refl none)
+  where
+    by_level : (level : Option ℕ) → level_of value ≡ level → cause ≡ None → new ≡ with_key old (codes "opt_level") value
+    by_level (Some n) is none = h.1 none ∙ rw is refl
+    by_level None is none = let bad : cause ≡ Some BadValue = h.0 ∙ rw is refl in absurd (cc)
 set_level old new key value (Err x) e h = tt
 
 is_not : (key : List ℕ) (name : String) → (key ≡ codes name → ⊥) → is key name ≡ false

@@ -7,9 +7,9 @@ use Rattle.cc_flags.specs.declared.build_flags.BuildFlag.{BuildFlag}
 use Rattle.cc_flags.specs.declared.build_flags.Definition.{Definition}
 use Rattle.cc_flags.specs.declared.settings.BuildConfig.{BuildConfig}
 use Rattle.cc_build.specs.Build.{BuildSeen}
-use Rattle.cc_command.specs.Read.{is, by, by_either, values, pair_value, latest, latest_truth, latest_choice, latest_nonempty, latest_library, unless_empty, definition_of, variable_of, settings_of, database_in, database_of}
+use Rattle.cc_command.specs.Read.{is, by, by_either, values, pair_value, levels, pair_level, latest, latest_truth, latest_choice, latest_nonempty, latest_library, unless_empty, definition_of, variable_of, settings_of, database_in, database_of}
 use Rattle.cc_command.specs.Step.{added, with_pair, with_word}
-use Rattle.cc_command.proofs.FlagLaws.{flags_with, more_values, flags_more}
+use Rattle.cc_command.proofs.FlagLaws.{flags_with, more_values, more_levels, flags_more}
 
 added_is : {X : Type 0} (xs ys : List X) → added xs ys ≡ xs ++ ys
 added_is xs [] = sym (append-nil xs)
@@ -25,6 +25,9 @@ list_more test words word = more_values test words word ∙ sym (added_is (value
 
 text_more : (test : List ℕ → Bool) (words : List (List ℕ)) (word : List ℕ) → latest None (values test (words ++ word ∷ [])) ≡ latest (latest None (values test words)) (pair_value test (key_and_value word))
 text_more test words word = ap (latest None) (more_values test words word) ∙ fold-append (λ old value. Some value) None (values test words) (pair_value test (key_and_value word))
+
+level_more : (words : List (List ℕ)) (word : List ℕ) → latest None (levels (words ++ word ∷ [])) ≡ latest (latest None (levels words)) (pair_level (key_and_value word))
+level_more words word = ap (latest None) (more_levels words word) ∙ fold-append (λ old value. Some value) None (levels words) (pair_level (key_and_value word))
 
 nonempty_more : (test : List ℕ → Bool) (words : List (List ℕ)) (word : List ℕ) → latest_nonempty None (values test (words ++ word ∷ [])) ≡ latest_nonempty (latest_nonempty None (values test words)) (pair_value test (key_and_value word))
 nonempty_more test words word = ap (latest_nonempty None) (more_values test words word) ∙ fold-append (λ old value. unless_empty value) None (values test words) (pair_value test (key_and_value word))
@@ -55,7 +58,7 @@ with_values set pair = record {
     std = latest set.config.std (pair_value (by "std") pair);
     target = latest set.config.target (pair_value (by "target") pair);
     host = latest set.config.host (pair_value (by "host") pair);
-    opt_level = latest set.config.opt_level (pair_value (by_either "opt_level" "opt_level_str") pair);
+    opt_level = latest set.config.opt_level (pair_level pair);
     debug = latest set.config.debug (pair_value (by_either "debug" "debug_str") pair);
     out_dir = latest set.config.out_dir (pair_value (by "out_dir") pair);
     compiler = latest set.config.compiler (pair_value (by "compiler") pair);
@@ -120,7 +123,7 @@ next_settings words word =
     (text_more (by "std") words word)
     (text_more (by "target") words word)
     (text_more (by "host") words word)
-    (text_more (by_either "opt_level" "opt_level_str") words word)
+    (level_more words word)
     (text_more (by_either "debug" "debug_str") words word)
     (text_more (by "out_dir") words word)
     (text_more (by "compiler") words word)

@@ -1,11 +1,13 @@
 -- What the words of the program ask for: `compile NAME key=value ...`, `archive NAME key=value ...`, `generate N`, or `expand` or `show` with
 -- `key=value ...`.
-use Rattle.std.specs.Prelude.{◌≡◌, ℕ, ◌+◌, ◌^◌, List, [], ◌∷◌, ◌++◌, Bool, true, false, ◌&&◌, ◌||◌, fold, map, Option, Some, None, Result, Ok, Err, is_some, nat_lt, codes, bytes_eq, unwrap_or, if◌then◌else◌}
+use Rattle.std.specs.Prelude.{◌≡◌, ℕ, ◌+◌, ◌^◌, List, [], ◌∷◌, ◌++◌, Bool, true, false, ◌&&◌, ◌||◌, fold, map, Option, Some, None, Result, Ok, Err, is_some, nat_eq, nat_lt, codes, bytes_eq, unwrap_or, if◌then◌else◌}
 use Prim.Native.String.{String}
 use Rattle.std.specs.Fmt.{decimal}
-use Rattle.std.specs.List.{flat_map, list_any}
+use Rattle.std.specs.List.{flat_map, list_any, starts_with}
+use Rattle.std.specs.Option.{option_to_list}
 use Rattle.std.specs.Str.Parse.{digits_value}
 use Rattle.cc_text.specs.Cuts.{key_and_value}
+use Rattle.cc_text.specs.Numbers.{u32_of}
 use Rattle.cc_flags.specs.declared.build_flags.BuildFlag.{BuildFlag}
 use Rattle.cc_flags.specs.declared.build_flags.BuildFlag.TheVariants.{Always, IfSupported}
 use Rattle.cc_flags.specs.declared.build_flags.Definition.{Definition}
@@ -25,6 +27,10 @@ is text literal = bytes_eq text (codes literal)
 -- the decimal form of a number below 2^32, which has no sign and no leading zero
 unfoldable pub is_number : List ℕ → Bool
 is_number text = nat_lt (digits_value 10 text) (2 ^ 32) && bytes_eq text (decimal (digits_value 10 text))
+
+-- the level that digits alone tell, a number below 2^32
+abbrev pub level_of : List ℕ → Option ℕ
+level_of text = if starts_with nat_eq text (codes "+") then None else u32_of text
 
 -- the text is the decimal form of this number, or of none
 abbrev pub IsNumberOf : List ℕ → Option ℕ → Type 0
@@ -73,7 +79,7 @@ unfoldable pub key_cause : List ℕ → List ℕ → Option WordCause
 key_cause key value =
     if is_text_key key || is_item_key key then None
     else (if is_choice_key key || is_switch_key key then cause_unless (is_truth value)
-    else (if is key "opt_level" then cause_unless (is_number value)
+    else (if is key "opt_level" then cause_unless (is_some (level_of value))
     else (if is key "debug" then cause_unless (is_truth value)
     else (if is key "env" || is key "remap_source_path" then cause_unless (is_some (key_and_value value))
     else Some UnknownKey))))
@@ -113,6 +119,19 @@ pair_value test (Some pair) = value_of test pair.0 pair.1
 -- the values of the keys that pass the test, in the order of the words
 unfoldable pub values : (List ℕ → Bool) → List (List ℕ) → List (List ℕ)
 values test words = flat_map (λ word. pair_value test (key_and_value word)) words
+
+-- what a key of the level sets: a number in its decimal form, a text as it stands
+abbrev pub level_value : List ℕ → List ℕ → List (List ℕ)
+level_value key value =
+    if is key "opt_level" then map decimal (option_to_list (level_of value)) else (if is key "opt_level_str" then value ∷ [] else [])
+
+abbrev pub pair_level : Option (List ℕ × List ℕ) → List (List ℕ)
+pair_level None = []
+pair_level (Some pair) = level_value pair.0 pair.1
+
+-- the levels, in the order of the words
+unfoldable pub levels : List (List ℕ) → List (List ℕ)
+levels words = flat_map (λ word. pair_level (key_and_value word)) words
 
 -- this key
 abbrev pub by : String → List ℕ → Bool
@@ -191,7 +210,7 @@ settings_of words = record {
     std = latest None (values (by "std") words);
     target = latest None (values (by "target") words);
     host = latest None (values (by "host") words);
-    opt_level = latest None (values (by_either "opt_level" "opt_level_str") words);
+    opt_level = latest None (levels words);
     debug = latest None (values (by_either "debug" "debug_str") words);
     out_dir = latest None (values (by "out_dir") words);
     compiler = latest None (values (by "compiler") words);

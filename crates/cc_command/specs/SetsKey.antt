@@ -1,7 +1,8 @@
 -- What the setter of a key, and of a word, has done.
-use Rattle.std.specs.Prelude.{◌≡◌, ℕ, List, Bool, Option, Some, None}
+use Rattle.std.specs.Prelude.{◌≡◌, ℕ, List, Bool, Option, Some, None, is_some, option_map}
+use Rattle.std.specs.Fmt.{decimal}
 use Rattle.cc_build.specs.Build.{BuildSeen, Sets}
-use Rattle.cc_command.specs.Read.{is, is_number, cause_unless, key_cause, cause_among, word_cause, first_bad, settings_of}
+use Rattle.cc_command.specs.Read.{is, level_of, cause_unless, key_cause, cause_among, word_cause, first_bad, settings_of}
 use Rattle.cc_command.specs.Step.{with_key, with_word}
 use Rattle.cc_command.specs.declared.words.WordCause.{WordCause}
 
@@ -13,9 +14,11 @@ SetsKey old new key value cause = (cause ≡ key_cause key value) × (cause ≡ 
 abbrev pub SetsTruth : BuildSeen → BuildSeen → List ℕ → Bool → Type 0
 SetsTruth old new key on = (value : List ℕ) → is value "true" ≡ on → new ≡ with_key old key value
 
--- the value is no number, or it is set
+-- the value is no level, or it is set
 abbrev pub SetsLevel : BuildSeen → BuildSeen → List ℕ → Option WordCause → Type 0
-SetsLevel old new value cause = (cause ≡ cause_unless (is_number value)) × (cause ≡ None → Sets old new (λ c. record c { opt_level = Some value }))
+SetsLevel old new value cause =
+    (cause ≡ cause_unless (is_some (level_of value)))
+    × (cause ≡ None → Sets old new (λ c. record c { opt_level = option_map decimal (level_of value) }))
 
 -- the same, where a database may be asked for or not; its key sets nothing
 abbrev pub SetsAmong : Bool → BuildSeen → BuildSeen → List ℕ → List ℕ → Option WordCause → Type 0

@@ -5,7 +5,7 @@ use Rattle.cc_flags.specs.BuildFlags.{without}
 use Rattle.cc_flags.specs.declared.build_flags.BuildFlag.{BuildFlag}
 use Rattle.cc_flags.specs.declared.build_flags.BuildFlag.TheVariants.{Always, IfSupported}
 use Rattle.cc_build.specs.Build.{BuildSeen}
-use Rattle.cc_command.specs.Read.{is, by, by_either, value_of, latest, latest_truth, latest_choice, latest_nonempty, latest_library, definition_of, variable_of}
+use Rattle.cc_command.specs.Read.{is, by, by_either, value_of, level_value, latest, latest_truth, latest_choice, latest_nonempty, latest_library, definition_of, variable_of}
 
 -- a list with others behind it
 abbrev pub added : {X : Type 0} → List X → List X → List X
@@ -35,7 +35,7 @@ with_key set key value = record {
     std = latest set.config.std (value_of (by "std") key value);
     target = latest set.config.target (value_of (by "target") key value);
     host = latest set.config.host (value_of (by "host") key value);
-    opt_level = latest set.config.opt_level (value_of (by_either "opt_level" "opt_level_str") key value);
+    opt_level = latest set.config.opt_level (level_value key value);
     debug = latest set.config.debug (value_of (by_either "debug" "debug_str") key value);
     out_dir = latest set.config.out_dir (value_of (by "out_dir") key value);
     compiler = latest set.config.compiler (value_of (by "compiler") key value);

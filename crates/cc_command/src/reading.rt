@@ -2,14 +2,14 @@
 ghost use Rattle.std.specs.Prelude.{◌≡◌, ◌⊎◌, ◌≤◌, ◌++◌, [], ◌∷◌, Ok, Err, Some, None, true, false, IfOk, OnOk, MatchResult, IsErr, codes};
 ghost use Rattle.std.specs.Option.{option_copied};
 ghost use Rattle.cc_build.specs.Build.{Sets};
-ghost use Rattle.cc_command.specs.Read.{IsNumberOf, IsTruthOf, is_truth, is_text_key, is_item_key, is_choice_key, is_switch_key, cause_unless, definition_of, unless_empty};
+ghost use Rattle.cc_command.specs.Read.{IsNumberOf, IsTruthOf, level_of, is_truth, is_text_key, is_item_key, is_choice_key, is_switch_key, cause_unless, definition_of, unless_empty};
 ghost use Rattle.cc_command.specs.SetsKey.{SetsKey, SetsTruth, SetsLevel};
 ghost use Rattle.cc_command.specs.Step.{with_key};
 
 use crate::words::WordCause;
 use cc_build::{Build, Error};
 use cc_host::World;
-use cc_text::{Mem, NoMemory, key_and_value};
+use cc_text::{Mem, NoMemory, key_and_value, u32_of};
 use std::alloc::Global;
 
 /// The number of a text, where the text is its decimal form.
@@ -60,7 +60,6 @@ fn unless_empty(text: &str) -> Option<&str>
 
 /// Calls the setter of a key: here of one whose value is one text, else of another kind.
 pub(crate) fn set_key<W: World>(
-    alloc: Global,
     build: &mut Build<W>,
     key: &str,
     value: &str,
@@ -80,7 +79,7 @@ pub(crate) fn set_key<W: World>(
         "ranlib" => set(build.ranlib(value)),
         "cpp_set_stdlib" => set(build.cpp_set_stdlib(unless_empty(value))),
         "cpp_link_stdlib" => set(build.cpp_link_stdlib(unless_empty(value))),
-        _ => set_item(alloc, build, key, value),
+        _ => set_item(build, key, value),
     }
 }
 
@@ -97,12 +96,7 @@ fn define<W: World>(build: &mut Build<W>, value: &str) -> Result<(), Error>
 }
 
 // Calls the setter of a key whose values are kept one after another, or of another key.
-fn set_item<W: World>(
-    alloc: Global,
-    build: &mut Build<W>,
-    key: &str,
-    value: &str,
-) -> Mem<Option<WordCause>>
+fn set_item<W: World>(build: &mut Build<W>, key: &str, value: &str) -> Mem<Option<WordCause>>
     ensures { is_text_key key.now ≡ false →
         IfOk result (SetsKey build.old build.new key.now value.now) }
 {
@@ -120,7 +114,7 @@ fn set_item<W: World>(
             build.remove_flag(value);
             Ok(None)
         }
-        _ => set_other(alloc, build, key, value),
+        _ => set_other(build, key, value),
     }
 }
 
@@ -279,10 +273,21 @@ fn set_switch<W: World>(build: &mut Build<W>, key: &str, on: bool) -> bool
     }
 }
 
-fn set_level<W: World>(alloc: Global, build: &mut Build<W>, value: &str) -> Mem<Option<WordCause>>
+// The level of a text: digits alone, leading zeros among them, of a number below 2^32.
+fn level_of(text: &str) -> Option<u32>
+    ensures { result ≡ level_of text.now }
+{
+    if text.starts_with("+") {
+        None
+    } else {
+        u32_of(text)
+    }
+}
+
+fn set_level<W: World>(build: &mut Build<W>, value: &str) -> Mem<Option<WordCause>>
     ensures { IfOk result (SetsLevel build.old build.new value.now) }
 {
-    match number_of(alloc, value)? {
+    match level_of(value) {
         Some(n) => set(build.opt_level(n)),
         None => Ok(Some(WordCause::BadValue)),
     }
@@ -318,12 +323,7 @@ fn set_remap<W: World>(build: &mut Build<W>, value: &str) -> Mem<Option<WordCaus
 }
 
 // Calls the setter of a key of another kind, if there is one.
-fn set_other<W: World>(
-    alloc: Global,
-    build: &mut Build<W>,
-    key: &str,
-    value: &str,
-) -> Mem<Option<WordCause>>
+fn set_other<W: World>(build: &mut Build<W>, key: &str, value: &str) -> Mem<Option<WordCause>>
     ensures { is_text_key key.now ≡ false → is_item_key key.now ≡ false →
         IfOk result (SetsKey build.old build.new key.now value.now) }
 {
@@ -331,7 +331,7 @@ fn set_other<W: World>(
         return Ok(set_truth(build, key, value));
     }
     match key {
-        "opt_level" => set_level(alloc, build, value),
+        "opt_level" => set_level(build, value),
         "debug" => set_debug(build, value),
         "env" => set_variable(build, value),
         "remap_source_path" => set_remap(build, value),

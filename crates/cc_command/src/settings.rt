@@ -28,7 +28,6 @@ fn asks_database(key: &str, recorded: bool) -> bool
 // Calls the setter of a key. That of a database has none.
 #[tactic(auto, using(crate::proofs::KeyLaws::database_set, crate::proofs::KeyLaws::sets_among))]
 fn set_among<W: World>(
-    alloc: Global,
     build: &mut Build<W>,
     key: &str,
     value: &str,
@@ -39,21 +38,16 @@ fn set_among<W: World>(
     if asks_database(key, recorded) {
         Ok(None)
     } else {
-        set_key(alloc, build, key, value)
+        set_key(build, key, value)
     }
 }
 
 // Calls the setter of a word behind the name.
-fn set_word<W: World>(
-    alloc: Global,
-    build: &mut Build<W>,
-    word: &str,
-    recorded: bool,
-) -> Mem<Option<WordCause>>
+fn set_word<W: World>(build: &mut Build<W>, word: &str, recorded: bool) -> Mem<Option<WordCause>>
     ensures { IfOk result (SetsWord recorded build.old build.new word.now) }
 {
     match key_and_value(word) {
-        Some((key, value)) => set_among(alloc, build, key, value, recorded),
+        Some((key, value)) => set_among(build, key, value, recorded),
         None => Ok(Some(WordCause::NoValue)),
     }
 }
@@ -83,7 +77,7 @@ pub(crate) fn read_settings<W: World>(
     };
     build.repeat_lines(true);
     for (place, word) in words.iter().enumerate() {
-        if let Some(cause) = set_word(alloc, &mut build, word.as_str(), recorded)? {
+        if let Some(cause) = set_word(&mut build, word.as_str(), recorded)? {
             return Err(bad(place as u64 + from, cause));
         }
     }
