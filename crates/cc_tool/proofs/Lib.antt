@@ -15,3 +15,4 @@ pub mod SettleLemmas
 pub mod SomeLemmas
 pub mod TempfileLemmas
 pub mod TriedLemmas
+pub mod WantedLemmas
