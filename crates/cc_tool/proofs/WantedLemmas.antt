@@ -1,5 +1,5 @@
 -- Laws on the questions that the answers so far call for, on their causes, and on their files.
-use Rattle.std.proofs.Common.{◌≡◌, ◌⊎◌, inl, inr, ℕ, suc, Bool, true, false, ◌||◌, List, [], ◌∷◌, ◌++◌, Option, Some, None, is_some, Result, Ok, Err, OnOk, refl, sym, ap, subst, ◌∙◌, arith}
+use Rattle.std.proofs.Common.{◌≡◌, ◌⊎◌, inl, inr, ℕ, suc, Bool, true, false, ◌||◌, List, [], ◌∷◌, ◌++◌, Option, Some, is_some, Result, Ok, Err, OnOk, refl, sym, ap, subst, ◌∙◌, arith}
 use Rattle.std.specs.List.{All, Contains, list_any}
 use Rattle.std.proofs.lemmas.Grind.{flat_map-append}
 use Rattle.std.proofs.lemmas.List.Elements.{All-append}
@@ -8,9 +8,8 @@ use Rattle.cc_text.specs.declared.family.Detected.{Detected}
 use Rattle.cc_text.specs.declared.family.ToolFamily.{ToolFamily}
 use Rattle.cc_text.specs.declared.memory.NoMemory.{NoMemory}
 use Rattle.cc_host.specs.declared.event.Event.{Event}
-use Rattle.cc_host.specs.declared.event.Event.TheVariants.{Answered, Reused, Unasked, Fault}
-use Rattle.cc_host.specs.declared.event.HostCall.TheVariants.{Probe}
-use Rattle.cc_host.specs.declared.question.Ask.TheVariants.{Preprocess, PreprocessDashes, HelpFlag, Version}
+use Rattle.cc_host.specs.declared.event.Event.TheVariants.{Answered, Reused, Unasked}
+use Rattle.cc_host.specs.declared.question.Ask.TheVariants.{Preprocess, PreprocessDashes, HelpFlag}
 use Rattle.cc_host.specs.declared.question.Marks.{Marks}
 use Rattle.cc_host.specs.declared.question.Outcome.{Outcome}
 use Rattle.cc_host.specs.declared.question.Question.{Question}

@@ -3,7 +3,8 @@ use Rattle.std.specs.Prelude.{◌≡◌, ◌⊎◌, ℕ, Bool, true, false, List
 use Rattle.std.specs.List.{All, Contains, list_any}
 use Rattle.cc_text.specs.declared.memory.NoMemory.{NoMemory}
 use Rattle.cc_host.specs.declared.event.Event.{Event}
-use Rattle.cc_host.specs.declared.event.Event.TheVariants.{Answered, Unasked, Drawn, Made}
+use Rattle.cc_host.specs.declared.event.Event.TheVariants.{Answered, Unasked, Drawn, Opened, Taken, Made, Fault}
+use Rattle.cc_host.specs.declared.event.HostCall.TheVariants.{CreateProbe}
 use Rattle.cc_host.specs.declared.event.Scope.TheVariants.{Probe as ForProbes}
 use Rattle.cc_host.specs.declared.question.Outcome.TheVariants.{Exists}
 use Rattle.cc_host.specs.declared.question.Question.{Question}
@@ -51,6 +52,23 @@ OnlyForFiles q part = list_any is_for_files part ≡ true → needs_files q.ask 
 -- that happens only where a question that needs files is answered
 abbrev pub OnlyWithFiles : List Event → Type 0
 OnlyWithFiles part = list_any is_for_files part ≡ true → list_any (λ a. needs_files a.0.ask) (answers part) ≡ true
+
+-- a file is tried: it is made, it is there already, or the host can't make it
+abbrev pub is_try : Event → Bool
+is_try (Opened path bytes) = true
+is_try (Taken path) = true
+is_try (Fault CreateProbe why) = true
+is_try _ = false
+
+abbrev pub begins_with_try : List Event → Bool
+begins_with_try [] = false
+begins_with_try (event ∷ part) = is_try event
+
+-- each word that is drawn is used: the file of its name is tried right behind it
+abbrev pub WordsUsed : List Event → Type 0
+WordsUsed [] = Unit {0}
+WordsUsed (Drawn word ∷ part) = (begins_with_try part ≡ true) × WordsUsed part
+WordsUsed (event ∷ part) = WordsUsed part
 
 -- whether a file is there: the answers before have it, or the disk was looked at once
 abbrev pub Looks : List ℕ → List Answer → List Event → Result Verdict NoMemory → Type 0

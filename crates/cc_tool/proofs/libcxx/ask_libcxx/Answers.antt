@@ -1,8 +1,5 @@
-use Rattle.std.proofs.Common.{◌≡◌, refl}
 use Rattle.cc_host.specs.Call.{part}
 use Rattle.cc_tool.specs.Libcxx as libcxx
-use Rattle.cc_tool.specs.Libcxx.{libcxx_question}
-use Rattle.cc_tool.proofs.OwnLemmas.{among_own, own_is}
 use Rattle.cc_tool.proofs.SettleLemmas.{settles_yes}
 use Rattle.cc_tool.proofs.LibcxxLemmas.{asked_plain, own_plain}
 use Rattle.cc_tool.proofs.WantedLemmas.{asks_caused, with_files_one}
