@@ -18,7 +18,7 @@ use Rattle.cc_text.specs.Families.{is_plain_clang}
 use Rattle.cc_tool.proofs.AskLemmas.{asked_command}
 use Rattle.cc_tool.proofs.SettleLemmas.{settles_on, settles_so, settles_two, settles_question}
 
-abbrev Grows : List Answer → List Answer → Type 0
+abbrev pub Grows : List Answer → List Answer → Type 0
 Grows known new = (more : List Answer) × (new ≡ known ++ more)
 
 -- the verdict of a question that isn't for a file

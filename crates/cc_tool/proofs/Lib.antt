@@ -15,3 +15,5 @@ pub mod SettleLemmas
 pub mod SomeLemmas
 pub mod TempfileLemmas
 pub mod TriedLemmas
+pub mod UsedLemmas
+pub mod WantedLemmas

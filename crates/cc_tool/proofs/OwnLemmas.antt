@@ -124,7 +124,7 @@ exists_some AsksExists there e = yes_or_no there e
 exists_some ask there e = cc
 
 -- an outcome without a verdict is none
-no_outcome : (q : Question) (o : Outcome) → verdict_of q o ≡ NoVerdict → o ≡ NoAnswer
+pub no_outcome : (q : Question) (o : Outcome) → verdict_of q o ≡ NoVerdict → o ≡ NoAnswer
 unfolding verdicts.verdict_of
 no_outcome q NoAnswer e = refl
 no_outcome q NoTool e = absurd (cc)

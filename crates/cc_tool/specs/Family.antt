@@ -1,8 +1,9 @@
 -- The family of a compiler: what its preprocessor shows, else what its file's name says.
-use Rattle.std.specs.Prelude.{◌≡◌, ◌⊎◌, ℕ, Bool, true, false, not, ◌&&◌, ◌||◌, List, [], ◌∷◌, ◌++◌, Option, Some, None, unwrap_or, codes, bytes_eq, if◌then◌else◌}
+use Rattle.std.specs.Prelude.{◌≡◌, ◌⊎◌, ℕ, Bool, true, false, not, ◌&&◌, ◌||◌, List, [], ◌∷◌, ◌++◌, Option, Some, None, is_some, unwrap_or, codes, bytes_eq, if◌then◌else◌}
 use Rattle.std.specs.List.{list_any}
 use Rattle.std.specs.Path.{path_file_name}
 use Rattle.cc_text.specs.Case.{lowered, ends_ignoring_case}
+use Rattle.cc_text.specs.Families.{is_plain_clang}
 use Rattle.cc_text.specs.Within.{is_within}
 use Rattle.cc_text.specs.declared.family.ToolFamily.{ToolFamily}
 use Rattle.cc_text.specs.declared.family.ToolFamily.TheVariants.{Gnu, Clang, Msvc}
@@ -143,6 +144,29 @@ IsOf of = IsOfFamily of.path.now of.words.now of.vars.now
 
 abbrev pub IsOfFamilyIn : List ℕ → List (List ℕ) → EnvSeen → Question → Type 0
 IsOfFamilyIn path args env = IsOfFamily path args (child_of env.inherited env.explicit)
+
+-- the version of a compiler that is known to be of this family, which is asked of a Clang alone
+abbrev pub IsOfClang : ToolFamily → List ℕ → Vars → Question → Type 0
+IsOfClang family path vars q = (is_plain_clang family ≡ true) × (q ≡ question Version path [] vars)
+
+-- the family before the version is known
+abbrev pub first_family : Look → List ℕ → List (List ℕ) → Vars → ToolFamily
+first_family look path args vars = family_or (detection look path args vars).0 (family_of_file (name_of path) args)
+
+-- A question that is asked for the family under these verdicts: the preprocessor, anew only where it read a path as an
+-- option; `-?` only of a compiler that shows marks; the version only of a Clang.
+abbrev pub IsWanted : Look → List ℕ → List (List ℕ) → Vars → Question → Type 0
+IsWanted look path args vars q =
+    (q ≡ question Preprocess path [] vars)
+    ⊎ (((reads_option (look (question Preprocess path [] vars)) ≡ true) × (q ≡ question PreprocessDashes path [] vars))
+    ⊎ (((is_some (marks_in (shown look path vars)) ≡ true) × (q ≡ question HelpFlag path args vars))
+    ⊎ IsOfClang (first_family look path args vars) path vars q))
+
+abbrev pub IsWantedOf : Program → Look → Question → Type 0
+IsWantedOf of look = IsWanted look of.path.now of.words.now of.vars.now
+
+abbrev pub IsWantedIn : List ℕ → List (List ℕ) → EnvSeen → Look → Question → Type 0
+IsWantedIn path args env look = IsWanted look path args (child_of env.inherited env.explicit)
 
 -- the family in an environment
 abbrev pub family_in : Look → List ℕ → List (List ℕ) → EnvSeen → ToolFamily × Detected

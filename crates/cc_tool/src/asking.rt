@@ -1,5 +1,5 @@
 // Questions, behind the answers of a public call and what is kept of the world.
-ghost use Rattle.std.specs.Prelude.{◌≡◌, ◌≢◌, ◌++◌, ◌∷◌, [], List, true, IfOk, IsTrue, ◌↔◌};
+ghost use Rattle.std.specs.Prelude.{◌≡◌, ◌≢◌, ◌++◌, ◌∷◌, [], List, true, IfOk, OnOk, IsTrue, ◌↔◌};
 ghost use Rattle.cc_host.specs.Call.{part};
 ghost use Rattle.cc_host.specs.Question.{Answer, Settles, exists_question};
 ghost use Rattle.cc_host.specs.Verdict.{yes_if as yes};
@@ -7,7 +7,7 @@ ghost use Rattle.cc_host.specs.declared.question.Ask.TheVariants.{Exists as Asks
 ghost use Rattle.cc_host.specs.declared.question.Verdict.TheVariants.{Unanswered};
 ghost use Rattle.cc_tool.specs.Asks.{Asks};
 ghost use Rattle.cc_tool.specs.Known.{IsHeard, asked, is_kept as keeps};
-ghost use Rattle.cc_tool.specs.Own.{AnswersOnly, WhyUnanswered, OnlyForFiles, Looks};
+ghost use Rattle.cc_tool.specs.Own.{AnswersOnly, WhyUnanswered, OnlyForFiles, Looks, WordsUsed};
 ghost use Rattle.cc_tool.specs.Probing.{Probes};
 ghost use Rattle.cc_tool.specs.Heard.{heard_answer};
 
@@ -57,6 +57,7 @@ fn ask_anew<W: World, H: Host<W>>(
     ensures probes { Probes dir.now (H.log host.old) (H.log host.new) [] [] (heard_answer q.now result) 0 }
     ensures bare { OnlyForFiles q.now (part H.log host.old host.new) }
     ensures steady { IfOk result (λ heard. IsHeard W.steady W.answer q.now heard.verdict) }
+    ensures used { OnOk result (WordsUsed (part H.log host.old host.new)) }
     ensures patient { H.patience host.new ≡ H.patience host.old }
 {
     let outcome = ask_host(alloc, host, dir, q)?;
@@ -82,6 +83,7 @@ fn hear<W: World, H: Host<W>>(
     ensures bare { OnlyForFiles key.now.question.now (part H.log host.old host.new) }
     ensures steady { IfOk result
         (λ heard. IsHeard W.steady W.answer key.now.question.now heard.verdict) }
+    ensures used { OnOk result (WordsUsed (part H.log host.old host.new)) }
     ensures patient { H.patience host.new ≡ H.patience host.old }
 {
     let q = key.question;
@@ -142,6 +144,7 @@ fn ask_command<W: World, H: Host<W>>(
     ensures settles { IfOk result (Settles answers.new (λ look. look q.now)) }
     ensures own { AnswersOnly q.now answers.old (part H.log host.old host.new) result }
     ensures bare { OnlyForFiles q.now (part H.log host.old host.new) }
+    ensures used { OnOk result (WordsUsed (part H.log host.old host.new)) }
     ensures patient { H.patience host.new ≡ H.patience host.old }
 {
     let key = Keyed::of(q);
@@ -171,6 +174,7 @@ fn ask_exists<W: World, H: Host<W>>(
         answers.old answers.new }
     ensures settles { IfOk result (Settles answers.new (λ look. look (exists_question path.now))) }
     ensures looks { Looks path.now answers.old (part H.log host.old host.new) result }
+    ensures used { OnOk result (WordsUsed (part H.log host.old host.new)) }
     ensures patient { H.patience host.new ≡ H.patience host.old }
 {
     let _ = dir;
@@ -205,7 +209,7 @@ fn is_exists(ask: Ask) -> bool
 /// It answers this question and no other. The verdict is `Unanswered` where the answers of this public call had it so, where the
 /// command couldn't be run for another cause than absence, and where its files couldn't be made, so that it isn't asked at all.
 /// The caches keep each verdict of a command that ran. No lock is held while it runs. Refused for memory, the question has no answer,
-/// or the one that came before the refusal.
+/// or the one that came before the refusal. Unless it is refused, each word that is drawn is used: a file of its name is tried.
 pub fn ask<W: World, H: Host<W>>(
     rt: &impl Wait,
     alloc: Global,
@@ -222,6 +226,7 @@ pub fn ask<W: World, H: Host<W>>(
     ensures cause { IfOk result (WhyUnanswered (asked q.now) answers.old
         (part H.log host.old host.new)) }
     ensures bare { OnlyForFiles (asked q.now) (part H.log host.old host.new) }
+    ensures used { OnOk result (WordsUsed (part H.log host.old host.new)) }
     ensures patient { H.patience host.new ≡ H.patience host.old }
 {
     if is_exists(q.ask) {
@@ -248,6 +253,7 @@ pub fn ask_flag<W: World, H: Host<W>>(
     ensures cause { IfOk result (WhyUnanswered (asked q.now) answers.old
         (part H.log host.old host.new)) }
     ensures bare { OnlyForFiles (asked q.now) (part H.log host.old host.new) }
+    ensures used { OnOk result (WordsUsed (part H.log host.old host.new)) }
     ensures patient { H.patience host.new ≡ H.patience host.old }
 {
     ask(rt, alloc, host, caches, answers, q, dir)

@@ -1,5 +1,5 @@
 // The family of a compiler, by what its preprocessor shows, else by the name of its file.
-ghost use Rattle.std.specs.Prelude.{◌≡◌, ◌≢◌, [], IfOk, codes, bytes_eq, true, false, if◌then◌else◌, ◌||◌};
+ghost use Rattle.std.specs.Prelude.{◌≡◌, ◌≢◌, [], IfOk, OnOk, codes, bytes_eq, true, false, if◌then◌else◌, ◌||◌};
 ghost use Rattle.cc_host.specs.Call.{part};
 ghost use Rattle.cc_host.specs.Question.{Settles, is_yes as yes};
 ghost use Rattle.cc_host.specs.declared.question.Ask.TheVariants.{Exists as AsksExists};
@@ -8,7 +8,7 @@ ghost use Rattle.cc_text.specs.Within.{is_within};
 ghost use Rattle.cc_text.specs.declared.family.ToolFamily.TheVariants.{Clang, Msvc};
 ghost use Rattle.cc_tool.specs.Asks.{Asks};
 ghost use Rattle.cc_tool.specs.Family as families;
-ghost use Rattle.cc_tool.specs.Own.{AnswersAmong};
+ghost use Rattle.cc_tool.specs.Own.{AnswersAmong, AnswersOnly, AllCaused, OnlyForFiles, OnlyWithFiles, Wanted};
 
 use crate::{Answers, Caches, ask, question_of};
 use cc_env::BuildEnv;
@@ -130,6 +130,10 @@ fn ask_path<W: World, H: Host<W>>(
         (λ look. look (families.question_to asked of.now))) }
     ensures own { AnswersAmong (λ q. q ≡ families.question_to asked of.now)
         (part H.log host.old host.new) }
+    ensures alone { AnswersOnly (families.question_to asked of.now) answers.old
+        (part H.log host.old host.new) result }
+    ensures bare { OnlyForFiles (families.question_to asked of.now)
+        (part H.log host.old host.new) }
     ensures patient { H.patience host.new ≡ H.patience host.old }
 {
     let alloc = answers.allocator();
@@ -164,6 +168,9 @@ fn ask_shown<W: World, H: Host<W>>(
     ensures settles { IfOk result (Settles answers.new
         (λ look. families.shown look of.now.path.now of.now.vars.now)) }
     ensures own { AnswersAmong (families.IsOf of.now) (part H.log host.old host.new) }
+    ensures wanted { Wanted (families.IsWantedOf of.now) answers.new
+        (part H.log host.old host.new) }
+    ensures bare { OnOk result (OnlyWithFiles (part H.log host.old host.new)) }
     ensures patient { H.patience host.new ≡ H.patience host.old }
 {
     let none = Words::new(answers.allocator());
@@ -215,6 +222,9 @@ fn ask_detection<W: World, H: Host<W>>(
     ensures settles { IfOk result (Settles answers.new
         (λ look. families.detection look of.now.path.now of.now.words.now of.now.vars.now)) }
     ensures own { AnswersAmong (families.IsOf of.now) (part H.log host.old host.new) }
+    ensures wanted { Wanted (families.IsWantedOf of.now) answers.new
+        (part H.log host.old host.new) }
+    ensures bare { OnOk result (OnlyWithFiles (part H.log host.old host.new)) }
     ensures patient { H.patience host.new ≡ H.patience host.old }
 {
     let shown = ask_shown(rt, host, caches, answers, of)?;
@@ -249,6 +259,9 @@ fn ask_zig<W: World, H: Host<W>>(
     ensures settles { IfOk result (Settles answers.new
         (λ look. families.zig_family look family of.now)) }
     ensures own { AnswersAmong (families.IsOf of.now) (part H.log host.old host.new) }
+    ensures wanted { AnswersAmong (families.IsOfClang family of.now.path.now of.now.vars.now)
+        (part H.log host.old host.new) }
+    ensures bare { OnOk result (OnlyWithFiles (part H.log host.old host.new)) }
     ensures patient { H.patience host.new ≡ H.patience host.old }
 {
     if is_plain_clang(family) {
@@ -292,6 +305,10 @@ pub fn ask_family<W: World, H: Host<W>>(
         (λ look. families.family_in look path.now args.now env.now)) }
     ensures own { AnswersAmong (families.IsOfFamilyIn path.now args.now env.now)
         (part H.log host.old host.new) }
+    ensures wanted { Wanted (families.IsWantedIn path.now args.now env.now) answers.new
+        (part H.log host.old host.new) }
+    ensures cause { AllCaused (part H.log host.old host.new) }
+    ensures bare { OnOk result (OnlyWithFiles (part H.log host.old host.new)) }
     ensures patient { H.patience host.new ≡ H.patience host.old }
 {
     let vars = env.child_vars(alloc)?;

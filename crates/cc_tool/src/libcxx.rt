@@ -1,11 +1,11 @@
 // Whether the C++ library of a compiler is libc++.
-ghost use Rattle.std.specs.Prelude.{◌≡◌, not, ◌&&◌, IfOk};
+ghost use Rattle.std.specs.Prelude.{◌≡◌, not, ◌&&◌, IfOk, OnOk};
 ghost use Rattle.cc_host.specs.Call.{part};
 ghost use Rattle.cc_host.specs.Question.{Settles, is_yes as yes};
 ghost use Rattle.cc_tool.specs.Asks.{Asks};
 ghost use Rattle.cc_tool.specs.Libcxx as libcxx;
 ghost use Rattle.cc_tool.specs.Libcxx.{libcxx_question};
-ghost use Rattle.cc_tool.specs.Own.{AnswersAmong};
+ghost use Rattle.cc_tool.specs.Own.{AnswersAmong, AllCaused, OnlyWithFiles};
 
 use crate::{Answers, Caches, Tool, ask, question_of};
 use cc_host::{Ask, Host, Question, World, is_yes};
@@ -81,6 +81,8 @@ pub fn ask_libcxx<W: World, H: Host<W>>(
     ensures settles { IfOk result (Settles answers.new
         (λ look. yes (look (libcxx_question tool.now)))) }
     ensures own { AnswersAmong (λ q. q ≡ libcxx_question tool.now) (part H.log host.old host.new) }
+    ensures cause { AllCaused (part H.log host.old host.new) }
+    ensures bare { OnOk result (OnlyWithFiles (part H.log host.old host.new)) }
     ensures patient { H.patience host.new ≡ H.patience host.old }
 {
     let q = libcxx_question(alloc, tool)?;

@@ -1,11 +1,11 @@
 // Questions to a host, and the probe files that they need.
-ghost use Rattle.std.specs.Prelude.{◌≡◌, ◌≢◌, ◌++◌, ◌∷◌, [], Some, None, IfOk};
+ghost use Rattle.std.specs.Prelude.{◌≡◌, ◌≢◌, ◌++◌, ◌∷◌, [], Some, None, IfOk, OnOk};
 ghost use Rattle.cc_host.specs.Call.{part};
 ghost use Rattle.cc_host.specs.Event.{unasked as noted};
 ghost use Rattle.cc_host.specs.declared.question.Ask.TheVariants.{Exists as AsksExists};
 ghost use Rattle.cc_host.specs.declared.question.Outcome.TheVariants.{Unanswered};
 ghost use Rattle.cc_tool.specs.Files as probe_files;
-ghost use Rattle.cc_tool.specs.Own.{OnlyForFiles};
+ghost use Rattle.cc_tool.specs.Own.{OnlyForFiles, WordsUsed};
 ghost use Rattle.cc_tool.specs.Probing.{Probes, AreOpen, IsMade, MakesFile, Needs, IsHonest, file_of, both_of, heard};
 
 use crate::kinds::{object_of, source_of};
@@ -23,6 +23,7 @@ fn make_file<W: World, H: Host<W>>(
 ) -> Mem<Option<NamedTempfile>>
     ensures makes { MakesFile dir.now kind (H.log host.old) (H.log host.new) result }
     ensures made { IsMade dir.now kind result }
+    ensures used { OnOk result (WordsUsed (part H.log host.old host.new)) }
     ensures patient { H.patience host.new ≡ H.patience host.old }
 {
     let contents = kind.contents().as_bytes();
@@ -42,6 +43,7 @@ fn make_source<W: World, H: Host<W>>(
 ) -> Mem<Option<NamedTempfile>>
     ensures makes { MakesFile dir.now kind (H.log host.old) (H.log host.new) result }
     ensures made { IsMade dir.now kind result }
+    ensures used { OnOk result (WordsUsed (part H.log host.old host.new)) }
     ensures patient { H.patience host.new ≡ H.patience host.old }
 {
     match host.make_dir(Scope::Probe, dir) {
@@ -76,6 +78,7 @@ fn ask_source<W: World, H: Host<W>>(
     ensures probes { Probes dir.now (H.log host.old) (H.log host.new)
         (file_of kind files.source ∷ []) [] (heard q.now result) 0 }
     ensures steady { IsHonest W.steady W.answer q.now result }
+    ensures used { OnOk result (WordsUsed (part H.log host.old host.new)) }
     ensures patient { H.patience host.new ≡ H.patience host.old }
 {
     let outcome = host.probe(q, &files);
@@ -106,6 +109,7 @@ fn ask_both<W: World, H: Host<W>>(
     ensures probes { Probes dir.now (H.log host.old) (H.log host.new)
         (both_of kinds.source kinds.object files) [] (heard q.now result) 0 }
     ensures steady { IsHonest W.steady W.answer q.now result }
+    ensures used { OnOk result (WordsUsed (part H.log host.old host.new)) }
     ensures patient { H.patience host.new ≡ H.patience host.old }
 {
     let outcome = host.probe(q, &files);
@@ -130,6 +134,7 @@ fn ask_object<W: World, H: Host<W>>(
     ensures probes { Probes dir.now (H.log host.old) (H.log host.new)
         (file_of kinds.source files.source ∷ []) [] (heard q.now result) 0 }
     ensures steady { IsHonest W.steady W.answer q.now result }
+    ensures used { OnOk result (WordsUsed (part H.log host.old host.new)) }
     ensures patient { H.patience host.new ≡ H.patience host.old }
 {
     match make_file(alloc, host, dir, kinds.object) {
@@ -165,6 +170,7 @@ fn ask_with_files<W: World, H: Host<W>>(
     requires needs { probe_files.source_of q.now.ask ≡ Some kind }
     ensures probes { Probes dir.now (H.log host.old) (H.log host.new) [] [] (heard q.now result) 0 }
     ensures steady { IsHonest W.steady W.answer q.now result }
+    ensures used { OnOk result (WordsUsed (part H.log host.old host.new)) }
     ensures patient { H.patience host.new ≡ H.patience host.old }
 {
     let folder = Text::of(alloc, dir)?;
@@ -204,6 +210,7 @@ fn ask_bare<W: World, H: Host<W>>(
     ensures probes { Probes dir.now (H.log host.old) (H.log host.new) [] [] (heard q.now result) 0 }
     ensures bare { OnlyForFiles q.now (part H.log host.old host.new) }
     ensures steady { IsHonest W.steady W.answer q.now result }
+    ensures used { OnOk result (WordsUsed (part H.log host.old host.new)) }
     ensures patient { H.patience host.new ≡ H.patience host.old }
 {
     let _ = dir;
@@ -226,6 +233,7 @@ pub(crate) fn ask_host<W: World, H: Host<W>>(
     ensures probes { Probes dir.now (H.log host.old) (H.log host.new) [] [] (heard q.now result) 0 }
     ensures bare { OnlyForFiles q.now (part H.log host.old host.new) }
     ensures steady { IsHonest W.steady W.answer q.now result }
+    ensures used { OnOk result (WordsUsed (part H.log host.old host.new)) }
     ensures patient { H.patience host.new ≡ H.patience host.old }
 {
     match source_of(q.ask) {
