@@ -17,12 +17,12 @@ use Rattle.cc_plan.specs.Archive.{archiver_of}
 use Rattle.cc_flags.specs.ArchiveNames.{is_msvc}
 use Rattle.cc_text.specs.Batches.{batches_of}
 use Rattle.cc_plan.specs.LibForm.{has_one_form, is_lib, copy_path_of}
-use Rattle.cc_plan.specs.Libtool.{is_libtool, list_refusal, lists_of}
+use Rattle.cc_plan.specs.Libtool.{is_libtool, lists_of}
 use Rattle.cc_plan.specs.Link.{link_lines as lines_of}
 use Rattle.cc_flags.specs.Names.{library_name}
 use Rattle.cc_flags.specs.declared.settings.BuildConfig.{BuildConfig}
 use Rattle.cc_env.specs.Env.{EnvSeen}
-use Rattle.cc_plan.specs.Plan.{library_of, objects_of, compiles_of, plan_warnings, archived_of, archive_refusal, archives_of, indexes_of, lists_of_run, run_has_one_form, run_asks_folder, copy_steps, link_lines, removal_steps, copy_by}
+use Rattle.cc_plan.specs.Plan.{library_of, objects_of, compiles_of, plan_warnings, archived_of, archived_refusal, archive_refusal, archives_of, indexes_of, lists_of_run, run_has_one_form, run_asks_folder, copy_steps, link_lines, removal_steps, copy_by}
 use Rattle.cc_plan.specs.Quiet.{quiet_warnings}
 use Rattle.cc_flags.specs.Target.{target_info}
 use Rattle.cc_target.specs.Targets.{info_seen, Info}
@@ -152,27 +152,27 @@ module _ (task : Task) (library : Library) (look : Look) (writing : Writing) (h 
 
 -- ---- what the archive wants
 
--- nothing is refused: neither the archiver nor a path
-pub archive_allowed : (task : Task) (archiver : Archiver) (look : Look) → Archives task archiver look → list_refusal archiver (archived_of task.set.now task.env.now) ≡ None → archive_refusal task.set.now task.env.now look ≡ None
+-- nothing is refused: neither the archiver nor what it archives
+pub archive_allowed : (task : Task) (archiver : Archiver) (look : Look) → Archives task archiver look → archived_refusal task.set.now task.env.now archiver (archived_of task.set.now task.env.now) ≡ None → archive_refusal task.set.now task.env.now look ≡ None
 unfolding archive_refusal
-archive_allowed task archiver look h none = ap₂ first_of h.allowed (ap (λ a. list_refusal a (archived_of task.set.now task.env.now)) (sym h.is) ∙ none)
+archive_allowed task archiver look h none = ap₂ first_of h.allowed (ap (λ a. archived_refusal task.set.now task.env.now a (archived_of task.set.now task.env.now)) (sym h.is) ∙ none)
 
 -- the archiver is refused
 pub archiver_refused : (task : Task) (e : ErrorSeen) (look : Look) → IsRefusedBy (archiver_refusal task.set.now task.env.now) task e look → IsRefusedBy (archive_refusal task.set.now task.env.now) task e look
 unfolding archive_refusal
 archiver_refused task e look (inl memory) = inl memory
-archiver_refused task e look (inr is) = inr (refused_first (plan_error task.set.now task.env.now task.output.now) (archiver_refusal task.set.now task.env.now look) (list_refusal (archiver_of task.set.now task.env.now look) (archived_of task.set.now task.env.now)) e is)
+archiver_refused task e look (inr is) = inr (refused_first (plan_error task.set.now task.env.now task.output.now) (archiver_refusal task.set.now task.env.now look) (archived_refusal task.set.now task.env.now (archiver_of task.set.now task.env.now look) (archived_of task.set.now task.env.now)) e is)
   where
     refused_first : (f : PlanError → ErrorSeen) (a b : Option PlanError) (e : ErrorSeen) → option_map f a ≡ Some e → option_map f (first_of a b) ≡ Some e
     refused_first f None b e h = absurd (cc)
     refused_first f (Some x) b e h = h
 
--- a path is refused
-pub path_refused : (task : Task) (archiver : Archiver) (e : ErrorSeen) (look : Look) → Archives task archiver look → (e ≡ no_memory) ⊎ (option_map (plan_error task.set.now task.env.now task.output.now) (list_refusal archiver (archived_of task.set.now task.env.now)) ≡ Some e) → IsRefusedBy (archive_refusal task.set.now task.env.now) task e look
+-- a path is refused, or the target
+pub path_refused : (task : Task) (archiver : Archiver) (e : ErrorSeen) (look : Look) → Archives task archiver look → (e ≡ no_memory) ⊎ (option_map (plan_error task.set.now task.env.now task.output.now) (archived_refusal task.set.now task.env.now archiver (archived_of task.set.now task.env.now)) ≡ Some e) → IsRefusedBy (archive_refusal task.set.now task.env.now) task e look
 unfolding archive_refusal
 path_refused task archiver e look h (inl memory) = inl memory
 path_refused task archiver e look h (inr is) =
-    inr (ap (option_map (plan_error task.set.now task.env.now task.output.now)) (ap₂ first_of h.allowed (ap (λ a. list_refusal a (archived_of task.set.now task.env.now)) (sym h.is))) ∙ is)
+    inr (ap (option_map (plan_error task.set.now task.env.now task.output.now)) (ap₂ first_of h.allowed (ap (λ a. archived_refusal task.set.now task.env.now a (archived_of task.set.now task.env.now)) (sym h.is))) ∙ is)
 
 -- ---- the commands of the two forms
 

@@ -5,9 +5,8 @@ ghost use Rattle.std.specs.Option.{option_map};
 ghost use Rattle.cc_host.specs.Call.{part};
 ghost use Rattle.cc_host.specs.Question.{Holds, Settles};
 ghost use Rattle.cc_flags.specs.Given.{probe_folder};
-ghost use Rattle.cc_plan.specs.Libtool.{list_refusal};
 ghost use Rattle.cc_flags.specs.Names.{library_name};
-ghost use Rattle.cc_plan.specs.Plan.{objects_of, library_of, archived_of};
+ghost use Rattle.cc_plan.specs.Plan.{objects_of, library_of, archived_of, archived_refusal};
 ghost use Rattle.cc_plan.specs.Refusal.{late_refusal, archiver_refusal, link_refusal};
 ghost use Rattle.cc_plan.specs.Reruns.{rerun_names};
 ghost use Rattle.cc_run.specs.Keeping.{IsIdle};
@@ -31,7 +30,7 @@ use cc_host::{Host, World};
 use cc_jobs::Jobs;
 use cc_plan::{
     Archiver, Library, LinkPlan, Plan, PlanError, Sight, Sources, archived_paths, archiver_of,
-    check_list, plan_commands, plan_links as plan_of_links, target_info,
+    check_archived, plan_commands, plan_links as plan_of_links, target_info,
 };
 use cc_run::Turns;
 use cc_text::{Mem, Words, parent};
@@ -108,18 +107,19 @@ fn plan_archiver<W: World, H: Host<W>>(
     }
 }
 
-// The paths that the library gets, which the archiver can read.
+// The paths that the library gets, which the archiver can read and write for the target.
 fn read_paths(task: &Task<'_>, archiver: &Archiver, sources: &Sources) -> Result<Words, Error>
     requires objects { sources.now.objects.items ≡ objects_of task.now.set.now task.now.env.now }
     ensures paths { IfOk result (λ paths. paths ≡ archived_of task.now.set.now task.now.env.now) }
-    ensures allowed { IfOk result (λ _. list_refusal archiver.now
-        (archived_of task.now.set.now task.now.env.now) ≡ None) }
+    ensures allowed { IfOk result (λ _. archived_refusal task.now.set.now task.now.env.now
+        archiver.now (archived_of task.now.set.now task.now.env.now) ≡ None) }
     ensures refused { IfErr result (λ e. (e ≡ no_memory) ⊎ (option_map
         (error_of_plan task.now.set.now task.now.env.now task.now.output.now)
-        (list_refusal archiver.now (archived_of task.now.set.now task.now.env.now)) ≡ Some e)) }
+        (archived_refusal task.now.set.now task.now.env.now archiver.now
+        (archived_of task.now.set.now task.now.env.now)) ≡ Some e)) }
 {
     let paths = archived_paths(task.reporting.alloc, task.set, &sources.objects)?;
-    match check_list(archiver, &paths) {
+    match check_archived(task.reporting.alloc, task.set, task.env, archiver, &paths) {
         Ok(()) => Ok(paths),
         Err(error) => Err(refused(task, error)),
     }

@@ -21,7 +21,7 @@ use Rattle.cc_flags.specs.Given.{out_dir_of, target_of, host_of, level_of, has_n
 use Rattle.cc_flags.specs.Inherited.{inherited_text}
 use Rattle.cc_plan.specs.Checks.{inherited_refusal, plan_refusal, first_refusal, qnx_refusal, sysroot_refusal, clang_refusal, defaults_refusal}
 use Rattle.cc_plan.specs.Libtool.{list_refusal}
-use Rattle.cc_plan.specs.Plan.{archived_of, archive_refusal}
+use Rattle.cc_plan.specs.Plan.{archived_of, archived_refusal, archive_refusal}
 use Rattle.cc_plan.specs.Planned.{planned, defaults_refusal_of}
 use Rattle.cc_flags.specs.Target.{target_info, known_info, target_name}
 use Rattle.cc_plan.specs.Tool.{defaults_refusal_by}
@@ -189,12 +189,19 @@ archiver_accepted set env look output v =
     both_none (choice_refusal Archiver set env look) (first_of (unset (codes "TARGET") (target_of set env)) (unset (codes "HOST") (host_of set env))) choice
     (both_none (unset (codes "TARGET") (target_of set env)) (unset (codes "HOST") (host_of set env)) (is_set (codes "TARGET") (target_of set env) v.target.0) (is_set (codes "HOST") (host_of set env) v.host))
 
+-- and what an archiver wants of what it archives
+pub archived_accepted : (set : BuildConfig) (env : EnvSeen) (look : Look) (output : List ℕ) → Valid set env look output → archived_refusal set env (archiver_of set env look) (archived_of set env) ≡ None
+unfolding archived_refusal
+archived_accepted set env look output v =
+    both_none (list_refusal (archiver_of set env look) (archived_of set env)) (target_refusal set env)
+    (list_accepted (archiver_of set env look) (archived_of set env) v.listed) (is_known set env v.target)
+
 -- and what the archive wants
 pub archive_accepted : (set : BuildConfig) (env : EnvSeen) (look : Look) (output : List ℕ) → Valid set env look output → archive_refusal set env look ≡ None
 unfolding archive_refusal
 archive_accepted set env look output v =
-    both_none (archiver_refusal set env look) (list_refusal (archiver_of set env look) (archived_of set env)) (archiver_accepted set env look output v)
-    (list_accepted (archiver_of set env look) (archived_of set env) v.listed)
+    both_none (archiver_refusal set env look) (archived_refusal set env (archiver_of set env look) (archived_of set env))
+    (archiver_accepted set env look output v) (archived_accepted set env look output v)
 
 -- a value that stands where it is needed isn't unset
 stands_where : (name : List ℕ) (a b : Bool) (value : Option (List ℕ)) → (a ≡ true → b ≡ true → IsSome value) → (if a && b then unset name value else None) ≡ None

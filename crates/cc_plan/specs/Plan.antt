@@ -12,6 +12,7 @@ use Rattle.cc_host.specs.declared.event.Scope.TheVariants.{Build}
 use Rattle.cc_host.specs.declared.event.LineKind.{LineKind}
 use Rattle.cc_host.specs.declared.event.LineKind.TheVariants.{Warning}
 use Rattle.cc_host.specs.declared.event.Message.TheVariants.{GeneralWarning}
+use Rattle.cc_plan.specs.declared.archiver.Archiver.{Archiver}
 use Rattle.cc_plan.specs.declared.error.PlanError.{PlanError}
 use Rattle.cc_flags.specs.declared.object.Object.{Object}
 use Rattle.cc_flags.specs.declared.settings.BuildConfig.{BuildConfig}
@@ -28,7 +29,7 @@ use Rattle.cc_plan.specs.LibForm.{copy_path_of}
 use Rattle.cc_flags.specs.Names.{library_name}
 use Rattle.cc_plan.specs.Libtool.{lists_of, list_refusal}
 use Rattle.cc_flags.specs.Object as object
-use Rattle.cc_plan.specs.Refusal.{is_empty, library_in, archiver_refusal}
+use Rattle.cc_plan.specs.Refusal.{is_empty, library_in, archiver_refusal, target_refusal}
 use Rattle.cc_flags.specs.Target.{target_info}
 use Rattle.cc_plan.specs.Planned.{tool_of, warnings_of}
 use Rattle.cc_tool.specs.Tool.{ToolSeen}
@@ -59,9 +60,13 @@ compiles_of set env look = map (compile_in set env look) (objects_of set env)
 abbrev pub archived_of : BuildConfig → EnvSeen → List (List ℕ)
 archived_of set env = archive.paths_of (objects_of set env) ++ set.objects
 
--- what the archive wants, after the commands that compile were run: the archiver, and then paths that its list can hold
+-- what an archiver wants of what it archives: paths that its list can hold, and a target that is known
+unfoldable pub archived_refusal : BuildConfig → EnvSeen → Archiver → List (List ℕ) → Option PlanError
+archived_refusal set env archiver paths = first_of (list_refusal archiver paths) (target_refusal set env)
+
+-- what the archive wants, after the commands that compile were run: the archiver, and what that wants
 unfoldable pub archive_refusal : BuildConfig → EnvSeen → Look → Option PlanError
-archive_refusal set env look = first_of (archiver_refusal set env look) (list_refusal (archiver_of set env look) (archived_of set env))
+archive_refusal set env look = first_of (archiver_refusal set env look) (archived_refusal set env (archiver_of set env look) (archived_of set env))
 
 -- the lists of those paths that are written for the archiver, with their bytes
 unfoldable pub lists_of_run : BuildConfig → EnvSeen → Look → List ℕ → List (List ℕ × List ℕ)

@@ -4,12 +4,14 @@ ghost use Rattle.cc_plan.specs.Archive.{archiver_of, archiver_by, has_words, arc
 ghost use Rattle.cc_plan.specs.ArchiveTool.{archive_tool};
 ghost use Rattle.cc_target.specs.Targets.{info_seen};
 ghost use Rattle.cc_plan.specs.Asking.{AsksForArchiver, AsksForRanlib, AsksForEither, SettledIn, AllowedIn, RefusedIn};
+ghost use Rattle.cc_plan.specs.Plan.{archived_refusal};
 ghost use Rattle.cc_plan.specs.Refusal.{AllowedBy, RefusedBy, look_up_refusal, archive_tool_refusal, archiver_refusal, ranlib_refusal};
 
 use crate::ar_form::{batch_commands, batch_index_commands};
 use crate::archive_tool::archive_tool;
+use crate::checks::known_target;
 use crate::lib_form::{is_lib, lib_commands};
-use crate::libtool::libtool_command;
+use crate::libtool::{check_list, libtool_command};
 use crate::{Archiver, Library, PlanError, Sight, is_libtool};
 use cc_env::BuildEnv;
 use cc_flags::{
@@ -228,4 +230,23 @@ pub fn archived_paths(alloc: Global, set: &BuildConfig, objects: &[Object]) -> M
     }
     paths.extend(&set.objects)?;
     Ok(paths)
+}
+
+/// Whether an archiver can write these paths into a library for the target of the settings. Where its list can't hold one, it is refused at
+/// the place of that path, counted from 0; then where the target is set nowhere, or is neither a row of the table nor described by Cargo, as
+/// the form of the library depends on it; and for memory.
+#[tactic(auto, unfolding(crate::specs::Plan::archived_refusal))]
+pub fn check_archived(
+    alloc: Global,
+    set: &BuildConfig,
+    env: &BuildEnv,
+    archiver: &Archiver,
+    paths: &Words,
+) -> Result<(), PlanError>
+    ensures allowed { AllowedBy (archived_refusal set.now env.now archiver.now paths.now) result }
+    ensures refused { RefusedBy (archived_refusal set.now env.now archiver.now paths.now) result }
+{
+    check_list(archiver, paths)?;
+    known_target(alloc, set, env)?;
+    Ok(())
 }

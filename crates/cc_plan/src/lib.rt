@@ -41,7 +41,9 @@ mod support;
 mod tool;
 mod tool_reruns;
 
-pub use archive::{archive_commands, archived_paths, archiver_of, index_commands, ranlib_of};
+pub use archive::{
+    archive_commands, archived_paths, archiver_of, check_archived, index_commands, ranlib_of,
+};
 pub use archiver::{Archiver, Library};
 pub use assembler::assembler_of;
 pub use cc_flags::{
@@ -54,7 +56,7 @@ pub use compile::{compile_command, expand_command};
 pub use error::{ArgumentCause, PlanError};
 pub use flag_verdict::{FlagSupport, flag_support};
 pub use lib_form::{asks_folder, has_one_form};
-pub use libtool::{check_list, is_libtool, list_file};
+pub use libtool::{is_libtool, list_file};
 pub use link::{LinkPlan, link_lines, plan_links};
 pub use names::{copy_path, lib_and_archive_names, library_and_dir};
 pub use objects::objects_from_files;

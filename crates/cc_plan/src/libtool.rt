@@ -99,7 +99,7 @@ fn line_feed_place(paths: &[Text]) -> Option<usize>
 /// Checks that a list of these paths can be read, where the archiver is libtool, which takes each line of it for a path. It takes no memory.
 ///
 /// Refused at the place of the first path with a line feed, counted from 0.
-pub fn check_list(archiver: &Archiver, paths: &Words) -> Result<(), PlanError>
+pub(crate) fn check_list(archiver: &Archiver, paths: &Words) -> Result<(), PlanError>
     ensures allowed { AllowedBy (list_refusal archiver.now paths.now) result }
     ensures refused { RefusedBy (list_refusal archiver.now paths.now) result }
 {
