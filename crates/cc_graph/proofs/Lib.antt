@@ -6,3 +6,5 @@ pub mod FrontierLemmas
 pub mod QueueLaws
 pub mod RunLaws
 pub mod ReadLemmas
+pub mod TokenLemmas
+pub mod EntryLemmas

@@ -71,7 +71,7 @@ unfolding nodes_of
 nodes_refused env ds n k e is = rw (e.0, e.1, is) refl
 
 -- no more than so many
-few_bounded : (most count : ℕ) (r : Result (List Node) GraphFileError) → count ≤ most → bounded most count r ≡ r
+pub few_bounded : (most count : ℕ) (r : Result (List Node) GraphFileError) → count ≤ most → bounded most count r ≡ r
 few_bounded most count (Ok nodes) l = let n : nat_lt most count ≡ false = grind (arith, common_steps) in cc
 few_bounded most count (Err e) l = refl
 

@@ -5,3 +5,4 @@ pub mod Queue
 pub mod Ends
 pub mod Run
 pub mod Read
+pub mod Entries

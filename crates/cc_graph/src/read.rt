@@ -6,13 +6,15 @@ ghost use Rattle.serde_json.specs.View.{view};
 ghost use Rattle.cc_graph.specs.Read.{all_some, place_of, places_of, command_of, command_in, needs_in, node_of, nodes_of, nodes_upto, array_nodes, read_graph};
 ghost use Rattle.cc_graph.specs.declared.read.GraphFileError.TheVariants.{NotJson, NoMemory as WantsMemory};
 
+use crate::entries::nodes_by_entry;
 use crate::{Needs, Node};
 use cc_env::EnvSnapshot;
 use cc_host::{Command, Role};
 use cc_run::Planned;
 use cc_text::{Mem, NoMemory, Vars, Words};
+use json::Invalid;
 use serde_json::Value;
-use std::alloc::{AllocFailed, Global};
+use std::alloc::{AllocError, AllocFailed, Global};
 
 /// Why a text gives no commands.
 #[derive(Clone, Copy, PartialEq, Eq, Debug)]
@@ -35,6 +37,22 @@ impl From<NoMemory> for GraphFileError {
     }
 }
 
+impl From<AllocError> for GraphFileError {
+    ghost from_gives = { λ _ e. e ≡ WantsMemory };
+
+    fn from(_: AllocError) -> Self {
+        GraphFileError::NoMemory
+    }
+}
+
+impl From<Invalid> for GraphFileError {
+    ghost from_gives = { λ _ e. e ≡ NotJson };
+
+    fn from(_: Invalid) -> Self {
+        GraphFileError::NotJson
+    }
+}
+
 impl<T: Drop> From<AllocFailed<T>> for GraphFileError {
     ghost from_gives = { λ _ e. e ≡ WantsMemory };
 
@@ -42,6 +60,9 @@ impl<T: Drop> From<AllocFailed<T>> for GraphFileError {
         GraphFileError::NoMemory
     }
 }
+
+// How many nodes there may be.
+const MOST: usize = 4294967295;
 
 // The texts of some values, if each is one.
 fn texts_among(alloc: Global, values: &[Value]) -> Mem<Option<Words>>
@@ -159,7 +180,7 @@ fn command_in(alloc: Global, entry: &Value, vars: &Vars) -> Mem<Option<Command>>
 
 // The node of an entry, if it has the shape.
 #[tactic(auto, unfolding(crate::specs::Read::node_of))]
-fn node_in(alloc: Global, entry: &Value, vars: &Vars) -> Mem<Option<Node>>
+pub(crate) fn node_in(alloc: Global, entry: &Value, vars: &Vars) -> Mem<Option<Node>>
     ensures { IfOk result (λ node. node ≡ node_of vars.now (view entry.now)) }
 {
     let Some(cmd) = command_in(alloc, entry, vars)? else {
@@ -257,6 +278,17 @@ fn parse(alloc: Global, text: &str) -> Result<Value, GraphFileError>
     }
 }
 
+// The nodes of a text that is read as a whole, or why there are none.
+#[tactic(auto, unfolding(crate::specs::Read::read_graph))]
+fn nodes_at_once(alloc: Global, text: &str, vars: &Vars) -> Result<Vec<Node>, GraphFileError>
+    ensures ok { IfOk result (λ nodes. read_graph vars.now text.now ≡ Ok nodes.items) }
+    ensures err { IfErr result (λ e. e ≢ WantsMemory → read_graph vars.now text.now ≡ Err e) }
+{
+    let value = parse(alloc, text)?;
+    let nodes = array_nodes(alloc, &value, vars, MOST)?;
+    Ok(nodes)
+}
+
 /// The commands of a text, in order, each with the environment of the snapshot and the role of a compilation. The text is a
 /// JSON array of objects with an array of at least one text under `command`: the program and its words; and with an array of
 /// whole numbers below 2^32 under `needs`, the places of the commands that it needs, or without that key. Other keys are
@@ -268,9 +300,11 @@ pub fn read_graph(alloc: Global, text: &str, env: &EnvSnapshot) -> Result<Vec<No
     ensures ok { IfOk result (λ nodes. read_graph env.now text.now ≡ Ok nodes.items) }
     ensures err { IfErr result (λ e. e ≢ WantsMemory → read_graph env.now text.now ≡ Err e) }
 {
-    let value = parse(alloc, text)?;
-    let nodes = array_nodes(alloc, &value, env.vars(), 4294967295)?;
-    Ok(nodes)
+    match nodes_by_entry(alloc, text, env.vars(), MOST) {
+        Ok(nodes) => Ok(nodes),
+        Err(GraphFileError::NoMemory) => Err(GraphFileError::NoMemory),
+        Err(_) => nodes_at_once(alloc, text, env.vars()),
+    }
 }
 
 #[cfg(test)]
