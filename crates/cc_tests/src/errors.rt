@@ -5,7 +5,7 @@ ghost use Rattle.cc_build.specs.declared.error.ErrorKind.TheVariants.{NoMemory a
 use crate::same::{holds, same};
 use crate::setup::{set_all, with_both};
 use cc_build::{Build, Error, ErrorKind};
-use cc_host::{Bench, BenchHost};
+use cc_host::{Bench, BenchHost, HostCall, HostError, Why};
 use cc_jobs::OneCaller;
 use cc_text::Vars;
 use std::alloc::AllocGlobal;
@@ -116,4 +116,23 @@ fn check_empty(
 #[test]
 fn the_error_of_an_empty_folder_is_copied(rt: HostRuntime) {
     with_both(&rt, |build, host| check_empty(&rt, build, host));
+}
+
+fn check_parts(rt: &impl Abort, error: &Error, kind: ErrorKind, subject: &str, message: &str) {
+    holds(rt, "it is of the kind", error.kind() == kind);
+    same(rt, error.subject(), subject);
+    same(rt, error.message(), message);
+}
+
+#[test]
+fn the_error_of_a_refused_call_has_its_name_and_cause(rt: HostRuntime) {
+    let fault = HostError::Fault(HostCall::Copy, Why::Denied);
+    let error = Error::of_host(rt.alloc(), fault, "/s");
+    check_parts(&rt, &error, ErrorKind::IOError, "/s", "copy failed: denied");
+}
+
+#[test]
+fn the_error_of_a_call_that_wants_memory_tells_nothing(rt: HostRuntime) {
+    let error = Error::of_host(rt.alloc(), HostError::NoMemory, "/s");
+    check_parts(&rt, &error, ErrorKind::NoMemory, "", "");
 }
