@@ -13,7 +13,7 @@ ghost use Rattle.cc_build.specs.Flags.{always, flags_error};
 ghost use Rattle.cc_build.specs.Planning.{PlanningEnds};
 ghost use Rattle.cc_build.specs.Shows.{shows_of};
 ghost use Rattle.cc_build.specs.Tools.{AsksForArchiver, AsksForRanlib, IsArchiver, IsRanlib, ArchiverEnds, RanlibEnds};
-ghost use Rattle.cc_build.specs.Intermediates.{AreCompiled, IntermediateEnds};
+ghost use Rattle.cc_build.specs.Intermediates.{AreCompiled, CompilesFirst, IntermediateEnds};
 ghost use Rattle.cc_plan.specs.Archive.{paths_of};
 ghost use Rattle.cc_plan.specs.Plan.{objects_of};
 ghost use Rattle.cc_build.specs.Promises.{IsBuilt, Promises, NothingRuns, FaultsEnd};
@@ -302,6 +302,7 @@ impl<W: World> Build<W> {
         ensures outcome { ByRun H.log H.patience J.total J.faults J.taken J.load turns
             host.old host.new seat.old seat.new
             (IntermediateEnds self.now (H.listens host.old) result) }
+        ensures prefix { ByPart H.log host.old host.new (CompilesFirst self.now) }
         ensures settled { NothingRuns (part H.log host.old host.new) }
         ensures faults_last { FaultsEnd (part H.log host.old host.new) }
     {
