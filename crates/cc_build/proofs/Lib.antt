@@ -35,6 +35,7 @@ pub mod Running
 pub mod SettledLaws
 pub mod SourceLaws
 pub mod Stages
+pub mod SteadyLaws
 pub mod StopLaws
 pub mod SupportLaws
 pub mod Telling
