@@ -147,7 +147,7 @@ module _ (set : BuildConfig) (env : EnvSeen) (look : Look) (here output : List �
   abbrev readying : List Step
   readying = writings (lists_of_run set env look output) ++ asking_steps (run_asks_folder set env look output) here
 
-  ready_commands : commands_in (ready_stages set env look here output) ≡ []
+  pub ready_commands : commands_in (ready_stages set env look here output) ≡ []
   unfolding ready_stages
   ready_commands = commands_calls readying
 
@@ -156,7 +156,7 @@ module _ (set : BuildConfig) (env : EnvSeen) (look : Look) (here output : List �
   ready_children = children_calls readying
 
 module _ (set : BuildConfig) (env : EnvSeen) (output : List ℕ) where
-  copy_commands : commands_in (copy_stages set env output) ≡ []
+  pub copy_commands : commands_in (copy_stages set env output) ≡ []
   unfolding copy_stages
   copy_commands = commands_calls (copy_steps set env output)
 

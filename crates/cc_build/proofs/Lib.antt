@@ -6,6 +6,7 @@ pub mod BuiltLaws
 pub mod ChildLaws
 pub mod Doing
 pub mod ExpandFaults
+pub mod ExpandFirst
 pub mod ExpandLaws
 pub mod FailedLaws
 pub mod FaultLaws
@@ -24,6 +25,7 @@ pub mod Outcomes
 pub mod PartLaws
 pub mod PhaseLaws
 pub mod PlanningLaws
+pub mod PrefixLaws
 pub mod PrintedLaws
 pub mod PromiseLaws
 pub mod RanLaws
@@ -33,6 +35,7 @@ pub mod Running
 pub mod SettledLaws
 pub mod SourceLaws
 pub mod Stages
+pub mod SteadyLaws
 pub mod StopLaws
 pub mod SupportLaws
 pub mod Telling

@@ -346,7 +346,7 @@ plain_unless true stages p = tt
 plain_unless false stages p = p
 
 module _ (set : BuildConfig) (env : EnvSeen) where
-  plain_folder : ArePlain (folder_stages set env)
+  pub plain_folder : ArePlain (folder_stages set env)
   unfolding folder_stages folder_steps
   plain_folder = by_files (is_empty set.files)
     where
@@ -354,7 +354,7 @@ module _ (set : BuildConfig) (env : EnvSeen) where
       by_files true = tt
       by_files false = (tt, tt)
 
-  plain_compile : (found : Found) (look : Look) → ArePlain (compile_stages set env found look)
+  pub plain_compile : (found : Found) (look : Look) → ArePlain (compile_stages set env found look)
   unfolding compile_stages
   plain_compile found look =
       plain_then (calls (opening_steps set env found look)) (beside (compiles_planned set env found.here look))

@@ -142,7 +142,7 @@ told_lines t listens texts firsts links names these part r x y is silent none en
     let same : these ≡ calls steps = is ∙ ap₂ (λ m l. printed_stages listens m firsts l names) silent none in
     ends_outcome t None steps part r x y refl (told_printed Rerun (rerun_lines (chosen firsts.names names))) (subst (λ (l : List Stage). Ends t None l part r x y) same ends)
 
-names_when : {T : Type 0} (refusal : Option ErrorSeen) (names : List Step) (part : List Event) (r : Result T ErrorSeen) → refusal ≡ None → Outcome None names part r → Outcome refusal (unless_refused refusal names) part r
+pub names_when : {T : Type 0} (refusal : Option ErrorSeen) (names : List Step) (part : List Event) (r : Result T ErrorSeen) → refusal ≡ None → Outcome None names part r → Outcome refusal (unless_refused refusal names) part r
 names_when None names part r none o = o
 names_when (Some e) names part r none o = absurd (cc)
 

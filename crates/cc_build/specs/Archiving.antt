@@ -11,12 +11,13 @@ use Rattle.cc_flags.specs.Given.{first_of}
 use Rattle.cc_flags.specs.Settings.{archive_settings}
 use Rattle.cc_flags.specs.declared.variables.Reads.{Reads}
 use Rattle.cc_flags.specs.declared.settings.BuildConfig.{BuildConfig}
+use Rattle.cc_build.specs.Attempts.{FirstOf}
 use Rattle.cc_build.specs.Build.{BuildSeen}
 use Rattle.cc_build.specs.Course.{Course, course_alone}
 use Rattle.cc_build.specs.Error.{ErrorSeen}
 use Rattle.cc_build.specs.Promises.{terms_for}
 use Rattle.cc_build.specs.Refusal.{plan_error, disabled_error, archive_error}
-use Rattle.cc_build.specs.Stage.{Stage, asked_then, told_library}
+use Rattle.cc_build.specs.Stage.{Stage, asked_then, library_commands, told_library}
 use Rattle.cc_build.specs.Way.{Writing, Firsts, Repeats}
 use Rattle.cc_build.specs.Went.{Ends}
 
@@ -49,6 +50,10 @@ creation_stages set env writing look firsts output =
 abbrev pub CreationEnds : {T : Type 0} → BuildSeen → Bool → List ℕ → Result T ErrorSeen → Look → List Event → Course → Type 0
 CreationEnds b listens output result look part c =
     (writing : Writing) × (firsts : Firsts) × (Repeats b.config firsts × Ends (terms_for b listens c) (creation_error b.config b.env look output) (creation_stages b.config b.env writing look firsts output) part result c.before c.after)
+
+-- no command but those of the library, in their order, with one attempt for each
+abbrev pub ArchivesFirst : BuildSeen → List ℕ → Look → List Event → Type 0
+ArchivesFirst b output look part = (writing : Writing) × FirstOf (library_commands b.config b.env look writing output) part
 
 -- so it ended, with this patience of its host, and with some left of these turns
 abbrev pub Creates : {T : Type 0} → BuildSeen → Bool → Option ℕ → ℕ → List ℕ → Result T ErrorSeen → Look → List Event → Type 0

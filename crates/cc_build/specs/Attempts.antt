@@ -1,5 +1,5 @@
 -- The commands that a part of a log tells of, in order.
-use Rattle.std.specs.Prelude.{List, [], ◌∷◌, Bool, false, not, if◌then◌else◌}
+use Rattle.std.specs.Prelude.{◌≡◌, List, [], ◌∷◌, ◌++◌, map, Bool, false, not, if◌then◌else◌}
 use Rattle.std.specs.List.{flat_map}
 use Rattle.cc_host.specs.Command.{CommandSeen}
 use Rattle.cc_host.specs.Status.{is_success}
@@ -22,6 +22,10 @@ attempts = flat_map attempt_of
 -- a command that is to run, with its role
 abbrev pub to_attempt : Planned → Role × CommandSeen
 to_attempt planned = (planned.role, planned.cmd)
+
+-- the commands of a part, those that are missing among them, are the first of these: one attempt for each, and no other command
+abbrev pub FirstOf : List Planned → List Event → Type 0
+FirstOf cmds part = (rest : List (Role × CommandSeen)) × (map to_attempt cmds ≡ attempts part ++ rest)
 
 -- a command that was run to its end in one call of the host, or whose program can't be found, and whether it ended with 0
 abbrev pub tried_of : Event → List (CommandSeen × Bool)

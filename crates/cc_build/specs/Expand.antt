@@ -17,6 +17,7 @@ use Rattle.cc_run.specs.Output.{IsOutput}
 use Rattle.cc_run.specs.declared.error.RunError.{RunError}
 use Rattle.cc_run.specs.declared.planned.Planned.{Planned}
 use Rattle.cc_run.specs.declared.planned.Shows.{Shows}
+use Rattle.cc_build.specs.Attempts.{FirstOf}
 use Rattle.cc_build.specs.Build.{BuildSeen}
 use Rattle.cc_build.specs.Compiler.{ToolEnds}
 use Rattle.cc_build.specs.Error.{ErrorSeen, no_memory}
@@ -86,3 +87,7 @@ pub record ExpandsAndTells (b : BuildSeen) (listens : Bool) (output : List ℕ) 
 abbrev pub ExpandedEnds : BuildSeen → Bool → Result (List ℕ) ErrorSeen → Look → List Event → Type 0
 ExpandedEnds b listens (Ok output) look part = ExpandsAndTells b listens output (Ok output) look part
 ExpandedEnds b listens (Err e) look part = ExpandEnds b listens (Err e) look part ⊎ ((output : List ℕ) × ExpandsAndTells b listens output (Err e) look part)
+
+-- no command but the planned one, with one attempt at most
+abbrev pub ExpandsFirst : BuildSeen → Look → List Event → Type 0
+ExpandsFirst b look part = FirstOf (expansion b.config (tool_of b.config b.env look) ∷ []) part

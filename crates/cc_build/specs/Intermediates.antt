@@ -13,6 +13,7 @@ use Rattle.cc_flags.specs.Given.{first_of}
 use Rattle.cc_flags.specs.declared.settings.BuildConfig.{BuildConfig}
 use Rattle.cc_run.specs.Part.{started}
 use Rattle.cc_run.specs.Planned.{asked}
+use Rattle.cc_build.specs.Attempts.{FirstOf}
 use Rattle.cc_build.specs.Build.{BuildSeen}
 use Rattle.cc_build.specs.Children.{AllWell}
 use Rattle.cc_build.specs.Course.{Course}
@@ -56,6 +57,10 @@ pub record Compiled (t : Terms) (b : BuildSeen) (look : Look) (part : List Event
   pub repeats : Repeats b.config firsts
   -- behind all of this questions were asked, and then exactly the lines of the variables that were read were printed
   pub told : Goes t (Asks ∷ name_stages b.config b.env (source_reads b.config) look firsts) lines
+
+-- no command but the planned compile commands, in the order in which the sources were added, with one attempt for each
+abbrev pub CompilesFirst : BuildSeen → Look → List Event → Type 0
+CompilesFirst b look part = FirstOf (planned Compile (compiles_of b.config b.env look)) part
 
 -- Ok: the sources are compiled
 abbrev pub AreCompiled : {T : Type 0} → BuildSeen → Bool → Result T ErrorSeen → Look → List Event → Course → Type 0

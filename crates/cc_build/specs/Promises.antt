@@ -16,7 +16,7 @@ use Rattle.cc_plan.specs.Plan.{compiles_of}
 use Rattle.cc_run.specs.Part.{started, turns, abandoned}
 use Rattle.cc_run.specs.Planned.{Asked, asked}
 use Rattle.cc_run.specs.declared.planned.Shows.{Shows}
-use Rattle.cc_build.specs.Attempts.{attempts, to_attempt}
+use Rattle.cc_build.specs.Attempts.{attempts, FirstOf}
 use Rattle.cc_build.specs.Build.{BuildSeen}
 use Rattle.cc_build.specs.Built.{Built}
 use Rattle.cc_build.specs.Children.{has_failure}
@@ -47,9 +47,9 @@ RunEnds b listens output result look part c = (way : Way) × (Hears listens way.
 abbrev pub IsBuilt : {T : Type 0} → BuildSeen → Bool → List ℕ → Result T ErrorSeen → Look → List Event → Course → Type 0
 IsBuilt b listens output result look part c = OnOk result (Built (terms_for b listens c) b.config b.env look output part)
 
--- The commands of the part, those that are missing among them, are the first of these: one attempt for each, and no other command.
+-- the commands of the part are the first of those of these stages
 abbrev pub AreFirst : List Stage → List Event → Type 0
-AreFirst stages part = (rest : List (Role × CommandSeen)) × (map to_attempt (commands_in stages) ≡ attempts part ++ rest)
+AreFirst stages part = FirstOf (commands_in stages) part
 
 abbrev pub is_compile_role : Role → Bool
 is_compile_role Compile = true

@@ -1,5 +1,5 @@
 -- The lines of the variables that a call read, which it prints as its last act.
-use Rattle.std.specs.Prelude.{◌≡◌, List, [], ◌++◌, Bool, true, false, Option, None, Result, is_some, if◌then◌else◌}
+use Rattle.std.specs.Prelude.{◌≡◌, ℕ, List, [], ◌++◌, Bool, true, false, Option, None, Result, is_some, if◌then◌else◌}
 use Rattle.cc_env.specs.Env.{EnvSeen}
 use Rattle.cc_host.specs.Part.{Step}
 use Rattle.cc_host.specs.Question.{Look}
@@ -34,9 +34,17 @@ ranlib_reads = record { disabled = false; debug = false; compiler = false; assem
 abbrev pub expand_reads : Reads
 expand_reads = record { disabled = true; debug = true; compiler = true; assembler = false; flag = false; archiver = false; ranlib = false; links = false }
 
--- a line is printed for each variable that such a call reads, and that no other told of where lines are printed once
+-- a line is printed for each of these variables that no other call told of where lines are printed once
+abbrev pub line_steps : List (List ℕ) → Firsts → List Step
+line_steps names firsts = prints Rerun (rerun_lines (chosen firsts.names names))
+
+-- those lines were printed, or the error has its cause
+abbrev pub LinesTold : {T : Type 0} → BuildConfig → List (List ℕ) → Result T ErrorSeen → List Event → Type 0
+LinesTold set names result part = (firsts : Firsts) × (Repeats set firsts × Outcome None (line_steps names firsts) part result)
+
+-- those of the variables that such a call reads
 abbrev pub name_steps : Reads → BuildConfig → EnvSeen → Firsts → Look → List Step
-name_steps reads set env firsts look = prints Rerun (rerun_lines (chosen firsts.names (rerun_names reads set env look)))
+name_steps reads set env firsts look = line_steps (rerun_names reads set env look) firsts
 
 -- those lines were printed, or the error has its cause
 abbrev pub NamesTold : {T : Type 0} → Reads → BuildConfig → EnvSeen → Result T ErrorSeen → Look → List Event → Type 0

@@ -4,7 +4,7 @@ ghost use Rattle.cc_host.specs.Call.{part};
 ghost use Rattle.cc_flags.specs.Given.{probe_folder};
 ghost use Rattle.cc_flags.specs.Names.{library_name};
 ghost use Rattle.cc_plan.specs.Plan.{objects_of, library_of};
-ghost use Rattle.cc_build.specs.Archiving.{archive_reads as reads_of, with_objects, unarchived_error, Creates};
+ghost use Rattle.cc_build.specs.Archiving.{archive_reads as reads_of, with_objects, unarchived_error, ArchivesFirst, Creates};
 ghost use Rattle.cc_build.specs.Build.{AsksByRun};
 ghost use Rattle.cc_build.specs.Course.{ByPart};
 ghost use Rattle.cc_build.specs.Error.{no_memory};
@@ -140,6 +140,8 @@ impl<W: World> Build<W> {
         ensures outcome { ByPart H.log host.old host.new
             (Creates (with_objects self.now objects.now) (H.listens host.old)
             (H.patience host.old) turns output.now result) }
+        ensures prefix { ByPart H.log host.old host.new
+            (ArchivesFirst (with_objects self.now objects.now) output.now) }
         ensures settled { NothingRuns (part H.log host.old host.new) }
         ensures faults_last { FaultsEnd (part H.log host.old host.new) }
     {

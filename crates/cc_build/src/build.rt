@@ -1,5 +1,5 @@
 // A build: its settings and its environment, and the compile run.
-ghost use Rattle.std.specs.Prelude.{◌≡◌, ◌++◌, ◌⊎◌, [], Some, None, false, IfOk, IfErr, OnOk, OnErr};
+ghost use Rattle.std.specs.Prelude.{◌≡◌, ◌++◌, [], false, IfOk, IfErr, OnOk, OnErr};
 ghost use Rattle.std.specs.List.{list_any};
 ghost use Rattle.cc_host.specs.Call.{part, ByAnswers};
 ghost use Rattle.cc_plan.specs.Asking.{is_of_children};
@@ -9,19 +9,18 @@ ghost use Rattle.cc_build.specs.Captured.{Captures, CaptureEnds};
 ghost use Rattle.cc_build.specs.Compiler.{IsTool, CompilerEnds};
 ghost use Rattle.cc_build.specs.Course.{ByPart, ByRun};
 ghost use Rattle.cc_build.specs.Error.{no_memory};
-ghost use Rattle.cc_build.specs.Flags.{always, flags_error};
+ghost use Rattle.cc_build.specs.Flags.{always, FlagsEnd};
 ghost use Rattle.cc_build.specs.Planning.{PlanningEnds};
 ghost use Rattle.cc_build.specs.Shows.{shows_of};
 ghost use Rattle.cc_build.specs.Tools.{AsksForArchiver, AsksForRanlib, IsArchiver, IsRanlib, ArchiverEnds, RanlibEnds};
-ghost use Rattle.cc_build.specs.Intermediates.{AreCompiled, IntermediateEnds};
+ghost use Rattle.cc_build.specs.Intermediates.{AreCompiled, CompilesFirst, IntermediateEnds};
 ghost use Rattle.cc_plan.specs.Archive.{paths_of};
 ghost use Rattle.cc_plan.specs.Plan.{objects_of};
 ghost use Rattle.cc_build.specs.Promises.{IsBuilt, Promises, NothingRuns, FaultsEnd};
 
 use crate::compiler::told_compiler;
-use crate::environment::flags_of_variable;
+use crate::environment::told_flags;
 use crate::goal::Goal;
-use crate::lists::always;
 use crate::reporting::Reporting;
 use crate::run::list_vars;
 use crate::shows::shows_of;
@@ -161,31 +160,31 @@ impl<W: World> Build<W> {
 
     /// Adds the words of a variable, as `MY_CFLAGS`, last to the flags that are always given: those of each of its names for this target
     /// and host that is set, the most general name first (`MY_CFLAGS`, `TARGET_MY_CFLAGS` or `HOST_MY_CFLAGS`, `MY_CFLAGS_<target>`).
-    /// Blanks part words, or a shell's rules where `shell_escaped_flags` holds. They are read off the captured variables; the host is
-    /// asked nothing.
+    /// Blanks part words, or a shell's rules where `shell_escaped_flags` holds. They are read off the captured variables; then the lines
+    /// of these variables are printed, where they are wanted, and the host is asked nothing.
     ///
-    /// Refused with EnvVarNotFound where the target or the host is set nowhere, or none of the names is set, and for memory; the build is
-    /// as before.
+    /// Refused with EnvVarNotFound where the target or the host is set nowhere, or none of the names is set; where a line couldn't be
+    /// printed; and for memory. The build is as before.
     pub fn try_flags_from_environment<H: Host<W>>(
         &mut self,
+        rt: &impl Wait,
         host: &mut H,
         environ_key: &str,
     ) -> Result<(), Error>
-        ensures quiet { H.log host.new ≡ H.log host.old }
+        ensures patient { H.patience host.new ≡ H.patience host.old }
+        ensures extends { H.log host.new ≡ H.log host.old ++ part H.log host.old host.new }
+        ensures asks_none { question_events (part H.log host.old host.new) ≡ [] }
+        ensures childless { list_any is_of_children (part H.log host.old host.new) ≡ false }
         ensures ok { OnOk result (Sets self.old self.new (λ c. record c {
           flags = c.flags ++ always (flags_in self.old environ_key.now);
         })) }
-        ensures allowed { OnOk result
-            (flags_error self.old.config self.old.env environ_key.now ≡ None) }
         ensures err { OnErr result (self.new ≡ self.old) }
-        ensures refused { IfErr result (λ e. (e ≡ no_memory)
-            ⊎ (flags_error self.old.config self.old.env environ_key.now ≡ Some e)) }
+        ensures outcome { FlagsEnd self.old environ_key.now result
+            (part H.log host.old host.new) }
     {
-        // (the flags are read off the snapshot, and nothing is asked of the host)
-        let _ = host.log();
-        let words = flags_of_variable(self.alloc, &self.config, &self.env, environ_key)?;
-        let flags = always(self.alloc, &words)?;
-        self.config.flags.append(flags)?;
+        let task = self.task(host.listens());
+        let flags = told_flags(rt, &task, &self.caches, host, environ_key)?;
+        self.config.flags = flags;
         Ok(())
     }
 
@@ -302,6 +301,7 @@ impl<W: World> Build<W> {
         ensures outcome { ByRun H.log H.patience J.total J.faults J.taken J.load turns
             host.old host.new seat.old seat.new
             (IntermediateEnds self.now (H.listens host.old) result) }
+        ensures prefix { ByPart H.log host.old host.new (CompilesFirst self.now) }
         ensures settled { NothingRuns (part H.log host.old host.new) }
         ensures faults_last { FaultsEnd (part H.log host.old host.new) }
     {

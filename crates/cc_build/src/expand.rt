@@ -196,6 +196,7 @@ impl<W: World> Build<W> {
         ensures childless { list_any is_of_children (part H.log host.old host.new) ≡ false }
         ensures outcome { ByPart H.log host.old host.new
             (spec.ExpandedEnds self.now (H.listens host.old) result) }
+        ensures prefix { ByPart H.log host.old host.new (spec.ExpandsFirst self.now) }
         ensures faults_last { FaultsEnd (part H.log host.old host.new) }
     {
         told_expand(rt, &self.task(host.listens()), &self.caches, host)

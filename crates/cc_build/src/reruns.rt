@@ -7,10 +7,10 @@ ghost use Rattle.cc_plan.specs.Asking.{is_of_children};
 ghost use Rattle.cc_flags.specs.Given.{probe_folder};
 ghost use Rattle.cc_plan.specs.Reruns.{rerun_names};
 ghost use Rattle.cc_run.specs.Keeping.{IsIdle};
-ghost use Rattle.cc_build.specs.Kept.{AsksFor, AsksForNames};
+ghost use Rattle.cc_build.specs.Kept.{Aside, AsksFor, AsksForNames};
 ghost use Rattle.cc_build.specs.Phases.{ByKnown, NamesEnd};
 ghost use Rattle.cc_build.specs.Questions.{AsksOnly};
-ghost use Rattle.cc_build.specs.Told.{NamesTold};
+ghost use Rattle.cc_build.specs.Told.{LinesTold, NamesTold};
 
 use crate::Error;
 use crate::directives::{first_stages, names_alone};
@@ -57,7 +57,28 @@ pub(crate) fn read_names<W: World, H: Host<W>>(
     )
 }
 
-/// The same, and prints their lines, as the last act of a call that runs no command beside others.
+/// Prints the lines of these variables, as the last act of a call that runs no command beside others.
+#[tactic(auto, using(crate::proofs::Keeping::aside_none))]
+pub(crate) fn tell_names<W: World, H: Host<W>>(
+    rt: &impl Wait,
+    task: &Task<'_>,
+    caches: &Caches<W>,
+    host: &mut H,
+    names: Words,
+) -> Result<(), Error>
+    ensures aside { Aside H.log H.patience host.old host.new }
+    ensures childless { list_any is_of_children (part H.log host.old host.new) ≡ false }
+    ensures told { LinesTold task.now.set.now names result (part H.log host.old host.new) }
+{
+    let (alloc, reporting) = (task.reporting.alloc, task.reporting);
+    let lines = names_alone(alloc, names);
+    let stages = first_stages(rt, alloc, caches, task.set, reporting.shows.listens, &lines)?;
+    let (jobs, mut seat) = OneCaller::new(1);
+    let mut turns = Turns { left: 0, used: 0 };
+    do_stages(reporting, host, &jobs, &mut seat, &mut turns, &stages)
+}
+
+/// Plans the names of the variables that the call read, and prints their lines, as the last act of a call that runs no command beside others.
 #[tactic(auto, using(cc_host::proofs::Parts::since_append))]
 pub(crate) fn tell<W: World, H: Host<W>>(
     rt: &impl Wait,
@@ -73,13 +94,8 @@ pub(crate) fn tell<W: World, H: Host<W>>(
     ensures told { Holds answers.new (λ look. NamesTold reads task.now.set.now task.now.env.now
         result look (part H.log host.old host.new)) }
 {
-    let (alloc, reporting) = (task.reporting.alloc, task.reporting);
     let names = read_names(rt, task, caches, reads, host, answers)?;
-    let lines = names_alone(alloc, names);
-    let stages = first_stages(rt, alloc, caches, task.set, reporting.shows.listens, &lines)?;
-    let (jobs, mut seat) = OneCaller::new(1);
-    let mut turns = Turns { left: 0, used: 0 };
-    do_stages(reporting, host, &jobs, &mut seat, &mut turns, &stages)
+    tell_names(rt, task, caches, host, names)
 }
 
 /// Asks what the names of the variables that the call read are planned by, and prints their lines, and no link line.

@@ -1,5 +1,5 @@
 -- The entries of a database: what a log has of the sources that were compiled.
-use Rattle.std.proofs.Common.{◌≡◌, ◌⊎◌, inl, inr, ℕ, zero, suc, ◌+◌, ◌-◌, ◌<◌, List, [], ◌∷◌, ◌++◌, length, map, drop, get_or, replicate, Bool, true, false, Option, Some, None, is_some, if◌then◌else◌, refl, sym, ◌∙◌, ap, ap₂, add-one, append_assoc, append-nil, arith}
+use Rattle.std.proofs.Common.{◌≡◌, ◌⊎◌, inl, inr, ℕ, zero, suc, ◌+◌, ◌-◌, ◌<◌, List, [], ◌∷◌, ◌++◌, length, map, drop, get_or, replicate, Bool, true, false, Option, Some, None, is_some, if◌then◌else◌, refl, sym, ◌∙◌, ap, ap₂, subst, add-one, append_assoc, append-nil, arith}
 use Rattle.std.specs.List.{flat_map, slice_get}
 use Rattle.std.proofs.Math.Seq.{drop-append_seam}
 use Rattle.std.proofs.lemmas.Grind.{flat_map-append}
@@ -29,9 +29,10 @@ use Rattle.cc_build.specs.Error.{ErrorSeen, no_memory}
 use Rattle.cc_build.specs.Stage.{planned, written_children, link_stages, library_commands, ending_steps}
 use Rattle.cc_build.specs.Stage.Stage.{Asks}
 use Rattle.cc_build.specs.Stage.{children_in}
+use Rattle.cc_build.specs.Stop.{fault_error, host_error}
 use Rattle.cc_build.specs.Went.{Terms}
 use Rattle.cc_build.proofs.RunLaws.{children_calls, went_started}
-use Rattle.cc_command.specs.Database.{Faults, call_error, optional, compile_start, compile_starts, entry_of, entries_by, entries_of, last_of, logged_entries}
+use Rattle.cc_command.specs.Database.{Faults, optional, compile_start, compile_starts, entry_of, entries_by, entries_of, last_of, logged_entries}
 
 -- ---- the commands that were started to compile
 
@@ -190,7 +191,8 @@ entries_next here objects cmds i object old new all within is made so_far = by_c
 -- ---- a call of the host that was refused
 
 -- what it appended, and its error
-pub faulted : (call : HostCall) (subject : List ℕ) (error : HostError) (part : List Event) (e : ErrorSeen) (before now : ℕ) → part ≡ refused error → IsCaused call before now error → (e ≡ no_memory) ⊎ (e ≡ call_error call subject error) → Faults call subject part e
-faulted call subject (Faulted c why) part e before now one caused is = inr (why, (one ∙ ap (λ (x : HostCall). Fault x why ∷ []) caused.0, is))
+pub faulted : (call : HostCall) (subject : List ℕ) (error : HostError) (part : List Event) (e : ErrorSeen) (before now : ℕ) → part ≡ refused error → IsCaused call before now error → (e ≡ no_memory) ⊎ (e ≡ host_error error subject) → Faults call subject part e
+faulted call subject (Faulted c why) part e before now one caused is =
+    inr (why, (one ∙ ap (λ (x : HostCall). Fault x why ∷ []) caused.0, subst (λ (x : HostCall). (e ≡ no_memory) ⊎ (e ≡ fault_error x why subject)) caused.0 is))
 faulted call subject WantsMemory part e before now one caused (inl is) = inl (is, one)
 faulted call subject WantsMemory part e before now one caused (inr is) = inl (is, one)

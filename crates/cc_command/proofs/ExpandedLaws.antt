@@ -1,16 +1,15 @@
 -- What the program answers where it expands a source, and what follows from it.
-use Rattle.std.proofs.Common.{◌≡◌, ◌⊎◌, inl, inr, ◌∙◌, refl, sym, ap, subst, ℕ, List, [], ◌∷◌, ◌++◌, Bool, true, false, not, if◌then◌else◌, ◌||◌, ◌&&◌, Option, Some, None, Result, Ok, Err, append-nil, append_assoc}
-use Rattle.std.specs.List.{list_all, list_any}
-use Rattle.std.proofs.lemmas.Bool.{and_parts}
+use Rattle.std.proofs.Common.{◌≡◌, ◌⊎◌, inl, inr, ◌∙◌, refl, sym, ap, subst, ℕ, List, [], ◌∷◌, ◌++◌, Bool, true, false, not, if◌then◌else◌, ◌||◌, Option, Some, None, Result, Ok, Err, append-nil, append_assoc}
+use Rattle.std.specs.List.{list_any}
 use Rattle.std.proofs.lemmas.Grind.{flat_map-append}
-use Rattle.std.proofs.lemmas.List.Folds.{list_all-append, list_any-append}
-use Rattle.cc_host.specs.Part.{Step, step_of, stop_of, stops, done, left, StopsAt, IsPartly, IsWhole}
+use Rattle.std.proofs.lemmas.List.Folds.{list_any-append}
+use Rattle.cc_host.specs.Part.{Step, step_of, IsPartly, IsWhole}
 use Rattle.cc_host.specs.Part.Step.{Runs, Prints, Lists}
 use Rattle.cc_host.specs.Question.{Look, Agrees, answers, Holds}
 use Rattle.cc_host.specs.declared.event.Event.{Event}
-use Rattle.cc_host.specs.declared.event.Event.TheVariants.{Started, Missing, Ran, Fault, Printed, Removed, Wrote, Copied, Here, Said, Made, Listed}
+use Rattle.cc_host.specs.declared.event.Event.TheVariants.{Ran, Printed, Removed, Wrote, Copied, Here, Said, Made, Listed}
 use Rattle.cc_host.specs.declared.event.LineKind.{LineKind}
-use Rattle.cc_host.specs.declared.event.LineKind.TheVariants.{Rerun, Expanded as ExpandedLine}
+use Rattle.cc_host.specs.declared.event.LineKind.TheVariants.{Expanded as ExpandedLine}
 use Rattle.cc_host.specs.declared.event.Scope.TheVariants.{Build as Building, Probe as ForProbes}
 use Rattle.cc_host.specs.Status.{is_success}
 use Rattle.cc_host.specs.declared.question.Outcome.{Outcome as Verdicts}
@@ -18,9 +17,7 @@ use Rattle.cc_host.specs.declared.question.Question.{Question}
 use Rattle.cc_host.proofs.Parts.{partly_whole}
 use Rattle.cc_plan.specs.Asking.{is_of_children}
 use Rattle.cc_plan.specs.Questions.{PlanAsks}
-use Rattle.cc_plan.specs.Planned.{warnings_of}
 use Rattle.cc_flags.specs.Given.{first_of}
-use Rattle.cc_plan.specs.Reruns.{rerun_names}
 use Rattle.cc_run.specs.Part.{missing, missing_of}
 use Rattle.cc_run.specs.declared.planned.Planned.{Planned}
 use Rattle.cc_tool.proofs.Asides.{asked_around, asked_none, none_then}
@@ -32,17 +29,17 @@ use Rattle.cc_build.specs.Captured.{with_vars, Captures, CaptureEnds}
 use Rattle.cc_build.specs.Compiler.{tool_error, tool_steps}
 use Rattle.cc_build.specs.Course.{CallsEnd}
 use Rattle.cc_build.specs.Error.{ErrorSeen, no_memory}
-use Rattle.cc_build.specs.Expand.{unexpanded_error, RunsTool, ExpandEnds, ExpandsAndTells, ExpandedEnds}
+use Rattle.cc_build.specs.Expand.{unexpanded_error, RunsTool, ExpandEnds, ExpandedEnds}
 use Rattle.cc_build.specs.Failed.{HasFault, is_fault, ran_badly}
 use Rattle.cc_build.specs.Outcome.{Outcome, IsCausedBy}
 use Rattle.cc_build.specs.Promises.{NothingRuns, FaultsEnd}
 use Rattle.cc_build.specs.Shows.{shows_of}
-use Rattle.cc_build.specs.Stage.{rerun_lines}
 use Rattle.cc_build.specs.Told.{expand_reads, name_steps}
-use Rattle.cc_build.specs.Way.{Firsts, chosen}
+use Rattle.cc_build.specs.Way.{Firsts}
 use Rattle.cc_build.specs.Went.{terms, means}
-use Rattle.cc_build.proofs.ExpandFaults.{expanded_faultless, telling_partly, tells_faults}
-use Rattle.cc_build.proofs.ExpandLaws.{Shape, gives_shape, given_attempts, gives_none, shape_first}
+use Rattle.cc_build.proofs.ExpandFaults.{expanded_faultless, tells_faults}
+use Rattle.cc_build.proofs.ExpandFirst.{both_childless, partly_untried, sole_none, sole_then, told_tool, asking_untried, told_names, telling_untried, tells_sole}
+use Rattle.cc_build.proofs.ExpandLaws.{given_attempts, gives_none}
 use Rattle.cc_build.proofs.FaultLaws.{partly_faults, unstopped, then_faults}
 use Rattle.cc_build.proofs.Looks.{agrees_parts}
 use Rattle.cc_command.specs.Answer.{AnswersError, ended_well, ended_wanting}
@@ -53,13 +50,10 @@ use Rattle.cc_command.specs.Shown.{listed_build}
 use Rattle.cc_command.specs.declared.ended.Ended.{Ended}
 use Rattle.cc_command.proofs.ArchivedLaws.{says_last, says_line}
 use Rattle.cc_command.proofs.PromiseLaws.{faults_behind, known_memory}
-use Rattle.cc_build.proofs.PrintedLaws.{IsChildless, is_told, told_printed, told_warned, told_refused, or_false, neither, childless_then, calls_outcome}
+use Rattle.cc_build.proofs.PrintedLaws.{IsChildless, or_false, childless_then, calls_outcome}
 use Rattle.cc_command.proofs.ShownLaws.{childless_line, childless_settled, outcome_partly, stopped_fault}
 
--- ---- parts in which no command is attempted
-
-all_behind : {X : Type 0} (f : X → Bool) (a b : List X) → list_all f (a ++ b) ≡ true → list_all f b ≡ true
-all_behind f a b h = (and_parts (list_all f a) (list_all f b) (sym (list_all-append f a b) ∙ h)).1
+-- ---- what is behind another part
 
 none_behind : {X : Type 0} (a b : List X) → a ++ b ≡ [] → b ≡ []
 none_behind [] b h = h
@@ -71,53 +65,6 @@ any_behind f a b h = list_any-append f a b ∙ by_front (list_any f a) (list_any
     by_front : (x y : Bool) → y ≡ true → (x || y) ≡ true
     by_front true y k = refl
     by_front false y k = k
-
-both_childless : (a b part : List Event) → part ≡ a ++ b → IsChildless part → IsChildless a × IsChildless b
-both_childless a b part cut h = neither (list_any is_of_children a) (list_any is_of_children b) (sym (list_any-append is_of_children a b) ∙ sym (ap (list_any is_of_children) cut) ∙ h)
-
-abbrev is_faulted : Event → Bool
-is_faulted (Fault call why) = true
-is_faulted _ = false
-
--- lines and a listing were done, and nothing but a fault ended it
-untried : (part : List Event) → list_all is_told (done part) ≡ true → list_all is_faulted (stops part) ≡ true → IsChildless part → attempts part ≡ []
-untried [] told ended none = refl
-untried (Started id role cmd pipes held ∷ part) told ended none = absurd (cc)
-untried (Missing role cmd ∷ part) told ended none = absurd (cc)
-untried (Ran role cmd pipes status out err ∷ part) told ended none = absurd (by_status (is_success status) told ended)
-  where
-    by_status : (b : Bool) → list_all is_told ((if b then Runs role cmd ∷ [] else []) ++ done part) ≡ true → list_all is_faulted ((if b then [] else Ran role cmd pipes status out err ∷ []) ++ stops part) ≡ true → ⊥
-    by_status true d s = cc
-    by_status false d s = cc
-untried (event ∷ part) told ended none =
-    untried part (all_behind is_told (step_of event) (done part) told) (all_behind is_faulted (stop_of event) (stops part) ended) (neither (is_of_children event) (list_any is_of_children part) none).1
-
-module _ (steps : List Step) (told : list_all is_told steps ≡ true) (part : List Event) where
-  partly_untried : IsPartly steps part → IsChildless part → attempts part ≡ []
-  partly_untried p none = untried part both.0 (by_left (left steps part) (stops part) both.1 p.stop) none
-    where
-      both : (list_all is_told (done part) ≡ true) × (list_all is_told (left steps part) ≡ true)
-      both = and_parts (list_all is_told (done part)) (list_all is_told (left steps part)) (sym (list_all-append is_told (done part) (left steps part)) ∙ sym (ap (list_all is_told) p.begun) ∙ told)
-
-      by_left : (rest : List Step) (events : List Event) → list_all is_told rest ≡ true → StopsAt rest events → list_all is_faulted events ≡ true
-      by_left rest [] all stop = refl
-      by_left [] (event ∷ events) all stop = absurd stop
-      by_left (step ∷ rest) (event ∷ []) all stop = ap (λ e. is_faulted e && true) (told_refused step event (and_parts (is_told step) (list_all is_told rest) all).0 stop).2.0
-      by_left (step ∷ rest) (event ∷ other ∷ events) all stop = absurd stop
-
-  whole_untried : IsWhole steps part → IsChildless part → attempts part ≡ []
-  whole_untried w none = partly_untried (partly_whole steps part w) none
-
--- ---- one command
-
-sole_none : (p : Planned) (part : List Event) → attempts part ≡ [] → IsSole p part
-sole_none p part none = (to_attempt p ∷ [], ap (λ l. l ++ to_attempt p ∷ []) (sym none))
-
-sole_behind : (p : Planned) (a b : List Event) → attempts a ≡ [] → IsSole p b → IsSole p (a ++ b)
-sole_behind p a b none s = (s.0, s.1 ∙ ap (λ l. l ++ s.0) (sym (flat_map-append attempt_of a b ∙ ap (λ l. l ++ attempts b) none)))
-
-sole_then : (p : Planned) (a b : List Event) → IsSole p a → attempts b ≡ [] → IsSole p (a ++ b)
-sole_then p a b s none = (s.0, s.1 ∙ ap (λ l. l ++ s.0) (sym (flat_map-append attempt_of a b ∙ ap (λ l. attempts a ++ l) none ∙ append-nil (attempts a))))
 
 first_none : {X : Type 0} (a b : Option X) → first_of a b ≡ None → (a ≡ None) × (b ≡ None)
 first_none None b h = (refl, h)
@@ -147,25 +94,6 @@ module _ (listens : Bool) (b : BuildSeen) (look : Look) where
   abbrev p : Planned
   p = expansion_in b look
 
-  told_tool : (warns_of_link : Bool) → list_all is_told (tool_steps b.config b.env listens warns_of_link look) ≡ true
-  told_tool warns_of_link = told_warned b.config listens (warnings_of b.config b.env warns_of_link look)
-
-  module _ (r : Result (List ℕ) ErrorSeen) (part : List Event) (h : RunsTool b listens r look part) where
-    shape : Shape p h.run
-    shape = gives_shape (shows_of b.config b.env listens) p (ignored_in b look) h.run r h.gives
-
-    asking_untried : IsChildless part → attempts h.asking ≡ []
-    asking_untried none = whole_untried (tool_steps b.config b.env listens h.found.0 look) (told_tool h.found.0) h.asking h.found.1.1 (both_childless h.asking h.run part h.cut none).0
-
-    runs_sole : IsChildless part → IsSole p part
-    runs_sole none = subst (IsSole p) (sym h.cut) (sole_behind p h.asking h.run (asking_untried none) (shape_first p h.run shape))
-
-  expand_sole : (r : Result (List ℕ) ErrorSeen) (part : List Event) → ExpandEnds b listens r look part → IsChildless part → IsSole p part
-  expand_sole (Ok output) part h none = runs_sole (Ok output) part h.1 none
-  expand_sole (Err e) part (inl unasked) none = sole_none p part (ap attempts unasked.0)
-  expand_sole (Err e) part (inr (fine, inl lacks)) none = sole_none p part (partly_untried (tool_steps b.config b.env listens lacks.0 look) (told_tool lacks.0) part lacks.1.0 none)
-  expand_sole (Err e) part (inr (fine, inr ran)) none = runs_sole (Err e) part ran none
-
   -- where nothing is refused: memory was wanted, or a call of the host failed, or the command did
   abbrev IsKnown : ErrorSeen → List Event → Type 0
   IsKnown e part = (e ≡ no_memory) ⊎ (HasFault part ⊎ IsFailed part)
@@ -191,28 +119,13 @@ module _ (listens : Bool) (b : BuildSeen) (look : Look) where
         by_cause : IsCausedBy (tool_error b.config b.env look) (tool_steps b.config b.env listens lacks.0 look) part e → IsKnown e part
         by_cause (inl memory) = inl memory
         by_cause (inr (inl refused)) = absurd (clash (tool_error b.config b.env look) e neither_refuses.1 refused)
-        by_cause (inr (inr stopped)) = inr (inl (stopped_fault (tool_error b.config b.env look) (tool_steps b.config b.env listens lacks.0 look) part e (told_tool lacks.0) lacks.1.0 stopped))
+        by_cause (inr (inr stopped)) = inr (inl (stopped_fault (tool_error b.config b.env look) (tool_steps b.config b.env listens lacks.0 look) part e (told_tool listens b look lacks.0) lacks.1.0 stopped))
     expand_known e part (inr (fine, inr ran)) = subst (IsKnown e) (sym ran.cut) (known_behind e ran.asking ran.run (gives_none (shows_of b.config b.env listens) p (ignored_in b look) ran.run e ran.gives))
 
   -- ---- and the variables told of that were read for it
 
   abbrev told_steps : Firsts → List Step
   told_steps firsts = name_steps expand_reads b.config b.env firsts look
-
-  told_names : (firsts : Firsts) → list_all is_told (told_steps firsts) ≡ true
-  told_names firsts = told_printed Rerun (rerun_lines (chosen firsts.names (rerun_names expand_reads b.config b.env look)))
-
-  module _ (output : List ℕ) (r : Result (List ℕ) ErrorSeen) (part : List Event) (h : ExpandsAndTells b listens output r look part) where
-    telling_untried : IsChildless part → attempts h.telling ≡ []
-    telling_untried none = partly_untried (told_steps h.told.0) (told_names h.told.0) h.telling (telling_partly listens b look output r part h) (both_childless h.expanding h.telling part h.cut none).1
-
-    telling_sole : IsChildless part → IsSole p part
-    telling_sole none = subst (IsSole p) (sym h.cut) (sole_then p h.expanding h.telling (expand_sole (Ok output) h.expanding h.expands (both_childless h.expanding h.telling part h.cut none).0) (telling_untried none))
-
-  tells_sole : (r : Result (List ℕ) ErrorSeen) (part : List Event) → ExpandedEnds b listens r look part → IsChildless part → IsSole p part
-  tells_sole (Ok output) part h none = telling_sole output (Ok output) part h none
-  tells_sole (Err e) part (inl h) none = expand_sole (Err e) part h none
-  tells_sole (Err e) part (inr h) none = telling_sole h.0 (Err e) part h.1 none
 
   tells_faultless : (output : List ℕ) (part : List Event) → ExpandedEnds b listens (Ok output) look part → list_any is_fault part ≡ false
   tells_faultless output part h =
@@ -226,7 +139,7 @@ module _ (listens : Bool) (b : BuildSeen) (look : Look) where
       by_cause : IsCausedBy None (told_steps h.1.told.0) h.1.telling e → IsKnown e h.1.telling
       by_cause (inl memory) = inl memory
       by_cause (inr (inl refused)) = absurd (let two : None ≡ Some e = refused in cc)
-      by_cause (inr (inr stopped)) = inr (inl (stopped_fault None (told_steps h.1.told.0) h.1.telling e (told_names h.1.told.0) h.1.told.1.1.0 stopped))
+      by_cause (inr (inr stopped)) = inr (inl (stopped_fault None (told_steps h.1.told.0) h.1.telling e (told_names listens b look h.1.told.0) h.1.told.1.1.0 stopped))
 
   -- ---- and its output printed
 
@@ -244,7 +157,7 @@ module _ (listens : Bool) (b : BuildSeen) (look : Look) where
     printed_faults = subst FaultsEnd (sym k.cut) (then_faults k.run k.printed (tells_faultless k.output k.run k.expands) (partly_faults (line_steps k.output) k.printed line_partly))
 
     printed_sole : IsChildless part → IsSole p part
-    printed_sole none = subst (IsSole p) (sym k.cut) (sole_then p k.run k.printed (tells_sole (Ok k.output) k.run k.expands (both_childless k.run k.printed part k.cut none).0) (partly_untried (line_steps k.output) refl k.printed line_partly line_ends.1))
+    printed_sole none = subst (IsSole p) (sym k.cut) (sole_then p k.run k.printed (tells_sole listens b look (Ok k.output) k.run k.expands (both_childless k.run k.printed part k.cut none).0) (partly_untried (line_steps k.output) refl k.printed line_partly line_ends.1))
 
   source_faults : (r : Result (Unit {0}) ErrorSeen) (part : List Event) → ExpandsSource listens b r look part → FaultsEnd part
   source_faults (Ok v) part k = printed_faults (Ok v) part k
@@ -253,7 +166,7 @@ module _ (listens : Bool) (b : BuildSeen) (look : Look) where
 
   source_sole : (r : Result (Unit {0}) ErrorSeen) (part : List Event) → ExpandsSource listens b r look part → IsChildless part → IsSole p part
   source_sole (Ok v) part k none = printed_sole (Ok v) part k none
-  source_sole (Err e) part (inl h) none = tells_sole (Err e) part h none
+  source_sole (Err e) part (inl h) none = tells_sole listens b look (Err e) part h none
   source_sole (Err e) part (inr k) none = printed_sole (Err e) part k none
 
   source_known : expand_error b look ≡ None → (e : ErrorSeen) (part : List Event) → ExpandsSource listens b (Err e) look part → IsKnown e part

@@ -1,5 +1,5 @@
 -- Lines that are printed as answers of the program, one after another.
-use Rattle.std.proofs.Common.{◌≡◌, ◌⊎◌, inl, inr, ◌∙◌, refl, sym, ap, subst, ℕ, suc, ◌+◌, ◌<◌, ◌≤◌, List, [], ◌∷◌, ◌++◌, length, take, drop, get_or, None, Result, Ok, Err, add-one, append-nil, take_all}
+use Rattle.std.proofs.Common.{◌≡◌, ◌⊎◌, ◌∙◌, refl, sym, ap, subst, ℕ, suc, ◌+◌, ◌<◌, ◌≤◌, List, [], ◌∷◌, ◌++◌, length, take, drop, get_or, None, Result, Ok, Err, add-one, append-nil, take_all}
 use Rattle.std.proofs.lemmas.Grind.{take_at_read}
 use Rattle.std.proofs.lemmas.List.{map-append, take-append-drop}
 use Rattle.std.proofs.Math.Seq.{drop-cons}
@@ -9,7 +9,6 @@ use Rattle.cc_host.specs.Part.Step.{Prints}
 use Rattle.cc_host.specs.declared.event.Event.{Event}
 use Rattle.cc_host.specs.declared.event.HostCall.TheVariants.{Print}
 use Rattle.cc_host.specs.declared.event.HostError.{HostError}
-use Rattle.cc_host.specs.declared.event.HostError.TheVariants.{Fault as Faulted, NoMemory as WantsMemory}
 use Rattle.cc_host.specs.declared.event.LineKind.{LineKind}
 use Rattle.cc_host.specs.declared.event.LineKind.TheVariants.{Shown}
 use Rattle.cc_host.proofs.Parts.{since_since}
@@ -17,10 +16,10 @@ use Rattle.cc_build.specs.Course.{CallsEnd}
 use Rattle.cc_build.specs.Error.{ErrorSeen, no_memory}
 use Rattle.cc_build.specs.Stage.{Stage, calls}
 use Rattle.cc_build.specs.Stage.Stage.{Calls}
-use Rattle.cc_build.specs.Stop.{fault_error, host_error}
+use Rattle.cc_build.specs.Stop.{host_error}
 use Rattle.cc_build.specs.Went.{Terms, Means, Went, Halted}
 use Rattle.cc_build.proofs.Going.{went_then, halted_more, halted_then, halted_none, refused_call, fault_of, part_is}
-use Rattle.cc_command.specs.Lines.{shows, print_error}
+use Rattle.cc_command.specs.Lines.{shows}
 use Rattle.cc_command.specs.Summary.{log_lines, SumsUp}
 
 -- these lines were printed, whatever the terms and the means
@@ -28,14 +27,9 @@ abbrev pub ShownSo : List (List ℕ) → List Event → Type 0
 ShownSo lines part = (t : Terms) (x : Means) → Went t (calls (shows lines)) part x x
 
 -- the host refused a line
-as_host : (before now : ℕ) (error : HostError) (e : ErrorSeen) → IsCaused Print before now error → (e ≡ no_memory) ⊎ (e ≡ print_error error) → (e ≡ no_memory) ⊎ (e ≡ host_error error [])
-as_host before now error e caused (inl memory) = inl memory
-as_host before now (Faulted call why) e caused (inr is) = inr (is ∙ ap (λ c. fault_error c why []) (sym caused.0))
-as_host before now WantsMemory e caused (inr is) = inr is
-
-pub unshown : (t : Terms) (kind : LineKind) (line : List ℕ) (error : HostError) (part : List Event) (e : ErrorSeen) (before now : ℕ) (x : Means) → part ≡ refused error → IsCaused Print before now error → (e ≡ no_memory) ⊎ (e ≡ print_error error) → Halted t None (Calls (Prints kind line) ∷ []) part e x x
+pub unshown : (t : Terms) (kind : LineKind) (line : List ℕ) (error : HostError) (part : List Event) (e : ErrorSeen) (before now : ℕ) (x : Means) → part ≡ refused error → IsCaused Print before now error → (e ≡ no_memory) ⊎ (e ≡ host_error error []) → Halted t None (Calls (Prints kind line) ∷ []) part e x x
 unshown t kind line error part e before now x one caused is =
-    refused_call t (Prints kind line) error [] part e x one (fault_of (Prints kind line) Print before now error (λ _ _ same. same) caused) (λ _ _. refl) (as_host before now error e caused is)
+    refused_call t (Prints kind line) error [] part e x one (fault_of (Prints kind line) Print before now error (λ _ _ same. same) caused) (λ _ _. refl) is
 
 stages_of : (a b : List (List ℕ)) → calls (shows (a ++ b)) ≡ calls (shows a) ++ calls (shows b)
 stages_of a b = ap calls (map-append (Prints Shown) a b) ∙ map-append Calls (shows a) (shows b)

@@ -1,5 +1,5 @@
 -- Sources of a request that are compiled beside each other: where in the part they are, and what a failed one stops.
-use Rattle.std.proofs.Common.{◌≡◌, ◌⊎◌, inl, inr, ℕ, List, [], ◌++◌, length, take, Option, sym, ◌∙◌, ap, subst, append_assoc, append-nil, Bool, false}
+use Rattle.std.proofs.Common.{◌≡◌, ◌⊎◌, inl, inr, ℕ, List, [], ◌∷◌, ◌++◌, length, take, Option, refl, sym, ◌∙◌, ap, subst, append_assoc, append-nil, Bool, true, false, if◌then◌else◌}
 use Rattle.std.specs.Prelude.{◌≤◌}
 use Rattle.std.specs.List.{list_any}
 use Rattle.std.proofs.lemmas.Grind.{flat_map-append}
@@ -8,6 +8,9 @@ use Rattle.cc_flags.specs.declared.settings.BuildConfig.{BuildConfig}
 use Rattle.cc_host.specs.Part.Step.{Lists}
 use Rattle.cc_host.specs.Question.{Look}
 use Rattle.cc_host.specs.declared.event.Event.{Event}
+use Rattle.cc_host.specs.declared.event.Event.TheVariants.{Printed, Fault}
+use Rattle.cc_host.specs.declared.event.HostCall.TheVariants.{Print}
+use Rattle.cc_host.specs.declared.event.LineKind.TheVariants.{Fault as FaultLine}
 use Rattle.cc_host.specs.declared.event.Role.TheVariants.{Compile}
 use Rattle.cc_plan.specs.Plan.{compiles_of}
 use Rattle.cc_run.specs.Part.{started, started_of, abandoned, abandoned_of}
@@ -17,7 +20,7 @@ use Rattle.cc_build.specs.Attempts.{attempt_of, attempts}
 use Rattle.cc_build.specs.Captured.{with_vars}
 use Rattle.cc_build.specs.Course.{Course}
 use Rattle.cc_build.specs.Error.{ErrorSeen}
-use Rattle.cc_build.specs.Failed.{HasFault, is_fault}
+use Rattle.cc_build.specs.Failed.{HasFault}
 use Rattle.cc_build.specs.Promises.{is_compiling, RunBeside, AllStarted, StartsTill}
 use Rattle.cc_build.specs.Shows.{shows_of}
 use Rattle.cc_build.specs.Stage.{planned, planned_stages}
@@ -27,11 +30,11 @@ use Rattle.cc_build.proofs.BesideLaws.{AreQuiet, Shape, sources, source_count, s
 use Rattle.cc_build.proofs.FailedLaws.{never_ran, all_started, all_stopped}
 use Rattle.cc_build.proofs.SourceLaws.{asked_planned}
 use Rattle.cc_build.proofs.StopLaws.{ArePlain, planned_plain}
-use Rattle.cc_command.specs.Answer.{Answers, Refused, env_in, terms_in, repeating, stages_of, error_of, error_line, ended_well, ended_refused, ended_wanting}
-use Rattle.cc_command.specs.Promises.{Begun, IsLine, IsBeside, StartsAll, StopsAtFailure}
+use Rattle.cc_command.specs.Answer.{PrintsLine, Answers, Refused, env_in, terms_in, repeating, stages_of, error_of, error_line, ended_well, ended_refused, ended_wanting}
+use Rattle.cc_command.specs.Promises.{Begun, IsLine, IsBeside, is_own_line, before_line, StartsAll, StopsAtFailure}
 use Rattle.cc_command.specs.Read.{Request}
 use Rattle.cc_command.specs.declared.ended.Ended.{Ended}
-use Rattle.cc_command.proofs.PromiseLaws.{begun_of, line_of, heard_same, any_before, failure_same, same_error}
+use Rattle.cc_command.proofs.PromiseLaws.{begun_of, line_of, heard_same, failure_same, same_error}
 
 -- ---- one stretch of the part
 
@@ -67,6 +70,17 @@ beside_of listens look q part c b many =
 pub beside : (listens : Bool) (look : Look) (q : Request) (part : List Event) (ended : Ended) (c : Course) → Answers listens look q part ended c → IsBeside q part c
 beside listens look q part ended c a = beside_of listens look q part c (begun_of listens look q part ended c a)
 
+-- ---- the part without its own last line
+
+last_left : (run : List Event) (event : Event) → is_own_line event ≡ true → before_line (run ++ event ∷ []) ≡ run
+last_left [] event is = ap (λ (b : Bool). if b then [] else event ∷ []) is
+last_left (first ∷ []) event is = ap (λ l. first ∷ l) (last_left [] event is)
+last_left (first ∷ next ∷ run) event is = ap (λ l. first ∷ l) (last_left (next ∷ run) event is)
+
+behind_line : (run line : List Event) (text : List ℕ) → PrintsLine text line → before_line (run ++ line) ≡ run
+behind_line run line text (inl printed) = ap (λ l. before_line (run ++ l)) printed ∙ last_left run (Printed FaultLine text) refl
+behind_line run line text (inr faulted) = ap (λ l. before_line (run ++ l)) faulted.1 ∙ last_left run (Fault Print faulted.0) refl
+
 -- ---- what a failed child stops
 
 no_start : (line : List Event) → IsLine line → started line ≡ []
@@ -87,7 +101,7 @@ module _ (part run line : List Event) (cut : part ≡ run ++ line) (printed : Is
   same_left : abandoned part ≡ abandoned run
   same_left = ap abandoned cut ∙ flat_map-append abandoned_of run line ∙ ap (λ l. abandoned run ++ l) (none_left line printed) ∙ append-nil (abandoned run)
 
-module _ (listens : Bool) (look : Look) (q : Request) (part : List Event) (ended : Ended) (c : Course) (r : Refused listens look q part ended c) (many : 2 ≤ length q.1.config.files) (badly : r.error.kind ≡ ToolExecError) (sound : HasFault part → ⊥) where
+module _ (listens : Bool) (look : Look) (q : Request) (part : List Event) (ended : Ended) (c : Course) (r : Refused listens look q part ended c) (many : 2 ≤ length q.1.config.files) (badly : r.error.kind ≡ ToolExecError) (sound : HasFault (before_line part) → ⊥) where
   abbrev set : BuildConfig
   set = q.1.config
 
@@ -104,7 +118,7 @@ module _ (listens : Bool) (look : Look) (q : Request) (part : List Event) (ended
   printed = line_of (error_line r.error) r.line r.printed
 
   sound_run : HasFault r.run → ⊥
-  sound_run fault = sound (ap (list_any is_fault) r.cut ∙ any_before is_fault r.run r.line fault)
+  sound_run fault = sound (subst HasFault (sym (ap before_line r.cut ∙ behind_line r.run r.line (error_line r.error) r.printed)) fault)
 
   plain : ArePlain (stages_of listens look q r.finds r.run)
   plain = (tt, planned_plain set env (repeating r.finds.here r.finds.writing) look q.0)

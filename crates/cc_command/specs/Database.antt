@@ -9,8 +9,6 @@ use Rattle.cc_host.specs.Script.{same_role}
 use Rattle.cc_host.specs.declared.event.Event.{Event}
 use Rattle.cc_host.specs.declared.event.Event.TheVariants.{Started, Fault}
 use Rattle.cc_host.specs.declared.event.HostCall.{HostCall}
-use Rattle.cc_host.specs.declared.event.HostError.{HostError}
-use Rattle.cc_host.specs.declared.event.HostError.TheVariants.{Fault as Faulted, NoMemory as WantsMemory}
 use Rattle.cc_host.specs.declared.event.Role.TheVariants.{Compile}
 use Rattle.cc_host.specs.declared.event.Why.{Why}
 use Rattle.cc_plan.specs.Plan.{compile_in, objects_of}
@@ -54,11 +52,6 @@ last_of n xs = drop (length xs - n) xs
 -- the entries of objects by a log whose last compile commands are theirs
 abbrev pub logged_entries : List ℕ → List Object → List Event → List CompileCommandSeen
 logged_entries here objects log = entries_by here objects (last_of (length objects) (compile_starts log))
-
--- the error of what the host answered in place of the end of this call about a subject
-abbrev pub call_error : HostCall → List ℕ → HostError → ErrorSeen
-call_error call subject (Faulted _ why) = fault_error call why subject
-call_error call subject WantsMemory = no_memory
 
 -- this call of the host faulted, and the error is about the subject; or memory was wanted
 abbrev pub Faults : HostCall → List ℕ → List Event → ErrorSeen → Type 0

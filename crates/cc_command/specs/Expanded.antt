@@ -1,7 +1,6 @@
 -- The job that expands a source: what the program does for it, and what it answers.
 use Rattle.std.specs.Prelude.{◌≡◌, ◌≢◌, ◌⊎◌, ℕ, List, [], ◌∷◌, ◌++◌, Bool, true, false, Option, None, Result, Ok, Err}
 use Rattle.std.specs.List.{list_any}
-use Rattle.cc_host.specs.Command.{CommandSeen}
 use Rattle.cc_host.specs.Part.{IsWhole}
 use Rattle.cc_host.specs.Part.Step.{Prints}
 use Rattle.cc_host.specs.Question.{Look, Agrees, answers}
@@ -10,7 +9,6 @@ use Rattle.cc_host.specs.declared.event.Event.{Event}
 use Rattle.cc_host.specs.declared.event.Event.TheVariants.{Listed, Printed}
 use Rattle.cc_host.specs.declared.event.LineKind.TheVariants.{Expanded as ExpandedLine}
 use Rattle.cc_host.specs.declared.event.OutputKind.TheVariants.{Capture}
-use Rattle.cc_host.specs.declared.event.Role.{Role}
 use Rattle.cc_host.specs.declared.event.Status.{Status}
 use Rattle.cc_host.specs.declared.question.Outcome.{Outcome as Verdicts}
 use Rattle.cc_host.specs.declared.question.Question.{Question}
@@ -20,7 +18,7 @@ use Rattle.cc_flags.specs.Given.{first_of}
 use Rattle.cc_run.specs.Output.{IsRanTo}
 use Rattle.cc_run.specs.Part.{missing}
 use Rattle.cc_run.specs.declared.planned.Planned.{Planned}
-use Rattle.cc_build.specs.Attempts.{attempts, to_attempt}
+use Rattle.cc_build.specs.Attempts.{attempts, to_attempt, FirstOf}
 use Rattle.cc_build.specs.Build.{BuildSeen, AsksByPlan}
 use Rattle.cc_build.specs.Captured.{with_vars, CaptureEnds}
 use Rattle.cc_build.specs.Compiler.{tool_error, tool_steps}
@@ -118,7 +116,7 @@ IsFailed part = (missing part ≢ []) ⊎ (list_any ran_badly part ≡ true)
 
 -- no command but this one was attempted, and this one no more than once
 abbrev pub IsSole : Planned → List Event → Type 0
-IsSole p part = (rest : List (Role × CommandSeen)) × (to_attempt p ∷ [] ≡ attempts part ++ rest)
+IsSole p part = FirstOf (p ∷ []) part
 
 -- What expanding a source promises of its answer and its part.
 pub record ExpandPromises (listens steady : Bool) (world : Question → Verdicts) (b : BuildSeen) (part : List Event) (ended : Ended) : Type 0 where

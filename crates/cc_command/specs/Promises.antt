@@ -1,5 +1,5 @@
 -- What follows from an answer, each in one sentence.
-use Rattle.std.specs.Prelude.{◌≡◌, ◌⊎◌, ◌≤◌, ◌*◌, ◌+◌, ℕ, List, [], ◌∷◌, ◌++◌, length, map, Option, Some, Bool, true, false, String}
+use Rattle.std.specs.Prelude.{◌≡◌, ◌⊎◌, ◌≤◌, ◌*◌, ◌+◌, ℕ, List, [], ◌∷◌, ◌++◌, length, map, Option, Some, Bool, true, false, if◌then◌else◌, String}
 use Rattle.cc_host.specs.Question.{Look}
 use Rattle.cc_host.specs.Part.{is_probing}
 use Rattle.cc_host.specs.Part.Step.{Lists}
@@ -55,6 +55,18 @@ IsLine line =
     ⊎ (((bytes : List ℕ) × (line ≡ Printed FaultLine bytes ∷ []))
     ⊎ ((why : Why) × (line ≡ Fault Print why ∷ [])))
 
+-- a line of kind Fault, or the fault of its print
+abbrev pub is_own_line : Event → Bool
+is_own_line (Printed FaultLine bytes) = true
+is_own_line (Fault Print why) = true
+is_own_line _ = false
+
+-- the part without that as its last event
+abbrev pub before_line : List Event → List Event
+before_line [] = []
+before_line (event ∷ []) = if is_own_line event then [] else event ∷ []
+before_line (event ∷ next ∷ rest) = event ∷ before_line (next ∷ rest)
+
 -- On every exit the first stages of the request were done, each once and in order, and behind them stands at most a line of kind Fault.
 pub record Begun (listens : Bool) (look : Look) (request : Request) (part : List Event) (c : Course) : Type 0 where
   pub run : List Event
@@ -95,19 +107,19 @@ abbrev pub IsBeside : Request → List Event → Course → Type 0
 IsBeside request part c = 2 ≤ length request.1.config.files
     → RunBeside c.total request.1.config.stop_on_failure (length request.1.config.files) part
 
--- Unless the settings stop a run at a failure, a failed child stops no later start: where a command ended badly and the host is sound, every source's
--- command was started, and none was left alone.
+-- Unless the settings stop a run at a failure, a failed child stops no later start: where a command ended badly and the host was sound before the last
+-- line, every source's command was started, and none was left alone.
 abbrev pub StartsAll : Bool → Look → Request → List Event → Ended → Type 0
 StartsAll listens look request part ended = request.1.config.stop_on_failure ≡ false
     → (e : ErrorSeen) → 2 ≤ length request.1.config.files → ended ≡ ended_refused e → e.kind ≡ ToolExecError
-    → (HasFault part → ⊥) → AllStarted (shows_of request.1.config (env_in request part) listens)
+    → (HasFault (before_line part) → ⊥) → AllStarted (shows_of request.1.config (env_in request part) listens)
     (compiles_of request.1.config (env_in request part) look) part
 
 -- Where they do, every source's command was started then, or the first of them alone and one of these failed, and none was left alone.
 abbrev pub StopsAtFailure : Bool → Look → Request → List Event → Ended → Type 0
 StopsAtFailure listens look request part ended = request.1.config.stop_on_failure ≡ true
     → (e : ErrorSeen) → 2 ≤ length request.1.config.files → ended ≡ ended_refused e → e.kind ≡ ToolExecError
-    → (HasFault part → ⊥) → StartsTill (shows_of request.1.config (env_in request part) listens)
+    → (HasFault (before_line part) → ⊥) → StartsTill (shows_of request.1.config (env_in request part) listens)
     (compiles_of request.1.config (env_in request part) look) part
 
 -- the turns are spent: as many were made as there are

@@ -1,5 +1,5 @@
 // The compilation database of a compile run: the folder that it tells is asked for, its text is made of the log, and its file is written.
-ghost use Rattle.std.specs.Prelude.{◌≡◌, ◌⊎◌, ◌++◌, [], ◌∷◌, map, slice_get, codes, string_bytes, IfOk, IfErr, OnOk};
+ghost use Rattle.std.specs.Prelude.{◌≡◌, ◌++◌, [], ◌∷◌, map, slice_get, string_bytes, IfOk, IfErr, OnOk};
 ghost use Rattle.std.specs.Option.{option_copied};
 ghost use Rattle.cc_db.specs.Database.{database};
 ghost use Rattle.cc_host.specs.Call.{part};
@@ -8,61 +8,15 @@ ghost use Rattle.cc_host.specs.declared.event.Event.TheVariants.{Here, Wrote};
 ghost use Rattle.cc_host.specs.declared.event.HostCall.TheVariants.{CurrentDir as TellsFolder, Write as Writes};
 ghost use Rattle.cc_host.specs.declared.event.Role.TheVariants.{Compile as Compiles};
 ghost use Rattle.cc_plan.specs.Plan.{objects_of};
-ghost use Rattle.cc_build.specs.Error.{no_memory};
 ghost use Rattle.cc_build.specs.Kept.{Aside};
-ghost use Rattle.cc_build.specs.Stop.{why_name as name_of_why};
-ghost use Rattle.cc_build.specs.declared.error.ErrorKind.TheVariants.{IOError as Io};
-ghost use Rattle.cc_command.specs.Database.{call_error, optional, compile_start, compile_starts, entry_of, entries_by, last_of, logged_entries, Faults};
+ghost use Rattle.cc_command.specs.Database.{optional, compile_start, compile_starts, entry_of, entries_by, last_of, logged_entries, Faults};
 
-use crate::lines::why_name;
-use cc_build::{Build, Error, ErrorKind};
+use cc_build::{Build, Error};
 use cc_db::json_compilation_database;
-use cc_host::{Command, CompileCommand, Event, Host, HostError, Role, Why, World};
+use cc_host::{Command, CompileCommand, Event, Host, Role, World};
 use cc_plan::{Object, plan_objects};
 use cc_text::{Mem, NoMemory, Text};
 use std::alloc::Global;
-
-// The error of a call that the host refused.
-pub(crate) fn call_failed(alloc: Global, call: &str, why: Why, subject: &str) -> Mem<Error>
-    ensures { IfOk result (λ e. e ≡ record {
-      kind = Io;
-      subject = subject.now;
-      message = call.now ++ codes " failed: " ++ name_of_why why;
-    }) }
-{
-    let mut message = Text::of(alloc, call)?;
-    message.push_str(" failed: ")?;
-    message.push_str(why_name(why))?;
-    Error::of(alloc, ErrorKind::IOError, subject, message.as_str())
-}
-
-// The error of a folder that the host couldn't tell, or want of memory for its texts.
-#[tactic(auto, unfolding(cc_build::specs::Stop::fault_error))]
-fn untold(alloc: Global, error: HostError) -> Error
-    ensures { (result ≡ no_memory) ⊎ (result ≡ call_error TellsFolder [] error) }
-{
-    match error {
-        HostError::Fault(_, why) => match call_failed(alloc, "current dir", why, "") {
-            Ok(error) => error,
-            Err(memory) => Error::from(memory),
-        },
-        HostError::NoMemory => Error::from(NoMemory),
-    }
-}
-
-// The same of a file that it couldn't write.
-#[tactic(auto, unfolding(cc_build::specs::Stop::fault_error))]
-fn unwritten(alloc: Global, path: &str, error: HostError) -> Error
-    ensures { (result ≡ no_memory) ⊎ (result ≡ call_error Writes path.now error) }
-{
-    match error {
-        HostError::Fault(_, why) => match call_failed(alloc, "write", why, path) {
-            Ok(error) => error,
-            Err(memory) => Error::from(memory),
-        },
-        HostError::NoMemory => Error::from(NoMemory),
-    }
-}
 
 /// Asks for the folder that relative paths count from.
 #[tactic(auto, using(cc_host::proofs::Parts::since_append))]
@@ -74,7 +28,7 @@ pub(crate) fn find_folder<W: World, H: Host<W>>(alloc: Global, host: &mut H) -> 
 {
     match host.current_dir() {
         Ok(here) => Ok(here),
-        Err(error) => Err(untold(alloc, error)),
+        Err(error) => Err(Error::of_host(alloc, error, "")),
     }
 }
 
@@ -205,7 +159,7 @@ fn write_bytes<W: World, H: Host<W>>(
 {
     match host.write_file(path, bytes) {
         Ok(()) => Ok(()),
-        Err(error) => Err(unwritten(alloc, path, error)),
+        Err(error) => Err(Error::of_host(alloc, error, path)),
     }
 }
 

@@ -1,33 +1,19 @@
 // A graph of commands from a file: the host's variables, the read, and the commands that it gives.
-ghost use Rattle.std.specs.Prelude.{◌≡◌, ◌⊎◌, ◌∷◌, ◌++◌, [], Some, IfOk, IfErr, OnErr};
+ghost use Rattle.std.specs.Prelude.{◌≡◌, ◌∷◌, ◌++◌, [], Some, IfOk, IfErr, OnErr};
 ghost use Rattle.std.specs.Option.{option_map};
 ghost use Rattle.std.specs.Str.{is_utf8};
 ghost use Rattle.cc_host.specs.Call.{part};
-ghost use Rattle.cc_host.specs.declared.event.HostCall.TheVariants.{Vars as ListsVars};
 ghost use Rattle.cc_graph.specs.Read.{read_graph};
-ghost use Rattle.cc_build.specs.Error.{no_memory};
-ghost use Rattle.cc_command.specs.Database.{call_error};
 ghost use Rattle.cc_command.specs.Graphed.{shelf, graph_in, nodes_if, nodes_by, IsListed, IsUnlisted, IsUnread, IsNoGraph};
 
-use crate::database::call_failed;
 use crate::graph_errors::{file_error, or_wanting};
 use cc_build::{Error, ErrorKind};
 use cc_env::EnvSnapshot;
 use cc_graph::{GraphFileError, Node, read_graph};
-use cc_host::{FileError, Files, Held, Host, HostError, World};
+use cc_host::{FileError, Files, Held, Host, World};
 use cc_text::{Mem, NoMemory};
 use std::alloc::Global;
 use std::str::from_utf8;
-
-#[tactic(auto, unfolding(cc_build::specs::Stop::fault_error))]
-fn unlisted(alloc: Global, error: HostError) -> Error
-    ensures { (result ≡ no_memory) ⊎ (result ≡ call_error ListsVars [] error) }
-{
-    match error {
-        HostError::Fault(_, why) => or_wanting(call_failed(alloc, "vars", why, "")),
-        HostError::NoMemory => Error::from(NoMemory),
-    }
-}
 
 /// The variables of the host.
 #[tactic(auto, using(cc_host::proofs::Parts::since_append))]
@@ -43,7 +29,7 @@ pub(crate) fn list_vars<W: World, H: Host<W>>(
 {
     match host.vars() {
         Ok(vars) => Ok(EnvSnapshot::from_vars(alloc, &vars)?),
-        Err(error) => Err(unlisted(alloc, error)),
+        Err(error) => Err(Error::of_host(alloc, error, "")),
     }
 }
 

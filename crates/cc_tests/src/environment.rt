@@ -1,5 +1,5 @@
 // What a build takes from variables, and what is left of its flags.
-use crate::same::{holds, same};
+use crate::same::{check_log, holds, same};
 use crate::settings::check_flags;
 use crate::setup::{set_places, with_both, with_build};
 use cc_build::{Build, Error, ErrorKind};
@@ -7,6 +7,7 @@ use cc_host::{Bench, BenchHost, HostCall};
 use cc_text::Vars;
 use std::alloc::AllocGlobal;
 use std::process::Abort;
+use std::sync::Wait;
 
 fn set_one(rt: &(impl AllocGlobal + Abort), host: &mut BenchHost, name: &str, value: &str) {
     let mut vars = Vars::new(rt.alloc());
@@ -60,8 +61,13 @@ fn a_capture_replaces_the_variables(rt: HostRuntime) {
     with_both(&rt, |build, host| check_captures(&rt, build, host));
 }
 
-fn add(build: &mut Build<Bench>, host: &mut BenchHost, name: &str) -> Result<(), Error> {
-    build.try_flags_from_environment(host, name)
+fn add(
+    rt: &impl Wait,
+    build: &mut Build<Bench>,
+    host: &mut BenchHost,
+    name: &str,
+) -> Result<(), Error> {
+    build.try_flags_from_environment(rt, host, name)
 }
 
 fn same_error(rt: &impl Abort, error: &Error, kind: ErrorKind, subject: &str) {
@@ -71,30 +77,42 @@ fn same_error(rt: &impl Abort, error: &Error, kind: ErrorKind, subject: &str) {
 
 // The flags of a variable are refused, and those that were there stay.
 fn check_refused(
-    rt: &impl Abort,
+    rt: &(impl Wait + Abort),
     build: &mut Build<Bench>,
     host: &mut BenchHost,
     name: &str,
     subject: &str,
 ) {
-    let error = add(build, host, name).expect_err(rt, "refused");
+    let error = add(rt, build, host, name).expect_err(rt, "refused");
     same_error(rt, &error, ErrorKind::EnvVarNotFound, subject);
 }
 
 // Target and host are wanted, in this order, and then the variable.
-fn check_wanted(rt: &impl Abort, build: &mut Build<Bench>, host: &mut BenchHost) {
+fn check_wanted(rt: &(impl Wait + Abort), build: &mut Build<Bench>, host: &mut BenchHost) {
     check_refused(rt, build, host, "XF", "TARGET");
     build.target("t-u").expect(rt, "memory");
     check_refused(rt, build, host, "XF", "HOST");
     build.host("h").expect(rt, "memory");
-    add(build, host, "XF").expect(rt, "flags");
+    add(rt, build, host, "XF").expect(rt, "flags");
     check_refused(rt, build, host, "YF", "YF");
 }
 
-fn check_added(rt: &(impl AllocGlobal + Abort), build: &mut Build<Bench>, host: &mut BenchHost) {
+const READ: &str = "prints cargo:rerun-if-env-changed=CC_SHELL_ESCAPED_FLAGS
+prints cargo:rerun-if-env-changed=TARGET_XF
+prints cargo:rerun-if-env-changed=XF
+prints cargo:rerun-if-env-changed=XF_t-u
+prints cargo:rerun-if-env-changed=XF_t_u
+";
+
+fn check_added(
+    rt: &(impl Wait + AllocGlobal + Abort),
+    build: &mut Build<Bench>,
+    host: &mut BenchHost,
+) {
     capture_one(rt, build, "XF_t_u", "-a -b");
     check_wanted(rt, build, host);
     check_flags(rt, build, "-a\n-b\n");
+    check_log(rt, host, READ);
 }
 
 #[test]
@@ -134,7 +152,11 @@ fn removed_flags_are_those_that_are_always_given(rt: HostRuntime) {
     with_build(&rt, |build| check_removed(&rt, build));
 }
 
-fn check_unset(rt: &(impl AllocGlobal + Abort), build: &mut Build<Bench>, host: &mut BenchHost) {
+fn check_unset(
+    rt: &(impl Wait + AllocGlobal + Abort),
+    build: &mut Build<Bench>,
+    host: &mut BenchHost,
+) {
     remove_flags(rt, build);
     set_places(rt, build);
     check_refused(rt, build, host, "XF", "XF");
@@ -144,6 +166,25 @@ fn check_unset(rt: &(impl AllocGlobal + Abort), build: &mut Build<Bench>, host: 
 #[test]
 fn a_variable_that_is_set_nowhere_adds_no_flag(rt: HostRuntime) {
     with_both(&rt, |build, host| check_unset(&rt, build, host));
+}
+
+// The first line can't be printed: the flags stay as they were.
+fn check_unprinted(
+    rt: &(impl Wait + AllocGlobal + Abort),
+    build: &mut Build<Bench>,
+    host: &mut BenchHost,
+) {
+    set_places(rt, build);
+    capture_one(rt, build, "XF", "-a");
+    host.fail(HostCall::Print, 1).expect(rt, "memory");
+    let error = add(rt, build, host, "XF").expect_err(rt, "refused");
+    same_error(rt, &error, ErrorKind::IOError, "");
+    check_flags(rt, build, "");
+}
+
+#[test]
+fn flags_whose_variables_cannot_be_told_are_not_added(rt: HostRuntime) {
+    with_both(&rt, |build, host| check_unprinted(&rt, build, host));
 }
 
 fn check_error(rt: &impl Abort, error: &Error) {

@@ -11,6 +11,8 @@ mod clones;
 #[cfg(test)]
 mod environment;
 #[cfg(test)]
+mod errors;
+#[cfg(test)]
 mod fixed;
 #[cfg(test)]
 mod lent;

@@ -38,11 +38,13 @@ fn check_links(
     rt: &(impl Wait + AllocGlobal + Abort),
     build: &mut Build<Bench>,
     host: &mut BenchHost,
+    repeats: bool,
     want: &str,
 ) {
     set_all(rt, build, "/o", "c++");
     build.cpp(true);
     build.cpp_link_stdlib_static(true);
+    build.repeat_lines(repeats);
     build.file("a.cpp").expect(rt, "memory");
     compile_twice(rt, build, host);
     let links = lines(rt.alloc(), host, LineKind::Link).expect(rt, "memory");
@@ -58,7 +60,26 @@ cargo:rustc-link-search=native=/o
 
 #[test]
 fn a_clone_leaves_out_the_line_of_the_static_cpp_library(rt: HostRuntime) {
-    with_both(&rt, |build, host| check_links(&rt, build, host, ONCE));
+    with_both(
+        &rt,
+        |build, host| check_links(&rt, build, host, false, ONCE),
+    );
+}
+
+const TWICE: &str = "cargo:rustc-link-lib=static=foo
+cargo:rustc-link-search=native=/o
+cargo:rustc-link-lib=static:-bundle=stdc++
+cargo:rustc-link-lib=static=foo
+cargo:rustc-link-search=native=/o
+cargo:rustc-link-lib=static:-bundle=stdc++
+";
+
+#[test]
+fn a_clone_that_repeats_lines_has_the_line_of_the_static_cpp_library_too(rt: HostRuntime) {
+    with_both(
+        &rt,
+        |build, host| check_links(&rt, build, host, true, TWICE),
+    );
 }
 
 const VARIABLES: &str = "cargo:rerun-if-env-changed=AR

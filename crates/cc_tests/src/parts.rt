@@ -1,7 +1,8 @@
 // The parts of a library's build, each by a call of its own.
-use crate::same::{check_log, holds, same};
+use crate::same::{check_log, same};
+use crate::settings::check_words;
 use crate::setup::{set_all, with_both};
-use cc_build::{Build, Error, try_emit_link_directives};
+use cc_build::{Build, Error, ErrorKind, try_emit_link_directives};
 use cc_host::{Bench, BenchHost, command_line};
 use cc_jobs::OneCaller;
 use cc_text::{Text, Vars, Words};
@@ -74,9 +75,15 @@ ends
 doesn't see rl -x
 ";
 
-fn check_objects(rt: &(impl Wait + Abort), build: &Build<Bench>, host: &mut BenchHost) {
+const OBJECTS: &str = "/o/f268e9834a4b7b98-a.o /o/f268e9834a4b7b98-b.o";
+
+fn check_objects(
+    rt: &(impl Wait + AllocGlobal + Abort),
+    build: &Build<Bench>,
+    host: &mut BenchHost,
+) {
     let objects = compile(rt, build, host).expect(rt, "objects");
-    holds(rt, "there are two objects", objects.len() == 2);
+    check_words(rt, &objects, OBJECTS);
 }
 
 fn check_library(
@@ -110,7 +117,7 @@ fn objects_library_and_tools_come_by_calls_of_their_own(rt: HostRuntime) {
     with_both(&rt, |build, host| check_parts(&rt, build, host));
 }
 
-// Whether link lines were printed for the library of this path.
+// Whether link lines were printed for the library of this path, or why not.
 fn is_linked(
     rt: &impl Wait,
     build: &Build<Bench>,
@@ -119,8 +126,20 @@ fn is_linked(
 ) -> &'static str {
     match try_emit_link_directives(rt, build, host, library) {
         Ok(()) => "linked",
-        Err(_) => "refused",
+        Err(error) => match error.kind() {
+            ErrorKind::InvalidArgument => "invalid argument",
+            _ => "refused",
+        },
     }
+}
+
+fn check_unlinked(
+    rt: &(impl Wait + Abort),
+    build: &Build<Bench>,
+    host: &mut BenchHost,
+    library: &str,
+) {
+    same(rt, is_linked(rt, build, host, library), "invalid argument");
 }
 
 const LINKED: &str = "prints cargo:rustc-link-lib=static=foo
@@ -133,8 +152,8 @@ fn check_linked(
     host: &mut BenchHost,
 ) {
     same(rt, is_linked(rt, build, host, "/x/libfoo.a"), "linked");
-    same(rt, is_linked(rt, build, host, "libfoo.a"), "refused");
-    same(rt, is_linked(rt, build, host, "/x/lib.a"), "refused");
+    check_unlinked(rt, build, host, "libfoo.a");
+    check_unlinked(rt, build, host, "/x/lib.a");
     check_log(rt, host, LINKED);
 }
 

@@ -71,7 +71,8 @@ fn add_all(rt: &(impl AllocGlobal + Abort), build: &mut Build<Bench>) {
     add_flags(rt, build);
 }
 
-fn check_words(rt: &(impl AllocGlobal + Abort), words: &Words, want: &str) {
+// The words, with a blank between.
+pub(crate) fn check_words(rt: &(impl AllocGlobal + Abort), words: &Words, want: &str) {
     let text = join_texts(rt.alloc(), words, ' ').expect(rt, "memory");
     same(rt, text.as_str(), want);
 }

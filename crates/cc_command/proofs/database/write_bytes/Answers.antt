@@ -6,5 +6,5 @@ use Rattle.cc_command.proofs.database.write_bytes.Goals as goal
 
 pub returns-in-Err-clause-refused : goal.returns-in-Err-clause-refused
 returns-in-Err-clause-refused g c =
-    faulted Write c.args.path.now c.in-Err.error (since (g.H.Host.log c.args.host.now) (g.H.Host.log c.write_file.new.self)) c.unwritten.result (g.H.Host.faults c.args.host.now) (g.H.Host.faults c.write_file.new.self)
-    (part_is (g.H.Host.log c.args.host.now) (g.H.Host.log c.write_file.new.self) _ c.in-Err.ensures.adds) c.in-Err.ensures.cause c.unwritten.ensures
+    faulted Write c.args.path.now c.in-Err.error (since (g.H.Host.log c.args.host.now) (g.H.Host.log c.write_file.new.self)) c.of_host.result (g.H.Host.faults c.args.host.now) (g.H.Host.faults c.write_file.new.self)
+    (part_is (g.H.Host.log c.args.host.now) (g.H.Host.log c.write_file.new.self) _ c.in-Err.ensures.adds) c.in-Err.ensures.cause c.of_host.ensures

@@ -7,5 +7,5 @@ use Rattle.cc_command.proofs.graph_file.list_vars.Goals as goal
 
 pub returns-in-Err-clause-refused : goal.returns-in-Err-clause-refused
 returns-in-Err-clause-refused g c =
-    inl (faulted Vars [] c.in-Err.error (since (g.H.Host.log c.args.host.now) (g.H.Host.log c.vars.new.self)) c.unlisted.result (g.H.Host.faults c.args.host.now) (g.H.Host.faults c.vars.new.self)
-    (part_is (g.H.Host.log c.args.host.now) (g.H.Host.log c.vars.new.self) _ c.in-Err.ensures.adds) c.in-Err.ensures.cause c.unlisted.ensures)
+    inl (faulted Vars [] c.in-Err.error (since (g.H.Host.log c.args.host.now) (g.H.Host.log c.vars.new.self)) c.of_host.result (g.H.Host.faults c.args.host.now) (g.H.Host.faults c.vars.new.self)
+    (part_is (g.H.Host.log c.args.host.now) (g.H.Host.log c.vars.new.self) _ c.in-Err.ensures.adds) c.in-Err.ensures.cause c.of_host.ensures)

@@ -15,5 +15,5 @@ returns-in-Ok-clause-outcome g c = λ t x. (
 
 pub returns-in-Err-clause-outcome : goal.returns-in-Err-clause-outcome
 returns-in-Err-clause-outcome g c = λ t x.
-    unshown t c.args.kind c.args.bytes.now c.in-Err.error (since (g.H.Host.log c.args.host.now) (g.H.Host.log c.print.new.self)) c.unprinted.result (g.H.Host.faults c.args.host.now) (g.H.Host.faults c.print.new.self) x
-    (part_is (g.H.Host.log c.args.host.now) (g.H.Host.log c.print.new.self) _ c.in-Err.ensures.adds) c.in-Err.ensures.cause c.unprinted.ensures
+    unshown t c.args.kind c.args.bytes.now c.in-Err.error (since (g.H.Host.log c.args.host.now) (g.H.Host.log c.print.new.self)) c.of_host.result (g.H.Host.faults c.args.host.now) (g.H.Host.faults c.print.new.self) x
+    (part_is (g.H.Host.log c.args.host.now) (g.H.Host.log c.print.new.self) _ c.in-Err.ensures.adds) c.in-Err.ensures.cause c.of_host.ensures

@@ -5,10 +5,11 @@ use Rattle.cc_host.specs.Question.{answers, Holds}
 use Rattle.cc_flags.specs.declared.settings.BuildConfig.{BuildConfig}
 use Rattle.cc_flags.specs.Settings.{archive_settings}
 use Rattle.cc_plan.proofs.LineLemmas.{since_none}
-use Rattle.cc_build.specs.Archiving.{with_objects, unarchived_error, Creates}
+use Rattle.cc_build.specs.Archiving.{with_objects, unarchived_error, ArchivesFirst, Creates}
 use Rattle.cc_build.specs.Build.{BuildSeen}
 use Rattle.cc_build.specs.Error.{no_memory}
 use Rattle.cc_build.proofs.ArchivingLaws.{uncreated, agreed, created_by, no_faults, creates_settled, creates_faults}
+use Rattle.cc_build.proofs.PrefixLaws.{archives_first, archives_none}
 use Rattle.cc_build.specs.Shows.{shows_of}
 use Rattle.cc_build.proofs.build.Build.try_create_archive.Goals as goal
 
@@ -124,3 +125,46 @@ returns-clause-faults_last g c =
     created_by set env (g.H.Host.listens c.args.host.now) patience c.args.turns c.args.output.now part c.shows_of-shows.result _ c.archive_reads.result (c.shows_of-shows.ensures ∙ ap (shows_of set env) c.listens.ensures) refl refl c.archive_reads.ensures c.in_ok-sources.ensures.allowed g.W.World.steady g.W.World.answer _ _ c.new-answers.ensures c.archive_and_tell.ensures.asks.asks {T = List ℕ} (Err c.in-Err.error) c.in-Err.ensures.outcome in
     let some = agreed set env part g.W.World.steady g.W.World.answer _ _ c.new-answers.ensures c.archive_and_tell.ensures.asks.asks in
     creates_faults {T = List ℕ} inside (g.H.Host.listens c.args.host.now) patience c.args.turns c.args.output.now some.0 part (Err c.in-Err.error) (ran.under some.0 some.1)
+
+pub returns-in_err-set-clause-prefix : goal.returns-in_err-set-clause-prefix
+returns-in_err-set-clause-prefix g c =
+    let old = g.H.Host.log c.args.host.now in
+    record { under = λ look agree. archives_none (with_objects c.args.self.now c.args.objects.now) c.args.output.now look (since old old) (since_none old) }
+
+pub returns-in_err-sources-clause-prefix : goal.returns-in_err-sources-clause-prefix
+returns-in_err-sources-clause-prefix g c =
+    let old = g.H.Host.log c.args.host.now in
+    record { under = λ look agree. archives_none (with_objects c.args.self.now c.args.objects.now) c.args.output.now look (since old old) (since_none old) }
+
+pub returns-in_err-path-clause-prefix : goal.returns-in_err-path-clause-prefix
+returns-in_err-path-clause-prefix g c =
+    let old = g.H.Host.log c.args.host.now in
+    record { under = λ look agree. archives_none (with_objects c.args.self.now c.args.objects.now) c.args.output.now look (since old old) (since_none old) }
+
+pub returns-in-Ok-clause-prefix : goal.returns-in-Ok-clause-prefix
+returns-in-Ok-clause-prefix g c =
+    let part = since (g.H.Host.log c.args.host.now) (g.H.Host.log c.archive_and_tell.new.host) in
+    let patience = g.H.Host.patience c.args.host.now in
+    let set = c.in_ok-set.set in
+    let env = c.self.inside.env in
+    let inside : BuildSeen = record { config = set; env = env } in
+    let ran : Holds (answers part) (λ look. Creates {T = List ℕ} inside (g.H.Host.listens c.args.host.now) patience c.args.turns c.args.output.now (Ok c.in_ok-path.path) look part) =
+    created_by set env (g.H.Host.listens c.args.host.now) patience c.args.turns c.args.output.now part c.shows_of-shows.result _ c.archive_reads.result (c.shows_of-shows.ensures ∙ ap (shows_of set env) c.listens.ensures) refl refl c.archive_reads.ensures c.in_ok-sources.ensures.allowed g.W.World.steady g.W.World.answer _ _ c.new-answers.ensures c.archive_and_tell.ensures.asks.asks {T = List ℕ} (Ok c.in_ok-path.path) c.in-Ok.ensures.outcome in
+    let same : inside ≡ with_objects c.args.self.now c.args.objects.now = ap (λ (s : BuildConfig). record { config = s; env = env }) c.in_ok-set.ensures ∙ ap (λ (b : BuildSeen). with_objects b c.args.objects.now) c.self.view_is in
+    let first : Holds (answers part) (λ look. ArchivesFirst inside c.args.output.now look part) =
+    record { under = λ look agree. archives_first {T = List ℕ} inside (g.H.Host.listens c.args.host.now) patience c.args.turns c.args.output.now look part (Ok c.in_ok-path.path) (ran.under look agree) } in
+    subst (λ (b : BuildSeen). Holds (answers part) (λ look. ArchivesFirst b c.args.output.now look part)) same first
+
+pub returns-clause-prefix : goal.returns-clause-prefix
+returns-clause-prefix g c =
+    let part = since (g.H.Host.log c.args.host.now) (g.H.Host.log c.archive_and_tell.new.host) in
+    let patience = g.H.Host.patience c.args.host.now in
+    let set = c.in_ok-set.set in
+    let env = c.self.inside.env in
+    let inside : BuildSeen = record { config = set; env = env } in
+    let ran : Holds (answers part) (λ look. Creates {T = List ℕ} inside (g.H.Host.listens c.args.host.now) patience c.args.turns c.args.output.now (Err c.in-Err.error) look part) =
+    created_by set env (g.H.Host.listens c.args.host.now) patience c.args.turns c.args.output.now part c.shows_of-shows.result _ c.archive_reads.result (c.shows_of-shows.ensures ∙ ap (shows_of set env) c.listens.ensures) refl refl c.archive_reads.ensures c.in_ok-sources.ensures.allowed g.W.World.steady g.W.World.answer _ _ c.new-answers.ensures c.archive_and_tell.ensures.asks.asks {T = List ℕ} (Err c.in-Err.error) c.in-Err.ensures.outcome in
+    let same : inside ≡ with_objects c.args.self.now c.args.objects.now = ap (λ (s : BuildConfig). record { config = s; env = env }) c.in_ok-set.ensures ∙ ap (λ (b : BuildSeen). with_objects b c.args.objects.now) c.self.view_is in
+    let first : Holds (answers part) (λ look. ArchivesFirst inside c.args.output.now look part) =
+    record { under = λ look agree. archives_first {T = List ℕ} inside (g.H.Host.listens c.args.host.now) patience c.args.turns c.args.output.now look part (Err c.in-Err.error) (ran.under look agree) } in
+    subst (λ (b : BuildSeen). Holds (answers part) (λ look. ArchivesFirst b c.args.output.now look part)) same first
