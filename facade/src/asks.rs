@@ -11,6 +11,9 @@ use crate::words::Words;
 use std::ffi::OsStr;
 use std::process::Command;
 
+// A flag that nobody gives: what stands between two of it is what the command added there.
+const MARK: &str = "-Dcc_facade_mark";
+
 // What a flag is tried with: what finds the compiler, and what is told of that.
 const PROBED: &[&str] = &[
     "compiler",
@@ -92,18 +95,17 @@ impl Build {
         words.switch("debug", false);
         words.switch("inherit_rustflags", false);
         words.switch("inherit_trim_paths", false);
-        let times = |words: &Words| -> Result<usize, Error> {
-            let shown = self.shown(words, &self.environment)?;
-            self.tell_shown(&shown, &compiler_names(self, &shown))?;
-            Ok(shown
-                .compiler
-                .iter()
-                .filter(|word| OsStr::new(word) == flag)
-                .count())
-        };
-        let with = times(&words.clone().and("flag_if_supported", flag))?;
-        // (without it, the target may give it)
-        Ok(with > 0 && with > times(&words.and("cargo_warnings", "false"))?)
+        words.say("flag", MARK);
+        words.say("flag_if_supported", flag);
+        words.say("flag", MARK);
+        let shown = self.shown(&words, &self.environment)?;
+        self.tell_shown(&shown, &compiler_names(self, &shown))?;
+        let is_mark = |word: &String| word == MARK;
+        let first = shown.compiler.iter().position(is_mark);
+        let last = shown.compiler.iter().rposition(is_mark);
+        Ok(first
+            .zip(last)
+            .is_some_and(|(first, last)| first + 1 < last))
     }
 
     /// Adds the flags of a variable, and of those that name target or host, split as the variables of flags are.

@@ -105,6 +105,17 @@ fn the_version_is_asked_once() {
     assert_eq!(room.read("ran"), "--version\ncompile\ncompile\n");
 }
 
+#[test]
+fn a_flag_is_asked_about_by_one_command() {
+    let room = Room::new();
+    let command = room.program(
+        "noted",
+        &format!("echo \"$1\" >>ran\nexec {:?} \"$@\"", cc_main()),
+    );
+    done(&script(&room, "supported", &[("CC_MAIN", &command)]));
+    assert_eq!(room.read("ran"), "--version\nshow\nshow\nshow\nshow\n");
+}
+
 const LINES: &str =
     "echo cargo:rustc-link-lib=static=foo; echo cargo:rustc-link-search=native=out;";
 
