@@ -416,7 +416,7 @@ fn search<R: Processes + Files + AllocGlobal>(
         if is_absent(rt, path.as_str(), cmd) {
             continue;
         }
-        let here = Found::of(rt.alloc(), cmd, folders, &path)?;
+        let here = Found::of(rt.alloc(), cmd.get_program(), folders, absolute, &path)?;
         match start_found(rt, path.as_str(), cmd, streams, learned.sink.as_ref())? {
             Err(error) if is_passed_over(error.kind()) => {
                 is_denied = is_denied || error.kind() == ErrorKind::PermissionDenied;
@@ -443,7 +443,7 @@ fn start_in<R: Processes + Files + AllocGlobal>(
     learned: &mut Learned,
 ) -> Mem<Begun<R::Started>> {
     if let Some(here) = &learned.found
-        && let Some(path) = here.path_for(cmd, folders)
+        && let Some(path) = here.path_for(cmd.get_program(), folders, absolute)
     {
         match start_found(rt, path, cmd, streams, learned.sink.as_ref())? {
             Err(error) if is_passed_over(error.kind()) => {}

@@ -51,19 +51,20 @@ impl World for Real {
 /// writes more waits for that. A turn takes what is there, of every child, and rests before only as long as there is nothing. A
 /// child that was left alone is ended, and its thread with it. With the host all threads are joined, and children that run are left to run.
 ///
-/// A pipe that another process holds is heard on for up to two seconds behind its child's end, and the end is told behind that. One that is held for
-/// longer counts as unread: a line says so of the standard error of `output`, and a question is unanswered. Refused is a standard output that is held.
+/// A pipe that another process holds is heard on for up to two seconds behind its child's end, and the end is told behind that. One that is
+/// held for longer counts as unread: a line says so of the standard error of `output`, and a question is unanswered. Refused is a standard
+/// output that is held.
 ///
-/// A program that is looked for on a `PATH` is started from where one of its name was found last on the same `PATH`, as a shell does (POSIX, `hash`), and looked
-/// for again where that can't be started.
+/// A program that is looked for on a `PATH` is started from where one of its name was found last on the same `PATH`, as a shell does (POSIX,
+/// `hash`), and looked for again where that can't be started.
 ///
-/// A child whose standard error isn't heard writes it nowhere: to the null device, or, where that can't be opened, to a pipe that is read and dropped.
-/// A child for which the machine lends no process is started once another one ended. Refused for memory, a call that started nothing did nothing, and a turn
-/// loses nothing: the next one has it. A command of `output` or `probe` whose end can't be kept did run: its end is lost, and no event is
-/// noted.
+/// A child whose standard error isn't heard writes it nowhere: to the null device, or, where that can't be opened, to a pipe that is read
+/// and dropped. A child for which the machine lends no process is started without the threads, where no child needs them, or once another
+/// one ended. Refused for memory, a call that started nothing did nothing, and a turn loses nothing: the next one has it. A command of
+/// `output` or `probe` whose end can't be kept did run: its end is lost, and no event is noted.
 ///
-/// A file that couldn't be written or copied to whole is as it was, unless it had to be written in place, as a device, or one whose folder takes no new
-/// file. What a run leaves that is ended meanwhile, the next one takes over.
+/// A file that couldn't be written or copied to whole is as it was, unless it had to be written in place, as a device, or one whose folder
+/// takes no new file. What a run leaves that is ended meanwhile, the next one takes over.
 #[derive(Drop)]
 pub struct ProcessHost<R: Processes + Threads + Wait + Copy> {
     rt: R,
@@ -204,6 +205,7 @@ impl<
             cmd,
             streams,
             &mut self.learned,
+            &mut self.watchers,
             &mut self.processes,
         )? {
             Begun::Missing => {

@@ -352,18 +352,43 @@ fn wait_for_end<R: Processes + Wait + Copy>(
     false
 }
 
-/// Starts a command. Where the machine lends no process more for now, it is tried again each time that a child ended.
-pub fn begin<R: Processes + Files + Env + Wait + Copy + AllocGlobal>(
+// Whether a thread watches a child that runs.
+fn has_watched<R: Processes + Wait + Copy>(processes: &[Process<R>]) -> bool {
+    for process in processes {
+        if process.is_grown && !process.watched.is_over(&process.rt) {
+            return true;
+        }
+    }
+    false
+}
+
+// Frees a process of the machine, where one can be freed: that of the thread that makes threads, or that of a child, once it ended.
+fn free_one<R: Processes + Threads + Wait + Copy>(
+    rt: R,
+    sink: Option<&Sink>,
+    watchers: &mut Watchers<R>,
+    processes: &mut [Process<R>],
+) -> bool {
+    if !has_watched(processes) && watchers.release() {
+        return true;
+    }
+    wait_for_end(rt, sink, processes)
+}
+
+/// Starts a command. Where the machine lends no process more for now, it is tried again without the threads, where no child needs them, and
+/// then each time that a child ended.
+pub fn begin<R: Processes + Threads + Files + Env + Wait + Copy + AllocGlobal>(
     rt: R,
     cmd: &Command,
     streams: Streams,
     learned: &mut Learned,
+    watchers: &mut Watchers<R>,
     processes: &mut [Process<R>],
 ) -> Mem<Begun<R::Started>> {
     for _ in rt.forever() {
         match child::begin(&rt, cmd, streams, learned)? {
             Begun::Crowded => {
-                if !wait_for_end(rt, learned.sink.as_ref(), processes) {
+                if !free_one(rt, learned.sink.as_ref(), watchers, processes) {
                     break;
                 }
             }

@@ -3,12 +3,14 @@ use crate::asking::KEPT;
 use crate::bell::Bell;
 use crate::child::{Begun, Closed, Outcome, Spawned, Streams, begin, run};
 use crate::learned::Learned;
+use crate::running::{Process, stop};
 use crate::sink::Sink;
 use crate::watched::Watched;
 use cc_host::{Command, OutputKind, Pipes, RunningChild};
 use cc_text::Mem;
 use std::alloc::{AllocGlobal, Global};
 use std::env::Env;
+use std::fs;
 use std::process::{OpenProcess, Processes};
 use std::rt::Files;
 use std::sync::{Arc, Wait};
@@ -146,5 +148,77 @@ fn a_sink_takes_what_goes_nowhere(rt: HostRuntime) -> Result<(), Fail> {
         ran(&rt, line, unkept, Some(sink))?.as_str(),
         "ended Code(5) |"
     );
+    Ok(())
+}
+
+// What a program writes that is looked for on this PATH, as a text.
+fn said_by<R: Processes + Files + Env + Wait + AllocGlobal>(
+    rt: &R,
+    name: &str,
+    folders: &str,
+    learned: &mut Learned,
+) -> Mem<String> {
+    let alloc = rt.alloc();
+    let mut cmd = Command::new(alloc, name)?;
+    cmd.env("PATH", folders)?;
+    let streams = Streams {
+        pipes: KEPT,
+        closed: OPEN,
+    };
+    match run(rt, &cmd, streams, learned)? {
+        Outcome::Ended(end) => {
+            let out = str::from_utf8(end.out.as_slice()).unwrap_or("?");
+            Ok(String::from_str(alloc, out)?)
+        }
+        _ => Ok(String::from_str(alloc, "missing")?),
+    }
+}
+
+const TWO_FOLDERS: &str =
+    "above=$(mktemp -d) && cd \"$above\" && mkdir a b && echo echo a >a/tool && \
+echo echo b >b/tool && echo echo other >b/other && chmod +x a/tool b/* && printf %s \"$above\"";
+
+#[test]
+fn a_program_is_looked_for_on_each_path(rt: HostRuntime) -> Result<(), Fail> {
+    let alloc = rt.alloc();
+    let above = match outcome(&rt, TWO_FOLDERS, KEPT, None)? {
+        Outcome::Ended(end) => end.out,
+        _ => return Err(Fail::new("two folders can't be made")),
+    };
+    let above = str::from_utf8(above.as_slice()).unwrap_or("?");
+    let a = format!(in alloc; "{above}/a:/bin:/usr/bin")?;
+    let b = format!(in alloc; "{above}/b:/bin:/usr/bin")?;
+    let (a, b) = (a.as_str(), b.as_str());
+    let mut learned = Learned::nothing();
+    assert_eq!(rt; said_by(&rt, "tool", a, &mut learned)?.as_str(), "a\n");
+    assert_eq!(rt; said_by(&rt, "tool", b, &mut learned)?.as_str(), "b\n");
+    assert_eq!(rt; said_by(&rt, "other", b, &mut learned)?.as_str(), "other\n");
+    assert_eq!(rt; said_by(&rt, "tool", a, &mut learned)?.as_str(), "a\n");
+    fs::remove_dir_all(&rt, above)?;
+    Ok(())
+}
+
+#[test]
+fn a_child_that_is_left_alone_is_ended_and_reaped(rt: HostRuntime) -> Result<(), Fail> {
+    let alloc = rt.alloc();
+    let bell = Arc::new(alloc, Bell::new(&rt))?;
+    let place = Watched::new(alloc, &bell)?;
+    let Some(spawned) = spawned(&rt, "exec sleep 100")? else {
+        return Err(Fail::new("no child was started"));
+    };
+    let id = spawned.child.id();
+    let stands = format!(in alloc; "kill -0 {id} 2>/dev/null")?;
+    assert_eq!(rt;
+        ran(&rt, stands.as_str(), KEPT, None)?.as_str(),
+        "ended Code(0) |"
+    );
+    let mut processes = Vec::new(alloc);
+    processes.push(Process::new(rt, 0, place, spawned))?;
+    stop(&mut processes, 0);
+    assert_eq!(rt;
+        ran(&rt, stands.as_str(), KEPT, None)?.as_str(),
+        "ended Code(1) |"
+    );
+    assert_eq!(rt; processes.len(), 0);
     Ok(())
 }

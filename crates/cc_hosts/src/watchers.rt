@@ -240,6 +240,19 @@ impl<R: Processes + Threads + Wait + Copy> Watchers<R> {
             Err(_) => false,
         }
     }
+
+    /// Gives back what the threads take of the machine's processes, where none of them watches a child that runs. No child gets one from then
+    /// on. Answers whether there was one.
+    pub fn release(&mut self) -> bool {
+        match self.thread.take() {
+            Some(thread) => {
+                self.queue.close(&self.rt);
+                thread.join(&self.rt);
+                true
+            }
+            None => false,
+        }
+    }
 }
 
 impl<R: Processes + Threads + Wait + Copy + Send + 'static> Watchers<R>
