@@ -7,7 +7,7 @@ use Rattle.cc_host.specs.declared.event.Pipes.{Pipes}
 use Rattle.cc_host.specs.declared.event.Status.{Status}
 use Rattle.cc_host.specs.declared.event.Status.TheVariants.{Code, NoCode}
 use Rattle.cc_hosts.specs.declared.child.Outcome.{Outcome}
-use Rattle.cc_hosts.specs.declared.child.Outcome.TheVariants.{Missing, Failed, Ended, Lost}
+use Rattle.cc_hosts.specs.declared.child.Outcome.TheVariants.{Missing, Failed, Ended, Lost, Unread}
 
 -- what a child gets for a name: the value of the last pair of that name
 abbrev pub child_value : List (List ℕ × List ℕ) → List ℕ → Option (Option (List ℕ))
@@ -32,6 +32,7 @@ IsSilentEnd pipes Missing = Unit {0}
 IsSilentEnd pipes (Failed why) = Unit {0}
 IsSilentEnd pipes (Ended end) = (is_captured pipes.out ≡ false → end.out ≡ []) × (pipes.hear ≡ false → end.err ≡ [])
 IsSilentEnd pipes (Lost end why) = (is_captured pipes.out ≡ false → end.out ≡ []) × (pipes.hear ≡ false → end.err ≡ [])
+IsSilentEnd pipes (Unread end) = (is_captured pipes.out ≡ false → end.out ≡ []) × (pipes.hear ≡ false → end.err ≡ [])
 
 -- an end that can't be learned has no code
 abbrev pub IsLostEnd : Outcome → Type 0
@@ -39,3 +40,20 @@ IsLostEnd Missing = Unit {0}
 IsLostEnd (Failed why) = Unit {0}
 IsLostEnd (Ended end) = Unit {0}
 IsLostEnd (Lost end why) = end.status ≡ NoCode
+IsLostEnd (Unread end) = Unit {0}
+
+-- what ended is whole: no other process holds an output of it on
+abbrev pub IsWholeEnd : Bool → Bool → Outcome → Type 0
+IsWholeEnd out_is_held err_is_held Missing = Unit {0}
+IsWholeEnd out_is_held err_is_held (Failed why) = Unit {0}
+IsWholeEnd out_is_held err_is_held (Ended end) = (out_is_held ≡ false) × (err_is_held ≡ false)
+IsWholeEnd out_is_held err_is_held (Lost end why) = Unit {0}
+IsWholeEnd out_is_held err_is_held (Unread end) = Unit {0}
+
+-- an end of which all is known, so that it may answer a question
+abbrev pub IsKnownEnd : Outcome → Type 0
+IsKnownEnd Missing = Unit {0}
+IsKnownEnd (Failed why) = ⊥
+IsKnownEnd (Ended end) = Unit {0}
+IsKnownEnd (Lost end why) = ⊥
+IsKnownEnd (Unread end) = ⊥

@@ -1,6 +1,7 @@
 pub mod Child
 pub mod Entry
 pub mod FilesSeen
+pub mod Found
 pub mod HostSeen
 pub mod LookUp
 pub mod Plain

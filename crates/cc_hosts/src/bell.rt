@@ -1,9 +1,8 @@
 // What ends the rest of a host: a pipe to which the threads of its children write, so that one `poll(2)` waits for them and for the pipes of the children
 // that have no thread.
-use libc::net::POLLIN;
+use crate::waiting::{awaited, left_out};
 use libc::types::pollfd;
 use std::io::{PipeReader, PipeWriter, Read, Write, pipe};
-use std::os::fd::AsRawFd;
 use std::rt::Files;
 use std::sync::{Mutex, Wait, WaitMethods};
 
@@ -12,24 +11,6 @@ use std::sync::{Mutex, Wait, WaitMethods};
 pub struct Bell {
     rung: Mutex<bool>,
     ends: Option<(PipeReader, PipeWriter)>,
-}
-
-/// A file to be waited for, until it can be read or has an end to tell.
-pub fn awaited(file: &impl AsRawFd) -> pollfd {
-    pollfd {
-        fd: file.as_raw_fd(),
-        events: POLLIN,
-        revents: 0,
-    }
-}
-
-/// No file: `poll(2)` leaves out a descriptor below zero.
-pub fn left_out() -> pollfd {
-    pollfd {
-        fd: -1,
-        events: 0,
-        revents: 0,
-    }
 }
 
 impl Bell {

@@ -3,21 +3,26 @@ ghost use Rattle.std.specs.Prelude.{◌≡◌, IfOk};
 ghost use Rattle.std.specs.Process.{exit_code};
 ghost use Rattle.cc_host.specs.Event.{is_captured};
 ghost use Rattle.cc_host.specs.declared.event.Pipes.{Pipes};
-ghost use Rattle.cc_hosts.specs.Child.{status_of, kept, IsSilentEnd, IsLostEnd};
+ghost use Rattle.cc_hosts.specs.Child.{status_of, kept, IsSilentEnd, IsLostEnd, IsWholeEnd};
 
 use crate::command::{child_of, script_of};
 use crate::found::Found;
+use crate::kinds::is_folder;
+use crate::learned::Learned;
 use crate::look_up::{Place, look_up, path_in};
+use crate::outputs::{Written, read_outputs};
 use crate::reason::why_of;
+use crate::sink::Sink;
 use cc_host::{Command, OutputKind, Pipes, Status, Why};
 use cc_text::{Bytes, Mem, NoMemory};
 use std::alloc::Global;
 use std::env::Env;
 use std::fs;
-use std::io::{self, ErrorKind, Read};
+use std::io::{self, ErrorKind, PipeReader, pipe};
 use std::os::unix::process::CommandExt;
 use std::process::{self, Child, ExitStatus, OpenProcess, Processes, Stdio};
 use std::rt::Files;
+use std::sync::Wait;
 
 /// How a child ended, and what was kept of its outputs.
 #[derive(Drop)]
@@ -51,6 +56,8 @@ pub enum Outcome {
     Ended(Ended),
     /// It was waited for, and how it ended can't be learned. What it wrote is kept, and the status is without a code.
     Lost(Ended, Why),
+    /// It ended, and another process holds its standard error on. What was heard up to then is kept, and behind it a line that says so.
+    Unread(Ended),
 }
 
 // Whether the standard output of a child is kept.
@@ -91,15 +98,25 @@ pub enum Begun<P: OpenProcess + Drop> {
     Missing,
     /// It couldn't be started.
     Failed(Why),
+    /// The machine lends no process more for now.
+    Crowded,
     /// It runs.
-    Child(Child<P>),
+    Child(Spawned<P>),
+}
+
+/// A child that runs, with this process's ends of the pipes of its outputs.
+#[derive(Drop)]
+pub struct Spawned<P: OpenProcess + Drop> {
+    pub child: Child<P>,
+    pub out: Option<PipeReader>,
+    pub err: Option<PipeReader>,
 }
 
 // Why the folder of a command can't be entered, or none where it can, and where none is given.
 fn folder_fault(files: &impl Files, dir: Option<&str>) -> Option<Why> {
-    match fs::metadata(files, dir?) {
-        Ok(data) if data.is_dir() => None,
-        Ok(_) => Some(Why::Other),
+    match is_folder(files, dir?) {
+        Ok(true) => None,
+        Ok(false) => Some(Why::Other),
         Err(error) => Some(why_of(error.kind())),
     }
 }
@@ -112,24 +129,17 @@ fn not_found<P: OpenProcess + Drop>(files: &impl Files, cmd: &Command) -> Begun<
     }
 }
 
-// What a child wrote on its outputs.
-#[derive(Drop)]
-struct Written {
-    out: Vec<u8>,
-    err: Vec<u8>,
-}
-
 // What is kept of the end of a child.
 fn kept_end(alloc: Global, status: Status, written: &Written, pipes: Pipes) -> Mem<Ended>
     ensures status { IfOk result (λ e. e.status ≡ status) }
     ensures out { IfOk result
-        (λ e. e.out ≡ kept (is_captured pipes.out) written.now.out.items) }
-    ensures err { IfOk result (λ e. e.err ≡ kept pipes.hear written.now.err.items) }
+        (λ e. e.out ≡ kept (is_captured pipes.out) written.now.out.bytes.items) }
+    ensures err { IfOk result (λ e. e.err ≡ kept pipes.hear written.now.err.bytes.items) }
 {
     Ok(Ended {
         status,
-        out: kept(alloc, is_captured(pipes.out), &written.out)?,
-        err: kept(alloc, pipes.hear, &written.err)?,
+        out: kept(alloc, is_captured(pipes.out), &written.out.bytes)?,
+        err: kept(alloc, pipes.hear, &written.err.bytes)?,
     })
 }
 
@@ -137,46 +147,76 @@ fn kept_end(alloc: Global, status: Status, written: &Written, pipes: Pipes) -> M
 fn kept_exit(alloc: Global, status: ExitStatus, written: &Written, pipes: Pipes) -> Mem<Ended>
     ensures status { IfOk result (λ e. e.status ≡ status_of (exit_code status)) }
     ensures out { IfOk result
-        (λ e. e.out ≡ kept (is_captured pipes.out) written.now.out.items) }
-    ensures err { IfOk result (λ e. e.err ≡ kept pipes.hear written.now.err.items) }
+        (λ e. e.out ≡ kept (is_captured pipes.out) written.now.out.bytes.items) }
+    ensures err { IfOk result (λ e. e.err ≡ kept pipes.hear written.now.err.bytes.items) }
 {
     let end = kept_end(alloc, status_of(status), written, pipes)?;
     Ok(end)
 }
 
-// Reads the outputs of a child to their ends.
-fn read_outputs<P: OpenProcess + Drop>(alloc: Global, child: &mut Child<P>) -> io::Result<Written> {
-    let mut out = Vec::new(alloc);
-    let mut err = Vec::new(alloc);
-    match (child.stdout.take(), child.stderr.take()) {
-        (Some(mut stdout), Some(mut stderr)) => {
-            P::read_both(&mut stdout, &mut out, &mut stderr, &mut err)?;
-        }
-        (Some(mut stdout), None) => {
-            stdout.read_to_end(&mut out)?;
-        }
-        (None, Some(mut stderr)) => {
-            stderr.read_to_end(&mut err)?;
-        }
-        (None, None) => {}
+// What is told of a standard error that another process holds on, as a run tells it of a child.
+const UNREAD: &[u8] = b"Failed to read from child stderr\n";
+
+// Adds a line of its own that says that a standard error is held on.
+fn push_unread(heard: &mut Vec<u8>) -> Mem<()> {
+    if heard.last().is_some_and(|b| *b != b'\n') {
+        heard.push(b'\n')?;
     }
-    Ok(Written { out, err })
+    heard.extend_from_slice(UNREAD)?;
+    Ok(())
+}
+
+// What became of a command that ended so, with what it wrote. A standard output that another process holds on isn't whole.
+fn outcome_of(
+    alloc: Global,
+    ended: io::Result<ExitStatus>,
+    mut written: Written,
+    pipes: Pipes,
+) -> Mem<Outcome>
+    ensures silent { IfOk result (IsSilentEnd pipes) }
+    ensures lost { IfOk result IsLostEnd }
+    ensures whole { IfOk result (IsWholeEnd written.out.is_held written.err.is_held) }
+{
+    if written.out.is_held {
+        return Ok(Outcome::Failed(Why::Other));
+    }
+    if written.err.is_held {
+        push_unread(&mut written.err.bytes)?;
+    }
+    match ended {
+        Ok(status) => {
+            let end = kept_exit(alloc, status, &written, pipes)?;
+            if written.err.is_held {
+                return Ok(Outcome::Unread(end));
+            }
+            Ok(Outcome::Ended(end))
+        }
+        Err(error) => {
+            let end = kept_end(alloc, Status::NoCode, &written, pipes)?;
+            Ok(Outcome::Lost(end, why_of(error.kind())))
+        }
+    }
 }
 
 // Waits for the end of a child that was started. Refused for memory, the child did run, and what it wrote is lost. One whose outputs
 // can't be read is ended.
-fn finish<P: OpenProcess + Drop>(alloc: Global, mut child: Child<P>, pipes: Pipes) -> Mem<Outcome>
+fn finish<R: Wait, P: OpenProcess + Drop>(
+    rt: &R,
+    alloc: Global,
+    spawned: Spawned<P>,
+    pipes: Pipes,
+    sink: Option<&Sink>,
+) -> Mem<Outcome>
     ensures silent { IfOk result (IsSilentEnd pipes) }
     ensures lost { IfOk result IsLostEnd }
 {
-    match read_outputs(alloc, &mut child) {
-        Ok(written) => match child.wait() {
-            Ok(status) => Ok(Outcome::Ended(kept_exit(alloc, status, &written, pipes)?)),
-            Err(error) => {
-                let end = kept_end(alloc, Status::NoCode, &written, pipes)?;
-                Ok(Outcome::Lost(end, why_of(error.kind())))
-            }
-        },
+    let Spawned {
+        mut child,
+        out,
+        err,
+    } = spawned;
+    match read_outputs(rt, alloc, &mut child, (out, err), sink) {
+        Ok(written) => outcome_of(alloc, child.wait(), written, pipes),
         Err(error) => {
             let _ = child.kill();
             let _ = child.wait();
@@ -213,63 +253,103 @@ pub struct Streams {
     pub closed: Closed,
 }
 
-fn stdio_of(kind: OutputKind, is_closed: bool) -> Stdio {
-    match kind {
-        OutputKind::Forward => {
-            if is_closed {
-                Stdio::null()
-            } else {
-                Stdio::inherit()
-            }
+impl Streams {
+    // Whether a standard output goes nowhere.
+    fn drops_output(self) -> bool {
+        match self.pipes.out {
+            OutputKind::Forward => self.closed.output,
+            OutputKind::Discard => true,
+            OutputKind::Capture => false,
         }
-        OutputKind::Discard => Stdio::null(),
-        OutputKind::Capture => Stdio::piped(),
+    }
+
+    // Whether an output goes nowhere.
+    fn drops(self) -> bool {
+        !self.pipes.hear || self.drops_output()
+    }
+}
+
+// The pipe of an output that is read, with the child's end of it.
+fn read_end(files: &impl Files) -> io::Result<(Option<PipeReader>, Stdio)> {
+    let (ours, theirs) = pipe(files)?;
+    Ok((Some(ours), Stdio::from(theirs)))
+}
+
+// An output to nobody.
+fn no_end(sink: Option<&Sink>) -> io::Result<(Option<PipeReader>, Stdio)> {
+    match sink {
+        Some(sink) => Ok((None, sink.output()?)),
+        None => Ok((None, Stdio::null())),
+    }
+}
+
+// The pipe of the standard output where it is read, with what a child gets as it.
+fn output_end(
+    files: &impl Files,
+    streams: Streams,
+    sink: Option<&Sink>,
+) -> io::Result<(Option<PipeReader>, Stdio)> {
+    if streams.drops_output() {
+        return no_end(sink);
+    }
+    match streams.pipes.out {
+        OutputKind::Forward => Ok((None, Stdio::inherit())),
+        OutputKind::Discard | OutputKind::Capture => read_end(files),
     }
 }
 
 // Starts a child. Its standard error goes nowhere where it isn't heard.
-fn start<R: Processes>(
+fn start<R: Processes + Files>(
     rt: &R,
     mut child: process::Command,
     streams: Streams,
-) -> io::Result<Child<R::Started>> {
+    sink: Option<&Sink>,
+) -> io::Result<Spawned<R::Started>> {
     if streams.closed.input {
-        child.stdin(Stdio::null());
+        child.stdin(match sink {
+            Some(sink) => sink.input()?,
+            None => Stdio::null(),
+        });
     }
-    child.stdout(stdio_of(streams.pipes.out, streams.closed.output));
-    child.stderr(if streams.pipes.hear {
-        Stdio::piped()
+    let (out, theirs) = output_end(rt, streams, sink)?;
+    child.stdout(theirs);
+    let (err, theirs) = if streams.pipes.hear {
+        read_end(rt)?
     } else {
-        Stdio::null()
-    });
-    child.spawn(rt)
+        no_end(sink)?
+    };
+    child.stderr(theirs);
+    let child = child.spawn(rt)?;
+    Ok(Spawned { child, out, err })
 }
 
 // Starts a child whose program is at this path, under the name that was asked for.
-fn start_at<R: Processes + AllocGlobal>(
+fn start_at<R: Processes + Files + AllocGlobal>(
     rt: &R,
     path: &str,
     cmd: &Command,
     streams: Streams,
-) -> Mem<io::Result<Child<R::Started>>> {
+    sink: Option<&Sink>,
+) -> Mem<io::Result<Spawned<R::Started>>> {
     let mut child = child_of(rt.alloc(), path, cmd)?;
     child.arg0(cmd.get_program())?;
-    Ok(start(rt, child, streams))
+    Ok(start(rt, child, streams, sink))
 }
 
 // The number of the system's error for a file that is no program.
 const ENOEXEC: i32 = 8;
 
 // Starts a child whose program was found at this path. A file that is no program of the system's is read by the shell, as `execvp` has it.
-fn start_found<R: Processes + AllocGlobal>(
+fn start_found<R: Processes + Files + AllocGlobal>(
     rt: &R,
     path: &str,
     cmd: &Command,
     streams: Streams,
-) -> Mem<io::Result<Child<R::Started>>> {
-    match start_at(rt, path, cmd, streams)? {
+    sink: Option<&Sink>,
+) -> Mem<io::Result<Spawned<R::Started>>> {
+    match start_at(rt, path, cmd, streams, sink)? {
         Err(error) if error.raw_os_error() == Some(ENOEXEC) => {
-            Ok(start(rt, script_of(rt.alloc(), path, cmd)?, streams))
+            Ok(start(rt, script_of(rt.alloc(), path, cmd)?, streams, sink))
         }
         started => Ok(started),
     }
@@ -279,13 +359,14 @@ fn start_found<R: Processes + AllocGlobal>(
 fn begun_by<P: OpenProcess + Drop>(
     files: &impl Files,
     cmd: &Command,
-    started: io::Result<Child<P>>,
+    started: io::Result<Spawned<P>>,
 ) -> Mem<Begun<P>> {
     match started {
         Ok(child) => Ok(Begun::Child(child)),
         Err(error) => match error.kind() {
             ErrorKind::NotFound => Ok(not_found(files, cmd)),
             ErrorKind::OutOfMemory => Err(NoMemory),
+            ErrorKind::WouldBlock => Ok(Begun::Crowded),
             kind => Ok(Begun::Failed(why_of(kind))),
         },
     }
@@ -321,7 +402,7 @@ fn search<R: Processes + Files + AllocGlobal>(
     absolute: bool,
     cmd: &Command,
     streams: Streams,
-    found: &mut Option<Found>,
+    learned: &mut Learned,
 ) -> Mem<Begun<R::Started>> {
     let mut is_denied = false;
     let mut are_absolute = true;
@@ -335,13 +416,13 @@ fn search<R: Processes + Files + AllocGlobal>(
         if is_absent(rt, path.as_str(), cmd) {
             continue;
         }
-        let here = Found::of(rt.alloc(), cmd, folders, &path)?;
-        match start_found(rt, path.as_str(), cmd, streams)? {
+        let here = Found::of(rt.alloc(), cmd.get_program(), folders, absolute, &path)?;
+        match start_found(rt, path.as_str(), cmd, streams, learned.sink.as_ref())? {
             Err(error) if is_passed_over(error.kind()) => {
                 is_denied = is_denied || error.kind() == ErrorKind::PermissionDenied;
             }
             started => {
-                *found = if are_absolute { Some(here) } else { None };
+                learned.found = if are_absolute { Some(here) } else { None };
                 return begun_by(rt, cmd, started);
             }
         }
@@ -359,51 +440,79 @@ fn start_in<R: Processes + Files + AllocGlobal>(
     absolute: bool,
     cmd: &Command,
     streams: Streams,
-    found: &mut Option<Found>,
+    learned: &mut Learned,
 ) -> Mem<Begun<R::Started>> {
-    if let Some(here) = found
-        && let Some(path) = here.path_for(cmd, folders)
+    if let Some(here) = &learned.found
+        && let Some(path) = here.path_for(cmd.get_program(), folders, absolute)
     {
-        match start_found(rt, path, cmd, streams)? {
+        match start_found(rt, path, cmd, streams, learned.sink.as_ref())? {
             Err(error) if is_passed_over(error.kind()) => {}
             started => return begun_by(rt, cmd, started),
         }
     }
-    search(rt, folders, absolute, cmd, streams, found)
+    search(rt, folders, absolute, cmd, streams, learned)
+}
+
+fn begin_once<R: Processes + Files + Env + AllocGlobal>(
+    rt: &R,
+    cmd: &Command,
+    streams: Streams,
+    learned: &mut Learned,
+) -> Mem<Begun<R::Started>> {
+    match look_up(rt, cmd)? {
+        Place::Named => {
+            let sink = learned.sink.as_ref();
+            let started = start_at(rt, cmd.get_program(), cmd, streams, sink)?;
+            begun_by(rt, cmd, started)
+        }
+        Place::Own(folders) => start_in(rt, folders.as_str(), false, cmd, streams, learned),
+        Place::Absolute(folders) => start_in(rt, folders.as_str(), true, cmd, streams, learned),
+    }
 }
 
 /// Starts a command. Its standard error goes nowhere where it isn't heard. Want of memory means that nothing was started. A program that is
-/// searched is looked for first where it was found last.
+/// searched is looked for first where it was found last. Where the null device can't be opened, a pipe is in its place that is to be read and dropped.
 pub fn begin<R: Processes + Files + Env + AllocGlobal>(
     rt: &R,
     cmd: &Command,
     streams: Streams,
-    found: &mut Option<Found>,
+    learned: &mut Learned,
 ) -> Mem<Begun<R::Started>> {
-    match look_up(rt, cmd)? {
-        Place::Named => {
-            let started = start_at(rt, cmd.get_program(), cmd, streams)?;
-            begun_by(rt, cmd, started)
+    match begin_once(rt, cmd, streams, learned)? {
+        Begun::Child(spawned) => Ok(Begun::Child(spawned)),
+        Begun::Crowded => Ok(Begun::Crowded),
+        begun => {
+            if (streams.drops() || streams.closed.input) && learned.misses_null(rt) {
+                begin_once(rt, cmd, streams, learned)
+            } else {
+                Ok(begun)
+            }
         }
-        Place::Own(folders) => start_in(rt, folders.as_str(), false, cmd, streams, found),
-        Place::Absolute(folders) => start_in(rt, folders.as_str(), true, cmd, streams, found),
     }
 }
 
 /// Runs a command to its end. Its standard error goes nowhere where it isn't heard. Refused for memory, nothing was started, or the
-/// command ran and its end is lost.
-pub fn run<R: Processes + Files + Env + AllocGlobal>(
+/// command ran and its end is lost. An output that another process holds is heard on behind the command's end for a while.
+pub fn run<R: Processes + Files + Env + Wait + AllocGlobal>(
     rt: &R,
     cmd: &Command,
     streams: Streams,
-    found: &mut Option<Found>,
+    learned: &mut Learned,
 ) -> Mem<Outcome>
     ensures silent { IfOk result (IsSilentEnd streams.pipes) }
     ensures lost { IfOk result IsLostEnd }
 {
-    match begin(rt, cmd, streams, found)? {
+    match begin(rt, cmd, streams, learned)? {
         Begun::Missing => Ok(Outcome::Missing),
         Begun::Failed(why) => Ok(Outcome::Failed(why)),
-        Begun::Child(child) => finish(rt.alloc(), child, streams.pipes),
+        Begun::Crowded => Ok(Outcome::Failed(Why::Other)),
+        Begun::Child(spawned) => {
+            let sink = if streams.drops() {
+                learned.sink.as_ref()
+            } else {
+                None
+            };
+            finish(rt, rt.alloc(), spawned, streams.pipes, sink)
+        }
     }
 }

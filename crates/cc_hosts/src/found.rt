@@ -1,29 +1,50 @@
 // Where programs were found.
-use cc_host::Command;
+ghost use Rattle.std.specs.Prelude.{◌≡◌, IfOk};
+ghost use Rattle.std.specs.Option.{option_copied};
+ghost use Rattle.cc_hosts.specs.Found.{path_for};
+
 use cc_text::{Mem, Text};
 use std::alloc::Global;
 
-/// Where a program was found by its name on a PATH. A shell remembers that too (POSIX, `hash`), and looks again only where nothing is there any more.
+/// Where a program was found by its name on a PATH, of whose folders all count or the absolute ones alone. A shell remembers that too
+/// (POSIX, `hash`), and looks again only where nothing is there any more.
 #[derive(Drop)]
 pub struct Found {
-    program: Text,
-    folders: Text,
-    path: Text,
+    pub program: Text,
+    pub folders: Text,
+    pub absolute: bool,
+    pub path: Text,
 }
 
 impl Found {
-    /// Where the program of a command was found in these folders.
-    pub fn of(alloc: Global, cmd: &Command, folders: &str, path: &Text) -> Mem<Found> {
+    /// A program of this name was found in these folders, at this path.
+    pub fn of(
+        alloc: Global,
+        program: &str,
+        folders: &str,
+        absolute: bool,
+        path: &Text,
+    ) -> Mem<Found>
+        ensures program { IfOk result (λ f. f.program ≡ program.now) }
+        ensures folders { IfOk result (λ f. f.folders ≡ folders.now) }
+        ensures absolute { IfOk result (λ f. f.absolute ≡ absolute) }
+        ensures path { IfOk result (λ f. f.path ≡ path.now) }
+    {
         Ok(Found {
-            program: Text::of(alloc, cmd.get_program())?,
+            program: Text::of(alloc, program)?,
             folders: Text::of(alloc, folders)?,
+            absolute,
             path: path.try_clone()?,
         })
     }
 
-    /// The path, where the program of a command has the same name and is looked for in the same folders.
-    pub fn path_for(&self, cmd: &Command, folders: &str) -> Option<&str> {
-        if self.program.as_str() == cmd.get_program() && self.folders.as_str() == folders {
+    /// The path, where a program is looked for that has the same name, and in the same folders.
+    pub fn path_for(&self, program: &str, folders: &str, absolute: bool) -> Option<&str>
+        ensures { option_copied result ≡ path_for self.now program.now folders.now absolute }
+    {
+        let is_of_name = self.program.as_str() == program;
+        let is_of_path = self.folders.as_str() == folders;
+        if is_of_name && is_of_path && self.absolute == absolute {
             Some(self.path.as_str())
         } else {
             None

@@ -15,14 +15,22 @@ mod entry;
 mod fixed_host;
 mod found;
 mod heard;
+mod kinds;
+mod late;
+mod learned;
 mod look_up;
+mod outputs;
 mod plain;
 mod process_host;
 mod real_files;
 mod reason;
 mod replaced;
 mod running;
+mod sink;
 mod standard;
+#[cfg(test)]
+mod tests;
+mod waiting;
 mod watched;
 mod watchers;
 

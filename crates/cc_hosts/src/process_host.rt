@@ -7,9 +7,10 @@ use crate::bell::Bell;
 use crate::child::{self, Begun, Closed, Ended, Streams};
 use crate::disk::{create_new, remove};
 use crate::entry::list_vars;
-use crate::found::Found;
+use crate::kinds::{make_folders, stands};
+use crate::learned::Learned;
 use crate::reason::why_of;
-use crate::replaced::{name_beside, replace};
+use crate::replaced::{Beside, Contents, copy_of, replace};
 use crate::running::{self, Process};
 use crate::watched::Watched;
 use crate::watchers::Watchers;
@@ -23,7 +24,6 @@ use std::alloc::Global;
 use std::env::Env;
 use std::io::{Eprint, Print};
 use std::marker::Model;
-use std::os::fd::AsRawFd;
 use std::process::{OpenProcess, Processes};
 use std::random::RandomSource;
 use std::rt::Files;
@@ -51,15 +51,20 @@ impl World for Real {
 /// writes more waits for that. A turn takes what is there, of every child, and rests before only as long as there is nothing. A
 /// child that was left alone is ended, and its thread with it. With the host all threads are joined, and children that run are left to run.
 ///
-/// A program that is looked for on a `PATH` is started from where one of its name was found last on the same `PATH`, as a shell does (POSIX, `hash`), and looked
-/// for again where that can't be started.
+/// A pipe that another process holds is heard on for up to two seconds behind its child's end, and the end is told behind that. One that is
+/// held for longer counts as unread: a line says so of the standard error of `output`, and a question is unanswered. Refused is a standard
+/// output that is held.
 ///
-/// A child whose standard error isn't heard writes it nowhere. Refused for memory, a call that started nothing did nothing, and a turn
-/// loses nothing: the next one has it. A command of `output` or `probe` whose end can't be kept did run: its end is lost, and no event is
-/// noted.
+/// A program that is looked for on a `PATH` is started from where one of its name was found last on the same `PATH`, as a shell does (POSIX,
+/// `hash`), and looked for again where that can't be started.
 ///
-/// A file that couldn't be written whole is as it was, unless it had to be written in place, as a device, or one whose folder takes no new
-/// file.
+/// A child whose standard error isn't heard writes it nowhere: to the null device, or, where that can't be opened, to a pipe that is read
+/// and dropped. A child for which the machine lends no process is started without the threads, where no child needs them, or once another
+/// one ended. Refused for memory, a call that started nothing did nothing, and a turn loses nothing: the next one has it. A command of
+/// `output` or `probe` whose end can't be kept did run: its end is lost, and no event is noted.
+///
+/// A file that couldn't be written or copied to whole is as it was, unless it had to be written in place, as a device, or one whose folder
+/// takes no new file. What a run leaves that is ended meanwhile, the next one takes over.
 #[derive(Drop)]
 pub struct ProcessHost<R: Processes + Threads + Wait + Copy> {
     rt: R,
@@ -68,7 +73,7 @@ pub struct ProcessHost<R: Processes + Threads + Wait + Copy> {
     processes: Vec<Process<R>>,
     watchers: Watchers<R>,
     bell: Arc<Bell>,
-    found: Option<Found>,
+    learned: Learned,
     drawn: u64,
     closed: Closed,
     warned: bool,
@@ -85,7 +90,7 @@ where
     R::Started: Send + 'static,
     <R::Started as OpenProcess>::Stdin: Send + 'static,
     <R::Started as OpenProcess>::Stdout: Send + 'static,
-    <R::Started as OpenProcess>::Stderr: AsRawFd + Send + 'static,
+    <R::Started as OpenProcess>::Stderr: Send + 'static,
 {
     /// A host before its first call.
     pub fn new(rt: R) -> Mem<ProcessHost<R>>
@@ -101,7 +106,7 @@ where
             processes: Vec::new(alloc),
             watchers,
             bell,
-            found: None,
+            learned: Learned::nothing(),
             drawn: 0,
             closed: Closed {
                 input: false,
@@ -172,10 +177,7 @@ impl<
         + Eprint
         + RandomSource
         + AllocGlobal,
-> Host<Real> for ProcessHost<R>
-where
-    <R::Started as OpenProcess>::Stderr: AsRawFd,
-{
+> Host<Real> for ProcessHost<R> {
     ghost log = { λ h. h.log };
 
     ghost faults = { λ h. h.faults };
@@ -198,15 +200,23 @@ where
         let command = cmd.try_clone()?;
         let place = Watched::new(self.alloc, &self.bell)?;
         let streams = self.streams(child::heard_only(pipes));
-        match child::begin(&self.rt, cmd, streams, &mut self.found)? {
+        match running::begin(
+            self.rt,
+            cmd,
+            streams,
+            &mut self.learned,
+            &mut self.watchers,
+            &mut self.processes,
+        )? {
             Begun::Missing => {
                 self.log.note(Event::Missing { role, cmd: command });
                 Ok(Start::Missing)
             }
             Begun::Failed(why) => Err(self.log.fault(HostCall::Start, why)),
-            Begun::Child(child) => {
+            Begun::Crowded => Err(self.log.fault(HostCall::Start, Why::Other)),
+            Begun::Child(spawned) => {
                 let id = self.log.note_child(role, command, pipes, held, None);
-                let process = Process::new(self.rt, id, place, child);
+                let process = Process::new(self.rt, id, place, spawned);
                 self.processes.push_reserved(process);
                 Ok(Start::Child(id))
             }
@@ -218,6 +228,7 @@ where
             self.rt,
             self.alloc,
             &self.bell,
+            self.learned.sink.as_ref(),
             &self.watchers,
             &mut self.processes,
             rest_ms,
@@ -238,7 +249,7 @@ where
         let with = Boxed::new(self.alloc, Some(files.try_clone()?))?;
         let unanswered = Boxed::new(self.alloc, Outcome::Unanswered)?;
         let streams = self.streams(KEPT);
-        let end = ask(self.alloc, &self.rt, q, files, streams, &mut self.found)?;
+        let end = ask(self.alloc, &self.rt, q, files, streams, &mut self.learned)?;
         match outcome_of(end)? {
             Ok((outcome, copy)) => {
                 let copy = Boxed::new(self.alloc, copy)?;
@@ -280,7 +291,7 @@ where
         self.log.reserve(1)?;
         let question = Boxed::new(self.alloc, exists_of(self.alloc, path)?)?;
         let files = Boxed::new(self.alloc, None)?;
-        let there = fs::exists(&self.rt, path).unwrap_or(false);
+        let there = stands(&self.rt, path);
         let outcome = Boxed::new(self.alloc, Outcome::Exists(there))?;
         self.log.note(Event::Answered {
             question,
@@ -325,13 +336,15 @@ where
         self.log.reserve(1)?;
         let command = cmd.try_clone()?;
         let streams = self.streams(pipes);
-        match child::run(&self.rt, cmd, streams, &mut self.found)? {
+        match child::run(&self.rt, cmd, streams, &mut self.learned)? {
             child::Outcome::Missing => {
                 self.log.note(Event::Missing { role, cmd: command });
                 Ok(Ran::Missing)
             }
             child::Outcome::Failed(why) => Err(self.log.fault(HostCall::Output, why)),
-            child::Outcome::Ended(end) | child::Outcome::Lost(end, _) => {
+            child::Outcome::Ended(end)
+            | child::Outcome::Lost(end, _)
+            | child::Outcome::Unread(end) => {
                 let Ended { status, out, err } = end.try_clone()?;
                 let out = Boxed::new(self.alloc, out)?;
                 let err = Boxed::new(self.alloc, err)?;
@@ -355,7 +368,7 @@ where
     fn make_dir(&mut self, scope: Scope, path: &str) -> Result<(), HostError> {
         self.log.reserve(1)?;
         let made = Text::of(self.alloc, path)?;
-        match fs::create_dir_all(&self.rt, path) {
+        match make_folders(&self.rt, path) {
             Ok(()) => {
                 self.log.note(Event::Made { scope, path: made });
                 Ok(())
@@ -373,8 +386,8 @@ where
         let bytes = Bytes::of(self.alloc, contents)?;
         self.drawn = self.drawn.wrapping_add(1);
         let word = random_word(&self.rt, self.drawn);
-        let beside = name_beside(self.alloc, path, word)?;
-        match replace(&self.rt, path, beside.as_str(), contents) {
+        let beside = Beside::of(self.alloc, path, word)?;
+        match replace(&self.rt, path, &beside, Contents::Bytes(contents)) {
             Ok(()) => {
                 self.log.note(Event::Wrote { path: name, bytes });
                 Ok(())
@@ -387,8 +400,11 @@ where
         self.log.reserve(1)?;
         let source = Text::of(self.alloc, from)?;
         let name = Text::of(self.alloc, to)?;
-        match fs::copy(&self.rt, from, to) {
-            Ok(_) => {
+        self.drawn = self.drawn.wrapping_add(1);
+        let word = random_word(&self.rt, self.drawn);
+        let beside = Beside::of(self.alloc, to, word)?;
+        match copy(&self.rt, from, to, &beside) {
+            Ok(()) => {
                 self.log.note(Event::Copied {
                     from: source,
                     to: name,
@@ -466,6 +482,12 @@ where
     fn log(&self) -> &[Event] {
         self.log.events()
     }
+}
+
+// Copies a file.
+fn copy(files: &impl Files, from: &str, to: &str, beside: &Beside) -> io::Result<()> {
+    let contents = copy_of(files, from)?;
+    replace(files, to, beside, contents)
 }
 
 // A word at random, or this one where the system gives none.

@@ -7,16 +7,21 @@ ghost use Rattle.cc_host.specs.Children.{IsNews};
 ghost use Rattle.cc_host.specs.Event.{turned};
 
 use crate::bell::Bell;
+use crate::child::{self, Begun, Spawned, Streams};
 use crate::heard::Taken;
-use crate::watched::{Watched, is_left_out};
+use crate::learned::Learned;
+use crate::sink::{Sink, drain, pipe_of};
+use crate::waiting::{is_left_out, is_told, nap, wait_for};
+use crate::watched::Watched;
 use crate::watchers::Watchers;
-use cc_host::{ChildLog, News, RunningChild, Status};
+use cc_host::{ChildLog, Command, News, RunningChild, Status};
 use cc_text::{Mem, NoMemory};
 use libc::types::pollfd;
 use std::alloc::Global;
-use std::os::fd::AsRawFd;
-use std::process::{Child, OpenProcess, Processes};
-use std::sync::{Arc, Wait};
+use std::env::Env;
+use std::process::Processes;
+use std::rt::Files;
+use std::sync::{Arc, Wait, WaitMethods};
 use std::thread::Threads;
 
 /// A process that runs, as its child is watched.
@@ -88,9 +93,9 @@ impl<R: Processes + Wait + Copy> Process<R> {
         rt: R,
         id: u64,
         watched: Arc<Watched<R::Started>>,
-        child: Child<R::Started>,
+        spawned: Spawned<R::Started>,
     ) -> Process<R> {
-        watched.begin(&rt, child);
+        watched.begin(&rt, spawned);
         Process {
             rt,
             id,
@@ -111,12 +116,7 @@ impl<R: Processes + Wait + Copy> Process<R> {
         let most_ms = if self.is_closed { CLOSED_MS } else { SILENT_MS };
         !self.is_grown && self.silent_ms >= most_ms
     }
-}
 
-impl<R: Processes + Wait + Copy> Process<R>
-where
-    <R::Started as OpenProcess>::Stderr: AsRawFd,
-{
     // Does what is to be done behind a rest of so many milliseconds for a child that has no thread, of which is known whether its pipe is ready.
     fn attend(&mut self, is_ready: bool, rested_ms: u64) {
         if is_ready || self.unasked_ms >= UNASKED_MS {
@@ -211,17 +211,16 @@ fn has_news<R: Processes + Wait + Copy>(processes: &[Process<R>]) -> bool {
     false
 }
 
-// The bell, and the pipes of the young children, to be waited for.
+// The bell, a sink where there is one, and the pipes of the young children, to be waited for.
 fn pipes_of<R: Processes + Wait + Copy>(
     alloc: Global,
     bell: &Bell,
+    sink: Option<&Sink>,
     processes: &[Process<R>],
-) -> Mem<Vec<pollfd>>
-where
-    <R::Started as OpenProcess>::Stderr: AsRawFd,
-{
-    let mut pipes = Vec::with_capacity(alloc, processes.len().saturating_add(1))?;
+) -> Mem<Vec<pollfd>> {
+    let mut pipes = Vec::with_capacity(alloc, processes.len().saturating_add(2))?;
     pipes.push(bell.pipe())?;
+    pipes.push(pipe_of(sink))?;
     for process in processes {
         if !process.is_grown {
             pipes.push(process.watched.pipe(&process.rt))?;
@@ -236,48 +235,54 @@ fn attend_all<R: Processes + Wait + Copy>(
     processes: &mut [Process<R>],
     pipes: &[pollfd],
     rested_ms: u64,
-)
-where
-    <R::Started as OpenProcess>::Stderr: AsRawFd,
-{
+) {
     let mut waited = pipes.iter();
     for process in processes {
         if !process.is_grown
             && let Some(pipe) = waited.next()
         {
             process.is_closed = is_left_out(pipe);
-            process.attend(process.is_closed || pipe.revents != 0, rested_ms);
+            process.attend(process.is_closed || is_told(pipe), rested_ms);
         } else {
             process.watched.attend(&process.rt, false);
         }
     }
 }
 
-// Waits until a thread rings, or a young child writes or ends, for at most so many milliseconds, does what is to be done for those without a thread, and
-// answers how many milliseconds were to be waited. Where memory is wanting to wait for them together, the bell alone is waited for, for a short rest.
-fn wait_for_all<R: Processes + Wait + Copy>(
-    alloc: Global,
+// Waits for the bell alone, for a short rest, and asks each child without a thread.
+fn ask_all<R: Processes + Wait + Copy>(
     bell: &Bell,
     processes: &mut [Process<R>],
     rest_ms: u64,
-) -> u64
-where
-    <R::Started as OpenProcess>::Stderr: AsRawFd,
-{
-    match pipes_of(alloc, bell, processes) {
+) -> u64 {
+    let rested_ms = rest_ms.min(SHORT_MS);
+    if rested_ms > 0 && !wait_for(&mut [bell.pipe()], rested_ms as i32) {
+        nap();
+    }
+    attend_all(processes, &[], rested_ms);
+    rested_ms
+}
+
+// Waits until a thread rings, or a young child writes or ends, for at most so many milliseconds, does what is to be done for those without a thread, and
+// answers how many milliseconds were to be waited. Where they can't be waited for together, each is asked alone.
+fn wait_for_all<R: Processes + Wait + Copy>(
+    alloc: Global,
+    bell: &Bell,
+    sink: Option<&Sink>,
+    processes: &mut [Process<R>],
+    rest_ms: u64,
+) -> u64 {
+    match pipes_of(alloc, bell, sink, processes) {
         Ok(mut pipes) => {
-            let hears_all = !pipes.iter().skip(1).any(is_left_out);
+            let hears_all = !pipes.iter().skip(2).any(is_left_out);
             let rested_ms = rest_ms.min(if hears_all { LONGEST_MS } else { SHORT_MS });
-            libc::net::poll(&mut pipes, rested_ms as i32);
-            attend_all(processes, pipes.get(1..).unwrap_or(&[]), rested_ms);
+            if !wait_for(&mut pipes, rested_ms as i32) {
+                return ask_all(bell, processes, rest_ms);
+            }
+            attend_all(processes, pipes.get(2..).unwrap_or(&[]), rested_ms);
             rested_ms
         }
-        Err(NoMemory) => {
-            let rested_ms = rest_ms.min(SHORT_MS);
-            libc::net::poll(&mut [bell.pipe()], rested_ms as i32);
-            attend_all(processes, &[], rested_ms);
-            rested_ms
-        }
+        Err(NoMemory) => ask_all(bell, processes, rest_ms),
     }
 }
 
@@ -296,22 +301,99 @@ fn grow<R: Processes + Threads + Wait + Copy>(
 }
 
 /// Rests until a child has news, for at most so many milliseconds, or for less where a child closed its pipe and has no thread yet. One that was silent for
-/// long gets a thread.
+/// long gets a thread. What was written to a sink is dropped.
 pub fn rest<R: Processes + Threads + Wait + Copy>(
     rt: R,
     alloc: Global,
     bell: &Bell,
+    sink: Option<&Sink>,
     watchers: &Watchers<R>,
     processes: &mut [Process<R>],
     rest_ms: u64,
-)
-where
-    <R::Started as OpenProcess>::Stderr: AsRawFd,
-{
+) {
     bell.hush(&rt);
     let rest_ms = if has_news(processes) { 0 } else { rest_ms };
-    let rested_ms = wait_for_all(alloc, bell, processes, rest_ms);
+    let rested_ms = wait_for_all(alloc, bell, sink, processes, rest_ms);
+    drain(sink);
     if rested_ms > 0 && !has_news(processes) {
         grow(watchers, processes, rested_ms);
     }
+}
+
+// How many children are known to have ended, and whether one goes on.
+fn ends<R: Processes + Wait + Copy>(processes: &[Process<R>]) -> (usize, bool) {
+    let mut count: usize = 0;
+    let mut goes_on = false;
+    for process in processes {
+        if process.watched.is_over(&process.rt) {
+            count = count.saturating_add(1);
+        }
+        goes_on = goes_on || process.watched.goes_on(&process.rt);
+    }
+    (count, goes_on)
+}
+
+// Waits until one more child ended. Answers whether one did: none does where none runs, or where each waits until what it wrote is taken.
+fn wait_for_end<R: Processes + Wait + Copy>(
+    rt: R,
+    sink: Option<&Sink>,
+    processes: &mut [Process<R>],
+) -> bool {
+    let (before, _) = ends(processes);
+    for _ in rt.forever() {
+        attend_all(processes, &[], 0);
+        drain(sink);
+        let (count, goes_on) = ends(processes);
+        if count > before || !goes_on {
+            return count > before;
+        }
+        nap();
+    }
+    false
+}
+
+// Whether a thread watches a child that runs.
+fn has_watched<R: Processes + Wait + Copy>(processes: &[Process<R>]) -> bool {
+    for process in processes {
+        if process.is_grown && !process.watched.is_over(&process.rt) {
+            return true;
+        }
+    }
+    false
+}
+
+// Frees a process of the machine, where one can be freed: that of the thread that makes threads, or that of a child, once it ended.
+fn free_one<R: Processes + Threads + Wait + Copy>(
+    rt: R,
+    sink: Option<&Sink>,
+    watchers: &mut Watchers<R>,
+    processes: &mut [Process<R>],
+) -> bool {
+    if !has_watched(processes) && watchers.release() {
+        return true;
+    }
+    wait_for_end(rt, sink, processes)
+}
+
+/// Starts a command. Where the machine lends no process more for now, it is tried again without the threads, where no child needs them, and
+/// then each time that a child ended.
+pub fn begin<R: Processes + Threads + Files + Env + Wait + Copy + AllocGlobal>(
+    rt: R,
+    cmd: &Command,
+    streams: Streams,
+    learned: &mut Learned,
+    watchers: &mut Watchers<R>,
+    processes: &mut [Process<R>],
+) -> Mem<Begun<R::Started>> {
+    for _ in rt.forever() {
+        match child::begin(&rt, cmd, streams, learned)? {
+            Begun::Crowded => {
+                if !free_one(rt, learned.sink.as_ref(), watchers, processes) {
+                    break;
+                }
+            }
+            begun => return Ok(begun),
+        }
+    }
+    Ok(Begun::Crowded)
 }

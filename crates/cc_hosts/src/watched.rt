@@ -1,22 +1,24 @@
 // A child that is watched, as its own thread and its host share it.
 //
 // The thread waits in `poll(2)` for the pipe of the child's standard error, and never for long: so it sees that the child ended where a
-// process that the child left behind holds the pipe open, and that the child was left alone. Waiting for a child wants it whole, as ending
-// it does, so the thread asks whether it ended, and the host can end it in between. An end is asked for as the pipe closes, which it does
-// with the child; where it closed before, the asking grows rarer, down to once in so many milliseconds.
+// process that the child left behind holds the pipe open, and that the child was left alone. Such a pipe is heard on for a while, and the
+// end is told behind that. Waiting for a child wants it whole, as ending it does, so the thread asks whether it ended, and the host can
+// end it in between. An end is asked for as the pipe closes, which it does with the child; where it closed before, the asking grows
+// rarer, down to once in so many milliseconds.
 ghost use Rattle.std.specs.Prelude.{◌≡◌, IfOk};
 ghost use Rattle.cc_host.specs.ChildLog.{IsPieceBy};
 ghost use Rattle.cc_hosts.specs.Running.{ended_by};
 
-use crate::bell::{Bell, awaited, left_out};
-use crate::child::status_of;
+use crate::bell::Bell;
+use crate::child::{Spawned, status_of};
 use crate::heard::{Heard, Taken};
+use crate::late::Late;
+use crate::waiting::{awaited, is_ready, left_out};
 use cc_host::{News, RunningChild, Status};
 use cc_text::Mem;
 use libc::types::pollfd;
 use std::alloc::Global;
-use std::io::{self, ErrorKind, Read};
-use std::os::fd::AsRawFd;
+use std::io::{self, ErrorKind, PipeReader, Read};
 use std::process::{Child, ExitStatus, OpenProcess};
 use std::sync::{Arc, Mutex, Wait, WaitMethods};
 use std::thread::Parker;
@@ -34,27 +36,26 @@ const STEPS: u32 = 64;
 
 const CLOSED_STEPS: u32 = 4;
 
-// How many reads may follow the end of a child. A pipe holds no more of what it wrote.
-const LAST_READS: u32 = 128;
-
-// How long the thread rests before it asks again whether a child ended whose pipe is closed, in microseconds: at first and at most.
+// How long the thread rests before it asks again whether a child ended whose pipe is closed, in microseconds: at first, from where on rests grow slowly, and at
+// most. A slow rest is longer by a 64th than the one before, so that an end is found late by about a 64th of the child's time.
 const FIRST_REST: u64 = 100;
+
+const SLOW_REST: u64 = 1000;
 
 const LONGEST_REST: u64 = 10_000;
 
-// The pipe of a child, as long as it is read. Once the child ended, so many reads are left.
+// The pipe of a child, as long as it is read.
 #[derive(Drop)]
-struct Ear<E: Drop> {
-    pipe: Option<E>,
-    is_gone: bool,
-    left: u32,
+struct Ear {
+    pipe: Option<PipeReader>,
+    late: Late,
 }
 
 /// A child with what was heard of it, each part behind a lock. Its thread takes the ear for itself, so that a turn never waits for one who listens.
 #[derive(Drop)]
 pub struct Watched<P: OpenProcess + Drop> {
     process: Mutex<Option<Child<P>>>,
-    ear: Mutex<Option<Ear<P::Stderr>>>,
+    ear: Mutex<Option<Ear>>,
     heard: Mutex<Heard>,
     rest: Parker,
     bell: Arc<Bell>,
@@ -88,15 +89,10 @@ enum Patience {
     Known,
 }
 
-/// Whether `poll(2)` leaves out a file, since its descriptor is below zero.
-pub fn is_left_out(file: &pollfd) -> bool {
-    file.fd < 0
-}
-
-// Whether a file can be read without waiting, or has an end to tell, within so many milliseconds.
-fn is_ready(file: &impl AsRawFd, most_ms: i32) -> bool {
-    let mut asked = [awaited(file)];
-    libc::net::poll(&mut asked, most_ms) > 0
+// The rest behind one of so many microseconds.
+fn longer(rest: u64) -> u64 {
+    let more = if rest < SLOW_REST { rest } else { rest / 64 };
+    rest.saturating_add(more).min(LONGEST_REST)
 }
 
 // How a child ended, by what asking for it gave. A child whose end can't be learned ended without a code.
@@ -110,22 +106,19 @@ fn ended_by(asked: io::Result<Option<ExitStatus>>) -> Option<Status>
     }
 }
 
-impl<E: Drop> Ear<E> {
-    fn of(pipe: Option<E>) -> Ear<E> {
+impl Ear {
+    fn of(pipe: Option<PipeReader>) -> Ear {
         Ear {
             pipe,
-            is_gone: false,
-            left: LAST_READS,
+            late: Late::new(),
         }
     }
 
     // Notes what a read gave.
     fn note(&mut self, hearing: Hearing) -> Step {
         match hearing {
-            Hearing::Bytes => {
-                self.count();
-                Step::News
-            }
+            Hearing::Bytes => Step::News,
+            Hearing::Nothing => Step::Silent,
             Hearing::NoRoom => Step::Full,
             Hearing::Closed => {
                 self.pipe = None;
@@ -135,24 +128,24 @@ impl<E: Drop> Ear<E> {
                 self.pipe = None;
                 Step::News
             }
-            Hearing::Nothing => {
-                if self.is_gone {
-                    self.pipe = None;
-                    return Step::Again;
-                }
-                Step::Silent
-            }
         }
     }
 
-    // Counts a read of a child that ended.
-    fn count(&mut self) {
-        if !self.is_gone {
-            return;
+    // Whether the child is to be asked whether it ended, behind such a step.
+    fn asks(&mut self, step: Step) -> bool {
+        match step {
+            Step::Silent => self.late.asks(true),
+            Step::News => self.late.asks(false),
+            Step::Again | Step::Full | Step::Closed | Step::Over => false,
         }
-        self.left = self.left.saturating_sub(1);
-        if self.left == 0 {
-            self.pipe = None;
+    }
+
+    // Whether the pipe is to be left behind such a step, since the child ended long ago.
+    fn leaves(&mut self, step: Step) -> bool {
+        match step {
+            Step::Silent => self.late.leaves(true),
+            Step::News => self.late.leaves(false),
+            Step::Again | Step::Full | Step::Closed | Step::Over => false,
         }
     }
 }
@@ -172,8 +165,9 @@ impl<P: OpenProcess + Drop> Watched<P> {
     }
 
     /// Takes the child that was started. It takes no memory.
-    pub fn begin(&self, rt: &impl Wait, mut child: Child<P>) {
-        *self.ear.lock(rt) = Some(Ear::of(child.stderr.take()));
+    pub fn begin(&self, rt: &impl Wait, spawned: Spawned<P>) {
+        let Spawned { child, out: _, err } = spawned;
+        *self.ear.lock(rt) = Some(Ear::of(err));
         *self.process.lock(rt) = Some(child);
     }
 
@@ -196,6 +190,17 @@ impl<P: OpenProcess + Drop> Watched<P> {
     pub fn forget(&self, rt: &impl Wait, taken: Taken) {
         self.heard.lock(rt).forget(taken);
         self.rest.unpark();
+    }
+
+    /// Whether the child runs on as far as is known, and doesn't wait until what it wrote is taken.
+    pub fn goes_on(&self, rt: &impl Wait) -> bool {
+        let mut heard = self.heard.lock(rt);
+        heard.ended.is_none() && heard.room() > 0
+    }
+
+    /// Whether the child is known to have ended.
+    pub fn is_over(&self, rt: &impl Wait) -> bool {
+        self.heard.lock(rt).ended.is_some()
     }
 
     /// Ends the child, and waits for its end, which takes no memory. What fails there is ignored.
@@ -236,7 +241,7 @@ impl<P: OpenProcess + Drop> Watched<P> {
     }
 
     // Reads once what is there.
-    fn read(&self, rt: &impl Wait, pipe: &mut P::Stderr, room: usize) -> Hearing {
+    fn read(&self, rt: &impl Wait, pipe: &mut PipeReader, room: usize) -> Hearing {
         let mut buffer = [0; READ];
         match pipe.read(&mut buffer[..room.min(READ)]) {
             Ok(0) => Hearing::Closed,
@@ -251,14 +256,9 @@ impl<P: OpenProcess + Drop> Watched<P> {
             }
         }
     }
-}
 
-impl<P: OpenProcess + Drop> Watched<P>
-where
-    P::Stderr: AsRawFd,
-{
     // Reads once what comes within so many milliseconds, or what is known to be there.
-    fn hear(&self, rt: &impl Wait, pipe: &mut P::Stderr, patience: Patience) -> Hearing {
+    fn hear(&self, rt: &impl Wait, pipe: &mut PipeReader, patience: Patience) -> Hearing {
         let room = self.heard.lock(rt).room();
         if room == 0 {
             return Hearing::NoRoom;
@@ -271,20 +271,21 @@ where
         self.read(rt, pipe, room)
     }
 
-    // Hears what comes within so many milliseconds, or what is known to be there, or asks whether the child ended.
-    fn step(&self, rt: &impl Wait, ear: &mut Ear<P::Stderr>, patience: Patience) -> Step {
-        let patience = if ear.is_gone {
-            Patience::Within(0)
-        } else {
-            patience
-        };
+    // Hears what comes within so many milliseconds, or what is known to be there, or asks whether the child ended. A pipe that another process holds on for
+    // long behind that counts as unread.
+    fn step(&self, rt: &impl Wait, ear: &mut Ear, patience: Patience) -> Step {
         let hearing = match &mut ear.pipe {
             Some(pipe) => self.hear(rt, pipe, patience),
             None => return self.look(rt),
         };
         let step = ear.note(hearing);
-        if matches!(step, Step::Silent) && self.ended(rt).is_some() {
-            ear.is_gone = true;
+        if ear.leaves(step) {
+            ear.pipe = None;
+            self.heard.lock(rt).unread = true;
+            return Step::News;
+        }
+        if ear.asks(step) && self.ended(rt).is_some() {
+            ear.late.begin();
             return Step::Again;
         }
         step
@@ -298,7 +299,7 @@ where
         }
     }
 
-    fn attend_to(&self, rt: &impl Wait, ear: &mut Ear<P::Stderr>, is_ready: bool) {
+    fn attend_to(&self, rt: &impl Wait, ear: &mut Ear, is_ready: bool) {
         let mut patience = if is_ready {
             Patience::Known
         } else {
@@ -338,7 +339,7 @@ where
         }
     }
 
-    fn watch_on<R: Wait>(&self, rt: &R, ear: &mut Ear<P::Stderr>) {
+    fn watch_on<R: Wait>(&self, rt: &R, ear: &mut Ear) {
         let mut rest = FIRST_REST;
         for _ in rt.forever() {
             if self.is_left(rt) {
@@ -352,7 +353,7 @@ where
                     .park_timeout(rt, Duration::from_micros(LONGEST_REST)),
                 Step::Closed => {
                     self.rest.park_timeout(rt, Duration::from_micros(rest));
-                    rest = rest.saturating_mul(2).min(LONGEST_REST);
+                    rest = longer(rest);
                 }
                 Step::Over => {
                     self.bell.ring(rt);

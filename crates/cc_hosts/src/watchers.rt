@@ -3,7 +3,6 @@
 use crate::watched::Watched;
 use cc_text::Mem;
 use std::alloc::Global;
-use std::os::fd::AsRawFd;
 use std::process::{OpenProcess, Processes};
 use std::sync::{Arc, Condvar, Mutex, Wait, WaitMethods};
 use std::thread::{self, JoinHandle, Parker, Threads};
@@ -110,10 +109,7 @@ impl<P: OpenProcess + Drop> Queue<P> {
 }
 
 // Watches one child after another, until no more come.
-fn watch<R: Processes + Threads + Wait + Copy>(rt: R, queue: &Queue<R::Started>)
-where
-    <R::Started as OpenProcess>::Stderr: AsRawFd,
-{
+fn watch<R: Processes + Threads + Wait + Copy>(rt: R, queue: &Queue<R::Started>) {
     for _ in rt.forever() {
         let Some(child) = queue.next(&rt) else {
             return;
@@ -133,7 +129,7 @@ where
     R::Started: Send + 'static,
     <R::Started as OpenProcess>::Stdin: Send + 'static,
     <R::Started as OpenProcess>::Stdout: Send + 'static,
-    <R::Started as OpenProcess>::Stderr: AsRawFd + Send + 'static,
+    <R::Started as OpenProcess>::Stderr: Send + 'static,
 {
     let theirs = Arc::try_clone(queue).ok()?;
     thread::spawn(&rt, move || watch(rt, &theirs)).ok()
@@ -149,7 +145,7 @@ where
     R::Started: Send + 'static,
     <R::Started as OpenProcess>::Stdin: Send + 'static,
     <R::Started as OpenProcess>::Stdout: Send + 'static,
-    <R::Started as OpenProcess>::Stderr: AsRawFd + Send + 'static,
+    <R::Started as OpenProcess>::Stderr: Send + 'static,
 {
     if threads.reserve(1).is_err() {
         return false;
@@ -173,7 +169,7 @@ where
     R::Started: Send + 'static,
     <R::Started as OpenProcess>::Stdin: Send + 'static,
     <R::Started as OpenProcess>::Stdout: Send + 'static,
-    <R::Started as OpenProcess>::Stderr: AsRawFd + Send + 'static,
+    <R::Started as OpenProcess>::Stderr: Send + 'static,
 {
     for _ in rt.forever() {
         if !queue.wants_thread(&rt) {
@@ -195,7 +191,7 @@ where
     R::Started: Send + 'static,
     <R::Started as OpenProcess>::Stdin: Send + 'static,
     <R::Started as OpenProcess>::Stdout: Send + 'static,
-    <R::Started as OpenProcess>::Stderr: AsRawFd + Send + 'static,
+    <R::Started as OpenProcess>::Stderr: Send + 'static,
 {
     let mut threads = Vec::new(alloc);
     for _ in rt.forever() {
@@ -244,6 +240,19 @@ impl<R: Processes + Threads + Wait + Copy> Watchers<R> {
             Err(_) => false,
         }
     }
+
+    /// Gives back what the threads take of the machine's processes, where none of them watches a child that runs. No child gets one from then
+    /// on. Answers whether there was one.
+    pub fn release(&mut self) -> bool {
+        match self.thread.take() {
+            Some(thread) => {
+                self.queue.close(&self.rt);
+                thread.join(&self.rt);
+                true
+            }
+            None => false,
+        }
+    }
 }
 
 impl<R: Processes + Threads + Wait + Copy + Send + 'static> Watchers<R>
@@ -251,7 +260,7 @@ where
     R::Started: Send + 'static,
     <R::Started as OpenProcess>::Stdin: Send + 'static,
     <R::Started as OpenProcess>::Stdout: Send + 'static,
-    <R::Started as OpenProcess>::Stderr: AsRawFd + Send + 'static,
+    <R::Started as OpenProcess>::Stderr: Send + 'static,
 {
     /// No child yet. Where no thread can be made, or none is wanted, no child gets one.
     pub fn new(rt: R, alloc: Global, are_wanted: bool) -> Mem<Watchers<R>> {
