@@ -456,7 +456,7 @@ module _ (t : Terms) (task : Task) (look : Look) where
 
 -- ---- the library of a part
 
-module _ (task : Task) (library : Library) (look : Look) (total patience before : Option ℕ) (old mid new : List Event) (x z : Means) (patient : before ≡ patience) (first : mid ≡ old ++ since old mid) (last : new ≡ mid ++ since mid new) (asked : list_all is_asked (since old mid) ≡ true) (plan : Archives task library.archiver.now look) (listed : list_refusal library.archiver.now (archived_of task.set.now task.env.now) ≡ None) (target : info_seen library.target.now ≡ target_info task.set.now task.env.now) (env : library.env.now ≡ task.env.now) (name : library.name.now ≡ library_name task.output.now) (path : library.path.now ≡ library_of task.set.now task.env.now task.output.now) (paths : library.paths.now ≡ archived_of task.set.now task.env.now) where
+module _ (task : Task) (library : Library) (look : Look) (total patience before : Option ℕ) (old mid new : List Event) (x z : Means) (patient : before ≡ patience) (first : mid ≡ old ++ since old mid) (last : new ≡ mid ++ since mid new) (asked : list_all is_asked (since old mid) ≡ true) (plan : Archives task library.archiver.now look) (listed : archived_refusal task.set.now task.env.now library.archiver.now (archived_of task.set.now task.env.now) ≡ None) (target : info_seen library.target.now ≡ target_info task.set.now task.env.now) (env : library.env.now ≡ task.env.now) (name : library.name.now ≡ library_name task.output.now) (path : library.path.now ≡ library_of task.set.now task.env.now task.output.now) (paths : library.paths.now ≡ archived_of task.set.now task.env.now) where
   abbrev in_terms : Option ℕ → Terms
   in_terms p = terms task.reporting.shows total p
 
