@@ -7,7 +7,7 @@ use Rattle.std.proofs.lemmas.Grind.{take_at_read}
 use Rattle.std.proofs.lemmas.List.{map-append}
 use Rattle.cc_flags.specs.Settings.{unset_settings}
 use Rattle.cc_build.specs.Build.{BuildSeen}
-use Rattle.cc_command.specs.Read.{bad_at, bad_or, bad_word, first_bad, word_cause, values, settings_of, IsJobOf, is, database_of, wish_by, wish_of, is_count, IsCountOf, IsNumberOf, taken, further, read_named, read_count, read_build, refusal_of}
+use Rattle.cc_command.specs.Read.{bad_at, bad_or, bad_word, first_bad, word_cause, values, levels, settings_of, IsJobOf, is, database_of, wish_by, wish_of, is_count, IsCountOf, IsNumberOf, taken, further, read_named, read_count, read_build, refusal_of}
 use Rattle.cc_command.specs.SetsKey.{ReadsSettings}
 use Rattle.cc_command.specs.Step.{with_word}
 use Rattle.cc_command.specs.declared.words.BadWord.{BadWord}
@@ -21,7 +21,7 @@ use Rattle.cc_command.proofs.SettingLaws.{next_settings}
 
 -- before the first word nothing is set but that lines are repeated
 pub fresh_settings : (old new : BuildSeen) → old ≡ record { config = unset_settings; env = record { inherited = []; explicit = [] } } → new ≡ record old { config = record old.config { repeat_lines = true } } → new ≡ settings_of []
-unfolding values
+unfolding values levels
 fresh_settings old new fresh set = set ∙ rw fresh refl
 
 module _ {A : Type 0} (text : A → List ℕ) (recorded : Bool) (words : List A) (from i : ℕ) (word : A) where
