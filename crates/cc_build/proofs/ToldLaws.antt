@@ -1,5 +1,5 @@
 -- A call that asks and does something, and then prints the lines of the variables that it read.
-use Rattle.std.proofs.Common.{◌≡◌, ◌⊎◌, inl, inr, ℕ, List, [], ◌∷◌, ◌++◌, Bool, true, false, Option, Some, None, Result, Ok, Err, refl, sym, ◌∙◌, ap, ap₂, subst}
+use Rattle.std.proofs.Common.{◌≡◌, ◌⊎◌, inl, inr, ℕ, List, [], ◌∷◌, ◌++◌, Bool, true, false, not, Option, Some, None, Result, Ok, Err, refl, sym, ◌∙◌, ap, ap₂, subst}
 use Rattle.cc_env.specs.Env.{EnvSeen}
 use Rattle.cc_host.specs.Part.{Step, since}
 use Rattle.cc_host.specs.Question.{Look, Answer, answers, Agrees, NoTwice, Holds}
@@ -9,18 +9,22 @@ use Rattle.cc_host.specs.declared.question.Outcome.{Outcome as WorldOutcome}
 use Rattle.cc_host.specs.declared.question.Question.{Question}
 use Rattle.cc_host.proofs.Parts.{since_since}
 use Rattle.cc_plan.specs.Plan.{prints}
-use Rattle.cc_plan.specs.Questions.{ToolAsks, ArchiverAsks, RanlibAsks, NameAsks, PlanAsks, CompileAsks, SupportAsks, RunAsks}
+use Rattle.cc_plan.specs.Questions.{ArchiverAsks, RanlibAsks, NameAsks, PlanAsks, SupportAsks, ToolsAsks, RunAsks}
+use Rattle.cc_plan.specs.Refusal.{is_empty}
+use Rattle.std.proofs.lemmas.Bool.{and_parts}
 use Rattle.cc_flags.specs.declared.link_line.LinkLine.{LinkLine}
 use Rattle.cc_flags.specs.declared.settings.BuildConfig.{BuildConfig}
 use Rattle.cc_flags.specs.declared.variables.Reads.{Reads}
-use Rattle.cc_plan.proofs.ArchiveToolLemmas.{archiver_asks, ranlib_asks, tool_for_archive}
-use Rattle.cc_plan.proofs.QuestionLemmas.{tool_for_plan, tool_for_support}
+use Rattle.cc_plan.proofs.QuestionLemmas.{NameCase, name_cases, compiler_in_plan, plan_in_tools, pair_in_support, tools_for_compile}
 use Rattle.cc_tool.specs.Asked.{Asked}
 use Rattle.cc_tool.specs.Own.{AnswersAmong}
 use Rattle.cc_build.specs.Error.{ErrorSeen}
 use Rattle.cc_build.specs.Kept.{AsksOn}
 use Rattle.cc_build.specs.Outcome.{Outcome, IsRefused}
-use Rattle.cc_build.specs.Stage.{Stage, calls, printed_stages, rerun_lines}
+use Rattle.cc_build.specs.Archiving.{archive_reads}
+use Rattle.cc_build.specs.Intermediates.{source_reads}
+use Rattle.cc_build.specs.Linking.{link_reads}
+use Rattle.cc_build.specs.Stage.{IsRun, Stage, calls, run_reads, printed_stages, rerun_lines}
 use Rattle.cc_build.specs.Told.{compiler_reads, flag_reads, archiver_reads, ranlib_reads, expand_reads, name_steps, NamesTold, unless_refused, DoesAndTells}
 use Rattle.cc_build.specs.Way.{Firsts, all_firsts, chosen}
 use Rattle.cc_build.specs.Went.{Terms, Means, Ends}
@@ -31,57 +35,98 @@ use Rattle.cc_build.proofs.PrintedLaws.{IsChildless, told_printed, ends_outcome,
 
 -- ---- which questions
 
+no_more : {b : Bool} → b ≡ false → b ≡ true → ⊥
+no_more e t = let clash : false ≡ true = sym e ∙ t in absurd (cc)
+
 module _ (reads : Reads) (set : BuildConfig) (env : EnvSeen) (look : Look) (q : Question) where
-  archiver_too : ToolAsks set env look q → ArchiverAsks set env look q
-  archiver_too h = archiver_asks set env look q (tool_for_archive _ set env look q h)
+  for_compile : is_empty set.files ≡ false → ToolsAsks set env look q → RunAsks set env look q
+  unfolding RunAsks
+  for_compile some h = inl (tools_for_compile set env some look q h)
 
-  ranlib_too : ToolAsks set env look q → RanlibAsks set env look q
-  ranlib_too h = ranlib_asks set env look q (tool_for_archive _ set env look q h)
+  for_archive : ArchiverAsks set env look q → RunAsks set env look q
+  unfolding RunAsks
+  for_archive h = inr (inl h)
 
-  -- a run asks them, which plans no tool that writes an index
-  pub names_in_run : reads.ranlib ≡ false → NameAsks reads set env look q → RunAsks set env look q
-  unfolding NameAsks RunAsks CompileAsks
-  names_in_run plain (inl h) = inr (inl (archiver_too h))
-  names_in_run plain (inr (inl h)) = inr (inl h.1)
-  names_in_run plain (inr (inr (inl h))) = let clash : false ≡ true = sym plain ∙ h.0 in absurd (cc)
-  names_in_run plain (inr (inr (inr h))) = inl (inr h.1)
+  -- a run asks them
+  pub names_in_run : IsRun set reads → NameAsks reads set env look q → RunAsks set env look q
+  names_in_run plain asked = go (name_cases look q set env reads asked)
+    where
+      go : NameCase look q set env reads → RunAsks set env look q
+      go (inl h) = for_compile (plain.1.0 h.0) (plan_in_tools look q set env (compiler_in_plan look q set env h.1))
+      go (inr (inl h)) = absurd (no_more plain.0.1 h.0)
+      go (inr (inr (inl h))) = for_compile (plain.1.1 (and_parts _ _ h.0).0) h.1
+      go (inr (inr (inr (inl h)))) = for_archive h.1
+      go (inr (inr (inr (inr h)))) = absurd (no_more plain.0.0 h.0)
+
+some_files : (b : Bool) → not b ≡ true → b ≡ false
+some_files true h = absurd (cc)
+some_files false h = refl
+
+-- what each kind of run reads variables for
+module _ (set : BuildConfig) where
+  pub run_is : IsRun set (run_reads set)
+  run_is = ((refl, refl), (some_files (is_empty set.files), some_files (is_empty set.files)))
+
+  pub sources_are : IsRun set (source_reads set)
+  sources_are = ((refl, refl), (some_files (is_empty set.files), some_files (is_empty set.files)))
+
+  pub archive_is : IsRun set archive_reads
+  archive_is = ((refl, refl), (λ h. let clash : false ≡ true = h in absurd (cc), λ h. let clash : false ≡ true = h in absurd (cc)))
+
+  pub links_are : IsRun set link_reads
+  links_are = ((refl, refl), (λ h. let clash : false ≡ true = h in absurd (cc), λ h. let clash : false ≡ true = h in absurd (cc)))
 
 module _ (set : BuildConfig) (env : EnvSeen) where
   -- so do the calls that find a tool
   pub names_in_plan : (look : Look) (q : Question) → NameAsks compiler_reads set env look q → PlanAsks set env look q
-  unfolding NameAsks
-  names_in_plan look q (inl h) = tool_for_plan set env look q h
-  names_in_plan look q (inr (inl h)) = let clash : false ≡ true = h.0 in absurd (cc)
-  names_in_plan look q (inr (inr (inl h))) = let clash : false ≡ true = h.0 in absurd (cc)
-  names_in_plan look q (inr (inr (inr h))) = let clash : false ≡ true = h.0 in absurd (cc)
+  names_in_plan look q asked = go (name_cases look q set env compiler_reads asked)
+    where
+      go : NameCase look q set env compiler_reads → PlanAsks set env look q
+      go (inl h) = compiler_in_plan look q set env h.1
+      go (inr (inl h)) = let clash : false ≡ true = h.0 in absurd (cc)
+      go (inr (inr (inl h))) = let clash : false ≡ true = h.0 in absurd (cc)
+      go (inr (inr (inr (inl h)))) = let clash : false ≡ true = h.0 in absurd (cc)
+      go (inr (inr (inr (inr h)))) = let clash : false ≡ true = h.0 in absurd (cc)
 
   pub names_in_expand : (look : Look) (q : Question) → NameAsks expand_reads set env look q → PlanAsks set env look q
-  unfolding NameAsks
-  names_in_expand look q (inl h) = tool_for_plan set env look q h
-  names_in_expand look q (inr (inl h)) = let clash : false ≡ true = h.0 in absurd (cc)
-  names_in_expand look q (inr (inr (inl h))) = let clash : false ≡ true = h.0 in absurd (cc)
-  names_in_expand look q (inr (inr (inr h))) = let clash : false ≡ true = h.0 in absurd (cc)
+  names_in_expand look q asked = go (name_cases look q set env expand_reads asked)
+    where
+      go : NameCase look q set env expand_reads → PlanAsks set env look q
+      go (inl h) = compiler_in_plan look q set env h.1
+      go (inr (inl h)) = let clash : false ≡ true = h.0 in absurd (cc)
+      go (inr (inr (inl h))) = let clash : false ≡ true = h.0 in absurd (cc)
+      go (inr (inr (inr (inl h)))) = let clash : false ≡ true = h.0 in absurd (cc)
+      go (inr (inr (inr (inr h)))) = let clash : false ≡ true = h.0 in absurd (cc)
 
   pub names_in_support : (flag : List ℕ) (look : Look) (q : Question) → NameAsks flag_reads set env look q → SupportAsks set env flag look q
-  unfolding NameAsks
-  names_in_support flag look q (inl h) = tool_for_support set env flag look q h
-  names_in_support flag look q (inr (inl h)) = let clash : false ≡ true = h.0 in absurd (cc)
-  names_in_support flag look q (inr (inr (inl h))) = let clash : false ≡ true = h.0 in absurd (cc)
-  names_in_support flag look q (inr (inr (inr h))) = let clash : false ≡ true = h.0 in absurd (cc)
+  names_in_support flag look q asked = go (name_cases look q set env flag_reads asked)
+    where
+      go : NameCase look q set env flag_reads → SupportAsks set env flag look q
+      go (inl h) = let clash : false ≡ true = h.0 in absurd (cc)
+      go (inr (inl h)) = pair_in_support look q set env flag h.1
+      go (inr (inr (inl h))) = let clash : false ≡ true = h.0 in absurd (cc)
+      go (inr (inr (inr (inl h)))) = let clash : false ≡ true = h.0 in absurd (cc)
+      go (inr (inr (inr (inr h)))) = let clash : false ≡ true = h.0 in absurd (cc)
 
   pub names_in_archiver : (look : Look) (q : Question) → NameAsks archiver_reads set env look q → ArchiverAsks set env look q
-  unfolding NameAsks
-  names_in_archiver look q (inl h) = archiver_too archiver_reads set env look q h
-  names_in_archiver look q (inr (inl h)) = h.1
-  names_in_archiver look q (inr (inr (inl h))) = let clash : false ≡ true = h.0 in absurd (cc)
-  names_in_archiver look q (inr (inr (inr h))) = let clash : false ≡ true = h.0 in absurd (cc)
+  names_in_archiver look q asked = go (name_cases look q set env archiver_reads asked)
+    where
+      go : NameCase look q set env archiver_reads → ArchiverAsks set env look q
+      go (inl h) = let clash : false ≡ true = h.0 in absurd (cc)
+      go (inr (inl h)) = let clash : false ≡ true = h.0 in absurd (cc)
+      go (inr (inr (inl h))) = let clash : false ≡ true = h.0 in absurd (cc)
+      go (inr (inr (inr (inl h)))) = h.1
+      go (inr (inr (inr (inr h)))) = let clash : false ≡ true = h.0 in absurd (cc)
 
   pub names_in_ranlib : (look : Look) (q : Question) → NameAsks ranlib_reads set env look q → RanlibAsks set env look q
-  unfolding NameAsks
-  names_in_ranlib look q (inl h) = ranlib_too ranlib_reads set env look q h
-  names_in_ranlib look q (inr (inl h)) = let clash : false ≡ true = h.0 in absurd (cc)
-  names_in_ranlib look q (inr (inr (inl h))) = h.1
-  names_in_ranlib look q (inr (inr (inr h))) = let clash : false ≡ true = h.0 in absurd (cc)
+  names_in_ranlib look q asked = go (name_cases look q set env ranlib_reads asked)
+    where
+      go : NameCase look q set env ranlib_reads → RanlibAsks set env look q
+      go (inl h) = let clash : false ≡ true = h.0 in absurd (cc)
+      go (inr (inl h)) = let clash : false ≡ true = h.0 in absurd (cc)
+      go (inr (inr (inl h))) = let clash : false ≡ true = h.0 in absurd (cc)
+      go (inr (inr (inr (inl h)))) = let clash : false ≡ true = h.0 in absurd (cc)
+      go (inr (inr (inr (inr h)))) = h.1
 
 -- ---- one part behind another
 

@@ -1,5 +1,5 @@
 -- The stages of a compile run: what it asks of its host, one after another.
-use Rattle.std.specs.Prelude.{ℕ, Bool, true, false, not, List, [], ◌∷◌, ◌++◌, map, Option, None, is_some, option_to_list, unwrap_or, if◌then◌else◌}
+use Rattle.std.specs.Prelude.{◌≡◌, ℕ, Bool, true, false, not, List, [], ◌∷◌, ◌++◌, map, Option, None, is_some, option_to_list, unwrap_or, if◌then◌else◌}
 use Rattle.std.specs.List.{flat_map}
 use Rattle.std.specs.Option.{option_map}
 use Rattle.std.specs.Path.{path_parent}
@@ -160,6 +160,12 @@ folder_in library = unwrap_or (path_parent library) []
 -- the link lines of a library of this name and path
 abbrev pub links_of : BuildConfig → EnvSeen → List ℕ → List ℕ → Look → List LinkLine
 links_of set env name library look = lines_of set env name (folder_in library) look
+
+-- What such a call reads variables for: it plans no tool that writes an index and asks about no flag, and plans a compiler only for sources.
+abbrev pub IsRun : BuildConfig → Reads → Type 0
+IsRun set reads =
+    ((reads.ranlib ≡ false) × (reads.flag ≡ false))
+    × ((reads.compiler ≡ true → is_empty set.files ≡ false) × (reads.assembler ≡ true → is_empty set.files ≡ false))
 
 -- what a run reads variables for; it plans a compiler where there is a source
 abbrev pub run_reads : BuildConfig → Reads

@@ -12,6 +12,7 @@ ghost use Rattle.cc_build.specs.Kept.{AsksFor};
 ghost use Rattle.cc_build.specs.Phases.{ByKnown, WrittenEnds};
 ghost use Rattle.cc_build.specs.Promises.{NothingRuns, FaultsEnd};
 ghost use Rattle.cc_run.specs.Keeping.{IsIdle};
+ghost use Rattle.cc_build.specs.Stage.{IsRun};
 
 use crate::message::or_no_memory;
 use crate::phases::archive_objects;
@@ -90,7 +91,7 @@ fn archive_and_tell<W: World, H: Host<W>, J: Jobs>(
 ) -> Result<(), Error>
     requires idle { IsIdle J.fits J.held shared.now.jobs.now seat.old }
     requires few { turns.old.left + turns.old.used < 2 ^ 64 }
-    requires plain { shared.now.reads.ranlib ≡ false }
+    requires plain { IsRun shared.now.task.set.now shared.now.reads }
     requires dir { shared.now.sources.now.dir
         ≡ probe_folder shared.now.task.set.now shared.now.task.env.now }
     requires name { shared.now.sources.now.name ≡ library_name shared.now.task.output.now }

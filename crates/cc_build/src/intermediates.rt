@@ -10,6 +10,7 @@ ghost use Rattle.cc_build.specs.Intermediates.{IntermediateEnds, source_reads as
 ghost use Rattle.cc_build.specs.Kept.{AsksFor};
 ghost use Rattle.cc_build.specs.Phases.{ByKnown, CompiledEnds};
 ghost use Rattle.cc_run.specs.Keeping.{IsIdle};
+ghost use Rattle.cc_build.specs.Stage.{IsRun};
 
 use crate::compiling::prepare_folder;
 use crate::message::or_no_memory;
@@ -68,7 +69,7 @@ fn compile_and_tell<W: World, H: Host<W>, J: Jobs>(
 ) -> Result<(), Error>
     requires idle { IsIdle J.fits J.held shared.now.jobs.now seat.old }
     requires few { turns.old.left + turns.old.used < 2 ^ 64 }
-    requires plain { shared.now.reads.ranlib ≡ false }
+    requires plain { IsRun shared.now.task.set.now shared.now.reads }
     requires dir { shared.now.sources.now.dir
         ≡ probe_folder shared.now.task.set.now shared.now.task.env.now }
     requires objects { shared.now.sources.now.objects.items

@@ -15,7 +15,7 @@ ghost use Rattle.cc_build.specs.Kept.{AsksFor};
 ghost use Rattle.cc_build.specs.Phases.{ByKnown, CompileEnds, LibraryEnds, LinkedEnds};
 ghost use Rattle.cc_build.specs.Questions.{Plans, Archives, Links, AreLines, IsRefusedBy, AsksOnly};
 ghost use Rattle.cc_build.specs.Refusal.{plan_error as error_of_plan};
-ghost use Rattle.cc_build.specs.Stage.{folder_in};
+ghost use Rattle.cc_build.specs.Stage.{IsRun, folder_in};
 
 use crate::Error;
 use crate::compiles::do_plan;
@@ -285,7 +285,7 @@ pub(crate) fn plan_names<W: World, H: Host<W>, J>(
     host: &mut H,
     answers: &mut Answers,
 ) -> Mem<Words>
-    requires plain { shared.now.reads.ranlib ≡ false }
+    requires plain { IsRun shared.now.task.set.now shared.now.reads }
     requires dir { shared.now.sources.now.dir
         ≡ probe_folder shared.now.task.set.now shared.now.task.env.now }
     ensures quiet { AsksOnly (part H.log host.old host.new) }
@@ -305,7 +305,7 @@ fn plan_lines<W: World, H: Host<W>, J>(
     host: &mut H,
     answers: &mut Answers,
 ) -> Result<Lines, Error>
-    requires plain { shared.now.reads.ranlib ≡ false }
+    requires plain { IsRun shared.now.task.set.now shared.now.reads }
     requires dir { shared.now.sources.now.dir
         ≡ probe_folder shared.now.task.set.now shared.now.task.env.now }
     ensures quiet { AsksOnly (part H.log host.old host.new) }
@@ -345,7 +345,7 @@ pub(crate) fn print_links<W: World, H: Host<W>, J: Jobs>(
 ) -> Result<(), Error>
     requires idle { IsIdle J.fits J.held shared.now.jobs.now seat.old }
     requires few { turns.old.left + turns.old.used < 2 ^ 64 }
-    requires plain { shared.now.reads.ranlib ≡ false }
+    requires plain { IsRun shared.now.task.set.now shared.now.reads }
     requires dir { shared.now.sources.now.dir
         ≡ probe_folder shared.now.task.set.now shared.now.task.env.now }
     ensures idle { IsIdle J.fits J.held shared.now.jobs.now seat.new }

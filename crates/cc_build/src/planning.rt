@@ -9,6 +9,7 @@ ghost use Rattle.cc_build.specs.Course.{ByPart};
 ghost use Rattle.cc_build.specs.Kept.{AsksFor};
 ghost use Rattle.cc_build.specs.Phases.{ByKnown, OpenedEnds, PlannedEnds};
 ghost use Rattle.cc_build.specs.Planning.{PlanningEnds};
+ghost use Rattle.cc_build.specs.Stage.{IsRun};
 
 use crate::compiles::open_commands;
 use crate::compiling::prepare_folder;
@@ -98,7 +99,7 @@ fn plan_and_tell<W: World, H: Host<W>, J: Jobs>(
 ) -> Result<Vec<Planned>, Error>
     requires idle { IsIdle J.fits J.held shared.now.jobs.now seat.old }
     requires few { turns.old.left + turns.old.used < 2 ^ 64 }
-    requires plain { shared.now.reads.ranlib ≡ false }
+    requires plain { IsRun shared.now.task.set.now shared.now.reads }
     requires dir { shared.now.sources.now.dir
         ≡ probe_folder shared.now.task.set.now shared.now.task.env.now }
     requires objects { shared.now.sources.now.objects.items

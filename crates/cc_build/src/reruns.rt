@@ -11,6 +11,7 @@ ghost use Rattle.cc_build.specs.Kept.{Aside, AsksFor, AsksForNames};
 ghost use Rattle.cc_build.specs.Phases.{ByKnown, NamesEnd};
 ghost use Rattle.cc_build.specs.Questions.{AsksOnly};
 ghost use Rattle.cc_build.specs.Told.{LinesTold, NamesTold};
+ghost use Rattle.cc_build.specs.Stage.{IsRun};
 
 use crate::Error;
 use crate::directives::{first_stages, names_alone};
@@ -110,7 +111,7 @@ pub(crate) fn print_names<W: World, H: Host<W>, J: Jobs>(
 ) -> Result<(), Error>
     requires idle { IsIdle J.fits J.held shared.now.jobs.now seat.old }
     requires few { turns.old.left + turns.old.used < 2 ^ 64 }
-    requires plain { shared.now.reads.ranlib ≡ false }
+    requires plain { IsRun shared.now.task.set.now shared.now.reads }
     requires dir { shared.now.sources.now.dir
         ≡ probe_folder shared.now.task.set.now shared.now.task.env.now }
     ensures idle { IsIdle J.fits J.held shared.now.jobs.now seat.new }

@@ -6,7 +6,8 @@ use Rattle.cc_tool.specs.Tool.{ToolSeen, tool_command}
 use Rattle.cc_env.specs.Env.{EnvSeen}
 use Rattle.cc_host.specs.Question.{Look}
 use Rattle.cc_text.specs.declared.family.ToolFamily.{ToolFamily}
-use Rattle.cc_plan.specs.Assembler.{wanted_assembler}
+use Rattle.cc_tool.specs.Plans as plans
+use Rattle.cc_plan.specs.Assembler.{assembler_by, wanted_assembler}
 use Rattle.cc_flags.specs.AssemblerWords.{want_assembler}
 use Rattle.cc_plan.specs.Compile.{with_object, begun_with, compile_of, compiles_of}
 use Rattle.cc_flags.specs.CompileWords.{is_masm}
@@ -57,17 +58,24 @@ module _ (set : BuildConfig) (info : Info) (tool assembler : ToolSeen) where
   pub wanted_alone : (env : List (List ℕ × List ℕ)) (root : Option (List ℕ)) (dir : List ℕ) (sources : List (List ℕ)) → compiles_of set info tool (if want_assembler info sources then Some assembler else None) (objects_of env root dir sources) ≡ compiles_of set info tool (Some assembler) (objects_of env root dir sources)
   wanted_alone env root dir sources = either_wants env root dir sources (want_assembler info sources) refl
 
--- the commands of a plan, of which the target, the tool, the assembler and the objects are known
-pub planned_commands : (set : BuildConfig) (env : EnvSeen) (look : Look) (target : Info) (family : ToolFamily) (path : List ℕ) (tool : ToolSeen) (assembler : Option ToolSeen) (objects : List Object) (cmds : List CommandSeen) → target ≡ target_info set env → family ≡ tool.family → path ≡ tool.path → tool_of set env look ≡ tool → wanted_assembler set env target family path look ≡ assembler → objects ≡ plan.objects_of set env → cmds ≡ compiles_of set target tool assembler objects → plan.compiles_of set env look ≡ cmds
-planned_commands set env look target family path tool assembler objects cmds same f p is wanted placed made =
+-- the assembler that the sources want, if any
+wanted_is : (set : BuildConfig) (env : EnvSeen) (target : Info) (family : ToolFamily) (path : List ℕ) (look : Look) → (wanted_assembler set env target family path).value look ≡ (if want_assembler target set.files then Some ((assembler_by set env target family path).value look) else None)
+unfolding wanted_assembler plans.bind plans.done
+wanted_is set env target family path look = go (want_assembler target set.files)
+  where
+    go : (b : Bool) → (if b then plans.bind (assembler_by set env target family path) (λ tool. plans.done (Some tool)) else plans.done None).value look ≡ (if b then Some ((assembler_by set env target family path).value look) else None)
+    go true = refl
+    go false = refl
+
+-- the commands of a plan, of which the tool, the assembler and the objects are known
+pub planned_commands : (set : BuildConfig) (env : EnvSeen) (look : Look) (tool : ToolSeen) (assembler : Option ToolSeen) (objects : List Object) (cmds : List CommandSeen) → tool_of set env look ≡ tool → (wanted_assembler set env (target_info set env) tool.family tool.path).value look ≡ assembler → objects ≡ plan.objects_of set env → cmds ≡ compiles_of set (target_info set env) tool assembler objects → plan.compiles_of set env look ≡ cmds
+planned_commands set env look tool assembler objects cmds is wanted placed made =
     let info = target_info set env in
     let own = tool_of set env look in
-    let behind : assembler ≡ wanted_assembler set env info own.family own.path look =
-    sym wanted ∙ ap (λ t. wanted_assembler set env t family path look) same
-    ∙ ap (λ x. wanted_assembler set env info x path look) (f ∙ ap (λ (t : ToolSeen). t.family) (sym is))
-    ∙ ap (λ x. wanted_assembler set env info own.family x look) (p ∙ ap (λ (t : ToolSeen). t.path) (sym is)) in
-    sym (made ∙ ap (λ t. compiles_of set t tool assembler objects) same
+    let behind : assembler ≡ (if want_assembler info set.files then Some (plan.assembler_in set env look) else None) =
+    sym wanted ∙ ap (λ (t : ToolSeen). (wanted_assembler set env info t.family t.path).value look) (sym is) ∙ wanted_is set env info own.family own.path look in
+    sym (made
     ∙ ap (λ t. compiles_of set info t assembler objects) (sym is)
     ∙ ap (λ a. compiles_of set info own a objects) behind
-    ∙ ap (compiles_of set info own (wanted_assembler set env info own.family own.path look)) placed
+    ∙ ap (compiles_of set info own (if want_assembler info set.files then Some (plan.assembler_in set env look) else None)) placed
     ∙ wanted_alone set info own (plan.assembler_in set env look) env.inherited set.source_root (plan.dir_of set env) set.files)

@@ -1,111 +1,144 @@
--- Which questions a plan asks.
-use Rattle.std.proofs.Common.{◌≡◌, inl, inr, ℕ, ◌<◌, List, [], ◌++◌, length, slice_index_or, refl, sym, ap, subst, ◌∙◌}
+-- Laws on the questions that the plan of a call wants.
+use Rattle.std.proofs.Common.{◌≡◌, ◌⊎◌, inl, inr, ℕ, Bool, true, false, List, [], refl, subst, arith}
+use Rattle.std.specs.List.{Contains}
+use Rattle.std.proofs.lemmas.List.Elements.{Contains-append_left, Contains-append_cases}
 use Rattle.cc_env.specs.Env.{EnvSeen}
-use Rattle.cc_host.specs.Question.{Look, Answer, Settles, Holds, exists_question}
-use Rattle.cc_host.specs.declared.event.Event.{Event}
+use Rattle.cc_host.specs.Question.{Look}
 use Rattle.cc_host.specs.declared.question.Question.{Question}
-use Rattle.cc_tool.specs.Family.{IsOfFamilyIn}
-use Rattle.cc_tool.specs.Own.{AnswersAmong}
-use Rattle.cc_tool.proofs.OwnLemmas.{among_more}
-use Rattle.cc_tool.proofs.SettleLemmas.{settles_on}
-use Rattle.cc_plan.specs.Android.{starts_question}
-use Rattle.cc_plan.specs.Choice.{choice_of}
 use Rattle.cc_target.specs.Targets.{Info}
-use Rattle.cc_flags.proofs.CompilationLemmas.{with_target}
-use Rattle.cc_flags.specs.Compilation.{CompilationSeen, compilation_of}
-use Rattle.cc_plan.specs.Compiler.{compiler_of}
-use Rattle.cc_plan.specs.FlagSupport.{found}
-use Rattle.cc_plan.specs.Planned.{planned}
-use Rattle.cc_plan.specs.Questions.{IsAndroidCompiler, ToolAsks, FlagAsks, WordAsks, PlanAsks, SupportAsks}
-use Rattle.cc_plan.specs.Support.{bare_compiler, bare_of, flag_question}
-use Rattle.cc_flags.specs.ToolWords.{asked_words}
-use Rattle.cc_flags.specs.declared.choice.Choice.{Choice}
-use Rattle.cc_flags.specs.declared.compiler.Compiler.{Compiler}
+use Rattle.cc_text.specs.declared.family.ToolFamily.{ToolFamily}
+use Rattle.cc_flags.specs.Target.{target_info}
+use Rattle.cc_flags.specs.declared.archive_names.ArchiveTool.{ArchiveTool}
+use Rattle.cc_flags.specs.declared.archive_names.ArchiveTool.TheVariants.{Archiver, Ranlib}
 use Rattle.cc_flags.specs.declared.settings.BuildConfig.{BuildConfig}
+use Rattle.cc_flags.specs.declared.variables.Reads.{Reads}
+use Rattle.cc_plan.specs.ArchivePlan as archive
+use Rattle.cc_plan.specs.Assembler.{assembler_by}
+use Rattle.cc_plan.specs.FlagSupport as support
+use Rattle.cc_plan.specs.Halts as halts
+use Rattle.cc_plan.specs.Questions.{ArchiveToolAsks, ArchiverAsks, AssemblerAsks, CompileAsks, NameAsks, PlanAsks, RanlibAsks, SupportAsks, ToolsAsks}
+use Rattle.cc_plan.specs.Refusal.{is_empty}
+use Rattle.cc_plan.specs.Reruns as reruns
+use Rattle.cc_plan.specs.Reruns.{plans_assembler}
+use Rattle.cc_plan.specs.ToolPlan as tool
+use Rattle.cc_tool.specs.Plans as plans
+use Rattle.cc_tool.specs.Plans.{Plan}
+use Rattle.cc_tool.specs.Tool.{ToolSeen}
 
--- ---- what finds the compiler
-
-module _ (set : BuildConfig) (env : EnvSeen) where
-  pub asks_file : (path : List ℕ) (look : Look) → ToolAsks set env look (exists_question path)
-  unfolding ToolAsks
-  asks_file path look = inl (path, refl)
-
-  pub asks_start : (program : List ℕ) (look : Look) → IsAndroidCompiler set env program → ToolAsks set env look (starts_question env program)
-  unfolding ToolAsks
-  asks_start program look h = inr (inl (program, (h, refl)))
-
-  asks_family : (look : Look) (choice : Choice) (q : Question) → choice_of set env look ≡ choice → IsOfFamilyIn choice.path choice.words env q → ToolAsks set env look q
-  unfolding ToolAsks
-  asks_family look choice q is h = inr (inr (inl (subst (λ (c : Choice). IsOfFamilyIn c.path c.words env q) (sym is) h)))
-
-  asks_bare : (look : Look) (path : List ℕ) (q : Question) → (choice_of set env look).path ≡ path → IsOfFamilyIn path [] env q → ToolAsks set env look q
-  unfolding ToolAsks
-  asks_bare look path q is h = inr (inr (inr (subst (λ (p : List ℕ). IsOfFamilyIn p [] env q) (sym is) h)))
-
-  -- the family of the chosen compiler
-  pub family_asked : {known new : List Answer} (part : List Event) (choice : Choice) → (more : List Answer) × (new ≡ known ++ more) → Settles known (choice_of set env) choice → AnswersAmong (IsOfFamilyIn choice.path choice.words env) part → Holds new (λ look. AnswersAmong (ToolAsks set env look) part)
-  family_asked {known} {new} part choice grows is among = record {
-    under = λ look a. among_more (IsOfFamilyIn choice.path choice.words env) (ToolAsks set env look) part (λ q h. asks_family look choice q ((settles_on grows is).is look a) h) among;
-  }
-
-  -- the family of its path alone, without words
-  pub bare_asked : {known new : List Answer} (part : List Event) (path : List ℕ) (words : List (List ℕ)) → words ≡ [] → (more : List Answer) × (new ≡ known ++ more) → Settles known (λ look. (choice_of set env look).path) path → AnswersAmong (IsOfFamilyIn path words env) part → Holds new (λ look. AnswersAmong (ToolAsks set env look) part)
-  bare_asked {known} {new} part path words none grows is among = record {
-    under = λ look a. among_more (IsOfFamilyIn path words env) (ToolAsks set env look) part
-        (λ q h. asks_bare look path q ((settles_on grows is).is look a) (subst (λ (w : List (List ℕ)). IsOfFamilyIn path w env q) none h)) among;
-  }
-
-  -- the path of a compiler that is settled
-  pub chosen_at : {known : List Answer} (compiler : Compiler) (path : List ℕ) → path ≡ compiler.choice.path → Settles known (compiler_of set env) compiler → Settles known (λ look. (choice_of set env look).path) path
-  chosen_at compiler path e s = record { is = λ look a. ap (λ (c : Compiler). c.choice.path) (s.is look a) ∙ sym e }
-
--- ---- flags
-
-pub asks_flag : (c : CompilationSeen) (words : List (List ℕ)) (k : ℕ) (flag : List ℕ) (q : Question) → k < length words → flag ≡ slice_index_or words k flag → q ≡ flag_question c flag → FlagAsks c words q
-unfolding FlagAsks
-asks_flag c words k flag q l here is = (flag, ((k, l, sym here), is))
-
--- ---- what a plan asks
-
-pub tool_for_words : (c : CompilationSeen) (words : List (List ℕ)) (look : Look) (q : Question) → ToolAsks c.set c.env look q → WordAsks c words look q
-unfolding WordAsks
-tool_for_words c words look q h = inl h
-
-pub flags_for_words : (c bare : CompilationSeen) (words : List (List ℕ)) (look : Look) (q : Question) → bare_of c look ≡ bare → FlagAsks bare words q → WordAsks c words look q
-unfolding WordAsks
-flags_for_words c bare words look q is h = inr (subst (λ (b : CompilationSeen). FlagAsks b words q) (sym is) h)
-
--- those on words, of the compiler of a path alone that is settled
-pub bare_words : {known : List Answer} (c : CompilationSeen) (compiler : Compiler) (words : List (List ℕ)) → Settles known (bare_compiler c.env c.compiler.choice.path) compiler → Holds known (λ look. (q : Question) → FlagAsks (record c { compiler = compiler }) words q → WordAsks c words look q)
-bare_words c compiler words s = record {
-  under = λ look a q h. flags_for_words c (record c { compiler = compiler }) words look q (ap (λ (k : Compiler). record c { compiler = k }) (s.is look a)) h;
-}
+-- what the plan of a tool of archives wants
+pub archive_tool_asks : (tool : ArchiveTool) (set : BuildConfig) (env : EnvSeen) (look : Look) (q : Question) → plans.PlanAsks (archive.tool_plan tool set env) look q → ArchiveToolAsks tool set env look q
+unfolding ArchiveToolAsks
+archive_tool_asks tool set env look q h = h
 
 module _ (set : BuildConfig) (env : EnvSeen) where
-  pub tool_for_plan : (look : Look) (q : Question) → ToolAsks set env look q → PlanAsks set env look q
-  unfolding PlanAsks WordAsks
-  tool_for_plan look q h = inl h
-
-  pub words_for_plan : (c : CompilationSeen) (look : Look) (q : Question) → planned set env look ≡ c → WordAsks c (asked_words c) look q → PlanAsks set env look q
+  -- what the plan of a tool wants
+  pub plan_asks : (look : Look) (q : Question) → plans.PlanAsks (tool.tool_plan set env) look q → PlanAsks set env look q
   unfolding PlanAsks
-  words_for_plan c look q is h = subst (λ (p : CompilationSeen). WordAsks p (asked_words p) look q) (sym is) h
+  plan_asks look q h = h
 
-  pub tool_for_support : (flag : List ℕ) (look : Look) (q : Question) → ToolAsks set env look q → SupportAsks set env flag look q
+  pub tools_asks : (look : Look) (q : Question) → plans.PlanAsks (tool.tools_plan set env) look q → ToolsAsks set env look q
+  unfolding ToolsAsks
+  tools_asks look q h = h
+
+  -- what the plan of a verdict on a flag wants
+  pub support_asks : (flag : List ℕ) (look : Look) (q : Question) → plans.PlanAsks (support.support_plan set env flag) look q → SupportAsks set env flag look q
   unfolding SupportAsks
-  tool_for_support flag look q h = inl h
+  support_asks flag look q h = h
 
-  pub flag_for_support : (flag : List ℕ) (bare : CompilationSeen) (look : Look) (q : Question) → bare_of (planned set env look) look ≡ bare → q ≡ flag_question bare flag → SupportAsks set env flag look q
-  unfolding SupportAsks
-  flag_for_support flag bare look q is h = inr (h ∙ ap (λ (b : CompilationSeen). flag_question b flag) (sym is))
+  -- what finds the archiver is what its plan wants
+  pub archiver_asks : (look : Look) (q : Question) → ArchiveToolAsks Archiver set env look q → ArchiverAsks set env look q
+  unfolding ArchiverAsks
+  archiver_asks look q h = h
 
-  -- those on words, of a compiler that is settled
-  pub plan_words : {known : List Answer} {target : Info} (compiler : Compiler) → with_target set env compiler target ≡ compilation_of set env compiler → Settles known (compiler_of set env) compiler → Holds known (λ look. (q : Question) → WordAsks (with_target set env compiler target) (asked_words (with_target set env compiler target)) look q → PlanAsks set env look q)
-  plan_words {known} {target} compiler is s = record {
-    under = λ look a q h. words_for_plan (with_target set env compiler target) look q (ap (compilation_of set env) (s.is look a) ∙ sym is) h;
-  }
+  -- the same of the tool that writes the index
+  pub ranlib_asks : (look : Look) (q : Question) → ArchiveToolAsks Ranlib set env look q → RanlibAsks set env look q
+  unfolding RanlibAsks
+  ranlib_asks look q h = h
 
-  -- the one on a flag, of the compiler of a path alone that is settled
-  pub bare_flag : {known : List Answer} {target : Info} (compiler bare : Compiler) (flag : List ℕ) → with_target set env bare target ≡ compilation_of set env bare → Settles {X = Compiler × Compiler} known (found set env) (compiler, bare) → Holds known (λ look. (q : Question) → q ≡ flag_question (with_target set env bare target) flag → SupportAsks set env flag look q)
-  bare_flag {known} {target} compiler bare flag is s = record {
-    under = λ look a q h. flag_for_support flag (with_target set env bare target) look q (ap (λ (f : Compiler × Compiler). compilation_of set env f.1) (s.is look a) ∙ sym is) h;
-  }
+  -- where there is a source, the commands that compile want the tool and the assembler
+  pub tools_for_compile : is_empty set.files ≡ false → (look : Look) (q : Question) → ToolsAsks set env look q → CompileAsks set env look q
+  unfolding CompileAsks
+  tools_for_compile some look q h = (some, h)
+
+  -- what the plan of an assembler wants
+  pub assembler_asks : (target : Info) (family : ToolFamily) (path : List ℕ) (compiler : ToolSeen) → target ≡ target_info set env → family ≡ compiler.family → path ≡ compiler.path → (look : Look) (q : Question) → plans.PlanAsks (assembler_by set env target family path) look q → AssemblerAsks set env compiler look q
+  unfolding AssemblerAsks
+  assembler_asks target family path compiler e f p look q h =
+      subst (λ (t : Info). plans.PlanAsks (assembler_by set env t compiler.family compiler.path) look q) e
+      (subst (λ (x : ToolFamily). plans.PlanAsks (assembler_by set env target x compiler.path) look q) f
+      (subst (λ (x : List ℕ). plans.PlanAsks (assembler_by set env target family x) look q) p h))
+
+  -- what those of names want
+  pub names_asks : (reads : Reads) (look : Look) (q : Question) → plans.PlanAsks (reruns.names_plan reads set env) look q → NameAsks reads set env look q
+  unfolding NameAsks
+  names_asks reads look q h = h
+
+-- ---- names of variables
+
+module _ (look : Look) (q : Question) where
+  none : Contains [] q → ⊥
+  none h = let l = h.1 in absurd (omega (arith, l))
+
+  both_cases : (a b : Plan (Unit {0})) → Contains ((reruns.both a b).asks look) q → Contains (a.asks look) q ⊎ Contains (b.asks look) q
+  unfolding reruns.both plans.bind
+  both_cases a b h = Contains-append_cases (a.asks look) (b.asks look) q h
+
+  noted_case : {X : Type 0} (p : Plan X) → Contains ((reruns.noted_by p).asks look) q → Contains (p.asks look) q
+  unfolding reruns.noted_by plans.bind plans.done
+  noted_case p h = here (Contains-append_cases (p.asks look) [] q h)
+    where
+      here : Contains (p.asks look) q ⊎ Contains [] q → Contains (p.asks look) q
+      here (inl c) = c
+      here (inr c) = absurd (none c)
+
+  made_case : {X : Type 0} (made : Bool) (p : Plan X) → Contains ((reruns.where_made made (reruns.noted_by p)).asks look) q → (made ≡ true) × Contains (p.asks look) q
+  unfolding reruns.where_made plans.done
+  made_case true p h = (refl, noted_case p h)
+  made_case false p h = absurd (none h)
+
+  -- what is planned for a tool is a part of what is planned for more
+  first_of_both : {X Y : Type 0} (p : Plan X) (k : X → Plan Y) → Contains (p.asks look) q → Contains ((plans.bind p k).asks look) q
+  unfolding plans.bind
+  first_of_both p k h = Contains-append_left (p.asks look) ((k (p.value look)).asks look) q h
+
+  module _ (set : BuildConfig) (env : EnvSeen) where
+    pub compiler_in_plan : Contains ((tool.compiler_plan set env).asks look) q → PlanAsks set env look q
+    unfolding PlanAsks tool.tool_plan halts.bind_ok
+    compiler_in_plan h = first_of_both (tool.compiler_plan set env) (halts.on_ok (tool.tool_with set env)) h
+
+    pub plan_in_tools : PlanAsks set env look q → ToolsAsks set env look q
+    unfolding PlanAsks ToolsAsks tool.tools_plan halts.bind_ok
+    plan_in_tools h = first_of_both (tool.tool_plan set env) (halts.on_ok (tool.with_assembler set env)) h
+
+    pub pair_in_support : (flag : List ℕ) → Contains ((support.pair_plan set env).asks look) q → SupportAsks set env flag look q
+    unfolding SupportAsks support.support_plan halts.bind_ok
+    pair_in_support flag h = first_of_both (support.pair_plan set env) (halts.on_ok (support.support_with set env flag)) h
+
+    -- which plan a question for names is of
+    abbrev pub NameCase : Reads → Type 0
+    NameCase reads =
+        ((reads.compiler ≡ true) × Contains ((tool.compiler_plan set env).asks look) q)
+        ⊎ (((reads.flag ≡ true) × Contains ((support.pair_plan set env).asks look) q)
+        ⊎ (((plans_assembler reads set env ≡ true) × ToolsAsks set env look q)
+        ⊎ (((reads.archiver ≡ true) × ArchiverAsks set env look q)
+        ⊎ ((reads.ranlib ≡ true) × RanlibAsks set env look q))))
+
+    pub name_cases : (reads : Reads) → NameAsks reads set env look q → NameCase reads
+    unfolding NameAsks ToolsAsks ArchiverAsks RanlibAsks ArchiveToolAsks reruns.names_plan reruns.tools_notes reruns.compiling_notes reruns.archiving_notes plans.bind plans.note
+    name_cases reads h = by_tools (both_cases _ _ h)
+      where
+        by_compiler : Contains ((reruns.where_made reads.compiler (reruns.noted_by (tool.compiler_plan set env))).asks look) q ⊎ Contains ((reruns.where_made reads.flag (reruns.noted_by (support.pair_plan set env))).asks look) q → NameCase reads
+        by_compiler (inl c) = inl (made_case reads.compiler (tool.compiler_plan set env) c)
+        by_compiler (inr c) = inr (inl (made_case reads.flag (support.pair_plan set env) c))
+
+        by_archive : Contains ((reruns.where_made reads.archiver (reruns.noted_by (archive.tool_plan Archiver set env))).asks look) q ⊎ Contains ((reruns.where_made reads.ranlib (reruns.noted_by (archive.tool_plan Ranlib set env))).asks look) q → NameCase reads
+        by_archive (inl c) = inr (inr (inr (inl (made_case reads.archiver (archive.tool_plan Archiver set env) c))))
+        by_archive (inr c) = inr (inr (inr (inr (made_case reads.ranlib (archive.tool_plan Ranlib set env) c))))
+
+        by_later : Contains ((reruns.where_made (plans_assembler reads set env) (reruns.noted_by (tool.tools_plan set env))).asks look) q ⊎ Contains ((reruns.archiving_notes reads set env).asks look) q → NameCase reads
+        by_later (inl c) = inr (inr (inl (made_case (plans_assembler reads set env) (tool.tools_plan set env) c)))
+        by_later (inr c) = by_archive (both_cases _ _ c)
+
+        by_tools : Contains ((reruns.compiling_notes reads set env).asks look) q ⊎ Contains ((reruns.both (reruns.where_made (plans_assembler reads set env) (reruns.noted_by (tool.tools_plan set env))) (reruns.archiving_notes reads set env)).asks look) q → NameCase reads
+        by_tools (inl c) = by_compiler (both_cases _ _ c)
+        by_tools (inr c) = by_later (both_cases _ _ c)

@@ -1,14 +1,12 @@
 -- What follows from a fact about an answer.
-use Rattle.std.proofs.Common.{◌≡◌, ◌⊎◌, inl, inr, ℕ, Bool, List, Option, Some, None, Result, Ok, Err, IfOk, IfErr, OnOk, sym, ap, ◌∙◌, true, false, [], refl}
+use Rattle.std.proofs.Common.{◌≡◌, ◌⊎◌, inl, inr, ℕ, Bool, List, Option, Some, Result, Ok, Err, IfOk, IfErr, OnOk, sym, ap, true, false, []}
 use Rattle.cc_host.specs.Command.{CommandSeen}
 use Rattle.cc_host.specs.Question.{Answer, Settles}
 use Rattle.cc_tool.proofs.SettleLemmas.{settles_so}
 use Rattle.cc_env.specs.Env.{EnvSeen}
-use Rattle.cc_plan.specs.Compiler.{compiler_of}
 use Rattle.cc_plan.specs.Plan.{compiles_of, plan_warnings}
 use Rattle.cc_plan.specs.Planned.{warnings_of}
-use Rattle.cc_plan.specs.Refusal.{given_refusal, refusal_by, tool_refusal, platform_refusal, late_refusal, is_empty}
-use Rattle.cc_flags.specs.declared.compiler.Compiler.{Compiler}
+use Rattle.cc_plan.specs.Refusal.{tool_refusal, platform_refusal, late_refusal, is_empty}
 use Rattle.cc_plan.specs.declared.error.PlanError.{PlanError}
 use Rattle.cc_plan.specs.declared.error.PlanError.TheVariants.{NoMemory as WantsMemory}
 use Rattle.cc_flags.specs.declared.settings.BuildConfig.{BuildConfig}
@@ -24,22 +22,6 @@ on_ok_so (Err e) h so = tt
 pub err_so : {T E : Type 0} {P Q : E → Type 0} (r : Result T E) → IfErr r P → ((e : E) → P e → Q e) → IfErr r Q
 err_so (Ok x) h so = tt
 err_so (Err e) h so = so e h
-
--- ---- the refusals of a tool
-
--- what is given is refused, whatever the compiler
-pub refused_given : {known : List Answer} (set : BuildConfig) (env : EnvSeen) (e : PlanError) → (e ≡ WantsMemory) ⊎ (given_refusal set env ≡ Some e) → (e ≡ WantsMemory) ⊎ Settles known (tool_refusal set env) (Some e)
-refused_given set env e (inl memory) = inl memory
-refused_given set env e (inr refused) = inr (record { is = λ look a. rw refused refl })
-
--- the compiler is refused
-pub refused_by : {known : List Answer} {compiler : Compiler} (set : BuildConfig) (env : EnvSeen) (e : PlanError) → given_refusal set env ≡ None → Settles known (compiler_of set env) compiler → (e ≡ WantsMemory) ⊎ (refusal_by set env compiler ≡ Some e) → (e ≡ WantsMemory) ⊎ Settles known (tool_refusal set env) (Some e)
-refused_by set env e given settled (inl memory) = inl memory
-refused_by set env e given settled (inr refused) = inr (settles_so settled (λ look is. rw given (ap (refusal_by set env) is ∙ refused)))
-
--- nothing is refused
-pub allowed_by : {known : List Answer} {compiler : Compiler} (set : BuildConfig) (env : EnvSeen) → given_refusal set env ≡ None → Settles known (compiler_of set env) compiler → refusal_by set env compiler ≡ None → Settles known (tool_refusal set env) None
-allowed_by set env given settled allowed = settles_so settled (λ look is. rw given (ap (refusal_by set env) is ∙ allowed))
 
 -- ---- plans without sources, and with some
 

@@ -12,59 +12,40 @@ use Rattle.cc_host.specs.declared.event.Why.{Why}
 use Rattle.cc_host.specs.declared.host.World.{Ghosts}
 use Rattle.cc_host.specs.declared.question.Outcome.{Outcome}
 use Rattle.cc_host.specs.declared.question.Question.{Question}
-use Rattle.cc_target.specs.Targets.{info_seen}
-use Rattle.cc_text.specs.declared.family.ToolFamily.{ToolFamily}
 use Rattle.cc_tool.specs.Asked.{question_events}
 use Rattle.cc_tool.specs.Asks.{Asks}
 use Rattle.cc_tool.specs.Own.{AnswersAmong}
-use Rattle.cc_plan.specs.Choice.{choice_of, cross_prefix}
-use Rattle.cc_plan.specs.Questions.{ToolAsks, PlanAsks, SearchAsks, BesideAsks, WantedAsks, CompileAsks, ArchiveToolAsks, ArchiverAsks, RanlibAsks, NameAsks, LinkAsks, SupportAsks}
+use Rattle.cc_tool.specs.Tool.{ToolSeen}
+use Rattle.cc_plan.specs.OnlyAsks.{OnlyAsks}
+use Rattle.cc_plan.specs.Questions.{PlanAsks, AssemblerAsks, CompileAsks, ArchiveToolAsks, ArchiverAsks, RanlibAsks, NameAsks, LinkAsks, SupportAsks}
 use Rattle.cc_flags.specs.declared.archive_names.ArchiveTool.{ArchiveTool}
-use Rattle.cc_flags.specs.declared.assembly.Assembly.{Assembly}
-use Rattle.cc_flags.specs.declared.choice.Choice.{Choice}
-use Rattle.cc_flags.specs.declared.compilation.Inputs.{Inputs}
 use Rattle.cc_plan.specs.declared.error.PlanError.{PlanError}
 use Rattle.cc_plan.specs.declared.error.PlanError.TheVariants.{Host, NoMemory}
 use Rattle.cc_flags.specs.declared.settings.BuildConfig.{BuildConfig}
 use Rattle.cc_plan.specs.declared.sight.Sight.{Sight}
 use Rattle.cc_flags.specs.declared.variables.Reads.{Reads}
 
--- A call asks, and does nothing else: its host, its answers and its folder are those that it was lent, log and answers went on by its questions,
--- whose probe files are in the folder, and the host is as patient as before. Whichever verdicts agree with its answers, each question is one that is
--- asked under them.
-pub record OnlyAsks {W H : Type 0} {ghosts : Ghosts W} (steady : Bool) (world : Question → Outcome) (log : H → List Event) (patience : H → Option ℕ) (questions : Look → Question → Type 0) (old new : Sight W H ghosts) : Type 0 where
-  pub same_host : new.host.ghost_name ≡ old.host.ghost_name
-  pub same_answers : new.answers.ghost_name ≡ old.answers.ghost_name
-  pub same_dir : new.dir.now ≡ old.dir.now
-  pub asks : Asks steady world old.dir.now (log old.host.now) (log new.host.now) old.answers.now new.answers.now
-  pub own : Holds new.answers.now (λ look. AnswersAmong (questions look) (since (log old.host.now) (log new.host.now)))
-  pub patient : patience new.host.now ≡ patience old.host.now
-
--- a call asks what finds the compiler of these settings in this environment, and does nothing else
-abbrev pub AsksFor : {W H : Type 0} → {ghosts : Ghosts W} → Bool → (Question → Outcome) → (H → List Event) → (H → Option ℕ) → BuildConfig → EnvSeen → Sight W H ghosts → Sight W H ghosts → Type 0
-AsksFor steady world log patience set env old new = OnlyAsks steady world log patience (ToolAsks set env) old new
-
--- a call asks what the plan of the commands that compile asks for them
+-- a call asks what the plan of the commands that compile wants
 abbrev pub AsksToCompile : {W H : Type 0} → {ghosts : Ghosts W} → Bool → (Question → Outcome) → (H → List Event) → (H → Option ℕ) → BuildConfig → EnvSeen → Sight W H ghosts → Sight W H ghosts → Type 0
 AsksToCompile steady world log patience set env old new = OnlyAsks steady world log patience (CompileAsks set env) old new
 
--- a call asks what finds a program where the compiler of a path looks for those that it runs
-abbrev pub AsksWhere : {W H : Type 0} → {ghosts : Ghosts W} → Bool → (Question → Outcome) → (H → List Event) → (H → Option ℕ) → BuildConfig → EnvSeen → List ℕ → Sight W H ghosts → Sight W H ghosts → Type 0
-AsksWhere steady world log patience set env path old new = OnlyAsks steady world log patience (SearchAsks set env path) old new
-
--- a call asks what finds a program of Visual Studio, or the one that stands in for it next to the compiler of a family and a path
-abbrev pub AsksBeside : {W H : Type 0} → {ghosts : Ghosts W} → Bool → (Question → Outcome) → (H → List Event) → (H → Option ℕ) → BuildConfig → EnvSeen → ToolFamily → List ℕ → Sight W H ghosts → Sight W H ghosts → Type 0
-AsksBeside steady world log patience set env family path old new = OnlyAsks steady world log patience (BesideAsks set env family path) old new
-
--- a call asks what the plan of a tool for them asks
+-- a call asks what the plan of a tool wants
 abbrev pub AsksToPlan : {W H : Type 0} → {ghosts : Ghosts W} → Bool → (Question → Outcome) → (H → List Event) → (H → Option ℕ) → BuildConfig → EnvSeen → Sight W H ghosts → Sight W H ghosts → Type 0
 AsksToPlan steady world log patience set env old new = OnlyAsks steady world log patience (PlanAsks set env) old new
 
--- a call asks what finds their archiver
+-- a call asks what the plan of an assembler for this tool wants
+abbrev pub AsksForAssembler : {W H : Type 0} → {ghosts : Ghosts W} → Bool → (Question → Outcome) → (H → List Event) → (H → Option ℕ) → BuildConfig → EnvSeen → ToolSeen → Sight W H ghosts → Sight W H ghosts → Type 0
+AsksForAssembler steady world log patience set env tool old new = OnlyAsks steady world log patience (AssemblerAsks set env tool) old new
+
+-- a call asks what the plan of a tool of archives wants
+abbrev pub AsksForEither : {W H : Type 0} → {ghosts : Ghosts W} → Bool → (Question → Outcome) → (H → List Event) → (H → Option ℕ) → ArchiveTool → BuildConfig → EnvSeen → Sight W H ghosts → Sight W H ghosts → Type 0
+AsksForEither steady world log patience tool set env old new = OnlyAsks steady world log patience (ArchiveToolAsks tool set env) old new
+
+-- that of the archiver
 abbrev pub AsksForArchiver : {W H : Type 0} → {ghosts : Ghosts W} → Bool → (Question → Outcome) → (H → List Event) → (H → Option ℕ) → BuildConfig → EnvSeen → Sight W H ghosts → Sight W H ghosts → Type 0
 AsksForArchiver steady world log patience set env old new = OnlyAsks steady world log patience (ArchiverAsks set env) old new
 
--- a call asks what finds the tool that writes an archive's index
+-- that of the tool that writes an archive's index
 abbrev pub AsksForRanlib : {W H : Type 0} → {ghosts : Ghosts W} → Bool → (Question → Outcome) → (H → List Event) → (H → Option ℕ) → BuildConfig → EnvSeen → Sight W H ghosts → Sight W H ghosts → Type 0
 AsksForRanlib steady world log patience set env old new = OnlyAsks steady world log patience (RanlibAsks set env) old new
 
@@ -72,61 +53,17 @@ AsksForRanlib steady world log patience set env old new = OnlyAsks steady world 
 abbrev pub AsksForNames : {W H : Type 0} → {ghosts : Ghosts W} → Bool → (Question → Outcome) → (H → List Event) → (H → Option ℕ) → Reads → BuildConfig → EnvSeen → Sight W H ghosts → Sight W H ghosts → Type 0
 AsksForNames steady world log patience reads set env old new = OnlyAsks steady world log patience (NameAsks reads set env) old new
 
--- a call asks what finds either of the two
-abbrev pub AsksForEither : {W H : Type 0} → {ghosts : Ghosts W} → Bool → (Question → Outcome) → (H → List Event) → (H → Option ℕ) → ArchiveTool → BuildConfig → EnvSeen → Sight W H ghosts → Sight W H ghosts → Type 0
-AsksForEither steady world log patience tool set env old new = OnlyAsks steady world log patience (ArchiveToolAsks tool set env) old new
-
--- a call asks what their link lines want
+-- a call asks what the plan of link lines wants
 abbrev pub AsksForLinks : {W H : Type 0} → {ghosts : Ghosts W} → Bool → (Question → Outcome) → (H → List Event) → (H → Option ℕ) → BuildConfig → EnvSeen → Sight W H ghosts → Sight W H ghosts → Type 0
 AsksForLinks steady world log patience set env old new = OnlyAsks steady world log patience (LinkAsks set env) old new
 
--- a call asks whether their compiler takes a flag
+-- a call asks what the plan of a verdict on a flag wants
 abbrev pub AsksOnFlag : {W H : Type 0} → {ghosts : Ghosts W} → Bool → (Question → Outcome) → (H → List Event) → (H → Option ℕ) → BuildConfig → EnvSeen → List ℕ → Sight W H ghosts → Sight W H ghosts → Type 0
 AsksOnFlag steady world log patience set env flag old new = OnlyAsks steady world log patience (SupportAsks set env flag) old new
-
--- the answers settle that this compiler is chosen, or that it has this path
-abbrev pub IsChosen : {W H : Type 0} → {ghosts : Ghosts W} → Sight W H ghosts → BuildConfig → EnvSeen → Choice → Type 0
-IsChosen sight set env choice = Settles sight.answers.now (choice_of set env) choice
-
-abbrev pub IsChosenAt : {W H : Type 0} → {ghosts : Ghosts W} → Sight W H ghosts → BuildConfig → EnvSeen → List ℕ → Type 0
-IsChosenAt sight set env path = Settles sight.answers.now (λ look. (choice_of set env look).path) path
-
--- the answers settle that tools for the target of these inputs, which is another than the host, have this prefix
-abbrev pub IsPrefix : {W H : Type 0} → {ghosts : Ghosts W} → Sight W H ghosts → Inputs → List ℕ → Type 0
-IsPrefix sight inputs prefix = Settles sight.answers.now (cross_prefix inputs.set.now inputs.env.now) (Some prefix)
 
 -- on Ok the answers settle the value, by a function of all verdicts
 abbrev pub SettledIn : {W H X E : Type 0} → {ghosts : Ghosts W} → Sight W H ghosts → (Look → X) → Result X E → Type 0
 SettledIn sight value result = IfOk result (Settles sight.answers.now value)
-
--- a call asks for these inputs, and does nothing else
-abbrev pub AsksBy : {W H : Type 0} → {ghosts : Ghosts W} → Bool → (Question → Outcome) → (H → List Event) → (H → Option ℕ) → Inputs → Sight W H ghosts → Sight W H ghosts → Type 0
-AsksBy steady world log patience inputs old new = AsksFor steady world log patience inputs.set.now inputs.env.now old new
-
--- a call asks what finds an assembler, where the sources of these settings want one
-abbrev pub AsksIfWanted : {W H : Type 0} → {ghosts : Ghosts W} → Bool → (Question → Outcome) → (H → List Event) → (H → Option ℕ) → Assembly → Sight W H ghosts → Sight W H ghosts → Type 0
-AsksIfWanted steady world log patience given old new =
-    OnlyAsks steady world log patience (WantedAsks given.set.now given.env.now (info_seen given.target.now) given.family given.path.now) old new
-
--- a call asks what finds an assembler
-abbrev pub AsksForAssembly : {W H : Type 0} → {ghosts : Ghosts W} → Bool → (Question → Outcome) → (H → List Event) → (H → Option ℕ) → Assembly → Sight W H ghosts → Sight W H ghosts → Type 0
-AsksForAssembly steady world log patience given old new = AsksBeside steady world log patience given.set.now given.env.now given.family given.path.now old new
-
--- a call asks for these inputs what finds a tool of archives
-abbrev pub AsksForTool : {W H : Type 0} → {ghosts : Ghosts W} → Bool → (Question → Outcome) → (H → List Event) → (H → Option ℕ) → ArchiveTool → Inputs → Sight W H ghosts → Sight W H ghosts → Type 0
-AsksForTool steady world log patience tool inputs old new = AsksForEither steady world log patience tool inputs.set.now inputs.env.now old new
-
--- a call asks for these inputs what its names of variables are planned by
-abbrev pub AsksForNamesBy : {W H : Type 0} → {ghosts : Ghosts W} → Bool → (Question → Outcome) → (H → List Event) → (H → Option ℕ) → Reads → Inputs → Sight W H ghosts → Sight W H ghosts → Type 0
-AsksForNamesBy steady world log patience reads inputs old new = AsksForNames steady world log patience reads inputs.set.now inputs.env.now old new
-
--- a call asks this question alone
-abbrev pub AsksThis : {W H : Type 0} → {ghosts : Ghosts W} → Bool → (Question → Outcome) → (H → List Event) → (H → Option ℕ) → Question → Sight W H ghosts → Sight W H ghosts → Type 0
-AsksThis steady world log patience question old new = OnlyAsks steady world log patience (λ look q. q ≡ question) old new
-
--- on Ok the answers settle the value of these inputs
-abbrev pub SettledBy : {W H X E : Type 0} → {ghosts : Ghosts W} → Sight W H ghosts → (BuildConfig → EnvSeen → Look → X) → Inputs → Result X E → Type 0
-SettledBy sight value inputs result = SettledIn sight (value inputs.set.now inputs.env.now) result
 
 -- on Ok the answers settle that nothing is refused
 abbrev pub AllowedIn : {W H X : Type 0} → {ghosts : Ghosts W} → Sight W H ghosts → (Look → Option PlanError) → Result X PlanError → Type 0

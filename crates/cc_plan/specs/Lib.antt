@@ -1,6 +1,7 @@
 pub mod Added
 pub mod Android
 pub mod Archive
+pub mod ArchivePlan
 pub mod ArchiveTool
 pub mod Asking
 pub mod Assembler
@@ -11,9 +12,11 @@ pub mod Compile
 pub mod Compiler
 pub mod EnvTool
 pub mod FlagSupport
+pub mod Halts
 pub mod LibForm
 pub mod Libtool
 pub mod Link
+pub mod OnlyAsks
 pub mod Plan
 pub mod Planned
 pub mod Prefix
@@ -26,4 +29,5 @@ pub mod Searched
 pub mod Stdlib
 pub mod Support
 pub mod Tool
+pub mod ToolPlan
 pub mod Valid

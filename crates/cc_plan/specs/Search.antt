@@ -1,21 +1,18 @@
 -- Where programs are: which files are there, and in which folder a tool is found.
-use Rattle.std.specs.Prelude.{ℕ, Bool, List, Option, find}
+use Rattle.std.specs.Prelude.{ℕ, Bool, List, Option}
 use Rattle.cc_env.specs.Env.{EnvSeen}
-use Rattle.cc_host.specs.Question.{Look, is_yes, exists_question}
+use Rattle.cc_host.specs.Question.{is_yes, exists_question}
+use Rattle.cc_tool.specs.Plans.{Plan, ask, bind, done, seek}
 use Rattle.cc_flags.specs.Folders.{listed_folders, path_folders, places_of}
 
 -- a file of this path is there
-abbrev pub is_there : Look → List ℕ → Bool
-is_there look path = is_yes (look (exists_question path))
-
--- the first of some paths that is there
-abbrev pub first_there : Look → List (List ℕ) → Option (List ℕ)
-first_there look paths = find (is_there look) paths
+unfoldable pub is_there : List ℕ → Plan Bool
+is_there path = bind (ask (exists_question path)) (λ verdict. done (is_yes verdict))
 
 -- where a tool is, which a shell would find
-abbrev pub which : EnvSeen → List ℕ → Look → Option (List ℕ)
-which env tool look = first_there look (places_of (path_folders env) tool)
+unfoldable pub which : EnvSeen → List ℕ → Plan (Option (List ℕ))
+which env tool = seek exists_question (places_of (path_folders env) tool)
 
 -- where a tool is in those folders
-abbrev pub which_in : EnvSeen → Option (List ℕ) → List ℕ → Look → Option (List ℕ)
-which_in env list tool look = first_there look (places_of (listed_folders env list) tool)
+unfoldable pub which_in : EnvSeen → Option (List ℕ) → List ℕ → Plan (Option (List ℕ))
+which_in env list tool = seek exists_question (places_of (listed_folders env list) tool)

@@ -1,12 +1,15 @@
 -- Words that a compiler is given only where it takes them.
-use Rattle.std.specs.Prelude.{ℕ, Bool, false, not, ◌&&◌, List, [], ◌∷◌, ◌++◌, Option, Some, None, is_none, bytes_eq, codes, filter, if◌then◌else◌}
+use Rattle.std.specs.Prelude.{ℕ, Bool, false, not, ◌&&◌, List, [], ◌∷◌, ◌++◌, Option, Some, None, is_none, bytes_eq, codes, filter, map, if◌then◌else◌}
 use Rattle.cc_env.specs.Env.{EnvSeen}
 use Rattle.cc_env.specs.Snapshot.{child_of}
 use Rattle.cc_host.specs.Question.{Look, is_yes}
 use Rattle.cc_host.specs.declared.question.Ask.TheVariants.{Flag}
 use Rattle.cc_host.specs.declared.question.Question.{Question}
 use Rattle.cc_text.specs.declared.family.ToolFamily.{ToolFamily}
-use Rattle.cc_tool.specs.Family.{family_of}
+use Rattle.cc_host.specs.declared.question.Verdict.{Verdict}
+use Rattle.cc_tool.specs.Family.{child_vars, family}
+use Rattle.cc_tool.specs.Plans.{Plan, ask_all, bind, done}
+use Rattle.cc_text.specs.Words.{when}
 use Rattle.cc_text.specs.declared.family.Detected.TheVariants.{Marks as ByMarks}
 use Rattle.cc_flags.specs.Compilers.{bare}
 use Rattle.cc_text.specs.Families.{is_clang, is_visual_studio}
@@ -90,30 +93,47 @@ is_asked_of c flag = not (is_for_linker c.compiler.family flag) && is_none (comp
 abbrev pub asked_question : CompilationSeen → List ℕ → Option Question
 asked_question c flag = if is_asked_of c flag then Some (flag_question c flag) else None
 
--- the compiler takes the flag
-unfoldable pub takes : CompilationSeen → Look → List ℕ → Bool
-takes c look flag = is_asked_of c flag && is_yes (look (flag_question c flag))
+-- the words that the compiler is asked about
+unfoldable pub askable : CompilationSeen → List (List ℕ) → List (List ℕ)
+askable c words = filter (is_asked_of c) words
 
--- the family that a question on a flag is asked with: that of the path alone
-abbrev pub bare_family : EnvSeen → List ℕ → Look → ToolFamily
-bare_family env path look = (family_of look path [] (child_of env.inherited env.explicit)).0
+-- the questions on them
+abbrev pub flag_questions : CompilationSeen → List (List ℕ) → List Question
+flag_questions c words = map (flag_question c) (askable c words)
 
--- the compiler that a question on a flag is asked of
-abbrev pub bare_compiler : EnvSeen → List ℕ → Look → Compiler
-bare_compiler env path look = flag_compiler path (bare_family env path look)
+-- those of some words whose verdicts say yes
+abbrev pub taken : List (List ℕ) → List Verdict → List (List ℕ)
+taken [] verdicts = []
+taken (word ∷ words) [] = []
+taken (word ∷ words) (verdict ∷ verdicts) = when (is_yes verdict) (word ∷ []) ++ taken words verdicts
 
--- those of some words that the compiler takes
-abbrev pub taken_among : CompilationSeen → List (List ℕ) → Look → List (List ℕ)
-taken_among c words look = filter (takes c look) words
+-- those of some words that the compiler takes, which is asked about all of them at once
+unfoldable pub taken_among : CompilationSeen → List (List ℕ) → Plan (List (List ℕ))
+taken_among c words = bind (ask_all (flag_questions c words)) (λ verdicts. done (taken (askable c words) verdicts))
 
--- the compiler at the path of this one, with the family of the path alone
+-- the compiler that a question on a flag is asked of, with the family of the path alone
+unfoldable pub bare_compiler : EnvSeen → List ℕ → Plan Compiler
+bare_compiler env path = bind (family path [] (child_vars env)) (λ found. done (flag_compiler path found.0))
+
+-- a compilation with that compiler
+abbrev pub with_bare : CompilationSeen → Compiler → CompilationSeen
+with_bare c bare = record c { compiler = bare }
+
 abbrev pub bare_of : CompilationSeen → Look → CompilationSeen
-bare_of c look = record c { compiler = bare_compiler c.env c.compiler.choice.path look }
+bare_of c look = with_bare c ((bare_compiler c.env c.compiler.choice.path).value look)
 
--- those of some words that it takes
-abbrev pub supported_among : CompilationSeen → List (List ℕ) → Look → List (List ℕ)
-supported_among c words look = taken_among (bare_of c look) words look
+-- those of some words that the compiler at the path of this one takes
+unfoldable pub supported_among : CompilationSeen → List (List ℕ) → Plan (List (List ℕ))
+supported_among c words = bind (bare_compiler c.env c.compiler.choice.path) (λ bare. taken_among (with_bare c bare) words)
+
+-- no compiler is asked about no word
+unfoldable pub supported_if : CompilationSeen → List (List ℕ) → Plan (List (List ℕ))
+supported_if c [] = done []
+supported_if c (word ∷ words) = supported_among c (word ∷ words)
 
 -- those that it takes of the words it is asked about
+unfoldable pub supported_words : CompilationSeen → Plan (List (List ℕ))
+supported_words c = supported_if c (asked_words c)
+
 abbrev pub supported : CompilationSeen → Look → List (List ℕ)
-supported c look = supported_among c (asked_words c) look
+supported c look = (supported_words c).value look

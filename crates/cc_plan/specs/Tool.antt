@@ -5,11 +5,14 @@ use Rattle.cc_text.specs.Quoted.{quoted}
 use Rattle.cc_tool.specs.Family.{detection_warnings}
 use Rattle.cc_tool.specs.Tool.{ToolSeen, new_tool}
 use Rattle.cc_flags.specs.Compilation.{CompilationSeen, compilation_of}
+use Rattle.cc_flags.specs.Given.{environment_flags}
+use Rattle.cc_flags.specs.SettingWords.{leaves_off}
 use Rattle.cc_flags.specs.ToolWords.{tool_words, tool_warnings}
 use Rattle.cc_plan.specs.Checks.{defaults_refusal}
 use Rattle.cc_flags.specs.declared.compiler.Compiler.{Compiler}
 use Rattle.cc_plan.specs.declared.error.PlanError.{PlanError}
 use Rattle.cc_flags.specs.declared.settings.BuildConfig.{BuildConfig}
+use Rattle.cc_plan.specs.declared.tool.QuietTool.{QuietTool}
 use Rattle.cc_plan.specs.declared.tool.Unmarked.{Unmarked}
 use Rattle.cc_flags.specs.Warnings.{gnu_warnings, lacks_by, language_variable, link_warning, link_warnings}
 
@@ -37,6 +40,11 @@ other_warnings c supported = found_warnings c ++ tool_warnings c ++ lacks_by c s
 abbrev pub warnings_by : CompilationSeen → List (List ℕ) → Bool → List (List ℕ)
 warnings_by c supported is_first = other_warnings c supported ++ link_warnings c.set c.env c.compiler.family is_first
 
+-- what a user may be warned of
+abbrev pub unmarked_by : CompilationSeen → List (List ℕ) → Unmarked
+unmarked_by c supported =
+    record { warnings = other_warnings c supported; leaves_off = leaves_off c.compiler.family c.set.flags (environment_flags c.set c.env) }
+
 -- the compiler with its wrapper
 abbrev pub wrapped_tool : EnvSeen → Compiler → ToolSeen
 wrapped_tool env compiler = record (new_tool compiler.choice.path compiler.family env.inherited) { wrapper = compiler.choice.wrapper }
@@ -53,3 +61,7 @@ tool_by c supported = record {
   removed = [];
   entries = language_variable c.compiler.family ∷ c.env.explicit;
 }
+
+-- the same with what a user may be warned of
+abbrev pub quiet_by : CompilationSeen → List (List ℕ) → QuietTool
+quiet_by c supported = record { tool = tool_by c supported; unmarked = unmarked_by c supported }

@@ -1,84 +1,101 @@
 // The compiler for Android.
-ghost use Rattle.std.specs.Prelude.{Some};
-ghost use Rattle.cc_plan.specs.Asking.{AsksFor, SettledIn};
+ghost use Rattle.std.specs.Prelude.{◌≡◌, IfOk};
+ghost use Rattle.std.specs.Option.{option_copied};
 ghost use Rattle.cc_plan.specs.Android as spec;
-ghost use Rattle.cc_plan.specs.Questions.{IsForAndroid};
-ghost use Rattle.cc_flags.specs.Target.{target_name};
+ghost use Rattle.cc_tool.specs.Plans.{Passes};
 
-use crate::Sight;
-use crate::sight::can_start;
 use cc_env::BuildEnv;
-use cc_flags::{BuildConfig, clang_name, gnu_name, kit_compiler, older_name, target_name};
-use cc_host::{Host, World};
-use cc_text::{Mem, Text};
+use cc_flags::{clang_name, gnu_name, kit_compiler, older_name};
+use cc_host::{Ask, Question, is_yes};
+use cc_text::{Mem, Text, Words};
+use cc_tool::{Answers, Notes, Planned, verdict};
 use std::alloc::Global;
-use std::sync::Wait;
+
+fn starts_of(alloc: Global, env: &BuildEnv, program: &str) -> Mem<Question>
+    ensures { IfOk result (λ q. q ≡ spec.starts_question env.now program.now) }
+{
+    Ok(Question {
+        ask: Ask::Starts,
+        program: Text::of(alloc, program)?,
+        words: Words::new(alloc),
+        vars: env.inherited().vars().try_clone()?,
+    })
+}
+
+// The program can be run.
+#[tactic(auto, using(crate::proofs::PassBy::pass_by), unfolding(crate::specs::Android::can_start))]
+fn can_start(
+    alloc: Global,
+    env: &BuildEnv,
+    program: &str,
+    seen: &Answers,
+    notes: &mut Notes,
+) -> Planned<bool>
+    ensures { Passes seen.now notes.old notes.new (spec.can_start env.now program.now) result }
+{
+    let question = starts_of(alloc, env, program)?;
+    let verdict = verdict(alloc, question, seen, notes)?;
+    Ok(is_yes(&verdict))
+}
 
 // GCC by the target's name where it can be run, else Clang. Kits up to release 17 had GCC.
-#[tactic(auto, using(crate::proofs::AskingLemmas::only_none))]
-fn older_compiler<W: World, H: Host<W>>(
-    rt: &impl Wait,
+#[tactic(auto, using(crate::proofs::PassBy::pass_by), unfolding(crate::specs::Android::older_compiler))]
+fn older_compiler(
     alloc: Global,
-    set: &BuildConfig,
+    cpp: bool,
     env: &BuildEnv,
-    sight: &mut Sight<'_, W, H>,
-) -> Mem<Text>
-    requires { IsForAndroid set.now env.now }
-    ensures asks { AsksFor W.steady W.answer H.log H.patience set.now env.now sight.old sight.new }
-    ensures settles { SettledIn sight.new
-        (spec.older_compiler set.now.cpp env.now (target_name set.now env.now)) result }
+    name: &str,
+    seen: &Answers,
+    notes: &mut Notes,
+) -> Planned<Text>
+    ensures { Passes seen.now notes.old notes.new (spec.older_compiler cpp env.now name.now) result }
 {
-    let name = target_name(set, env);
-    let gnu = older_name(alloc, name, gnu_name(set.cpp))?;
-    if can_start(rt, alloc, set, env, gnu.as_str(), sight)? {
+    let gnu = older_name(alloc, name, gnu_name(cpp))?;
+    if can_start(alloc, env, gnu.as_str(), seen, notes)? {
         return Ok(gnu);
     }
-    older_name(alloc, name, clang_name(set.cpp))
+    let clang = older_name(alloc, name, clang_name(cpp))?;
+    Ok(clang)
 }
 
-// The compiler of the development kit, where it has one for the target, and that can be run.
-#[tactic(auto, using(crate::proofs::AskingLemmas::only_none))]
-fn started_kit<W: World, H: Host<W>>(
-    rt: &impl Wait,
+// A program, where it can be run.
+#[tactic(auto, using(crate::proofs::PassBy::pass_by), unfolding(crate::specs::Android::if_started))]
+fn if_started(
     alloc: Global,
-    set: &BuildConfig,
     env: &BuildEnv,
-    sight: &mut Sight<'_, W, H>,
-) -> Mem<Option<Text>>
-    requires { IsForAndroid set.now env.now }
-    ensures asks { AsksFor W.steady W.answer H.log H.patience set.now env.now sight.old sight.new }
-    ensures settles { SettledIn sight.new
-        (spec.started_kit env.now (target_name set.now env.now)) result }
+    program: Option<&str>,
+    seen: &Answers,
+    notes: &mut Notes,
+) -> Planned<Option<Text>>
+    ensures { Passes seen.now notes.old notes.new
+        (spec.if_started env.now (option_copied program.entry)) result }
 {
-    let kit = match kit_compiler(target_name(set, env)) {
-        Some(kit) => kit,
-        None => return Ok(None),
-    };
-    if can_start(rt, alloc, set, env, kit, sight)? {
-        let path = Text::of(alloc, kit)?;
-        return Ok(Some(path));
-    }
-    Ok(None)
-}
-
-// The compiler for a target: that of the development kit, else an older one.
-pub(crate) fn android_compiler<W: World, H: Host<W>>(
-    rt: &impl Wait,
-    alloc: Global,
-    set: &BuildConfig,
-    env: &BuildEnv,
-    sight: &mut Sight<'_, W, H>,
-) -> Mem<Text>
-    requires { IsForAndroid set.now env.now }
-    ensures asks { AsksFor W.steady W.answer H.log H.patience set.now env.now sight.old sight.new }
-    ensures settles { SettledIn sight.new
-        (spec.android_compiler set.now.cpp env.now (target_name set.now env.now)) result }
-{
-    match started_kit(rt, alloc, set, env, sight)? {
-        Some(path) => Ok(path),
-        None => {
-            let path = older_compiler(rt, alloc, set, env, sight)?;
-            Ok(path)
+    match program {
+        Some(program) => {
+            if can_start(alloc, env, program, seen, notes)? {
+                Ok(Some(Text::of(alloc, program)?))
+            } else {
+                Ok(None)
+            }
         }
+        None => Ok(None),
+    }
+}
+
+// The compiler for a target: that of the development kit, where it has one that can be run, else an older one.
+#[tactic(auto, using(crate::proofs::PassBy::pass_by), unfolding(crate::specs::Android::android_compiler, cc_tool::specs::Plans::or_else))]
+pub(crate) fn android_compiler(
+    alloc: Global,
+    cpp: bool,
+    env: &BuildEnv,
+    name: &str,
+    seen: &Answers,
+    notes: &mut Notes,
+) -> Planned<Text>
+    ensures { Passes seen.now notes.old notes.new (spec.android_compiler cpp env.now name.now) result }
+{
+    match if_started(alloc, env, kit_compiler(name), seen, notes)? {
+        Some(path) => Ok(path),
+        None => older_compiler(alloc, cpp, env, name, seen, notes),
     }
 }

@@ -1,7 +1,9 @@
 // The archiver, and the archive and index commands.
 ghost use Rattle.std.specs.Prelude.{◌≡◌, ◌++◌, IfOk};
 ghost use Rattle.cc_plan.specs.Archive.{archiver_of, archiver_by, has_words, archive_tool_cmd, ranlib_flags, ranlib_cmd_of, archives_of, indexes_of, paths_of};
+ghost use Rattle.cc_plan.specs.ArchivePlan as plan;
 ghost use Rattle.cc_plan.specs.ArchiveTool.{archive_tool};
+ghost use Rattle.cc_plan.specs.Halts.{Tries};
 ghost use Rattle.cc_target.specs.Targets.{info_seen};
 ghost use Rattle.cc_plan.specs.Asking.{AsksForArchiver, AsksForRanlib, AsksForEither, SettledIn, AllowedIn, RefusedIn};
 ghost use Rattle.cc_plan.specs.Plan.{archived_refusal};
@@ -10,15 +12,19 @@ ghost use Rattle.cc_plan.specs.Refusal.{AllowedBy, RefusedBy, look_up_refusal, a
 use crate::ar_form::{batch_commands, batch_index_commands};
 use crate::archive_tool::archive_tool;
 use crate::checks::known_target;
+use crate::halt::{Halting, outcome};
 use crate::lib_form::{is_lib, lib_commands};
 use crate::libtool::{check_list, libtool_command};
+use crate::sight::settle_in;
 use crate::{Archiver, Library, PlanError, Sight, is_libtool};
 use cc_env::BuildEnv;
 use cc_flags::{
-    ArchiveTool, BuildConfig, Choice, Object, host_of, is_msvc, target_of, variable_flags,
+    ArchiveTool, BuildConfig, Choice, Object, flags_names, host_of, is_msvc, target_of, tool_flags,
+    variable_flags,
 };
 use cc_host::{Command, Host, World};
 use cc_text::{Mem, Text, Words};
+use cc_tool::{Answers, Notes, Planned, Planner, note_names};
 use std::alloc::Global;
 use std::sync::Wait;
 
@@ -81,6 +87,61 @@ fn check_look_up(alloc: Global, set: &BuildConfig, env: &BuildEnv) -> Result<(),
     Ok(())
 }
 
+// Its flags can be looked up.
+#[tactic(auto, using(crate::proofs::HaltBy::halt_by), unfolding(crate::specs::ArchivePlan::with_flags))]
+fn with_flags(
+    tool: ArchiveTool,
+    alloc: Global,
+    set: &BuildConfig,
+    env: &BuildEnv,
+    choice: Choice,
+    seen: &Answers,
+    notes: &mut Notes,
+) -> Halting<Choice>
+    ensures { Tries seen.now notes.old notes.new
+        (plan.with_flags tool set.now env.now choice) result }
+{
+    check_look_up(alloc, set, env)?;
+    let names = flags_names(alloc, set, env, tool_flags(tool))?;
+    note_names(&names, seen, notes)?;
+    Ok(choice)
+}
+
+/// A tool of archives, whose flags can be looked up.
+#[tactic(auto, using(crate::proofs::HaltBy::halt_by), unfolding(crate::specs::ArchivePlan::tool_plan))]
+pub(crate) fn plan_archive_tool(
+    tool: ArchiveTool,
+    alloc: Global,
+    set: &BuildConfig,
+    env: &BuildEnv,
+    seen: &Answers,
+    notes: &mut Notes,
+) -> Halting<Choice>
+    ensures { Tries seen.now notes.old notes.new (plan.tool_plan tool set.now env.now) result }
+{
+    let choice = archive_tool(tool, alloc, set, env, seen, notes)?;
+    with_flags(tool, alloc, set, env, choice, seen, notes)
+}
+
+// The plan of a tool of archives.
+#[derive(Drop)]
+struct ArchivePlanner<'a> {
+    tool: ArchiveTool,
+    alloc: Global,
+    set: &'a BuildConfig,
+    env: &'a BuildEnv,
+}
+
+impl<'a> Planner for ArchivePlanner<'a> {
+    type Value = Result<Choice, PlanError>;
+
+    ghost plan = { λ p. plan.tool_plan p.tool p.set.now p.env.now };
+
+    fn pass(&self, seen: &Answers, notes: &mut Notes) -> Planned<Result<Choice, PlanError>> {
+        outcome(plan_archive_tool(self.tool, self.alloc, self.set, self.env, seen, notes))
+    }
+}
+
 // A tool of archives, whose flags can be looked up.
 fn tool_with_flags<W: World, H: Host<W>>(
     rt: &impl Wait,
@@ -96,9 +157,14 @@ fn tool_with_flags<W: World, H: Host<W>>(
     ensures allowed { AllowedIn sight.new (archive_tool_refusal tool set.now env.now) result }
     ensures refused { RefusedIn sight.new (archive_tool_refusal tool set.now env.now) result }
 {
-    let choice = archive_tool(rt, tool, alloc, set, env, sight)?;
-    check_look_up(alloc, set, env)?;
-    Ok(choice)
+    let planner = ArchivePlanner {
+        tool,
+        alloc,
+        set,
+        env,
+    };
+    let found = settle_in(rt, alloc, &planner, sight)?;
+    found.value
 }
 
 /// The archiver of these settings in this environment: the set one, else that of `AR`, which is looked up as `CC` is, with its words, else the

@@ -1,57 +1,41 @@
 // The chosen compiler with its family.
-ghost use Rattle.cc_plan.specs.Asking.{AsksFor, AsksBy, IsChosen, SettledIn, SettledBy};
-ghost use Rattle.cc_plan.specs.Compiler.{family_in, compiler_of};
+ghost use Rattle.cc_plan.specs.Compiler as spec;
+ghost use Rattle.cc_tool.specs.Plans.{Passes};
 
-use crate::Sight;
 use crate::choice::choose;
-use cc_env::BuildEnv;
-use cc_flags::{BuildConfig, Choice, Compiler, Inputs};
-use cc_host::{Host, World};
-use cc_text::{Mem, ToolFamily};
-use cc_tool::{Detected, ask_family};
-use std::alloc::Global;
-use std::sync::Wait;
+use cc_flags::{Choice, Compiler, Inputs};
+use cc_tool::{Answers, Notes, Planned, family_of};
 
-// The family of the chosen compiler.
-fn family_in<W: World, H: Host<W>>(
-    rt: &impl Wait,
-    alloc: Global,
-    set: &BuildConfig,
-    env: &BuildEnv,
-    choice: &Choice,
-    sight: &mut Sight<'_, W, H>,
-) -> Mem<(ToolFamily, Detected)>
-    requires { IsChosen sight.old set.now env.now choice.now }
-    ensures asks { AsksFor W.steady W.answer H.log H.patience set.now env.now sight.old sight.new }
-    ensures settles { SettledIn sight.new (family_in env.now choice.now) result }
-{
-    ask_family(
-        rt,
-        alloc,
-        sight.host,
-        sight.caches,
-        sight.answers,
-        choice.path.as_str(),
-        &choice.words,
-        env,
-        sight.dir,
-    )
-}
-
-/// The compiler of these settings in this environment, with its family.
-pub(crate) fn compiler_of<W: World, H: Host<W>>(
-    rt: &impl Wait,
+// A chosen compiler, with its family.
+#[tactic(auto, using(crate::proofs::PassBy::pass_by), unfolding(crate::specs::Compiler::asked_compiler))]
+fn asked_compiler(
     inputs: &Inputs<'_>,
-    sight: &mut Sight<'_, W, H>,
-) -> Mem<Compiler>
-    ensures asks { AsksBy W.steady W.answer H.log H.patience inputs.now sight.old sight.new }
-    ensures settles { SettledBy sight.new compiler_of inputs.now result }
+    choice: Choice,
+    seen: &Answers,
+    notes: &mut Notes,
+) -> Planned<Compiler>
+    ensures { Passes seen.now notes.old notes.new
+        (spec.asked_compiler inputs.now.env.now choice) result }
 {
-    let choice = choose(rt, inputs, sight)?;
-    let (family, detected) = family_in(rt, inputs.alloc, inputs.set, inputs.env, &choice, sight)?;
+    let (path, words) = (choice.path.as_str(), &choice.words);
+    let (family, detected) = family_of(inputs.alloc, path, words, inputs.env, seen, notes)?;
     Ok(Compiler {
         choice,
         family,
         detected,
     })
+}
+
+/// The compiler of these settings in this environment, with its family.
+#[tactic(auto, using(crate::proofs::PassBy::pass_by), unfolding(crate::specs::Compiler::compiler))]
+pub(crate) fn compiler_of(
+    inputs: &Inputs<'_>,
+    seen: &Answers,
+    notes: &mut Notes,
+) -> Planned<Compiler>
+    ensures { Passes seen.now notes.old notes.new
+        (spec.compiler inputs.now.set.now inputs.now.env.now) result }
+{
+    let choice = choose(inputs, seen, notes)?;
+    asked_compiler(inputs, choice, seen, notes)
 }

@@ -1,7 +1,8 @@
 //! The plan of a compile run: settings become commands, archives and link lines, as values.
 //!
 //! Stands on `cc_text`, `cc_env`, `cc_target`, `cc_flags`, `cc_host` and `cc_tool`. A plan is a function of settings, environment
-//! and the verdicts of questions; a call that plans asks those that it needs through a `Sight`, and its answer is settled by them.
+//! and the verdicts of questions. Its functions ask nothing: each answers the value that the answers so far settle, or the questions that it
+//! wants, and notes the variables that it reads. A public call settles its plan through a `Sight`.
 //! The crate above uses one thing: each planned value equals its definition in `specs/`, and each refusal comes exactly where
 //! `specs/Refusal.antt` says. Settings, words and names, which no question decides, stand in `cc_flags`.
 #![tactic(auto)]
@@ -11,11 +12,9 @@ mod android;
 mod ar_form;
 mod archive;
 mod archive_asks;
-mod archive_reruns;
 mod archive_tool;
 mod archiver;
 mod assembler;
-mod assembler_reruns;
 mod beside;
 mod checks;
 mod choice;
@@ -24,9 +23,11 @@ mod compiler;
 mod env_tool;
 mod error;
 mod flag_verdict;
+mod halt;
 mod lib_form;
 mod libtool;
 mod link;
+mod link_names;
 mod names;
 mod objects;
 mod plan;
@@ -39,7 +40,6 @@ mod sight;
 mod stdlib;
 mod support;
 mod tool;
-mod tool_reruns;
 
 pub use archive::{
     archive_commands, archived_paths, archiver_of, check_archived, index_commands, ranlib_of,

@@ -6,13 +6,16 @@ ghost use Rattle.cc_plan.specs.Link.{link_lines};
 ghost use Rattle.cc_flags.specs.LinkLines.{lines_by};
 ghost use Rattle.cc_plan.specs.Quiet.{quiet_warnings};
 ghost use Rattle.cc_plan.specs.Refusal.{link_refusal};
+ghost use Rattle.cc_plan.specs.Stdlib.{library_plan};
 
-use crate::stdlib::{check_cpp, linked_library};
+use crate::sight::settle_in;
+use crate::stdlib::{ChosenLibrary, check_cpp, linked_library};
 use crate::{PlanError, Sight};
 use cc_env::BuildEnv;
 use cc_flags::{BuildConfig, LinkLine, lines_by};
 use cc_host::{Host, World};
 use cc_text::Words;
+use cc_tool::{Answers, Notes, Planned, Planner};
 use std::alloc::Global;
 use std::sync::Wait;
 
@@ -26,6 +29,24 @@ pub struct LinkPlan {
     pub warnings: Words,
 }
 
+// The plan of the C++ library.
+#[derive(Drop)]
+struct LibraryPlanner<'a> {
+    alloc: Global,
+    set: &'a BuildConfig,
+    env: &'a BuildEnv,
+}
+
+impl<'a> Planner for LibraryPlanner<'a> {
+    type Value = ChosenLibrary;
+
+    ghost plan = { λ p. library_plan p.set.now p.env.now };
+
+    fn pass(&self, seen: &Answers, notes: &mut Notes) -> Planned<ChosenLibrary> {
+        linked_library(self.alloc, self.set, self.env, seen, notes)
+    }
+}
+
 /// The lines by which a build script asks Cargo to link a static library: its name behind the modifiers of the settings, and the folder
 /// that has it, without line feeds; for C++ also the C++ library, and for WebAssembly the folder that has that one. None where the
 /// settings want none. With them are the warnings of the quiet plan that decides on the C++ library. It asks, and prints nothing. Refused
@@ -36,11 +57,11 @@ pub struct LinkPlan {
 /// behind `-l`, `KIND:MODIFIERS=NAME`, where commas part the modifiers; `-bundle` leaves a static library out of the crate's own file, so
 /// that the linker takes it (rustc's book, "Command-line Arguments").
 #[tactic(auto, unfolding(crate::specs::Refusal::link_refusal))]
-pub fn plan_links<W: World, H: Host<W>>(
+pub fn plan_links<'a, W: World, H: Host<W>>(
     rt: &impl Wait,
     alloc: Global,
-    set: &BuildConfig,
-    env: &BuildEnv,
+    set: &'a BuildConfig,
+    env: &'a BuildEnv,
     name: &str,
     dir: &str,
     sight: &mut Sight<'_, W, H>,
@@ -54,8 +75,9 @@ pub fn plan_links<W: World, H: Host<W>>(
     ensures allowed { AllowedIn sight.new (link_refusal set.now env.now) result }
     ensures refused { RefusedIn sight.new (link_refusal set.now env.now) result }
 {
-    let linked = linked_library(rt, alloc, set, env, sight)?;
+    let found = settle_in(rt, alloc, &LibraryPlanner { alloc, set, env }, sight)?;
     check_cpp(alloc, set, env)?;
+    let linked = found.value;
     let lines = lines_by(alloc, set, env, name, dir, &linked.library)?;
     Ok(LinkPlan {
         lines,

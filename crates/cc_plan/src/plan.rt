@@ -3,6 +3,10 @@ ghost use Rattle.std.specs.Prelude.{◌≡◌, [], IfOk, Some, None};
 ghost use Rattle.cc_host.specs.Question.{Settles};
 ghost use Rattle.std.specs.Option.{option_copied};
 ghost use Rattle.cc_plan.specs.Asking.{AsksToCompile, AllowedIn, RefusedIn};
+ghost use Rattle.cc_plan.specs.Halts.{Tries};
+ghost use Rattle.cc_plan.specs.OnlyAsks.{OnlyAsks};
+ghost use Rattle.cc_plan.specs.Questions.{ToolsAsks};
+ghost use Rattle.cc_plan.specs.ToolPlan as spec;
 ghost use Rattle.cc_flags.specs.Names.{library_name};
 ghost use Rattle.cc_flags.specs.Given.{out_dir_of, probe_folder};
 ghost use Rattle.cc_plan.specs.Planned.{warnings_of};
@@ -13,12 +17,15 @@ use crate::added::check_added;
 use crate::assembler::wanted_assembler;
 use crate::checks::check_platform;
 use crate::compile::compile_commands;
-use crate::tool::plan_tool;
+use crate::halt::{Halting, outcome};
+use crate::sight::settle_in;
+use crate::tool::{QuietTool, marked, plan_quietly};
 use crate::{ArgumentCause, PlanError, Sight, lib_and_archive_names, objects_from_files};
 use cc_env::BuildEnv;
-use cc_flags::{Assembly, BuildConfig, Object, out_dir_of};
+use cc_flags::{Assembly, BuildConfig, Object, out_dir_of, target_info};
 use cc_host::{Command, Host, World};
 use cc_text::{Text, Words, join};
+use cc_tool::{Answers, Notes, Planned, Planner, Tool};
 use std::alloc::Global;
 use std::sync::Wait;
 
@@ -142,17 +149,83 @@ fn no_compiles(alloc: Global, set: &BuildConfig, env: &BuildEnv) -> Result<Plan,
     })
 }
 
-// With sources, those of the tool, and of the assembler where one wants it.
-fn tool_compiles<W: World, H: Host<W>>(
-    rt: &impl Wait,
+/// The tool of a compile run, with the assembler that the sources want, if any.
+#[derive(Drop)]
+pub(crate) struct Tools {
+    pub quiet: QuietTool,
+    pub assembler: Option<Tool>,
+}
+
+// A tool, with the assembler that the sources want.
+#[tactic(auto, using(crate::proofs::HaltBy::halt_by), unfolding(crate::specs::ToolPlan::with_assembler))]
+fn with_assembler(
     alloc: Global,
     set: &BuildConfig,
     env: &BuildEnv,
+    quiet: QuietTool,
+    seen: &Answers,
+    notes: &mut Notes,
+) -> Halting<Tools>
+    ensures { Tries seen.now notes.old notes.new (spec.with_assembler set.now env.now quiet) result }
+{
+    let target = target_info(set, env);
+    let given = Assembly {
+        alloc,
+        set,
+        env,
+        target: &target,
+        family: quiet.tool.family(),
+        path: quiet.tool.path(),
+    };
+    let assembler = wanted_assembler(&given, seen, notes)?;
+    Ok(Tools { quiet, assembler })
+}
+
+// The tool with that assembler.
+#[tactic(auto, using(crate::proofs::HaltBy::halt_by), unfolding(crate::specs::ToolPlan::tools_plan))]
+pub(crate) fn plan_tools(
+    alloc: Global,
+    set: &BuildConfig,
+    env: &BuildEnv,
+    seen: &Answers,
+    notes: &mut Notes,
+) -> Halting<Tools>
+    ensures { Tries seen.now notes.old notes.new (spec.tools_plan set.now env.now) result }
+{
+    let quiet = plan_quietly(alloc, set, env, seen, notes)?;
+    with_assembler(alloc, set, env, quiet, seen, notes)
+}
+
+// The plan of both.
+#[derive(Drop)]
+struct ToolsPlanner<'a> {
+    alloc: Global,
+    set: &'a BuildConfig,
+    env: &'a BuildEnv,
+}
+
+impl<'a> Planner for ToolsPlanner<'a> {
+    type Value = Result<Tools, PlanError>;
+
+    ghost plan = { λ p. spec.tools_plan p.set.now p.env.now };
+
+    #[tactic(auto, using(crate::proofs::RerunLaws::by_outcome))]
+    fn pass(&self, seen: &Answers, notes: &mut Notes) -> Planned<Result<Tools, PlanError>> {
+        outcome(plan_tools(self.alloc, self.set, self.env, seen, notes))
+    }
+}
+
+// With sources, the commands of the tool, and of the assembler where one wants it.
+fn tool_compiles<'a, W: World, H: Host<W>>(
+    rt: &impl Wait,
+    alloc: Global,
+    set: &'a BuildConfig,
+    env: &'a BuildEnv,
     objects: &[Object],
     sight: &mut Sight<'_, W, H>,
 ) -> Result<Plan, PlanError>
     requires { objects.now ≡ objects_of set.now env.now }
-    ensures asks { AsksToCompile W.steady W.answer H.log H.patience set.now env.now
+    ensures asks { OnlyAsks W.steady W.answer H.log H.patience (ToolsAsks set.now env.now)
         sight.old sight.new }
     ensures warnings { IfOk result (λ plan.
         Settles sight.new.answers.now (warnings_of set.now env.now plan.warns_of_link) plan.warnings) }
@@ -161,21 +234,17 @@ fn tool_compiles<W: World, H: Host<W>>(
     ensures allowed { AllowedIn sight.new (tool_refusal set.now env.now) result }
     ensures refused { RefusedIn sight.new (tool_refusal set.now env.now) result }
 {
-    let plan = plan_tool(rt, alloc, set, env, sight)?;
-    let given = Assembly {
-        alloc,
-        set,
-        env,
-        target: &plan.target,
-        family: plan.tool.family(),
-        path: plan.tool.path(),
-    };
-    let assembler = wanted_assembler(rt, &given, sight)?;
+    let planner = ToolsPlanner { alloc, set, env };
+    let found = settle_in(rt, alloc, &planner, sight)?;
+    let tools = found.value?;
+    let Tools { quiet, assembler } = tools;
+    let warned = marked(rt, sight.caches, set, quiet.unmarked)?;
+    let target = target_info(set, env);
     let assembler = assembler.as_ref();
-    let compiles = compile_commands(alloc, set, &plan.target, &plan.tool, assembler, objects)?;
+    let compiles = compile_commands(alloc, set, &target, &quiet.tool, assembler, objects)?;
     Ok(Plan {
-        warns_of_link: plan.warned.is_first,
-        warnings: plan.warned.warnings,
+        warns_of_link: warned.is_first,
+        warnings: warned.warnings,
         compiles,
     })
 }

@@ -1,76 +1,68 @@
 // The prefix of the GNU tools' names for a target.
 ghost use Rattle.cc_text.specs.Words.{texts};
-ghost use Rattle.cc_plan.specs.Asking.{AsksFor, SettledIn};
+ghost use Rattle.cc_flags.specs.Prefixes.{known_prefix as known};
 ghost use Rattle.cc_plan.specs.Prefix as spec;
+ghost use Rattle.cc_tool.specs.Plans.{Passes};
 
-use crate::Sight;
-use crate::sight::is_there;
 use cc_env::BuildEnv;
 use cc_flags::{BuildConfig, first_text, known_prefix, path_folders, tried_compilers};
-use cc_host::{Host, World};
 use cc_target::gnu_candidates;
-use cc_text::{Mem, Text};
+use cc_text::Text;
+use cc_tool::{Answers, Notes, Planned, first_shown, note_name};
 use std::alloc::Global;
-use std::sync::Wait;
-
-// The candidate of the first of these compilers that is there.
-#[tactic(auto, using(crate::proofs::AskingLemmas::only_none))]
-fn shown_candidate<W: World, H: Host<W>>(
-    rt: &impl Wait,
-    alloc: Global,
-    set: &BuildConfig,
-    env: &BuildEnv,
-    tries: &[(Text, Text)],
-    sight: &mut Sight<'_, W, H>,
-) -> Mem<Option<Text>>
-    ensures asks { AsksFor W.steady W.answer H.log H.patience set.now env.now sight.old sight.new }
-    ensures settles { SettledIn sight.new (λ look. spec.shown_candidate look tries.now) result }
-{
-    for pair in tries {
-        if is_there(rt, alloc, set, env, pair.0.as_str(), sight)? {
-            return Ok(Some(pair.1.try_clone()?));
-        }
-    }
-    Ok(None)
-}
 
 // The candidate of the first compiler that is there, else the first candidate.
-#[tactic(auto, using(crate::proofs::AskingLemmas::only_none))]
-fn candidate_prefix<W: World, H: Host<W>>(
-    rt: &impl Wait,
+#[tactic(auto, using(crate::proofs::PassBy::pass_by), unfolding(crate::specs::Prefix::candidate_prefix))]
+fn candidate_prefix(
     alloc: Global,
     set: &BuildConfig,
     env: &BuildEnv,
     candidates: &[&str],
-    sight: &mut Sight<'_, W, H>,
-) -> Mem<Option<Text>>
-    ensures asks { AsksFor W.steady W.answer H.log H.patience set.now env.now sight.old sight.new }
-    ensures settles { SettledIn sight.new
+    seen: &Answers,
+    notes: &mut Notes,
+) -> Planned<Option<Text>>
+    ensures { Passes seen.now notes.old notes.new
         (spec.candidate_prefix set.now env.now (texts candidates.now)) result }
 {
     let folders = path_folders(alloc, env)?;
     let tries = tried_compilers(alloc, set.cpp, folders.as_slice(), candidates)?;
-    match shown_candidate(rt, alloc, set, env, tries.as_slice(), sight)? {
+    match first_shown(alloc, tries.as_slice(), seen, notes)? {
         Some(candidate) => Ok(Some(candidate)),
-        None => first_text(alloc, candidates),
+        None => Ok(first_text(alloc, candidates)?),
     }
 }
 
-// The prefix of the GNU tools' names for a target, where there is one.
-#[tactic(auto, using(crate::proofs::AskingLemmas::only_none))]
-pub(crate) fn prefix_for<W: World, H: Host<W>>(
-    rt: &impl Wait,
+// The one that is known, else that of a candidate.
+#[tactic(auto, using(crate::proofs::PassBy::pass_by), unfolding(crate::specs::Prefix::known_or_candidate))]
+fn known_or_candidate(
     alloc: Global,
     set: &BuildConfig,
     env: &BuildEnv,
     name: &str,
-    sight: &mut Sight<'_, W, H>,
-) -> Mem<Option<Text>>
-    ensures asks { AsksFor W.steady W.answer H.log H.patience set.now env.now sight.old sight.new }
-    ensures settles { SettledIn sight.new (spec.gnu_prefix set.now env.now name.now) result }
+    seen: &Answers,
+    notes: &mut Notes,
+) -> Planned<Option<Text>>
+    ensures { Passes seen.now notes.old notes.new
+        (spec.known_or_candidate set.now env.now name.now (known env.now name.now)) result }
 {
     match known_prefix(env, name) {
         Some(prefix) => Ok(Some(Text::of(alloc, prefix)?)),
-        None => candidate_prefix(rt, alloc, set, env, gnu_candidates(name), sight),
+        None => candidate_prefix(alloc, set, env, gnu_candidates(name), seen, notes),
     }
+}
+
+// The prefix of the GNU tools' names for a target, where there is one.
+#[tactic(auto, using(crate::proofs::PassBy::pass_by), unfolding(crate::specs::Prefix::gnu_prefix))]
+pub(crate) fn prefix_for(
+    alloc: Global,
+    set: &BuildConfig,
+    env: &BuildEnv,
+    name: &str,
+    seen: &Answers,
+    notes: &mut Notes,
+) -> Planned<Option<Text>>
+    ensures { Passes seen.now notes.old notes.new (spec.gnu_prefix set.now env.now name.now) result }
+{
+    note_name("CROSS_COMPILE", seen, notes)?;
+    known_or_candidate(alloc, set, env, name, seen, notes)
 }

@@ -1,236 +1,214 @@
 // The variables whose change asks for another run of the build script, which Cargo is told of by `cargo:rerun-if-env-changed` (Cargo's book,
-// "Build Scripts").
+// "Build Scripts"): those that the plans of a call note.
 ghost use Rattle.std.specs.Prelude.{◌≡◌, IfOk};
-ghost use Rattle.cc_plan.specs.Asking.{AsksBy, AsksForNames, AsksForNamesBy, SettledIn, SettledBy};
+ghost use Rattle.cc_plan.specs.Asking.{AsksForNames, SettledIn};
+ghost use Rattle.cc_plan.specs.ArchivePlan.{tool_plan};
+ghost use Rattle.cc_plan.specs.FlagSupport.{pair_plan};
+ghost use Rattle.cc_plan.specs.Halts.{outcome_of};
 ghost use Rattle.cc_plan.specs.Reruns as spec;
+ghost use Rattle.cc_plan.specs.ToolPlan.{compiler_plan, tools_plan};
+ghost use Rattle.cc_tool.specs.Plans.{Passes};
 
 use crate::Sight;
-use crate::archive_reruns::archive_names;
-use crate::assembler_reruns::assembling_names;
-use crate::compiler::compiler_of;
-use crate::flag_verdict::found_compiler;
-use crate::support::flag_settings;
-use crate::tool_reruns::choice_names;
+use crate::archive::plan_archive_tool;
+use crate::flag_verdict::plan_pair;
+use crate::halt::{Halting, outcome};
+use crate::link_names::link_names;
+use crate::plan::plan_tools;
+use crate::sight::settle_in;
+use crate::tool::plan_compiler;
 use cc_env::BuildEnv;
 use cc_flags::{
-    ArchiveTool, BuildConfig, Compiler, Inputs, Reads, in_order, joined_names, read_handed,
-    target_info, wants_reruns, words_names,
+    ArchiveTool, BuildConfig, Inputs, Reads, push_if, read_handed, target_info, want_assembler,
+    wants_reruns,
 };
 use cc_host::{Host, World};
 use cc_text::{Mem, Words};
+use cc_tool::{Answers, Notes, Planned, Planner, note_names};
 use std::alloc::Global;
 use std::sync::Wait;
 
-// Those that the plan of a compiler reads.
-fn compiler_names<W: World, H: Host<W>>(
-    rt: &impl Wait,
-    inputs: &Inputs<'_>,
-    sight: &mut Sight<'_, W, H>,
-) -> Mem<Words>
-    ensures asks { AsksBy W.steady W.answer H.log H.patience inputs.now sight.old sight.new }
-    ensures settles { SettledBy sight.new spec.compiler_names inputs.now result }
+// What a pass was made for is what it noted.
+fn noted<X: Drop>(ended: Halting<X>) -> Planned<()>
+    ensures { result ≡ spec.noted_of (outcome_of ended) }
 {
-    let mut names = choice_names(rt, inputs, sight)?;
-    let compiler = compiler_of(rt, inputs, sight)?;
-    let more = words_names(
-        inputs.alloc,
-        inputs.set,
-        inputs.env,
-        inputs.target,
-        &compiler,
-    )?;
-    names.append(more)?;
-    Ok(names)
+    match outcome(ended) {
+        Ok(_) => Ok(()),
+        Err(want) => Err(want),
+    }
 }
 
-// Those of a question on a flag: its settings name the compiler that was found, and bring its words.
-fn question_names(inputs: &Inputs<'_>, compilers: &(Compiler, Compiler)) -> Mem<Words>
-    ensures { IfOk result (λ names. names
-        ≡ spec.question_names inputs.now.set.now inputs.now.env.now compilers.now) }
-{
-    let path = compilers.0.choice.path.as_str();
-    let settings = flag_settings(inputs.alloc, inputs.set, path, "")?;
-    let names = words_names(
-        inputs.alloc,
-        &settings,
-        inputs.env,
-        inputs.target,
-        &compilers.1,
-    )?;
-    Ok(names)
-}
-
-// Those by which a compiler is chosen, and asked whether it takes a flag.
-fn trial_names<W: World, H: Host<W>>(
-    rt: &impl Wait,
+// Those of the compiler's words, where it is planned.
+fn compiler_notes(
+    is_planned: bool,
     inputs: &Inputs<'_>,
-    sight: &mut Sight<'_, W, H>,
-) -> Mem<Words>
-    ensures asks { AsksBy W.steady W.answer H.log H.patience inputs.now sight.old sight.new }
-    ensures settles { SettledBy sight.new spec.trial_names inputs.now result }
+    seen: &Answers,
+    notes: &mut Notes,
+) -> Planned<()>
+    ensures { Passes seen.now notes.old notes.new (spec.where_made is_planned
+        (spec.noted_by (compiler_plan inputs.now.set.now inputs.now.env.now))) result }
 {
-    let mut names = choice_names(rt, inputs, sight)?;
-    let compilers = found_compiler(rt, inputs, sight)?;
-    let more = question_names(inputs, &compilers)?;
-    names.append(more)?;
-    Ok(names)
-}
-
-// Those of the compiler, where one is planned.
-#[tactic(auto, using(crate::proofs::AskingLemmas::only_none))]
-fn planned_names<W: World, H: Host<W>>(
-    rt: &impl Wait,
-    reads: Reads,
-    inputs: &Inputs<'_>,
-    sight: &mut Sight<'_, W, H>,
-) -> Mem<Words>
-    ensures asks { AsksBy W.steady W.answer H.log H.patience inputs.now sight.old sight.new }
-    ensures settles { SettledBy sight.new (spec.planned_names reads) inputs.now result }
-{
-    if reads.compiler {
-        compiler_names(rt, inputs, sight)
+    if is_planned {
+        let (alloc, set, env) = (inputs.alloc, inputs.set, inputs.env);
+        noted(plan_compiler(alloc, set, env, seen, notes))
     } else {
-        Ok(Words::new(inputs.alloc))
+        Ok(())
     }
 }
 
 // Those of a question on a flag, where one is asked.
-#[tactic(auto, using(crate::proofs::AskingLemmas::only_none))]
-fn tried_names<W: World, H: Host<W>>(
-    rt: &impl Wait,
-    reads: Reads,
+fn pair_notes(
+    is_planned: bool,
     inputs: &Inputs<'_>,
-    sight: &mut Sight<'_, W, H>,
-) -> Mem<Words>
-    ensures asks { AsksBy W.steady W.answer H.log H.patience inputs.now sight.old sight.new }
-    ensures settles { SettledBy sight.new (spec.tried_names reads) inputs.now result }
+    seen: &Answers,
+    notes: &mut Notes,
+) -> Planned<()>
+    ensures { Passes seen.now notes.old notes.new (spec.where_made is_planned
+        (spec.noted_by (pair_plan inputs.now.set.now inputs.now.env.now))) result }
 {
-    if reads.flag {
-        trial_names(rt, inputs, sight)
+    if is_planned {
+        let (alloc, set, env) = (inputs.alloc, inputs.set, inputs.env);
+        noted(plan_pair(alloc, set, env, seen, notes))
     } else {
-        Ok(Words::new(inputs.alloc))
+        Ok(())
     }
 }
 
 // Both.
-fn compiling_names<W: World, H: Host<W>>(
-    rt: &impl Wait,
+#[tactic(auto, using(crate::proofs::PassBy::pass_by), unfolding(crate::specs::Reruns::compiling_notes, crate::specs::Reruns::both))]
+fn compiling_notes(
     reads: Reads,
     inputs: &Inputs<'_>,
-    sight: &mut Sight<'_, W, H>,
-) -> Mem<Words>
-    ensures asks { AsksBy W.steady W.answer H.log H.patience inputs.now sight.old sight.new }
-    ensures settles { SettledBy sight.new (spec.compiling_names reads) inputs.now result }
+    seen: &Answers,
+    notes: &mut Notes,
+) -> Planned<()>
+    ensures { Passes seen.now notes.old notes.new
+        (spec.compiling_notes reads inputs.now.set.now inputs.now.env.now) result }
 {
-    let mut names = planned_names(rt, reads, inputs, sight)?;
-    let tried = tried_names(rt, reads, inputs, sight)?;
-    names.append(tried)?;
-    Ok(names)
+    compiler_notes(reads.compiler, inputs, seen, notes)?;
+    pair_notes(reads.flag, inputs, seen, notes)
 }
 
-// Those of the archiver, where one is planned.
-#[tactic(auto, using(crate::proofs::AskingLemmas::only_none))]
-fn archiver_names<W: World, H: Host<W>>(
-    rt: &impl Wait,
-    reads: Reads,
-    inputs: &Inputs<'_>,
-    sight: &mut Sight<'_, W, H>,
-) -> Mem<Words>
-    ensures asks { AsksForNamesBy W.steady W.answer H.log H.patience reads inputs.now
-        sight.old sight.new }
-    ensures settles { SettledBy sight.new (spec.archiver_names reads) inputs.now result }
+fn plans_assembler(reads: Reads, inputs: &Inputs<'_>) -> bool
+    ensures { result ≡ spec.plans_assembler reads inputs.now.set.now inputs.now.env.now }
 {
-    if !reads.archiver {
-        return Ok(Words::new(inputs.alloc));
+    reads.assembler && want_assembler(inputs.target, inputs.set.files.as_slice())
+}
+
+// Those of the tool with an assembler, where one is planned.
+fn assembler_notes(
+    is_planned: bool,
+    inputs: &Inputs<'_>,
+    seen: &Answers,
+    notes: &mut Notes,
+) -> Planned<()>
+    ensures { Passes seen.now notes.old notes.new (spec.where_made is_planned
+        (spec.noted_by (tools_plan inputs.now.set.now inputs.now.env.now))) result }
+{
+    if is_planned {
+        let (alloc, set, env) = (inputs.alloc, inputs.set, inputs.env);
+        noted(plan_tools(alloc, set, env, seen, notes))
+    } else {
+        Ok(())
     }
-    let names = archive_names(rt, ArchiveTool::Archiver, inputs, sight)?;
-    Ok(names)
 }
 
-// Those of the tool that writes an archive's index, where one is planned.
-#[tactic(auto, using(crate::proofs::AskingLemmas::only_none))]
-fn ranlib_names<W: World, H: Host<W>>(
-    rt: &impl Wait,
-    reads: Reads,
+// Those of a tool of archives, where it is planned.
+fn tool_notes(
+    is_planned: bool,
+    tool: ArchiveTool,
     inputs: &Inputs<'_>,
-    sight: &mut Sight<'_, W, H>,
-) -> Mem<Words>
-    ensures asks { AsksForNamesBy W.steady W.answer H.log H.patience reads inputs.now
-        sight.old sight.new }
-    ensures settles { SettledBy sight.new (spec.ranlib_names reads) inputs.now result }
+    seen: &Answers,
+    notes: &mut Notes,
+) -> Planned<()>
+    ensures { Passes seen.now notes.old notes.new (spec.where_made is_planned
+        (spec.noted_by (tool_plan tool inputs.now.set.now inputs.now.env.now))) result }
 {
-    if !reads.ranlib {
-        return Ok(Words::new(inputs.alloc));
+    if is_planned {
+        let (alloc, set, env) = (inputs.alloc, inputs.set, inputs.env);
+        noted(plan_archive_tool(tool, alloc, set, env, seen, notes))
+    } else {
+        Ok(())
     }
-    let names = archive_names(rt, ArchiveTool::Ranlib, inputs, sight)?;
-    Ok(names)
 }
 
-// Both.
-fn archiving_names<W: World, H: Host<W>>(
-    rt: &impl Wait,
+// Those of both tools of archives.
+#[tactic(auto, using(crate::proofs::PassBy::pass_by), unfolding(crate::specs::Reruns::archiving_notes, crate::specs::Reruns::both))]
+fn archiving_notes(
     reads: Reads,
     inputs: &Inputs<'_>,
-    sight: &mut Sight<'_, W, H>,
-) -> Mem<Words>
-    ensures asks { AsksForNamesBy W.steady W.answer H.log H.patience reads inputs.now
-        sight.old sight.new }
-    ensures settles { SettledBy sight.new (spec.archiving_names reads) inputs.now result }
+    seen: &Answers,
+    notes: &mut Notes,
+) -> Planned<()>
+    ensures { Passes seen.now notes.old notes.new
+        (spec.archiving_notes reads inputs.now.set.now inputs.now.env.now) result }
 {
-    let mut names = archiver_names(rt, reads, inputs, sight)?;
-    let ranlib = ranlib_names(rt, reads, inputs, sight)?;
-    names.append(ranlib)?;
-    Ok(names)
+    tool_notes(reads.archiver, ArchiveTool::Archiver, inputs, seen, notes)?;
+    tool_notes(reads.ranlib, ArchiveTool::Ranlib, inputs, seen, notes)
 }
 
 // Those of all tools behind the compiler.
-fn later_names<W: World, H: Host<W>>(
-    rt: &impl Wait,
-    reads: Reads,
-    inputs: &Inputs<'_>,
-    sight: &mut Sight<'_, W, H>,
-) -> Mem<Words>
-    ensures asks { AsksForNamesBy W.steady W.answer H.log H.patience reads inputs.now
-        sight.old sight.new }
-    ensures settles { SettledBy sight.new (spec.later_names reads) inputs.now result }
+#[tactic(auto, using(crate::proofs::PassBy::pass_by), unfolding(crate::specs::Reruns::both))]
+fn later_notes(reads: Reads, inputs: &Inputs<'_>, seen: &Answers, notes: &mut Notes) -> Planned<()>
+    ensures { Passes seen.now notes.old notes.new (spec.both
+        (spec.where_made (spec.plans_assembler reads inputs.now.set.now inputs.now.env.now)
+        (spec.noted_by (tools_plan inputs.now.set.now inputs.now.env.now)))
+        (spec.archiving_notes reads inputs.now.set.now inputs.now.env.now)) result }
 {
-    let mut names = assembling_names(rt, reads, inputs, sight)?;
-    let archiving = archiving_names(rt, reads, inputs, sight)?;
-    names.append(archiving)?;
-    Ok(names)
+    assembler_notes(plans_assembler(reads, inputs), inputs, seen, notes)?;
+    archiving_notes(reads, inputs, seen, notes)
 }
 
-// Those of the tools that a call plans.
-fn tools_names<W: World, H: Host<W>>(
-    rt: &impl Wait,
-    reads: Reads,
-    inputs: &Inputs<'_>,
-    sight: &mut Sight<'_, W, H>,
-) -> Mem<Words>
-    ensures asks { AsksForNamesBy W.steady W.answer H.log H.patience reads inputs.now
-        sight.old sight.new }
-    ensures settles { SettledBy sight.new (spec.tools_names reads) inputs.now result }
+// Those of all tools.
+#[tactic(auto, using(crate::proofs::PassBy::pass_by), unfolding(crate::specs::Reruns::tools_notes, crate::specs::Reruns::both))]
+fn tools_notes(reads: Reads, inputs: &Inputs<'_>, seen: &Answers, notes: &mut Notes) -> Planned<()>
+    ensures { Passes seen.now notes.old notes.new
+        (spec.tools_notes reads inputs.now.set.now inputs.now.env.now) result }
 {
-    let mut names = compiling_names(rt, reads, inputs, sight)?;
-    let later = later_names(rt, reads, inputs, sight)?;
-    names.append(later)?;
+    compiling_notes(reads, inputs, seen, notes)?;
+    later_notes(reads, inputs, seen, notes)
+}
+
+// Those of a run itself, and of its link lines.
+#[tactic(auto, unfolding(cc_flags::specs::Variables::run_names))]
+fn own_names(alloc: Global, reads: Reads, set: &BuildConfig, env: &BuildEnv) -> Mem<Words>
+    ensures { IfOk result (λ names. names ≡ spec.own_names reads set.now env.now) }
+{
+    let mut names = Words::new(alloc);
+    push_if(&mut names, reads.disabled, "CC_FORCE_DISABLE")?;
+    push_if(&mut names, reads.debug, "CC_ENABLE_DEBUG_OUTPUT")?;
+    if reads.links {
+        names.append(link_names(alloc, set, env)?)?;
+    }
     Ok(names)
 }
 
 // Those that a call reads.
-fn read_names<W: World, H: Host<W>>(
-    rt: &impl Wait,
-    reads: Reads,
-    inputs: &Inputs<'_>,
-    sight: &mut Sight<'_, W, H>,
-) -> Mem<Words>
-    ensures asks { AsksForNamesBy W.steady W.answer H.log H.patience reads inputs.now
-        sight.old sight.new }
-    ensures settles { SettledBy sight.new (spec.read_names reads) inputs.now result }
+#[tactic(auto, using(crate::proofs::PassBy::pass_by), unfolding(crate::specs::Reruns::names_plan))]
+fn read_notes(reads: Reads, inputs: &Inputs<'_>, seen: &Answers, notes: &mut Notes) -> Planned<()>
+    ensures { Passes seen.now notes.old notes.new
+        (spec.names_plan reads inputs.now.set.now inputs.now.env.now) result }
 {
-    let tools = tools_names(rt, reads, inputs, sight)?;
-    let names = joined_names(inputs.alloc, inputs.set, inputs.env, reads, tools)?;
-    Ok(names)
+    let names = own_names(inputs.alloc, reads, inputs.set, inputs.env)?;
+    note_names(&names, seen, notes)?;
+    tools_notes(reads, inputs, seen, notes)
+}
+
+// The plans of a call, for what they note.
+#[derive(Drop)]
+struct NamesPlanner<'a> {
+    reads: Reads,
+    inputs: Inputs<'a>,
+}
+
+impl<'a> Planner for NamesPlanner<'a> {
+    type Value = ();
+
+    ghost plan = { λ p. spec.names_plan p.reads p.inputs.set.now p.inputs.env.now };
+
+    fn pass(&self, seen: &Answers, notes: &mut Notes) -> Planned<()> {
+        read_notes(self.reads, &self.inputs, seen, notes)
+    }
 }
 
 /// The names of the variables that Cargo is told of at the end of a call, in the order of their bytes, each once: those that the call reads, and
@@ -256,13 +234,16 @@ pub fn rerun_names<W: World, H: Host<W>>(
     }
     let target = target_info(set, env);
     let handed = read_handed(alloc, env.inherited())?;
-    let inputs = Inputs {
-        alloc,
-        set,
-        env,
-        handed: &handed,
-        target: &target,
+    let planner = NamesPlanner {
+        reads,
+        inputs: Inputs {
+            alloc,
+            set,
+            env,
+            handed: &handed,
+            target: &target,
+        },
     };
-    let names = read_names(rt, reads, &inputs, sight)?;
-    in_order(alloc, &names)
+    let found = settle_in(rt, alloc, &planner, sight)?;
+    found.notes.into_names()
 }

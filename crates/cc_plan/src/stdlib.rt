@@ -1,80 +1,23 @@
 // The C++ library that a library of C++ is linked with, and the lines by which Cargo links it.
-ghost use Rattle.std.specs.Prelude.{◌≡◌, ◌++◌, [], IfOk, Some};
+ghost use Rattle.std.specs.Prelude.{◌≡◌, [], Some, false, IfOk};
 ghost use Rattle.std.specs.List.{list_any};
-ghost use Rattle.cc_tool.specs.Libcxx.{libcxx_question};
-ghost use Rattle.cc_host.specs.Question.{Settles};
-ghost use Rattle.cc_plan.specs.Asking.{OnlyAsks, AsksForLinks, AsksToPlan, SettledIn};
-ghost use Rattle.cc_plan.specs.Questions.{LibraryAsks};
-ghost use Rattle.cc_plan.specs.Quiet.{allowed_warnings, quiet_warnings};
 ghost use Rattle.cc_plan.specs.Refusal.{AllowedBy, RefusedBy, cpp_refusal};
+ghost use Rattle.cc_flags.specs.StdlibLines.{library_by};
 ghost use Rattle.cc_plan.specs.Stdlib as stdlib;
-ghost use Rattle.cc_flags.specs.Target.{target_info};
+ghost use Rattle.cc_tool.specs.Plans.{Passes, unnoted};
+ghost use Rattle.cc_plan.specs.ToolPlan.{tool_plan};
 
+use crate::PlanError;
 use crate::checks::demand;
-use crate::tool::{plan_quietly, quiet_warnings};
-use crate::{PlanError, Sight};
+use crate::halt::outcome;
+use crate::tool::{QuietTool, plan_quietly, quiet_warnings};
 use cc_env::BuildEnv;
 use cc_flags::{
     BuildConfig, given_library, is_wasm_linux, library_by, links_cpp, may_ask, target_info,
 };
-use cc_host::{Host, World};
-use cc_text::{Mem, NoMemory, Text, Words};
-use cc_tool::{Tool, ask_libcxx};
+use cc_text::{Mem, Text, Words};
+use cc_tool::{Answers, Notes, Planned, Tool, uses_libcxx};
 use std::alloc::Global;
-use std::sync::Wait;
-
-// Want of memory.
-fn is_memory(error: &PlanError) -> bool
-    ensures { result ≡ stdlib.is_memory error.now }
-{
-    match error {
-        PlanError::NoMemory => true,
-        _ => false,
-    }
-}
-
-// A tool, or none where its plan is refused, and what a user is told of that plan.
-#[derive(Drop)]
-struct Allowed {
-    tool: Option<Tool>,
-    warnings: Words,
-}
-
-// The tool of these settings, with its warnings, or none where it is refused. It asks, and prints nothing.
-fn allowed_tool<W: World, H: Host<W>>(
-    rt: &impl Wait,
-    alloc: Global,
-    set: &BuildConfig,
-    env: &BuildEnv,
-    sight: &mut Sight<'_, W, H>,
-) -> Mem<Allowed>
-    ensures asks { AsksToPlan W.steady W.answer H.log H.patience set.now env.now
-        sight.old sight.new }
-    ensures tool { IfOk result (λ allowed. Settles sight.new.answers.now
-        (stdlib.allowed_tool set.now env.now) allowed.tool) }
-    ensures warnings { IfOk result (λ allowed. Settles sight.new.answers.now
-        (allowed_warnings set.now env.now) allowed.warnings) }
-{
-    match plan_quietly(rt, alloc, set, env, sight) {
-        Ok(plan) => {
-            let warnings = quiet_warnings(set, plan.unmarked)?;
-            Ok(Allowed {
-                tool: Some(plan.tool),
-                warnings,
-            })
-        }
-        Err(error) => {
-            if is_memory(&error) {
-                Err(NoMemory)
-            } else {
-                Ok(Allowed {
-                    tool: None,
-                    warnings: Words::new(alloc),
-                })
-            }
-        }
-    }
-}
 
 fn is_headerless(arg: &Text) -> bool
     ensures { result ≡ stdlib.is_headerless arg.now }
@@ -97,70 +40,14 @@ fn has_own_headers(tool: &Tool) -> bool
 }
 
 // Whether the C++ library of a tool is libc++, where it is Clang.
-#[tactic(auto, using(crate::proofs::AskingLemmas::only_none))]
-fn tool_uses_libcxx<W: World, H: Host<W>>(
-    rt: &impl Wait,
-    alloc: Global,
-    tool: &Tool,
-    sight: &mut Sight<'_, W, H>,
-) -> Mem<bool>
-    ensures asks { OnlyAsks W.steady W.answer H.log H.patience
-        (λ look q. q ≡ libcxx_question tool.now) sight.old sight.new }
-    ensures settles { SettledIn sight.new
-        (λ look. stdlib.uses_libcxx look (Some tool.now)) result }
+#[tactic(auto, using(crate::proofs::PassBy::pass_by), unfolding(crate::specs::Stdlib::tool_uses_libcxx))]
+fn tool_uses_libcxx(alloc: Global, tool: &Tool, seen: &Answers, notes: &mut Notes) -> Planned<bool>
+    ensures { Passes seen.now notes.old notes.new (stdlib.tool_uses_libcxx tool.now) result }
 {
-    if !has_own_headers(tool) {
-        return Ok(false);
-    }
-    let uses = ask_libcxx(
-        rt,
-        alloc,
-        sight.host,
-        sight.caches,
-        sight.answers,
-        tool,
-        sight.dir,
-    )?;
-    Ok(uses)
-}
-
-// Whether the C++ library of the compiler is libc++, and what a user is told of that compiler's plan.
-#[derive(Drop)]
-struct Decided {
-    is_libcxx: bool,
-    warnings: Words,
-}
-
-// Whether the C++ library of the compiler is libc++, where it is Clang and its plan isn't refused, with the warnings of that plan.
-fn uses_libcxx<W: World, H: Host<W>>(
-    rt: &impl Wait,
-    alloc: Global,
-    set: &BuildConfig,
-    env: &BuildEnv,
-    sight: &mut Sight<'_, W, H>,
-) -> Mem<Decided>
-    ensures asks { OnlyAsks W.steady W.answer H.log H.patience (LibraryAsks set.now env.now)
-        sight.old sight.new }
-    ensures uses { IfOk result (λ decided. Settles sight.new.answers.now
-        (λ look. stdlib.uses_libcxx look (stdlib.allowed_tool set.now env.now look))
-        decided.is_libcxx) }
-    ensures warnings { IfOk result (λ decided. Settles sight.new.answers.now
-        (allowed_warnings set.now env.now) decided.warnings) }
-{
-    let allowed = allowed_tool(rt, alloc, set, env, sight)?;
-    let (tool, warnings) = (allowed.tool, allowed.warnings);
-    match tool {
-        Some(tool) => {
-            let is_libcxx = tool_uses_libcxx(rt, alloc, &tool, sight)?;
-            Ok(Decided {
-                is_libcxx,
-                warnings,
-            })
-        }
-        None => Ok(Decided {
-            is_libcxx: false,
-            warnings,
-        }),
+    if has_own_headers(tool) {
+        uses_libcxx(alloc, tool, seen, notes)
+    } else {
+        Ok(false)
     }
 }
 
@@ -173,8 +60,7 @@ pub(crate) struct ChosenLibrary {
 
 // A library, or none, for which no compiler was planned.
 fn unplanned(alloc: Global, library: Option<Text>) -> ChosenLibrary
-    ensures library { result.library ≡ library }
-    ensures warnings { result.warnings ≡ [] }
+    ensures { result ≡ stdlib.chosen library [] }
 {
     ChosenLibrary {
         library,
@@ -182,41 +68,115 @@ fn unplanned(alloc: Global, library: Option<Text>) -> ChosenLibrary
     }
 }
 
+// LLVM's library or GNU's, for which no compiler was planned.
+fn gnu_library(alloc: Global) -> Mem<ChosenLibrary>
+    ensures { IfOk result (λ c. c ≡ stdlib.chosen (Some (library_by false)) []) }
+{
+    let library = Text::of(alloc, library_by(false))?;
+    Ok(unplanned(alloc, Some(library)))
+}
+
+// That of the compiler of a plan, unless the plan is refused.
+#[tactic(auto, using(crate::proofs::PassBy::pass_by), unfolding(crate::specs::Stdlib::library_of))]
+fn library_of(
+    alloc: Global,
+    set: &BuildConfig,
+    planned: Result<QuietTool, PlanError>,
+    seen: &Answers,
+    notes: &mut Notes,
+) -> Planned<ChosenLibrary>
+    ensures { Passes seen.now notes.old notes.new (stdlib.library_of set.now planned) result }
+{
+    match planned {
+        Ok(quiet) => {
+            let uses = tool_uses_libcxx(alloc, &quiet.tool, seen, notes)?;
+            let library = Text::of(alloc, library_by(uses))?;
+            let warnings = quiet_warnings(set, quiet.unmarked)?;
+            Ok(ChosenLibrary {
+                library: Some(library),
+                warnings,
+            })
+        }
+        Err(_) => Ok(gnu_library(alloc)?),
+    }
+}
+
+// The plan of the tool, of whose notes nobody is told.
+#[tactic(auto, using(cc_tool::proofs::PassLemmas::pass_unnoted, cc_tool::proofs::PassLemmas::pass_memory))]
+fn unnoted_tool(
+    alloc: Global,
+    set: &BuildConfig,
+    env: &BuildEnv,
+    seen: &Answers,
+    notes: &mut Notes,
+) -> Planned<Result<QuietTool, PlanError>>
+    ensures { Passes seen.now notes.old notes.new (unnoted (tool_plan set.now env.now)) result }
+{
+    let _ = notes;
+    let mut own = Notes::new(alloc);
+    outcome(plan_quietly(alloc, set, env, seen, &mut own))
+}
+
+// The compiler's plan is quiet: what it is refused for but memory leaves libstdc++.
+#[tactic(auto, using(crate::proofs::PassBy::pass_by), unfolding(crate::specs::Stdlib::sought_library))]
+fn sought_library(
+    alloc: Global,
+    set: &BuildConfig,
+    env: &BuildEnv,
+    seen: &Answers,
+    notes: &mut Notes,
+) -> Planned<ChosenLibrary>
+    ensures { Passes seen.now notes.old notes.new (stdlib.sought_library set.now env.now) result }
+{
+    let planned = unnoted_tool(alloc, set, env, seen, notes)?;
+    library_of(alloc, set, planned, seen, notes)
+}
+
+// The library that is given, else that of the compiler, where it may be asked.
+#[tactic(auto, using(crate::proofs::PassBy::pass_by), unfolding(crate::specs::Stdlib::given_or_sought))]
+fn given_or_sought(
+    alloc: Global,
+    set: &BuildConfig,
+    env: &BuildEnv,
+    given: Option<Option<Text>>,
+    seen: &Answers,
+    notes: &mut Notes,
+) -> Planned<ChosenLibrary>
+    ensures { Passes seen.now notes.old notes.new
+        (stdlib.given_or_sought set.now env.now given) result }
+{
+    match given {
+        Some(library) => Ok(unplanned(alloc, library)),
+        None => {
+            if may_ask(set, env) {
+                sought_library(alloc, set, env, seen, notes)
+            } else {
+                Ok(gnu_library(alloc)?)
+            }
+        }
+    }
+}
+
 /// The C++ library that a library of C++ is linked with, or none, where there are lines for it: the set one; else `CXXSTDLIB`, where the
 /// empty text is none; else that of the target's system; else libc++ where the compiler is Clang and has that library's headers; else
 /// libstdc++. The compiler's plan is quiet: what it is refused for but memory leaves libstdc++, and its warnings are handed back as texts,
 /// which are printed nowhere.
-#[tactic(auto, using(crate::proofs::AskingLemmas::only_none))]
-pub(crate) fn linked_library<W: World, H: Host<W>>(
-    rt: &impl Wait,
+#[tactic(auto, using(crate::proofs::PassBy::pass_by), unfolding(crate::specs::Stdlib::library_plan))]
+pub(crate) fn linked_library(
     alloc: Global,
     set: &BuildConfig,
     env: &BuildEnv,
-    sight: &mut Sight<'_, W, H>,
-) -> Mem<ChosenLibrary>
-    ensures asks { AsksForLinks W.steady W.answer H.log H.patience set.now env.now
-        sight.old sight.new }
-    ensures library { IfOk result (λ linked. Settles sight.new.answers.now
-        (stdlib.linked_library set.now env.now) linked.library) }
-    ensures warnings { IfOk result (λ linked. Settles sight.new.answers.now
-        (quiet_warnings set.now env.now) linked.warnings) }
+    seen: &Answers,
+    notes: &mut Notes,
+) -> Planned<ChosenLibrary>
+    ensures { Passes seen.now notes.old notes.new (stdlib.library_plan set.now env.now) result }
 {
-    if !links_cpp(set) {
-        return Ok(unplanned(alloc, None));
+    if links_cpp(set) {
+        let given = given_library(alloc, set, env)?;
+        given_or_sought(alloc, set, env, given, seen, notes)
+    } else {
+        Ok(unplanned(alloc, None))
     }
-    match given_library(alloc, set, env)? {
-        Some(library) => return Ok(unplanned(alloc, library)),
-        None => {}
-    }
-    if !may_ask(set, env) {
-        return Ok(unplanned(alloc, Some(Text::of(alloc, library_by(false))?)));
-    }
-    let decided = uses_libcxx(rt, alloc, set, env, sight)?;
-    let library = Text::of(alloc, library_by(decided.is_libcxx))?;
-    Ok(ChosenLibrary {
-        library: Some(library),
-        warnings: decided.warnings,
-    })
 }
 
 /// Refused where lines for a library of C++ for WebAssembly's threads name a sysroot that isn't set, with the variable, and for memory.

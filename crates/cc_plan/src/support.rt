@@ -1,24 +1,21 @@
 // Words that a compiler is given only where it takes them.
-ghost use Rattle.std.specs.Prelude.{◌≡◌, ◌++◌, [], ◌∷◌, IfOk, OnOk, is_none};
-ghost use Rattle.cc_plan.specs.Asking.{OnlyAsks, AsksFor, IsChosenAt, SettledIn};
-ghost use Rattle.cc_flags.specs.Compilation.{seen};
-ghost use Rattle.cc_plan.specs.Questions.{FlagAsks, WordAsks};
+ghost use Rattle.std.specs.Prelude.{◌≡◌, ◌++◌, [], ◌∷◌, map, IfOk, OnOk, is_none};
+ghost use Rattle.cc_flags.specs.Compilation.{seen as shown};
+ghost use Rattle.cc_tool.specs.Plans.{Passes};
 ghost use Rattle.cc_plan.specs.Support as spec;
-ghost use Rattle.cc_flags.specs.ToolWords.{asked_words as words_asked};
 ghost use Rattle.cc_text.specs.Words.{when};
 
+use crate::PlanError;
 use crate::checks::check_compiler;
-use crate::{PlanError, Sight};
 use cc_env::BuildEnv;
 use cc_flags::{
     BuildConfig, BuildFlag, Choice, Compilation, Compiler, Flags, Supported, asked_words, is_clang,
     is_link, is_visual_studio, language_variable, tool_words,
 };
-use cc_host::{Ask, Host, Question, World, is_yes};
+use cc_host::{Ask, Question, Verdict, is_yes};
 use cc_text::{Mem, NoMemory, Text, ToolFamily, Vars, Words};
-use cc_tool::{Detected, ask_family, ask_flag};
+use cc_tool::{Answers, Detected, Notes, Planned, family_of, verdicts_of};
 use std::alloc::Global;
-use std::sync::Wait;
 
 fn second(alloc: Global, text: &Option<Text>) -> Mem<Option<Text>>
     ensures { IfOk result (λ copy. copy ≡ text.now) }
@@ -111,7 +108,7 @@ fn asking_words(alloc: Global, family: ToolFamily, words: Words) -> Mem<Words>
 // The words of a question on a flag, by its settings.
 #[tactic(auto, unfolding(crate::specs::Support::question_words))]
 fn question_words(plain: &Compilation<'_>) -> Mem<Words>
-    ensures { IfOk result (λ words. words ≡ spec.question_words (seen plain.now)) }
+    ensures { IfOk result (λ words. words ≡ spec.question_words (shown plain.now)) }
 {
     let none = Supported::none(plain.alloc);
     let words = tool_words(plain, &none)?;
@@ -120,7 +117,7 @@ fn question_words(plain: &Compilation<'_>) -> Mem<Words>
 
 /// The question whether a compiler takes a flag, by its settings. Only want of memory refuses.
 pub(crate) fn plain_question(plain: &Compilation<'_>) -> Mem<Question>
-    ensures { IfOk result (λ q. q ≡ spec.plain_question (seen plain.now)) }
+    ensures { IfOk result (λ q. q ≡ spec.plain_question (shown plain.now)) }
 {
     let family = plain.compiler.family;
     let words = question_words(plain)?;
@@ -137,7 +134,7 @@ pub(crate) fn plain_question(plain: &Compilation<'_>) -> Mem<Question>
 
 // Whether there is a command of a question on a flag.
 fn can_ask(plain: &Compilation<'_>) -> Mem<bool>
-    ensures { IfOk result (λ b. b ≡ is_none (spec.compiler_refusal (seen plain.now))) }
+    ensures { IfOk result (λ b. b ≡ is_none (spec.compiler_refusal (shown plain.now))) }
 {
     match check_compiler(plain) {
         Ok(()) => Ok(true),
@@ -156,7 +153,7 @@ pub(crate) fn is_for_linker(family: ToolFamily, flag: &str) -> bool
 // The question on a flag, where it is asked about.
 #[tactic(auto, unfolding(crate::specs::Support::is_asked_of, cc_flags::specs::Target::known_info))]
 fn question_of(given: &Compilation<'_>, flag: &str) -> Mem<Option<Question>>
-    ensures { IfOk result (λ q. q ≡ spec.asked_question (seen given.now) flag.now) }
+    ensures { IfOk result (λ q. q ≡ spec.asked_question (shown given.now) flag.now) }
 {
     if is_for_linker(given.compiler.family, flag) {
         return Ok(None);
@@ -179,34 +176,47 @@ fn question_of(given: &Compilation<'_>, flag: &str) -> Mem<Option<Question>>
     }
 }
 
-// Whether the compiler takes a flag.
-#[tactic(auto, using(crate::proofs::AskingLemmas::only_none))]
-fn takes<W: World, H: Host<W>>(
-    rt: &impl Wait,
-    given: &Compilation<'_>,
-    flag: &str,
-    sight: &mut Sight<'_, W, H>,
-) -> Mem<bool>
-    ensures asks { OnlyAsks W.steady W.answer H.log H.patience
-        (λ look q. q ≡ spec.flag_question (seen given.now) flag.now) sight.old sight.new }
-    ensures settles { SettledIn sight.new
-        (λ look. spec.takes (seen given.now) look flag.now) result }
+// The words that a compiler is asked about, with the questions on them.
+#[derive(Drop)]
+struct Asking {
+    words: Words,
+    questions: Vec<Question>,
+}
+
+// Adds a word with its question, where the compiler is asked about it.
+fn push_asked(asking: &mut Asking, given: &Compilation<'_>, word: &str) -> Mem<()>
+    ensures words { OnOk result (asking.new.words ≡ asking.old.words
+        ++ when (spec.is_asked_of (shown given.now) word.now) (word.now ∷ [])) }
+    ensures questions { OnOk result (asking.new.questions.items ≡ asking.old.questions.items
+        ++ map (spec.flag_question (shown given.now))
+        (when (spec.is_asked_of (shown given.now) word.now) (word.now ∷ []))) }
 {
-    match question_of(given, flag)? {
-        None => Ok(false),
+    match question_of(given, word)? {
         Some(question) => {
-            let verdict = ask_flag(
-                rt,
-                given.alloc,
-                sight.host,
-                sight.caches,
-                sight.answers,
-                &question,
-                sight.dir,
-            )?;
-            Ok(is_yes(&verdict))
+            asking.words.push(word)?;
+            asking.questions.push(question)?;
+            Ok(())
         }
+        None => Ok(()),
     }
+}
+
+// The words of some that the compiler is asked about, with their questions.
+#[tactic(auto, unfolding(crate::specs::Support::askable))]
+fn asking_of(given: &Compilation<'_>, words: &Words) -> Mem<Asking>
+    ensures words { IfOk result (λ asking. asking.words
+        ≡ spec.askable (shown given.now) words.now) }
+    ensures questions { IfOk result (λ asking. asking.questions.items
+        ≡ spec.flag_questions (shown given.now) words.now) }
+{
+    let mut asking = Asking {
+        words: Words::new(given.alloc),
+        questions: Vec::new(given.alloc),
+    };
+    for word in words.as_slice() {
+        push_asked(&mut asking, given, word.as_str())?;
+    }
+    Ok(asking)
 }
 
 fn push_if(words: &mut Words, wanted: bool, word: &str) -> Mem<()>
@@ -218,72 +228,67 @@ fn push_if(words: &mut Words, wanted: bool, word: &str) -> Mem<()>
     Ok(())
 }
 
-// Those of some words that the compiler takes.
-#[tactic(auto, using(crate::proofs::AskingLemmas::only_none))]
-fn taken_among<W: World, H: Host<W>>(
-    rt: &impl Wait,
-    given: &Compilation<'_>,
-    words: &Words,
-    sight: &mut Sight<'_, W, H>,
-) -> Mem<Words>
-    ensures asks { OnlyAsks W.steady W.answer H.log H.patience
-        (λ look. FlagAsks (seen given.now) words.now) sight.old sight.new }
-    ensures settles { SettledIn sight.new (spec.taken_among (seen given.now) words.now) result }
+// Those of some words whose verdicts say yes.
+fn taken(alloc: Global, words: &[Text], verdicts: &[Verdict]) -> Mem<Words>
+    ensures { IfOk result (λ taken. taken ≡ spec.taken words.now verdicts.now) }
 {
-    let mut taken = Words::new(given.alloc);
-    for word in words.as_slice() {
-        let is_taken = takes(rt, given, word.as_str(), sight)?;
-        push_if(&mut taken, is_taken, word.as_str())?;
+    let mut taken = Words::new(alloc);
+    for place in 0..words.len() {
+        if place >= verdicts.len() {
+            break;
+        }
+        push_if(&mut taken, is_yes(&verdicts[place]), words[place].as_str())?;
     }
     Ok(taken)
 }
 
-/// The compiler that a question on a flag is asked of: the one at a path, with the family of the path alone. Only want of memory refuses; what
-/// was asked until then is kept.
-pub(crate) fn bare_compiler<W: World, H: Host<W>>(
-    rt: &impl Wait,
+// Those of some words that the compiler takes, which is asked about all of them at once.
+#[tactic(auto, using(crate::proofs::PassBy::pass_by), unfolding(crate::specs::Support::taken_among))]
+fn taken_among(
+    given: &Compilation<'_>,
+    words: &Words,
+    seen: &Answers,
+    notes: &mut Notes,
+) -> Planned<Words>
+    ensures { Passes seen.now notes.old notes.new
+        (spec.taken_among (shown given.now) words.now) result }
+{
+    let asking = asking_of(given, words)?;
+    let verdicts = verdicts_of(given.alloc, asking.questions, seen, notes)?;
+    let taken = taken(given.alloc, asking.words.as_slice(), verdicts.as_slice())?;
+    Ok(taken)
+}
+
+/// The compiler that a question on a flag is asked of: the one at a path, with the family of the path alone.
+#[tactic(auto, using(crate::proofs::PassBy::pass_by), unfolding(crate::specs::Support::bare_compiler))]
+pub(crate) fn bare_compiler(
     alloc: Global,
-    set: &BuildConfig,
     env: &BuildEnv,
     path: &str,
-    sight: &mut Sight<'_, W, H>,
-) -> Mem<Compiler>
-    requires { IsChosenAt sight.old set.now env.now path.now }
-    ensures asks { AsksFor W.steady W.answer H.log H.patience set.now env.now sight.old sight.new }
-    ensures settles { SettledIn sight.new (spec.bare_compiler env.now path.now) result }
+    seen: &Answers,
+    notes: &mut Notes,
+) -> Planned<Compiler>
+    ensures { Passes seen.now notes.old notes.new (spec.bare_compiler env.now path.now) result }
 {
     let none = Words::new(alloc);
-    let (family, _) = ask_family(
-        rt,
-        alloc,
-        sight.host,
-        sight.caches,
-        sight.answers,
-        path,
-        &none,
-        env,
-        sight.dir,
-    )?;
+    let (family, _) = family_of(alloc, path, &none, env, seen, notes)?;
     let compiler = flag_compiler(alloc, path, family)?;
     Ok(compiler)
 }
 
 // Those of some words that the compiler at the path of this one takes.
-#[tactic(auto, using(cc_tool::proofs::SettleLemmas::settles_is))]
-fn supported_among<W: World, H: Host<W>>(
-    rt: &impl Wait,
+#[tactic(auto, using(crate::proofs::PassBy::pass_by), unfolding(crate::specs::Support::supported_among))]
+fn supported_among(
     given: &Compilation<'_>,
     words: &Words,
-    sight: &mut Sight<'_, W, H>,
-) -> Mem<Words>
-    requires { IsChosenAt sight.old given.now.set.now given.now.env.now
-        given.now.compiler.now.choice.path }
-    ensures asks { OnlyAsks W.steady W.answer H.log H.patience
-        (WordAsks (seen given.now) words.now) sight.old sight.new }
-    ensures settles { SettledIn sight.new (spec.supported_among (seen given.now) words.now) result }
+    seen: &Answers,
+    notes: &mut Notes,
+) -> Planned<Words>
+    ensures { Passes seen.now notes.old notes.new
+        (spec.supported_among (shown given.now) words.now) result }
 {
     let path = given.compiler.choice.path.as_str();
-    let compiler = bare_compiler(rt, given.alloc, given.set, given.env, path, sight)?;
+    let compiler = bare_compiler(given.alloc, given.env, path, seen, notes)?;
     let bare = Compilation {
         alloc: given.alloc,
         set: given.set,
@@ -292,45 +297,47 @@ fn supported_among<W: World, H: Host<W>>(
         target: given.target,
         compiler: &compiler,
     };
-    let taken = taken_among(rt, &bare, words, sight)?;
-    Ok(taken)
+    taken_among(&bare, words, seen, notes)
+}
+
+// No compiler is asked about no word.
+#[tactic(auto, using(crate::proofs::PassBy::pass_by), unfolding(crate::specs::Support::supported_if))]
+fn supported_if(
+    given: &Compilation<'_>,
+    words: Words,
+    seen: &Answers,
+    notes: &mut Notes,
+) -> Planned<Words>
+    ensures { Passes seen.now notes.old notes.new
+        (spec.supported_if (shown given.now) words) result }
+{
+    if words.is_empty() {
+        Ok(words)
+    } else {
+        supported_among(given, &words, seen, notes)
+    }
 }
 
 // Those that the compiler takes of the words it is asked about, as a list.
-#[tactic(auto, using(crate::proofs::AskingLemmas::only_none))]
-fn supported_list<W: World, H: Host<W>>(
-    rt: &impl Wait,
-    given: &Compilation<'_>,
-    sight: &mut Sight<'_, W, H>,
-) -> Mem<Words>
-    requires { IsChosenAt sight.old given.now.set.now given.now.env.now
-        given.now.compiler.now.choice.path }
-    ensures asks { OnlyAsks W.steady W.answer H.log H.patience
-        (WordAsks (seen given.now) (words_asked (seen given.now))) sight.old sight.new }
-    ensures settles { SettledIn sight.new (spec.supported (seen given.now)) result }
+#[tactic(auto, using(crate::proofs::PassBy::pass_by), unfolding(crate::specs::Support::supported_words))]
+fn supported_list(given: &Compilation<'_>, seen: &Answers, notes: &mut Notes) -> Planned<Words>
+    ensures { Passes seen.now notes.old notes.new
+        (spec.supported_words (shown given.now)) result }
 {
     let words = asked_words(given)?;
-    if words.is_empty() {
-        return Ok(words);
-    }
-    supported_among(rt, given, &words, sight)
+    supported_if(given, words, seen, notes)
 }
 
-/// Those that the compiler takes of the words it is asked about. Its family is asked for by its path alone. Only want of memory refuses; what
-/// was asked until then is kept.
-#[tactic(auto, using(crate::proofs::AskingLemmas::only_none))]
-pub(crate) fn supported_words<W: World, H: Host<W>>(
-    rt: &impl Wait,
+/// Those that the compiler takes of the words it is asked about. Its family is asked for by its path alone.
+pub(crate) fn supported_words(
     given: &Compilation<'_>,
-    sight: &mut Sight<'_, W, H>,
-) -> Mem<Supported>
-    requires { IsChosenAt sight.old given.now.set.now given.now.env.now
-        given.now.compiler.now.choice.path }
-    ensures asks { OnlyAsks W.steady W.answer H.log H.patience
-        (WordAsks (seen given.now) (words_asked (seen given.now))) sight.old sight.new }
-    ensures settles { SettledIn sight.new (spec.supported (seen given.now)) result }
+    seen: &Answers,
+    notes: &mut Notes,
+) -> Planned<Supported>
+    ensures { Passes seen.now notes.old notes.new
+        (spec.supported_words (shown given.now)) result }
 {
-    let words = supported_list(rt, given, sight)?;
+    let words = supported_list(given, seen, notes)?;
     let supported = Supported::of(given.alloc, words)?;
     Ok(supported)
 }

@@ -1,40 +1,42 @@
 // The tool of a compile command: the compiler with the words and variables that all sources share.
 ghost use Rattle.std.specs.Prelude.{◌≡◌, ◌++◌, ◌&&◌, Bool, false, IfOk, IfErr, OnOk, Some};
 ghost use Rattle.cc_host.specs.Question.{Settles};
-ghost use Rattle.cc_target.specs.Targets.{info_seen};
-ghost use Rattle.cc_flags.specs.Compilation.{seen};
+ghost use Rattle.cc_flags.specs.Compilation.{seen as shown};
 ghost use Rattle.cc_plan.specs.Asking.{IsOwn, AsksToPlan, AsksThenWarns, SettledIn, AllowedIn, RefusedIn, RefusedInOrByPrint};
 ghost use Rattle.cc_plan.specs.Plan.{tool_warnings};
 ghost use Rattle.cc_plan.specs.Questions.{PlanAsks};
 ghost use Rattle.cc_plan.specs.Refusal.{tool_refusal};
-ghost use Rattle.cc_flags.specs.Target.{target_info};
 ghost use Rattle.cc_plan.specs.Planned.{warnings_of, tool_of};
-ghost use Rattle.cc_plan.specs.Tool.{detected_warnings, found_warnings, other_warnings, warnings_by, marked_by, wrapped_tool, tool_by};
+ghost use Rattle.cc_plan.specs.Tool.{detected_warnings, found_warnings, other_warnings, marked_by, wrapped_tool, tool_by, unmarked_by};
+ghost use Rattle.cc_plan.specs.Halts.{Tries};
+ghost use Rattle.cc_plan.specs.ToolPlan as spec;
+ghost use Rattle.cc_tool.specs.Plans.{Passes};
 ghost use Rattle.cc_flags.specs.Warnings.{language_variable};
 
 use crate::checks::{check_compiler, given_target};
 use crate::compiler::compiler_of;
+use crate::halt::{Halting, outcome, own_refusal};
 use crate::printing::warn_of;
+use crate::sight::settle_in;
 use crate::support::supported_words;
 use crate::{PlanError, Sight};
 use cc_env::BuildEnv;
 use cc_flags::{
     BuildConfig, Compilation, Compiler, Inputs, Supported, language_variable, leaves_off,
-    push_gnu_warning, push_lacks, push_link_warning, read_handed, tool_warnings, tool_words,
+    push_gnu_warning, push_lacks, push_link_warning, read_handed, target_info, tool_warnings,
+    tool_words, words_names,
 };
 use cc_host::{Host, World};
-use cc_target::TargetInfo;
 use cc_text::{Mem, Words, quoted};
-use cc_tool::{Caches, Detected, Tool};
+use cc_tool::{Answers, Caches, Detected, Notes, Planned, Planner, Tool, note_names};
 use std::alloc::Global;
 use std::sync::Wait;
 
-/// A tool with what it is for and what a user is warned of.
+/// A tool with what a user is warned of.
 #[derive(Drop)]
-pub(crate) struct ToolPlan<'a> {
-    pub target: TargetInfo<'a>,
-    pub tool: Tool,
-    pub warned: Warned,
+struct ToolPlan {
+    tool: Tool,
+    warned: Warned,
 }
 
 /// Warnings, and whether the call is the first of its caches that leaves off flags for the linker, which warns of it for all.
@@ -51,10 +53,9 @@ pub(crate) struct Unmarked {
     pub leaves_off: bool,
 }
 
-/// A tool with what it is for and what a user may be warned of.
+/// A tool with what a user may be warned of.
 #[derive(Drop)]
-pub(crate) struct QuietPlan<'a> {
-    pub target: TargetInfo<'a>,
+pub(crate) struct QuietTool {
     pub tool: Tool,
     pub unmarked: Unmarked,
 }
@@ -103,7 +104,7 @@ pub(crate) fn push_entries(tool: &mut Tool, env: &BuildEnv) -> Mem<()>
 
 // The tool of a compiler, where these words are supported.
 fn tool_by(given: &Compilation<'_>, supported: &Supported) -> Mem<Tool>
-    ensures { IfOk result (λ tool. tool ≡ tool_by (seen given.now) supported.now) }
+    ensures { IfOk result (λ tool. tool ≡ tool_by (shown given.now) supported.now) }
 {
     let compiler = given.compiler;
     let words = tool_words(given, supported)?;
@@ -135,7 +136,7 @@ fn detection_warnings(alloc: Global, compiler: &Compiler) -> Mem<Words>
 
 /// How the compiler was found, and that it isn't one for the target, where a user is warned of it. Only want of memory refuses.
 pub(crate) fn found_warnings(given: &Compilation<'_>) -> Mem<Words>
-    ensures { IfOk result (λ warnings. warnings ≡ found_warnings (seen given.now)) }
+    ensures { IfOk result (λ warnings. warnings ≡ found_warnings (shown given.now)) }
 {
     let mut warnings = detection_warnings(given.alloc, given.compiler)?;
     push_gnu_warning(&mut warnings, given)?;
@@ -144,7 +145,7 @@ pub(crate) fn found_warnings(given: &Compilation<'_>) -> Mem<Words>
 
 // What a user is warned of, but for flags that are left off.
 fn other_warnings(given: &Compilation<'_>, supported: &Supported) -> Mem<Words>
-    ensures { IfOk result (λ warnings. warnings ≡ other_warnings (seen given.now) supported.now) }
+    ensures { IfOk result (λ warnings. warnings ≡ other_warnings (shown given.now) supported.now) }
 {
     let mut warnings = found_warnings(given)?;
     let own = tool_warnings(given)?;
@@ -154,11 +155,8 @@ fn other_warnings(given: &Compilation<'_>, supported: &Supported) -> Mem<Words>
 }
 
 // What a user may be warned of.
-#[tactic(auto, unfolding(cc_flags::specs::Warnings::link_warnings))]
 fn unmarked_by(given: &Compilation<'_>, supported: &Supported) -> Mem<Unmarked>
-    ensures { IfOk result (λ unmarked. (is_first : Bool) →
-        marked_by given.now.set.now unmarked is_first
-        ≡ warnings_by (seen given.now) supported.now is_first) }
+    ensures { IfOk result (λ unmarked. unmarked ≡ unmarked_by (shown given.now) supported.now) }
 {
     let warnings = other_warnings(given, supported)?;
     let leaves_off = leaves_off(given.alloc, given.set, given.env, given.compiler.family)?;
@@ -169,7 +167,7 @@ fn unmarked_by(given: &Compilation<'_>, supported: &Supported) -> Mem<Unmarked>
 }
 
 // What a user is warned of, where the caches are asked whether the call is the first that warns of flags for the linker.
-fn marked<W: World>(
+pub(crate) fn marked<W: World>(
     rt: &impl Wait,
     caches: &Caches<W>,
     set: &BuildConfig,
@@ -193,26 +191,53 @@ pub(crate) fn quiet_warnings(set: &BuildConfig, unmarked: Unmarked) -> Mem<Words
     Ok(warnings)
 }
 
-/// The tool of these settings in this environment, with its target and what a user may be warned of. It asks, and prints nothing; the
-/// mark of the caches that flags for the linker were warned of stays.
-#[tactic(auto, using(crate::proofs::QuestionLemmas::chosen_at, crate::proofs::AskingLemmas::only_none))]
-pub(crate) fn plan_quietly<'a, W: World, H: Host<W>>(
-    rt: &impl Wait,
+// The tool of a compilation, with what a user may be warned of.
+#[tactic(auto, using(crate::proofs::HaltBy::halt_by), unfolding(crate::specs::ToolPlan::quiet_tool))]
+fn quiet_tool(given: &Compilation<'_>, seen: &Answers, notes: &mut Notes) -> Halting<QuietTool>
+    ensures { Tries seen.now notes.old notes.new (spec.quiet_tool (shown given.now)) result }
+{
+    let supported = supported_words(given, seen, notes)?;
+    let tool = tool_by(given, &supported)?;
+    let unmarked = unmarked_by(given, &supported)?;
+    Ok(QuietTool { tool, unmarked })
+}
+
+// The compiler, with the variables that its words are planned by.
+#[tactic(auto, using(crate::proofs::PassBy::pass_by), unfolding(crate::specs::ToolPlan::noted_words))]
+fn noted_words(
+    inputs: &Inputs<'_>,
+    compiler: Compiler,
+    seen: &Answers,
+    notes: &mut Notes,
+) -> Planned<Compiler>
+    ensures { Passes seen.now notes.old notes.new
+        (spec.noted_words inputs.now.set.now inputs.now.env.now compiler) result }
+{
+    let (set, env, target) = (inputs.set, inputs.env, inputs.target);
+    let names = words_names(inputs.alloc, set, env, target, &compiler)?;
+    note_names(&names, seen, notes)?;
+    Ok(compiler)
+}
+
+#[tactic(auto, using(crate::proofs::PassBy::pass_by), unfolding(crate::specs::ToolPlan::noted_compiler))]
+fn noted_compiler(inputs: &Inputs<'_>, seen: &Answers, notes: &mut Notes) -> Planned<Compiler>
+    ensures { Passes seen.now notes.old notes.new
+        (spec.noted_compiler inputs.now.set.now inputs.now.env.now) result }
+{
+    let compiler = compiler_of(inputs, seen, notes)?;
+    noted_words(inputs, compiler, seen, notes)
+}
+
+// The compiler that a tool is made of, for inputs of a known target and a level.
+#[tactic(auto, using(crate::proofs::HaltBy::halt_by), unfolding(crate::specs::ToolPlan::compiler_plan))]
+pub(crate) fn plan_compiler(
     alloc: Global,
-    set: &'a BuildConfig,
-    env: &'a BuildEnv,
-    sight: &mut Sight<'_, W, H>,
-) -> Result<QuietPlan<'a>, PlanError>
-    ensures asks { AsksToPlan W.steady W.answer H.log H.patience set.now env.now
-        sight.old sight.new }
-    ensures info { IfOk result (λ plan. info_seen plan.target ≡ target_info set.now env.now) }
-    ensures tool { IfOk result (λ plan. Settles sight.new.answers.now
-        (tool_of set.now env.now) plan.tool) }
-    ensures warnings { IfOk result (λ plan. (is_first : Bool) → Settles sight.new.answers.now
-        (warnings_of set.now env.now is_first) (marked_by set.now plan.unmarked is_first)) }
-    ensures allowed { AllowedIn sight.new (tool_refusal set.now env.now) result }
-    ensures refused { RefusedIn sight.new (tool_refusal set.now env.now) result }
-    ensures own { IfErr result IsOwn }
+    set: &BuildConfig,
+    env: &BuildEnv,
+    seen: &Answers,
+    notes: &mut Notes,
+) -> Halting<Compiler>
+    ensures { Tries seen.now notes.old notes.new (spec.compiler_plan set.now env.now) result }
 {
     let target = given_target(alloc, set, env)?;
     let handed = read_handed(alloc, env.inherited())?;
@@ -223,37 +248,81 @@ pub(crate) fn plan_quietly<'a, W: World, H: Host<W>>(
         handed: &handed,
         target: &target,
     };
-    let compiler = compiler_of(rt, &inputs, sight)?;
+    let compiler = noted_compiler(&inputs, seen, notes)?;
+    Ok(compiler)
+}
+
+// The tool with a compiler, which has words.
+#[tactic(auto, using(crate::proofs::HaltBy::halt_by), unfolding(crate::specs::ToolPlan::tool_with))]
+fn tool_with(
+    alloc: Global,
+    set: &BuildConfig,
+    env: &BuildEnv,
+    compiler: &Compiler,
+    seen: &Answers,
+    notes: &mut Notes,
+) -> Halting<QuietTool>
+    ensures { Tries seen.now notes.old notes.new
+        (spec.tool_with set.now env.now compiler.now) result }
+{
+    let target = target_info(set, env);
+    let handed = read_handed(alloc, env.inherited())?;
     let given = Compilation {
         alloc,
         set,
         env,
         handed: &handed,
         target: &target,
-        compiler: &compiler,
+        compiler,
     };
     check_compiler(&given)?;
-    let supported = supported_words(rt, &given, sight)?;
-    let tool = tool_by(&given, &supported)?;
-    let unmarked = unmarked_by(&given, &supported)?;
-    Ok(QuietPlan {
-        target,
-        tool,
-        unmarked,
-    })
+    quiet_tool(&given, seen, notes)
 }
 
-/// The tool of these settings in this environment, with its target and its warnings. It asks, and prints nothing.
-pub(crate) fn plan_tool<'a, W: World, H: Host<W>>(
+/// The tool of these settings in this environment, with what a user may be warned of.
+#[tactic(auto, using(crate::proofs::HaltBy::halt_by), unfolding(crate::specs::ToolPlan::tool_plan))]
+pub(crate) fn plan_quietly(
+    alloc: Global,
+    set: &BuildConfig,
+    env: &BuildEnv,
+    seen: &Answers,
+    notes: &mut Notes,
+) -> Halting<QuietTool>
+    ensures { Tries seen.now notes.old notes.new (spec.tool_plan set.now env.now) result }
+{
+    let compiler = plan_compiler(alloc, set, env, seen, notes)?;
+    tool_with(alloc, set, env, &compiler, seen, notes)
+}
+
+// The plan of a tool.
+#[derive(Drop)]
+struct ToolPlanner<'a> {
+    alloc: Global,
+    set: &'a BuildConfig,
+    env: &'a BuildEnv,
+}
+
+impl<'a> Planner for ToolPlanner<'a> {
+    type Value = Result<QuietTool, PlanError>;
+
+    ghost plan = { λ p. spec.tool_plan p.set.now p.env.now };
+
+    #[tactic(auto, using(crate::proofs::RerunLaws::by_outcome))]
+    fn pass(&self, seen: &Answers, notes: &mut Notes) -> Planned<Result<QuietTool, PlanError>> {
+        outcome(plan_quietly(self.alloc, self.set, self.env, seen, notes))
+    }
+}
+
+/// The tool of these settings in this environment, with its warnings. It asks, and prints nothing.
+fn plan_tool<'a, W: World, H: Host<W>>(
     rt: &impl Wait,
     alloc: Global,
     set: &'a BuildConfig,
     env: &'a BuildEnv,
     sight: &mut Sight<'_, W, H>,
-) -> Result<ToolPlan<'a>, PlanError>
+) -> Result<ToolPlan, PlanError>
     ensures asks { AsksToPlan W.steady W.answer H.log H.patience set.now env.now
         sight.old sight.new }
-    ensures info { IfOk result (λ plan. info_seen plan.target ≡ target_info set.now env.now) }
     ensures tool { IfOk result (λ plan. Settles sight.new.answers.now
         (tool_of set.now env.now) plan.tool) }
     ensures warnings { IfOk result (λ plan. Settles sight.new.answers.now
@@ -262,11 +331,12 @@ pub(crate) fn plan_tool<'a, W: World, H: Host<W>>(
     ensures refused { RefusedIn sight.new (tool_refusal set.now env.now) result }
     ensures own { IfErr result IsOwn }
 {
-    let plan = plan_quietly(rt, alloc, set, env, sight)?;
-    let warned = marked(rt, sight.caches, set, plan.unmarked)?;
+    let planner = ToolPlanner { alloc, set, env };
+    let found = settle_in(rt, alloc, &planner, sight)?;
+    let quiet = own_refusal(found.value)?;
+    let warned = marked(rt, sight.caches, set, quiet.unmarked)?;
     Ok(ToolPlan {
-        target: plan.target,
-        tool: plan.tool,
+        tool: quiet.tool,
         warned,
     })
 }

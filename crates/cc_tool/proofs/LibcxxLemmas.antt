@@ -1,5 +1,5 @@
 -- The question of a compiler's C++ library is asked by a command.
-use Rattle.std.proofs.Common.{◌≡◌, List, ℕ, Result, refl, ap, ◌∙◌}
+use Rattle.std.proofs.Common.{◌≡◌, List, Result, refl, ap, ◌∙◌}
 use Rattle.cc_text.specs.declared.memory.NoMemory.{NoMemory}
 use Rattle.cc_host.specs.declared.event.Event.{Event}
 use Rattle.cc_host.specs.declared.question.Question.{Question}

@@ -1,11 +1,9 @@
 -- The places of a digest, as the list grows and as it is searched.
-use Rattle.std.proofs.Common.{◌≡◌, ◌≢◌, ℕ, zero, suc, ◌+◌, ◌-◌, ◌<◌, ◌==◌, Bool, true, false, List, [], ◌∷◌, ◌++◌, length, get_or, set, Option, Some, None, slice_get, sym, refl, ap, ◌∙◌, subst, arith, eq-eqb, ne_eqb, append-nil}
+use Rattle.std.proofs.Common.{◌≡◌, ◌≢◌, ℕ, zero, suc, ◌+◌, ◌<◌, ◌==◌, Bool, true, false, List, [], ◌∷◌, ◌++◌, length, get_or, set, Option, Some, None, slice_get, sym, refl, ap, ◌∙◌, subst, arith, eq-eqb, ne_eqb, append-nil}
 use mathlib.Core.Logic.{dite}
 use native.Mathlib.Decide.{ℕ_discrete}
-use Rattle.std.specs.Prelude.{take}
 use Rattle.std.proofs.lemmas.Option.{slice_get_read}
 use Rattle.cc_host.specs.declared.question.Question.{Question}
-use Rattle.cc_host.specs.declared.question.Verdict.{Verdict}
 use Rattle.cc_host.specs.Question.{Answer, Lacks}
 use Rattle.cc_tool.specs.Known.{Has}
 use Rattle.cc_tool.specs.Digest.{question_digest}

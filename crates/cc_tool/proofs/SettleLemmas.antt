@@ -9,7 +9,7 @@ pub agrees_before : (look : Look) (known more : List Answer) → Agrees look (kn
 agrees_before look [] more s = tt
 agrees_before look (a ∷ known) more s = (s.0, agrees_before look known more s.1)
 
-agrees_on : (look : Look) (known : List Answer) {new : List Answer} → (more : List Answer) × (new ≡ known ++ more) → Agrees look new → Agrees look known
+pub agrees_on : (look : Look) (known : List Answer) {new : List Answer} → (more : List Answer) × (new ≡ known ++ more) → Agrees look new → Agrees look known
 agrees_on look known grows s = agrees_before look known grows.0 (subst (λ (l : List Answer). Agrees look l) grows.1 s)
 
 -- what is settled stays settled as answers grow

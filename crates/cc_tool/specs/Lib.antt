@@ -1,5 +1,6 @@
 pub mod Asked
 pub mod Asks
+pub mod AsksAmong
 pub mod Digest
 pub mod Emitted
 pub mod Excused
@@ -9,8 +10,11 @@ pub mod Founded
 pub mod Heard
 pub mod Known
 pub mod Libcxx
+pub mod Notes
 pub mod Own
 pub mod Places
+pub mod Plans
 pub mod Probing
+pub mod Seeking
 pub mod Tempfile
 pub mod Tool

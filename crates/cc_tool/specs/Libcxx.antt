@@ -1,11 +1,13 @@
 -- Whether the C++ library of a compiler is libc++: the question, which leaves out the args by which a file of dependencies would be written.
-use Rattle.std.specs.Prelude.{ℕ, nat_eq, Bool, true, false, not, ◌&&◌, ◌||◌, List, [], ◌∷◌, ◌++◌, map, codes}
+use Rattle.std.specs.Prelude.{ℕ, nat_eq, Bool, true, false, not, ◌||◌, List, [], ◌∷◌, ◌++◌, map, codes}
 use Rattle.std.specs.List.{starts_with}
 use Rattle.cc_text.specs.Words.{when, is_one_of}
 use Rattle.cc_host.specs.Command.{CommandSeen}
 use Rattle.cc_host.specs.declared.question.Ask.TheVariants.{Libcxx}
 use Rattle.cc_host.specs.declared.question.Question.{Question}
+use Rattle.cc_host.specs.Question.{is_yes}
 use Rattle.cc_tool.specs.Family.{question}
+use Rattle.cc_tool.specs.Plans.{Plan, ask, bind, done}
 use Rattle.cc_tool.specs.Tool.{ToolSeen, kept_args, command_with}
 
 -- an arg that has dependencies written, by the compiler or its preprocessor
@@ -31,3 +33,7 @@ question_by command = question Libcxx command.program command.args command.env
 -- the question of a tool: its command without those args
 unfoldable pub libcxx_question : ToolSeen → Question
 libcxx_question tool = question_by (command_with tool (without_dependencies (kept_args tool)))
+
+-- it is libc++, where the question says yes
+unfoldable pub uses_libcxx : ToolSeen → Plan Bool
+uses_libcxx tool = bind (ask (libcxx_question tool)) (λ verdict. done (is_yes verdict))

@@ -1,5 +1,5 @@
 // The questions of one public call, with their verdicts.
-ghost use Rattle.std.specs.Prelude.{◌≡◌, ◌++◌, ◌∷◌, [], List, OnOk, OnErr, MatchOption};
+ghost use Rattle.std.specs.Prelude.{◌≡◌, ◌++◌, ◌∷◌, [], List, OnOk, OnErr, MatchOption, length};
 ghost use Rattle.cc_host.specs.Question.{Answer, Lacks};
 ghost use Rattle.cc_host.specs.declared.question.Verdict.TheVariants.{Unanswered};
 ghost use Rattle.cc_tool.specs.Known.{Has};
@@ -50,6 +50,13 @@ impl Answers {
             (λ v. Has self.now key.now.question.now v.now) }
     {
         self.entries.find(key)
+    }
+
+    /// How many questions there are. It takes no memory.
+    pub fn len(&self) -> usize
+        ensures { result ≡ length self.now }
+    {
+        self.entries.len()
     }
 
     pub(crate) fn allocator(&self) -> Global {

@@ -197,7 +197,7 @@ fn ask_exists<W: World, H: Host<W>>(
     }
 }
 
-fn is_exists(ask: Ask) -> bool
+pub(crate) fn is_exists(ask: Ask) -> bool
     ensures { IsTrue result ↔ ask ≡ AsksExists }
 {
     ask == Ask::Exists
@@ -234,27 +234,4 @@ pub fn ask<W: World, H: Host<W>>(
     } else {
         ask_command(rt, host, caches, answers, q, dir)
     }
-}
-
-/// The verdict of a question on a flag, as `ask` gives it, with all that it promises.
-pub fn ask_flag<W: World, H: Host<W>>(
-    rt: &impl Wait,
-    alloc: Global,
-    host: &mut H,
-    caches: &Caches<W>,
-    answers: &mut Answers,
-    q: &Question,
-    dir: &str,
-) -> Mem<Verdict>
-    ensures asks { Asks W.steady W.answer dir.now (H.log host.old) (H.log host.new)
-        answers.old answers.new }
-    ensures settles { IfOk result (Settles answers.new (λ look. look (asked q.now))) }
-    ensures own { AnswersOnly (asked q.now) answers.old (part H.log host.old host.new) result }
-    ensures cause { IfOk result (WhyUnanswered (asked q.now) answers.old
-        (part H.log host.old host.new)) }
-    ensures bare { OnlyForFiles (asked q.now) (part H.log host.old host.new) }
-    ensures used { OnOk result (WordsUsed (part H.log host.old host.new)) }
-    ensures patient { H.patience host.new ≡ H.patience host.old }
-{
-    ask(rt, alloc, host, caches, answers, q, dir)
 }

@@ -1,5 +1,5 @@
 // Questions with their verdicts, and an index by digest beside them.
-ghost use Rattle.std.specs.Prelude.{◌≡◌, ◌<◌, ◌++◌, ◌∷◌, [], List, OnOk, OnErr, MatchOption, vec_len, vec_capacity};
+ghost use Rattle.std.specs.Prelude.{◌≡◌, ◌<◌, ◌++◌, ◌∷◌, [], List, OnOk, OnErr, MatchOption, length, vec_len, vec_capacity};
 ghost use Rattle.std.specs.Option.{option_copied};
 ghost use Rattle.cc_host.specs.Question.{Answer, Lacks};
 ghost use Rattle.cc_tool.specs.Known.{Has};
@@ -60,6 +60,12 @@ impl Entries {
             list: Vec::new(alloc),
             index: BTreeMap::new(alloc),
         }
+    }
+
+    pub fn len(&self) -> usize
+        ensures { result ≡ length self.now.items }
+    {
+        self.list.len()
     }
 
     pub fn allocator(&self) -> Global {

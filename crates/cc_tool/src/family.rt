@@ -1,24 +1,20 @@
 // The family of a compiler, by what its preprocessor shows, else by the name of its file.
-ghost use Rattle.std.specs.Prelude.{◌≡◌, ◌≢◌, [], IfOk, OnOk, codes, bytes_eq, true, false, if◌then◌else◌, ◌||◌};
-ghost use Rattle.cc_host.specs.Call.{part};
-ghost use Rattle.cc_host.specs.Question.{Settles, is_yes as yes};
-ghost use Rattle.cc_host.specs.declared.question.Ask.TheVariants.{Exists as AsksExists};
+ghost use Rattle.std.specs.Prelude.{◌≡◌, [], codes, bytes_eq, true, false, if◌then◌else◌, ◌||◌};
+ghost use Rattle.cc_host.specs.Question.{is_yes as yes};
 ghost use Rattle.cc_text.specs.Case.{lowered};
 ghost use Rattle.cc_text.specs.Within.{is_within};
 ghost use Rattle.cc_text.specs.declared.family.ToolFamily.TheVariants.{Clang, Msvc};
-ghost use Rattle.cc_tool.specs.Asks.{Asks};
 ghost use Rattle.cc_tool.specs.Family as families;
-ghost use Rattle.cc_tool.specs.Own.{AnswersAmong, AnswersOnly, AllCaused, OnlyForFiles, OnlyWithFiles, Wanted};
+ghost use Rattle.cc_tool.specs.Plans.{Passes, ask};
 
-use crate::{Answers, Caches, ask, question_of};
+use crate::{Answers, Notes, Planned, question_of, verdict};
 use cc_env::BuildEnv;
-use cc_host::{Ask, Host, Marks, Verdict, World, is_yes};
+use cc_host::{Ask, Marks, Verdict, is_yes};
 use cc_text::{
     Detected, Mem, Text, ToolFamily, Vars, Words, contains_ignore_ascii_case,
     ends_with_ignore_ascii_case, file_name, is_plain_clang,
 };
 use std::alloc::Global;
-use std::sync::Wait;
 
 // The needle stands in the name, whatever the case of ASCII letters.
 fn has_either(name: &str, needle: &str) -> bool
@@ -104,41 +100,21 @@ fn family_of_marks(helps: bool, marks: Marks) -> Option<ToolFamily>
     }
 }
 
-// A compiler, as it is asked: its path, its words, the variables of its environment, and the folder
-// in which the files for its questions are made.
-#[derive(Clone, Copy)]
-struct Program<'a> {
-    path: &'a str,
-    words: &'a Words,
-    vars: &'a Vars,
-    dir: &'a str,
-}
-
 // Asks a compiler.
-fn ask_path<W: World, H: Host<W>>(
-    rt: &impl Wait,
-    host: &mut H,
-    caches: &Caches<W>,
-    answers: &mut Answers,
+fn asked_of(
+    alloc: Global,
     asked: Ask,
-    of: &Program<'_>,
-) -> Mem<Verdict>
-    requires { asked ≢ AsksExists }
-    ensures asks { Asks W.steady W.answer of.now.dir.now (H.log host.old) (H.log host.new)
-        answers.old answers.new }
-    ensures settles { IfOk result (Settles answers.new
-        (λ look. look (families.question_to asked of.now))) }
-    ensures own { AnswersAmong (λ q. q ≡ families.question_to asked of.now)
-        (part H.log host.old host.new) }
-    ensures alone { AnswersOnly (families.question_to asked of.now) answers.old
-        (part H.log host.old host.new) result }
-    ensures bare { OnlyForFiles (families.question_to asked of.now)
-        (part H.log host.old host.new) }
-    ensures patient { H.patience host.new ≡ H.patience host.old }
+    path: &str,
+    words: &Words,
+    vars: &Vars,
+    seen: &Answers,
+    notes: &mut Notes,
+) -> Planned<Verdict>
+    ensures { Passes seen.now notes.old notes.new
+        (ask (families.question asked path.now words.now vars.now)) result }
 {
-    let alloc = answers.allocator();
-    let q = question_of(alloc, asked, of.path, of.words, of.vars)?;
-    ask(rt, alloc, host, caches, answers, &q, of.dir)
+    let question = question_of(alloc, asked, path, words, vars)?;
+    verdict(alloc, question, seen, notes)
 }
 
 fn reads_option(verdict: &Verdict) -> bool
@@ -154,37 +130,40 @@ fn reads_option(verdict: &Verdict) -> bool
     }
 }
 
-// What the preprocessor shows.
-#[tactic(auto, unfolding(crate::specs::Family::shown))]
-fn ask_shown<W: World, H: Host<W>>(
-    rt: &impl Wait,
-    host: &mut H,
-    caches: &Caches<W>,
-    answers: &mut Answers,
-    of: &Program<'_>,
-) -> Mem<Verdict>
-    ensures asks { Asks W.steady W.answer of.now.dir.now (H.log host.old) (H.log host.new)
-        answers.old answers.new }
-    ensures settles { IfOk result (Settles answers.new
-        (λ look. families.shown look of.now.path.now of.now.vars.now)) }
-    ensures own { AnswersAmong (families.IsOf of.now) (part H.log host.old host.new) }
-    ensures wanted { Wanted (families.IsWantedOf of.now) answers.new
-        (part H.log host.old host.new) }
-    ensures bare { OnOk result (OnlyWithFiles (part H.log host.old host.new)) }
-    ensures patient { H.patience host.new ≡ H.patience host.old }
+// What the preprocessor shows; it is asked anew where it read a path as an option.
+#[tactic(auto, using(crate::proofs::PassLemmas::pass_laws), unfolding(crate::specs::Family::shown_again))]
+fn shown_again(
+    alloc: Global,
+    path: &str,
+    vars: &Vars,
+    first: Verdict,
+    seen: &Answers,
+    notes: &mut Notes,
+) -> Planned<Verdict>
+    ensures { Passes seen.now notes.old notes.new (families.shown_again path.now vars.now first) result }
 {
-    let none = Words::new(answers.allocator());
-    let bare = Program {
-        path: of.path,
-        words: &none,
-        vars: of.vars,
-        dir: of.dir,
-    };
-    let first = ask_path(rt, host, caches, answers, Ask::Preprocess, &bare)?;
     if reads_option(&first) {
-        return ask_path(rt, host, caches, answers, Ask::PreprocessDashes, &bare);
+        let none = Words::new(alloc);
+        asked_of(alloc, Ask::PreprocessDashes, path, &none, vars, seen, notes)
+    } else {
+        Ok(first)
     }
-    Ok(first)
+}
+
+// What the preprocessor shows.
+#[tactic(auto, using(crate::proofs::PassLemmas::pass_laws), unfolding(crate::specs::Family::shown))]
+fn shown(
+    alloc: Global,
+    path: &str,
+    vars: &Vars,
+    seen: &Answers,
+    notes: &mut Notes,
+) -> Planned<Verdict>
+    ensures { Passes seen.now notes.old notes.new (families.shown path.now vars.now) result }
+{
+    let none = Words::new(alloc);
+    let first = asked_of(alloc, Ask::Preprocess, path, &none, vars, seen, notes)?;
+    shown_again(alloc, path, vars, first, seen, notes)
 }
 
 fn found(family: Option<ToolFamily>) -> (Option<ToolFamily>, Detected)
@@ -209,32 +188,44 @@ fn marks_in(verdict: &Verdict) -> Option<Marks>
     }
 }
 
-// What the preprocessor tells of the family.
-fn ask_detection<W: World, H: Host<W>>(
-    rt: &impl Wait,
-    host: &mut H,
-    caches: &Caches<W>,
-    answers: &mut Answers,
-    of: &Program<'_>,
-) -> Mem<(Option<ToolFamily>, Detected)>
-    ensures asks { Asks W.steady W.answer of.now.dir.now (H.log host.old) (H.log host.new)
-        answers.old answers.new }
-    ensures settles { IfOk result (Settles answers.new
-        (λ look. families.detection look of.now.path.now of.now.words.now of.now.vars.now)) }
-    ensures own { AnswersAmong (families.IsOf of.now) (part H.log host.old host.new) }
-    ensures wanted { Wanted (families.IsWantedOf of.now) answers.new
-        (part H.log host.old host.new) }
-    ensures bare { OnOk result (OnlyWithFiles (part H.log host.old host.new)) }
-    ensures patient { H.patience host.new ≡ H.patience host.old }
+// What marks tell of the family. A compiler that shows marks is asked for `-?`.
+#[tactic(auto, using(crate::proofs::PassLemmas::pass_laws), unfolding(crate::specs::Family::detected_by))]
+fn detected_by(
+    alloc: Global,
+    path: &str,
+    args: &Words,
+    vars: &Vars,
+    marks: Option<Marks>,
+    seen: &Answers,
+    notes: &mut Notes,
+) -> Planned<(Option<ToolFamily>, Detected)>
+    ensures { Passes seen.now notes.old notes.new
+        (families.detected_by path.now args.now vars.now marks) result }
 {
-    let shown = ask_shown(rt, host, caches, answers, of)?;
-    match marks_in(&shown) {
+    match marks {
         Some(marks) => {
-            let help = ask_path(rt, host, caches, answers, Ask::HelpFlag, of)?;
+            let help = asked_of(alloc, Ask::HelpFlag, path, args, vars, seen, notes)?;
             Ok(found(family_of_marks(is_yes(&help), marks)))
         }
         None => Ok((None, Detected::NoMarks)),
     }
+}
+
+// What the preprocessor tells of the family.
+#[tactic(auto, using(crate::proofs::PassLemmas::pass_laws), unfolding(crate::specs::Family::detection))]
+fn detection(
+    alloc: Global,
+    path: &str,
+    args: &Words,
+    vars: &Vars,
+    seen: &Answers,
+    notes: &mut Notes,
+) -> Planned<(Option<ToolFamily>, Detected)>
+    ensures { Passes seen.now notes.old notes.new
+        (families.detection path.now args.now vars.now) result }
+{
+    let first = shown(alloc, path, vars, seen, notes)?;
+    detected_by(alloc, path, args, vars, marks_in(&first), seen, notes)
 }
 
 // A Clang of this version.
@@ -246,82 +237,83 @@ fn clang_of_version(version: &Verdict, path: &str) -> ToolFamily
 }
 
 // The same family, as that of Zig where its version or its file's name tells so.
-fn ask_zig<W: World, H: Host<W>>(
-    rt: &impl Wait,
-    host: &mut H,
-    caches: &Caches<W>,
-    answers: &mut Answers,
+#[tactic(auto, using(crate::proofs::PassLemmas::pass_laws), unfolding(crate::specs::Family::zig_family))]
+fn zig_family(
+    alloc: Global,
+    path: &str,
+    vars: &Vars,
     family: ToolFamily,
-    of: &Program<'_>,
-) -> Mem<ToolFamily>
-    ensures asks { Asks W.steady W.answer of.now.dir.now (H.log host.old) (H.log host.new)
-        answers.old answers.new }
-    ensures settles { IfOk result (Settles answers.new
-        (λ look. families.zig_family look family of.now)) }
-    ensures own { AnswersAmong (families.IsOf of.now) (part H.log host.old host.new) }
-    ensures wanted { AnswersAmong (families.IsOfClang family of.now.path.now of.now.vars.now)
-        (part H.log host.old host.new) }
-    ensures bare { OnOk result (OnlyWithFiles (part H.log host.old host.new)) }
-    ensures patient { H.patience host.new ≡ H.patience host.old }
+    seen: &Answers,
+    notes: &mut Notes,
+) -> Planned<ToolFamily>
+    ensures { Passes seen.now notes.old notes.new (families.zig_family path.now vars.now family) result }
 {
     if is_plain_clang(family) {
-        let none = Words::new(answers.allocator());
-        let bare = Program {
-            path: of.path,
-            words: &none,
-            vars: of.vars,
-            dir: of.dir,
-        };
-        let version = ask_path(rt, host, caches, answers, Ask::Version, &bare)?;
-        return Ok(clang_of_version(&version, of.path));
+        let none = Words::new(alloc);
+        let version = asked_of(alloc, Ask::Version, path, &none, vars, seen, notes)?;
+        Ok(clang_of_version(&version, path))
+    } else {
+        Ok(family)
     }
-    Ok(family)
+}
+
+// A family that was detected, or that the name tells, as that of Zig where that is what it is.
+#[tactic(auto, using(crate::proofs::PassLemmas::pass_laws), unfolding(crate::specs::Family::settled_family))]
+fn settled_family(
+    alloc: Global,
+    path: &str,
+    args: &Words,
+    vars: &Vars,
+    detected: (Option<ToolFamily>, Detected),
+    seen: &Answers,
+    notes: &mut Notes,
+) -> Planned<(ToolFamily, Detected)>
+    ensures { Passes seen.now notes.old notes.new
+        (families.settled_family path.now args.now vars.now detected) result }
+{
+    let (shown, how) = detected;
+    let family = family_or(shown, family_of_file(name_of(path), args));
+    let family = zig_family(alloc, path, vars, family, seen, notes)?;
+    Ok((family, how))
+}
+
+// The family with these variables.
+#[tactic(auto, using(crate::proofs::PassLemmas::pass_laws), unfolding(crate::specs::Family::family))]
+fn family_with(
+    alloc: Global,
+    path: &str,
+    args: &Words,
+    vars: &Vars,
+    seen: &Answers,
+    notes: &mut Notes,
+) -> Planned<(ToolFamily, Detected)>
+    ensures { Passes seen.now notes.old notes.new (families.family path.now args.now vars.now) result }
+{
+    let detected = detection(alloc, path, args, vars, seen, notes)?;
+    settled_family(alloc, path, args, vars, detected, seen, notes)
 }
 
 /// The family of the compiler at a path, and how it was detected. The preprocessor is asked for the
 /// macros that it defines (`__clang__`, `__GNUC__`, `__EMSCRIPTEN__`, `__VXWORKS__`); where it
 /// shows no known one, the name of the file tells. A compiler that shows marks is asked with `args`
 /// for `-?`, which that of Visual Studio takes alone, and a Clang for its version, since `zig cc`
-/// says there what it is; nothing else is asked. Files for the questions are made in `dir`, and
-/// dropped. Nothing but memory is refused: a question without an answer tells nothing. The answers
-/// keep each question that was answered before a refusal.
+/// says there what it is; nothing else is asked. A question without an answer tells nothing.
 ///
 /// The macros are those of the manual of GCC's preprocessor, "Common Predefined Macros", and of
 /// Clang's "Language Extensions", "Builtin Macros"; `-?` is Microsoft's compiler option "/HELP".
-pub fn ask_family<W: World, H: Host<W>>(
-    rt: &impl Wait,
+pub fn family_of(
     alloc: Global,
-    host: &mut H,
-    caches: &Caches<W>,
-    answers: &mut Answers,
     path: &str,
     args: &Words,
     env: &BuildEnv,
-    dir: &str,
-) -> Mem<(ToolFamily, Detected)>
-    ensures asks { Asks W.steady W.answer dir.now (H.log host.old) (H.log host.new)
-        answers.old answers.new }
-    ensures settles { IfOk result (Settles answers.new
-        (λ look. families.family_in look path.now args.now env.now)) }
-    ensures own { AnswersAmong (families.IsOfFamilyIn path.now args.now env.now)
-        (part H.log host.old host.new) }
-    ensures wanted { Wanted (families.IsWantedIn path.now args.now env.now) answers.new
-        (part H.log host.old host.new) }
-    ensures cause { AllCaused (part H.log host.old host.new) }
-    ensures bare { OnOk result (OnlyWithFiles (part H.log host.old host.new)) }
-    ensures patient { H.patience host.new ≡ H.patience host.old }
+    seen: &Answers,
+    notes: &mut Notes,
+) -> Planned<(ToolFamily, Detected)>
+    ensures { Passes seen.now notes.old notes.new
+        (families.family_in path.now args.now env.now) result }
 {
     let vars = env.child_vars(alloc)?;
-    let of = Program {
-        path,
-        words: args,
-        vars: &vars,
-        dir,
-    };
-    let (seen, how) = ask_detection(rt, host, caches, answers, &of)?;
-    let family = family_or(seen, family_of_file(name_of(path), args));
-    let family = ask_zig(rt, host, caches, answers, family, &of)?;
-    Ok((family, how))
+    family_with(alloc, path, args, &vars, seen, notes)
 }
 
 fn family_or(seen: Option<ToolFamily>, named: ToolFamily) -> ToolFamily

@@ -1,17 +1,13 @@
 // Whether the C++ library of a compiler is libc++.
-ghost use Rattle.std.specs.Prelude.{◌≡◌, not, ◌&&◌, IfOk, OnOk};
-ghost use Rattle.cc_host.specs.Call.{part};
-ghost use Rattle.cc_host.specs.Question.{Settles, is_yes as yes};
-ghost use Rattle.cc_tool.specs.Asks.{Asks};
+ghost use Rattle.std.specs.Prelude.{◌≡◌, not, ◌&&◌, IfOk};
 ghost use Rattle.cc_tool.specs.Libcxx as libcxx;
 ghost use Rattle.cc_tool.specs.Libcxx.{libcxx_question};
-ghost use Rattle.cc_tool.specs.Own.{AnswersAmong, AllCaused, OnlyWithFiles};
+ghost use Rattle.cc_tool.specs.Plans.{Passes};
 
-use crate::{Answers, Caches, Tool, ask, question_of};
-use cc_host::{Ask, Host, Question, World, is_yes};
+use crate::{Answers, Notes, Planned, Tool, question_of, verdict};
+use cc_host::{Ask, Question, is_yes};
 use cc_text::{Mem, Words, begins_with, is_one_of};
 use std::alloc::Global;
-use std::sync::Wait;
 
 // It has dependencies written, by the compiler or its preprocessor (GCC's manual, "Preprocessor Options").
 #[tactic(auto, unfolding(crate::specs::Libcxx::is_for_dependencies))]
@@ -65,27 +61,12 @@ fn libcxx_question(alloc: Global, tool: &Tool) -> Mem<Question>
 /// Whether the C++ library of a compiler is libc++: its preprocessor is asked for the macro by which that library's headers tell
 /// their version. It is asked by the tool's command, in its environment, without the args that would have a file of dependencies
 /// written beside those of the build: those that begin with `-M` or `-Wp,-M`, and what follows `-MF`, `-MT`, `-MQ` and `-MJ` (GCC's
-/// manual, "Preprocessor Options"). The file for the question is made in `dir`, and dropped. Nothing but memory is refused: without an
-/// answer it isn't libc++. The answers keep the question where it was answered before a refusal.
-pub fn ask_libcxx<W: World, H: Host<W>>(
-    rt: &impl Wait,
-    alloc: Global,
-    host: &mut H,
-    caches: &Caches<W>,
-    answers: &mut Answers,
-    tool: &Tool,
-    dir: &str,
-) -> Mem<bool>
-    ensures asks { Asks W.steady W.answer dir.now (H.log host.old) (H.log host.new)
-        answers.old answers.new }
-    ensures settles { IfOk result (Settles answers.new
-        (λ look. yes (look (libcxx_question tool.now)))) }
-    ensures own { AnswersAmong (λ q. q ≡ libcxx_question tool.now) (part H.log host.old host.new) }
-    ensures cause { AllCaused (part H.log host.old host.new) }
-    ensures bare { OnOk result (OnlyWithFiles (part H.log host.old host.new)) }
-    ensures patient { H.patience host.new ≡ H.patience host.old }
+/// manual, "Preprocessor Options"). Without an answer it isn't libc++.
+#[tactic(auto, using(crate::proofs::PassLemmas::pass_laws), unfolding(crate::specs::Libcxx::uses_libcxx))]
+pub fn uses_libcxx(alloc: Global, tool: &Tool, seen: &Answers, notes: &mut Notes) -> Planned<bool>
+    ensures { Passes seen.now notes.old notes.new (libcxx.uses_libcxx tool.now) result }
 {
-    let q = libcxx_question(alloc, tool)?;
-    let verdict = ask(rt, alloc, host, caches, answers, &q, dir)?;
+    let question = libcxx_question(alloc, tool)?;
+    let verdict = verdict(alloc, question, seen, notes)?;
     Ok(is_yes(&verdict))
 }

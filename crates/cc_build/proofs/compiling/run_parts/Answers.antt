@@ -6,7 +6,13 @@ use Rattle.cc_build.specs.Kept.{left_at}
 use Rattle.cc_build.proofs.Growing.{agrees_earlier, asking_then}
 use Rattle.cc_build.proofs.PartLaws.{sources_stopped, library_stopped, links_ended}
 use Rattle.cc_build.proofs.PhaseLaws.{own_links}
+use Rattle.std.proofs.Common.{sym, subst}
+use Rattle.cc_build.specs.Stage.{IsRun}
+use Rattle.cc_build.proofs.ToldLaws.{run_is}
 use Rattle.cc_build.proofs.compiling.run_parts.Goals as goal
+
+pub print_links-requires-clause-plain : goal.print_links-requires-clause-plain
+print_links-requires-clause-plain g c = λ κs lives. subst (IsRun c.args.shared.now.task.set.now) (sym c.requires.reads) (run_is c.args.shared.now.task.set.now)
 
 pub returns-in-Err-clause-outcome : goal.returns-in-Err-clause-outcome
 returns-in-Err-clause-outcome g c =

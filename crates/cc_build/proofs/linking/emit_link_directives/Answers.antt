@@ -14,7 +14,12 @@ use Rattle.cc_build.specs.Linking.{DirectivesEnd}
 use Rattle.cc_build.proofs.Growing.{on_asked}
 use Rattle.cc_build.proofs.LinkingLaws.{path_refused, lines_ended}
 use Rattle.cc_build.proofs.Outcomes.{made_or_memory}
+use Rattle.cc_build.specs.Stage.{IsRun}
+use Rattle.cc_build.proofs.ToldLaws.{links_are}
 use Rattle.cc_build.proofs.linking.emit_link_directives.Goals as goal
+
+pub print_links-requires-clause-plain : goal.print_links-requires-clause-plain
+print_links-requires-clause-plain g c = λ κs lives. subst (IsRun c.build.inside.config) (sym c.link_reads.ensures) (links_are c.build.inside.config)
 
 pub returns-in-Err-clause-outcome : goal.returns-in-Err-clause-outcome
 returns-in-Err-clause-outcome g c =

@@ -1,5 +1,5 @@
 use Rattle.cc_plan.proofs.AskingLemmas.{only_more}
-use Rattle.cc_plan.proofs.ArchiveToolLemmas.{archiver_asks}
+use Rattle.cc_plan.proofs.QuestionLemmas.{archiver_asks}
 use Rattle.cc_tool.proofs.SettleLemmas.{holds_all}
 use Rattle.cc_plan.proofs.archive.archiver_of.Goals as goal
 

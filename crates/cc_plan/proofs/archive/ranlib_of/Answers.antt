@@ -1,5 +1,5 @@
 use Rattle.cc_plan.proofs.AskingLemmas.{only_more}
-use Rattle.cc_plan.proofs.ArchiveToolLemmas.{ranlib_asks}
+use Rattle.cc_plan.proofs.QuestionLemmas.{ranlib_asks}
 use Rattle.cc_tool.proofs.SettleLemmas.{holds_all}
 use Rattle.cc_plan.proofs.archive.ranlib_of.Goals as goal
 

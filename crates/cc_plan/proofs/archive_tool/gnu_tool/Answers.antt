@@ -1,9 +1,12 @@
-use Rattle.std.proofs.Common.{arith, ap, sym, ◌∙◌, rules}
-use Rattle.std.proofs.lemmas.Grind.{common_steps}
-use Rattle.cc_tool.proofs.AskLemmas.{asks_grows}
-use Rattle.cc_plan.proofs.AskingLemmas.{only_then, only_more}
-use Rattle.cc_tool.proofs.SettleLemmas.{settles_on, settles_so, settles_two, holds_all}
+use Rattle.std.proofs.Common.{rules}
+use Rattle.cc_plan.proofs.PassBy.{by_ok, pass_by}
+use Rattle.cc_plan.specs.ArchiveTool.{gnu_tool}
 use Rattle.cc_plan.proofs.archive_tool.gnu_tool.Goals as goal
 
-pub returns-in_ok-path-in-None-clause-settles : goal.returns-in_ok-path-in-None-clause-settles
-returns-in_ok-path-in-None-clause-settles g c = settles_so c.in_ok-path.ensures.settles (λ look a. grind (arith, common_steps, a, c.in-None.is))
+pub returns-in-Some : goal.returns-in-Some
+unfolding gnu_tool
+returns-in-Some c = by_ok _ _ c.in_ok-path.ensures (search rules) (search (pass_by, rules))
+
+pub returns-in_ok-of-in-None : goal.returns-in_ok-of-in-None
+unfolding gnu_tool
+returns-in_ok-of-in-None c = by_ok _ _ c.in_ok-path.ensures (search rules) (search (pass_by, rules))

@@ -1,18 +1,8 @@
-use Rattle.std.proofs.Common.{arith, ap, sym, ◌∙◌, rules}
-use Rattle.std.proofs.lemmas.Grind.{common_steps}
-use Rattle.cc_tool.proofs.AskLemmas.{asks_grows}
-use Rattle.cc_plan.proofs.AskingLemmas.{only_then, only_more}
-use Rattle.cc_tool.proofs.SettleLemmas.{settles_on, settles_so, settles_two, holds_all}
+use Rattle.std.proofs.Common.{rules}
+use Rattle.cc_plan.proofs.PassBy.{by_ok, pass_by}
+use Rattle.cc_plan.specs.ArchiveTool.{prefixed_tool, plain_or_gcc}
 use Rattle.cc_plan.proofs.archive_tool.prefixed_tool.Goals as goal
 
-pub gcc_tool-requires-after_bounds : goal.gcc_tool-requires-after_bounds
-gcc_tool-requires-after_bounds g c κs within = settles_on (asks_grows c.plain_tool.ensures.asks.asks) c.requires
-
-pub returns-in_err-path-in-None-clause-asks : goal.returns-in_err-path-in-None-clause-asks
-returns-in_err-path-in-None-clause-asks g c = only_then c.plain_tool.ensures.asks c.gcc_tool.ensures.asks
-
-pub returns-in_ok-path-in-None-clause-asks : goal.returns-in_ok-path-in-None-clause-asks
-returns-in_ok-path-in-None-clause-asks g c = only_then c.plain_tool.ensures.asks c.gcc_tool.ensures.asks
-
-pub returns-in_ok-path-in-None-clause-settles : goal.returns-in_ok-path-in-None-clause-settles
-returns-in_ok-path-in-None-clause-settles g c = settles_two (settles_on (asks_grows c.gcc_tool.ensures.asks.asks) c.in_ok-name.ensures.settles) c.in_ok-path-in-None.ensures.settles (λ look a b. grind (arith, common_steps, a, b, c.in-None.is))
+pub returns-in-Some : goal.returns-in-Some
+unfolding prefixed_tool plain_or_gcc
+returns-in-Some c = by_ok _ _ c.in_ok-name.ensures (search rules) (rw c.in-Some.is (search (pass_by, rules)))

@@ -1,22 +1,14 @@
-use Rattle.std.proofs.Common.{arith, ap, sym, ◌∙◌}
+use Rattle.std.proofs.Common.{rules, arith}
 use Rattle.std.proofs.lemmas.Grind.{common_steps}
-use Rattle.cc_tool.proofs.AskLemmas.{asks_grows}
-use Rattle.cc_plan.proofs.AskingLemmas.{only_then, only_more}
-use Rattle.cc_tool.proofs.SettleLemmas.{settles_on, settles_so, settles_two, holds_all}
-use Rattle.cc_plan.proofs.SearchedLemmas.{tool_for_beside}
+use Rattle.cc_tool.specs.Plans.{or_else}
+use Rattle.cc_plan.proofs.PassBy.{by_ok, pass_by}
+use Rattle.cc_plan.specs.Assembler.{assembler_choice}
 use Rattle.cc_plan.proofs.assembler.assembler_choice.Goals as goal
 
-pub returns-in_err-choice-clause-asks : goal.returns-in_err-choice-clause-asks
-returns-in_err-choice-clause-asks g c = only_more c.env_tool.ensures.asks (holds_all (tool_for_beside c.args.given.now.set.now c.args.given.now.env.now c.args.given.now.family c.args.given.now.path.now))
+pub returns-in-Some : goal.returns-in-Some
+unfolding assembler_choice or_else
+returns-in-Some c = by_ok _ _ c.in_ok-choice.ensures (first_of (search rules, cc, grind (arith, common_steps))) (rw c.in-Some.is (search (pass_by, rules)))
 
-pub returns-in-Some-clause-asks : goal.returns-in-Some-clause-asks
-returns-in-Some-clause-asks g c = only_more c.env_tool.ensures.asks (holds_all (tool_for_beside c.args.given.now.set.now c.args.given.now.env.now c.args.given.now.family c.args.given.now.path.now))
-
-pub returns-in_err-choice-in-None-clause-asks : goal.returns-in_err-choice-in-None-clause-asks
-returns-in_err-choice-in-None-clause-asks g c = only_then (only_more c.env_tool.ensures.asks (holds_all (tool_for_beside c.args.given.now.set.now c.args.given.now.env.now c.args.given.now.family c.args.given.now.path.now))) c.own_choice.ensures.asks
-
-pub returns-in_ok-choice-in-None-clause-asks : goal.returns-in_ok-choice-in-None-clause-asks
-returns-in_ok-choice-in-None-clause-asks g c = only_then (only_more c.env_tool.ensures.asks (holds_all (tool_for_beside c.args.given.now.set.now c.args.given.now.env.now c.args.given.now.family c.args.given.now.path.now))) c.own_choice.ensures.asks
-
-pub returns-in_ok-choice-in-None-clause-settles : goal.returns-in_ok-choice-in-None-clause-settles
-returns-in_ok-choice-in-None-clause-settles g c = settles_two (settles_on (asks_grows c.own_choice.ensures.asks.asks) c.in_ok-choice.ensures.settles) c.in_ok-choice-in-None.ensures.settles (λ look a b. grind (arith, common_steps, a, b, c.in-None.is))
+pub returns-in-None : goal.returns-in-None
+unfolding assembler_choice or_else
+returns-in-None c = by_ok _ _ c.in_ok-choice.ensures (first_of (search rules, cc, grind (arith, common_steps))) (rw c.in-None.is (search (pass_by, rules)))

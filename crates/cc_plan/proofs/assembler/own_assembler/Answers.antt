@@ -1,9 +1,13 @@
-use Rattle.std.proofs.Common.{arith, ap, sym, ◌∙◌}
+use Rattle.std.proofs.Common.{rules, arith}
 use Rattle.std.proofs.lemmas.Grind.{common_steps}
-use Rattle.cc_tool.proofs.AskLemmas.{asks_grows}
-use Rattle.cc_plan.proofs.AskingLemmas.{only_then, only_more}
-use Rattle.cc_tool.proofs.SettleLemmas.{settles_on, settles_so, settles_two, holds_all}
+use Rattle.cc_plan.proofs.PassBy.{by_done, by_ok}
+use Rattle.cc_plan.specs.Assembler.{own_assembler}
 use Rattle.cc_plan.proofs.assembler.own_assembler.Goals as goal
 
-pub returns-in_ok-path-in-None-clause-settles : goal.returns-in_ok-path-in-None-clause-settles
-returns-in_ok-path-in-None-clause-settles g c = settles_so c.in_ok-path.ensures.settles (λ look a. grind (arith, common_steps, a, c.in-None.is))
+pub returns-in-Some : goal.returns-in-Some
+unfolding own_assembler
+returns-in-Some c = by_ok _ _ c.in_ok-path.ensures (first_of (search rules, cc, grind (arith, common_steps))) (by_done (first_of (search rules, cc, grind (arith, common_steps))))
+
+pub returns-in_ok-of-in-None : goal.returns-in_ok-of-in-None
+unfolding own_assembler
+returns-in_ok-of-in-None c = by_ok _ _ c.in_ok-path.ensures (first_of (search rules, cc, grind (arith, common_steps))) (by_done (first_of (search rules, cc, grind (arith, common_steps))))

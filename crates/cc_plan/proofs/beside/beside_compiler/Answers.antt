@@ -1,16 +1,8 @@
-use Rattle.std.proofs.Common.{arith, ap, sym, ◌∙◌}
-use Rattle.std.proofs.lemmas.Grind.{common_steps}
-use Rattle.cc_tool.proofs.AskLemmas.{asks_grows}
-use Rattle.cc_plan.proofs.AskingLemmas.{only_then, only_more}
-use Rattle.cc_tool.proofs.SettleLemmas.{settles_on, settles_so, settles_two, holds_all}
-use Rattle.cc_plan.proofs.SearchedLemmas.{tool_for_search}
+use Rattle.std.proofs.Common.{rules}
+use Rattle.cc_plan.specs.Beside.{beside_compiler, or_own_folder}
+use Rattle.cc_plan.proofs.PassBy.{by_ok, pass_by}
 use Rattle.cc_plan.proofs.beside.beside_compiler.Goals as goal
 
-pub returns-in_err-found-in-None-clause-asks : goal.returns-in_err-found-in-None-clause-asks
-returns-in_err-found-in-None-clause-asks g c = only_then c.searched.ensures.asks (only_more c.in_own_folder.ensures.asks (holds_all (tool_for_search c.args.set.now c.args.env.now c.args.path.now)))
-
-pub returns-in_ok-found-in-None-clause-asks : goal.returns-in_ok-found-in-None-clause-asks
-returns-in_ok-found-in-None-clause-asks g c = only_then c.searched.ensures.asks (only_more c.in_own_folder.ensures.asks (holds_all (tool_for_search c.args.set.now c.args.env.now c.args.path.now)))
-
-pub returns-in_ok-found-in-None-clause-settles : goal.returns-in_ok-found-in-None-clause-settles
-returns-in_ok-found-in-None-clause-settles g c = settles_two (settles_on (asks_grows c.in_own_folder.ensures.asks.asks) c.in_ok-found.ensures.settles) c.in_ok-found-in-None.ensures.settles (λ look a b. grind (arith, common_steps, a, b, c.in-None.is))
+pub returns-in-Some : goal.returns-in-Some
+unfolding beside_compiler or_own_folder
+returns-in-Some c = by_ok _ _ c.in_ok-found.ensures (search rules) (rw c.in-Some.is (search (pass_by, rules)))

@@ -1,16 +1,8 @@
-use Rattle.std.proofs.Common.{arith}
-use Rattle.std.proofs.lemmas.Grind.{common_steps}
-use Rattle.cc_tool.proofs.AskLemmas.{asks_grows}
-use Rattle.cc_plan.proofs.AskingLemmas.{only_then}
-use Rattle.cc_tool.proofs.SettleLemmas.{settles_on, settles_two}
+use Rattle.std.proofs.Common.{rules}
+use Rattle.cc_plan.specs.Choice.{cross_compiler, prefixed_or_default}
+use Rattle.cc_plan.proofs.PassBy.{by_ok, pass_by}
 use Rattle.cc_plan.proofs.choice.cross_compiler.Goals as goal
 
-pub returns-in_err-path-in-None-clause-asks : goal.returns-in_err-path-in-None-clause-asks
-returns-in_err-path-in-None-clause-asks g c = only_then c.cross_prefix.ensures.asks c.default_compiler.ensures.asks
-
-pub returns-in_ok-path-in-None-clause-asks : goal.returns-in_ok-path-in-None-clause-asks
-returns-in_ok-path-in-None-clause-asks g c = only_then c.cross_prefix.ensures.asks c.default_compiler.ensures.asks
-
-pub returns-in_ok-path-in-None-clause-settles : goal.returns-in_ok-path-in-None-clause-settles
-returns-in_ok-path-in-None-clause-settles g c =
-    settles_two (settles_on (asks_grows c.default_compiler.ensures.asks.asks) c.in_ok-prefix.ensures.settles) c.in_ok-path-in-None.ensures.settles (λ look a b. grind (arith, common_steps, a, b, c.in-None.is))
+pub returns-in_ok-name-in-Some : goal.returns-in_ok-name-in-Some
+unfolding cross_compiler prefixed_or_default
+returns-in_ok-name-in-Some c = by_ok _ _ c.in_ok-prefix.ensures (search rules) (rw c.in-Some.is (search (pass_by, rules)))

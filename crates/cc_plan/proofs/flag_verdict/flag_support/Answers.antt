@@ -1,4 +1,4 @@
-use Rattle.std.proofs.Common.{rules, ◌≡◌, ◌∙◌, Err, false, sym, ap₂}
+use Rattle.std.proofs.Common.{rules, ◌≡◌, Err, false, sym, ap₂}
 use Rattle.cc_tool.proofs.SettleLemmas.{settles_so}
 use Rattle.cc_plan.specs.Plan.{warned_steps}
 use Rattle.cc_plan.proofs.WarnLemmas.{warns_refused, warns_printed}

@@ -17,7 +17,12 @@ use Rattle.cc_build.proofs.Growing.{on_asked}
 use Rattle.cc_build.proofs.IntermediateLaws.{alone_unchecked, alone_unfoldered, alone_disabled, alone_wanting, alone_behind}
 use Rattle.cc_build.proofs.Looks.{agrees_since}
 use Rattle.cc_build.proofs.Outcomes.{made_or_memory}
+use Rattle.cc_build.specs.Stage.{IsRun}
+use Rattle.cc_build.proofs.ToldLaws.{sources_are}
 use Rattle.cc_build.proofs.build.Build.compile_alone.Goals as goal
+
+pub compile_and_tell-requires-clause-plain : goal.compile_and_tell-requires-clause-plain
+compile_and_tell-requires-clause-plain g c = λ κs lives. subst (IsRun c.self.inside.config) (sym c.source_reads.ensures) (sources_are c.self.inside.config)
 
 pub returns-in-Err-clause-outcome : goal.returns-in-Err-clause-outcome
 returns-in-Err-clause-outcome g c =

@@ -15,7 +15,12 @@ use Rattle.cc_build.proofs.Growing.{on_asked}
 use Rattle.cc_build.proofs.Looks.{agrees_since}
 use Rattle.cc_build.proofs.Outcomes.{made_or_memory}
 use Rattle.cc_build.proofs.PlanningLaws.{plan_unchecked, plan_unfoldered, plan_disabled, plan_stopped, plan_done}
+use Rattle.cc_build.specs.Stage.{IsRun}
+use Rattle.cc_build.proofs.ToldLaws.{sources_are}
 use Rattle.cc_build.proofs.build.Build.plan_alone.Goals as goal
+
+pub plan_and_tell-requires-clause-plain : goal.plan_and_tell-requires-clause-plain
+plan_and_tell-requires-clause-plain g c = λ κs lives. subst (IsRun c.self.inside.config) (sym c.source_reads.ensures) (sources_are c.self.inside.config)
 
 pub returns-in-Err-clause-outcome : goal.returns-in-Err-clause-outcome
 returns-in-Err-clause-outcome g c =

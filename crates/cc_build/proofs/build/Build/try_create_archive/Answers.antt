@@ -1,4 +1,4 @@
-use Rattle.std.proofs.Common.{◌≡◌, ◌⊎◌, ◌∙◌, inl, ℕ, Some, List, Ok, Err, refl, ap, subst}
+use Rattle.std.proofs.Common.{◌≡◌, ◌⊎◌, ◌∙◌, inl, ℕ, Some, List, Ok, Err, refl, ap, subst, sym}
 use Rattle.std.proofs.lemmas.Result.{err_from_is_err_and}
 use Rattle.cc_host.specs.Part.{since}
 use Rattle.cc_host.specs.Question.{answers, Holds}
@@ -11,7 +11,12 @@ use Rattle.cc_build.specs.Error.{no_memory}
 use Rattle.cc_build.proofs.ArchivingLaws.{uncreated, agreed, created_by, no_faults, creates_settled, creates_faults}
 use Rattle.cc_build.proofs.PrefixLaws.{archives_first, archives_none}
 use Rattle.cc_build.specs.Shows.{shows_of}
+use Rattle.cc_build.specs.Stage.{IsRun}
+use Rattle.cc_build.proofs.ToldLaws.{archive_is}
 use Rattle.cc_build.proofs.build.Build.try_create_archive.Goals as goal
+
+pub archive_and_tell-requires-clause-plain : goal.archive_and_tell-requires-clause-plain
+archive_and_tell-requires-clause-plain g c = λ κs lives. subst (IsRun c.in_ok-set.set) (sym c.archive_reads.ensures) (archive_is c.in_ok-set.set)
 
 pub returns-in_err-set-clause-outcome : goal.returns-in_err-set-clause-outcome
 returns-in_err-set-clause-outcome g c =

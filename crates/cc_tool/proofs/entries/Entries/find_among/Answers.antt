@@ -1,6 +1,5 @@
-use Rattle.std.proofs.Common.{◌≡◌, ◌∙◌, ℕ, List, ap, refl, arith, get_or}
+use Rattle.std.proofs.Common.{◌∙◌, ℕ, ap, refl, arith, get_or}
 use Rattle.std.proofs.lemmas.Grind.{common_steps}
-use Rattle.cc_host.specs.Question.{Answer}
 use Rattle.cc_tool.specs.Places.{Listed, places_from}
 use Rattle.cc_tool.proofs.KnownLemmas.{isnt}
 use Rattle.cc_tool.proofs.PlacesLemmas.{absent, stands, first_found, none_more_at, places_bound}
