@@ -69,7 +69,7 @@ target_compiler set env =
     else (if is (target_info set env).os "wasi" then wasi_compiler set.cpp env (target_name set env)
     else fixed_or_cross set env)
 
--- that compiler, run through the wrapper of Rust's where that caches
+-- that compiler, run through that of Rust code where it serves other compilers, too
 unfoldable pub target_choice : BuildConfig → EnvSeen → Plan Choice
 target_choice set env = bind (target_compiler set env) (λ path. done (in_rustc_wrapper env path []))
 

@@ -182,7 +182,7 @@ fn target_compiler(inputs: &Inputs<'_>, seen: &Answers, notes: &mut Notes) -> Pl
     }
 }
 
-// That compiler, run through the wrapper of Rust's where that caches.
+// That compiler, run through that of Rust code where it serves other compilers, too.
 #[tactic(auto, using(crate::proofs::PassBy::pass_by), unfolding(crate::specs::Choice::target_choice))]
 fn target_choice(inputs: &Inputs<'_>, seen: &Answers, notes: &mut Notes) -> Planned<Choice>
     ensures { Passes seen.now notes.old notes.new
