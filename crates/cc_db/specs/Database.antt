@@ -1,4 +1,5 @@
--- The text of a JSON compilation database: an array of entries, one for each compile command. An entry is an object of three strings and an array of strings.
+-- The text of a JSON compilation database: an array of entries, one for each compile command. An entry is an object of
+-- three strings and an array of strings.
 use Rattle.std.specs.Prelude.{ℕ, ◌/◌, ◌%◌, ◌==◌, List, [], ◌∷◌, ◌++◌, nat_lt, flat_map, codes, if◌then◌else◌}
 use Rattle.std.specs.List.{join_by}
 use Rattle.cc_text.specs.Hex.{hex_digit}

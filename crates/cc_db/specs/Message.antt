@@ -21,7 +21,8 @@ text_of (StderrForwarding text cmd) = text
 text_of (CommandFailed status text cmd) = text
 text_of (Compiles text cmd) = text
 
--- what is told with it: nothing with a warning, the command with its line or its failure, and what is compiled with a compile command
+-- what is told with it: nothing with a warning, the command with its line or its failure, and what is compiled with a
+-- compile command
 abbrev pub extra_of : Message → Extra
 extra_of (GeneralWarning text) = Nothing
 extra_of (StderrForwarding text cmd) = Ran cmd

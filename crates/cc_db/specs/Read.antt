@@ -52,14 +52,16 @@ abbrev pub output_at : Data → Option (List ℕ)
 output_at entry = output_by (get (codes "output") entry)
 
 -- a compile command, where each part is there
-abbrev pub command_by : Option (List ℕ) → Option (List ℕ) → Option (List (List ℕ)) → Option (List ℕ) → Option CompileCommandSeen
+abbrev pub command_by : Option (List ℕ) → Option (List ℕ) → Option (List (List ℕ)) → Option (List ℕ)
+    → Option CompileCommandSeen
 command_by directory file words output =
     option_and_then (λ d. option_and_then (λ f. option_and_then (λ w. option_map (λ o.
     record { directory = d; file = f; arguments = w; output = o }) output) words) file) directory
 
 -- the compile command of an entry, if it has the shape
 unfoldable pub command_of : Data → Option CompileCommandSeen
-command_of entry = command_by (text_at (codes "directory") entry) (text_at (codes "file") entry) (words_at entry) (output_at entry)
+command_of entry =
+    command_by (text_at (codes "directory") entry) (text_at (codes "file") entry) (words_at entry) (output_at entry)
 
 -- some commands, or the place of the first entry that is none
 abbrev pub entries_by : Option (List CompileCommandSeen) → ℕ → Result (List CompileCommandSeen) DatabaseError

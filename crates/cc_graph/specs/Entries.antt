@@ -9,7 +9,8 @@ use Rattle.cc_graph.specs.declared.node.Node.{Node}
 
 -- of the tokens `old` the first are an entry that gives this node, and `new` are the others
 abbrev pub IsEntry : Env → List Token → Node → List Token → Type 0
-IsEntry env old node new = (d : Data) × (converted of_json (value 126 old) ≡ Some (d, new)) × (node_of env d ≡ Some node)
+IsEntry env old node new =
+    (d : Data) × (converted of_json (value 126 old) ≡ Some (d, new)) × (node_of env d ≡ Some node)
 
 -- of the tokens `old` the first are entries that give these nodes and the end of their array, and `new` are the others
 abbrev pub AreEntries : Env → ℕ → List Token → List Node → List Token → Type 0

@@ -35,7 +35,8 @@ abbrev pub unless : Bool → ℕ → ℕ
 unless true n = 0
 unless false n = n
 
--- For each place it is known how many needs are open, for each that may be needed who waits for it, and which are ready.
+-- For each place it is known how many needs are open, for each that may be needed who waits for it, and which are
+-- ready.
 pub record Tells (g : Graph) (waiters : List (List ℕ)) (f : Frontier) (marks : List Mark) : Type 0 where
   pub sound : Sound f
   pub size : length f.counts.items ≡ length g

@@ -108,9 +108,9 @@ MeetsNeeds nodes rules part =
     → (p : ℕ) × ((node : Node) × ((slice_get nodes p ≡ Some node) × (node.cmd.cmd ≡ cmd)
     × (list_all (has_succeeded (run_from rules.plan nothing before).marks) node.needs ≡ true)))
 
--- Each event is good: what is started is the least node that is ready, and carries how many run. No node is started twice, and
--- each start follows the ends of its needs. A node that was started has the end that its command had, and the others are skipped:
--- exactly those of which a need was skipped or ended with another status than 0.
+-- Each event is good: what is started is the least node that is ready, and carries how many run. No node is started
+-- twice, and each start follows the ends of its needs. A node that was started has the end that its command had, and
+-- the others are skipped: exactly those of which a need was skipped or ended with another status than 0.
 pub record GraphRun (nodes : List Node) (rules : Rules) (total : Option ℕ) (part : List Event)
     (ends : List NodeEnd) : Type 0 where
   pub good : Along rules total nothing part

@@ -1,4 +1,5 @@
--- Added objects: those that were compiled elsewhere. None may be the library, which is removed before its members are read.
+-- Added objects: those that were compiled elsewhere. None may be the library, which is removed before its members are
+-- read.
 use Rattle.std.specs.Prelude.{ℕ, List, Bool, Option}
 use Rattle.std.specs.List.{position}
 use Rattle.std.specs.Option.{option_map}
@@ -14,4 +15,5 @@ is_library library path = same_words (path_components path) (path_components lib
 
 -- the first of these objects that is the library
 abbrev pub added_refusal : List ℕ → List (List ℕ) → Option PlanError
-added_refusal library objects = option_map (λ place. Argument (LibraryIsObject place)) (position (is_library library) objects)
+added_refusal library objects =
+    option_map (λ place. Argument (LibraryIsObject place)) (position (is_library library) objects)

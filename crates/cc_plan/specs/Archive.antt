@@ -1,5 +1,6 @@
--- The planned archiver, and the archive and index commands, in the words of `ar`: `c` makes the library, `q` adds members last, `s` writes its
--- index, and `D` leaves out times and owners, so that one build gives the same bytes as the next.
+-- The planned archiver, and the archive and index commands, in the words of `ar`: `c` makes the library, `q` adds
+-- members last, `s` writes its index, and `D` leaves out times and owners, so that one build gives the same bytes as
+-- the next.
 use Rattle.std.specs.Prelude.{ℕ, Bool, false, true, ◌&&◌, ◌||◌, List, [], ◌∷◌, ◌++◌, map, take, Some, None, unwrap_or, is_some, codes, if◌then◌else◌}
 use Rattle.cc_env.specs.Env.{EnvSeen}
 use Rattle.cc_env.specs.Snapshot.{child_of}
@@ -35,7 +36,9 @@ has_flags set env = is_some (variable_flags set env (codes "ARFLAGS")) || has_wo
 
 -- the command of a tool of archives: its words, and then flags. Its wrapper is dropped.
 abbrev pub archive_tool_cmd : EnvSeen → Choice → List (List ℕ) → CommandSeen
-archive_tool_cmd env choice flags = record { program = choice.path; args = choice.words ++ flags; env = child_of env.inherited env.explicit; dir = None }
+archive_tool_cmd env choice flags =
+    record { program = choice.path; args = choice.words ++ flags; env = child_of env.inherited env.explicit;
+        dir = None }
 
 -- the archiver of a choice
 abbrev pub archiver_by : BuildConfig → EnvSeen → Choice → Archiver
@@ -68,7 +71,8 @@ with_words archiver words = record archiver.cmd { args = archiver.cmd.args ++ wo
 
 -- the same where it writes no times into members
 abbrev pub timeless : Archiver → EnvSeen → List (List ℕ) → CommandSeen
-timeless archiver env words = record { program = archiver.cmd.program; args = archiver.cmd.args ++ words; env = archive_env env; dir = None }
+timeless archiver env words =
+    record { program = archiver.cmd.program; args = archiver.cmd.args ++ words; env = archive_env env; dir = None }
 
 -- the word that has members added last: it leaves out owners too, or is the plain one
 abbrev pub adding : Bool → List ℕ
@@ -80,11 +84,14 @@ archive_of archiver env library plain batch = timeless archiver env (adding plai
 
 -- where the first form was refused, the refused command comes first
 abbrev pub refused_of : Archiver → EnvSeen → List ℕ → Bool → List (List (List ℕ)) → List CommandSeen
-refused_of archiver env library plain batches = if plain then map (archive_of archiver env library false) (take 1 batches) else []
+refused_of archiver env library plain batches =
+    if plain then map (archive_of archiver env library false) (take 1 batches) else []
 
--- One command a batch: the first makes the library, and each later one adds to it. Where the first form was refused all are in the plain one.
+-- One command a batch: the first makes the library, and each later one adds to it. Where the first form was refused all
+-- are in the plain one.
 abbrev pub archives_by : Archiver → EnvSeen → List ℕ → Bool → List (List (List ℕ)) → List CommandSeen
-archives_by archiver env library plain batches = refused_of archiver env library plain batches ++ map (archive_of archiver env library plain) batches
+archives_by archiver env library plain batches =
+    refused_of archiver env library plain batches ++ map (archive_of archiver env library plain) batches
 
 -- the command of libtool, which is one for all paths
 abbrev pub libtool_of : Archiver → List ℕ → CommandSeen
@@ -92,20 +99,25 @@ libtool_of archiver library = with_words archiver (libtool_words library)
 
 -- a command in the library's folder, where it runs there
 abbrev pub in_folder : Archiver → List ℕ → CommandSeen → CommandSeen
-in_folder archiver library cmd = if runs_in_folder archiver library then record cmd { dir = Some (folder_of library) } else cmd
+in_folder archiver library cmd =
+    if runs_in_folder archiver library then record cmd { dir = Some (folder_of library) } else cmd
 
 -- the library manager's command of a batch, which makes the library or adds to it
 abbrev pub lib_of : Archiver → List ℕ → List ℕ → Bool → List (List ℕ) → CommandSeen
-lib_of archiver library here adds batch = in_folder archiver library (with_words archiver (lib_words archiver library adds ++ members_of archiver library here batch))
+lib_of archiver library here adds batch =
+    in_folder archiver library
+        (with_words archiver (lib_words archiver library adds ++ members_of archiver library here batch))
 
 -- one a batch: the first makes the library, and each later one adds to it
 abbrev pub libs_of : Archiver → List ℕ → List ℕ → List (List (List ℕ)) → List CommandSeen
 libs_of archiver library here [] = []
-libs_of archiver library here (batch ∷ batches) = lib_of archiver library here false batch ∷ map (lib_of archiver library here true) batches
+libs_of archiver library here (batch ∷ batches) =
+    lib_of archiver library here false batch ∷ map (lib_of archiver library here true) batches
 
 -- the current folder is asked for before the commands that archive these paths
 unfoldable pub asks_folder : Info → Archiver → List ℕ → List (List ℕ) → Bool
-asks_folder target archiver library paths = is_lib target archiver && (runs_in_folder archiver library && has_words paths)
+asks_folder target archiver library paths =
+    is_lib target archiver && (runs_in_folder archiver library && has_words paths)
 
 -- by the words that the archiver takes: libtool and the library manager have no second form
 abbrev pub archives_of : Info → Archiver → EnvSeen → List ℕ → Bool → List ℕ → List (List ℕ) → List CommandSeen
@@ -122,7 +134,8 @@ index_of archiver library = with_words archiver (codes "sD" ∷ library ∷ [])
 abbrev pub plain_index_of : Archiver → EnvSeen → List ℕ → CommandSeen
 plain_index_of archiver env library = timeless archiver env (codes "s" ∷ library ∷ [])
 
--- The command of the index. Where the first form was refused it is the plain one; that of a library without members was the refused one.
+-- The command of the index. Where the first form was refused it is the plain one; that of a library without members was
+-- the refused one.
 abbrev pub indexes_by : Archiver → EnvSeen → List ℕ → Bool → List (List ℕ) → List CommandSeen
 indexes_by archiver env library false paths = index_of archiver library ∷ []
 indexes_by archiver env library true [] = index_of archiver library ∷ plain_index_of archiver env library ∷ []
@@ -130,4 +143,5 @@ indexes_by archiver env library true (path ∷ paths) = plain_index_of archiver 
 
 -- libtool writes the index with the library, and for Visual Studio it needs no command
 abbrev pub indexes_of : Info → Archiver → EnvSeen → List ℕ → Bool → List (List ℕ) → List CommandSeen
-indexes_of target archiver env library plain paths = if is_libtool archiver || is_msvc target then [] else indexes_by archiver env library plain paths
+indexes_of target archiver env library plain paths =
+    if is_libtool archiver || is_msvc target then [] else indexes_by archiver env library plain paths

@@ -18,7 +18,8 @@ use Rattle.cc_plan.specs.declared.error.PlanError.{PlanError}
 -- the one that the environment names, else the target's own, which is refused where it has no name
 unfoldable pub named_or_own : ArchiveTool → BuildConfig → EnvSeen → Option Choice → Plan (Result Choice PlanError)
 named_or_own tool set env (Some choice) = allowed choice
-named_or_own tool set env None = unless (qnx_arch_refusal (target_info set env)) (bind (own_choice tool set env) allowed)
+named_or_own tool set env None =
+    unless (qnx_arch_refusal (target_info set env)) (bind (own_choice tool set env) allowed)
 
 unfoldable pub found_tool : ArchiveTool → BuildConfig → EnvSeen → Plan (Result Choice PlanError)
 found_tool tool set env = bind (named_choice tool set env) (named_or_own tool set env)
@@ -33,7 +34,9 @@ chosen_tool tool set env = set_or_found tool set env (set_program tool set)
 
 -- its flags can be looked up
 unfoldable pub with_flags : ArchiveTool → BuildConfig → EnvSeen → Choice → Plan (Result Choice PlanError)
-with_flags tool set env choice = unless (look_up_refusal set env) (bind (note (named (flags_names set env (tool_flags tool)))) (λ noted. allowed choice))
+with_flags tool set env choice =
+    unless (look_up_refusal set env)
+        (bind (note (named (flags_names set env (tool_flags tool)))) (λ noted. allowed choice))
 
 -- the plan
 unfoldable pub tool_plan : ArchiveTool → BuildConfig → EnvSeen → Plan (Result Choice PlanError)

@@ -1,4 +1,5 @@
--- The tools of archives, the archiver and the one that writes their index, and how they are found: one table, in which each has its own name.
+-- The tools of archives, the archiver and the one that writes their index, and how they are found: one table, in which
+-- each has its own name.
 use Rattle.std.specs.Prelude.{ℕ, Bool, List, [], Option, Some, None, unwrap_or, codes, if◌then◌else◌}
 use Rattle.cc_env.specs.Env.{EnvSeen}
 use Rattle.cc_host.specs.Question.{Look, is_yes}
@@ -33,13 +34,15 @@ is_versioned vars program = bind (ask (version_question vars program)) (λ verdi
 
 -- the program, where it prints its version in the environment that was inherited
 unfoldable pub if_versioned : EnvSeen → List ℕ → Plan (Option (List ℕ))
-if_versioned env program = bind (is_versioned env.inherited program) (λ there. done (if there then Some program else None))
+if_versioned env program =
+    bind (is_versioned env.inherited program) (λ there. done (if there then Some program else None))
 
 -- ---- the table
 
 -- LLVM's tool where Clang looks for programs
 unfoldable pub tool_of_clang : ArchiveTool → EnvSeen → Compiler → Plan (Option (List ℕ))
-tool_of_clang tool env compiler = if is_clang compiler.family then searched env compiler.choice.path (llvm_name tool) else done None
+tool_of_clang tool env compiler =
+    if is_clang compiler.family then searched env compiler.choice.path (llvm_name tool) else done None
 
 unfoldable pub compiler_tool : ArchiveTool → BuildConfig → EnvSeen → Plan (Option (List ℕ))
 compiler_tool tool set env = bind (compiler set env) (tool_of_clang tool env)
@@ -51,7 +54,8 @@ wasm_tool tool set env = if is_wasm (target_info set env) then compiler_tool too
 -- for Android: LLVM's, where it prints its version in the environment of a child
 unfoldable pub android_tool : ArchiveTool → BuildConfig → EnvSeen → Plan (List ℕ)
 android_tool tool set env =
-    bind (is_versioned (child_vars env) (llvm_name tool)) (λ there. done (if there then llvm_name tool else android_name tool (target_name set env)))
+    bind (is_versioned (child_vars env) (llvm_name tool))
+        (λ there. done (if there then llvm_name tool else android_name tool (target_name set env)))
 
 -- behind the prefix of the GNU tools: the first that prints its version
 unfoldable pub plain_or_gcc : ArchiveTool → EnvSeen → List ℕ → Option (List ℕ) → Plan (Option (List ℕ))
@@ -80,7 +84,8 @@ lib_beside env compiler = beside env compiler.family compiler.choice.path (codes
 unfoldable pub compiler_lib : BuildConfig → EnvSeen → Plan (Option (List ℕ))
 compiler_lib set env = bind (compiler set env) (lib_beside env)
 
--- for Visual Studio: LLVM's next to clang-cl, else Microsoft's library manager, which stands for both tools, as an index needs none there
+-- for Visual Studio: LLVM's next to clang-cl, else Microsoft's library manager, which stands for both tools, as an
+-- index needs none there
 unfoldable pub studio_tool : BuildConfig → EnvSeen → Plan (List ℕ)
 studio_tool set env = bind (compiler_lib set env) (λ found. done (unwrap_or found (codes "lib.exe")))
 
@@ -94,7 +99,8 @@ studio_or_named tool set env = if is_msvc (target_info set env) then studio_tool
 
 -- the one that the target wants
 unfoldable pub target_tool : ArchiveTool → BuildConfig → EnvSeen → Plan (List ℕ)
-target_tool tool set env = if is (target_info set env).os "android" then android_tool tool set env else studio_or_named tool set env
+target_tool tool set env =
+    if is (target_info set env).os "android" then android_tool tool set env else studio_or_named tool set env
 
 -- that of Clang for WebAssembly comes before
 unfoldable pub wasm_or_target : ArchiveTool → BuildConfig → EnvSeen → Plan (List ℕ)
@@ -102,7 +108,8 @@ wasm_or_target tool set env = bind (wasm_tool tool set env) (or_else (target_too
 
 -- the one where neither settings nor environment name one
 unfoldable pub own_tool : ArchiveTool → BuildConfig → EnvSeen → Plan (List ℕ)
-own_tool tool set env = if is (target_info set env).os "emscripten" then done (behind (codes "em") tool) else wasm_or_target tool set env
+own_tool tool set env =
+    if is (target_info set env).os "emscripten" then done (behind (codes "em") tool) else wasm_or_target tool set env
 
 -- the same with its words
 abbrev pub with_machine : BuildConfig → EnvSeen → List ℕ → Choice

@@ -26,51 +26,69 @@ use Rattle.cc_plan.specs.declared.sight.Sight.{Sight}
 use Rattle.cc_flags.specs.declared.variables.Reads.{Reads}
 
 -- a call asks what the plan of the commands that compile wants
-abbrev pub AsksToCompile : {W H : Type 0} → {ghosts : Ghosts W} → Bool → (Question → Outcome) → (H → List Event) → (H → Option ℕ) → BuildConfig → EnvSeen → Sight W H ghosts → Sight W H ghosts → Type 0
-AsksToCompile steady world log patience set env old new = OnlyAsks steady world log patience (CompileAsks set env) old new
+abbrev pub AsksToCompile : {W H : Type 0} → {ghosts : Ghosts W} → Bool → (Question → Outcome) → (H → List Event)
+    → (H → Option ℕ) → BuildConfig → EnvSeen → Sight W H ghosts → Sight W H ghosts → Type 0
+AsksToCompile steady world log patience set env old new =
+    OnlyAsks steady world log patience (CompileAsks set env) old new
 
 -- a call asks what the plan of a tool wants
-abbrev pub AsksToPlan : {W H : Type 0} → {ghosts : Ghosts W} → Bool → (Question → Outcome) → (H → List Event) → (H → Option ℕ) → BuildConfig → EnvSeen → Sight W H ghosts → Sight W H ghosts → Type 0
+abbrev pub AsksToPlan : {W H : Type 0} → {ghosts : Ghosts W} → Bool → (Question → Outcome) → (H → List Event)
+    → (H → Option ℕ) → BuildConfig → EnvSeen → Sight W H ghosts → Sight W H ghosts → Type 0
 AsksToPlan steady world log patience set env old new = OnlyAsks steady world log patience (PlanAsks set env) old new
 
 -- a call asks what the plan of an assembler for this tool wants
-abbrev pub AsksForAssembler : {W H : Type 0} → {ghosts : Ghosts W} → Bool → (Question → Outcome) → (H → List Event) → (H → Option ℕ) → BuildConfig → EnvSeen → ToolSeen → Sight W H ghosts → Sight W H ghosts → Type 0
-AsksForAssembler steady world log patience set env tool old new = OnlyAsks steady world log patience (AssemblerAsks set env tool) old new
+abbrev pub AsksForAssembler : {W H : Type 0} → {ghosts : Ghosts W} → Bool → (Question → Outcome) → (H → List Event)
+    → (H → Option ℕ) → BuildConfig → EnvSeen → ToolSeen → Sight W H ghosts → Sight W H ghosts → Type 0
+AsksForAssembler steady world log patience set env tool old new =
+    OnlyAsks steady world log patience (AssemblerAsks set env tool) old new
 
 -- a call asks what the plan of a tool of archives wants
-abbrev pub AsksForEither : {W H : Type 0} → {ghosts : Ghosts W} → Bool → (Question → Outcome) → (H → List Event) → (H → Option ℕ) → ArchiveTool → BuildConfig → EnvSeen → Sight W H ghosts → Sight W H ghosts → Type 0
-AsksForEither steady world log patience tool set env old new = OnlyAsks steady world log patience (ArchiveToolAsks tool set env) old new
+abbrev pub AsksForEither : {W H : Type 0} → {ghosts : Ghosts W} → Bool → (Question → Outcome) → (H → List Event)
+    → (H → Option ℕ) → ArchiveTool → BuildConfig → EnvSeen → Sight W H ghosts → Sight W H ghosts → Type 0
+AsksForEither steady world log patience tool set env old new =
+    OnlyAsks steady world log patience (ArchiveToolAsks tool set env) old new
 
 -- that of the archiver
-abbrev pub AsksForArchiver : {W H : Type 0} → {ghosts : Ghosts W} → Bool → (Question → Outcome) → (H → List Event) → (H → Option ℕ) → BuildConfig → EnvSeen → Sight W H ghosts → Sight W H ghosts → Type 0
-AsksForArchiver steady world log patience set env old new = OnlyAsks steady world log patience (ArchiverAsks set env) old new
+abbrev pub AsksForArchiver : {W H : Type 0} → {ghosts : Ghosts W} → Bool → (Question → Outcome) → (H → List Event)
+    → (H → Option ℕ) → BuildConfig → EnvSeen → Sight W H ghosts → Sight W H ghosts → Type 0
+AsksForArchiver steady world log patience set env old new =
+    OnlyAsks steady world log patience (ArchiverAsks set env) old new
 
 -- that of the tool that writes an archive's index
-abbrev pub AsksForRanlib : {W H : Type 0} → {ghosts : Ghosts W} → Bool → (Question → Outcome) → (H → List Event) → (H → Option ℕ) → BuildConfig → EnvSeen → Sight W H ghosts → Sight W H ghosts → Type 0
-AsksForRanlib steady world log patience set env old new = OnlyAsks steady world log patience (RanlibAsks set env) old new
+abbrev pub AsksForRanlib : {W H : Type 0} → {ghosts : Ghosts W} → Bool → (Question → Outcome) → (H → List Event)
+    → (H → Option ℕ) → BuildConfig → EnvSeen → Sight W H ghosts → Sight W H ghosts → Type 0
+AsksForRanlib steady world log patience set env old new =
+    OnlyAsks steady world log patience (RanlibAsks set env) old new
 
 -- a call asks what its names of variables are planned by
-abbrev pub AsksForNames : {W H : Type 0} → {ghosts : Ghosts W} → Bool → (Question → Outcome) → (H → List Event) → (H → Option ℕ) → Reads → BuildConfig → EnvSeen → Sight W H ghosts → Sight W H ghosts → Type 0
-AsksForNames steady world log patience reads set env old new = OnlyAsks steady world log patience (NameAsks reads set env) old new
+abbrev pub AsksForNames : {W H : Type 0} → {ghosts : Ghosts W} → Bool → (Question → Outcome) → (H → List Event)
+    → (H → Option ℕ) → Reads → BuildConfig → EnvSeen → Sight W H ghosts → Sight W H ghosts → Type 0
+AsksForNames steady world log patience reads set env old new =
+    OnlyAsks steady world log patience (NameAsks reads set env) old new
 
 -- a call asks what the plan of link lines wants
-abbrev pub AsksForLinks : {W H : Type 0} → {ghosts : Ghosts W} → Bool → (Question → Outcome) → (H → List Event) → (H → Option ℕ) → BuildConfig → EnvSeen → Sight W H ghosts → Sight W H ghosts → Type 0
+abbrev pub AsksForLinks : {W H : Type 0} → {ghosts : Ghosts W} → Bool → (Question → Outcome) → (H → List Event)
+    → (H → Option ℕ) → BuildConfig → EnvSeen → Sight W H ghosts → Sight W H ghosts → Type 0
 AsksForLinks steady world log patience set env old new = OnlyAsks steady world log patience (LinkAsks set env) old new
 
 -- a call asks what the plan of a verdict on a flag wants
-abbrev pub AsksOnFlag : {W H : Type 0} → {ghosts : Ghosts W} → Bool → (Question → Outcome) → (H → List Event) → (H → Option ℕ) → BuildConfig → EnvSeen → List ℕ → Sight W H ghosts → Sight W H ghosts → Type 0
-AsksOnFlag steady world log patience set env flag old new = OnlyAsks steady world log patience (SupportAsks set env flag) old new
+abbrev pub AsksOnFlag : {W H : Type 0} → {ghosts : Ghosts W} → Bool → (Question → Outcome) → (H → List Event)
+    → (H → Option ℕ) → BuildConfig → EnvSeen → List ℕ → Sight W H ghosts → Sight W H ghosts → Type 0
+AsksOnFlag steady world log patience set env flag old new =
+    OnlyAsks steady world log patience (SupportAsks set env flag) old new
 
 -- on Ok the answers settle the value, by a function of all verdicts
 abbrev pub SettledIn : {W H X E : Type 0} → {ghosts : Ghosts W} → Sight W H ghosts → (Look → X) → Result X E → Type 0
 SettledIn sight value result = IfOk result (Settles sight.answers.now value)
 
 -- on Ok the answers settle that nothing is refused
-abbrev pub AllowedIn : {W H X : Type 0} → {ghosts : Ghosts W} → Sight W H ghosts → (Look → Option PlanError) → Result X PlanError → Type 0
+abbrev pub AllowedIn : {W H X : Type 0} → {ghosts : Ghosts W} → Sight W H ghosts → (Look → Option PlanError)
+    → Result X PlanError → Type 0
 AllowedIn sight refusal result = OnOk result (Settles sight.answers.now refusal None)
 
 -- an error is want of memory, or the refusal that the answers settle
-abbrev pub RefusedIn : {W H X : Type 0} → {ghosts : Ghosts W} → Sight W H ghosts → (Look → Option PlanError) → Result X PlanError → Type 0
+abbrev pub RefusedIn : {W H X : Type 0} → {ghosts : Ghosts W} → Sight W H ghosts → (Look → Option PlanError)
+    → Result X PlanError → Type 0
 RefusedIn sight refusal result = IfErr result (λ e. (e ≡ NoMemory) ⊎ Settles sight.answers.now refusal (Some e))
 
 -- the calls by which a host is given a warning: one prints, one says
@@ -86,11 +104,16 @@ abbrev pub RefusedByPrint : {X : Type 0} → Result X PlanError → Type 0
 RefusedByPrint result = IfErr result (λ e. (e ≡ NoMemory) ⊎ IsPrintFault e)
 
 -- an error is want of memory, such a fault, or the refusal that the answers settle
-abbrev pub RefusedInOrByPrint : {W H X : Type 0} → {ghosts : Ghosts W} → Sight W H ghosts → (Look → Option PlanError) → Result X PlanError → Type 0
-RefusedInOrByPrint sight refusal result = IfErr result (λ e. (e ≡ NoMemory) ⊎ (IsPrintFault e ⊎ Settles sight.answers.now refusal (Some e)))
+abbrev pub RefusedInOrByPrint : {W H X : Type 0} → {ghosts : Ghosts W} → Sight W H ghosts
+    → (Look → Option PlanError) → Result X PlanError → Type 0
+RefusedInOrByPrint sight refusal result =
+    IfErr result (λ e. (e ≡ NoMemory) ⊎ (IsPrintFault e ⊎ Settles sight.answers.now refusal (Some e)))
 
--- questions, each of them one that is asked under verdicts that agree with the answers, and then a part of which something holds
-pub record AsksThen (steady : Bool) (world : Question → Outcome) (dir : List ℕ) (questions : Look → Question → Type 0) (before after : List Event) (old new : List Answer) (P : List Event → Type 0) : Type 0 where
+-- questions, each of them one that is asked under verdicts that agree with the answers, and then a part of which
+-- something holds
+pub record AsksThen (steady : Bool) (world : Question → Outcome) (dir : List ℕ)
+    (questions : Look → Question → Type 0) (before after : List Event) (old new : List Answer)
+    (P : List Event → Type 0) : Type 0 where
   pub mid : List Event
   pub rest : List Event
   pub asks : Asks steady world dir before mid old new
@@ -98,7 +121,8 @@ pub record AsksThen (steady : Bool) (world : Question → Outcome) (dir : List �
   pub extends : after ≡ mid ++ rest
   pub holds : P rest
 
--- why warnings ended early: a fault of the host, which is the last event, or want of memory. A refusal comes before them.
+-- why warnings ended early: a fault of the host, which is the last event, or want of memory. A refusal comes before
+-- them.
 abbrev pub EndsWarning : List Event → PlanError → Type 0
 EndsWarning part (Host call why) = IsNotice call × (stops part ≡ Fault call why ∷ [])
 EndsWarning part NoMemory = stops part ≡ []
@@ -122,7 +146,8 @@ Warned steps part (Ok x) = IsWhole steps part
 Warned steps part (Err e) = IsPartly steps part × EndsWarning part e
 
 -- the warnings of a call are settled; one that was refused and gave none may have none
-abbrev pub AreSteps : {X : Type 0} → List Answer → (Look → List Step) → List Step → List Event → Result X PlanError → Type 0
+abbrev pub AreSteps : {X : Type 0} → List Answer → (Look → List Step) → List Step → List Event → Result X PlanError
+    → Type 0
 AreSteps known warnings steps part (Ok x) = Settles known warnings steps
 AreSteps known warnings steps part (Err e) = (part ≡ []) ⊎ Settles known warnings steps
 
@@ -136,9 +161,11 @@ is_of_children (Unread id) = true
 is_of_children (Turn count) = true
 is_of_children _ = false
 
--- The warnings are what the answers settle, where it is given whether the call is the one that warns of flags for the linker. Meanwhile nothing is
--- asked, no child is started, heard or left alone, and no turn is made. A call that is refused for another cause gives none.
-pub record Warns {X : Type 0} (known : List Answer) (warnings : Bool → Look → List Step) (result : Result X PlanError) (part : List Event) : Type 0 where
+-- The warnings are what the answers settle, where it is given whether the call is the one that warns of flags for the
+-- linker. Meanwhile nothing is asked, no child is started, heard or left alone, and no turn is made. A call that is
+-- refused for another cause gives none.
+pub record Warns {X : Type 0} (known : List Answer) (warnings : Bool → Look → List Step)
+    (result : Result X PlanError) (part : List Event) : Type 0 where
   pub warns_of_link : Bool
   pub steps : List Step
   pub settled : AreSteps known (warnings warns_of_link) steps part result
@@ -147,6 +174,9 @@ pub record Warns {X : Type 0} (known : List Answer) (warnings : Bool → Look �
   pub childless : list_any is_of_children part ≡ false
 
 -- a call asks such questions, and then gives the host its warnings
-abbrev pub AsksThenWarns : {W H X : Type 0} → {ghosts : Ghosts W} → Bool → (Question → Outcome) → (H → List Event) → (Look → Question → Type 0) → Sight W H ghosts → Sight W H ghosts → (Bool → Look → List Step) → Result X PlanError → Type 0
+abbrev pub AsksThenWarns : {W H X : Type 0} → {ghosts : Ghosts W} → Bool → (Question → Outcome) → (H → List Event)
+    → (Look → Question → Type 0) → Sight W H ghosts → Sight W H ghosts → (Bool → Look → List Step)
+    → Result X PlanError → Type 0
 AsksThenWarns steady world log questions old new warnings result =
-    AsksThen steady world old.dir.now questions (log old.host.now) (log new.host.now) old.answers.now new.answers.now (Warns new.answers.now warnings result)
+    AsksThen steady world old.dir.now questions (log old.host.now)
+        (log new.host.now) old.answers.now new.answers.now (Warns new.answers.now warnings result)

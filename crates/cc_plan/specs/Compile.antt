@@ -18,11 +18,13 @@ with_object set info family object cmd =
     record cmd { args = cmd.args ++ compile_words set family info object }
 
 abbrev pub compile_of : BuildConfig → Info → ToolSeen → Option ToolSeen → Object → CommandSeen
-compile_of set info tool assembler object = with_object set info tool.family object (tool_command (tool_for info tool assembler object))
+compile_of set info tool assembler object =
+    with_object set info tool.family object (tool_command (tool_for info tool assembler object))
 
 -- the command of an object that begins with one of two: for a source in such a language with the second
 abbrev pub begun_with : BuildConfig → Info → ToolFamily → CommandSeen → CommandSeen → Object → CommandSeen
-begun_with set info family start assembling object = with_object set info family object (if is_masm info object.src then assembling else start)
+begun_with set info family start assembling object =
+    with_object set info family object (if is_masm info object.src then assembling else start)
 
 -- one command an object, in order
 abbrev pub compiles_of : BuildConfig → Info → ToolSeen → Option ToolSeen → List Object → List CommandSeen
@@ -30,4 +32,5 @@ compiles_of set info tool assembler objects = map (compile_of set info tool asse
 
 -- the command that expands a source
 abbrev pub expand_of : BuildConfig → ToolSeen → List ℕ → CommandSeen
-expand_of set tool source = record (tool_command tool) { args = (tool_command tool).args ++ expand_words tool.family set.cpp source }
+expand_of set tool source =
+    record (tool_command tool) { args = (tool_command tool).args ++ expand_words tool.family set.cpp source }

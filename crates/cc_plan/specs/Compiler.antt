@@ -15,7 +15,8 @@ with_family choice found = record { choice = choice; family = found.0; detected 
 
 -- a chosen compiler, which is asked for its family with the words that it is given first
 unfoldable pub asked_compiler : EnvSeen → Choice → Plan Compiler
-asked_compiler env choice = bind (family choice.path choice.words (child_vars env)) (λ found. done (with_family choice found))
+asked_compiler env choice =
+    bind (family choice.path choice.words (child_vars env)) (λ found. done (with_family choice found))
 
 unfoldable pub compiler : BuildConfig → EnvSeen → Plan Compiler
 compiler set env = bind (choice set env) (asked_compiler env)

@@ -15,11 +15,13 @@ use Rattle.cc_flags.specs.Wrappers.{in_rustc_wrapper, tool_in_words}
 
 -- what the words of a text say, among which may be wrappers that another variable names
 unfoldable pub words_tool : EnvSeen → List ℕ → Plan (Option Choice)
-words_tool env text = bind (note (named (codes "CC_KNOWN_WRAPPER_CUSTOM" ∷ []))) (λ noted. done (tool_in_words env (white_words text)))
+words_tool env text =
+    bind (note (named (codes "CC_KNOWN_WRAPPER_CUSTOM" ∷ []))) (λ noted. done (tool_in_words env (white_words text)))
 
 -- the tool in a text that has a byte: the whole text where that is a file, else what its words say
 unfoldable pub file_or_words : EnvSeen → List ℕ → Plan (Option Choice)
-file_or_words env text = bind (is_there text) (λ there. if there then done (Some (in_rustc_wrapper env text [])) else words_tool env text)
+file_or_words env text =
+    bind (is_there text) (λ there. if there then done (Some (in_rustc_wrapper env text [])) else words_tool env text)
 
 -- the tool in a text
 unfoldable pub tool_in_text : EnvSeen → List ℕ → Plan (Option Choice)
@@ -32,4 +34,5 @@ tool_in_value env (Some value) = tool_in_text env (trim value)
 
 -- the tool of a variable
 unfoldable pub env_tool : BuildConfig → EnvSeen → List ℕ → Plan (Option Choice)
-env_tool set env variable = bind (note (named (value_names set env variable))) (λ noted. tool_in_value env (prefixed_value set env variable))
+env_tool set env variable =
+    bind (note (named (value_names set env variable))) (λ noted. tool_in_value env (prefixed_value set env variable))

@@ -33,16 +33,19 @@ verdict_on c flag look = if is_for_linker c.compiler.family flag then No else lo
 unfoldable pub verdict_refusal : CompilationSeen → List ℕ → Option PlanError
 verdict_refusal c flag = if is_for_linker c.compiler.family flag then None else question_refusal c flag
 
--- the variables that a question on a flag is planned by: its settings name the compiler that was found, and bring its words
+-- the variables that a question on a flag is planned by: its settings name the compiler that was found, and bring its
+-- words
 abbrev pub question_names : BuildConfig → EnvSeen → Compiler × Compiler → List (List ℕ)
-question_names set env compilers = words_names (flag_settings set compilers.0.choice.path []) env (target_info set env) compilers.1
+question_names set env compilers =
+    words_names (flag_settings set compilers.0.choice.path []) env (target_info set env) compilers.1
 
 -- a compiler, and the one that is asked, that of its path alone
 unfoldable pub noted_pair : BuildConfig → EnvSeen → Compiler × Compiler → Plan (Compiler × Compiler)
 noted_pair set env pair = bind (note (named (question_names set env pair))) (λ noted. done pair)
 
 unfoldable pub with_asked : BuildConfig → EnvSeen → Compiler → Plan (Compiler × Compiler)
-with_asked set env compiler = bind (bare_compiler env compiler.choice.path) (λ bare. noted_pair set env (compiler, bare))
+with_asked set env compiler =
+    bind (bare_compiler env compiler.choice.path) (λ bare. noted_pair set env (compiler, bare))
 
 unfoldable pub found_pair : BuildConfig → EnvSeen → Plan (Compiler × Compiler)
 found_pair set env = bind (compiler set env) (with_asked set env)
@@ -50,15 +53,19 @@ found_pair set env = bind (compiler set env) (with_asked set env)
 -- the verdict on a flag, unless it is refused
 unfoldable pub verdict_plan : CompilationSeen → List ℕ → Plan (Result Verdict PlanError)
 verdict_plan c flag =
-    if is_for_linker c.compiler.family flag then allowed No else unless (question_refusal c flag) (bind (ask (flag_question c flag)) allowed)
+    if is_for_linker c.compiler.family flag then allowed No
+        else unless (question_refusal c flag) (bind (ask (flag_question c flag)) allowed)
 
 -- the same with the compiler, and the warnings of how it was found
 abbrev pub supported_by : BuildConfig → EnvSeen → Compiler → Verdict → Support
 supported_by set env compiler verdict =
-    record { found = record { compiler = compiler; verdict = verdict }; warnings = found_warnings (compilation_of set env compiler) }
+    record { found = record { compiler = compiler; verdict = verdict };
+        warnings = found_warnings (compilation_of set env compiler) }
 
 unfoldable pub support_with : BuildConfig → EnvSeen → List ℕ → Compiler × Compiler → Plan (Result Support PlanError)
-support_with set env flag pair = bind_ok (verdict_plan (compilation_of set env pair.1) flag) (λ verdict. allowed (supported_by set env pair.0 verdict))
+support_with set env flag pair =
+    bind_ok (verdict_plan (compilation_of set env pair.1) flag)
+        (λ verdict. allowed (supported_by set env pair.0 verdict))
 
 -- the plan of the compilers
 unfoldable pub pair_plan : BuildConfig → EnvSeen → Plan (Result (Compiler × Compiler) PlanError)

@@ -39,7 +39,8 @@ abbrev pub on_ok : {X Y : Type 0} → (X → Plan (Result Y PlanError)) → Resu
 on_ok k (Ok x) = k x
 on_ok k (Err error) = done (Err error)
 
-unfoldable pub bind_ok : {X Y : Type 0} → Plan (Result X PlanError) → (X → Plan (Result Y PlanError)) → Plan (Result Y PlanError)
+unfoldable pub bind_ok : {X Y : Type 0} → Plan (Result X PlanError) → (X → Plan (Result Y PlanError))
+    → Plan (Result Y PlanError)
 bind_ok p k = bind p (on_ok k)
 
 -- a value, unless it is refused

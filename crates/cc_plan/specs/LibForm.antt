@@ -1,5 +1,6 @@
--- The words of Microsoft's library manager, `lib.exe`, which `llvm-lib` takes too ("LIB Reference", "Running LIB"). A member is named by the path that
--- its object is given by, so the commands run in the library's folder where they can: then no folder of the build is written into the library.
+-- The words of Microsoft's library manager, `lib.exe`, which `llvm-lib` takes too ("LIB Reference", "Running LIB"). A
+-- member is named by the path that its object is given by, so the commands run in the library's folder where they can:
+-- then no folder of the build is written into the library.
 use Rattle.std.specs.Prelude.{ℕ, Bool, nat_eq, not, ◌&&◌, ◌||◌, List, [], ◌∷◌, ◌++◌, map, unwrap_or, codes, if◌then◌else◌}
 use Rattle.std.specs.List.{starts_with}
 use Rattle.std.specs.Path.{path_file_name, path_join, path_parent}
@@ -20,7 +21,8 @@ names_llvm_ar name = is_within (codes "llvm-ar") (lowered name)
 
 -- an archiver for a target of Visual Studio takes these words, unless it is libtool, or `ar` of LLVM
 unfoldable pub is_lib : Info → Archiver → Bool
-is_lib target archiver = is_msvc target && (not (is_libtool archiver) && not (names_llvm_ar (unwrap_or (path_file_name archiver.name) [])))
+is_lib target archiver =
+    is_msvc target && (not (is_libtool archiver) && not (names_llvm_ar (unwrap_or (path_file_name archiver.name) [])))
 
 -- the path begins at the root
 abbrev pub is_absolute : List ℕ → Bool
@@ -36,7 +38,9 @@ folder_of library = unwrap_or (path_parent library) []
 
 -- its commands run there: no word was given with the archiver that may name a file by the current folder
 unfoldable pub runs_in_folder : Archiver → List ℕ → Bool
-runs_in_folder archiver library = is_absolute (folder_of library) && (not archiver.any_args && (not archiver.any_flags && is_same_anywhere archiver.name))
+runs_in_folder archiver library =
+    is_absolute (folder_of library)
+    && (not archiver.any_args && (not archiver.any_flags && is_same_anywhere archiver.name))
 
 -- how an object is named in a folder: by the rest of its path, else by its path from the current folder
 abbrev pub member_in : List ℕ → List ℕ → List ℕ → List ℕ
@@ -44,11 +48,14 @@ member_in folder here path = unwrap_or (strip_prefix path folder) (path_join her
 
 -- the objects of a batch as a command names them
 unfoldable pub members_of : Archiver → List ℕ → List ℕ → List (List ℕ) → List (List ℕ)
-members_of archiver library here paths = if runs_in_folder archiver library then map (member_in (folder_of library) here) paths else paths
+members_of archiver library here paths =
+    if runs_in_folder archiver library then map (member_in (folder_of library) here) paths else paths
 
--- where the library is written, no banner where no flags were given, and the library itself where members are added to it
+-- where the library is written, no banner where no flags were given, and the library itself where members are added to
+-- it
 unfoldable pub lib_words : Archiver → List ℕ → Bool → List (List ℕ)
-lib_words archiver library adds = (codes "-out:" ++ library) ∷ (when (not archiver.any_flags) (codes "-nologo" ∷ []) ++ when adds (library ∷ []))
+lib_words archiver library adds =
+    (codes "-out:" ++ library) ∷ (when (not archiver.any_flags) (codes "-nologo" ∷ []) ++ when adds (library ∷ []))
 
 -- the archiver has one form alone
 unfoldable pub has_one_form : Info → Archiver → Bool

@@ -1,5 +1,5 @@
--- Apple's libtool in the place of `ar`: one command writes the library with its index. It can't add to a library, so it reads the paths of
--- all objects from a list file, one a line.
+-- Apple's libtool in the place of `ar`: one command writes the library with its index. It can't add to a library, so it
+-- reads the paths of all objects from a list file, one a line.
 use Rattle.std.specs.Prelude.{ℕ, Bool, ◌==◌, List, [], ◌∷◌, ◌++◌, flat_map, Option, Some, None, unwrap_or, codes, if◌then◌else◌}
 use Rattle.std.specs.List.{list_any, position}
 use Rattle.std.specs.Option.{option_map}
@@ -23,9 +23,11 @@ is_libtool archiver = names_libtool (unwrap_or (path_file_name archiver.name) []
 abbrev pub list_path : List ℕ → List ℕ
 list_path library = library ++ codes ".filelist"
 
--- a static library without times and owners, of the paths in the list; no folder stands behind the comma, which would be put before each
+-- a static library without times and owners, of the paths in the list; no folder stands behind the comma, which would
+-- be put before each
 abbrev pub libtool_words : List ℕ → List (List ℕ)
-libtool_words library = codes "-static" ∷ codes "-D" ∷ codes "-o" ∷ library ∷ codes "-filelist" ∷ (list_path library ++ codes ",") ∷ []
+libtool_words library =
+    codes "-static" ∷ codes "-D" ∷ codes "-o" ∷ library ∷ codes "-filelist" ∷ (list_path library ++ codes ",") ∷ []
 
 -- each path with a line feed
 abbrev pub list_text : List (List ℕ) → List ℕ
@@ -48,4 +50,5 @@ has_line_feed path = list_any (λ b. b == 10) path
 
 -- the first of these paths that a line of the list can't hold
 abbrev pub list_refusal : Archiver → List (List ℕ) → Option PlanError
-list_refusal archiver paths = if is_libtool archiver then option_map (λ place. Argument (LineFeed place)) (position has_line_feed paths) else None
+list_refusal archiver paths =
+    if is_libtool archiver then option_map (λ place. Argument (LineFeed place)) (position has_line_feed paths) else None

@@ -10,8 +10,8 @@ use Rattle.cc_flags.specs.LinkLines.{lines_by}
 unfoldable pub link_lines : BuildConfig → EnvSeen → List ℕ → List ℕ → Look → List LinkLine
 link_lines set env name folder look = lines_by set env name folder (linked_library set env look)
 
--- A line that is printed once for all builds that share what they know is left out where another printed it, unless lines are repeated.
--- `is_first` says whether no other did.
+-- A line that is printed once for all builds that share what they know is left out where another printed it, unless
+-- lines are repeated. `is_first` says whether no other did.
 abbrev pub is_printed : Bool → LinkLine → Bool
 is_printed is_first line = not line.once || is_first
 

@@ -10,10 +10,12 @@ use Rattle.cc_tool.specs.Asks.{Asks}
 use Rattle.cc_tool.specs.Own.{AnswersAmong}
 use Rattle.cc_plan.specs.declared.sight.Sight.{Sight}
 
--- A call asks, and does nothing else: its host, its answers and its folder are those that it was lent, log and answers went on by its questions,
--- whose probe files are in the folder, and the host is as patient as before. Whichever verdicts agree with its answers, each question is one that is
--- asked under them.
-pub record OnlyAsks {W H : Type 0} {ghosts : Ghosts W} (steady : Bool) (world : Question → Outcome) (log : H → List Event) (patience : H → Option ℕ) (questions : Look → Question → Type 0) (old new : Sight W H ghosts) : Type 0 where
+-- A call asks, and does nothing else: its host, its answers and its folder are those that it was lent, log and answers
+-- went on by its questions, whose probe files are in the folder, and the host is as patient as before. Whichever
+-- verdicts agree with its answers, each question is one that is asked under them.
+pub record OnlyAsks {W H : Type 0} {ghosts : Ghosts W} (steady : Bool) (world : Question → Outcome)
+    (log : H → List Event) (patience : H → Option ℕ) (questions : Look → Question → Type 0)
+    (old new : Sight W H ghosts) : Type 0 where
   pub same_host : new.host.ghost_name ≡ old.host.ghost_name
   pub same_answers : new.answers.ghost_name ≡ old.answers.ghost_name
   pub same_dir : new.dir.now ≡ old.dir.now

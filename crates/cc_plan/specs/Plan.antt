@@ -50,7 +50,8 @@ assembler_in set env look = assembler_of set env (tool_of set env look) look
 
 -- the command of an object: that of the assembler for a source in its language, else that of the tool
 abbrev pub compile_in : BuildConfig → EnvSeen → Look → Object → CommandSeen
-compile_in set env look object = compile_of set (target_info set env) (tool_of set env look) (Some (assembler_in set env look)) object
+compile_in set env look object =
+    compile_of set (target_info set env) (tool_of set env look) (Some (assembler_in set env look)) object
 
 -- one an object, in order
 abbrev pub compiles_of : BuildConfig → EnvSeen → Look → List CommandSeen
@@ -66,7 +67,8 @@ archived_refusal set env archiver paths = first_of (list_refusal archiver paths)
 
 -- what the archive wants, after the commands that compile were run: the archiver, and what that wants
 unfoldable pub archive_refusal : BuildConfig → EnvSeen → Look → Option PlanError
-archive_refusal set env look = first_of (archiver_refusal set env look) (archived_refusal set env (archiver_of set env look) (archived_of set env))
+archive_refusal set env look =
+    first_of (archiver_refusal set env look) (archived_refusal set env (archiver_of set env look) (archived_of set env))
 
 -- the lists of those paths that are written for the archiver, with their bytes
 unfoldable pub lists_of_run : BuildConfig → EnvSeen → Look → List ℕ → List (List ℕ × List ℕ)
@@ -78,16 +80,22 @@ run_has_one_form set env look = form.has_one_form (target_info set env) (archive
 
 -- the current folder is asked for before the library is written
 unfoldable pub run_asks_folder : BuildConfig → EnvSeen → Look → List ℕ → Bool
-run_asks_folder set env look output = archive.asks_folder (target_info set env) (archiver_of set env look) (library_of set env output) (archived_of set env)
+run_asks_folder set env look output =
+    archive.asks_folder (target_info set env) (archiver_of set env look) (library_of set env output)
+        (archived_of set env)
 
--- the commands that write the library; `plain` says that the first one was refused, so that the plain form took its place, and `here` is the current
--- folder, where that is asked for
+-- the commands that write the library; `plain` says that the first one was refused, so that the plain form took its
+-- place, and `here` is the current folder, where that is asked for
 unfoldable pub archives_of : BuildConfig → EnvSeen → Look → Bool → List ℕ → List ℕ → List CommandSeen
-archives_of set env look plain here output = archive.archives_of (target_info set env) (archiver_of set env look) env (library_of set env output) plain here (archived_of set env)
+archives_of set env look plain here output =
+    archive.archives_of (target_info set env) (archiver_of set env look) env (library_of set env output) plain here
+        (archived_of set env)
 
 -- the commands that write its index
 unfoldable pub indexes_of : BuildConfig → EnvSeen → Look → Bool → List ℕ → List CommandSeen
-indexes_of set env look plain output = archive.indexes_of (target_info set env) (archiver_of set env look) env (library_of set env output) plain (archived_of set env)
+indexes_of set env look plain output =
+    archive.indexes_of (target_info set env) (archiver_of set env look) env (library_of set env output) plain
+        (archived_of set env)
 
 -- the library's second file, by the name that a linker for Visual Studio looks for
 abbrev pub copy_of : BuildConfig → EnvSeen → List ℕ → List ℕ
@@ -103,7 +111,8 @@ copy_steps set env output = copy_by (is_msvc (target_info set env)) (library_of 
 
 -- the library is linked by its name, and sought in the folder that its path has, where link lines are wanted
 unfoldable pub link_lines : BuildConfig → EnvSeen → Look → List ℕ → List LinkLine
-link_lines set env look output = lines_of set env (library_name output) (unwrap_or (path_parent (library_of set env output)) []) look
+link_lines set env look output =
+    lines_of set env (library_name output) (unwrap_or (path_parent (library_of set env output)) []) look
 
 -- a warning as Cargo reads it
 abbrev pub warning_line : List ℕ → List ℕ
@@ -111,7 +120,9 @@ warning_line text = codes "cargo:warning=" ++ text
 
 -- a warning is printed where that is wanted, and said where the host listens
 abbrev pub warning_steps : Bool → Bool → List ℕ → List Step
-warning_steps prints listens text = when prints (Prints Warning (printed_line (warning_line text)) ∷ []) ++ when listens (Says (GeneralWarning text) ∷ [])
+warning_steps prints listens text =
+    when prints (Prints Warning (printed_line (warning_line text)) ∷ [])
+    ++ when listens (Says (GeneralWarning text) ∷ [])
 
 -- each of these warnings, in order
 unfoldable pub warned_steps : BuildConfig → Bool → List (List ℕ) → List Step

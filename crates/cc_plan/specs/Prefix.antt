@@ -13,7 +13,8 @@ use Rattle.cc_flags.specs.Prefixes.{first_text, known_prefix, tried_compilers}
 -- the candidate of the first compiler that is there, else the first candidate
 unfoldable pub candidate_prefix : BuildConfig → EnvSeen → List (List ℕ) → Plan (Option (List ℕ))
 candidate_prefix set env candidates =
-    bind (first_shown (tried_compilers set.cpp (path_folders env) candidates)) (λ shown. done (option_or shown (first_text candidates)))
+    bind (first_shown (tried_compilers set.cpp (path_folders env) candidates))
+        (λ shown. done (option_or shown (first_text candidates)))
 
 -- the one that is known, else that of a candidate
 unfoldable pub known_or_candidate : BuildConfig → EnvSeen → List ℕ → Option (List ℕ) → Plan (Option (List ℕ))
@@ -22,4 +23,5 @@ known_or_candidate set env name None = candidate_prefix set env (candidates_of n
 
 -- the prefix, where there is one; the environment may name it
 unfoldable pub gnu_prefix : BuildConfig → EnvSeen → List ℕ → Plan (Option (List ℕ))
-gnu_prefix set env name = bind (note (named (codes "CROSS_COMPILE" ∷ []))) (λ noted. known_or_candidate set env name (known_prefix env name))
+gnu_prefix set env name =
+    bind (note (named (codes "CROSS_COMPILE" ∷ []))) (λ noted. known_or_candidate set env name (known_prefix env name))

@@ -24,7 +24,8 @@ PlanAsks set env look q = plans.PlanAsks (tool_plan set env) look q
 
 -- for the assembler that goes with this tool
 unfoldable pub AssemblerAsks : BuildConfig → EnvSeen → ToolSeen → Look → Question → Type 0
-AssemblerAsks set env tool look q = plans.PlanAsks (assembler_by set env (target_info set env) tool.family tool.path) look q
+AssemblerAsks set env tool look q =
+    plans.PlanAsks (assembler_by set env (target_info set env) tool.family tool.path) look q
 
 -- for the tool and the assembler that the sources want
 unfoldable pub ToolsAsks : BuildConfig → EnvSeen → Look → Question → Type 0

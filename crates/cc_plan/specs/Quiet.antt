@@ -1,4 +1,5 @@
--- The warnings of the compiler that decides on the C++ library. A host that listens is told of them, and none of them is printed.
+-- The warnings of the compiler that decides on the C++ library. A host that listens is told of them, and none of them
+-- is printed.
 use Rattle.std.specs.Prelude.{ℕ, List}
 use Rattle.cc_env.specs.Env.{EnvSeen}
 use Rattle.cc_host.specs.Question.{Look}

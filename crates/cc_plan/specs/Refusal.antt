@@ -1,4 +1,5 @@
--- What settings and snapshot are refused for. The answer is that of the first part which doesn't hold, in the order of the definitions.
+-- What settings and snapshot are refused for. The answer is that of the first part which doesn't hold, in the order of
+-- the definitions.
 use Rattle.std.specs.Prelude.{◌≡◌, ◌⊎◌, Result, OnOk, IfErr, ℕ, ◌+◌, List, [], ◌∷◌, ◌++◌, length, map, Bool, ◌&&◌, Option, Some, None, is_none, unwrap_or, true, false, codes, bytes_eq, if◌then◌else◌}
 use Rattle.std.specs.Option.{option_map}
 use Rattle.std.specs.Path.{path_file_name, path_join}
@@ -45,7 +46,8 @@ source_refusal path earlier source =
 -- the first source, in order, with something wrong
 abbrev pub sources_after : (List ℕ → List ℕ) → List (List ℕ) → List (List ℕ) → Option ArgumentCause
 sources_after path earlier [] = None
-sources_after path earlier (source ∷ sources) = first_of (source_refusal path earlier source) (sources_after path (earlier ++ source ∷ []) sources)
+sources_after path earlier (source ∷ sources) =
+    first_of (source_refusal path earlier source) (sources_after path (earlier ++ source ∷ []) sources)
 
 abbrev pub sources_refusal : (List ℕ → List ℕ) → List (List ℕ) → Option PlanError
 sources_refusal path sources = option_map Argument (sources_after path [] sources)
@@ -59,7 +61,8 @@ name_refusal output = if is_output_name output then None else Some (Argument Out
 
 -- what link lines by the path of a library want
 abbrev pub path_refusal : BuildConfig → EnvSeen → List ℕ → Option PlanError
-path_refusal set env path = if is_none (linked_library (target_info set env) path) then Some (Argument Library) else None
+path_refusal set env path =
+    if is_none (linked_library (target_info set env) path) then Some (Argument Library) else None
 
 abbrev pub out_dir_refusal : Option (List ℕ) → Option PlanError
 out_dir_refusal None = Some (NotSet (codes "OUT_DIR"))
@@ -76,7 +79,8 @@ unknown_refusal set env name = if is_none (known_info set env name) then Some (U
 
 -- what is wanted of the target: it is set, and something is known of it
 unfoldable pub target_refusal : BuildConfig → EnvSeen → Option PlanError
-target_refusal set env = first_of (unset (codes "TARGET") (target_of set env)) (unknown_refusal set env (target_name set env))
+target_refusal set env =
+    first_of (unset (codes "TARGET") (target_of set env)) (unknown_refusal set env (target_name set env))
 
 -- what an archive wants: the target and the host, which flags of the environment are looked up by
 unfoldable pub platform_refusal : BuildConfig → EnvSeen → Option PlanError
@@ -86,11 +90,12 @@ platform_refusal set env = first_of (target_refusal set env) (unset (codes "HOST
 unfoldable pub given_refusal : BuildConfig → EnvSeen → Option PlanError
 given_refusal set env = first_of (unset (codes "OPT_LEVEL") (level_of set env)) (target_refusal set env)
 
--- what it wants then, in the order of its words: what those of the target and the level want; the host, which flags of the environment are looked
--- up by; and flags of Rust code without a wrong one
+-- what it wants then, in the order of its words: what those of the target and the level want; the host, which flags of
+-- the environment are looked up by; and flags of Rust code without a wrong one
 unfoldable pub refusal_by : BuildConfig → EnvSeen → Compiler → Option PlanError
 refusal_by set env compiler =
-    first_of (defaults_refusal_by set env compiler) (first_of (unset (codes "HOST") (host_of set env)) (inherited_refusal set.inherit_rustflags env.inherited))
+    first_of (defaults_refusal_by set env compiler)
+        (first_of (unset (codes "HOST") (host_of set env)) (inherited_refusal set.inherit_rustflags env.inherited))
 
 -- what the compiler wants
 abbrev pub tool_refusal : BuildConfig → EnvSeen → Look → Option PlanError
@@ -106,12 +111,14 @@ library_in set env output = path_join (unwrap_or (out_dir_of set env) []) (libra
 
 -- before the folder of the objects is made: the out dir, and then the sources
 unfoldable pub intermediate_refusal : BuildConfig → EnvSeen → Option PlanError
-intermediate_refusal set env = first_of (out_dir_refusal (out_dir_of set env)) (sources_refusal (object_in set env) set.files)
+intermediate_refusal set env =
+    first_of (out_dir_refusal (out_dir_of set env)) (sources_refusal (object_in set env) set.files)
 
 -- for a library its name comes before them, and its added objects behind
 unfoldable pub early_refusal : BuildConfig → EnvSeen → List ℕ → Option PlanError
 early_refusal set env output =
-    first_of (name_refusal output) (first_of (intermediate_refusal set env) (added_refusal (library_in set env output) set.objects))
+    first_of (name_refusal output)
+        (first_of (intermediate_refusal set env) (added_refusal (library_in set env output) set.objects))
 
 abbrev pub is_empty : List (List ℕ) → Bool
 is_empty [] = true
@@ -125,9 +132,11 @@ late_refusal set env look = if is_empty set.files then platform_refusal set env 
 unfoldable pub qnx_arch_refusal : Info → Option PlanError
 qnx_arch_refusal target = if lacks_qnx_arch target then Some (QnxArch target.full_arch) else None
 
--- what the choice of a tool of archives wants, where the settings name none: a known target and, where the environment names none either, its name
+-- what the choice of a tool of archives wants, where the settings name none: a known target and, where the environment
+-- names none either, its name
 abbrev pub found_refusal : ArchiveTool → BuildConfig → EnvSeen → Look → Option PlanError
-found_refusal tool set env look = if is_none (variable_tool tool set env look) then qnx_arch_refusal (target_info set env) else None
+found_refusal tool set env look =
+    if is_none (variable_tool tool set env look) then qnx_arch_refusal (target_info set env) else None
 
 abbrev pub known_refusal : ArchiveTool → BuildConfig → EnvSeen → Look → Option PlanError
 known_refusal tool set env look = first_of (target_refusal set env) (found_refusal tool set env look)
@@ -157,7 +166,9 @@ musl_variable = codes "WASM_MUSL_SYSROOT"
 
 -- a library of C++ for WebAssembly's threads is linked with what the sysroot has
 unfoldable pub cpp_refusal : BuildConfig → EnvSeen → Option PlanError
-cpp_refusal set env = if links_cpp set && is_wasm_linux (target_info set env) then unset musl_variable (last_value env.inherited musl_variable) else None
+cpp_refusal set env =
+    if links_cpp set && is_wasm_linux (target_info set env)
+    then unset musl_variable (last_value env.inherited musl_variable) else None
 
 -- what the link lines want, after the library was written
 unfoldable pub link_refusal : BuildConfig → EnvSeen → Look → Option PlanError

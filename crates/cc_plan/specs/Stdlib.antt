@@ -38,7 +38,8 @@ chosen library warnings = record { library = library; warnings = warnings }
 -- that of the compiler of a plan, unless the plan is refused
 unfoldable pub library_of : BuildConfig → Result QuietTool PlanError → Plan ChosenLibrary
 library_of set (Ok quiet) =
-    bind (tool_uses_libcxx quiet.tool) (λ uses. done (chosen (Some (library_by uses)) (marked_by set quiet.unmarked false)))
+    bind (tool_uses_libcxx quiet.tool)
+        (λ uses. done (chosen (Some (library_by uses)) (marked_by set quiet.unmarked false)))
 library_of set (Err error) = done (chosen (Some (library_by false)) [])
 
 -- the compiler's plan is quiet: nothing that it notes is told
@@ -49,7 +50,8 @@ sought_library set env = bind (unnoted (tool_plan set env)) (library_of set)
 
 unfoldable pub given_or_sought : BuildConfig → EnvSeen → Option (Option (List ℕ)) → Plan ChosenLibrary
 given_or_sought set env (Some library) = done (chosen library [])
-given_or_sought set env None = if may_ask set env then sought_library set env else done (chosen (Some (library_by false)) [])
+given_or_sought set env None =
+    if may_ask set env then sought_library set env else done (chosen (Some (library_by false)) [])
 
 -- where there are lines for one
 unfoldable pub library_plan : BuildConfig → EnvSeen → Plan ChosenLibrary

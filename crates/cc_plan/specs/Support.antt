@@ -25,7 +25,8 @@ use Rattle.cc_plan.specs.declared.error.PlanError.{PlanError}
 use Rattle.cc_flags.specs.declared.build_flags.BuildFlag.TheVariants.{Always}
 use Rattle.cc_flags.specs.declared.settings.BuildConfig.{BuildConfig}
 
--- the settings of a question on a flag: the compiler and the flag, level 0, no debug information, and nothing that Cargo hands down
+-- the settings of a question on a flag: the compiler and the flag, level 0, no debug information, and nothing that
+-- Cargo hands down
 abbrev pub flag_settings : BuildConfig → List ℕ → List ℕ → BuildConfig
 flag_settings set path flag = record unset_settings {
   flags = Always flag ∷ [];
@@ -47,10 +48,11 @@ flag_compiler path family = record { choice = bare path; family = family; detect
 unfoldable pub quiet_words : List (List ℕ) → List (List ℕ)
 quiet_words words = filter (λ w. not (bytes_eq w (codes "-v"))) words
 
--- The words that a compiler is asked with. Clang is asked without `-v`, at which it would write on standard error, and doesn't complain of a word
--- that it has no use for.
+-- The words that a compiler is asked with. Clang is asked without `-v`, at which it would write on standard error, and
+-- doesn't complain of a word that it has no use for.
 abbrev pub asking_words : ToolFamily → List (List ℕ) → List (List ℕ)
-asking_words family words = if is_clang family then quiet_words words ++ word "-Wno-unused-command-line-argument" else words
+asking_words family words =
+    if is_clang family then quiet_words words ++ word "-Wno-unused-command-line-argument" else words
 
 -- the words of a question on a flag, by its settings
 unfoldable pub question_words : CompilationSeen → List (List ℕ)
@@ -124,7 +126,8 @@ bare_of c look = with_bare c ((bare_compiler c.env c.compiler.choice.path).value
 
 -- those of some words that the compiler at the path of this one takes
 unfoldable pub supported_among : CompilationSeen → List (List ℕ) → Plan (List (List ℕ))
-supported_among c words = bind (bare_compiler c.env c.compiler.choice.path) (λ bare. taken_among (with_bare c bare) words)
+supported_among c words =
+    bind (bare_compiler c.env c.compiler.choice.path) (λ bare. taken_among (with_bare c bare) words)
 
 -- no compiler is asked about no word
 unfoldable pub supported_if : CompilationSeen → List (List ℕ) → Plan (List (List ℕ))

@@ -22,7 +22,8 @@ defaults_refusal_by set env compiler = defaults_refusal (compilation_of set env 
 
 -- warnings with that one, where the call is the first or not
 abbrev pub marked_by : BuildConfig → Unmarked → Bool → List (List ℕ)
-marked_by set unmarked is_first = unmarked.warnings ++ link_warning (unmarked.leaves_off && (set.repeat_lines || is_first))
+marked_by set unmarked is_first =
+    unmarked.warnings ++ link_warning (unmarked.leaves_off && (set.repeat_lines || is_first))
 
 -- how the family of the compiler was found
 abbrev pub detected_warnings : Compiler → List (List ℕ)
@@ -43,11 +44,13 @@ warnings_by c supported is_first = other_warnings c supported ++ link_warnings c
 -- what a user may be warned of
 abbrev pub unmarked_by : CompilationSeen → List (List ℕ) → Unmarked
 unmarked_by c supported =
-    record { warnings = other_warnings c supported; leaves_off = leaves_off c.compiler.family c.set.flags (environment_flags c.set c.env) }
+    record { warnings = other_warnings c supported;
+        leaves_off = leaves_off c.compiler.family c.set.flags (environment_flags c.set c.env) }
 
 -- the compiler with its wrapper
 abbrev pub wrapped_tool : EnvSeen → Compiler → ToolSeen
-wrapped_tool env compiler = record (new_tool compiler.choice.path compiler.family env.inherited) { wrapper = compiler.choice.wrapper }
+wrapped_tool env compiler =
+    record (new_tool compiler.choice.path compiler.family env.inherited) { wrapper = compiler.choice.wrapper }
 
 -- the tool of a compilation, where these words are supported
 abbrev pub tool_by : CompilationSeen → List (List ℕ) → ToolSeen

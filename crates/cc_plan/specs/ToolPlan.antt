@@ -20,7 +20,8 @@ use Rattle.cc_plan.specs.declared.tool.QuietTool.{QuietTool}
 
 -- the compiler, with the variables that its words are planned by and that it reads by itself
 unfoldable pub noted_words : BuildConfig → EnvSeen → Compiler → Plan Compiler
-noted_words set env compiler = bind (note (named (words_names set env (target_info set env) compiler))) (λ noted. done compiler)
+noted_words set env compiler =
+    bind (note (named (words_names set env (target_info set env) compiler))) (λ noted. done compiler)
 
 unfoldable pub noted_compiler : BuildConfig → EnvSeen → Plan Compiler
 noted_compiler set env = bind (compiler set env) (noted_words set env)
@@ -30,7 +31,8 @@ unfoldable pub quiet_tool : CompilationSeen → Plan (Result QuietTool PlanError
 quiet_tool c = bind (supported_words c) (λ supported. allowed (quiet_by c supported))
 
 unfoldable pub tool_with : BuildConfig → EnvSeen → Compiler → Plan (Result QuietTool PlanError)
-tool_with set env compiler = unless (compiler_refusal (compilation_of set env compiler)) (quiet_tool (compilation_of set env compiler))
+tool_with set env compiler =
+    unless (compiler_refusal (compilation_of set env compiler)) (quiet_tool (compilation_of set env compiler))
 
 -- the plan of the compiler that a tool is made of
 unfoldable pub compiler_plan : BuildConfig → EnvSeen → Plan (Result Compiler PlanError)
@@ -43,7 +45,8 @@ tool_plan set env = bind_ok (compiler_plan set env) (tool_with set env)
 -- the same with the assembler that the sources want, if any
 unfoldable pub with_assembler : BuildConfig → EnvSeen → QuietTool → Plan (Result Tools PlanError)
 with_assembler set env quiet =
-    bind (wanted_assembler set env (target_info set env) quiet.tool.family quiet.tool.path) (λ assembler. allowed (record { quiet = quiet; assembler = assembler }))
+    bind (wanted_assembler set env (target_info set env) quiet.tool.family quiet.tool.path)
+        (λ assembler. allowed (record { quiet = quiet; assembler = assembler }))
 
 unfoldable pub tools_plan : BuildConfig → EnvSeen → Plan (Result Tools PlanError)
 tools_plan set env = bind_ok (tool_plan set env) (with_assembler set env)

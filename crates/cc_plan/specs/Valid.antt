@@ -56,7 +56,8 @@ HasSysroot c = names_target c ≡ true → is_wasm_linux c.target ≡ true → I
 -- where neither the settings nor the environment name an archiver, that of QNX has a name for the architecture
 abbrev pub HasArchiver : BuildConfig → EnvSeen → Look → Type 0
 HasArchiver set env look =
-    set.archiver ≡ None → variable_tool Archiver set env look ≡ None → is_qnx (target_info set env) ≡ true → IsSome (qnx_arch (target_info set env))
+    set.archiver ≡ None → variable_tool Archiver set env look ≡ None → is_qnx (target_info set env) ≡ true
+        → IsSome (qnx_arch (target_info set env))
 
 -- each of these flags of Rust code has the value that it needs
 abbrev pub Parse : Option (List ℕ) → Type 0
@@ -69,7 +70,8 @@ pub record Valid (set : BuildConfig) (env : EnvSeen) (look : Look) (output : Lis
   pub named : AllByRecursion (λ source. IsSome (path_file_name source)) set.files
   pub apart : AreApart (map (object_in set env) set.files)
   -- no added object is the library
-  pub others : AllByRecursion (λ object. path_components object ≢ path_components (library_in set env output)) set.objects
+  pub others : AllByRecursion
+      (λ object. path_components object ≢ path_components (library_in set env output)) set.objects
   -- commands may run
   pub enabled : is_disabled env ≡ false
   pub target : IsKnown set env
@@ -80,8 +82,10 @@ pub record Valid (set : BuildConfig) (env : EnvSeen) (look : Look) (output : Lis
   pub sysroot : is_empty set.files ≡ false → has_no_defaults set env ≡ false → HasSysroot (planned set env look)
   pub archiver : HasArchiver set env look
   -- no object path has a line feed where libtool reads them from a list
-  pub listed : is_libtool (archiver_of set env look) ≡ true → AllByRecursion (λ path. has_line_feed path ≡ false) (archived_of set env)
+  pub listed : is_libtool (archiver_of set env look) ≡ true
+      → AllByRecursion (λ path. has_line_feed path ≡ false) (archived_of set env)
   -- and so is the sysroot with which a library of C++ is linked
-  pub linked : links_cpp set ≡ true → is_wasm_linux (target_info set env) ≡ true → IsSome (last_value env.inherited musl_variable)
+  pub linked : links_cpp set ≡ true → is_wasm_linux (target_info set env) ≡ true
+      → IsSome (last_value env.inherited musl_variable)
   -- the flags of Rust code parse, where they are read
   pub rustflags : is_empty set.files ≡ false → Parse (inherited_text set.inherit_rustflags env.inherited)

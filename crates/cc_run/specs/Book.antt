@@ -61,8 +61,8 @@ abbrev pub faults_by : {T : Type 0} → Result T RunError → List HostCall
 faults_by (Ok _) = []
 faults_by (Err e) = faults_in e
 
--- Both counts of a seat rose by the starts and by what these carry. Only where the start of the next command was refused, one
--- token more may stand in them: that of the start.
+-- Both counts of a seat rose by the starts and by what these carry. Only where the start of the next command was
+-- refused, one token more may stand in them: that of the start.
 abbrev pub IsPaid : {T : Type 0} → Plan → Run → Result T RunError → List Event → SeatSeen → SeatSeen → Type 0
 IsPaid plan r (Ok _) part old new = PaidAnd 0 0 part old.taken old.load new.taken new.load
 IsPaid plan r (Err e) part old new = PaidAnd 0 0 part old.taken old.load new.taken new.load

@@ -21,7 +21,8 @@ run_of kept = record { live = map seat kept.children; marks = kept.marks }
 abbrev pub nothing_kept : Kept
 nothing_kept = record { children = []; marks = [] }
 
--- Beside the marks it is kept how many commands were started and whether one failed. There is room for the marks of all ends.
+-- Beside the marks it is kept how many commands were started and whether one failed. There is room for the marks of all
+-- ends.
 pub record IsBooked (children : List Child) (marks : List Mark) (room begun : ℕ) (failed : Bool) : Type 0 where
   pub roomy : length marks + length children ≤ room
   pub begun_is : begun ≡ begins marks

@@ -73,6 +73,7 @@ abbrev pub wrote : News → List Event
 wrote news = heard news.id news.piece ++ unread news.id news.unread
 
 -- on Ok the lines of these events were added, which are the same whether or not a failure is warned of
-abbrev pub AddsWritten : {T E : Type 0} → Shows → List Planned → List Child → List Event → Result T E → List Notice → List Notice → Type 0
+abbrev pub AddsWritten : {T E : Type 0} → Shows → List Planned → List Child → List Event → Result T E → List Notice
+    → List Notice → Type 0
 AddsWritten shows cmds cs events result old new =
     (warns : Bool) → OnOk result (new ≡ old ++ owed_from shows warns cmds cs events)

@@ -12,8 +12,10 @@ pub record IsIdle {J S : Type 0} (fits : J → S → Type 0) (held : S → ℕ) 
   pub fitting : fits jobs seat
   pub empty : held seat ≡ 0
 
--- the seat is one of this pool, and holds a token for each child of the run, whose commands were started from the first on
-pub record IsOneRun {J S : Type 0} (fits : J → S → Type 0) (held : S → ℕ) (jobs : J) (seat : S) (kept : Kept) : Type 0 where
+-- the seat is one of this pool, and holds a token for each child of the run, whose commands were started from the first
+-- on
+pub record IsOneRun {J S : Type 0} (fits : J → S → Type 0) (held : S → ℕ) (jobs : J) (seat : S)
+    (kept : Kept) : Type 0 where
   pub fitting : fits jobs seat
   pub tokens : held seat ≡ length kept.children
   pub listed : BeganBelow (begins kept.marks) kept.marks

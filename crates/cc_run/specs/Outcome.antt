@@ -46,8 +46,8 @@ IsCause cmds _ part = part ≡ []
 abbrev pub IsSettled : Plan → Run → Type 0
 IsSettled plan r = (r.live ≡ []) × (next_place plan r.marks ≡ None)
 
--- What a refusal says of the run: the command that could not be started is the next; turns are spent where none was left
--- though a command has no end, or may be started; a failed command ends no run.
+-- What a refusal says of the run: the command that could not be started is the next; turns are spent where none was
+-- left though a command has no end, or may be started; a failed command ends no run.
 abbrev pub Reason : Plan → Run → ℕ → RunError → Type 0
 Reason plan r left (ToolNotFound place) = next_place plan r.marks ≡ Some place
 Reason plan r left (StartFault place) = next_place plan r.marks ≡ Some place

@@ -28,8 +28,8 @@ use Rattle.cc_run.specs.declared.whole.Outputs.{Outputs}
 abbrev pub map_warnings : Option (List ℕ) → List ℕ → List Notice
 map_warnings ignored stderr = map (cargo_line Warning) (warnings ignored stderr)
 
--- what comes behind a command: the warnings of its standard error, as lines and as messages, how it ended, and where that
--- is told too the message of its failure
+-- what comes behind a command: the warnings of its standard error, as lines and as messages, how it ended, and where
+-- that is told too the message of its failure
 unfoldable pub behind : Shows → CommandSeen → Bool → Option (List ℕ) → Status → List ℕ → List Notice
 behind shows cmd always ignored status stderr =
     when (shows.warnings && (always || is_success status)) (map_warnings ignored stderr)

@@ -51,8 +51,8 @@ turns_of _ = 0
 abbrev pub turns : List Event → ℕ
 turns = sum_by turns_of
 
--- What is started is the plan's next command, as it was asked for. The count that it carries is one more than the children
--- that run, and no more than the pool has tokens; without a token it is 0.
+-- What is started is the plan's next command, as it was asked for. The count that it carries is one more than the
+-- children that run, and no more than the pool has tokens; without a token it is 0.
 pub record StartsNext (rules : Rules) (total : Option ℕ) (r : Run) (asking : Asked) (held : ℕ) : Type 0 where
   pub place : ℕ
   pub next : next_place rules.plan r.marks ≡ Some place
@@ -66,8 +66,8 @@ pub record StartsNext (rules : Rules) (total : Option ℕ) (r : Run) (asking : A
 abbrev pub Busy : Plan → Option ℕ → Run → Type 0
 Busy plan total r = IfSome total (λ t. (0 < length r.live) × ((length r.live ≡ t) ⊎ (next_place plan r.marks ≡ None)))
 
--- While a run goes on, the next command is started, children write and end, turns are made where the run is busy, and lines and
--- messages are printed and said. Nothing else is done.
+-- While a run goes on, the next command is started, children write and end, turns are made where the run is busy, and
+-- lines and messages are printed and said. Nothing else is done.
 abbrev pub Good : Rules → Option ℕ → Run → Event → Type 0
 Good rules total r (Started id role cmd pipes held) =
     StartsNext rules total r (record { role = role; cmd = cmd; pipes = pipes }) held

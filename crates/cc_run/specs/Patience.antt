@@ -24,8 +24,8 @@ left_of most child = most - child.polls
 abbrev pub patience_left : ℕ → List Live → ℕ
 patience_left most = sum_by (left_of most)
 
--- Since its start a run made no more turns than the patience with each command that was started, less what is left of it
--- with those that run; and each of these was polled fewer times than the patience.
+-- Since its start a run made no more turns than the patience with each command that was started, less what is left of
+-- it with those that run; and each of these was polled fewer times than the patience.
 pub record IsPatient (most : ℕ) (r : Run) (whole : List Event) : Type 0 where
   pub same : map (λ c. c.id) (live_from [] whole) ≡ ids r.live
   pub waits : All (λ c. c.polls < most) (live_from [] whole)

@@ -89,8 +89,8 @@ PrintsAll rules kept (Err NoMemory) part = (count : ℕ)
     × (printed part ≡ take count (due_next rules kept part))
 PrintsAll rules kept (Err _) part = printed part ≡ due_from rules kept part
 
--- At each start of the part, all that the events before it give was printed and said, and what comes before its command:
--- so between two starts stands the message that the second one's command compiles, once.
+-- At each start of the part, all that the events before it give was printed and said, and what comes before its
+-- command: so between two starts stands the message that the second one's command compiles, once.
 unfoldable pub PrintsInTime : Rules → Kept → List Event → Type 0
 PrintsInTime rules kept part =
     (front back : List Event) (id : ℕ) (role : Role) (cmd : CommandSeen) (pipes : Pipes) (held : ℕ)

@@ -4,7 +4,8 @@ use Rattle.cc_run.specs.Plan.{Plan}
 use Rattle.cc_run.specs.declared.planned.Shows.{Shows}
 use Rattle.cc_run.specs.declared.planned.Batch.{Batch}
 
--- its plan; what of it is shown; whether a failure is warned of; and whether each start carries how many tokens are held, or 0
+-- its plan; what of it is shown; whether a failure is warned of; and whether each start carries how many tokens are
+-- held, or 0
 pub record Rules : Type 0 where
   pub plan : Plan
   pub shows : Shows

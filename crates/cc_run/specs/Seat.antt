@@ -59,8 +59,8 @@ abbrev pub FaultsBy : RunError → ℕ → ℕ → Type 0
 FaultsBy JobFault old new = Rose old new
 FaultsBy _ old new = Unit {0}
 
--- What a refusal does to a seat: it keeps its tokens. Where the start of the next command was refused, the token of that start
--- stands in both counts.
+-- What a refusal does to a seat: it keeps its tokens. Where the start of the next command was refused, the token of
+-- that start stands in both counts.
 pub record Spent (plan : Plan) (marks : List Mark) (e : RunError) (old new : SeatSeen) : Type 0 where
   pub same_held : new.held ≡ old.held
   pub same_total : new.total ≡ old.total

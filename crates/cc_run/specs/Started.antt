@@ -35,7 +35,8 @@ IsStart shows p place held old (Err _) new part = ⊥
 
 -- the next command was started, or none: no token came, and where one caller owns the pool all are held
 abbrev pub StartsOne : Plan → Option ℕ → Kept → Kept → Step → Type 0
-StartsOne plan total old new Ready = (id p : ℕ) × ((next_place plan old.marks ≡ Some p) × (new ≡ with_child id (Some p) old))
+StartsOne plan total old new Ready =
+    (id p : ℕ) × ((next_place plan old.marks ≡ Some p) × (new ≡ with_child id (Some p) old))
 StartsOne plan total old new Pending = (new ≡ old) × IfSome total (λ t. (1 ≤ t) × (length old.children ≡ t))
 
 -- Why no command more was started: none may be, or no token came for the next. Where one caller owns the pool, all its

@@ -22,7 +22,8 @@ pub record State : Type 0 where
   pub seat : SeatSeen
   pub turns : TurnsSeen
 
-abbrev pub state : {X S : Type 0} → (X → List Event) → (X → Option ℕ) → (S → SeatSeen) → X → Kept → S → TurnsSeen → State
+abbrev pub state : {X S : Type 0} → (X → List Event) → (X → Option ℕ) → (S → SeatSeen) → X → Kept → S → TurnsSeen
+    → State
 state log patience seen host kept seat turns =
     record { log = log host; patience = patience host; kept = kept; seat = seen seat; turns = turns }
 
@@ -66,4 +67,5 @@ Steps rules total old (Err e) new = Stops rules total old e new
 abbrev pub Moves : {X S T : Type 0} → (X → List Event) → (X → Option ℕ) → (S → SeatSeen) → Rules → Option ℕ
     → X → Kept → S → TurnsSeen → Result T RunError → X → Kept → S → TurnsSeen → Type 0
 Moves log patience seen rules total host kept seat turns result host' kept' seat' turns' =
-    Steps rules total (state log patience seen host kept seat turns) result (state log patience seen host' kept' seat' turns')
+    Steps rules total (state log patience seen host kept seat turns) result
+        (state log patience seen host' kept' seat' turns')

@@ -57,7 +57,8 @@ abbrev pub stderr_printed : ℕ → List Event → List Notice
 stderr_printed id part = filter (is_stderr id) (printed part)
 
 -- The lines that the standard error of that child gives: all of its bytes at once, split at line feeds. Where it was
--- abandoned before it ended and before its standard error failed to be read, the rest behind the last line feed is none.
+-- abandoned before it ended and before its standard error failed to be read, the rest behind the last line feed is
+-- none.
 abbrev pub stderr_given : Shows → ℕ → List Event → List Notice
 stderr_given shows id part =
     when shows.warnings (map (stderr_line id) (lines_by (list_any (is_over id) part) (heard id part)))

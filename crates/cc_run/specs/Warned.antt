@@ -39,7 +39,8 @@ unread_warned shows (Some place) = when shows.warnings (cargo_line Warning unrea
 
 -- a command failed, where that is warned of
 abbrev pub failed_of : Shows → Bool → Status → Planned → List Notice
-failed_of shows warns status p = when (warns && shows.warnings && not (is_success status)) (failed_line status p.cmd ∷ [])
+failed_of shows warns status p =
+    when (warns && shows.warnings && not (is_success status)) (failed_line status p.cmd ∷ [])
 
 -- the command at that place failed
 abbrev pub failed_warned : Shows → Bool → List Planned → Status → Option ℕ → List Notice

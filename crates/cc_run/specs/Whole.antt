@@ -21,9 +21,10 @@ abbrev pub SeatBy : Rules → State → Result (List Mark) RunError → SeatSeen
 SeatBy rules done (Ok _) seat = Returned done.seat seat
 SeatBy rules done (Err e) seat = Spent rules.plan done.kept.marks e done.seat seat
 
--- The run went on by good events to its end. From there on the log has the one event that tells why it ended, where there is one,
--- and the children that were abandoned. Then the seat holds nothing.
-pub record RanAll (rules : Rules) (total : Option ℕ) (old : State) (result : Result (List Mark) RunError) (log : List Event) (patience : Option ℕ)
+-- The run went on by good events to its end. From there on the log has the one event that tells why it ended, where
+-- there is one, and the children that were abandoned. Then the seat holds nothing.
+pub record RanAll (rules : Rules) (total : Option ℕ) (old : State) (result : Result (List Mark) RunError)
+    (log : List Event) (patience : Option ℕ)
     (seat : SeatSeen) (turns : TurnsSeen) : Type 0 where
   pub done : State
   pub works : Works rules total old done
@@ -42,10 +43,12 @@ pub record RanAll (rules : Rules) (total : Option ℕ) (old : State) (result : R
 abbrev pub HasRun : {X S : Type 0} → (X → List Event) → (X → Option ℕ) → (S → SeatSeen) → Rules → Option ℕ
     → X → S → TurnsSeen → Result (List Mark) RunError → X → S → TurnsSeen → Type 0
 HasRun log patience seen rules total host seat turns result host' seat' turns' =
-    RanAll rules total (state log patience seen host nothing_kept seat turns) result (log host') (patience host') (seen seat') turns'
+    RanAll rules total (state log patience seen host nothing_kept seat turns) result (log host') (patience host')
+        (seen seat') turns'
 
 -- A list was run as a queue, and its answer is by that run's.
-pub record RanList (rules : Rules) (total : Option ℕ) (old : State) (result : Result (Unit {0}) RunError) (log : List Event) (patience : Option ℕ)
+pub record RanList (rules : Rules) (total : Option ℕ) (old : State) (result : Result (Unit {0}) RunError)
+    (log : List Event) (patience : Option ℕ)
     (seat : SeatSeen) (turns : TurnsSeen) : Type 0 where
   pub general : Result (List Mark) RunError
   pub answer : result ≡ list_result general
@@ -54,7 +57,8 @@ pub record RanList (rules : Rules) (total : Option ℕ) (old : State) (result : 
 abbrev pub HasRunList : {X S : Type 0} → (X → List Event) → (X → Option ℕ) → (S → SeatSeen) → Rules → Option ℕ
     → X → S → TurnsSeen → Result (Unit {0}) RunError → X → S → TurnsSeen → Type 0
 HasRunList log patience seen rules total host seat turns result host' seat' turns' =
-    RanList rules total (state log patience seen host nothing_kept seat turns) result (log host') (patience host') (seen seat') turns'
+    RanList rules total (state log patience seen host nothing_kept seat turns) result (log host') (patience host')
+        (seen seat') turns'
 
 -- one command was run without a token, as a list of one over a pool of one, which never fails
 abbrev pub HasRunAlone : {X : Type 0} → (X → List Event) → (X → Option ℕ) → Rules → X → TurnsSeen
