@@ -2,9 +2,9 @@
 //! collected, written and read.
 //!
 //! Stands on `cc_text`, `cc_host` and `serde_json`. The text's layout and what an entry has are those of LLVM's page
-//! "JSON Compilation Database Format Specification". The crates above use four things: a host with a logger listens, and
-//! does all else as the host inside; the text that is written is `database` of the commands; two lists of commands have
-//! two texts; and what is read of a text is `read_database` of it.
+//! "JSON Compilation Database Format Specification". The crates above use four things: a host with a logger listens,
+//! and does all else as the host inside; the text that is written is `database` of the commands; two lists of commands
+//! have two texts; and what is read of a text is `read_database` of it.
 #![tactic(auto)]
 
 mod collected;

@@ -10,8 +10,8 @@ use cc_host::{
 use cc_text::{Mem, Text, Vars};
 use std::marker::{Model, PhantomData};
 
-/// A host that listens: its logger hears each message that is said to it, and then the host inside is said it too. All other calls are
-/// those of the host inside. Contracts see that host.
+/// A host that listens: its logger hears each message that is said to it, and then the host inside is said it too. All
+/// other calls are those of the host inside. Contracts see that host.
 #[derive(Drop)]
 pub struct Logged<W: World, H: Host<W>, L: BuildMessageLogger> {
     host: H,

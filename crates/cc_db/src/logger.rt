@@ -4,8 +4,8 @@ use cc_text::Mem;
 
 /// What hears messages, one at a time, in the order in which they are said.
 pub trait BuildMessageLogger: Drop {
-    /// Hears a message: its kind, its text, and what is told with it. A logger that several threads share has to see to that itself.
-    /// Only want of memory refuses.
+    /// Hears a message: its kind, its text, and what is told with it. A logger that several threads share has to see to
+    /// that itself. Only want of memory refuses.
     fn log(&self, kind: BuildMessageKind, msg: BuildMessage<'_>, extra: &Extra) -> Mem<()>;
 }
 

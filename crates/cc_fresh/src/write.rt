@@ -58,8 +58,8 @@ fn record_value(alloc: Global, entries: &[Entry]) -> Result<Value, AllocError>
     json!(in alloc; {"objects": objects, "version": 1u64})
 }
 
-/// The text of a record: JSON without blanks, in which the keys of each object ascend, and which `read_record` reads back.
-/// Only want of memory refuses.
+/// The text of a record: JSON without blanks, in which the keys of each object ascend, and which `read_record` reads
+/// back. Only want of memory refuses.
 pub fn write_record(alloc: Global, kept: &Record) -> Mem<Bytes>
     ensures text { IfOk result (λ text. text ≡ record_text kept.now) }
     ensures reads_back { IfOk result (λ text. read_record text ≡ kept.now) }

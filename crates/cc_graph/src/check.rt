@@ -31,8 +31,8 @@ fn check_places(nodes: &[Node]) -> Result<(), GraphError>
 
 /// An order of the places of all nodes in which each stands behind what it needs.
 ///
-/// Refused are a need that is no place (OutOfRange), the first one with its node; else, where there is no order, for a cycle (Cycle); and want
-/// of memory. It takes as many steps as there are nodes and needs, and no stack for them.
+/// Refused are a need that is no place (OutOfRange), the first one with its node; else, where there is no order, for a
+/// cycle (Cycle); and want of memory. It takes as many steps as there are nodes and needs, and no stack for them.
 pub fn check_graph(alloc: Global, nodes: &[Node]) -> Result<Needs, GraphError>
     ensures order { IfOk result (IsOrder (graph_of nodes.now)) }
     ensures closed { OnOk result (off (graph_of nodes.now) ≡ None) }

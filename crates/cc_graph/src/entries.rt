@@ -47,8 +47,8 @@ fn entries(
     Ok(nodes)
 }
 
-/// The nodes of a text, where it says some. Only the tree of one entry lives at a time. An error doesn't say why there are none, but for want of
-/// memory.
+/// The nodes of a text, where it says some. Only the tree of one entry lives at a time. An error doesn't say why there
+/// are none, but for want of memory.
 pub(crate) fn nodes_by_entry(
     alloc: Global,
     text: &str,

@@ -9,8 +9,8 @@ use std::alloc::Global;
 use std::cmp::Reverse;
 use std::collections::BinaryHeap;
 
-/// Places that are counted down: for each how many of its needs are open, and a heap of those that have none and weren't
-/// taken, the least first.
+/// Places that are counted down: for each how many of its needs are open, and a heap of those that have none and
+/// weren't taken, the least first.
 #[derive(Drop)]
 pub(crate) struct Frontier {
     pub counts: Vec<usize>,

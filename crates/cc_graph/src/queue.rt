@@ -17,8 +17,8 @@ use cc_run::{Planned, Queue};
 use cc_text::Mem;
 use std::alloc::Global;
 
-/// Commands with prerequisites. One is started only after all that it needs ended with the status 0. Each place has those
-/// that wait for it, so each need is looked at once.
+/// Commands with prerequisites. One is started only after all that it needs ended with the status 0. Each place has
+/// those that wait for it, so each need is looked at once.
 #[derive(Drop)]
 pub(crate) struct Graph<'a> {
     nodes: &'a [Node],

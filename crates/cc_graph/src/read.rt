@@ -289,12 +289,12 @@ fn nodes_at_once(alloc: Global, text: &str, vars: &Vars) -> Result<Vec<Node>, Gr
     Ok(nodes)
 }
 
-/// The commands of a text, in order, each with the environment of the snapshot and the role of a compilation. The text is a
-/// JSON array of objects with an array of at least one text under `command`: the program and its words; and with an array of
-/// whole numbers below 2^32 under `needs`, the places of the commands that it needs, or without that key. Other keys are
-/// ignored. Refused are a text that `serde_json` refuses, a value that is no array, and the first entry without the shape or
-/// at place 4294967295; else only want of memory refuses. Nothing is kept then. Whether needs are places is left to
-/// `check_graph`.
+/// The commands of a text, in order, each with the environment of the snapshot and the role of a compilation. The text
+/// is a JSON array of objects with an array of at least one text under `command`: the program and its words; and with
+/// an array of whole numbers below 2^32 under `needs`, the places of the commands that it needs, or without that key.
+/// Other keys are ignored. Refused are a text that `serde_json` refuses, a value that is no array, and the first entry
+/// without the shape or at place 4294967295; else only want of memory refuses. Nothing is kept then. Whether needs are
+/// places is left to `check_graph`.
 #[tactic(auto, unfolding(crate::specs::Read::read_graph))]
 pub fn read_graph(alloc: Global, text: &str, env: &EnvSnapshot) -> Result<Vec<Node>, GraphFileError>
     ensures ok { IfOk result (λ nodes. read_graph env.now text.now ≡ Ok nodes.items) }

@@ -78,13 +78,13 @@ fn run_nodes<W: World, H: Host<W>, J: Jobs>(
     }
 }
 
-/// Runs commands with prerequisites to their ends, each under a token, and as many side by side as there are tokens. One is
-/// ready where all that it needs ended with the status 0; the next is the least that is ready. A node of which a need was
-/// skipped or ended with another status is skipped. It answers what became of each.
+/// Runs commands with prerequisites to their ends, each under a token, and as many side by side as there are tokens.
+/// One is ready where all that it needs ended with the status 0; the next is the least that is ready. A node of which a
+/// need was skipped or ended with another status is skipped. It answers what became of each.
 ///
 /// Refused before any command are needs that are no places (OutOfRange) and nodes without an order (Cycle), as by
-/// `check_graph`. Else it is refused as `run_queue` is: what ends a run at once is `Run` of it, with places of nodes, and
-/// never a failed command; want of memory is `NoMemory` alone. After each answer the seat holds nothing.
+/// `check_graph`. Else it is refused as `run_queue` is: what ends a run at once is `Run` of it, with places of nodes,
+/// and never a failed command; want of memory is `NoMemory` alone. After each answer the seat holds nothing.
 ///
 /// What is printed and said is as for `run_all`; `stop` of `shows` isn't used.
 pub fn run_graph<W: World, H: Host<W>, J: Jobs>(

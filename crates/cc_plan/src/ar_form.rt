@@ -106,7 +106,8 @@ fn push_refused(
     }
 }
 
-/// The commands that write objects of these paths into the library: one a batch, and behind a refused first one all in the plain form.
+/// The commands that write objects of these paths into the library: one a batch, and behind a refused first one all in
+/// the plain form.
 pub(crate) fn batch_commands(
     alloc: Global,
     archiver: &Archiver,

@@ -167,12 +167,13 @@ fn tool_with_flags<W: World, H: Host<W>>(
     found.value
 }
 
-/// The archiver of these settings in this environment: the set one, else that of `AR`, which is looked up as `CC` is, with its words, else the
-/// one that the target wants. Behind the words are the flags of `ARFLAGS`, which is looked up as `CFLAGS` is, and the set ones. It asks,
-/// and prints nothing.
+/// The archiver of these settings in this environment: the set one, else that of `AR`, which is looked up as `CC` is,
+/// with its words, else the one that the target wants. Behind the words are the flags of `ARFLAGS`, which is looked up
+/// as `CFLAGS` is, and the set ones. It asks, and prints nothing.
 ///
-/// Refused where the settings name none and the target isn't known, or is QNX on an architecture for which its tools have no name and `AR`
-/// names none; then where the target or the host is set nowhere; and for memory. The answers until then stay in the sight.
+/// Refused where the settings name none and the target isn't known, or is QNX on an architecture for which its tools
+/// have no name and `AR` names none; then where the target or the host is set nowhere; and for memory. The answers
+/// until then stay in the sight.
 #[tactic(auto, unfolding(crate::specs::Refusal::archiver_refusal, crate::specs::Archive::archiver_of))]
 pub fn archiver_of<W: World, H: Host<W>>(
     rt: &impl Wait,
@@ -192,8 +193,9 @@ pub fn archiver_of<W: World, H: Host<W>>(
     Ok(archiver)
 }
 
-/// The command of the tool that writes an archive's index, in the environment of a child: the set one, else that of `RANLIB`, else the one that
-/// the target wants, as the archiver is found; with the flags of `RANLIBFLAGS`. It asks, and prints nothing. It is refused as the archiver is.
+/// The command of the tool that writes an archive's index, in the environment of a child: the set one, else that of
+/// `RANLIB`, else the one that the target wants, as the archiver is found; with the flags of `RANLIBFLAGS`. It asks,
+/// and prints nothing. It is refused as the archiver is.
 #[tactic(auto, unfolding(crate::specs::Refusal::ranlib_refusal, crate::specs::Archive::ranlib_cmd_of))]
 pub fn ranlib_of<W: World, H: Host<W>>(
     rt: &impl Wait,
@@ -214,23 +216,26 @@ pub fn ranlib_of<W: World, H: Host<W>>(
     Ok(cmd)
 }
 
-/// The commands that write objects of these paths into the library, in order: one a batch, and none where there is no path. The words of the
-/// archiver's command come first. Only want of memory refuses.
+/// The commands that write objects of these paths into the library, in order: one a batch, and none where there is no
+/// path. The words of the archiver's command come first. Only want of memory refuses.
 ///
-/// Where the archiver is libtool it is one command, which reads the paths from the file that `list_file` gives; `plain` changes nothing.
+/// Where the archiver is libtool it is one command, which reads the paths from the file that `list_file` gives; `plain`
+/// changes nothing.
 ///
-/// For a target of Visual Studio all other archivers but LLVM's `ar` take the words of Microsoft's library manager ("LIB Reference"): `-out:` names
-/// the library, which stands among the words again from the second batch on, and `-nologo` leaves out the banner where no flags were given.
-/// There too `plain` changes nothing. Such a command runs in the library's folder where that is a whole path and nothing that was given
-/// with the archiver may name a file; then objects below the folder are named from there, and other relative ones from `here`, which is
-/// wanted where `asks_folder` says so and is of no matter else.
+/// For a target of Visual Studio all other archivers but LLVM's `ar` take the words of Microsoft's library manager
+/// ("LIB Reference"): `-out:` names the library, which stands among the words again from the second batch on, and
+/// `-nologo` leaves out the banner where no flags were given. There too `plain` changes nothing. Such a command runs in
+/// the library's folder where that is a whole path and nothing that was given with the archiver may name a file; then
+/// objects below the folder are named from there, and other relative ones from `here`, which is wanted where
+/// `asks_folder` says so and is of no matter else.
 ///
-/// By the manual of GNU `ar`, `c` makes the library without saying so, `q` adds members last without a look at those that are there, and
-/// `D` writes zero for times and owners, so that the same objects give the same bytes. `ZERO_AR_DATE` has Apple's archiver do so for times.
-/// So what an earlier command wrote stays, and one path may come twice. A batch keeps each command line short.
+/// By the manual of GNU `ar`, `c` makes the library without saying so, `q` adds members last without a look at those
+/// that are there, and `D` writes zero for times and owners, so that the same objects give the same bytes.
+/// `ZERO_AR_DATE` has Apple's archiver do so for times. So what an earlier command wrote stays, and one path may come
+/// twice. A batch keeps each command line short.
 ///
-/// Archivers of the BSDs and of Apple don't know `D`. Where the first command was refused, `plain` has all batches written by `cq`; the
-/// refused command then comes first.
+/// Archivers of the BSDs and of Apple don't know `D`. Where the first command was refused, `plain` has all batches
+/// written by `cq`; the refused command then comes first.
 pub fn archive_commands(
     alloc: Global,
     library: &Library<'_>,
@@ -260,13 +265,15 @@ pub fn archive_commands(
     batch_commands(alloc, archiver, env, path, paths, plain)
 }
 
-/// The commands that write the index of the library of these paths, by which a linker finds symbols: one, whose words are behind those of the
-/// archiver's command. By the manual of GNU `ar`, `s` writes it, and `D` without the time. Only want of memory refuses.
+/// The commands that write the index of the library of these paths, by which a linker finds symbols: one, whose words
+/// are behind those of the archiver's command. By the manual of GNU `ar`, `s` writes it, and `D` without the time. Only
+/// want of memory refuses.
 ///
-/// None where the archiver is libtool, which writes it with the library, and for a target of Visual Studio, whose archivers do so too.
+/// None where the archiver is libtool, which writes it with the library, and for a target of Visual Studio, whose
+/// archivers do so too.
 ///
-/// Where the first command with `D` was refused, `plain` has it written by `s`. Without a path the index is the first command, and the
-/// refused one then comes first.
+/// Where the first command with `D` was refused, `plain` has it written by `s`. Without a path the index is the first
+/// command, and the refused one then comes first.
 pub fn index_commands(alloc: Global, library: &Library<'_>, plain: bool) -> Mem<Vec<Command>>
     ensures { IfOk result (λ cmds. cmds.items ≡ indexes_of (info_seen library.now.target.now)
         library.now.archiver.now library.now.env.now library.now.path.now plain
@@ -286,7 +293,8 @@ pub fn index_commands(alloc: Global, library: &Library<'_>, plain: bool) -> Mem<
     batch_index_commands(alloc, archiver, env, path, paths, plain)
 }
 
-/// The paths that the library gets: those of the objects of the sources, and then the added ones, in order. Only want of memory refuses.
+/// The paths that the library gets: those of the objects of the sources, and then the added ones, in order. Only want
+/// of memory refuses.
 pub fn archived_paths(alloc: Global, set: &BuildConfig, objects: &[Object]) -> Mem<Words>
     ensures { IfOk result (λ paths. paths ≡ paths_of objects.now ++ set.now.objects) }
 {
@@ -298,9 +306,9 @@ pub fn archived_paths(alloc: Global, set: &BuildConfig, objects: &[Object]) -> M
     Ok(paths)
 }
 
-/// Whether an archiver can write these paths into a library for the target of the settings. Where its list can't hold one, it is refused at
-/// the place of that path, counted from 0; then where the target is set nowhere, or is neither a row of the table nor described by Cargo, as
-/// the form of the library depends on it; and for memory.
+/// Whether an archiver can write these paths into a library for the target of the settings. Where its list can't hold
+/// one, it is refused at the place of that path, counted from 0; then where the target is set nowhere, or is neither a
+/// row of the table nor described by Cargo, as the form of the library depends on it; and for memory.
 #[tactic(auto, unfolding(crate::specs::Plan::archived_refusal))]
 pub fn check_archived(
     alloc: Global,

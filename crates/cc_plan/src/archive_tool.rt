@@ -1,5 +1,5 @@
-// The tools of archives, the archiver and the one that writes their index, and how they are found: one table, in which each has its own
-// name.
+// The tools of archives, the archiver and the one that writes their index, and how they are found: one table, in which
+// each has its own name.
 ghost use Rattle.cc_plan.specs.ArchivePlan as plan;
 ghost use Rattle.cc_plan.specs.ArchiveTool as spec;
 ghost use Rattle.cc_plan.specs.Halts.{Tries};
@@ -58,8 +58,8 @@ fn android_tool(
     Ok(name)
 }
 
-// Behind the prefix of the GNU tools: that of binutils, or GCC's own, which loads its plugin for link time optimisation; the first of the
-// two that prints its version.
+// Behind the prefix of the GNU tools: that of binutils, or GCC's own, which loads its plugin for link time
+// optimisation; the first of the two that prints its version.
 #[tactic(auto, using(crate::proofs::PassBy::pass_by), unfolding(crate::specs::ArchiveTool::prefixed_tool, crate::specs::ArchiveTool::plain_or_gcc))]
 fn prefixed_tool(
     tool: ArchiveTool,
@@ -132,7 +132,8 @@ fn named_tool(
     }
 }
 
-// For Visual Studio: LLVM's next to clang-cl, else Microsoft's library manager, which stands for both tools, as an index needs none there.
+// For Visual Studio: LLVM's next to clang-cl, else Microsoft's library manager, which stands for both tools, as an
+// index needs none there.
 #[tactic(auto, using(crate::proofs::PassBy::pass_by), unfolding(crate::specs::ArchiveTool::studio_tool))]
 fn studio_tool(inputs: &Inputs<'_>, seen: &Answers, notes: &mut Notes) -> Planned<Text>
     ensures { Passes seen.now notes.old notes.new
@@ -306,8 +307,8 @@ fn known_tool(
 
 /// A tool of archives: the set one, else that of the environment with its words, else the one that the target wants.
 ///
-/// Where the settings name none, refused where the target is set nowhere or isn't known, or where it is QNX on an architecture for which
-/// its tools have no name and the environment names none.
+/// Where the settings name none, refused where the target is set nowhere or isn't known, or where it is QNX on an
+/// architecture for which its tools have no name and the environment names none.
 #[tactic(auto, using(crate::proofs::HaltBy::halt_by), unfolding(crate::specs::ArchivePlan::chosen_tool, crate::specs::ArchivePlan::set_or_found))]
 pub(crate) fn archive_tool(
     tool: ArchiveTool,

@@ -8,8 +8,8 @@ use cc_text::{Text, Words};
 /// An archiver.
 #[derive(Drop, Debug)]
 pub struct Archiver {
-    /// Its command up to the words of a form: the program with the words behind its name in `AR` and the flags that it is always given, in the
-    /// environment of a child.
+    /// Its command up to the words of a form: the program with the words behind its name in `AR` and the flags that it
+    /// is always given, in the environment of a child.
     pub cmd: Command,
     /// Its name, by which it takes words in one form or another: the program.
     pub name: Text,
@@ -19,7 +19,8 @@ pub struct Archiver {
     pub any_args: bool,
 }
 
-/// What a library is written by: its target, its archiver in the environment, its name and its path, and the paths of its objects.
+/// What a library is written by: its target, its archiver in the environment, its name and its path, and the paths of
+/// its objects.
 #[derive(Clone, Copy)]
 pub struct Library<'a> {
     /// What it is for: by this the archiver takes words in one form or another.

@@ -1,5 +1,5 @@
-// The assembler of sources in the languages of Visual Studio: MASM (Microsoft's "Microsoft Macro Assembler reference") and that of its
-// assembler for Arm (Microsoft's "ARM Assembler Reference").
+// The assembler of sources in the languages of Visual Studio: MASM (Microsoft's "Microsoft Macro Assembler reference")
+// and that of its assembler for Arm (Microsoft's "ARM Assembler Reference").
 ghost use Rattle.std.specs.Prelude.{◌≡◌, IfOk};
 ghost use Rattle.cc_target.specs.Targets.{info_seen};
 ghost use Rattle.cc_plan.specs.Asking.{AsksForAssembler, SettledIn};
@@ -109,8 +109,8 @@ fn own_choice(given: &Assembly<'_>, seen: &Answers, notes: &mut Notes) -> Planne
     Ok(choice)
 }
 
-// The assembler: that of `CC_MASM_ASM` with its words, else that of Visual Studio for the architecture, for which on x86 that of LLVM
-// stands in where a command wouldn't find it. No wrapper runs it.
+// The assembler: that of `CC_MASM_ASM` with its words, else that of Visual Studio for the architecture, for which on
+// x86 that of LLVM stands in where a command wouldn't find it. No wrapper runs it.
 #[tactic(auto, using(crate::proofs::PassBy::pass_by), unfolding(crate::specs::Assembler::assembler_choice, cc_tool::specs::Plans::or_else))]
 fn assembler_choice(given: &Assembly<'_>, seen: &Answers, notes: &mut Notes) -> Planned<Choice>
     ensures { Passes seen.now notes.old notes.new
@@ -143,7 +143,8 @@ fn chosen_assembler(given: &Assembly<'_>, choice: &Choice) -> Mem<Tool>
     Ok(tool)
 }
 
-// Microsoft's assemblers for x86 take words from `ML` too ("ML and ML64 command-line reference", "Environment variables").
+// Microsoft's assemblers for x86 take words from `ML` too ("ML and ML64 command-line reference", "Environment
+// variables").
 #[tactic(auto, unfolding(cc_flags::specs::Variables::option_names))]
 fn option_names(alloc: Global, target: &TargetInfo, path: &str) -> Mem<Words>
     ensures { IfOk result (λ names. names ≡ option_names (info_seen target.now) path.now) }
@@ -219,10 +220,11 @@ impl<'a> Planner for AssemblerPlan<'a> {
     }
 }
 
-/// The assembler of sources in MASM, or in the language of Microsoft's assembler for Arm, for the compiler that this tool is: that of
-/// `CC_MASM_ASM` with its words, else that of Visual Studio for the architecture, for which on x86 `llvm-ml` stands in where a command
-/// wouldn't find it; then the words of the settings in its form (Microsoft's "ML and ML64 command-line reference" and "ARM Assembler
-/// command-line reference"). No wrapper runs it, and its commands get the explicit variables of the environment.
+/// The assembler of sources in MASM, or in the language of Microsoft's assembler for Arm, for the compiler that this
+/// tool is: that of `CC_MASM_ASM` with its words, else that of Visual Studio for the architecture, for which on x86
+/// `llvm-ml` stands in where a command wouldn't find it; then the words of the settings in its form (Microsoft's "ML
+/// and ML64 command-line reference" and "ARM Assembler command-line reference"). No wrapper runs it, and its commands
+/// get the explicit variables of the environment.
 ///
 /// Refused where the target is set nowhere or isn't known; and for memory. The answers until then stay in the sight.
 #[tactic(auto, using(crate::proofs::AskingLemmas::only_none))]

@@ -69,8 +69,8 @@ fn beside_compiler(
     }
 }
 
-/// A tool next to the compiler of a family and a path, where that is clang-cl: where it looks for programs, else in its own folder. None
-/// next to other compilers, and where neither has it.
+/// A tool next to the compiler of a family and a path, where that is clang-cl: where it looks for programs, else in its
+/// own folder. None next to other compilers, and where neither has it.
 #[tactic(auto, using(crate::proofs::PassBy::pass_by), unfolding(crate::specs::Beside::beside))]
 pub(crate) fn beside(
     alloc: Global,

@@ -33,7 +33,8 @@ pub(crate) fn check_qnx_arch(alloc: Global, target: &TargetInfo) -> Result<(), P
     Ok(())
 }
 
-// QNX is refused on an architecture for which its compiler has no variant: `-V` of "qcc" in QNX's "Utilities Reference".
+// QNX is refused on an architecture for which its compiler has no variant: `-V` of "qcc" in QNX's "Utilities
+// Reference".
 #[tactic(auto, unfolding(crate::specs::Checks::qnx_refusal))]
 fn check_qnx(alloc: Global, target: &TargetInfo, family: ToolFamily) -> Result<(), PlanError>
     ensures allowed { AllowedBy (qnx_refusal family (info_seen target.now)) result }
@@ -61,8 +62,8 @@ fn check_sysroot(given: &Compilation<'_>) -> Result<(), PlanError>
 
 /// Whether there are the words that a target and a level bring, or they are left out.
 ///
-/// Refused where QNX has no compiler for the architecture, or the sysroot of WebAssembly's threads isn't set, and for memory. The refusal
-/// has the architecture, or the variable.
+/// Refused where QNX has no compiler for the architecture, or the sysroot of WebAssembly's threads isn't set, and for
+/// memory. The refusal has the architecture, or the variable.
 #[tactic(auto, unfolding(crate::specs::Checks::defaults_refusal))]
 pub(crate) fn check_defaults(given: &Compilation<'_>) -> Result<(), PlanError>
     ensures allowed { AllowedBy (spec.defaults_refusal (seen given.now)) result }
@@ -119,8 +120,8 @@ pub(crate) fn demand<'a>(
     }
 }
 
-/// What is known of the target, lent where Cargo describes it. Refused where it is set nowhere, or where the table has no row of it and it
-/// isn't one that Cargo builds for and describes, and for memory.
+/// What is known of the target, lent where Cargo describes it. Refused where it is set nowhere, or where the table has
+/// no row of it and it isn't one that Cargo builds for and describes, and for memory.
 #[tactic(auto, unfolding(crate::specs::Refusal::target_refusal))]
 pub(crate) fn known_target<'a>(
     alloc: Global,
@@ -141,7 +142,8 @@ pub(crate) fn known_target<'a>(
     }
 }
 
-/// Whether the target is set and known, and the host set. Refused where one isn't, with the variable or the name, and for memory.
+/// Whether the target is set and known, and the host set. Refused where one isn't, with the variable or the name, and
+/// for memory.
 #[tactic(auto, unfolding(crate::specs::Refusal::platform_refusal))]
 pub(crate) fn check_platform(
     alloc: Global,
@@ -172,8 +174,8 @@ pub(crate) fn given_target<'a>(
     Ok(target)
 }
 
-/// Whether a compiler has words. Refused by the words of the target and the level; then where the host is set nowhere, which flags of the
-/// environment are looked up by; then by a wrong flag of Rust code; and for memory.
+/// Whether a compiler has words. Refused by the words of the target and the level; then where the host is set nowhere,
+/// which flags of the environment are looked up by; then by a wrong flag of Rust code; and for memory.
 #[tactic(auto, unfolding(crate::specs::Refusal::refusal_by, crate::specs::Tool::defaults_refusal_by))]
 pub(crate) fn check_compiler(given: &Compilation<'_>) -> Result<(), PlanError>
     ensures allowed { AllowedBy (compiler_refusal (seen given.now)) result }

@@ -48,9 +48,10 @@ fn push_object(
     cmd.args(&words)
 }
 
-/// The command that makes an object from its source: the tool in its whole environment, then the words of the object and the source in
-/// the form of the tool's family. The assembler, as `assembler_of` gives it, takes the tool's place for a source whose extension is `asm`
-/// on a target of the Visual Studio tools; without one the tool serves these sources too. Only want of memory refuses.
+/// The command that makes an object from its source: the tool in its whole environment, then the words of the object
+/// and the source in the form of the tool's family. The assembler, as `assembler_of` gives it, takes the tool's place
+/// for a source whose extension is `asm` on a target of the Visual Studio tools; without one the tool serves these
+/// sources too. Only want of memory refuses.
 pub fn compile_command(
     alloc: Global,
     set: &BuildConfig,
@@ -68,7 +69,8 @@ pub fn compile_command(
     Ok(cmd)
 }
 
-// The command that those of sources for an assembler begin with: without one that of the tool, whose environment it shares.
+// The command that those of sources for an assembler begin with: without one that of the tool, whose environment it
+// shares.
 fn assembling_start(start: &Command, tool: &Tool, assembler: Option<&Tool>) -> Mem<Command>
     requires { start.now ≡ tool_command tool.now }
     ensures { IfOk result (λ cmd.
@@ -155,8 +157,8 @@ pub(crate) fn compile_commands(
     Ok(cmds)
 }
 
-/// The command that expands a source: the tool in its whole environment, then `-E` and the source in the form of the tool's family. Only
-/// want of memory refuses.
+/// The command that expands a source: the tool in its whole environment, then `-E` and the source in the form of the
+/// tool's family. Only want of memory refuses.
 pub fn expand_command(alloc: Global, set: &BuildConfig, tool: &Tool, source: &str) -> Mem<Command>
     ensures { IfOk result (λ c. c ≡ expand_of set.now tool.now source.now) }
 {

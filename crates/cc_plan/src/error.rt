@@ -22,7 +22,8 @@ pub enum ArgumentCause {
     SameObject(u64, u64),
     /// The added object at this place is the library.
     LibraryIsObject(u64),
-    /// The path of the archived object at this place, those of sources first, has a line feed, which libtool takes for the end of a path.
+    /// The path of the archived object at this place, those of sources first, has a line feed, which libtool takes for
+    /// the end of a path.
     LineFeed(u64),
     /// A source is expanded alone, and there is none, or more than one.
     FileCount,
@@ -37,7 +38,8 @@ pub enum PlanError {
     Argument(ArgumentCause),
     /// Neither a setting nor the variable of this name, which Cargo sets for a build script, gives the value.
     NotSet(Text),
-    /// The target of this name has no row in the table of targets, and it isn't Cargo's or isn't one that Cargo describes.
+    /// The target of this name has no row in the table of targets, and it isn't Cargo's or isn't one that Cargo
+    /// describes.
     UnknownTarget(Text),
     /// The QNX compilers have no variant for this architecture.
     QnxArch(Text),

@@ -86,7 +86,8 @@ struct Support {
     warnings: Words,
 }
 
-// The names of the variables that a question on a flag is planned by: its settings name the compiler that was found, and bring its words.
+// The names of the variables that a question on a flag is planned by: its settings name the compiler that was found,
+// and bring its words.
 fn question_names(inputs: &Inputs<'_>, pair: &(Compiler, Compiler)) -> Mem<Words>
     ensures { IfOk result (λ names. names
         ≡ spec.question_names inputs.now.set.now inputs.now.env.now pair.now) }
@@ -301,12 +302,12 @@ fn plan_support<'a, W: World, H: Host<W>>(
     own_refusal(found.value)
 }
 
-/// The compiler of these settings, and its verdict on a flag: it is asked by compiling a source of one line with the flag, at level 0 and
-/// without what Cargo hands down. A flag is for the linker where Visual Studio's compiler is given `/link`: no, without a question.
-/// Warnings of how the compiler was found are printed last, where they are wanted.
+/// The compiler of these settings, and its verdict on a flag: it is asked by compiling a source of one line with the
+/// flag, at level 0 and without what Cargo hands down. A flag is for the linker where Visual Studio's compiler is given
+/// `/link`: no, without a question. Warnings of how the compiler was found are printed last, where they are wanted.
 ///
-/// Refused where the target is set nowhere or isn't known, or the command that tries the flag would be: as where the host is set nowhere;
-/// by a fault of the host that prints; and for memory. The answers until then stay in the sight.
+/// Refused where the target is set nowhere or isn't known, or the command that tries the flag would be: as where the
+/// host is set nowhere; by a fault of the host that prints; and for memory. The answers until then stay in the sight.
 pub fn flag_support<W: World, H: Host<W>>(
     rt: &impl Wait,
     alloc: Global,

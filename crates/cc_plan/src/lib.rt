@@ -1,10 +1,11 @@
 //! The plan of a compile run: settings become commands, archives and link lines, as values.
 //!
-//! Stands on `cc_text`, `cc_env`, `cc_target`, `cc_flags`, `cc_host` and `cc_tool`. A plan is a function of settings, environment
-//! and the verdicts of questions. Its functions ask nothing: each answers the value that the answers so far settle, or the questions that it
-//! wants, and notes the variables that it reads. A public call settles its plan through a `Sight`.
-//! The crate above uses one thing: each planned value equals its definition in `specs/`, and each refusal comes exactly where
-//! `specs/Refusal.antt` says. Settings, words and names, which no question decides, stand in `cc_flags`.
+//! Stands on `cc_text`, `cc_env`, `cc_target`, `cc_flags`, `cc_host` and `cc_tool`. A plan is a function of settings,
+//! environment and the verdicts of questions. Its functions ask nothing: each answers the value that the answers so far
+//! settle, or the questions that it wants, and notes the variables that it reads. A public call settles its plan
+//! through a `Sight`. The crate above uses one thing: each planned value equals its definition in `specs/`, and each
+//! refusal comes exactly where `specs/Refusal.antt` says. Settings, words and names, which no question decides, stand
+//! in `cc_flags`.
 #![tactic(auto)]
 
 mod added;

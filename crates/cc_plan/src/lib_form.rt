@@ -1,5 +1,6 @@
-// The words of Microsoft's library manager, `lib.exe`, which `llvm-lib` takes too. A member is named by the path that its object is given by, so
-// the commands run in the library's folder where they can: then no folder of the build is written into the library.
+// The words of Microsoft's library manager, `lib.exe`, which `llvm-lib` takes too. A member is named by the path that
+// its object is given by, so the commands run in the library's folder where they can: then no folder of the build is
+// written into the library.
 ghost use Rattle.std.specs.Prelude.{◌≡◌, ◌++◌, map, true, IfOk};
 ghost use Rattle.cc_plan.specs.Archive.{asks_folder, in_folder, lib_of, libs_of};
 ghost use Rattle.cc_text.specs.Batches.{batches_of};
@@ -33,8 +34,8 @@ pub(crate) fn is_lib(target: &TargetInfo, archiver: &Archiver) -> bool
         && !names_llvm_ar(file_name(archiver.name.as_str()).unwrap_or(""))
 }
 
-/// Whether the archiver has one form alone, so that none is tried: libtool, and for a target of Visual Studio all but LLVM's `ar`. It takes no
-/// memory.
+/// Whether the archiver has one form alone, so that none is tried: libtool, and for a target of Visual Studio all but
+/// LLVM's `ar`. It takes no memory.
 #[tactic(auto, unfolding(crate::specs::LibForm::has_one_form))]
 pub fn has_one_form(target: &TargetInfo, archiver: &Archiver) -> bool
     ensures { result ≡ spec.has_one_form (info_seen target.now) archiver.now }
@@ -117,7 +118,8 @@ fn members_of(
     members_by(alloc, folder_of(library), here, paths.as_slice())
 }
 
-// Where the library is written, no banner where no flags were given, and the library itself where members are added to it.
+// Where the library is written, no banner where no flags were given, and the library itself where members are added to
+// it.
 #[tactic(auto, unfolding(crate::specs::LibForm::lib_words))]
 fn lib_words(alloc: Global, archiver: &Archiver, library: &str, adds: bool) -> Mem<Words>
     ensures { IfOk result (λ words. words ≡ spec.lib_words archiver.now library.now adds) }
@@ -183,7 +185,8 @@ fn push_adding(
     Ok(())
 }
 
-/// The commands that write objects of these paths into the library: one a batch, of which the first makes it, and each later one adds to it.
+/// The commands that write objects of these paths into the library: one a batch, of which the first makes it, and each
+/// later one adds to it.
 pub(crate) fn lib_commands(
     alloc: Global,
     archiver: &Archiver,
@@ -203,8 +206,9 @@ pub(crate) fn lib_commands(
     Ok(cmds)
 }
 
-/// Whether the current folder is to be asked for before the commands that archive objects of these paths: where they run in the library's
-/// folder, an object whose path is relative and isn't below it is named from the current one. Only want of memory refuses.
+/// Whether the current folder is to be asked for before the commands that archive objects of these paths: where they
+/// run in the library's folder, an object whose path is relative and isn't below it is named from the current one. Only
+/// want of memory refuses.
 #[tactic(auto, unfolding(crate::specs::Archive::asks_folder))]
 pub fn asks_folder(alloc: Global, library: &Library<'_>) -> Mem<bool>
     ensures { IfOk result (λ b. b ≡ asks_folder (info_seen library.now.target.now)

@@ -17,8 +17,8 @@ fn names_libtool(name: &str) -> bool
     contains_ignore_ascii_case(name, "libtool")
 }
 
-/// Whether the archiver is Apple's libtool, or one that takes its words: its file name has `libtool` in it, whatever the case of ASCII letters.
-/// It takes no memory.
+/// Whether the archiver is Apple's libtool, or one that takes its words: its file name has `libtool` in it, whatever
+/// the case of ASCII letters. It takes no memory.
 #[tactic(auto, unfolding(crate::specs::Libtool::is_libtool))]
 pub fn is_libtool(archiver: &Archiver) -> bool
     ensures { result ≡ is_libtool archiver.now }
@@ -34,8 +34,9 @@ fn list_path(alloc: Global, library: &str) -> Mem<Text>
     Ok(path)
 }
 
-// The command that writes the library. By the manual of Apple's libtool, `-static` makes a static library, `-D` writes the same times and
-// owners each time, and `-filelist` takes the paths from a file, and a folder to put before each behind the last comma, if there is one.
+// The command that writes the library. By the manual of Apple's libtool, `-static` makes a static library, `-D` writes
+// the same times and owners each time, and `-filelist` takes the paths from a file, and a folder to put before each
+// behind the last comma, if there is one.
 pub(crate) fn libtool_command(alloc: Global, archiver: &Archiver, library: &str) -> Mem<Command>
     ensures { IfOk result (λ cmd. cmd ≡ libtool_of archiver.now library.now) }
 {
@@ -62,10 +63,11 @@ fn list_text(alloc: Global, paths: &[Text]) -> Mem<Text>
     Ok(text)
 }
 
-/// The list file of the objects of these paths, its path and its bytes, which is to be written before the library where the archiver is
-/// libtool; else none. It lies beside the library and has a path a line. Only want of memory refuses.
+/// The list file of the objects of these paths, its path and its bytes, which is to be written before the library where
+/// the archiver is libtool; else none. It lies beside the library and has a path a line. Only want of memory refuses.
 ///
-/// By the manual of Apple's libtool only line feeds part the paths: blanks are part of one. `check_list` finds paths with a line feed.
+/// By the manual of Apple's libtool only line feeds part the paths: blanks are part of one. `check_list` finds paths
+/// with a line feed.
 pub fn list_file(
     alloc: Global,
     archiver: &Archiver,
@@ -96,7 +98,8 @@ fn line_feed_place(paths: &[Text]) -> Option<usize>
     paths.iter().position(|path| has_line_feed(path.as_str()))
 }
 
-/// Checks that a list of these paths can be read, where the archiver is libtool, which takes each line of it for a path. It takes no memory.
+/// Checks that a list of these paths can be read, where the archiver is libtool, which takes each line of it for a
+/// path. It takes no memory.
 ///
 /// Refused at the place of the first path with a line feed, counted from 0.
 pub(crate) fn check_list(archiver: &Archiver, paths: &Words) -> Result<(), PlanError>

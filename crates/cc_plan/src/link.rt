@@ -24,8 +24,9 @@ use std::sync::Wait;
 pub struct LinkPlan {
     /// The lines, in order.
     pub lines: Vec<LinkLine>,
-    /// The warnings of the compiler's plan that decides on the C++ library, as texts without line feeds. A host that listens is told of them;
-    /// none of them is printed, since such a plan is quiet. None where no compiler is planned for it, or its plan is refused.
+    /// The warnings of the compiler's plan that decides on the C++ library, as texts without line feeds. A host that
+    /// listens is told of them; none of them is printed, since such a plan is quiet. None where no compiler is planned
+    /// for it, or its plan is refused.
     pub warnings: Words,
 }
 
@@ -47,15 +48,16 @@ impl<'a> Planner for LibraryPlanner<'a> {
     }
 }
 
-/// The lines by which a build script asks Cargo to link a static library: its name behind the modifiers of the settings, and the folder
-/// that has it, without line feeds; for C++ also the C++ library, and for WebAssembly the folder that has that one. None where the
-/// settings want none. With them are the warnings of the quiet plan that decides on the C++ library. It asks, and prints nothing. Refused
-/// where `WASM_MUSL_SYSROOT` isn't set and C++ for WebAssembly's threads wants it, and for memory.
+/// The lines by which a build script asks Cargo to link a static library: its name behind the modifiers of the
+/// settings, and the folder that has it, without line feeds; for C++ also the C++ library, and for WebAssembly the
+/// folder that has that one. None where the settings want none. With them are the warnings of the quiet plan that
+/// decides on the C++ library. It asks, and prints nothing. Refused where `WASM_MUSL_SYSROOT` isn't set and C++ for
+/// WebAssembly's threads wants it, and for memory.
 ///
 /// Cargo's book on build scripts has the forms, `cargo:rustc-link-lib=LIB`, `cargo:rustc-link-search=KIND=PATH` and
-/// `cargo:rustc-flags=FLAGS`; the kind `native` has the folder searched for libraries alone, not for crates. A LIB is what rustc takes
-/// behind `-l`, `KIND:MODIFIERS=NAME`, where commas part the modifiers; `-bundle` leaves a static library out of the crate's own file, so
-/// that the linker takes it (rustc's book, "Command-line Arguments").
+/// `cargo:rustc-flags=FLAGS`; the kind `native` has the folder searched for libraries alone, not for crates. A LIB is
+/// what rustc takes behind `-l`, `KIND:MODIFIERS=NAME`, where commas part the modifiers; `-bundle` leaves a static
+/// library out of the crate's own file, so that the linker takes it (rustc's book, "Command-line Arguments").
 #[tactic(auto, unfolding(crate::specs::Refusal::link_refusal))]
 pub fn plan_links<'a, W: World, H: Host<W>>(
     rt: &impl Wait,
@@ -85,7 +87,8 @@ pub fn plan_links<'a, W: World, H: Host<W>>(
     })
 }
 
-/// The link lines alone, as `plan_links` has them: for a caller whose user isn't told of the compiler that decides on the C++ library.
+/// The link lines alone, as `plan_links` has them: for a caller whose user isn't told of the compiler that decides on
+/// the C++ library.
 pub fn link_lines<W: World, H: Host<W>>(
     rt: &impl Wait,
     alloc: Global,

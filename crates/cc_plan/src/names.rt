@@ -14,10 +14,11 @@ use cc_flags::{
 use cc_text::{Mem, Text, join, parent};
 use std::alloc::Global;
 
-/// The name of the library, as a linker takes it behind `-l`, and the name of its file, for an output such as `foo` or `libfoo.a`.
+/// The name of the library, as a linker takes it behind `-l`, and the name of its file, for an output such as `foo` or
+/// `libfoo.a`.
 ///
-/// Refused where the output is no single component of a path, or is `lib.a`, which leaves the library without a name; and for memory.
-/// Linkers look for the name `foo` in the file `libfoo.a`, by the manual of GNU `ld`.
+/// Refused where the output is no single component of a path, or is `lib.a`, which leaves the library without a name;
+/// and for memory. Linkers look for the name `foo` in the file `libfoo.a`, by the manual of GNU `ld`.
 pub fn lib_and_archive_names(alloc: Global, output: &str) -> Result<(Text, Text), PlanError>
     ensures names { IfOk result (λ names.
         (names.0 ≡ library_name output.now) × (names.1 ≡ library_file output.now)) }
@@ -33,8 +34,8 @@ pub fn lib_and_archive_names(alloc: Global, output: &str) -> Result<(Text, Text)
     }
 }
 
-/// The path of the second file of a library of this name for Visual Studio, `<name>.lib` beside the library, as its linkers look for it ("LINK
-/// Input Files"). Only want of memory refuses.
+/// The path of the second file of a library of this name for Visual Studio, `<name>.lib` beside the library, as its
+/// linkers look for it ("LINK Input Files"). Only want of memory refuses.
 pub fn copy_path(alloc: Global, library: &str, name: &str) -> Mem<Text>
     ensures { IfOk result (λ path. path ≡ copy_path_of library.now name.now) }
 {
@@ -45,8 +46,8 @@ pub fn copy_path(alloc: Global, library: &str, name: &str) -> Mem<Text>
 
 /// The name of the library at a path, as a linker takes it behind `-l`, and its folder.
 ///
-/// Refused where the file isn't `lib<name>.a` with a name, as linkers look for it by the manual of GNU `ld`, nor, for a target of Visual Studio,
-/// `<name>.lib`, or where the path has no folder, in which they would look; and for memory.
+/// Refused where the file isn't `lib<name>.a` with a name, as linkers look for it by the manual of GNU `ld`, nor, for a
+/// target of Visual Studio, `<name>.lib`, or where the path has no folder, in which they would look; and for memory.
 #[tactic(auto, unfolding(cc_flags::specs::Names::linked_library))]
 pub fn library_and_dir(
     alloc: Global,

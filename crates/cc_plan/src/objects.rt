@@ -12,8 +12,8 @@ use std::alloc::Global;
 
 /// The object of each source in the folder `dst`, in the order of the sources.
 ///
-/// Refused at the first source that has no file name, or the object of an earlier one: two commands would write one file. Places count
-/// from 0. Also refused for memory.
+/// Refused at the first source that has no file name, or the object of an earlier one: two commands would write one
+/// file. Places count from 0. Also refused for memory.
 pub fn objects_from_files(
     alloc: Global,
     files: &Words,

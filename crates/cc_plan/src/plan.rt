@@ -1,4 +1,5 @@
-// The plan of a compile run up to the objects, in two parts: what is known before their folder is made, and the commands, for which it asks.
+// The plan of a compile run up to the objects, in two parts: what is known before their folder is made, and the
+// commands, for which it asks.
 ghost use Rattle.std.specs.Prelude.{◌≡◌, [], IfOk, Some, None};
 ghost use Rattle.cc_host.specs.Question.{Settles};
 ghost use Rattle.std.specs.Option.{option_copied};
@@ -80,10 +81,11 @@ fn source_root_of(set: &BuildConfig) -> Option<&str>
     }
 }
 
-/// Checks the out dir and the sources, in this order, and names the out dir, which is the folder of the objects and of probe files, and the
-/// objects, in the order in which the sources were added. It asks nothing.
+/// Checks the out dir and the sources, in this order, and names the out dir, which is the folder of the objects and of
+/// probe files, and the objects, in the order in which the sources were added. It asks nothing.
 ///
-/// Refused where the out dir is set nowhere or empty, or a source has no file name or the object of an earlier one; and for memory.
+/// Refused where the out dir is set nowhere or empty, or a source has no file name or the object of an earlier one; and
+/// for memory.
 #[tactic(auto, unfolding(crate::specs::Refusal::intermediate_refusal))]
 pub fn plan_objects(
     alloc: Global,
@@ -101,11 +103,12 @@ pub fn plan_objects(
     Ok((Text::of(alloc, dir)?, objects))
 }
 
-/// Checks the output, the out dir, the sources and the added objects, in this order, and names the library, the out dir and the objects.
-/// It asks nothing.
+/// Checks the output, the out dir, the sources and the added objects, in this order, and names the library, the out dir
+/// and the objects. It asks nothing.
 ///
-/// Refused where the output names no library, the out dir is set nowhere or empty, a source has no file name or the object of an earlier
-/// one, or an added object is the library, which is removed before it would be read; and for memory.
+/// Refused where the output names no library, the out dir is set nowhere or empty, a source has no file name or the
+/// object of an earlier one, or an added object is the library, which is removed before it would be read; and for
+/// memory.
 #[tactic(auto, unfolding(crate::specs::Refusal::early_refusal))]
 pub fn plan_sources(
     alloc: Global,
@@ -249,11 +252,13 @@ fn tool_compiles<'a, W: World, H: Host<W>>(
     })
 }
 
-/// The warnings of a compile run with these sources, which `plan_sources` gave, and the commands that compile. It asks, and prints nothing.
-/// Without a source no tool is wanted, and nothing is asked; an assembler is planned, behind the tool, where a source wants one.
+/// The warnings of a compile run with these sources, which `plan_sources` gave, and the commands that compile. It asks,
+/// and prints nothing. Without a source no tool is wanted, and nothing is asked; an assembler is planned, behind the
+/// tool, where a source wants one.
 ///
-/// Refused where the target or the host is set nowhere, the target isn't known or, with sources, the optimisation level is set nowhere, a
-/// word of the target is refused or a flag of Rust code is wrong; and for memory. The answers until then stay in the sight.
+/// Refused where the target or the host is set nowhere, the target isn't known or, with sources, the optimisation level
+/// is set nowhere, a word of the target is refused or a flag of Rust code is wrong; and for memory. The answers until
+/// then stay in the sight.
 #[tactic(auto, using(crate::proofs::AskingLemmas::only_none), unfolding(crate::specs::Refusal::late_refusal))]
 pub fn plan_commands<W: World, H: Host<W>>(
     rt: &impl Wait,

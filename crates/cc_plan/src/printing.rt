@@ -101,7 +101,8 @@ fn warn<W: World, H: Host<W>>(
     Ok(())
 }
 
-/// Gives a host that listens or not these warnings, one after another: as lines where they are wanted, and as messages where it listens.
+/// Gives a host that listens or not these warnings, one after another: as lines where they are wanted, and as messages
+/// where it listens.
 pub(crate) fn warn_of<W: World, H: Host<W>>(
     alloc: Global,
     host: &mut H,

@@ -1,5 +1,5 @@
-// The variables whose change asks for another run of the build script, which Cargo is told of by `cargo:rerun-if-env-changed` (Cargo's book,
-// "Build Scripts"): those that the plans of a call note.
+// The variables whose change asks for another run of the build script, which Cargo is told of by
+// `cargo:rerun-if-env-changed` (Cargo's book, "Build Scripts"): those that the plans of a call note.
 ghost use Rattle.std.specs.Prelude.{◌≡◌, IfOk};
 ghost use Rattle.cc_plan.specs.Asking.{AsksForNames, SettledIn};
 ghost use Rattle.cc_plan.specs.ArchivePlan.{tool_plan};
@@ -207,9 +207,10 @@ impl<'a> Planner for NamesPlanner<'a> {
     }
 }
 
-/// The names of the variables that Cargo is told of at the end of a call, in the order of their bytes, each once: those that the call reads, and
-/// those that its compiler reads by itself and that change what it compiles. `PATH` and the variables that Cargo sets aren't among them. There are
-/// none where `cargo_metadata` or `emit_rerun_if_env_changed` is off.
+/// The names of the variables that Cargo is told of at the end of a call, in the order of their bytes, each once: those
+/// that the call reads, and those that its compiler reads by itself and that change what it compiles. `PATH` and the
+/// variables that Cargo sets aren't among them. There are none where `cargo_metadata` or `emit_rerun_if_env_changed` is
+/// off.
 ///
 /// It asks what the plan asked, and prints nothing. Only want of memory refuses.
 #[tactic(auto, unfolding(crate::specs::Reruns::rerun_names), using(crate::proofs::AskingLemmas::only_none))]

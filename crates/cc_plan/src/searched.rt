@@ -1,5 +1,5 @@
-// Programs where a compiler looks for those that it runs, as Clang's driver prints it (`--print-search-dirs`, Clang's "Clang command line
-// argument reference").
+// Programs where a compiler looks for those that it runs, as Clang's driver prints it (`--print-search-dirs`, Clang's
+// "Clang command line argument reference").
 ghost use Rattle.std.specs.Prelude.{◌≡◌, IfOk};
 ghost use Rattle.cc_plan.specs.Searched as spec;
 ghost use Rattle.cc_tool.specs.Plans.{Passes};
@@ -40,8 +40,8 @@ fn in_dirs(
     }
 }
 
-/// A program in the folders that the compiler of a path names, and then in those in which a shell looks; none where the compiler names no
-/// folders, or the program is in none of them.
+/// A program in the folders that the compiler of a path names, and then in those in which a shell looks; none where the
+/// compiler names no folders, or the program is in none of them.
 #[tactic(auto, using(crate::proofs::PassBy::pass_by), unfolding(crate::specs::Searched::searched))]
 pub(crate) fn searched(
     alloc: Global,

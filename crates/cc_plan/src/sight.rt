@@ -9,8 +9,8 @@ use cc_tool::{Answers, Caches, Found, Planner, settle};
 use std::alloc::Global;
 use std::sync::Wait;
 
-/// What a plan may ask: a host, behind what is kept of its world, with the answers of one public call. A call that asks lends it on; its
-/// answers go on by those that it got, also where it is refused.
+/// What a plan may ask: a host, behind what is kept of its world, with the answers of one public call. A call that asks
+/// lends it on; its answers go on by those that it got, also where it is refused.
 #[derive(Drop)]
 pub struct Sight<'a, W: World, H: Host<W>> {
     /// The host that is asked, and whose log tells it.

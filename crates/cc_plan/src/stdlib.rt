@@ -51,7 +51,8 @@ fn tool_uses_libcxx(alloc: Global, tool: &Tool, seen: &Answers, notes: &mut Note
     }
 }
 
-/// The C++ library that a library of C++ is linked with, or none, and what a user is told of the plan of the compiler that decides on it.
+/// The C++ library that a library of C++ is linked with, or none, and what a user is told of the plan of the compiler
+/// that decides on it.
 #[derive(Drop)]
 pub(crate) struct ChosenLibrary {
     pub library: Option<Text>,
@@ -157,10 +158,10 @@ fn given_or_sought(
     }
 }
 
-/// The C++ library that a library of C++ is linked with, or none, where there are lines for it: the set one; else `CXXSTDLIB`, where the
-/// empty text is none; else that of the target's system; else libc++ where the compiler is Clang and has that library's headers; else
-/// libstdc++. The compiler's plan is quiet: what it is refused for but memory leaves libstdc++, and its warnings are handed back as texts,
-/// which are printed nowhere.
+/// The C++ library that a library of C++ is linked with, or none, where there are lines for it: the set one; else
+/// `CXXSTDLIB`, where the empty text is none; else that of the target's system; else libc++ where the compiler is Clang
+/// and has that library's headers; else libstdc++. The compiler's plan is quiet: what it is refused for but memory
+/// leaves libstdc++, and its warnings are handed back as texts, which are printed nowhere.
 #[tactic(auto, using(crate::proofs::PassBy::pass_by), unfolding(crate::specs::Stdlib::library_plan))]
 pub(crate) fn linked_library(
     alloc: Global,
@@ -179,7 +180,8 @@ pub(crate) fn linked_library(
     }
 }
 
-/// Refused where lines for a library of C++ for WebAssembly's threads name a sysroot that isn't set, with the variable, and for memory.
+/// Refused where lines for a library of C++ for WebAssembly's threads name a sysroot that isn't set, with the variable,
+/// and for memory.
 #[tactic(auto, unfolding(crate::specs::Refusal::cpp_refusal))]
 pub(crate) fn check_cpp(alloc: Global, set: &BuildConfig, env: &BuildEnv) -> Result<(), PlanError>
     ensures allowed { AllowedBy (cpp_refusal set.now env.now) result }

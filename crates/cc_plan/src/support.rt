@@ -26,8 +26,8 @@ fn second(alloc: Global, text: &Option<Text>) -> Mem<Option<Text>>
     }
 }
 
-/// The settings of a question on a flag: the compiler and the flag, level 0, no debug information, and nothing that Cargo hands down, so that
-/// the verdict speaks of the flag alone. Only want of memory refuses.
+/// The settings of a question on a flag: the compiler and the flag, level 0, no debug information, and nothing that
+/// Cargo hands down, so that the verdict speaks of the flag alone. Only want of memory refuses.
 pub(crate) fn flag_settings(
     alloc: Global,
     set: &BuildConfig,
@@ -91,8 +91,8 @@ fn flag_vars(alloc: Global, env: &BuildEnv, family: ToolFamily) -> Mem<Vars>
     env.inherited().child_vars(alloc, &entries)
 }
 
-// The words that a compiler is asked with. Clang would write on standard error at `-v`, and warns of a word that it has no use for
-// (`-Wunused-command-line-argument` of Clang's "Diagnostic flags in Clang"): either would count as a no.
+// The words that a compiler is asked with. Clang would write on standard error at `-v`, and warns of a word that it has
+// no use for (`-Wunused-command-line-argument` of Clang's "Diagnostic flags in Clang"): either would count as a no.
 fn asking_words(alloc: Global, family: ToolFamily, words: Words) -> Mem<Words>
     ensures { IfOk result (λ asking. asking ≡ spec.asking_words family words) }
 {

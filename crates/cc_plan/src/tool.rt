@@ -39,7 +39,8 @@ struct ToolPlan {
     warned: Warned,
 }
 
-/// Warnings, and whether the call is the first of its caches that leaves off flags for the linker, which warns of it for all.
+/// Warnings, and whether the call is the first of its caches that leaves off flags for the linker, which warns of it
+/// for all.
 #[derive(Drop, Debug)]
 pub(crate) struct Warned {
     pub is_first: bool,
@@ -134,7 +135,8 @@ fn detection_warnings(alloc: Global, compiler: &Compiler) -> Mem<Words>
     Ok(warnings)
 }
 
-/// How the compiler was found, and that it isn't one for the target, where a user is warned of it. Only want of memory refuses.
+/// How the compiler was found, and that it isn't one for the target, where a user is warned of it. Only want of memory
+/// refuses.
 pub(crate) fn found_warnings(given: &Compilation<'_>) -> Mem<Words>
     ensures { IfOk result (λ warnings. warnings ≡ found_warnings (shown given.now)) }
 {
@@ -166,7 +168,8 @@ fn unmarked_by(given: &Compilation<'_>, supported: &Supported) -> Mem<Unmarked>
     })
 }
 
-// What a user is warned of, where the caches are asked whether the call is the first that warns of flags for the linker.
+// What a user is warned of, where the caches are asked whether the call is the first that warns of flags for the
+// linker.
 pub(crate) fn marked<W: World>(
     rt: &impl Wait,
     caches: &Caches<W>,
@@ -182,7 +185,8 @@ pub(crate) fn marked<W: World>(
     Ok(Warned { is_first, warnings })
 }
 
-/// What a user is told of a quiet plan: it leaves the mark of the caches, and so is never the first that warns of flags for the linker.
+/// What a user is told of a quiet plan: it leaves the mark of the caches, and so is never the first that warns of flags
+/// for the linker.
 pub(crate) fn quiet_warnings(set: &BuildConfig, unmarked: Unmarked) -> Mem<Words>
     ensures { IfOk result (λ warnings. warnings ≡ marked_by set.now unmarked false) }
 {
@@ -341,11 +345,12 @@ fn plan_tool<'a, W: World, H: Host<W>>(
     })
 }
 
-/// The tool of these settings in this environment: the program with its wrapper, the words that each source is compiled with, and the
-/// variables that its commands get besides. Its warnings are printed last, where they are wanted.
+/// The tool of these settings in this environment: the program with its wrapper, the words that each source is compiled
+/// with, and the variables that its commands get besides. Its warnings are printed last, where they are wanted.
 ///
-/// Refused where the optimisation level, the target or the host is set nowhere, the target isn't known, a word of the target is refused,
-/// or a flag of Rust code is wrong; by a fault of the host that prints; and for memory. The answers until then stay in the sight.
+/// Refused where the optimisation level, the target or the host is set nowhere, the target isn't known, a word of the
+/// target is refused, or a flag of Rust code is wrong; by a fault of the host that prints; and for memory. The answers
+/// until then stay in the sight.
 pub fn tool_of<W: World, H: Host<W>>(
     rt: &impl Wait,
     alloc: Global,
@@ -369,8 +374,8 @@ pub fn tool_of<W: World, H: Host<W>>(
     Ok(plan.tool)
 }
 
-/// Whether this call, of those that share its caches, is the one that warns of flags that are left off. No clause says which call it is,
-/// since the mark stands behind a lock.
+/// Whether this call, of those that share its caches, is the one that warns of flags that are left off. No clause says
+/// which call it is, since the mark stands behind a lock.
 pub(crate) fn is_first_warning<W: World>(
     rt: &impl Wait,
     caches: &Caches<W>,

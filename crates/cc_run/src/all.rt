@@ -127,14 +127,14 @@ pub(crate) fn run_batch<W: World, H: Host<W>, J: Jobs, Q: Queue>(
     }
 }
 
-/// Runs the commands of a queue to their ends, each under a token, and as many side by side as there are tokens. The next
-/// command is the least that may be started, and its start carries how many tokens the seat then holds. It answers what
-/// began and what ended, in order; a failed command ends no run.
+/// Runs the commands of a queue to their ends, each under a token, and as many side by side as there are tokens. The
+/// next command is the least that may be started, and its start carries how many tokens the seat then holds. It answers
+/// what began and what ended, in order; a failed command ends no run.
 ///
-/// Refused are a missing program; a fault of the host or of the pool; want of memory; and want of turns, where `turns` are
-/// used up and a command runs or may be started. They end the run at once: the children that run are abandoned. After each
-/// answer the seat holds nothing, and no child of the run is left. Both counts of the seat rose by the starts; where a start
-/// ended the run, the token of that start stands in them too.
+/// Refused are a missing program; a fault of the host or of the pool; want of memory; and want of turns, where `turns`
+/// are used up and a command runs or may be started. They end the run at once: the children that run are abandoned.
+/// After each answer the seat holds nothing, and no child of the run is left. Both counts of the seat rose by the
+/// starts; where a start ended the run, the token of that start stands in them too.
 ///
 /// What is printed and said is as for `run_all`.
 pub fn run_queue<W: World, H: Host<W>, J: Jobs, Q: Queue>(
@@ -205,20 +205,20 @@ pub(crate) fn by_failure(failure: Option<(usize, Status)>) -> Result<(), RunErro
     }
 }
 
-/// Runs a list of commands to their ends, each under a token, and as many side by side as there are tokens. They start in
-/// list order, and each start carries how many tokens the seat then holds. A failed command stops no other, unless
+/// Runs a list of commands to their ends, each under a token, and as many side by side as there are tokens. They start
+/// in list order, and each start carries how many tokens the seat then holds. A failed command stops no other, unless
 /// `shows.stop` is on: then no command is started after one failed, and those that run are waited for.
 ///
-/// Refused are a failed command, by the one that ended last; a missing program; a fault of the host or of the pool; want
-/// of memory; and want of turns, where `turns` are used up and a command runs or may be started. All but the first end the
-/// run at once: the children that run are abandoned. After each answer the seat holds nothing, and no child of the run is
-/// left. Both counts of the seat rose by the starts; where a start ended the run, the token of that start stands in them
-/// too.
+/// Refused are a failed command, by the one that ended last; a missing program; a fault of the host or of the pool;
+/// want of memory; and want of turns, where `turns` are used up and a command runs or may be started. All but the first
+/// end the run at once: the children that run are abandoned. After each answer the seat holds nothing, and no child of
+/// the run is left. Both counts of the seat rose by the starts; where a start ended the run, the token of that start
+/// stands in them too.
 ///
 /// Printed are, as `shows` says, a line before each command, the lines of each standard error as they come, a line with
-/// the status of each that ended, and a warning of each that failed. To a host that listens is said, just before the start
-/// of a command with a message, that it compiles; each line of each standard error; that one can't be read; and each
-/// failure, also where no warnings are shown. A refused line, message or memory leaves the first of these.
+/// the status of each that ended, and a warning of each that failed. To a host that listens is said, just before the
+/// start of a command with a message, that it compiles; each line of each standard error; that one can't be read; and
+/// each failure, also where no warnings are shown. A refused line, message or memory leaves the first of these.
 ///
 /// Where one caller owns the pool, no more turns are made than the host's patience for each command.
 pub fn run_all<W: World, H: Host<W>, J: Jobs>(

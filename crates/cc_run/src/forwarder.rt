@@ -37,7 +37,8 @@ impl Forwarder {
         }
     }
 
-    /// Takes the next piece, and gives the lines that it ends, without their line feeds. Refused for memory, it stays as it was.
+    /// Takes the next piece, and gives the lines that it ends, without their line feeds. Refused for memory, it stays
+    /// as it was.
     pub fn take(&mut self, piece: &[u8]) -> Mem<Vec<Bytes>>
         ensures lines { IfOk result (λ lines. lines.items ≡ whole_lines (self.old ++ piece.now)) }
         ensures rest { OnOk result (self.new ≡ rest_of (self.old ++ piece.now)) }

@@ -1,9 +1,10 @@
 //! Runs commands to their ends: side by side, each under a token, or alone.
 //!
 //! Stands on `cc_text`, `cc_host` and `cc_jobs`. A run asks a queue which command comes next, starts it, makes turns,
-//! forwards what the children write on their standard error line by line, tells the queue what began and what ended, and
-//! gives the token of each child that ended back. The crates above use one record: the run went on by good events to its
-//! end, and from there on its log has the one event that tells why it ended, and the children that were left alone.
+//! forwards what the children write on their standard error line by line, tells the queue what began and what ended,
+//! and gives the token of each child that ended back. The crates above use one record: the run went on by good events
+//! to its end, and from there on its log has the one event that tells why it ended, and the children that were left
+//! alone.
 #![tactic(auto)]
 
 mod all;

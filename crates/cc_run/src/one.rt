@@ -20,7 +20,8 @@ use std::slice;
 /// Refused are its failure, a missing program, a fault of the host, want of memory and want of turns, with place 0. All
 /// but the first end the run at once: a child that runs is abandoned. After each answer no child of the run is left.
 ///
-/// It prints and says as `run_all` does, without a warning of a failure, and makes no more turns than the host's patience.
+/// It prints and says as `run_all` does, without a warning of a failure, and makes no more turns than the host's
+/// patience.
 pub fn run_one<W: World, H: Host<W>>(
     alloc: Global,
     host: &mut H,

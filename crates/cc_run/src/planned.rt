@@ -19,8 +19,8 @@ pub struct Planned {
 /// What of a run is shown: on its host as lines, and of the commands' own standard output.
 #[derive(Clone, Copy, Debug, PartialEq, Eq)]
 pub struct Shows {
-    /// The lines of each standard error, and a warning of each failure, as lines `cargo:warning=..`. Where it is off and
-    /// the host doesn't listen, no standard error is read.
+    /// The lines of each standard error, and a warning of each failure, as lines `cargo:warning=..`. Where it is off
+    /// and the host doesn't listen, no standard error is read.
     pub warnings: bool,
     /// A line before each command, and one with its status after it.
     pub debug: bool,

@@ -9,8 +9,8 @@ ghost use Rattle.cc_run.specs.Plan.{Plan, IsNext};
 use crate::Planned;
 use cc_host::Status;
 
-/// Commands that are to be run, each at its place, of which some may have to wait for others. A run asks its queue which
-/// command comes next, and tells it what began and what ended. What a queue keeps for that is its own.
+/// Commands that are to be run, each at its place, of which some may have to wait for others. A run asks its queue
+/// which command comes next, and tells it what began and what ended. What a queue keeps for that is its own.
 pub trait Queue {
     /// The commands, and which of them may be started after what. No call changes it.
     ghost plan: { Self → Plan };

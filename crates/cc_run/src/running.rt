@@ -47,8 +47,8 @@ impl Marks {
 }
 
 /// The children of a run that run, in start order, each with its place in the queue and with what it wrote on its
-/// standard error since its last line feed; and what began and what ended, in order. It is kept between the polls of one
-/// run.
+/// standard error since its last line feed; and what began and what ended, in order. It is kept between the polls of
+/// one run.
 #[derive(Drop)]
 pub struct Running {
     pub(crate) children: Vec<Child>,

@@ -164,12 +164,12 @@ impl SpawnState {
         SpawnState
     }
 
-    /// Takes a token and starts the next command under it, again and again, until no token comes or none may be started.
-    /// It is ready exactly where all are started, or where `shows.stop` is on and a child of the run failed; else, over a
-    /// pool that one caller owns, the seat holds the pool's total.
+    /// Takes a token and starts the next command under it, again and again, until no token comes or none may be
+    /// started. It is ready exactly where all are started, or where `shows.stop` is on and a child of the run failed;
+    /// else, over a pool that one caller owns, the seat holds the pool's total.
     ///
-    /// Refused are a missing program, a fault of the host or of the pool, and want of memory: no command more is started
-    /// then, and the token of the start that ended it was given back. Those that were started before run on.
+    /// Refused are a missing program, a fault of the host or of the pool, and want of memory: no command more is
+    /// started then, and the token of the start that ended it was given back. Those that were started before run on.
     pub fn poll<W: World, H: Host<W>, J: Jobs>(
         &mut self,
         host: &mut H,

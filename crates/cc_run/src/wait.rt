@@ -27,16 +27,16 @@ use cc_host::{Host, News, World};
 use cc_jobs::Jobs;
 use cc_text::Mem;
 
-/// The poll that waits for the children of a run. It keeps for how many passes nothing was started and nothing ended, by
-/// which a turn rests: as many milliseconds, at most 10.
+/// The poll that waits for the children of a run. It keeps for how many passes nothing was started and nothing ended,
+/// by which a turn rests: as many milliseconds, at most 10.
 #[derive(Clone, Copy, Debug, PartialEq, Eq)]
 pub struct WaitState {
     idle: u64,
     marks: usize,
 }
 
-// Takes the news of one child. One that ended is taken out of the run, the queue is told, and its token given back, in any
-// case.
+// Takes the news of one child. One that ended is taken out of the run, the queue is told, and its token given back, in
+// any case.
 fn settle<J: Jobs, Q: Queue>(
     seat: &mut J::Seat,
     queue: &mut Q,

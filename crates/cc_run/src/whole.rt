@@ -19,8 +19,8 @@ use cc_host::{Command, Host, LineKind, OutputKind, Pipes, Ran, Status, World};
 use cc_text::{Bytes, Mem};
 use std::alloc::Global;
 
-// What is done with the outputs of a command: where its standard output goes, whether the warnings of its standard error
-// are printed where it failed too, and which line of them isn't.
+// What is done with the outputs of a command: where its standard output goes, whether the warnings of its standard
+// error are printed where it failed too, and which line of them isn't.
 #[derive(Clone, Copy)]
 struct Outputs<'a> {
     out: OutputKind,
@@ -170,8 +170,8 @@ fn run_whole<W: World, H: Host<W>>(
 }
 
 /// Runs a command to its end in one call of the host, with its standard output discarded. Printed are, as `shows` says,
-/// a line before it, the warnings of its standard error where it ended with 0, and then its status. To a host that listens
-/// these warnings are said too, also where none are shown.
+/// a line before it, the warnings of its standard error where it ended with 0, and then its status. To a host that
+/// listens these warnings are said too, also where none are shown.
 ///
 /// Refused are a missing program, a fault of the host, another status than 0 and want of memory, each with place 0. A
 /// refused line, message or memory leaves the first of these.
