@@ -98,7 +98,7 @@ pub enum Begun<P: OpenProcess + Drop> {
     Missing,
     /// It couldn't be started.
     Failed(Why),
-    /// The machine lends no process more for now.
+    /// The machine lends no process: as many run as it allows, and one that ends makes room for another.
     Crowded,
     /// It runs.
     Child(Spawned<P>),

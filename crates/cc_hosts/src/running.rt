@@ -375,8 +375,8 @@ fn free_one<R: Processes + Threads + Wait + Copy>(
     wait_for_end(rt, sink, processes)
 }
 
-/// Starts a command. Where the machine lends no process more for now, it is tried again without the threads, where no child needs them, and
-/// then each time that a child ended.
+/// Starts a command. Where the machine lends no process, as many run as it allows, and each that ends makes room for one:
+/// the command is tried again without the threads, where no child needs them, and then each time that a child ended.
 pub fn begin<R: Processes + Threads + Files + Env + Wait + Copy + AllocGlobal>(
     rt: R,
     cmd: &Command,
