@@ -3,7 +3,6 @@ pub mod ArchivedLaws
 pub mod ArchivingLaws
 pub mod AskLaws
 pub mod CountLaws
-pub mod DottedPaths
 pub mod EnoughLaws
 pub mod EntryLaws
 pub mod ExpandedLaws
