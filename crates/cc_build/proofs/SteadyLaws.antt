@@ -1,5 +1,5 @@
 -- Calls by clones in a steady world: a list of them gives what it gives with empty caches.
-use Rattle.std.proofs.Common.{◌≡◌, ◌≢◌, ◌⊎◌, inl, inr, ◌∙◌, refl, sym, ap, ap₂, subst, ℕ, List, [], ◌∷◌, ◌++◌, map, Bool, true, false, ◌||◌, Option, Some, None, IfOk, Result, Ok, Err, if◌then◌else◌}
+use Rattle.std.proofs.Common.{◌≡◌, ◌≢◌, ◌⊎◌, inl, inr, ◌∙◌, refl, sym, ap, ap₂, subst, ℕ, List, [], ◌∷◌, ◌++◌, map, Bool, true, false, ◌||◌, Option, Some, None, is_some, IfOk, Result, Ok, Err, if◌then◌else◌}
 use Rattle.std.specs.List.{All, list_all, list_any}
 use Rattle.std.proofs.lemmas.List.Elements.{All-nil, All-cons, All-head, All-tail}
 use Rattle.cc_host.specs.Command.{CommandSeen}
@@ -26,12 +26,12 @@ use Rattle.cc_flags.specs.declared.variables.Reads.{Reads}
 use Rattle.cc_plan.specs.Archive.{archiver_of, ranlib_cmd_of}
 use Rattle.cc_plan.specs.FlagSupport.{flag_verdict, support_warnings}
 use Rattle.cc_plan.specs.Planned.{tool_of, warnings_of}
-use Rattle.cc_plan.specs.Questions.{PlanAsks, ArchiverAsks, RanlibAsks, SupportAsks}
+use Rattle.cc_plan.specs.Questions.{PlanAsks, ArchiverAsks, RanlibAsks, SupportAsks, RunAsks}
 use Rattle.cc_plan.specs.Reruns.{rerun_names}
 use Rattle.cc_build.specs.Build.{BuildSeen, probes, AsksByPlan, AsksByFlag}
 use Rattle.cc_build.specs.Compiler.{IsTool, tool_error, tool_steps, CompilerEnds}
 use Rattle.cc_build.specs.Error.{ErrorSeen, no_memory}
-use Rattle.cc_build.specs.Failed.{HasFault}
+use Rattle.cc_build.specs.Failed.{HasFault, is_fault}
 use Rattle.cc_build.specs.FlagSupport.{IsVerdict, support_error, support_steps, TrialEnds}
 use Rattle.cc_build.specs.Outcome.{IsCausedBy}
 use Rattle.cc_build.specs.Stage.{rerun_lines}
@@ -40,6 +40,26 @@ use Rattle.cc_build.specs.Tools.{IsArchiver, IsRanlib, archiver_error, ranlib_er
 use Rattle.cc_build.specs.Way.{Firsts, chosen}
 use Rattle.cc_build.proofs.FaultLaws.{stopped_fault}
 use Rattle.cc_build.proofs.PrintedLaws.{is_told, told_both, told_printed, told_warned}
+use Rattle.std.proofs.lemmas.List.Folds.{list_any-append}
+use Rattle.cc_env.specs.Env.{EnvSeen}
+use Rattle.cc_flags.specs.Given.{is_disabled}
+use Rattle.cc_flags.specs.declared.object.Object.{Object}
+use Rattle.cc_flags.specs.declared.settings.BuildConfig.{BuildConfig}
+use Rattle.cc_plan.specs.Plan.{objects_of, compile_in, compiles_of}
+use Rattle.cc_plan.specs.Refusal.{early_refusal, late_refusal}
+use Rattle.cc_build.specs.Build.{AsksByRun}
+use Rattle.cc_build.specs.Intermediates.{source_reads}
+use Rattle.cc_build.specs.Planning.{planning_stages, planning_error, PlanningEnds}
+use Rattle.cc_build.specs.Shows.{shows_of}
+use Rattle.cc_build.specs.Stage.{Stage, calls, opening_steps, compile_planned, compiles_planned, folder_stages, name_stages}
+use Rattle.cc_build.specs.Stage.Stage.{Calls, Asks, Tries, RunsOne, RunsAll}
+use Rattle.cc_build.specs.Way.{Found}
+use Rattle.cc_build.specs.Went.{Terms, Means, terms, means, Halts, Halted}
+use Rattle.cc_build.specs.declared.planning.CompilePlan.{CompilePlan}
+use Rattle.cc_build.proofs.AloneLaws.{AreStill, still_behind}
+use Rattle.cc_build.proofs.PlanningLaws.{still_planning}
+use Rattle.cc_build.proofs.SourceLaws.{opening_notes}
+use Rattle.cc_build.proofs.StopLaws.{ArePlain, call_cause, plain_then, plain_unless, plain_lines, plain_notes, plain_folder}
 
 -- ---- what a question comes to
 
@@ -119,18 +139,21 @@ module _ (world : Question → Outcome) (files : Look) (dir : List ℕ) (asks : 
 
 -- ---- calls that plan or try
 
--- what a build is asked: its compiler, its archiver, the tool that writes an index, or whether its compiler takes a flag
+-- what a build is asked: its compiler, its archiver, the tool that writes an index, whether its compiler takes a flag, or the commands that compile
+-- for the library of an output
 pub data Request : Type 0 where
   Compiler : Request
   Archiver : Request
   Ranlib : Request
   Support : List ℕ → Request
+  Compiles : List ℕ → Request
 
--- and what it answers: a tool, a command, or whether
+-- and what it answers: a tool, a command, whether, or commands
 pub data Reply : Type 0 where
   Tool : ToolSeen → Reply
   Program : CommandSeen → Reply
   Whether : Bool → Reply
+  Commands : List CommandSeen → Reply
 
 -- the questions that it may ask for that
 abbrev pub AsksFor : BuildSeen → Request → Look → Question → Type 0
@@ -138,6 +161,7 @@ AsksFor b Compiler look q = PlanAsks b.config b.env look q
 AsksFor b Archiver look q = ArchiverAsks b.config b.env look q
 AsksFor b Ranlib look q = RanlibAsks b.config b.env look q
 AsksFor b (Support flag) look q = SupportAsks b.config b.env flag look q
+AsksFor b (Compiles output) look q = RunAsks b.config b.env look q
 
 -- the error of settings that are refused
 abbrev pub refusal_of : BuildSeen → Request → Look → Option ErrorSeen
@@ -145,6 +169,7 @@ refusal_of b Compiler look = tool_error b.config b.env look
 refusal_of b Archiver look = archiver_error b.config b.env look
 refusal_of b Ranlib look = ranlib_error b.config b.env look
 refusal_of b (Support flag) look = support_error b.config b.env flag look
+refusal_of b (Compiles output) look = planning_error b.config b.env look output
 
 -- the reply to others
 abbrev pub reply_of : BuildSeen → Request → Look → Reply
@@ -152,6 +177,7 @@ reply_of b Compiler look = Tool (tool_of b.config b.env look)
 reply_of b Archiver look = Program (archiver_of b.config b.env look).cmd
 reply_of b Ranlib look = Program (ranlib_cmd_of b.config b.env look)
 reply_of b (Support flag) look = Whether (is_yes (flag_verdict b.config b.env flag look))
+reply_of b (Compiles output) look = Commands (compiles_of b.config b.env look)
 
 -- the reply, unless it is refused
 abbrev pub unless : {X : Type 0} → Option ErrorSeen → X → Result X ErrorSeen
@@ -238,6 +264,90 @@ module _ (world : Question → Outcome) (b : BuildSeen) (part : List Event) wher
   support_kept listens flag r asked is ends = kept_so (Support flag) Whether r asked (λ look agree.
       gave flag_reads b (Support flag) (support_error b.config b.env flag look) (support_steps b.config b.env listens look) (told_warned b.config listens (support_warnings b.config b.env look)) look part Whether r (reply_of b (Support flag) look)
       (under_ok (answers part) (λ yes. IsVerdict b.config b.env flag yes) (λ yes. Whether yes ≡ reply_of b (Support flag) look) r look agree (λ yes same. ap (λ v. Whether v) same) is) (ends.under look agree))
+
+-- ---- and a plan that isn't begun
+
+-- calls of the host and questions alone end for want of memory, by a fault, or by a refusal
+module _ (t : Terms) (refusal : Option ErrorSeen) where
+  fault_behind : (front rest : List Event) → HasFault rest → HasFault (front ++ rest)
+  fault_behind front rest h = list_any-append is_fault front rest ∙ or_last (list_any is_fault front) (list_any is_fault rest) h
+    where
+      or_last : (a b : Bool) → b ≡ true → (a || b) ≡ true
+      or_last true b h = refl
+      or_last false b h = h
+
+  plain_behind : (a b : List Stage) → ArePlain (a ++ b) → ArePlain b
+  plain_behind [] b h = h
+  plain_behind (s ∷ a) b h = plain_behind a b h.1
+
+  halts_cause : (stages : List Stage) (part : List Event) (e : ErrorSeen) (x y : Means) → ArePlain stages → AreStill stages → Halts t refusal stages part e x y → (refusal ≡ Some e) ⊎ ((e ≡ no_memory) ⊎ HasFault part)
+  halts_cause [] part e x y plain still h = by_cause h.0
+    where
+      by_cause : (e ≡ no_memory) ⊎ (refusal ≡ Some e) → (refusal ≡ Some e) ⊎ ((e ≡ no_memory) ⊎ HasFault part)
+      by_cause (inl memory) = inr (inl memory)
+      by_cause (inr refused) = inl refused
+  halts_cause (s ∷ ss) part e x y plain still (inl memory) = inr (inl memory.0)
+  halts_cause (Calls step ∷ ss) part e x y plain still (inr d) = inr (inr (subst HasFault (sym d.1.0) (call_cause step d.0 plain.0 d.1.1)))
+  halts_cause (Asks ∷ ss) part e x y plain still (inr d) = inr (inl d.0)
+  halts_cause (Tries refused p ∷ ss) part e x y plain still (inr d) = absurd still.0
+  halts_cause (RunsOne p ∷ ss) part e x y plain still (inr d) = absurd still.0
+  halts_cause (RunsAll ps ∷ ss) part e x y plain still (inr d) = absurd still.0
+
+  halted_cause : (stages : List Stage) (part : List Event) (e : ErrorSeen) (x z : Means) → ArePlain stages → AreStill stages → Halted t refusal stages part e x z → (refusal ≡ Some e) ⊎ ((e ≡ no_memory) ⊎ HasFault part)
+  halted_cause stages part e x z plain still h =
+      by_cause (halts_cause h.after h.rest e h.y z (plain_behind h.before h.after (subst ArePlain h.stages_are plain)) (still_behind h.before h.after (subst AreStill h.stages_are still)) h.halts)
+    where
+      by_cause : (refusal ≡ Some e) ⊎ ((e ≡ no_memory) ⊎ HasFault h.rest) → (refusal ≡ Some e) ⊎ ((e ≡ no_memory) ⊎ HasFault part)
+      by_cause (inl refused) = inl refused
+      by_cause (inr (inl memory)) = inr (inl memory)
+      by_cause (inr (inr fault)) = inr (inr (subst HasFault (sym h.cut) (fault_behind h.front h.rest fault)))
+
+module _ (set : BuildConfig) (env : EnvSeen) (found : Found) (look : Look) (firsts : Firsts) (output : List ℕ) where
+  planning_plain : ArePlain (planning_stages set env found look firsts output)
+  planning_plain =
+      let opening : List Step = opening_steps set env found look in
+      let names : List Stage = name_stages set env (source_reads set) look firsts in
+      let told : List Stage = calls opening ++ Asks ∷ names in
+      let asked : List Stage = Asks ∷ (if is_some (late_refusal set env look) then [] else told) in
+      let rest : List Stage = if is_disabled env then [] else asked in
+      let behind : ArePlain (Asks ∷ names) = (tt, plain_lines Rerun (rerun_lines (chosen firsts.names (rerun_names (source_reads set) set env look)))) in
+      plain_unless (is_some (early_refusal set env output)) (folder_stages set env ++ rest)
+      (plain_then (folder_stages set env) rest (plain_folder set env)
+      (plain_unless (is_disabled env) asked (tt, plain_unless (is_some (late_refusal set env look)) told (plain_then (calls opening) (Asks ∷ names) (plain_notes opening (opening_notes set env found look)) behind))))
+
+commands_of : (set : BuildConfig) (env : EnvSeen) (here : Option (List ℕ)) (look : Look) → map (λ p. p.cmd) (compiles_planned set env here look) ≡ compiles_of set env look
+unfolding compiles_planned
+commands_of set env here look = each (objects_of set env)
+  where
+    each : (objects : List Object) → map (λ p. p.cmd) (map (λ object. compile_planned here object (compile_in set env look object)) objects) ≡ map (compile_in set env look) objects
+    each [] = refl
+    each (object ∷ objects) = ap (λ cmds. compile_in set env look object ∷ cmds) (each objects)
+
+abbrev pub planned_commands : CompilePlan → Reply
+planned_commands plan = Commands (map (λ p. p.cmd) plan.commands.items)
+
+module _ (world : Question → Outcome) (b : BuildSeen) (part : List Event) (listens : Bool) (output : List ℕ) where
+  abbrev some_terms : Terms
+  some_terms = terms (shows_of b.config b.env listens) None None
+
+  abbrev some_means : Means
+  some_means = means 0 0 0 0
+
+  planned_so : (r : Result CompilePlan ErrorSeen) (look : Look) → PlanningEnds b listens output r look part → ((call b (Compiles output) part planned_commands r).result ≡ given b (Compiles output) look) ⊎ IsCutOff (call b (Compiles output) part planned_commands r).result part
+  planned_so (Ok plan) look h =
+      let none : planning_error b.config b.env look output ≡ None = (h.2.3 some_terms some_means).0 in
+      let cmds : map (λ p. p.cmd) plan.commands.items ≡ compiles_of b.config b.env look = ap (map (λ p. p.cmd)) h.2.2.commands ∙ commands_of b.config b.env h.0.here look in
+      inl (rw none (ap (λ c. Ok (Commands c)) cmds))
+  planned_so (Err e) look h =
+      by_cause (halted_cause some_terms (planning_error b.config b.env look output) (planning_stages b.config b.env h.0 look h.1 output) part e some_means some_means (planning_plain b.config b.env h.0 look h.1 output) (still_planning b.config b.env listens look output h.0 h.1) (h.2.3 some_terms some_means))
+    where
+      by_cause : (planning_error b.config b.env look output ≡ Some e) ⊎ ((e ≡ no_memory) ⊎ HasFault part) → (Err e ≡ given b (Compiles output) look) ⊎ IsCutOff (Err e) part
+      by_cause (inl refused) = inl (rw refused refl)
+      by_cause (inr (inl memory)) = inr (inl (ap (λ x. Err x) memory))
+      by_cause (inr (inr fault)) = inr (inr fault)
+
+  pub plan_kept : (r : Result CompilePlan ErrorSeen) → AsksByRun true world b part → Holds (answers part) (λ look. PlanningEnds b listens output r look part) → Kept world (call b (Compiles output) part planned_commands r)
+  plan_kept r asked ends = kept_so world b part (Compiles output) planned_commands r asked (λ look agree. planned_so r look (ends.under look agree))
 
 -- ---- a list of them
 

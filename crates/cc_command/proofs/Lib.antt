@@ -17,6 +17,7 @@ pub mod GraphedLaws
 pub mod JobLaws
 pub mod KeyLaws
 pub mod NumberLaws
+pub mod PathLaws
 pub mod PlainRunLaws
 pub mod PromiseLaws
 pub mod RecordEnds
