@@ -159,7 +159,7 @@ module _ (listens : Bool) (look : Look) (q : Request) where
     where
       by_cause : CaptureEnds n.front (Err n.error) ⊎ Untold n.front n.error → IsPathless n.error
       by_cause (inl unlisted) = capture_pathless q.1 n.front n.error unlisted
-      by_cause (inr untold) = faults_pathless _ [] untold.1.0 n.error untold.1.1.1
+      by_cause (inr untold) = faults_pathless _ [] untold.1 n.error untold.2.1
   record_never file part ended c (inr r) u = behind_never file _ r.ran r.rest ended r.behind (answers_never _ r.ran c r.answer) u
 
 -- ---- an archive alone
@@ -238,7 +238,7 @@ sums_pathless count turned log (Err error) g part result h e is =
     let k = g.run.promises.under some.0 some.1 in
     let c : Course = gen_course turned k.0 k.1 k.2 in
     let same : error ≡ e = (let both : Err error ≡ Err e = sym h.0 ∙ is in cc) in
-    λ path at. ends_pathless (terms_for (gen_build count) false c) (refusal_error (gen_settings count) no_variables some.0 gen_name) (stages_for (gen_build count) k.3.way some.0 gen_name) log (Err error) c.before c.after (run_refusal_pathless (gen_settings count) no_variables some.0 gen_name) k.3.outcome error refl path (same ∙ at)
+    λ path at. ends_pathless {T = Unit {0}} (terms_for (gen_build count) false c) (refusal_error (gen_settings count) no_variables some.0 gen_name) (stages_for (gen_build count) k.3.way some.0 gen_name) log (Err error) c.before c.after (run_refusal_pathless (gen_settings count) no_variables some.0 gen_name) k.3.outcome error refl path (same ∙ at)
 
 generating_pathless : (count turned : ℕ) (part : List Event) (result : Result (Unit {0}) ErrorSeen) (bench : Option BenchSeen) → Generating count turned part result bench → (e : ErrorSeen) → result ≡ Err e → IsPathless e
 generating_pathless count turned part result (Some bench) h e is = sums_pathless count turned bench.log h.0 h.1.0 part result h.1.1 e is
