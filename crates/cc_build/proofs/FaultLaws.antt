@@ -1,14 +1,18 @@
 -- Where a call of the host failed: nowhere in a part that nothing ended, else at its end.
-use Rattle.std.proofs.Common.{◌≡◌, ◌∙◌, refl, sym, ap, subst, List, [], ◌∷◌, ◌++◌, Bool, true, false, not, if◌then◌else◌, ◌||◌, append_assoc}
-use Rattle.std.specs.List.{list_any}
+use Rattle.std.proofs.Common.{◌≡◌, ◌∙◌, refl, sym, ap, subst, List, [], ◌∷◌, ◌++◌, Bool, true, false, not, if◌then◌else◌, ◌||◌, Some, append_assoc}
+use Rattle.std.specs.List.{list_all, list_any}
+use Rattle.std.proofs.lemmas.Bool.{and_parts}
 use Rattle.std.proofs.lemmas.List.{append_cancel_left}
-use Rattle.cc_host.specs.Part.{Step, stop_of, calm_of, stops, calm, left, is_probing, StopsAt, IsPartly}
+use Rattle.std.proofs.lemmas.List.Folds.{list_all-append, list_any-append}
+use Rattle.cc_host.specs.Part.{Step, stop_of, calm_of, stops, calm, done, left, is_probing, StopsAt, IsPartly}
 use Rattle.cc_host.specs.declared.event.Event.{Event}
 use Rattle.cc_host.specs.declared.event.Event.TheVariants.{Fault}
 use Rattle.cc_host.proofs.Parts.{stops_both, calm_then, calm_whole}
-use Rattle.cc_build.specs.Failed.{is_fault}
+use Rattle.cc_build.specs.Error.{ErrorSeen}
+use Rattle.cc_build.specs.Failed.{HasFault, is_fault}
 use Rattle.cc_build.specs.Promises.{FaultsEnd}
-use Rattle.cc_build.proofs.PrintedLaws.{IsRealFault, fault_stops}
+use Rattle.cc_build.specs.Stop.{stopped_by}
+use Rattle.cc_build.proofs.PrintedLaws.{is_told, IsRealFault, told_refused, fault_stops, fault_is}
 use Rattle.cc_build.proofs.Trying.{beyond, no_such_fault}
 
 -- one event alone ends a run
@@ -60,6 +64,26 @@ partly_faults steps part p before after call why real is = ([], nothing_behind)
 
     nothing_behind : after ≡ []
     nothing_behind = none_follows after fault (fault_stops fault real_fault) alone.1 (append_cancel_left before (fault ∷ after) (after ++ fault ∷ []) both)
+
+-- a step that was refused faulted
+pub stopped_fault : (steps : List Step) (part : List Event) (e : ErrorSeen) → list_all is_told steps ≡ true → IsPartly steps part → stopped_by (left steps part) (stops part) ≡ Some e → HasFault part
+stopped_fault steps part e told p stopped = by_left (left steps part) (stops part) told_left p.stop refl stopped
+  where
+    told_left : list_all is_told (left steps part) ≡ true
+    told_left = (and_parts (list_all is_told (done part)) (list_all is_told (left steps part)) (sym (list_all-append is_told (done part) (left steps part)) ∙ sym (ap (list_all is_told) p.begun) ∙ told)).1
+
+    by_left : (rest : List Step) (events : List Event) → list_all is_told rest ≡ true → StopsAt rest events → stops part ≡ events → stopped_by rest events ≡ Some e → HasFault part
+    by_left [] events all stop are h = absurd (cc)
+    by_left (step ∷ rest) [] all stop are h = absurd (cc)
+    by_left (step ∷ rest) (event ∷ []) all stop are h =
+        let fault = told_refused step event (and_parts (is_told step) (list_all is_told rest) all).0 stop in
+        ap (list_any is_fault) (p.last ∙ ap (λ l. calm part ++ l) are) ∙ list_any-append is_fault (calm part) (event ∷ []) ∙ or_last (list_any is_fault (calm part)) (is_fault event) (fault_is event fault)
+      where
+        or_last : (a b : Bool) → b ≡ true → (a || (b || false)) ≡ true
+        or_last true b h = refl
+        or_last false true h = refl
+        or_last false false h = absurd (cc)
+    by_left (step ∷ rest) (event ∷ other ∷ events) all stop are h = absurd stop
 
 empty_behind : {X : Type 0} (a b : List X) → a ++ b ≡ [] → b ≡ []
 empty_behind [] b h = h

@@ -3,6 +3,7 @@ pub mod ArchivingLaws
 pub mod Asking
 pub mod BesideLaws
 pub mod BuiltLaws
+pub mod CauseLaws
 pub mod ChildLaws
 pub mod Doing
 pub mod ExpandFaults

@@ -1,5 +1,5 @@
 -- Calls of the host that list and print, and questions: by which steps they are seen, and that they start no child.
-use Rattle.std.proofs.Common.{◌≡◌, ◌⊎◌, inl, inr, ◌∙◌, refl, sym, ap, subst, ℕ, List, [], ◌∷◌, ◌++◌, map, Bool, true, false, if◌then◌else◌, ◌||◌, Option, Some, None, Result, Ok, Err}
+use Rattle.std.proofs.Common.{◌≡◌, ◌⊎◌, inl, inr, ◌∙◌, refl, sym, ap, subst, ℕ, List, [], ◌∷◌, ◌++◌, map, Bool, true, false, if◌then◌else◌, ◌||◌, ◌&&◌, Option, Some, None, Result, Ok, Err}
 use Rattle.std.specs.List.{list_all, list_any, flat_map}
 use Rattle.std.specs.Cmp.Derive.{both_true}
 use Rattle.std.proofs.lemmas.Bool.{and_parts}
@@ -38,6 +38,9 @@ is_told (Prints kind bytes) = true
 is_told (Says message) = true
 is_told Lists = true
 is_told _ = false
+
+pub told_both : (a b : List Step) → list_all is_told a ≡ true → list_all is_told b ≡ true → list_all is_told (a ++ b) ≡ true
+told_both a b p q = list_all-append is_told a b ∙ ap (λ v. v && list_all is_told b) p ∙ q
 
 pub told_prints : (kind : LineKind) (lines : List (List ℕ)) → list_all is_told (map (Prints kind) lines) ≡ true
 told_prints kind [] = refl

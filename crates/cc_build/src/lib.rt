@@ -39,3 +39,4 @@ pub use build::Build;
 pub use error::{Error, ErrorKind};
 pub use linking::{emit_link_directives, try_emit_link_directives};
 pub use planning::CompilePlan;
+pub use shows::is_debug_wanted;

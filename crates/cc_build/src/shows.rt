@@ -1,8 +1,8 @@
 // What of a run is shown.
-ghost use Rattle.std.specs.Prelude.{◌≡◌};
+ghost use Rattle.std.specs.Prelude.{◌≡◌, []};
 ghost use Rattle.cc_build.specs.Shows.{asks_for_debug, is_debug_wanted, is_debug_on, output_kind, shows_of};
 
-use cc_env::BuildEnv;
+use cc_env::{BuildEnv, EnvSnapshot};
 use cc_host::OutputKind;
 use cc_plan::BuildConfig;
 use cc_run::Shows;
@@ -15,10 +15,11 @@ fn asks_for_debug(value: &str) -> bool
     !(value == "" || value == "0" || value == "false")
 }
 
-fn is_debug_wanted(env: &BuildEnv) -> bool
-    ensures { result ≡ is_debug_wanted env.now }
+/// Whether the variable `CC_ENABLE_DEBUG_OUTPUT` among these asks for lines for debugging. It takes no memory.
+pub fn is_debug_wanted(vars: &EnvSnapshot) -> bool
+    ensures { result ≡ is_debug_wanted (record { inherited = vars.now; explicit = [] }) }
 {
-    match env.inherited().get("CC_ENABLE_DEBUG_OUTPUT") {
+    match vars.get("CC_ENABLE_DEBUG_OUTPUT") {
         Some(value) => asks_for_debug(value),
         None => false,
     }
@@ -29,7 +30,7 @@ fn is_debug_on(set: &BuildConfig, env: &BuildEnv) -> bool
 {
     match set.cargo_debug {
         Some(on) => on,
-        None => is_debug_wanted(env),
+        None => is_debug_wanted(env.inherited()),
     }
 }
 

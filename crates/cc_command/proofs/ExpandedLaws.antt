@@ -1,5 +1,5 @@
 -- What the program answers where it expands a source, and what follows from it.
-use Rattle.std.proofs.Common.{◌≡◌, ◌⊎◌, inl, inr, ◌∙◌, refl, sym, ap, subst, ℕ, List, [], ◌∷◌, ◌++◌, Bool, true, false, not, if◌then◌else◌, ◌||◌, Option, Some, None, Result, Ok, Err, append-nil, append_assoc}
+use Rattle.std.proofs.Common.{◌≡◌, ◌⊎◌, inl, inr, ◌∙◌, refl, sym, ap, subst, ℕ, List, [], ◌∷◌, ◌++◌, Bool, true, false, if◌then◌else◌, ◌||◌, Option, Some, None, Result, Ok, Err, append-nil, append_assoc}
 use Rattle.std.specs.List.{list_any}
 use Rattle.std.proofs.lemmas.Grind.{flat_map-append}
 use Rattle.std.proofs.lemmas.List.Folds.{list_any-append}
@@ -40,7 +40,7 @@ use Rattle.cc_build.specs.Went.{terms, means}
 use Rattle.cc_build.proofs.ExpandFaults.{expanded_faultless, tells_faults}
 use Rattle.cc_build.proofs.ExpandFirst.{both_childless, partly_untried, sole_none, sole_then, told_tool, asking_untried, told_names, telling_untried, tells_sole}
 use Rattle.cc_build.proofs.ExpandLaws.{given_attempts, gives_none}
-use Rattle.cc_build.proofs.FaultLaws.{partly_faults, unstopped, then_faults}
+use Rattle.cc_build.proofs.FaultLaws.{partly_faults, stopped_fault, unstopped, then_faults}
 use Rattle.cc_build.proofs.Looks.{agrees_parts}
 use Rattle.cc_command.specs.Answer.{AnswersError, ended_well, ended_wanting}
 use Rattle.cc_command.specs.Archived.{Says}
@@ -51,7 +51,7 @@ use Rattle.cc_command.specs.declared.ended.Ended.{Ended}
 use Rattle.cc_command.proofs.ArchivedLaws.{says_last, says_line}
 use Rattle.cc_command.proofs.PromiseLaws.{faults_behind, known_memory}
 use Rattle.cc_build.proofs.PrintedLaws.{IsChildless, or_false, childless_then, calls_outcome}
-use Rattle.cc_command.proofs.ShownLaws.{childless_line, childless_settled, outcome_partly, stopped_fault}
+use Rattle.cc_command.proofs.ShownLaws.{childless_line, childless_settled, outcome_partly}
 
 -- ---- what is behind another part
 
@@ -119,7 +119,7 @@ module _ (listens : Bool) (b : BuildSeen) (look : Look) where
         by_cause : IsCausedBy (tool_error b.config b.env look) (tool_steps b.config b.env listens lacks.0 look) part e → IsKnown e part
         by_cause (inl memory) = inl memory
         by_cause (inr (inl refused)) = absurd (clash (tool_error b.config b.env look) e neither_refuses.1 refused)
-        by_cause (inr (inr stopped)) = inr (inl (stopped_fault (tool_error b.config b.env look) (tool_steps b.config b.env listens lacks.0 look) part e (told_tool listens b look lacks.0) lacks.1.0 stopped))
+        by_cause (inr (inr stopped)) = inr (inl (stopped_fault (tool_steps b.config b.env listens lacks.0 look) part e (told_tool listens b look lacks.0) lacks.1.0 stopped))
     expand_known e part (inr (fine, inr ran)) = subst (IsKnown e) (sym ran.cut) (known_behind e ran.asking ran.run (gives_none (shows_of b.config b.env listens) p (ignored_in b look) ran.run e ran.gives))
 
   -- ---- and the variables told of that were read for it
@@ -139,7 +139,7 @@ module _ (listens : Bool) (b : BuildSeen) (look : Look) where
       by_cause : IsCausedBy None (told_steps h.1.told.0) h.1.telling e → IsKnown e h.1.telling
       by_cause (inl memory) = inl memory
       by_cause (inr (inl refused)) = absurd (let two : None ≡ Some e = refused in cc)
-      by_cause (inr (inr stopped)) = inr (inl (stopped_fault None (told_steps h.1.told.0) h.1.telling e (told_names listens b look h.1.told.0) h.1.told.1.1.0 stopped))
+      by_cause (inr (inr stopped)) = inr (inl (stopped_fault (told_steps h.1.told.0) h.1.telling e (told_names listens b look h.1.told.0) h.1.told.1.1.0 stopped))
 
   -- ---- and its output printed
 
@@ -176,7 +176,7 @@ module _ (listens : Bool) (b : BuildSeen) (look : Look) where
       by_cause : IsCausedBy None (line_steps k.output) k.printed e → IsKnown e k.printed
       by_cause (inl memory) = inl memory
       by_cause (inr (inl refused)) = absurd (let two : None ≡ Some e = refused in cc)
-      by_cause (inr (inr stopped)) = inr (inl (stopped_fault None (line_steps k.output) k.printed e refl (line_ends (Err e) part k).0.0 stopped))
+      by_cause (inr (inr stopped)) = inr (inl (stopped_fault (line_steps k.output) k.printed e refl (line_ends (Err e) part k).0.0 stopped))
 
 -- ---- the job
 
@@ -340,7 +340,7 @@ module _ (listens : Bool) (steady : Bool) (world : Question → Verdicts) (b : B
           by_cause : IsCausedBy None (Lists ∷ []) s.run e → IsKnown listens (listed_build b part) look e s.run
           by_cause (inl memory) = inl memory
           by_cause (inr (inl refused)) = absurd (let two : None ≡ Some e = refused in cc)
-          by_cause (inr (inr stopped)) = inr (inl (stopped_fault None (Lists ∷ []) s.run e refl o.0.0 stopped))
+          by_cause (inr (inr stopped)) = inr (inl (stopped_fault (Lists ∷ []) s.run e refl o.0.0 stopped))
       job_known e accepted (inl (inr h)) = inl h.0
       job_known e accepted (inr k) =
           let same = listed_is part s.run s.line k.rest k.vars s.cut k.cut in

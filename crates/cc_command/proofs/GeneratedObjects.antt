@@ -13,7 +13,7 @@ use Rattle.cc_text.specs.Hex.{hex_digit, hex_digits, hex16}
 use Rattle.cc_text.specs.Paths.{with_extension}
 use Rattle.cc_command.specs.Generated.{gen_source}
 use Rattle.cc_flags.specs.Object.{hashed, object_name, object_path}
-use Rattle.cc_command.proofs.DottedPaths.{Free, free_both, free_at, dotted, name_is, extended_path}
+use Rattle.cc_plan.proofs.DottedPaths.{Free, free_both, free_at, dotted, name_is, extended_path}
 
 digits_free : (ds : List ℕ) → AllDigits 10 ds → Free slash ds
 digits_free [] d = tt

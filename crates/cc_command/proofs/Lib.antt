@@ -3,7 +3,6 @@ pub mod ArchivedLaws
 pub mod ArchivingLaws
 pub mod AskLaws
 pub mod CountLaws
-pub mod DottedPaths
 pub mod EnoughLaws
 pub mod EntryLaws
 pub mod ExpandedLaws
@@ -18,6 +17,7 @@ pub mod GraphedLaws
 pub mod JobLaws
 pub mod KeyLaws
 pub mod NumberLaws
+pub mod PathLaws
 pub mod PlainRunLaws
 pub mod PromiseLaws
 pub mod RecordEnds

@@ -31,7 +31,7 @@ use Rattle.cc_command.specs.Promises.{EndsSpent, IsComplete, IsEnough}
 use Rattle.cc_command.specs.Read.{Request}
 use Rattle.cc_command.specs.declared.ended.Ended.{Ended}
 use Rattle.cc_command.proofs.PromiseLaws.{any_before, complete, enough, known_memory, same_error}
-use Rattle.cc_command.proofs.ShownLaws.{stopped_fault}
+use Rattle.cc_build.proofs.FaultLaws.{stopped_fault}
 
 -- ---- an error of the host, or of memory
 
@@ -63,7 +63,7 @@ capture_fault b front e known (inl h) = let o = calls_outcome {T = Unit {0}} b N
     by_cause : IsCausedBy None (Lists ∷ []) front e → HasFault front
     by_cause (inl memory) = absurd (known_memory e known memory)
     by_cause (inr (inl refused)) = absurd (let two : None ≡ Some e = refused in cc)
-    by_cause (inr (inr stopped)) = let o = calls_outcome {T = Unit {0}} b None (Lists ∷ []) front (Err e) refl refl h in stopped_fault None (Lists ∷ []) front e refl o.0.0 stopped
+    by_cause (inr (inr stopped)) = let o = calls_outcome {T = Unit {0}} b None (Lists ∷ []) front (Err e) refl refl h in stopped_fault (Lists ∷ []) front e refl o.0.0 stopped
 
 or_true : (a b : Bool) → b ≡ true → (a || b) ≡ true
 or_true true b h = refl

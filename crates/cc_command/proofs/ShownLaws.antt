@@ -1,10 +1,8 @@
 -- What the program answers where it shows the tools of a build, and what follows from it.
-use Rattle.std.proofs.Common.{◌≡◌, ◌⊎◌, inl, inr, ◌∙◌, refl, sym, ap, subst, ℕ, List, [], ◌∷◌, ◌++◌, Bool, true, false, ◌||◌, ◌&&◌, Option, Some, None, option_map, Result, Ok, Err, append-nil, append_assoc}
+use Rattle.std.proofs.Common.{◌≡◌, ◌⊎◌, inl, inr, ◌∙◌, refl, sym, ap, subst, ℕ, List, [], ◌∷◌, ◌++◌, Bool, true, false, Option, Some, None, option_map, Result, Ok, Err, append-nil, append_assoc}
 use Rattle.std.specs.List.{list_all, list_any}
-use Rattle.std.proofs.lemmas.Bool.{and_parts}
-use Rattle.std.proofs.lemmas.List.Folds.{list_all-append, list_any-append}
 use Rattle.cc_host.specs.Command.{CommandSeen}
-use Rattle.cc_host.specs.Part.{Step, stops, calm, done, left, StopsAt, IsPartly, IsWhole}
+use Rattle.cc_host.specs.Part.{Step, done, IsPartly, IsWhole}
 use Rattle.cc_host.specs.Part.Step.{Lists}
 use Rattle.cc_host.specs.Question.{Look, Agrees, answers, Holds}
 use Rattle.cc_host.specs.declared.event.Event.{Event}
@@ -34,14 +32,13 @@ use Rattle.cc_build.specs.Outcome.{Outcome, IsRefused, IsCausedBy}
 use Rattle.cc_build.specs.Promises.{NothingRuns}
 use Rattle.cc_build.specs.Refusal.{plan_error}
 use Rattle.cc_build.specs.Stage.{rerun_lines}
-use Rattle.cc_build.specs.Stop.{stopped_by}
 use Rattle.cc_build.specs.Told.{compiler_reads, archiver_reads, ranlib_reads, name_steps, unless_refused, DoesAndTells}
 use Rattle.cc_build.specs.Tools.{IsArchiver, IsRanlib, archiver_error, ranlib_error, ArchiverEnds, RanlibEnds, AsksForArchiver, AsksForRanlib}
 use Rattle.cc_build.specs.Way.{Firsts}
 use Rattle.cc_build.proofs.ChildLaws.{IsAside, AreAside, aside_well}
-use Rattle.cc_build.proofs.FaultLaws.{partly_faults}
+use Rattle.cc_build.proofs.FaultLaws.{partly_faults, stopped_fault}
 use Rattle.cc_build.proofs.Outcomes.{outcome_then}
-use Rattle.cc_build.proofs.PrintedLaws.{is_told, told_prints, told_printed, told_warned, told_refused, fault_is, neither, IsChildless, childless_then, calls_outcome, refused_more}
+use Rattle.cc_build.proofs.PrintedLaws.{is_told, told_both, told_prints, told_printed, told_warned, neither, IsChildless, childless_then, calls_outcome, refused_more}
 use Rattle.cc_command.specs.Answer.{AnswersError, ended_well, ended_wanting}
 use Rattle.cc_command.specs.Archived.{Says}
 use Rattle.cc_command.specs.Lines.{shows}
@@ -323,9 +320,6 @@ pub outcome_partly : (refusal : Option ErrorSeen) (steps : List Step) (part : Li
 outcome_partly refusal steps part (Ok done) o = partly_whole steps part o.1
 outcome_partly refusal steps part (Err e) o = o.0
 
-told_both : (a b : List Step) → list_all is_told a ≡ true → list_all is_told b ≡ true → list_all is_told (a ++ b) ≡ true
-told_both a b p q = list_all-append is_told a b ∙ ap (λ v. v && list_all is_told b) p ∙ q
-
 -- all that is shown are lines and a listing
 told_all : (listens : Bool) (b : BuildSeen) (warns_of_link : Bool) (looks : Looks) → list_all is_told (show_steps listens b warns_of_link looks) ≡ true
 told_all listens b warns_of_link looks =
@@ -333,26 +327,6 @@ told_all listens b warns_of_link looks =
     (told_both (tool_steps b.config b.env listens warns_of_link looks.compiler) (read_steps compiler_reads b looks.compiler) (told_warned b.config listens (warnings_of b.config b.env warns_of_link looks.compiler)) (told_printed Rerun (rerun_lines (rerun_names compiler_reads b.config b.env looks.compiler))))
     (told_both (read_steps archiver_reads b looks.archiver) (read_steps ranlib_reads b looks.ranlib ++ shows (lines_of b looks)) (told_printed Rerun (rerun_lines (rerun_names archiver_reads b.config b.env looks.archiver)))
     (told_both (read_steps ranlib_reads b looks.ranlib) (shows (lines_of b looks)) (told_printed Rerun (rerun_lines (rerun_names ranlib_reads b.config b.env looks.ranlib))) (told_prints ShownLine (lines_of b looks))))
-
--- a step that was refused faulted
-pub stopped_fault : (refusal : Option ErrorSeen) (steps : List Step) (part : List Event) (e : ErrorSeen) → list_all is_told steps ≡ true → IsPartly steps part → stopped_by (left steps part) (stops part) ≡ Some e → HasFault part
-stopped_fault refusal steps part e told p stopped = by_left (left steps part) (stops part) told_left p.stop refl stopped
-  where
-    told_left : list_all is_told (left steps part) ≡ true
-    told_left = (and_parts (list_all is_told (done part)) (list_all is_told (left steps part)) (sym (list_all-append is_told (done part) (left steps part)) ∙ sym (ap (list_all is_told) p.begun) ∙ told)).1
-
-    by_left : (rest : List Step) (events : List Event) → list_all is_told rest ≡ true → StopsAt rest events → stops part ≡ events → stopped_by rest events ≡ Some e → HasFault part
-    by_left [] events all stop are h = absurd (cc)
-    by_left (step ∷ rest) [] all stop are h = absurd (cc)
-    by_left (step ∷ rest) (event ∷ []) all stop are h =
-        let fault = told_refused step event (and_parts (is_told step) (list_all is_told rest) all).0 stop in
-        ap (list_any is_fault) (p.last ∙ ap (λ l. calm part ++ l) are) ∙ list_any-append is_fault (calm part) (event ∷ []) ∙ or_last (list_any is_fault (calm part)) (is_fault event) (fault_is event fault)
-      where
-        or_last : (a b : Bool) → b ≡ true → (a || (b || false)) ≡ true
-        or_last true b h = refl
-        or_last false true h = refl
-        or_last false false h = absurd (cc)
-    by_left (step ∷ rest) (event ∷ other ∷ events) all stop are h = absurd stop
 
 module _ (listens : Bool) (steady : Bool) (world : Question → Verdicts) (b : BuildSeen) (part : List Event) (ended : Ended) where
   module _ (s : Shown listens steady world b part ended) where
@@ -397,7 +371,7 @@ module _ (listens : Bool) (steady : Bool) (world : Question → Verdicts) (b : B
         by_cause : IsCausedBy refusal steps run e → ⊥
         by_cause (inl memory) = known_memory e printed.1 memory
         by_cause (inr (inl refused)) = let clash : None ≡ Some e = sym none ∙ refused in cc
-        by_cause (inr (inr stopped)) = fault (ap (list_any is_fault) cut ∙ any_before is_fault run line (stopped_fault refusal steps run e told o.0 stopped))
+        by_cause (inr (inr stopped)) = fault (ap (list_any is_fault) cut ∙ any_before is_fault run line (stopped_fault steps run e told o.0 stopped))
 
     pub show_promises : ShowPromises listens steady world b part ended
     show_promises = record {

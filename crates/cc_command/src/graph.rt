@@ -1,9 +1,8 @@
 // The job that runs a graph of commands from a file.
-ghost use Rattle.std.specs.Prelude.{◌≡◌, ◌++◌, [], map, string_bytes, Ok, Err, IfOk, IfErr};
+ghost use Rattle.std.specs.Prelude.{◌≡◌, ◌++◌, map, string_bytes, Ok, Err, IfOk, IfErr};
 ghost use Rattle.std.specs.Option.{option_map};
 ghost use Rattle.cc_host.specs.Call.{part};
 ghost use Rattle.cc_graph.specs.Run.{GraphRun};
-ghost use Rattle.cc_build.specs.Shows.{asks_for_debug, is_debug_wanted};
 ghost use Rattle.cc_command.specs.Failing.{failed_last};
 ghost use Rattle.cc_command.specs.Graphed.{file_of, shelf, failure_error, graph_shows, graph_rules, RanTo, ByGraph, Running, EndsListed, Graphing, Graphed, Fails, Concludes, AnswersGraph};
 
@@ -13,7 +12,7 @@ use crate::graph_errors::{failure_error, graph_error};
 use crate::graph_file::{list_vars, nodes_of, read_file};
 use crate::graph_lines::print_ends;
 use crate::words::{BadWord, Invocation, WordCause};
-use cc_build::Error;
+use cc_build::{Error, is_debug_wanted};
 use cc_env::EnvSnapshot;
 use cc_graph::{GraphError, Node, NodeEnds, run_graph};
 use cc_host::{Files, Host, OutputKind, World};
@@ -52,23 +51,6 @@ fn file_of(words: &[String]) -> Result<&str, BadWord>
             place: 2,
             cause: WordCause::UnknownKey,
         }),
-    }
-}
-
-// The rule of a build for the value of the variable.
-#[tactic(auto, unfolding(cc_build::specs::Shows::asks_for_debug))]
-fn asks_for_debug(value: &str) -> bool
-    ensures { result ≡ asks_for_debug value.now }
-{
-    !(value == "" || value == "0" || value == "false")
-}
-
-fn is_debug_wanted(env: &EnvSnapshot) -> bool
-    ensures { result ≡ is_debug_wanted (record { inherited = env.now; explicit = [] }) }
-{
-    match env.get("CC_ENABLE_DEBUG_OUTPUT") {
-        Some(value) => asks_for_debug(value),
-        None => false,
     }
 }
 

@@ -1,9 +1,12 @@
 pub mod AddedLaws
 pub mod AskingLemmas
+pub mod CauseLaws
 pub mod CompileLemmas
+pub mod DottedPaths
 pub mod HaltBy
 pub mod LibtoolLaws
 pub mod LineLemmas
+pub mod LinkedLaws
 pub mod PassBy
 pub mod PlanLaws
 pub mod QuestionLemmas

@@ -87,7 +87,7 @@ module _ (front base : List ℕ) (c : ℕ) (no_slash : c ≢ slash) (no_dot : c 
   long_path : length (path_of front base c) ≡ length front + suc (length base + 2)
   long_path = length-append front (slash ∷ dotted base c) ∙ ap (λ n. length front + suc n) long_name
 
-  split_name : split_last_component (path_of front base c) ≡ Some (parent_before_slash front, dotted base c)
+  pub split_name : split_last_component (path_of front base c) ≡ Some (parent_before_slash front, dotted base c)
   unfolding split_last_component
   split_name =
       let free_name : Free slash (dotted base c) = free_both slash base (dot ∷ c ∷ []) free ((λ e. omega (arith, e)), (no_slash, tt)) in
