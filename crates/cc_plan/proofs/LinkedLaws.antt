@@ -135,11 +135,12 @@ ends_so dir long = by_test (length dir == 0 || get_or dir (length dir - 1) 0 == 
     by_test : (t : Bool) → (length dir == 0 || get_or dir (length dir - 1) 0 == slash) ≡ t → (front : List ℕ) × ((if t then dir else dir ++ slash ∷ []) ≡ front ++ slash ∷ [])
     by_test false e = (dir, refl)
     by_test true e =
-        let n = length dir - 1 in
-        (take n dir,
-        ⊎_elim (λ empty. absurd (omega (arith, eqb-true (length dir) 0 empty)))
-        (λ ends. sym (take_all (n + 1) dir (omega arith)) ∙ take_more dir n 0 (omega arith) ∙ ap (λ b. take n dir ++ b ∷ []) (eqb-true (get_or dir n 0) slash ends))
-        (or_cases (length dir == 0) (get_or dir n 0 == slash) e))
+        let n = length dir - 1 in (
+          take n dir,
+          ⊎_elim (λ empty. absurd (omega (arith, eqb-true (length dir) 0 empty)))
+              (λ ends. sym (take_all (n + 1) dir (omega arith)) ∙ take_more dir n 0 (omega arith) ∙ ap (λ b. take n dir ++ b ∷ []) (eqb-true (get_or dir n 0) slash ends))
+              (or_cases (length dir == 0) (get_or dir n 0 == slash) e),
+        )
 
 -- some bytes stay of a text that is trimmed
 trims : (path : List ℕ) (n : ℕ) → 0 < trimmed_len path (suc n)

@@ -20,7 +20,7 @@ can_start env program = bind (ask (starts_question env program)) (λ verdict. do
 unfoldable pub older_compiler : Bool → EnvSeen → List ℕ → Plan (List ℕ)
 older_compiler cpp env name =
     bind (can_start env (older_name name (gnu_name cpp)))
-        (λ starts. done (if starts then older_name name (gnu_name cpp) else older_name name (clang_name cpp)))
+    (λ starts. done (if starts then older_name name (gnu_name cpp) else older_name name (clang_name cpp)))
 
 -- a program, where it can be run
 unfoldable pub if_started : EnvSeen → Option (List ℕ) → Plan (Option (List ℕ))

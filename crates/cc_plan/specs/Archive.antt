@@ -37,8 +37,12 @@ has_flags set env = is_some (variable_flags set env (codes "ARFLAGS")) || has_wo
 -- the command of a tool of archives: its words, and then flags. Its wrapper is dropped.
 abbrev pub archive_tool_cmd : EnvSeen → Choice → List (List ℕ) → CommandSeen
 archive_tool_cmd env choice flags =
-    record { program = choice.path; args = choice.words ++ flags; env = child_of env.inherited env.explicit;
-        dir = None }
+    record {
+      program = choice.path;
+      args = choice.words ++ flags;
+      env = child_of env.inherited env.explicit;
+      dir = None;
+    }
 
 -- the archiver of a choice
 abbrev pub archiver_by : BuildConfig → EnvSeen → Choice → Archiver
@@ -106,7 +110,7 @@ in_folder archiver library cmd =
 abbrev pub lib_of : Archiver → List ℕ → List ℕ → Bool → List (List ℕ) → CommandSeen
 lib_of archiver library here adds batch =
     in_folder archiver library
-        (with_words archiver (lib_words archiver library adds ++ members_of archiver library here batch))
+    (with_words archiver (lib_words archiver library adds ++ members_of archiver library here batch))
 
 -- one a batch: the first makes the library, and each later one adds to it
 abbrev pub libs_of : Archiver → List ℕ → List ℕ → List (List (List ℕ)) → List CommandSeen

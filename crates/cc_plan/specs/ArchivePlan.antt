@@ -36,7 +36,7 @@ chosen_tool tool set env = set_or_found tool set env (set_program tool set)
 unfoldable pub with_flags : ArchiveTool → BuildConfig → EnvSeen → Choice → Plan (Result Choice PlanError)
 with_flags tool set env choice =
     unless (look_up_refusal set env)
-        (bind (note (named (flags_names set env (tool_flags tool)))) (λ noted. allowed choice))
+    (bind (note (named (flags_names set env (tool_flags tool)))) (λ noted. allowed choice))
 
 -- the plan
 unfoldable pub tool_plan : ArchiveTool → BuildConfig → EnvSeen → Plan (Result Choice PlanError)

@@ -55,7 +55,7 @@ wasm_tool tool set env = if is_wasm (target_info set env) then compiler_tool too
 unfoldable pub android_tool : ArchiveTool → BuildConfig → EnvSeen → Plan (List ℕ)
 android_tool tool set env =
     bind (is_versioned (child_vars env) (llvm_name tool))
-        (λ there. done (if there then llvm_name tool else android_name tool (target_name set env)))
+    (λ there. done (if there then llvm_name tool else android_name tool (target_name set env)))
 
 -- behind the prefix of the GNU tools: the first that prints its version
 unfoldable pub plain_or_gcc : ArchiveTool → EnvSeen → List ℕ → Option (List ℕ) → Plan (Option (List ℕ))

@@ -179,4 +179,4 @@ abbrev pub AsksThenWarns : {W H X : Type 0} → {ghosts : Ghosts W} → Bool →
     → Result X PlanError → Type 0
 AsksThenWarns steady world log questions old new warnings result =
     AsksThen steady world old.dir.now questions (log old.host.now)
-        (log new.host.now) old.answers.now new.answers.now (Warns new.answers.now warnings result)
+    (log new.host.now) old.answers.now new.answers.now (Warns new.answers.now warnings result)

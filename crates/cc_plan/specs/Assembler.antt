@@ -62,7 +62,7 @@ assembler_choice set env target family path =
 abbrev pub chosen_assembler : BuildConfig → EnvSeen → Info → Choice → ToolSeen
 chosen_assembler set env target choice =
     record (new_tool choice.path (Msvc false) env.inherited)
-        { args = assembler_words set env target choice; entries = env.explicit }
+    { args = assembler_words set env target choice; entries = env.explicit }
 
 -- the same, which may take words from a variable
 unfoldable pub noted_assembler : BuildConfig → EnvSeen → Info → Choice → Plan ToolSeen
@@ -84,4 +84,4 @@ assembler_of set env tool look = (assembler_by set env (target_info set env) too
 unfoldable pub wanted_assembler : BuildConfig → EnvSeen → Info → ToolFamily → List ℕ → Plan (Option ToolSeen)
 wanted_assembler set env target family path =
     if want_assembler target set.files
-        then bind (assembler_by set env target family path) (λ tool. done (Some tool)) else done None
+    then bind (assembler_by set env target family path) (λ tool. done (Some tool)) else done None

@@ -35,7 +35,7 @@ in_kit env name (Some kit) = which env (wasi_path kit name)
 unfoldable pub wasi_kit_compiler : EnvSeen → List ℕ → Plan (Option (List ℕ))
 wasi_kit_compiler env name =
     bind (note (named (unless_set env (codes "WASI_SDK_PATH"))))
-        (λ noted. in_kit env name (overridable env (codes "WASI_SDK_PATH")))
+    (λ noted. in_kit env name (overridable env (codes "WASI_SDK_PATH")))
 
 unfoldable pub wasi_compiler : Bool → EnvSeen → List ℕ → Plan (List ℕ)
 wasi_compiler cpp env name = bind (wasi_kit_compiler env name) (λ found. done (unwrap_or found (clang_name cpp)))

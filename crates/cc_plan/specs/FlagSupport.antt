@@ -54,18 +54,20 @@ found_pair set env = bind (compiler set env) (with_asked set env)
 unfoldable pub verdict_plan : CompilationSeen → List ℕ → Plan (Result Verdict PlanError)
 verdict_plan c flag =
     if is_for_linker c.compiler.family flag then allowed No
-        else unless (question_refusal c flag) (bind (ask (flag_question c flag)) allowed)
+    else unless (question_refusal c flag) (bind (ask (flag_question c flag)) allowed)
 
 -- the same with the compiler, and the warnings of how it was found
 abbrev pub supported_by : BuildConfig → EnvSeen → Compiler → Verdict → Support
 supported_by set env compiler verdict =
-    record { found = record { compiler = compiler; verdict = verdict };
-        warnings = found_warnings (compilation_of set env compiler) }
+    record {
+      found = record { compiler = compiler; verdict = verdict };
+      warnings = found_warnings (compilation_of set env compiler);
+    }
 
 unfoldable pub support_with : BuildConfig → EnvSeen → List ℕ → Compiler × Compiler → Plan (Result Support PlanError)
 support_with set env flag pair =
     bind_ok (verdict_plan (compilation_of set env pair.1) flag)
-        (λ verdict. allowed (supported_by set env pair.0 verdict))
+    (λ verdict. allowed (supported_by set env pair.0 verdict))
 
 -- the plan of the compilers
 unfoldable pub pair_plan : BuildConfig → EnvSeen → Plan (Result (Compiler × Compiler) PlanError)

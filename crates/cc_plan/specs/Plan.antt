@@ -82,20 +82,20 @@ run_has_one_form set env look = form.has_one_form (target_info set env) (archive
 unfoldable pub run_asks_folder : BuildConfig → EnvSeen → Look → List ℕ → Bool
 run_asks_folder set env look output =
     archive.asks_folder (target_info set env) (archiver_of set env look) (library_of set env output)
-        (archived_of set env)
+    (archived_of set env)
 
 -- the commands that write the library; `plain` says that the first one was refused, so that the plain form took its
 -- place, and `here` is the current folder, where that is asked for
 unfoldable pub archives_of : BuildConfig → EnvSeen → Look → Bool → List ℕ → List ℕ → List CommandSeen
 archives_of set env look plain here output =
     archive.archives_of (target_info set env) (archiver_of set env look) env (library_of set env output) plain here
-        (archived_of set env)
+    (archived_of set env)
 
 -- the commands that write its index
 unfoldable pub indexes_of : BuildConfig → EnvSeen → Look → Bool → List ℕ → List CommandSeen
 indexes_of set env look plain output =
     archive.indexes_of (target_info set env) (archiver_of set env look) env (library_of set env output) plain
-        (archived_of set env)
+    (archived_of set env)
 
 -- the library's second file, by the name that a linker for Visual Studio looks for
 abbrev pub copy_of : BuildConfig → EnvSeen → List ℕ → List ℕ

@@ -14,7 +14,7 @@ use Rattle.cc_flags.specs.Prefixes.{first_text, known_prefix, tried_compilers}
 unfoldable pub candidate_prefix : BuildConfig → EnvSeen → List (List ℕ) → Plan (Option (List ℕ))
 candidate_prefix set env candidates =
     bind (first_shown (tried_compilers set.cpp (path_folders env) candidates))
-        (λ shown. done (option_or shown (first_text candidates)))
+    (λ shown. done (option_or shown (first_text candidates)))
 
 -- the one that is known, else that of a candidate
 unfoldable pub known_or_candidate : BuildConfig → EnvSeen → List ℕ → Option (List ℕ) → Plan (Option (List ℕ))

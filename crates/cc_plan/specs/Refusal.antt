@@ -95,7 +95,7 @@ given_refusal set env = first_of (unset (codes "OPT_LEVEL") (level_of set env)) 
 unfoldable pub refusal_by : BuildConfig → EnvSeen → Compiler → Option PlanError
 refusal_by set env compiler =
     first_of (defaults_refusal_by set env compiler)
-        (first_of (unset (codes "HOST") (host_of set env)) (inherited_refusal set.inherit_rustflags env.inherited))
+    (first_of (unset (codes "HOST") (host_of set env)) (inherited_refusal set.inherit_rustflags env.inherited))
 
 -- what the compiler wants
 abbrev pub tool_refusal : BuildConfig → EnvSeen → Look → Option PlanError
@@ -118,7 +118,7 @@ intermediate_refusal set env =
 unfoldable pub early_refusal : BuildConfig → EnvSeen → List ℕ → Option PlanError
 early_refusal set env output =
     first_of (name_refusal output)
-        (first_of (intermediate_refusal set env) (added_refusal (library_in set env output) set.objects))
+    (first_of (intermediate_refusal set env) (added_refusal (library_in set env output) set.objects))
 
 abbrev pub is_empty : List (List ℕ) → Bool
 is_empty [] = true

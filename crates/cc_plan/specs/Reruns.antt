@@ -41,19 +41,19 @@ plans_assembler reads set env = reads.assembler && want_assembler (target_info s
 unfoldable pub compiling_notes : Reads → BuildConfig → EnvSeen → Plan (Unit {0})
 compiling_notes reads set env =
     both (where_made reads.compiler (noted_by (compiler_plan set env)))
-        (where_made reads.flag (noted_by (pair_plan set env)))
+    (where_made reads.flag (noted_by (pair_plan set env)))
 
 -- those of the tools of archives
 unfoldable pub archiving_notes : Reads → BuildConfig → EnvSeen → Plan (Unit {0})
 archiving_notes reads set env =
     both (where_made reads.archiver (noted_by (tool_plan Archiver set env)))
-        (where_made reads.ranlib (noted_by (tool_plan Ranlib set env)))
+    (where_made reads.ranlib (noted_by (tool_plan Ranlib set env)))
 
 unfoldable pub tools_notes : Reads → BuildConfig → EnvSeen → Plan (Unit {0})
 tools_notes reads set env =
     both (compiling_notes reads set env)
-        (both (where_made (plans_assembler reads set env) (noted_by (tools_plan set env)))
-        (archiving_notes reads set env))
+    (both (where_made (plans_assembler reads set env) (noted_by (tools_plan set env)))
+    (archiving_notes reads set env))
 
 -- those of a run itself, and of its link lines
 abbrev pub own_names : Reads → BuildConfig → EnvSeen → List (List ℕ)

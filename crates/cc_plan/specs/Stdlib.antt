@@ -39,7 +39,7 @@ chosen library warnings = record { library = library; warnings = warnings }
 unfoldable pub library_of : BuildConfig → Result QuietTool PlanError → Plan ChosenLibrary
 library_of set (Ok quiet) =
     bind (tool_uses_libcxx quiet.tool)
-        (λ uses. done (chosen (Some (library_by uses)) (marked_by set quiet.unmarked false)))
+    (λ uses. done (chosen (Some (library_by uses)) (marked_by set quiet.unmarked false)))
 library_of set (Err error) = done (chosen (Some (library_by false)) [])
 
 -- the compiler's plan is quiet: nothing that it notes is told

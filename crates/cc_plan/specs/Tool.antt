@@ -44,8 +44,10 @@ warnings_by c supported is_first = other_warnings c supported ++ link_warnings c
 -- what a user may be warned of
 abbrev pub unmarked_by : CompilationSeen → List (List ℕ) → Unmarked
 unmarked_by c supported =
-    record { warnings = other_warnings c supported;
-        leaves_off = leaves_off c.compiler.family c.set.flags (environment_flags c.set c.env) }
+    record {
+      warnings = other_warnings c supported;
+      leaves_off = leaves_off c.compiler.family c.set.flags (environment_flags c.set c.env);
+    }
 
 -- the compiler with its wrapper
 abbrev pub wrapped_tool : EnvSeen → Compiler → ToolSeen

@@ -46,7 +46,7 @@ tool_plan set env = bind_ok (compiler_plan set env) (tool_with set env)
 unfoldable pub with_assembler : BuildConfig → EnvSeen → QuietTool → Plan (Result Tools PlanError)
 with_assembler set env quiet =
     bind (wanted_assembler set env (target_info set env) quiet.tool.family quiet.tool.path)
-        (λ assembler. allowed (record { quiet = quiet; assembler = assembler }))
+    (λ assembler. allowed (record { quiet = quiet; assembler = assembler }))
 
 unfoldable pub tools_plan : BuildConfig → EnvSeen → Plan (Result Tools PlanError)
 tools_plan set env = bind_ok (tool_plan set env) (with_assembler set env)

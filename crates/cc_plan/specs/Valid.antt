@@ -57,7 +57,7 @@ HasSysroot c = names_target c ≡ true → is_wasm_linux c.target ≡ true → I
 abbrev pub HasArchiver : BuildConfig → EnvSeen → Look → Type 0
 HasArchiver set env look =
     set.archiver ≡ None → variable_tool Archiver set env look ≡ None → is_qnx (target_info set env) ≡ true
-        → IsSome (qnx_arch (target_info set env))
+    → IsSome (qnx_arch (target_info set env))
 
 -- each of these flags of Rust code has the value that it needs
 abbrev pub Parse : Option (List ℕ) → Type 0

@@ -68,4 +68,4 @@ abbrev pub Moves : {X S T : Type 0} → (X → List Event) → (X → Option ℕ
     → X → Kept → S → TurnsSeen → Result T RunError → X → Kept → S → TurnsSeen → Type 0
 Moves log patience seen rules total host kept seat turns result host' kept' seat' turns' =
     Steps rules total (state log patience seen host kept seat turns) result
-        (state log patience seen host' kept' seat' turns')
+    (state log patience seen host' kept' seat' turns')

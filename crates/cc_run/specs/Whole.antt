@@ -44,7 +44,7 @@ abbrev pub HasRun : {X S : Type 0} → (X → List Event) → (X → Option ℕ)
     → X → S → TurnsSeen → Result (List Mark) RunError → X → S → TurnsSeen → Type 0
 HasRun log patience seen rules total host seat turns result host' seat' turns' =
     RanAll rules total (state log patience seen host nothing_kept seat turns) result (log host') (patience host')
-        (seen seat') turns'
+    (seen seat') turns'
 
 -- A list was run as a queue, and its answer is by that run's.
 pub record RanList (rules : Rules) (total : Option ℕ) (old : State) (result : Result (Unit {0}) RunError)
@@ -58,7 +58,7 @@ abbrev pub HasRunList : {X S : Type 0} → (X → List Event) → (X → Option 
     → X → S → TurnsSeen → Result (Unit {0}) RunError → X → S → TurnsSeen → Type 0
 HasRunList log patience seen rules total host seat turns result host' seat' turns' =
     RanList rules total (state log patience seen host nothing_kept seat turns) result (log host') (patience host')
-        (seen seat') turns'
+    (seen seat') turns'
 
 -- one command was run without a token, as a list of one over a pool of one, which never fails
 abbrev pub HasRunAlone : {X : Type 0} → (X → List Event) → (X → Option ℕ) → Rules → X → TurnsSeen
