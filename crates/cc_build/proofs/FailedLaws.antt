@@ -16,7 +16,7 @@ use Rattle.cc_flags.specs.Given.{is_disabled}
 use Rattle.cc_plan.specs.Plan.{archive_refusal}
 use Rattle.cc_plan.specs.Refusal.{early_refusal, late_refusal, link_refusal}
 use Rattle.cc_flags.specs.Given.{first_of}
-use Rattle.cc_plan.specs.declared.error.ArgumentCause.TheVariants.{Output, OutDir, NoFileName, SameObject, LibraryIsObject, LineFeed, Library}
+use Rattle.cc_plan.specs.declared.error.ArgumentCause.TheVariants.{Output, OutDir, NoFileName, SameObject, LibraryIsObject, LineFeed, FileCount, Library}
 use Rattle.cc_plan.specs.declared.error.PlanError.{PlanError}
 use Rattle.cc_plan.specs.declared.error.PlanError.TheVariants.{Argument, NotSet, UnknownTarget, QnxArch, Flag, Host, NoMemory as WantsMemory}
 use Rattle.cc_flags.specs.declared.settings.BuildConfig.{BuildConfig}
@@ -117,6 +117,7 @@ plan_kind set env output (Argument (NoFileName place)) h = cc
 plan_kind set env output (Argument (SameObject first second)) h = cc
 plan_kind set env output (Argument (LibraryIsObject place)) h = cc
 plan_kind set env output (Argument (LineFeed place)) h = cc
+plan_kind set env output (Argument FileCount) h = cc
 plan_kind set env output (Argument Library) h = cc
 plan_kind set env output (NotSet name) h = cc
 plan_kind set env output (UnknownTarget target) h = cc

@@ -1,5 +1,5 @@
 -- A source that is expanded: its compiler is found, and one command is run, whose output is the answer.
-use Rattle.std.specs.Prelude.{◌≡◌, ◌⊎◌, ◌==◌, ℕ, Bool, true, not, List, [], ◌∷◌, ◌++◌, length, Option, Some, None, Result, Ok, Err, codes, if◌then◌else◌}
+use Rattle.std.specs.Prelude.{◌≡◌, ◌⊎◌, ◌==◌, ℕ, Bool, true, not, List, [], ◌∷◌, ◌++◌, length, Option, Some, None, Result, Ok, Err, if◌then◌else◌}
 use Rattle.std.specs.Path.{path_file_name}
 use Rattle.cc_text.specs.Families.{is_cl}
 use Rattle.cc_text.specs.declared.family.ToolFamily.{ToolFamily}
@@ -21,7 +21,7 @@ use Rattle.cc_build.specs.Attempts.{FirstOf}
 use Rattle.cc_build.specs.Build.{BuildSeen}
 use Rattle.cc_build.specs.Compiler.{ToolEnds}
 use Rattle.cc_build.specs.Error.{ErrorSeen, no_memory}
-use Rattle.cc_build.specs.Refusal.{source_at, invalid, disabled_error}
+use Rattle.cc_build.specs.Refusal.{source_at, number_error, disabled_error}
 use Rattle.cc_build.specs.RunErrors.{run_error}
 use Rattle.cc_build.specs.Shows.{shows_of}
 use Rattle.cc_build.specs.Told.{expand_reads, NamesTold}
@@ -29,10 +29,6 @@ use Rattle.cc_build.specs.Went.{IsOf}
 
 abbrev pub is_single : List (List ℕ) → Bool
 is_single files = length files == 1
-
--- there is no source, or more than one
-abbrev pub number_error : ErrorSeen
-number_error = invalid [] (codes "Expand may only be called for a single file")
 
 -- the error of the checks before: the number of sources, and whether commands may run
 abbrev pub unexpanded_error : BuildConfig → EnvSeen → Option ErrorSeen

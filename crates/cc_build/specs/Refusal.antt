@@ -5,7 +5,7 @@ use Rattle.std.specs.Option.{option_map}
 use Rattle.cc_env.specs.Env.{EnvSeen}
 use Rattle.cc_host.specs.Question.{Look}
 use Rattle.cc_plan.specs.declared.error.ArgumentCause.{ArgumentCause}
-use Rattle.cc_plan.specs.declared.error.ArgumentCause.TheVariants.{Output, OutDir, NoFileName, SameObject, LibraryIsObject, LineFeed, Library}
+use Rattle.cc_plan.specs.declared.error.ArgumentCause.TheVariants.{Output, OutDir, NoFileName, SameObject, LibraryIsObject, LineFeed, FileCount, Library}
 use Rattle.cc_plan.specs.declared.error.PlanError.{PlanError}
 use Rattle.cc_plan.specs.declared.error.PlanError.TheVariants.{Argument, NotSet, UnknownTarget, QnxArch, Flag, Host, NoMemory as WantsMemory}
 use Rattle.cc_flags.specs.declared.settings.BuildConfig.{BuildConfig}
@@ -62,6 +62,10 @@ flag_error flag = record { kind = InvalidFlag; subject = flag; message = flag ++
 abbrev pub disabled_error : ErrorSeen
 disabled_error = record { kind = Disabled; subject = codes "CC_FORCE_DISABLE"; message = codes "cc has been disabled by CC_FORCE_DISABLE" }
 
+-- a source is expanded alone, and there is none, or more than one
+abbrev pub number_error : ErrorSeen
+number_error = invalid [] (codes "Expand may only be called for a single file")
+
 abbrev pub argument_error : BuildConfig → EnvSeen → List ℕ → ArgumentCause → ErrorSeen
 argument_error set env output Output = invalid output (codes "argument must be a single normal path component")
 argument_error set env output OutDir = invalid [] (codes "out dir must not be empty")
@@ -69,6 +73,7 @@ argument_error set env output (NoFileName place) = invalid (source_at set place)
 argument_error set env output (SameObject first second) = same_object_error (object_in set env (source_at set second))
 argument_error set env output (LibraryIsObject place) = library_error (added_at set place)
 argument_error set env output (LineFeed place) = unlisted_error (archived_at set env place)
+argument_error set env output FileCount = number_error
 argument_error set env output Library = no_library_error output
 
 -- the error of a refusal, for a compile run of these settings with this output

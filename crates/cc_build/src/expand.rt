@@ -15,26 +15,20 @@ ghost use Rattle.cc_build.specs.Shows.{shows_of};
 
 use crate::compiler::compiler;
 use crate::message::or_no_memory;
-use crate::refusal::{disabled, invalid, source_at};
+use crate::refusal::{argument_error, disabled, source_at};
 use crate::reporting::Reporting;
 use crate::reruns::tell;
 use crate::task::Task;
 use crate::{Build, Error};
 use cc_env::BuildEnv;
 use cc_host::{Host, Role, World};
-use cc_plan::{BuildConfig, Reads, expand_command, is_disabled};
+use cc_plan::{ArgumentCause, BuildConfig, Reads, expand_command, is_disabled};
 use cc_run::{Planned, run_output};
 use cc_text::{Bytes, Mem, ToolFamily, file_name, is_cl};
 use cc_tool::{Answers, Caches, Tool};
 use std::alloc::Global;
 use std::slice;
 use std::sync::Wait;
-
-fn not_single(alloc: Global) -> Mem<Error>
-    ensures { IfOk result (λ e. e ≡ spec.number_error) }
-{
-    invalid(alloc, "", "Expand may only be called for a single file")
-}
 
 // The checks before: the number of sources, and whether commands may run.
 fn check_expand(alloc: Global, set: &BuildConfig, env: &BuildEnv) -> Result<(), Error>
@@ -43,7 +37,8 @@ fn check_expand(alloc: Global, set: &BuildConfig, env: &BuildEnv) -> Result<(), 
         ⊎ (spec.unexpanded_error set.now env.now ≡ Some e)) }
 {
     if set.files.len() != 1 {
-        return Err(or_no_memory(not_single(alloc)));
+        let cause = ArgumentCause::FileCount;
+        return Err(or_no_memory(argument_error(alloc, set, env, "", cause)));
     }
     if is_disabled(env) {
         return Err(or_no_memory(disabled(alloc)));

@@ -106,7 +106,7 @@ fn no_library(alloc: Global, path: &str) -> Mem<Error>
     invalid(alloc, path, message.as_str())
 }
 
-fn argument_error(
+pub(crate) fn argument_error(
     alloc: Global,
     set: &BuildConfig,
     env: &BuildEnv,
@@ -132,6 +132,9 @@ fn argument_error(
         },
         ArgumentCause::LibraryIsObject(place) => library_is_object(alloc, added_at(set, place)),
         ArgumentCause::LineFeed(place) => unlisted(alloc, set, env, place),
+        ArgumentCause::FileCount => {
+            invalid(alloc, "", "Expand may only be called for a single file")
+        }
         ArgumentCause::Library => no_library(alloc, output),
     }
 }

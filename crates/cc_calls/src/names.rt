@@ -26,6 +26,7 @@ fn refused_argument(alloc: Global, cause: ArgumentCause) -> Answer {
         }
         ArgumentCause::LibraryIsObject(place) => refused_at(alloc, "LibraryIsObject", &[place]),
         ArgumentCause::LineFeed(place) => refused_at(alloc, "LineFeed", &[place]),
+        ArgumentCause::FileCount => refused_at(alloc, "FileCount", &[]),
         ArgumentCause::Library => refused_at(alloc, "Library", &[]),
     }
 }

@@ -21,7 +21,7 @@ use Rattle.cc_plan.specs.Libtool.{is_libtool}
 use Rattle.cc_plan.specs.Plan.{objects_of, library_of, archived_of, archive_refusal, archives_of, indexes_of, lists_of_run, folder_steps, removal_steps, link_lines, run_has_one_form, run_asks_folder, copy_steps}
 use Rattle.cc_plan.specs.Refusal.{early_refusal, late_refusal, link_refusal}
 use Rattle.cc_flags.specs.Given.{first_of}
-use Rattle.cc_plan.specs.declared.error.ArgumentCause.TheVariants.{Output, OutDir, NoFileName, SameObject, LibraryIsObject, LineFeed, Library}
+use Rattle.cc_plan.specs.declared.error.ArgumentCause.TheVariants.{Output, OutDir, NoFileName, SameObject, LibraryIsObject, LineFeed, FileCount, Library}
 use Rattle.cc_plan.specs.declared.error.PlanError.{PlanError}
 use Rattle.cc_plan.specs.declared.error.PlanError.TheVariants.{Argument, NotSet, UnknownTarget, QnxArch, Flag, Host, NoMemory as WantsMemory}
 use Rattle.cc_plan.specs.declared.archiver.Archiver.{Archiver}
@@ -208,6 +208,7 @@ plan_kind set env output (Argument (NoFileName place)) spent = cc
 plan_kind set env output (Argument (SameObject first second)) spent = cc
 plan_kind set env output (Argument (LibraryIsObject place)) spent = cc
 plan_kind set env output (Argument (LineFeed place)) spent = cc
+plan_kind set env output (Argument FileCount) spent = cc
 plan_kind set env output (Argument Library) spent = cc
 plan_kind set env output (NotSet name) spent = cc
 plan_kind set env output (UnknownTarget target) spent = cc

@@ -24,6 +24,8 @@ pub enum ArgumentCause {
     LibraryIsObject(u64),
     /// The path of the archived object at this place, those of sources first, has a line feed, which libtool takes for the end of a path.
     LineFeed(u64),
+    /// A source is expanded alone, and there is none, or more than one.
+    FileCount,
     /// The path is not that of a library `lib<name>.a` with its folder.
     Library,
 }
