@@ -16,6 +16,7 @@ pub mod Given
 pub mod GnuWords
 pub mod Inherited
 pub mod Languages
+pub mod LibraryNames
 pub mod LinkLines
 pub mod MapWords
 pub mod Names

@@ -13,10 +13,7 @@ use Rattle.cc_text.specs.Families.{is_gnu, is_clang, is_plain_clang, is_visual_s
 use Rattle.cc_text.specs.Words.{when, choose, entry}
 use Rattle.cc_text.specs.declared.family.ToolFamily.{ToolFamily}
 use Rattle.cc_flags.specs.AssemblerWords.{is_llvm}
-use Rattle.cc_flags.specs.Compilers.{fixed_compiler}
 use Rattle.cc_flags.specs.Given.{target_of, host_of, variable_flags, flags_variable, has_no_defaults}
-use Rattle.cc_flags.specs.StdlibLines.{links_cpp, given_library, is_wasm_wasi}
-use Rattle.cc_flags.specs.Target.{target_info}
 use Rattle.cc_flags.specs.declared.archive_names.ArchiveTool.{ArchiveTool}
 use Rattle.cc_flags.specs.declared.archive_names.ArchiveTool.TheVariants.{Archiver, Ranlib}
 use Rattle.cc_flags.specs.declared.compiler.Compiler.{Compiler}
@@ -48,25 +45,6 @@ asks_for_quotes set env variable = is_some (variable_flags set env variable) && 
 -- those by which a list of flags is read
 unfoldable pub flags_names : BuildConfig → EnvSeen → List ℕ → List (List ℕ)
 flags_names set env variable = prefixed_names set env variable ++ when (asks_for_quotes set env variable) (codes "CC_SHELL_ESCAPED_FLAGS" ∷ [])
-
--- a prefix of the GNU tools is sought for a compiler: no other rule applies, and the target is another than the host
-unfoldable pub target_choice_names : Bool → Info → Bool → List (List ℕ)
-target_choice_names cpp target cross =
-    if is target.os "emscripten" || is target.os "android" then []
-    else (if is target.os "wasi" then codes "WASI_SDK_PATH" ∷ []
-    else when (is_none (fixed_compiler cpp target) && cross) (codes "CROSS_COMPILE" ∷ []))
-
--- whether Clang's form of the Visual Studio compiler is preferred
-unfoldable pub preference_names : Info → List (List ℕ)
-preference_names target = when (is target.env "msvc") (codes "CC_PREFER_CLANG_CL_OVER_MSVC" ∷ [])
-
--- unless one is named
-abbrev pub choice_unless : Bool → Bool → Info → Bool → List (List ℕ)
-choice_unless is_named cpp target cross = if is_named then [] else target_choice_names cpp target cross
-
--- those that are read beside the compiler's own variable, unless that names one
-abbrev pub target_names_unless : Bool → Bool → Info → Bool → List (List ℕ)
-target_names_unless is_named cpp target cross = preference_names target ++ choice_unless is_named cpp target cross
 
 -- the compiler is given the sysroot of WASI, where that is set
 abbrev pub takes_wasi_sysroot : ToolFamily → Info → Bool
@@ -152,49 +130,9 @@ abbrev pub tool_flags : ArchiveTool → List ℕ
 tool_flags Archiver = codes "ARFLAGS"
 tool_flags Ranlib = codes "RANLIBFLAGS"
 
--- a library of C++ is linked, whichever it is
-abbrev pub links_some : Option (Option (List ℕ)) → Bool
-links_some None = true
-links_some (Some library) = is_some library
-
--- those by which it is found, where none is set
-abbrev pub stdlib_names : BuildConfig → EnvSeen → List (List ℕ)
-stdlib_names set env = if is_some set.cpp_link_stdlib then [] else value_names set env (codes "CXXSTDLIB")
-
--- those by which it is a static one
-abbrev pub static_names : BuildConfig → EnvSeen → Option (Option (List ℕ)) → List (List ℕ)
-static_names set env library = when (links_some library && not set.cpp_link_stdlib_static) (value_names set env (codes "CXXSTDLIB_STATIC"))
-
-unfoldable pub library_names : BuildConfig → EnvSeen → Option (Option (List ℕ)) → List (List ℕ)
-library_names set env library = stdlib_names set env ++ static_names set env library
-
--- the compiler would be asked for it, if commands may run
-abbrev pub would_ask : Option (Option (List ℕ)) → Info → Bool
-would_ask library target = is_none library && not (is target.arch "wasm32")
-
--- whether commands may run, and where that of WebAssembly is
-unfoldable pub wasm_library_names : Option (Option (List ℕ)) → Info → List (List ℕ)
-wasm_library_names library target = choose (
-    entry (would_ask library target) ("CC_FORCE_DISABLE" ∷ [])
-    ∷ entry (is_wasm_wasi target) ("WASI_SYSROOT" ∷ [])
-    ∷ entry (is_wasm_linux target) ("WASM_MUSL_SYSROOT" ∷ [])
-    ∷ [])
-
--- those by which link lines are planned
-abbrev pub link_names : BuildConfig → EnvSeen → List (List ℕ)
-link_names set env = when (links_cpp set) (library_names set env (given_library set env) ++ wasm_library_names (given_library set env) (target_info set env))
-
 -- those of a run itself
 unfoldable pub run_names : Reads → List (List ℕ)
 run_names reads = when reads.disabled (codes "CC_FORCE_DISABLE" ∷ []) ++ when reads.debug (codes "CC_ENABLE_DEBUG_OUTPUT" ∷ [])
-
--- those of link lines, where some are planned
-abbrev pub linking_names : Reads → BuildConfig → EnvSeen → List (List ℕ)
-linking_names reads set env = if reads.links then link_names set env else []
-
--- those of a run itself, of the tools that it plans, and of its link lines
-abbrev pub joined_names : Reads → BuildConfig → EnvSeen → List (List ℕ) → List (List ℕ)
-joined_names reads set env tools = (run_names reads ++ tools) ++ linking_names reads set env
 
 -- texts in the order of their bytes, each once
 abbrev pub in_order : List (List ℕ) → List (List ℕ)

@@ -5,12 +5,8 @@ ghost use Rattle.std.specs.BTreeSet.{keys};
 ghost use Rattle.cc_target.specs.Targets.{info_seen};
 ghost use Rattle.cc_flags.specs.Variables as spec;
 
-use crate::choice::fixed_compiler;
 use crate::given::{flags_variable, has_no_defaults, host_of, target_of, variable_flags};
-use crate::stdlib::{given_library, is_wasm_wasi, links_cpp};
-use crate::{
-    ArchiveTool, BuildConfig, Compiler, is_wasm_linux, lent, needs_target_word, target_info,
-};
+use crate::{ArchiveTool, BuildConfig, Compiler, is_wasm_linux, lent, needs_target_word};
 use cc_env::{BuildEnv, target_envs};
 use cc_target::TargetInfo;
 use cc_text::{
@@ -41,12 +37,12 @@ pub struct Reads {
     pub links: bool,
 }
 
-/// Adds a name, where it is read.
-pub fn push_if(names: &mut Words, is_read: bool, name: &str) -> Mem<()>
-    ensures { OnOk result (names.new ≡ names.old ++ when is_read (name.now ∷ [])) }
+/// Adds a word last, where it is wanted.
+pub fn push_if(words: &mut Words, wanted: bool, word: &str) -> Mem<()>
+    ensures { OnOk result (words.new ≡ words.old ++ when wanted (word.now ∷ [])) }
 {
-    if is_read {
-        names.push(name)?;
+    if wanted {
+        words.push(word)?;
     }
     Ok(())
 }
@@ -101,74 +97,6 @@ pub fn flags_names(alloc: Global, set: &BuildConfig, env: &BuildEnv, variable: &
         names.push("CC_SHELL_ESCAPED_FLAGS")?;
     }
     Ok(names)
-}
-
-// Adds those by which the compiler that a target wants is found.
-#[tactic(auto, unfolding(crate::specs::Variables::target_choice_names))]
-fn push_target_choice_names(
-    names: &mut Words,
-    cpp: bool,
-    target: &TargetInfo,
-    cross: bool,
-) -> Mem<()>
-    ensures { OnOk result (names.new
-        ≡ names.old ++ spec.target_choice_names cpp (info_seen target.now) cross) }
-{
-    if target.os == "emscripten" || target.os == "android" {
-        return Ok(());
-    }
-    if target.os == "wasi" {
-        return names.push("WASI_SDK_PATH");
-    }
-    if fixed_compiler(cpp, target).is_none() && cross {
-        names.push("CROSS_COMPILE")?;
-    }
-    Ok(())
-}
-
-// Adds whether Clang's form of the Visual Studio compiler is preferred, which is read for its targets.
-#[tactic(auto, unfolding(crate::specs::Variables::preference_names))]
-fn push_preference_names(names: &mut Words, target: &TargetInfo) -> Mem<()>
-    ensures { OnOk result (names.new ≡ names.old ++ spec.preference_names (info_seen target.now)) }
-{
-    if target.env == "msvc" {
-        names.push("CC_PREFER_CLANG_CL_OVER_MSVC")?;
-    }
-    Ok(())
-}
-
-// Adds those by which the compiler that a target wants is found, unless one is named.
-fn push_choice_unless(
-    names: &mut Words,
-    is_named: bool,
-    cpp: bool,
-    target: &TargetInfo,
-    cross: bool,
-) -> Mem<()>
-    ensures { OnOk result (names.new ≡ names.old
-        ++ spec.choice_unless is_named cpp (info_seen target.now) cross) }
-{
-    if is_named {
-        return Ok(());
-    }
-    push_target_choice_names(names, cpp, target, cross)
-}
-
-/// Adds those that are read beside the compiler's own variable, unless that names one.
-#[tactic(auto, using(std::proofs::Common::append_assoc))]
-pub fn push_target_names(
-    names: &mut Words,
-    is_named: bool,
-    cpp: bool,
-    target: &TargetInfo,
-    cross: bool,
-) -> Mem<()>
-    ensures { OnOk result (names.new ≡ names.old
-        ++ spec.target_names_unless is_named cpp (info_seen target.now) cross) }
-{
-    push_preference_names(names, target)?;
-    push_choice_unless(names, is_named, cpp, target, cross)?;
-    Ok(())
 }
 
 fn takes_wasi_sysroot(family: ToolFamily, target: &TargetInfo) -> bool
@@ -367,126 +295,14 @@ pub fn tool_flags(tool: ArchiveTool) -> &'static str
     }
 }
 
-fn links_some(library: &Option<Option<Text>>) -> bool
-    ensures { result ≡ spec.links_some library.now }
-{
-    match library {
-        Some(library) => library.is_some(),
-        None => true,
-    }
-}
-
-// Those of the variable of the C++ library, where none is set.
-fn stdlib_names(alloc: Global, set: &BuildConfig, env: &BuildEnv) -> Mem<Words>
-    ensures { IfOk result (λ names. names ≡ spec.stdlib_names set.now env.now) }
-{
-    match &set.cpp_link_stdlib {
-        Some(_) => Ok(Words::new(alloc)),
-        None => value_names(alloc, set, env, "CXXSTDLIB"),
-    }
-}
-
-// Those of the variable by which it is a static one.
-fn static_names(
-    alloc: Global,
-    set: &BuildConfig,
-    env: &BuildEnv,
-    library: &Option<Option<Text>>,
-) -> Mem<Words>
-    ensures { IfOk result (λ names. names ≡ spec.static_names set.now env.now library.now) }
-{
-    if links_some(library) && !set.cpp_link_stdlib_static {
-        value_names(alloc, set, env, "CXXSTDLIB_STATIC")
-    } else {
-        Ok(Words::new(alloc))
-    }
-}
-
-#[tactic(auto, unfolding(crate::specs::Variables::library_names))]
-fn library_names(
-    alloc: Global,
-    set: &BuildConfig,
-    env: &BuildEnv,
-    library: &Option<Option<Text>>,
-) -> Mem<Words>
-    ensures { IfOk result (λ names. names ≡ spec.library_names set.now env.now library.now) }
-{
-    let mut names = stdlib_names(alloc, set, env)?;
-    names.append(static_names(alloc, set, env, library)?)?;
-    Ok(names)
-}
-
-fn would_ask(library: &Option<Option<Text>>, target: &TargetInfo) -> bool
-    ensures { result ≡ spec.would_ask library.now (info_seen target.now) }
-{
-    library.is_none() && target.arch != "wasm32"
-}
-
-#[tactic(auto, unfolding(crate::specs::Variables::wasm_library_names))]
-fn push_wasm_library_names(
-    names: &mut Words,
-    library: &Option<Option<Text>>,
-    target: &TargetInfo,
-) -> Mem<()>
-    ensures { OnOk result (names.new
-        ≡ names.old ++ spec.wasm_library_names library.now (info_seen target.now)) }
-{
-    names.push_chosen(&[
-        (would_ask(library, target), &["CC_FORCE_DISABLE"]),
-        (is_wasm_wasi(target), &["WASI_SYSROOT"]),
-        (is_wasm_linux(target), &["WASM_MUSL_SYSROOT"]),
-    ])?;
-    Ok(())
-}
-
-// Those by which link lines are planned.
-fn link_names(alloc: Global, set: &BuildConfig, env: &BuildEnv) -> Mem<Words>
-    ensures { IfOk result (λ names. names ≡ spec.link_names set.now env.now) }
-{
-    if !links_cpp(set) {
-        return Ok(Words::new(alloc));
-    }
-    let library = given_library(alloc, set, env)?;
-    let mut names = library_names(alloc, set, env, &library)?;
-    push_wasm_library_names(&mut names, &library, &target_info(set, env))?;
-    Ok(names)
-}
-
-// Those by which link lines are planned, where some are.
-fn linking_names(alloc: Global, set: &BuildConfig, env: &BuildEnv, reads: Reads) -> Mem<Words>
-    ensures { IfOk result (λ names. names ≡ spec.linking_names reads set.now env.now) }
-{
-    if reads.links {
-        link_names(alloc, set, env)
-    } else {
-        Ok(Words::new(alloc))
-    }
-}
-
-// Those of a run itself.
+/// Those of a run itself: whether a command may run, and whether one is shown.
 #[tactic(auto, unfolding(crate::specs::Variables::run_names))]
-fn run_names(alloc: Global, reads: Reads) -> Mem<Words>
+pub fn run_names(alloc: Global, reads: Reads) -> Mem<Words>
     ensures { IfOk result (λ names. names ≡ spec.run_names reads) }
 {
     let mut names = Words::new(alloc);
     push_if(&mut names, reads.disabled, "CC_FORCE_DISABLE")?;
     push_if(&mut names, reads.debug, "CC_ENABLE_DEBUG_OUTPUT")?;
-    Ok(names)
-}
-
-/// Those that a call reads: those of a run itself, of the tools that it plans, and of its link lines.
-pub fn joined_names(
-    alloc: Global,
-    set: &BuildConfig,
-    env: &BuildEnv,
-    reads: Reads,
-    tools: Words,
-) -> Mem<Words>
-    ensures { IfOk result (λ names. names ≡ spec.joined_names reads set.now env.now tools) }
-{
-    let mut names = run_names(alloc, reads)?;
-    names.append(tools)?;
-    names.append(linking_names(alloc, set, env, reads)?)?;
     Ok(names)
 }
 

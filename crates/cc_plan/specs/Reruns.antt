@@ -6,6 +6,7 @@ use Rattle.cc_tool.specs.Notes.{add_note, named, no_notes}
 use Rattle.cc_tool.specs.Plans.{Plan, bind, done, note}
 use Rattle.cc_tool.specs.declared.want.Want.{Want}
 use Rattle.cc_flags.specs.AssemblerWords.{want_assembler}
+use Rattle.cc_flags.specs.LibraryNames.{link_names}
 use Rattle.cc_flags.specs.Target.{target_info}
 use Rattle.cc_flags.specs.Variables.{run_names, wants_reruns}
 use Rattle.cc_flags.specs.declared.archive_names.ArchiveTool.TheVariants.{Archiver, Ranlib}
@@ -13,7 +14,6 @@ use Rattle.cc_flags.specs.declared.variables.Reads.{Reads}
 use Rattle.cc_flags.specs.declared.settings.BuildConfig.{BuildConfig}
 use Rattle.cc_plan.specs.ArchivePlan.{tool_plan}
 use Rattle.cc_plan.specs.FlagSupport.{pair_plan}
-use Rattle.cc_plan.specs.Stdlib.{link_names}
 use Rattle.cc_plan.specs.ToolPlan.{compiler_plan, tools_plan}
 
 -- a plan for what it notes alone

@@ -2,16 +2,14 @@
 use Rattle.std.specs.Prelude.{ℕ, Bool, false, not, ◌&&◌, ◌||◌, List, [], ◌++◌, Option, Some, None, Result, Ok, Err, codes, if◌then◌else◌}
 use Rattle.std.specs.List.{list_any}
 use Rattle.cc_env.specs.Env.{EnvSeen}
-use Rattle.cc_flags.specs.Texts.{has, is}
+use Rattle.cc_flags.specs.Texts.{is}
 use Rattle.cc_host.specs.Question.{Look}
 use Rattle.cc_text.specs.Families.{is_clang}
-use Rattle.cc_text.specs.Words.{when}
 use Rattle.cc_tool.specs.Libcxx.{uses_libcxx}
 use Rattle.cc_tool.specs.Plans.{Plan, bind, done, unnoted}
 use Rattle.cc_tool.specs.Tool.{ToolSeen}
 use Rattle.cc_flags.specs.StdlibLines.{links_cpp, given_library, library_by, may_ask}
 use Rattle.cc_flags.specs.Target.{target_info}
-use Rattle.cc_flags.specs.Variables.{links_some, stdlib_names, value_names, wasm_library_names}
 use Rattle.cc_flags.specs.declared.settings.BuildConfig.{BuildConfig}
 use Rattle.cc_plan.specs.Tool.{marked_by}
 use Rattle.cc_plan.specs.ToolPlan.{tool_plan}
@@ -59,21 +57,3 @@ library_plan set env = if links_cpp set then given_or_sought set env (given_libr
 
 abbrev pub linked_library : BuildConfig → EnvSeen → Look → Option (List ℕ)
 linked_library set env look = ((library_plan set env).value look).library
-
--- ---- the variables that it is planned by
-
--- its name brings its own kind, so nobody asks whether it is a static one
-abbrev pub brings_kind : Option (Option (List ℕ)) → Bool
-brings_kind (Some (Some library)) = has library "="
-brings_kind library = false
-
-abbrev pub static_names : BuildConfig → EnvSeen → Option (Option (List ℕ)) → List (List ℕ)
-static_names set env library =
-    when (links_some library && (not (brings_kind library) && not set.cpp_link_stdlib_static)) (value_names set env (codes "CXXSTDLIB_STATIC"))
-
-unfoldable pub library_names : BuildConfig → EnvSeen → Option (Option (List ℕ)) → List (List ℕ)
-library_names set env library = stdlib_names set env ++ (static_names set env library ++ wasm_library_names library (target_info set env))
-
--- those of link lines
-unfoldable pub link_names : BuildConfig → EnvSeen → List (List ℕ)
-link_names set env = if links_cpp set then library_names set env (given_library set env) else []

@@ -27,7 +27,6 @@ mod halt;
 mod lib_form;
 mod libtool;
 mod link;
-mod link_names;
 mod names;
 mod objects;
 mod plan;

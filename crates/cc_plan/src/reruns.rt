@@ -13,14 +13,13 @@ use crate::Sight;
 use crate::archive::plan_archive_tool;
 use crate::flag_verdict::plan_pair;
 use crate::halt::{Halting, outcome};
-use crate::link_names::link_names;
 use crate::plan::plan_tools;
 use crate::sight::settle_in;
 use crate::tool::plan_compiler;
 use cc_env::BuildEnv;
 use cc_flags::{
-    ArchiveTool, BuildConfig, Inputs, Reads, push_if, read_handed, target_info, want_assembler,
-    wants_reruns,
+    ArchiveTool, BuildConfig, Inputs, Reads, link_names, read_handed, run_names, target_info,
+    want_assembler, wants_reruns,
 };
 use cc_host::{Host, World};
 use cc_text::{Mem, Words};
@@ -170,13 +169,10 @@ fn tools_notes(reads: Reads, inputs: &Inputs<'_>, seen: &Answers, notes: &mut No
 }
 
 // Those of a run itself, and of its link lines.
-#[tactic(auto, unfolding(cc_flags::specs::Variables::run_names))]
 fn own_names(alloc: Global, reads: Reads, set: &BuildConfig, env: &BuildEnv) -> Mem<Words>
     ensures { IfOk result (λ names. names ≡ spec.own_names reads set.now env.now) }
 {
-    let mut names = Words::new(alloc);
-    push_if(&mut names, reads.disabled, "CC_FORCE_DISABLE")?;
-    push_if(&mut names, reads.debug, "CC_ENABLE_DEBUG_OUTPUT")?;
+    let mut names = run_names(alloc, reads)?;
     if reads.links {
         names.append(link_names(alloc, set, env)?)?;
     }

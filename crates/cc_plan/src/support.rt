@@ -10,7 +10,7 @@ use crate::checks::check_compiler;
 use cc_env::BuildEnv;
 use cc_flags::{
     BuildConfig, BuildFlag, Choice, Compilation, Compiler, Flags, Supported, asked_words, is_clang,
-    is_link, is_visual_studio, language_variable, tool_words,
+    is_link, is_visual_studio, language_variable, push_if, tool_words,
 };
 use cc_host::{Ask, Question, Verdict, is_yes};
 use cc_text::{Mem, NoMemory, Text, ToolFamily, Vars, Words};
@@ -217,15 +217,6 @@ fn asking_of(given: &Compilation<'_>, words: &Words) -> Mem<Asking>
         push_asked(&mut asking, given, word.as_str())?;
     }
     Ok(asking)
-}
-
-fn push_if(words: &mut Words, wanted: bool, word: &str) -> Mem<()>
-    ensures { OnOk result (words.new ≡ words.old ++ when wanted (word.now ∷ [])) }
-{
-    if wanted {
-        words.push(word)?;
-    }
-    Ok(())
 }
 
 // Those of some words whose verdicts say yes.

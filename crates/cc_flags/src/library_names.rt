@@ -1,17 +1,23 @@
 // The names of the variables that link lines are planned by.
 ghost use Rattle.std.specs.Prelude.{◌≡◌, ◌++◌, IfOk, OnOk};
-ghost use Rattle.cc_flags.specs.StdlibLines.{is_wasm_wasi};
-ghost use Rattle.cc_flags.specs.Variables.{links_some, stdlib_names, wasm_library_names, would_ask};
-ghost use Rattle.cc_plan.specs.Stdlib as spec;
 ghost use Rattle.cc_target.specs.Targets.{info_seen};
+ghost use Rattle.cc_flags.specs.LibraryNames as spec;
 
+use crate::stdlib::{given_library, is_wasm_wasi, links_cpp};
+use crate::{BuildConfig, has, is_wasm_linux, target_info, value_names};
 use cc_env::BuildEnv;
-use cc_flags::{
-    BuildConfig, given_library, has, is_wasm_linux, links_cpp, target_info, value_names,
-};
 use cc_target::TargetInfo;
 use cc_text::{Mem, Text, Words};
 use std::alloc::Global;
+
+fn links_some(library: &Option<Option<Text>>) -> bool
+    ensures { result ≡ spec.links_some library.now }
+{
+    match library {
+        Some(library) => library.is_some(),
+        None => true,
+    }
+}
 
 // Whether the name of a library brings its own kind.
 fn brings_kind(library: &Option<Option<Text>>) -> bool
@@ -24,18 +30,9 @@ fn brings_kind(library: &Option<Option<Text>>) -> bool
     }
 }
 
-fn links_some(library: &Option<Option<Text>>) -> bool
-    ensures { result ≡ links_some library.now }
-{
-    match library {
-        Some(library) => library.is_some(),
-        None => true,
-    }
-}
-
 // Those of the variable of the C++ library, where none is set.
 fn stdlib_names(alloc: Global, set: &BuildConfig, env: &BuildEnv) -> Mem<Words>
-    ensures { IfOk result (λ names. names ≡ stdlib_names set.now env.now) }
+    ensures { IfOk result (λ names. names ≡ spec.stdlib_names set.now env.now) }
 {
     match &set.cpp_link_stdlib {
         Some(_) => Ok(Words::new(alloc)),
@@ -60,25 +57,19 @@ fn static_names(
 }
 
 fn would_ask(library: &Option<Option<Text>>, target: &TargetInfo) -> bool
-    ensures { result ≡ would_ask library.now (info_seen target.now) }
+    ensures { result ≡ spec.would_ask library.now (info_seen target.now) }
 {
     library.is_none() && target.arch != "wasm32"
 }
 
-fn is_wasm_wasi(target: &TargetInfo) -> bool
-    ensures { result ≡ is_wasm_wasi (info_seen target.now) }
-{
-    target.arch == "wasm32" && target.os == "wasi"
-}
-
-#[tactic(auto, unfolding(cc_flags::specs::Variables::wasm_library_names))]
+#[tactic(auto, unfolding(crate::specs::LibraryNames::wasm_library_names))]
 fn push_wasm_library_names(
     names: &mut Words,
     library: &Option<Option<Text>>,
     target: &TargetInfo,
 ) -> Mem<()>
     ensures { OnOk result (names.new
-        ≡ names.old ++ wasm_library_names library.now (info_seen target.now)) }
+        ≡ names.old ++ spec.wasm_library_names library.now (info_seen target.now)) }
 {
     names.push_chosen(&[
         (would_ask(library, target), &["CC_FORCE_DISABLE"]),
@@ -88,7 +79,7 @@ fn push_wasm_library_names(
     Ok(())
 }
 
-#[tactic(auto, unfolding(crate::specs::Stdlib::library_names), using(std::proofs::Common::append_assoc))]
+#[tactic(auto, unfolding(crate::specs::LibraryNames::library_names), using(std::proofs::Common::append_assoc))]
 fn library_names(
     alloc: Global,
     set: &BuildConfig,
@@ -104,8 +95,8 @@ fn library_names(
 }
 
 /// Those by which link lines are planned.
-#[tactic(auto, unfolding(crate::specs::Stdlib::link_names))]
-pub(crate) fn link_names(alloc: Global, set: &BuildConfig, env: &BuildEnv) -> Mem<Words>
+#[tactic(auto, unfolding(crate::specs::LibraryNames::link_names))]
+pub fn link_names(alloc: Global, set: &BuildConfig, env: &BuildEnv) -> Mem<Words>
     ensures { IfOk result (λ names. names ≡ spec.link_names set.now env.now) }
 {
     if !links_cpp(set) {

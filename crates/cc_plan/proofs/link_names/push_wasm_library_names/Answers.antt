@@ -1,6 +1,0 @@
-use Rattle.cc_flags.specs.Variables.{wasm_library_names}
-use Rattle.cc_plan.proofs.link_names.push_wasm_library_names.Goals as goal
-
-pub returns : goal.returns
-unfolding wasm_library_names
-returns c = cc c.in_ok-push_chosen.ensures.ok
