@@ -253,7 +253,7 @@ module _ (shows : Shows) (stop : Bool) (ps : List Planned) (part : List Event) (
   run_cause NoMemory s (inr is) job spent = inl is
 
 -- a call that was refused
-call_cause : (step : Step) (event : Event) → IsPlain (Calls step) → Refuses step event → HasFault (event ∷ [])
+pub call_cause : (step : Step) (event : Event) → IsPlain (Calls step) → Refuses step event → HasFault (event ∷ [])
 call_cause (Runs role cmd) event plain r = absurd plain
 call_cause (Makes ForProbes path) event plain r = absurd plain
 call_cause (Makes Build path) (Fault call why) plain r = some_fault (Fault call why ∷ []) call [] refl (ap is_probing r)
