@@ -1,5 +1,5 @@
 -- How an archive alone ends, by what it checked and did.
-use Rattle.std.proofs.Common.{◌≡◌, ◌⊎◌, inl, inr, ℕ, List, [], ◌∷◌, Bool, false, if◌then◌else◌, is_some, Option, Some, None, option_map, Result, Err, refl, sym, ◌∙◌, ap, subst}
+use Rattle.std.proofs.Common.{◌≡◌, ◌⊎◌, inl, inr, ℕ, ◌+◌, List, [], ◌∷◌, Bool, false, if◌then◌else◌, is_some, Option, Some, None, option_map, Result, Err, refl, sym, ◌∙◌, ap, subst, arith}
 use Rattle.cc_env.specs.Env.{EnvSeen}
 use Rattle.cc_host.specs.Question.{Look, Answer, Agrees, answers, Holds}
 use Rattle.cc_host.specs.declared.question.Outcome.{Outcome}
@@ -13,6 +13,7 @@ use Rattle.cc_plan.specs.Refusal.{name_refusal, early_refusal}
 use Rattle.cc_flags.specs.Given.{first_of}
 use Rattle.cc_flags.specs.declared.settings.BuildConfig.{BuildConfig}
 use Rattle.cc_flags.specs.declared.variables.Reads.{Reads}
+use Rattle.cc_run.specs.Part.{turns as turns_in}
 use Rattle.cc_run.specs.declared.planned.Shows.{Shows}
 use Rattle.cc_build.specs.Archiving.{archive_reads, unarchived_error, creation_error, creation_stages, Creates}
 use Rattle.cc_build.specs.Build.{BuildSeen}
@@ -34,6 +35,7 @@ use Rattle.cc_build.proofs.Going.{went_none, halted_none, halted_end}
 use Rattle.cc_build.proofs.OrderLaws.{ended_partly}
 use Rattle.cc_build.proofs.PromiseLaws.{none_inside, fault_ends}
 use Rattle.cc_build.proofs.SettledLaws.{partly_settled}
+use Rattle.cc_build.proofs.TurnLaws.{ended_turns}
 
 -- ---- the checks
 
@@ -121,7 +123,19 @@ module _ (set : BuildConfig) (env : EnvSeen) (listens : Bool) (patience : Option
       pub created_by : {T : Type 0} (r : Result T ErrorSeen) → Holds known (λ look. (writing : Writing) × (firsts : Firsts) × (Repeats set firsts × Ends (terms shows c.total c.patience) (archive_error set env look output) (asked_then (archive_refusal set env look) (told_library set env reads writing look firsts output)) part r c.before c.after)) → Holds (answers part) (λ look. Creates seen listens patience turns output r look part)
       created_by r h = record { under = λ look agree. created r look (h.under look (subst (Agrees look) (sym (asked_all set env part steady world fresh known none on).1) agree)) }
 
+      -- what is left of the turns, and those of the part, are what was given
+      pub turns_left : {T : Type 0} (r : Result T ErrorSeen) → Holds known (λ look. (writing : Writing) × (firsts : Firsts) × (Repeats set firsts × Ends (terms shows c.total c.patience) (archive_error set env look output) (asked_then (archive_refusal set env look) (told_library set env reads writing look firsts output)) part r c.before c.after)) → c.after.left + turns_in part ≡ turns
+      turns_left r h =
+          let all = asked_all set env part steady world fresh known none on in
+          let some = agreed set env part steady world fresh known none on in
+          let its = h.under some.0 (subst (Agrees some.0) (sym all.1) some.1) in
+          ended_turns (terms shows c.total c.patience) (archive_error set env some.0 output) (asked_then (archive_refusal set env some.0) (told_library set env reads its.0 some.0 its.1 output)) part r c.before c.after its.2.1 ∙ given
+
 -- ---- what follows from how it ends
+
+-- without events no turn is made
+pub no_turns : (part : List Event) (left : ℕ) → part ≡ [] → left + turns_in part ≡ left
+no_turns part left none = let zero : turns_in part ≡ 0 = ap turns_in none in omega arith
 
 pub no_faults : (part : List Event) → part ≡ [] → FaultsEnd part
 no_faults part none before after call why real is = absurd (none_inside before after (Fault call why) (sym none ∙ is))

@@ -1,5 +1,5 @@
 -- How many turns the stages of a run take, and how many faults of its pool they count.
-use Rattle.std.proofs.Common.{◌≡◌, ◌⊎◌, inl, inr, ℕ, ◌+◌, ◌*◌, ◌<◌, ◌≤◌, List, [], ◌∷◌, ◌++◌, length, Bool, true, Option, Some, None, Ok, Err, IfSome, refl, sym, ◌∙◌, ap, subst, arith}
+use Rattle.std.proofs.Common.{◌≡◌, ◌⊎◌, inl, inr, ℕ, ◌+◌, ◌*◌, ◌<◌, ◌≤◌, List, [], ◌∷◌, ◌++◌, length, Bool, true, Option, Some, None, Result, Ok, Err, IfSome, refl, sym, ◌∙◌, ap, subst, arith}
 use Rattle.std.proofs.lemmas.Bool.{and_parts}
 use Rattle.std.proofs.lemmas.List.{length-append}
 use Rattle.std.proofs.lemmas.List.Sums.{sum_by-cons, sum_by-append}
@@ -22,9 +22,9 @@ use Rattle.cc_build.specs.RunErrors.{run_error, error_of, command_at}
 use Rattle.cc_build.specs.Stage.{Stage, commands_of, commands_in}
 use Rattle.cc_build.specs.Stage.Stage.{Calls, Asks, Tries, RunsOne, RunsAll}
 use Rattle.cc_build.specs.Stop.{stop_error, missing_error, failed_error, unstarted_error, fault_error}
-use Rattle.cc_build.specs.Went.{Terms, Means, Tried, Did, Went, IsOf, Stops, Halts, Halted}
+use Rattle.cc_build.specs.Went.{Terms, Means, Tried, Did, Went, IsOf, Stops, Halts, Halted, Ends}
 use Rattle.cc_build.specs.declared.error.ErrorKind.TheVariants.{TurnsSpent as SpendsTurns}
-use Rattle.cc_build.proofs.RanLaws.{all_turned, all_later, all_bound, all_enough, one_turned, one_bound, one_enough}
+use Rattle.cc_build.proofs.RanLaws.{all_turned, all_later, all_bound, all_enough, all_spent, one_turned, one_bound, one_enough, one_spent}
 use Rattle.cc_build.proofs.RunLaws.{commands_then}
 use Rattle.cc_build.proofs.Trying.{done_of, done_sole, broken_of, broken_sole, sole_turns}
 
@@ -129,6 +129,11 @@ halted_turns t refusal stages part e x y h =
     let more : y.left + turns h.rest ≡ h.y.left = halts_turns t refusal h.after h.rest e h.y y h.halts in
     omega arith
 
+-- so it is where they were done or the run ended among them
+pub ended_turns : {T : Type 0} (t : Terms) (refusal : Option ErrorSeen) (stages : List Stage) (part : List Event) (r : Result T ErrorSeen) (x y : Means) → Ends t refusal stages part r x y → y.left + turns part ≡ x.left
+ended_turns t refusal stages part (Ok v) x y ends = went_turns t stages part x y ends.1
+ended_turns t refusal stages part (Err e) x y ends = halted_turns t refusal stages part e x y ends
+
 -- ---- the faults of the pool
 
 did_faults : (t : Terms) (s : Stage) (part : List Event) (x y : Means) → Did t s part x y → x.faults ≤ y.faults
@@ -196,6 +201,31 @@ module _ (t : Terms) (total p : ℕ) (owned : t.total ≡ Some total) (patient :
 pub went_bound : (t : Terms) (stages : List Stage) (part : List Event) (x y : Means) (total p : ℕ) → t.total ≡ Some total → t.patience ≡ Some p → Went t stages part x y → turns part ≤ p * length (commands_in stages)
 went_bound t stages part x y total p owned patient w = stages_bound t total p owned patient stages part x y w
 
+stops_most : (t : Terms) (s : Stage) (part : List Event) (e : ErrorSeen) (x y : Means) (total p : ℕ) → t.total ≡ Some total → t.patience ≡ Some p → Stops t s part e x y → turns part ≤ p * length (commands_of s)
+stops_most t (Calls step) part e x y total p owned patient d = let none : turns part ≡ 0 = ap turns d.1.0 ∙ refused_turns step d.0 d.1.1 in omega arith
+stops_most t Asks part e x y total p owned patient d = let none : turns part ≡ 0 = asked_turns part d.1 in omega arith
+stops_most t (Tries refused c) part e x y total p owned patient d = let none : turns part ≡ 0 = sole_turns part (broken_sole c part (broken_of t.shows c part d.0 d.1.0 d.1.1)) in omega arith
+stops_most t (RunsOne c) part e x y total p owned patient d = bounded t.patience p 1 part patient (one_bound t c part (Err d.0) x y d.1.0)
+stops_most t (RunsAll ps) part e x y total p owned patient d = bounded t.patience p (length ps) part patient (where_some (λ _. Bounded t.patience (length ps) part) t.total total owned (all_bound t ps part (Err d.0) x y d.1.0))
+
+halts_most : (t : Terms) (refusal : Option ErrorSeen) (stages : List Stage) (part : List Event) (e : ErrorSeen) (x y : Means) (total p : ℕ) → t.total ≡ Some total → t.patience ≡ Some p → Halts t refusal stages part e x y → turns part ≤ p * length (commands_in stages)
+halts_most t refusal [] part e x y total p owned patient h = let none : turns part ≡ 0 = ap turns h.1 in omega arith
+halts_most t refusal (s ∷ ss) part e x y total p owned patient (inl h) = let none : turns part ≡ 0 = ap turns h.1 in omega arith
+halts_most t refusal (s ∷ ss) part e x y total p owned patient (inr h) =
+    let first : turns part ≤ p * length (commands_of s) = stops_most t s part e x y total p owned patient h in
+    let sum : p * length (commands_in (s ∷ ss)) ≡ p * length (commands_of s) + p * length (commands_in ss) = ap (λ n. p * n) (length-append (commands_of s) (commands_in ss)) ∙ mul-add p (length (commands_of s)) (length (commands_in ss)) in
+    omega arith
+
+-- so it is of stages that were done, or among which the run ended
+pub ended_most : {T : Type 0} (t : Terms) (refusal : Option ErrorSeen) (stages : List Stage) (part : List Event) (r : Result T ErrorSeen) (x y : Means) (total p : ℕ) → t.total ≡ Some total → t.patience ≡ Some p → Ends t refusal stages part r x y → turns part ≤ p * length (commands_in stages)
+ended_most t refusal stages part (Ok v) x y total p owned patient h = went_bound t stages part x y total p owned patient h.1
+ended_most t refusal stages part (Err e) x y total p owned patient h =
+    let both : turns part ≡ turns h.front + turns h.rest = both_turns part h.front h.rest h.cut in
+    let first : turns h.front ≤ p * length (commands_in h.before) = went_bound t h.before h.front x h.y total p owned patient h.went in
+    let more : turns h.rest ≤ p * length (commands_in h.after) = halts_most t refusal h.after h.rest e h.y y total p owned patient h.halts in
+    let sum : p * length (commands_in stages) ≡ p * length (commands_in h.before) + p * length (commands_in h.after) = ap (λ l. p * length (commands_in l)) h.stages_are ∙ ap (λ l. p * length l) (commands_then h.before h.after) ∙ ap (λ n. p * n) (length-append (commands_in h.before) (commands_in h.after)) ∙ mul-add p (length (commands_in h.before)) (length (commands_in h.after)) in
+    omega arith
+
 -- ---- the turns were spent
 
 stop_kind : (step : Step) (event : Event) → (stop_error step event).kind ≡ SpendsTurns → ⊥
@@ -217,7 +247,7 @@ of_kind : (f : CommandSeen → ErrorSeen) → ((cmd : CommandSeen) → (f cmd).k
 of_kind f h (Some cmd) e = h cmd e
 of_kind f h None e = cc
 
-run_kind : (ps : List Planned) (error : RunError) → (run_error ps error).kind ≡ SpendsTurns → error ≡ TurnsSpent
+pub run_kind : (ps : List Planned) (error : RunError) → (run_error ps error).kind ≡ SpendsTurns → error ≡ TurnsSpent
 unfolding missing_error failed_error unstarted_error fault_error
 run_kind ps (ToolNotFound place) h = absurd (of_kind missing_error (λ cmd k. cc) (command_at ps place) h)
 run_kind ps (Failed place status) h = absurd (of_kind (failed_error status) (λ cmd k. cc) (command_at ps place) h)
@@ -229,19 +259,19 @@ run_kind ps TurnsSpent h = refl
 run_kind ps NoMemory h = absurd (cc)
 
 -- an error of that kind is no want of memory
-spends : (is e : ErrorSeen) → e.kind ≡ SpendsTurns → IsOf is e → is.kind ≡ SpendsTurns
+pub spends : (is e : ErrorSeen) → e.kind ≡ SpendsTurns → IsOf is e → is.kind ≡ SpendsTurns
 spends is e h (inl memory) = absurd (let k : no_memory.kind ≡ SpendsTurns = ap (λ o. o.kind) (sym memory) ∙ h in cc)
 spends is e h (inr same) = ap (λ o. o.kind) (sym same) ∙ h
 
-module _ (t : Terms) (total p : ℕ) (owned : t.total ≡ Some total) (patient : t.patience ≡ Some p) where
-  -- no command that is tried spends turns
-  not_tried : (c : Planned) (part : List Event) (error : RunError) → error ≡ TurnsSpent → IsSilentRun t.shows c (Err error) part → ⊥
-  not_tried c part error is h = subst (λ (o : RunError). IsSilentRun t.shows c (Err o) part) is h
+-- no command that is tried spends turns
+not_tried : (t : Terms) (c : Planned) (part : List Event) (error : RunError) → error ≡ TurnsSpent → IsSilentRun t.shows c (Err error) part → ⊥
+not_tried t c part error is h = subst (λ (o : RunError). IsSilentRun t.shows c (Err o) part) is h
 
+module _ (t : Terms) (total p : ℕ) (owned : t.total ≡ Some total) (patient : t.patience ≡ Some p) where
   stops_bound : (s : Stage) (part : List Event) (e : ErrorSeen) (x y : Means) → Stops t s part e x y → e.kind ≡ SpendsTurns → turns part < p * length (commands_of s)
   stops_bound (Calls step) part e x y d h = absurd (stop_kind step d.0 (spends (stop_error step d.0) e h d.1.2))
   stops_bound Asks part e x y d h = absurd (let k : no_memory.kind ≡ SpendsTurns = ap (λ o. o.kind) (sym d.0) ∙ h in cc)
-  stops_bound (Tries refused c) part e x y d h = absurd (not_tried c part d.0 (run_kind (c ∷ []) d.0 (spends (run_error (c ∷ []) d.0) e h d.1.2)) d.1.1)
+  stops_bound (Tries refused c) part e x y d h = absurd (not_tried t c part d.0 (run_kind (c ∷ []) d.0 (spends (run_error (c ∷ []) d.0) e h d.1.2)) d.1.1)
   stops_bound (RunsOne c) part e x y d h =
       let is : d.0 ≡ TurnsSpent = run_kind (c ∷ []) d.0 (spends (run_error (c ∷ []) d.0) e h d.1.1) in
       unspent t.patience p 1 part patient (one_enough t c part (Err d.0) x y d.1.0 (ap Err is))
@@ -269,3 +299,23 @@ halted_bound t refusal stages part e x y total p owned patient other h k =
     let more : turns h.rest < p * length (commands_in h.after) = halts_bound t total p owned patient refusal h.after h.rest e h.y y other h.halts k in
     let sum : p * length (commands_in stages) ≡ p * length (commands_in h.before) + p * length (commands_in h.after) = ap (λ l. p * length (commands_in l)) h.stages_are ∙ ap (λ l. p * length l) (commands_then h.before h.after) ∙ ap (λ n. p * n) (length-append (commands_in h.before) (commands_in h.after)) ∙ mul-add p (length (commands_in h.before)) (length (commands_in h.after)) in
     omega arith
+
+stops_spent : (t : Terms) (s : Stage) (part : List Event) (e : ErrorSeen) (x y : Means) → Stops t s part e x y → e.kind ≡ SpendsTurns → y.left ≡ 0
+stops_spent t (Calls step) part e x y d h = absurd (stop_kind step d.0 (spends (stop_error step d.0) e h d.1.2))
+stops_spent t Asks part e x y d h = absurd (let k : no_memory.kind ≡ SpendsTurns = ap (λ o. o.kind) (sym d.0) ∙ h in cc)
+stops_spent t (Tries refused c) part e x y d h = absurd (not_tried t c part d.0 (run_kind (c ∷ []) d.0 (spends (run_error (c ∷ []) d.0) e h d.1.2)) d.1.1)
+stops_spent t (RunsOne c) part e x y d h = one_spent t c part (Err d.0) x y d.1.0 (ap Err (run_kind (c ∷ []) d.0 (spends (run_error (c ∷ []) d.0) e h d.1.1)))
+stops_spent t (RunsAll ps) part e x y d h = all_spent t ps part (Err d.0) x y d.1.0 (ap Err (run_kind ps d.0 (spends (run_error ps d.0) e h d.1.1)))
+
+-- it has none left
+pub halted_spent : (t : Terms) (refusal : Option ErrorSeen) (stages : List Stage) (part : List Event) (e : ErrorSeen) (x y : Means) → ((e' : ErrorSeen) → refusal ≡ Some e' → e'.kind ≡ SpendsTurns → ⊥) → Halted t refusal stages part e x y → e.kind ≡ SpendsTurns → y.left ≡ 0
+halted_spent t refusal stages part e x y other h kind = behind h.after h.halts
+  where
+    wanted : (e ≡ no_memory) ⊎ (refusal ≡ Some e) → ⊥
+    wanted (inl memory) = let k : no_memory.kind ≡ SpendsTurns = ap (λ o. o.kind) (sym memory) ∙ kind in cc
+    wanted (inr refused) = other e refused kind
+
+    behind : (after : List Stage) → Halts t refusal after h.rest e h.y y → y.left ≡ 0
+    behind [] k = absurd (wanted k.0)
+    behind (s ∷ ss) (inl k) = absurd (wanted (inl k.0))
+    behind (s ∷ ss) (inr k) = stops_spent t s h.rest e h.y y k kind

@@ -12,6 +12,7 @@ ghost use Rattle.cc_build.specs.Kept.{AsksFor};
 ghost use Rattle.cc_build.specs.Phases.{ByKnown, WrittenEnds};
 ghost use Rattle.cc_build.specs.Promises.{NothingRuns, FaultsEnd};
 ghost use Rattle.cc_run.specs.Keeping.{IsIdle};
+ghost use Rattle.cc_run.specs.Part.{turns as turns_of};
 ghost use Rattle.cc_build.specs.Stage.{IsRun};
 
 use crate::message::or_no_memory;
@@ -146,6 +147,35 @@ impl<W: World> Build<W> {
         ensures settled { NothingRuns (part H.log host.old host.new) }
         ensures faults_last { FaultsEnd (part H.log host.old host.new) }
     {
+        let mut left = turns;
+        self.create_archive(rt, host, &mut left, output, objects)
+    }
+
+    /// The same, for a caller whose calls share their turns: of those that are left it takes the turns that it makes.
+    #[tactic(auto, using(cc_host::proofs::Parts::since_append))]
+    pub fn create_archive<H: Host<W>>(
+        &self,
+        rt: &impl Wait,
+        host: &mut H,
+        left: &mut u64,
+        output: &str,
+        objects: &Words,
+    ) -> Result<Text, Error>
+        ensures patient { H.patience host.new ≡ H.patience host.old }
+        ensures extends { H.log host.new ≡ H.log host.old ++ part H.log host.old host.new }
+        ensures asked { AsksByRun W.steady W.answer (with_objects self.now objects.now)
+            (part H.log host.old host.new) }
+        ensures library { IfOk result (λ path. path ≡ library_of
+            (with_objects self.now objects.now).config self.now.env output.now) }
+        ensures outcome { ByPart H.log host.old host.new
+            (Creates (with_objects self.now objects.now) (H.listens host.old)
+            (H.patience host.old) left.old output.now result) }
+        ensures sum { left.new + turns_of (part H.log host.old host.new) ≡ left.old }
+        ensures prefix { ByPart H.log host.old host.new
+            (ArchivesFirst (with_objects self.now objects.now) output.now) }
+        ensures settled { NothingRuns (part H.log host.old host.new) }
+        ensures faults_last { FaultsEnd (part H.log host.old host.new) }
+    {
         let (alloc, env) = (self.alloc, &self.env);
         let set = archive_settings(alloc, &self.config, objects)?;
         let sources = check_archive(alloc, &set, env, output)?;
@@ -165,11 +195,13 @@ impl<W: World> Build<W> {
             reads: archive_reads(),
         };
         let mut answers = Answers::new(alloc);
-        let mut left = Turns {
-            left: turns,
+        let mut turns = Turns {
+            left: *left,
             used: 0,
         };
-        match archive_and_tell(rt, &shared, host, &mut seat, &mut left, &mut answers) {
+        let made = archive_and_tell(rt, &shared, host, &mut seat, &mut turns, &mut answers);
+        *left = turns.left;
+        match made {
             Ok(()) => Ok(path),
             Err(error) => Err(error),
         }

@@ -1,3 +1,5 @@
 pub mod Clash
 pub mod Failures
 pub mod Joined
+pub mod Run
+pub mod Fleet

@@ -1,18 +1,26 @@
-//! What a fleet is made of, several builds under one pool: which of them write one file, their commands as one list, and which of these
-//! failed last of each.
+//! A fleet: several builds under one pool.
 //!
-//! Stands on `cc_text`, `cc_host` and `cc_run`. A caller that runs the commands of several builds uses four things: `find_clash` before it,
-//! `Joined` for the list, `last_failures` of the marks of the run, and `turns_in` for the turns that a log has.
+//! Stands on `cc_text`, `cc_host`, `cc_jobs`, `cc_plan`, `cc_run` and `cc_build`. Each member is planned, the commands of all are
+//! run as one list, and then the library of each member is written of which no command failed. The crate above uses one thing:
+//! where `run_fleet` answers well, its part is a `Fleet`.
 #![tactic(auto)]
 
 mod clash;
 mod failures;
+mod fleet;
 mod joined;
+mod members;
+mod paths;
+mod plans;
+mod run;
+mod segments;
 #[cfg(test)]
 mod tests;
 mod turns;
 
 pub use clash::find_clash;
 pub use failures::{Failure, last_failures};
+pub use fleet::run_fleet;
 pub use joined::Joined;
+pub use members::{FleetEnd, FleetEnds, Member};
 pub use turns::turns_in;
