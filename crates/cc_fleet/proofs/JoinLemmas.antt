@@ -1,23 +1,26 @@
 -- How plans are put together, and members planned one after another.
-use Rattle.std.proofs.Common.{◌≡◌, ◌⊎◌, inl, inr, ℕ, List, [], ◌∷◌, ◌++◌, length, map, replicate, take, drop, get_or, ◌<◌, ◌+◌, Option, Some, None, Result, Ok, Err, refl, sym, ◌∙◌, ap, subst, append_assoc, append-nil, arith}
+use Rattle.std.proofs.Common.{◌≡◌, ◌⊎◌, inl, inr, ℕ, Bool, List, [], ◌∷◌, ◌++◌, length, map, replicate, take, drop, get_or, ◌<◌, ◌+◌, Option, Some, None, Result, Ok, Err, refl, sym, ◌∙◌, ap, subst, append_assoc, append-nil, arith}
 use Rattle.std.specs.List.{flat_map}
 use Rattle.std.proofs.lemmas.Grind.{flat_map-append}
-use Rattle.std.proofs.lemmas.List.{length-map, map-append, take-append-drop, take_more, drop_more}
+use Rattle.std.proofs.lemmas.List.{length-map, map-append}
 use Rattle.cc_host.specs.Part.{since}
-use Rattle.cc_host.specs.Question.{answers}
+use Rattle.cc_host.specs.Question.{answers, Holds}
 use Rattle.cc_host.proofs.Parts.{since_since}
 use Rattle.cc_host.specs.declared.event.Event.{Event}
 use Rattle.cc_run.specs.declared.planned.Planned.{Planned}
 use Rattle.cc_run.specs.declared.planned.Shows.{Shows}
 use Rattle.cc_plan.specs.Archive.{paths_of}
 use Rattle.cc_tool.proofs.SomeLemmas.{some_agree}
+use Rattle.cc_build.specs.Build.{AsksByRun}
 use Rattle.cc_build.specs.Error.{ErrorSeen, no_memory}
+use Rattle.cc_build.specs.Planning.{PlanningEnds}
 use Rattle.cc_build.specs.declared.planning.CompilePlan.{CompilePlan}
 use Rattle.cc_fleet.specs.Failures.{owners_of}
 use Rattle.cc_fleet.specs.Joined.{Adds, first_shows}
 use Rattle.cc_fleet.specs.Fleet.{Site, MemberSeen, IsPlanned, PlansEach, PlansUntil, Gathers, Joins, commands_of, joined, owners, objects_in, objects_at, shown_first, member_seen, members_seen}
 use Rattle.cc_fleet.specs.declared.joined.Joined.{Joined}
 use Rattle.cc_fleet.specs.declared.members.Member.{Member}
+use Rattle.cc_fleet.proofs.MemberLemmas.{parted, longer}
 use Rattle.cc_fleet.proofs.OwnerLemmas.{owners_next}
 
 -- ---- plans, put together
@@ -43,7 +46,7 @@ gathers_more old new plans plan g j = record {
 }
   where
     count : length old.objects.items ≡ length (map commands_of plans)
-    count = ap length g.objects_are ∙ length-map objects_in plans ∙ sym (length-map commands_of plans)
+    count = ap length g.objects_are ∙ length-map plans objects_in ∙ sym (length-map plans commands_of)
 
 -- ---- members, one after another
 
@@ -82,39 +85,43 @@ module _ (s : Site) where
   wanting [] = (refl, refl)
   wanting (m ∷ ms) = inl (refl, refl)
 
+-- a call that plans a member says so
+pub planned_so : (s : Site) (m : MemberSeen) (listens : Bool) (output : List ℕ) (answer : Result CompilePlan ErrorSeen) (part : List Event) → output ≡ m.output → AsksByRun s.steady s.world m.build part → Holds (answers part) (λ look. PlanningEnds m.build listens output answer look part) → IsPlanned s m answer part
+planned_so s m listens output answer part named asked ends = record {
+  listens = listens;
+  asked = asked;
+  ends = subst (λ (n : List ℕ). Holds (answers part) (λ look. PlanningEnds m.build listens n answer look part)) named ends;
+}
+
+-- one call behind another extends the log by both parts
+pub extends_both : (old mid new : List Event) → mid ≡ old ++ since old mid → new ≡ mid ++ since mid new → new ≡ old ++ since old new
+extends_both old mid new first second =
+    second ∙ ap (λ l. l ++ since mid new) first ∙ append_assoc old (since old mid) (since mid new) ∙ ap (λ l. old ++ l) (sym (since_since old mid new first second))
+
 -- ---- members of a list
 
 module _ {W : Type 0} (s : Site) (members : List (Member W)) (i : ℕ) (m : Member W) (old mid new : List Event) (within : i < length members) (is : m ≡ get_or members i m) (first : mid ≡ old ++ since old mid) (second : new ≡ mid ++ since mid new) where
-  -- the members are the first ones, this one, and those behind it
-  parted : members_seen members ≡ members_seen (take i members) ++ (member_seen m ∷ members_seen (drop (i + 1) members))
-  parted =
-      ap members_seen (sym (take-append-drop i members) ∙ ap (λ rest. take i members ++ rest) (drop_more members i m within ∙ ap (λ x. x ∷ drop (i + 1) members) (sym is)))
-      ∙ map-append member_seen (take i members) (m ∷ drop (i + 1) members)
-
-  longer : members_seen (take (i + 1) members) ≡ members_seen (take i members) ++ member_seen m ∷ []
-  longer = ap members_seen (take_more members i m within ∙ ap (λ x. take i members ++ x ∷ []) (sym is)) ∙ map-append member_seen (take i members) (m ∷ [])
-
   both : since old mid ++ since mid new ≡ since old new
   both = sym (since_since old mid new first second)
 
   -- it was planned
   pub plans_next : (ps : List CompilePlan) (p : CompilePlan) → PlansEach s (members_seen (take i members)) ps (since old mid) → IsPlanned s (member_seen m) (Ok p) (since mid new) → PlansEach s (members_seen (take (i + 1) members)) (ps ++ p ∷ []) (since old new)
   plans_next ps p before planned =
-      subst (λ ms. PlansEach s ms (ps ++ p ∷ []) (since old new)) (sym longer)
+      subst (λ ms. PlansEach s ms (ps ++ p ∷ []) (since old new)) (sym (longer members i m within is))
       (subst (λ l. PlansEach s (members_seen (take i members) ++ member_seen m ∷ []) (ps ++ p ∷ []) l) both
       (plans_more s (members_seen (take i members)) ps (member_seen m) p (since old mid) (since mid new) before planned))
 
   -- its plan was refused
   pub plans_refused : (ps : List CompilePlan) (e : ErrorSeen) → PlansEach s (members_seen (take i members)) ps (since old mid) → IsPlanned s (member_seen m) (Err e) (since mid new) → PlansUntil s (members_seen members) e (since old new)
   plans_refused ps e before refused =
-      subst (λ ms. PlansUntil s ms e (since old new)) (sym parted)
+      subst (λ ms. PlansUntil s ms e (since old new)) (sym (parted members i m within is))
       (subst (λ l. PlansUntil s (members_seen (take i members) ++ (member_seen m ∷ members_seen (drop (i + 1) members))) e l) both
       (plans_stop s (members_seen (take i members)) ps (member_seen m ∷ members_seen (drop (i + 1) members)) e (since old mid) (since mid new) before (inr (inl refused))))
 
   -- it was planned, and memory was wanted for its commands
   pub plans_wanting : (ps : List CompilePlan) (p : CompilePlan) → PlansEach s (members_seen (take i members)) ps (since old mid) → IsPlanned s (member_seen m) (Ok p) (since mid new) → PlansUntil s (members_seen members) no_memory (since old new)
   plans_wanting ps p before planned =
-      subst (λ ms. PlansUntil s ms no_memory (since old new)) (sym parted)
+      subst (λ ms. PlansUntil s ms no_memory (since old new)) (sym (parted members i m within is))
       (subst (λ l. PlansUntil s (members_seen (take i members) ++ (member_seen m ∷ members_seen (drop (i + 1) members))) no_memory l) both
       (plans_stop s (members_seen (take i members)) ps (member_seen m ∷ members_seen (drop (i + 1) members)) no_memory (since old mid) (since mid new) before
       (inr (inr (p, since mid new, [], (sym (append-nil (since mid new)), planned, wanting s (members_seen (drop (i + 1) members))))))))

@@ -1,7 +1,13 @@
 pub mod FailureLemmas
 pub mod ClashLemmas
 pub mod OwnerLemmas
-pub mod TurnLemmas
+pub mod MemberLemmas
 pub mod JoinLemmas
 pub mod RunLemmas
 pub mod EndLemmas
+pub mod FleetLemmas
+pub mod JoinedLaws
+pub mod PlannedLaws
+pub mod PartLaws
+pub mod CauseLaws
+pub mod FleetLaws

@@ -1,5 +1,5 @@
 -- The run of the commands of all members.
-use Rattle.std.specs.Prelude.{◌≡◌, ◌≤◌, ◌<◌, ◌⊎◌, ℕ, List, [], ◌∷◌, ◌++◌, length, Option, None, Some, Result, Ok, Err, IfSome}
+use Rattle.std.specs.Prelude.{◌≡◌, ◌≤◌, ◌<◌, ◌⊎◌, ℕ, List, [], ◌∷◌, ◌++◌, length, false, Option, None, Some, Result, Ok, Err, IfSome}
 use Rattle.std.specs.List.{slice_index_or}
 use Rattle.std.specs.Global.{Vec}
 use Rattle.cc_host.specs.Call.{part}
@@ -68,6 +68,11 @@ IsRefusal e (Err error) = error ≡ e
 abbrev pub FailuresBy : Joined → List Mark → Result (Vec (Option Failure)) RunError → Type 0
 FailuresBy all marks (Ok failures) = AreFailures all marks failures.items
 FailuresBy all marks (Err e) = e ≡ NoMemory
+
+-- the same of a run that answered so
+abbrev pub FailuresAfter : Joined → Result (List Mark) RunError → Result (Vec (Option Failure)) RunError → Type 0
+FailuresAfter all (Ok marks) answer = FailuresBy all marks answer
+FailuresAfter all (Err e) answer = answer ≡ Err e
 
 abbrev pub RunsTo : Terms → List Planned → Joined → Result (Vec (Option Failure)) RunError → List Event → Means → Means → Type 0
 RunsTo t cmds all (Ok failures) part x y = RanTo t cmds all failures.items part x y

@@ -16,11 +16,9 @@ mod run;
 mod segments;
 #[cfg(test)]
 mod tests;
-mod turns;
 
 pub use clash::find_clash;
 pub use failures::{Failure, last_failures};
 pub use fleet::run_fleet;
 pub use joined::Joined;
 pub use members::{FleetEnd, FleetEnds, Member};
-pub use turns::turns_in;

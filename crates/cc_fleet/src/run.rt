@@ -1,9 +1,9 @@
 // The run of the commands of all members.
-ghost use Rattle.std.specs.Prelude.{◌≡◌, ◌+◌, ◌<◌, ◌^◌};
+ghost use Rattle.std.specs.Prelude.{◌≡◌, ◌+◌, ◌<◌, ◌^◌, Err};
 ghost use Rattle.cc_run.specs.Keeping.{IsIdle};
 ghost use Rattle.cc_build.specs.Course.{OnCourse};
 ghost use Rattle.cc_build.specs.Kept.{Aside};
-ghost use Rattle.cc_fleet.specs.Run.{FailuresBy, RunsAlone, RunsBeside, RunsAll, RunsOn, shown_by};
+ghost use Rattle.cc_fleet.specs.Run.{FailuresBy, FailuresAfter, RunsAlone, RunsBeside, RunsAll, RunsOn, marks_of, shown_by};
 
 use crate::failures::{Failure, last_failures};
 use crate::joined::Joined;
@@ -25,6 +25,20 @@ fn failures_by(
     Ok(last_failures(alloc, count, owners, marks)?)
 }
 
+// The same, where one command was run alone and its run ended so: its failure is the end that counts.
+fn failures_alone(
+    alloc: Global,
+    joined: &Joined,
+    e: RunError,
+) -> Result<Vec<Option<Failure>>, RunError>
+    ensures { FailuresAfter joined.now (marks_of (Err e)) result }
+{
+    match e {
+        RunError::Failed(_, status) => failures_by(alloc, joined, &[Mark::Over(0, status)]),
+        e => Err(e),
+    }
+}
+
 // Runs one command alone.
 fn run_lone<W: World, H: Host<W>>(
     alloc: Global,
@@ -44,8 +58,7 @@ fn run_lone<W: World, H: Host<W>>(
     let _least = host.log();
     match run_one(alloc, host, turns, cmd, shows) {
         Ok(()) => failures_by(alloc, joined, &[]),
-        Err(RunError::Failed(_, status)) => failures_by(alloc, joined, &[Mark::Over(0, status)]),
-        Err(e) => Err(e),
+        Err(e) => failures_alone(alloc, joined, e),
     }
 }
 

@@ -1,12 +1,12 @@
 // The libraries of members.
-ghost use Rattle.std.specs.Prelude.{◌≡◌, ◌++◌, length, map, None};
+ghost use Rattle.std.specs.Prelude.{◌≡◌, ◌++◌, ◌+◌, length, map, None};
 ghost use Rattle.std.specs.List.{slice_index_or};
 ghost use Rattle.cc_host.specs.Call.{part};
+ghost use Rattle.cc_run.specs.Part.{turns};
 ghost use Rattle.cc_fleet.specs.Fleet.{Segment, EndsBuilt, EndsBy, EndsFailed, EndsMember, EndsTo, ends_call as is_end, site, member_seen, members_seen, objects_at};
 
 use crate::failures::Failure;
 use crate::joined::Joined;
-use crate::turns::turns_in;
 use crate::{FleetEnd, FleetEnds, Member};
 use cc_build::{Error, ErrorKind, emit_link_directives};
 use cc_host::{Host, World};
@@ -23,26 +23,27 @@ struct Given<'a> {
     failure: Option<Failure>,
 }
 
-// Writes the library of a member, and prints how Cargo links it.
+// Writes the library of a member, and prints how Cargo links it. Of the turns that are left it takes those that it makes.
 #[tactic(auto, using(cc_host::proofs::Parts::since_append))]
 fn archive<W: World, H: Host<W>>(
     rt: &impl Wait,
     member: &Member<W>,
     host: &mut H,
-    turns: u64,
+    left: &mut u64,
     objects: &Words,
 ) -> Result<(), Error>
     requires objects { objects.now ≡ objects_at (member_seen member.now) }
     ensures patient { H.patience host.new ≡ H.patience host.old }
     ensures extends { H.log host.new ≡ H.log host.old ++ part H.log host.old host.new }
     ensures segment { Segment (site W.steady W.answer (H.patience host.old))
-        (member_seen member.now) result (part H.log host.old host.new) turns }
+        (member_seen member.now) result (part H.log host.old host.new) left.old }
+    ensures sum { left.new + turns (part H.log host.old host.new) ≡ left.old }
 {
     let listens = host.listens();
     let output = member.output.as_str();
     let library = member
         .build
-        .try_create_archive(rt, host, turns, output, objects)?;
+        .create_archive(rt, host, left, output, objects)?;
     emit_link_directives(rt, &member.build, host, listens, library.as_str())
 }
 
@@ -69,7 +70,7 @@ fn end_by(answer: Result<(), Error>) -> Result<FleetEnd, Error>
     }
 }
 
-// The same, of a member that may make so many turns, of which some are left.
+// The end of a member by its library. Of the turns that are left it takes those that it makes.
 #[tactic(auto, using(cc_host::proofs::Parts::since_append))]
 fn end_built<W: World, H: Host<W>>(
     rt: &impl Wait,
@@ -84,10 +85,7 @@ fn end_built<W: World, H: Host<W>>(
     ensures ends { EndsBuilt (site W.steady W.answer (H.patience host.old)) (member_seen member.now)
         result (part H.log host.old host.new) left.old left.new }
 {
-    let before = turns_in(host.log());
-    let answer = archive(rt, member, host, *left, objects);
-    let made = turns_in(host.log()) - before;
-    *left -= made as u64;
+    let answer = archive(rt, member, host, left, objects);
     end_by(answer)
 }
 
@@ -111,13 +109,13 @@ fn end_member<W: World, H: Host<W>>(
     member: &Member<W>,
     host: &mut H,
     left: &mut u64,
-    given: Given<'_>,
+    given: &Given<'_>,
 ) -> Result<FleetEnd, Error>
-    requires objects { given.objects.now ≡ objects_at (member_seen member.now) }
+    requires objects { given.now.objects.now ≡ objects_at (member_seen member.now) }
     ensures patient { H.patience host.new ≡ H.patience host.old }
     ensures extends { H.log host.new ≡ H.log host.old ++ part H.log host.old host.new }
-    ensures ends { EndsMember (site W.steady W.answer (H.patience host.old)) given.commands.now
-        (member_seen member.now) given.failure result
+    ensures ends { EndsMember (site W.steady W.answer (H.patience host.old)) given.now.commands.now
+        (member_seen member.now) given.now.failure result
         (part H.log host.old host.new) left.old left.new }
 {
     match given.failure {
@@ -152,7 +150,7 @@ pub(crate) fn end_all<W: World, H: Host<W>>(
             objects: &joined.objects[place],
             failure: failures[place],
         };
-        ends.push(end_member(rt, alloc, member, host, left, given)?)?;
+        ends.push(end_member(rt, alloc, member, host, left, &given)?)?;
     }
     Ok(ends)
 }

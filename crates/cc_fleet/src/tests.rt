@@ -246,11 +246,16 @@ fn a_plan_is_refused_before_any_command(rt: HostRuntime) -> Result<(), Fail> {
     Ok(())
 }
 
+fn add(members: &mut Vec<Member<Bench>>, member: Member<Bench>) -> Mem<()> {
+    members.push(member)?;
+    Ok(())
+}
+
 // The members of a fleet of one, or of none.
 fn few(alloc: Global, source: Option<&str>) -> Result<Vec<Member<Bench>>, Error> {
     let mut members = Vec::new(alloc);
     if let Some(source) = source {
-        members.push(member(alloc, "bar", source, "/o")?)?;
+        add(&mut members, member(alloc, "bar", source, "/o")?)?;
     }
     Ok(members)
 }
