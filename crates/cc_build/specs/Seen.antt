@@ -1,5 +1,5 @@
 -- What a stage of the code is seen as.
-use Rattle.std.specs.Prelude.{◌≡◌, ℕ, Bool, List, [], ◌∷◌, ◌++◌, map, Option, is_some}
+use Rattle.std.specs.Prelude.{◌≡◌, ℕ, Bool, List, [], ◌∷◌, ◌++◌, map, Option}
 use Rattle.cc_host.specs.Command.{CommandSeen}
 use Rattle.cc_host.specs.Part.{Step}
 use Rattle.cc_host.specs.Part.Step.{Removes, Copies, Prints, Says}
@@ -11,11 +11,10 @@ use Rattle.cc_plan.specs.Libtool.{lists_of}
 use Rattle.cc_plan.specs.Link.{printed_line}
 use Rattle.cc_plan.specs.Plan.{copy_by, warned_steps}
 use Rattle.cc_flags.specs.declared.object.Object.{Object}
-use Rattle.cc_plan.specs.declared.plan.Plan.{Plan}
 use Rattle.cc_flags.specs.declared.settings.BuildConfig.{BuildConfig}
 use Rattle.cc_run.specs.declared.planned.Planned.{Planned}
 use Rattle.cc_target.specs.Targets.{info_seen}
-use Rattle.cc_build.specs.Stage.{Stage, calls, planned, beside, compile_planned, finding_steps, asking_steps, written, writings}
+use Rattle.cc_build.specs.Stage.{Stage, calls, planned, compile_planned, finding_steps, asking_steps, written, writings}
 use Rattle.cc_build.specs.Way.{Writing}
 use Rattle.cc_build.specs.Stage.Stage.{Calls, RunsOne, RunsAll}
 use Rattle.cc_plan.specs.declared.archiver.Library.{Library}
@@ -41,10 +40,6 @@ opening_of set listens texts here = warned_steps set listens texts ++ finding_st
 abbrev pub compiles_by : Option (List ℕ) → List Object → List CommandSeen → List Planned
 compiles_by here (object ∷ objects) (cmd ∷ cmds) = compile_planned here object cmd ∷ compiles_by here objects cmds
 compiles_by here _ _ = []
-
--- the stages of a plan for these objects
-abbrev pub stages_of : BuildConfig → Plan → List Object → Option (List ℕ) → List Stage
-stages_of set plan objects here = calls (opening_of set (is_some here) plan.warnings here) ++ beside (compiles_by here objects plan.compiles.items)
 
 -- these stages were added to the others
 abbrev pub Adds : List Coded → List Coded → List Stage → Type 0

@@ -217,11 +217,6 @@ library_stages set env writing look output = removal_stages set env output ++ wr
 abbrev pub told_sources : BuildConfig → EnvSeen → Reads → Found → Look → Firsts → List Stage
 told_sources set env reads found look firsts = compile_stages set env found look ++ Asks ∷ name_stages set env reads look firsts
 
--- the same of a run that is opened, and compiles nothing
-abbrev pub told_opening : BuildConfig → EnvSeen → Reads → Found → Look → Firsts → List Stage
-told_opening set env reads found look firsts =
-    calls (opening_steps set env found look) ++ Asks ∷ name_stages set env reads look firsts
-
 -- the same of the library, which is written
 abbrev pub told_library : BuildConfig → EnvSeen → Reads → Writing → Look → Firsts → List ℕ → List Stage
 told_library set env reads writing look firsts output = library_stages set env writing look output ++ Asks ∷ name_stages set env reads look firsts
