@@ -184,7 +184,7 @@ module _ (t u : Terms) (v : Means) where
   stops_still (RunsOne p) part e x y still d = absurd still
   stops_still (RunsAll ps) part e x y still d = absurd still
 
-  went_still : (stages : List Stage) (part : List Event) (x z : Means) → AreStill stages → Went t stages part x z → Went u stages part v v
+  pub went_still : (stages : List Stage) (part : List Event) (x z : Means) → AreStill stages → Went t stages part x z → Went u stages part v v
   went_still [] part x z still w = (w.0, refl)
   went_still (s ∷ ss) part x z still w = (w.0, w.1, v, (w.3.0, did_still s w.0 x w.2 still.0 w.3.1, went_still ss w.1 w.2 z still.1 w.3.2))
 
@@ -193,7 +193,7 @@ module _ (t u : Terms) (v : Means) where
   halts_still refusal (s ∷ ss) part e x y still (inl h) = inl (h.0, h.1, refl)
   halts_still refusal (s ∷ ss) part e x y still (inr stop) = inr (stops_still s part e x y still.0 stop)
 
-  halted_still : (refusal : Option ErrorSeen) (stages : List Stage) (part : List Event) (e : ErrorSeen) (x z : Means) → AreStill stages → Halted t refusal stages part e x z → Halted u refusal stages part e v v
+  pub halted_still : (refusal : Option ErrorSeen) (stages : List Stage) (part : List Event) (e : ErrorSeen) (x z : Means) → AreStill stages → Halted t refusal stages part e x z → Halted u refusal stages part e v v
   halted_still refusal stages part e x z still h =
       let all : AreStill (h.before ++ h.after) = subst AreStill h.stages_are still in
       record {

@@ -32,6 +32,7 @@ pub mod PromiseLaws
 pub mod RanLaws
 pub mod RerunLaws
 pub mod RunLaws
+pub mod RunPlanLaws
 pub mod Running
 pub mod SettledLaws
 pub mod SourceLaws

@@ -23,13 +23,8 @@ use Rattle.cc_flags.specs.Target.{target_info}
 use Rattle.cc_build.specs.Way.{Firsts, Repeats, all_firsts}
 use Rattle.cc_build.specs.Went.{Terms, Means, Ends}
 use Rattle.cc_build.proofs.AloneLaws.{AreStill, still_calls, still_unless, ends_still}
-use Rattle.cc_build.proofs.IntermediateLaws.{never_begun}
+use Rattle.cc_build.proofs.RunPlanLaws.{unchecked, checked_ends}
 use Rattle.cc_build.proofs.Stages.{plan_cause}
-
--- the questions and the lines behind a path that is a library's
-by_path : {T : Type 0} (t : Terms) (f : PlanError → ErrorSeen) (early : Option PlanError) (late : Option ErrorSeen) (run : List Stage) (part : List Event) (r : Result T ErrorSeen) (x z : Means) → early ≡ None → Ends t late (Asks ∷ run) part r x z → Ends t (first_of (option_map f early) late) (if is_some early then [] else Asks ∷ run) part r x z
-by_path t f None late run part r x z is o = o
-by_path t f (Some error) late run part r x z is o = absurd (cc)
 
 -- a path that is a library's isn't refused
 pub found_so : (set : BuildConfig) (env : EnvSeen) (library : List ℕ) (found : List ℕ × List ℕ) → linked_library (target_info set env) library ≡ Some found → path_refusal set env library ≡ None
@@ -63,7 +58,7 @@ module _ (set : BuildConfig) (env : EnvSeen) (listens : Bool) (look : Look) (lib
     all_firsts,
     (
       (λ _. refl),
-      λ t x. never_begun t (plan_error set env library) late_in [] (run_with all_firsts) (path_refusal set env library) false part e x none (plan_cause set env library error e (path_refusal set env library) made cause),
+      λ t x. unchecked t (plan_error set env library) late_in (Asks ∷ run_with all_firsts) (path_refusal set env library) part e x (λ empty. absurd (cc)) none (plan_cause set env library error e (path_refusal set env library) made cause),
     ),
   )
 
@@ -83,6 +78,6 @@ module _ (set : BuildConfig) (env : EnvSeen) (listens : Bool) (look : Look) (lib
         h.0,
         (
           h.1.0,
-          λ u v. by_path u (plan_error set env library) (path_refusal set env library) late_in (run_with h.0) part r v v (found_so set env library found is) (ends_still t u v late_in (Asks ∷ run_with h.0) part r y z still ends),
+          λ u v. checked_ends u (plan_error set env library) late_in (Asks ∷ run_with h.0) (path_refusal set env library) part r v v (found_so set env library found is) (ends_still t u v late_in (Asks ∷ run_with h.0) part r y z still ends),
         ),
       )

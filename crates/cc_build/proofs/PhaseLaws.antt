@@ -22,18 +22,15 @@ use Rattle.cc_plan.specs.Link.{link_lines as lines_of}
 use Rattle.cc_flags.specs.Names.{library_name}
 use Rattle.cc_flags.specs.declared.settings.BuildConfig.{BuildConfig}
 use Rattle.cc_env.specs.Env.{EnvSeen}
-use Rattle.cc_plan.specs.Plan.{library_of, objects_of, compiles_of, plan_warnings, archived_of, archived_refusal, archive_refusal, archives_of, indexes_of, lists_of_run, run_has_one_form, run_asks_folder, copy_steps, link_lines, removal_steps, copy_by}
+use Rattle.cc_plan.specs.Plan.{library_of, archived_of, archived_refusal, archive_refusal, archives_of, indexes_of, lists_of_run, run_has_one_form, run_asks_folder, copy_steps, link_lines, removal_steps, copy_by}
 use Rattle.cc_plan.specs.Quiet.{quiet_warnings}
 use Rattle.cc_flags.specs.Target.{target_info}
 use Rattle.cc_target.specs.Targets.{info_seen, Info}
-use Rattle.cc_plan.specs.Refusal.{late_refusal, archiver_refusal, link_refusal}
+use Rattle.cc_plan.specs.Refusal.{archiver_refusal, link_refusal}
 use Rattle.cc_flags.specs.Given.{first_of}
 use Rattle.cc_plan.specs.declared.archiver.Archiver.{Archiver}
 use Rattle.cc_plan.specs.declared.error.PlanError.{PlanError}
 use Rattle.cc_flags.specs.declared.link_line.LinkLine.{LinkLine}
-use Rattle.cc_flags.specs.declared.object.Object.{Object}
-use Rattle.cc_plan.specs.declared.plan.Plan.{Plan}
-use Rattle.cc_host.specs.Command.{CommandSeen}
 use Rattle.cc_text.proofs.BatchLaws.{joined}
 use Rattle.cc_run.specs.declared.planned.Planned.{Planned}
 use Rattle.cc_run.specs.declared.planned.Shows.{Shows}
@@ -41,12 +38,11 @@ use Rattle.cc_tool.specs.Probing.{is_asked}
 use Rattle.cc_build.specs.Error.{ErrorSeen, no_memory}
 use Rattle.cc_build.specs.Course.{Course, course, CallsEnd}
 use Rattle.cc_build.specs.Phases.{error_in, HereEnds, Begins, BeginStops, WriteEnds, LibraryEnds, LinkEnds, LinkedEnds, cargo_stages}
-use Rattle.cc_build.specs.Questions.{Plans, Archives, IsRefusedBy, AreLines}
+use Rattle.cc_build.specs.Questions.{Archives, IsRefusedBy, AreLines}
 use Rattle.cc_build.specs.Refusal.{plan_error}
-use Rattle.cc_build.specs.Seen.{stages_seen, opening_of, compiles_by, stages_of, commands_for, copying_steps, ready_steps, form_stages, library_seen}
-use Rattle.cc_build.specs.Stage.{Stage, calls, planned, beside, in_turn, tried, behind_first, asked_then, compile_stages, removal_stages, ready_stages, archive_stages, copy_stages, asking_steps, finding_steps, link_stages, folder_in, links_of, library_stages, ending_stages, later_stages, asked_stages, run_reads, printed_stages, written, writings, library_commands}
-use Rattle.cc_build.specs.Way.{Way, Found, Writing, writing_of, Firsts, all_firsts}
-use Rattle.cc_build.proofs.SourceLaws.{compiles_are}
+use Rattle.cc_build.specs.Seen.{stages_seen, commands_for, copying_steps, ready_steps, form_stages, library_seen}
+use Rattle.cc_build.specs.Stage.{Stage, calls, planned, beside, in_turn, tried, behind_first, asked_then, removal_stages, ready_stages, archive_stages, copy_stages, asking_steps, finding_steps, link_stages, folder_in, links_of, library_stages, ending_stages, later_stages, run_reads, printed_stages, written, writings, library_commands}
+use Rattle.cc_build.specs.Way.{Way, Found, Writing, writing_of, Firsts, all_firsts, way_of}
 use Rattle.cc_build.specs.Stage.Stage.{Calls, Asks, Tries}
 use Rattle.cc_build.specs.Went.{Terms, Means, terms, Went, Halted, Ends}
 use Rattle.cc_plan.specs.declared.archiver.Library.{Library}
@@ -74,13 +70,6 @@ module _ (t : Terms) (f : PlanError → ErrorSeen) (p : Option PlanError) (stage
 
 abbrev pub found_of : Bool → Option (List ℕ) → Found
 found_of warns_of_link here = record { warns_of_link = warns_of_link; here = here }
-
-pub plan_stages : (task : Task) (plan : Plan) (objects : List Object) (look : Look) (here : Option (List ℕ)) → objects ≡ objects_of task.set.now task.env.now → Plans task plan look → stages_of task.set.now plan objects here ≡ compile_stages task.set.now task.env.now (found_of plan.warns_of_link here) look
-unfolding compile_stages
-plan_stages task plan objects look here same h =
-    ap₂ (λ (texts : List (List ℕ)) (cmds : List CommandSeen). calls (opening_of task.set.now (is_some here) texts here) ++ beside (compiles_by here objects cmds)) h.warnings h.compiles
-    ∙ ap (λ (os : List Object). calls (opening_of task.set.now (is_some here) (plan_warnings task.set.now task.env.now plan.warns_of_link look) here) ++ beside (compiles_by here os (compiles_of task.set.now task.env.now look))) same
-    ∙ ap (λ ps. calls (opening_of task.set.now (is_some here) (plan_warnings task.set.now task.env.now plan.warns_of_link look) here) ++ beside ps) (compiles_are task.set.now task.env.now here look)
 
 pub line_stages : (task : Task) (reads : Reads) (name library : List ℕ) (lines : Lines) (firsts : Firsts) (look : Look) (these : List Stage) → these ≡ printed_stages task.reporting.shows.listens lines.links.warnings firsts lines.links.lines.items lines.names → AreLines task reads name library lines look → these ≡ cargo_stages task reads name library firsts look
 line_stages task reads name library lines firsts look these is h =
@@ -400,14 +389,11 @@ module _ (t : Terms) (f : PlanError → ErrorSeen) where
       subst (λ (l : List Stage). Halted t (first_of (option_map f p) refusal) (asked_then p l) part e x z) (append_assoc a (Asks ∷ []) _)
       (halted_join t f p refusal (a ++ Asks ∷ []) _ part e x z h)
 
--- ---- the whole of the parts
+-- ---- the parts behind the opening
 
-abbrev pub way_of : Found → Writing → Firsts → Way
-way_of found writing firsts = record { found = found; writing = writing; firsts = firsts }
-
-module _ (t : Terms) (task : Task) (look : Look) where
-  abbrev late : Option PlanError
-  late = late_refusal task.set.now task.env.now look
+module _ (t : Terms) (task : Task) (look : Look) (cmds : List Planned) where
+  abbrev error_of : PlanError → ErrorSeen
+  error_of = plan_error task.set.now task.env.now task.output.now
 
   abbrev archive_stop : Option PlanError
   archive_stop = archive_refusal task.set.now task.env.now look
@@ -415,44 +401,36 @@ module _ (t : Terms) (task : Task) (look : Look) where
   abbrev links : Option PlanError
   links = link_refusal task.set.now task.env.now look
 
-  abbrev behind_sources : Option ErrorSeen
-  behind_sources = first_of (error_in task archive_stop) (error_in task links)
-
-  abbrev compiles : Found → List Stage
-  compiles found = compile_stages task.set.now task.env.now found look
+  abbrev behind : Option ErrorSeen
+  behind = first_of (error_in task archive_stop) (error_in task links)
 
   abbrev writes : Writing → List Stage
   writes writing = library_stages task.set.now task.env.now writing look task.output.now
 
-  abbrev stages_in : Way → List Stage
-  stages_in way = asked_stages task.set.now task.env.now way look task.output.now
+  abbrev ending : Way → List Stage
+  ending way = ending_stages task.set.now task.env.now way look task.output.now
 
-  later_is : (way : Way) → asked_then archive_stop (writes way.writing ++ ending_stages task.set.now task.env.now way look task.output.now) ≡ later_stages task.set.now task.env.now way look task.output.now
+  abbrev later : Way → List Stage
+  later way = later_stages task.set.now task.env.now way look task.output.now
+
+  later_is : (way : Way) → asked_then archive_stop (writes way.writing ++ ending way) ≡ later way
   unfolding later_stages
   later_is way = refl
 
-  -- the run ended among the sources
-  pub sources_halted : (found : Found) (part : List Event) (e : ErrorSeen) (x z : Means) → Halted t (error_in task late) (asked_then late (compiles found)) part e x z → Halted t (first_of (error_in task late) behind_sources) (stages_in (way_of found (writing_of false []) all_firsts)) part e x z
-  sources_halted found part e x z h =
-      halted_join t (plan_error task.set.now task.env.now task.output.now) late behind_sources (compiles found) (later_stages task.set.now task.env.now (way_of found (writing_of false []) all_firsts) look task.output.now) part e x z h
-
-  -- what stands behind the sources ended so
-  pub sources_then : {T : Type 0} (way : Way) (old mid new : List Event) (r : Result T ErrorSeen) (x y z : Means) → mid ≡ old ++ since old mid → new ≡ mid ++ since mid new → late ≡ None → Went t (Asks ∷ compiles way.found) (since old mid) x y → Ends t behind_sources (asked_then archive_stop (writes way.writing ++ ending_stages task.set.now task.env.now way look task.output.now)) (since mid new) r y z → Ends t (first_of (error_in task late) behind_sources) (stages_in way) (since old new) r x z
-  sources_then way old mid new r x y z first last allowed w o =
-      part_then t (plan_error task.set.now task.env.now task.output.now) late behind_sources (compiles way.found) (later_stages task.set.now task.env.now way look task.output.now) old mid new r x y z first last allowed w
-      (subst (λ (l : List Stage). Ends t behind_sources l (since mid new) r y z) (later_is way) o)
-
-  -- the run ended at the library
-  pub library_halted : (found : Found) (writing : Writing) (old mid new : List Event) (e : ErrorSeen) (x y z : Means) → mid ≡ old ++ since old mid → new ≡ mid ++ since mid new → late ≡ None → Went t (Asks ∷ compiles found) (since old mid) x y → Halted t (error_in task archive_stop) (asked_then archive_stop (writes writing ++ Asks ∷ [])) (since mid new) e y z → Halted t (first_of (error_in task late) behind_sources) (stages_in (way_of found writing all_firsts)) (since old new) e x z
-  library_halted found writing old mid new e x y z first last allowed w h =
-      sources_then {T = Unit {0}} (way_of found writing all_firsts) old mid new (Err e) x y z first last allowed w
-      (part_before t (plan_error task.set.now task.env.now task.output.now) archive_stop links (error_in task links) (writes writing) (link_stages task.set.now task.env.now (is_some found.here) look all_firsts task.output.now) (since mid new) e y z h)
+  -- the commands were run, and the run ended at the library
+  pub library_halted : (found : Found) (writing : Writing) (old mid new : List Event) (e : ErrorSeen) (x y z : Means) → mid ≡ old ++ since old mid → new ≡ mid ++ since mid new → Went t (beside cmds) (since old mid) x y → Halted t (error_in task archive_stop) (asked_then archive_stop (writes writing ++ Asks ∷ [])) (since mid new) e y z → Halted t behind (beside cmds ++ later (way_of found writing all_firsts)) (since old new) e x z
+  library_halted found writing old mid new e x y z first last w h =
+      let way = way_of found writing all_firsts in
+      let links_in = link_stages task.set.now task.env.now (is_some found.here) look all_firsts task.output.now in
+      halted_from t behind old mid new (beside cmds) (later way) e x y z first last w
+      (subst (λ (l : List Stage). Halted t behind l (since mid new) e y z) (later_is way) (part_before t error_of archive_stop links (error_in task links) (writes writing) links_in (since mid new) e y z h))
 
   -- all of it, to the link lines
-  pub links_end : {T : Type 0} (found : Found) (writing : Writing) (firsts : Firsts) (old mid made new : List Event) (r : Result T ErrorSeen) (x y z u : Means) → mid ≡ old ++ since old mid → made ≡ mid ++ since mid made → new ≡ made ++ since made new → late ≡ None → Went t (Asks ∷ compiles found) (since old mid) x y → archive_stop ≡ None → Went t (Asks ∷ writes writing) (since mid made) y z → Ends t (error_in task links) (asked_then links (link_stages task.set.now task.env.now (is_some found.here) look firsts task.output.now)) (since made new) r z u → Ends t (first_of (error_in task late) behind_sources) (stages_in (way_of found writing firsts)) (since old new) r x u
-  links_end found writing firsts old mid made new r x y z u first next last allowed w allowed' w' o =
-      sources_then (way_of found writing firsts) old mid new r x y u first (since_extends mid made new next last) allowed w
-      (part_then t (plan_error task.set.now task.env.now task.output.now) archive_stop (error_in task links) (writes writing) (ending_stages task.set.now task.env.now (way_of found writing firsts) look task.output.now) mid made new r y z u next last allowed' w' o)
+  pub links_end : {T : Type 0} (found : Found) (writing : Writing) (firsts : Firsts) (old mid made new : List Event) (r : Result T ErrorSeen) (x y z u : Means) → mid ≡ old ++ since old mid → made ≡ mid ++ since mid made → new ≡ made ++ since made new → Went t (beside cmds) (since old mid) x y → archive_stop ≡ None → Went t (Asks ∷ writes writing) (since mid made) y z → Ends t (error_in task links) (asked_then links (link_stages task.set.now task.env.now (is_some found.here) look firsts task.output.now)) (since made new) r z u → Ends t behind (beside cmds ++ later (way_of found writing firsts)) (since old new) r x u
+  links_end found writing firsts old mid made new r x y z u first next last w allowed wrote o =
+      let way = way_of found writing firsts in
+      ends_from t behind old mid new (beside cmds) (later way) r x y u first (since_extends mid made new next last) w
+      (subst (λ (l : List Stage). Ends t behind l (since mid new) r y u) (later_is way) (part_then t error_of archive_stop (error_in task links) (writes writing) (ending way) mid made new r y z u next last allowed wrote o))
 
 -- ---- the library of a part
 

@@ -1,4 +1,4 @@
--- How the planning of a compile run ends: its opening, the commands that it makes, and the lines of the variables that were read.
+-- How a run is planned: its opening, the commands that it makes, and the lines of the variables that were read.
 use Rattle.std.specs.Global.{Vec}
 use Rattle.std.proofs.Common.{◌≡◌, ◌⊎◌, inl, inr, ℕ, List, [], ◌∷◌, ◌++◌, Bool, true, false, if◌then◌else◌, is_some, Option, Some, None, option_map, Result, Ok, Err, refl, sym, ◌∙◌, ap, ap₂, subst}
 use Rattle.std.specs.List.{list_any}
@@ -11,7 +11,7 @@ use Rattle.cc_host.specs.declared.event.Event.{Event}
 use Rattle.cc_host.specs.declared.event.Event.TheVariants.{Ran, Missing, Fault}
 use Rattle.cc_host.specs.declared.event.LineKind.TheVariants.{Rerun}
 use Rattle.cc_plan.specs.Asking.{is_of_children}
-use Rattle.cc_flags.specs.Given.{is_disabled}
+use Rattle.cc_flags.specs.Given.{is_disabled, first_of}
 use Rattle.cc_plan.specs.Plan.{folder_steps, objects_of, prints}
 use Rattle.cc_plan.specs.Refusal.{early_refusal, late_refusal}
 use Rattle.cc_plan.specs.Reruns.{rerun_names}
@@ -23,62 +23,63 @@ use Rattle.cc_flags.specs.declared.settings.BuildConfig.{BuildConfig}
 use Rattle.cc_flags.specs.declared.variables.Reads.{Reads}
 use Rattle.cc_run.specs.declared.planned.Planned.{Planned}
 use Rattle.cc_run.specs.declared.planned.Shows.{Shows}
-use Rattle.cc_build.specs.Build.{BuildSeen}
-use Rattle.cc_build.specs.Course.{course}
+use Rattle.cc_build.specs.Build.{BuildSeen, build_in}
 use Rattle.cc_build.specs.Error.{ErrorSeen, no_memory}
 use Rattle.cc_build.specs.Intermediates.{source_reads}
-use Rattle.cc_build.specs.Phases.{OpensEnd, CommandsEnd, OpenedEnds, NamesEnd, PlannedEnds}
+use Rattle.cc_build.specs.Phases.{OpensEnd, CommandsEnd, OpenedEnds, OpeningEnds}
 use Rattle.cc_build.specs.Planning.{planning_stages, planning_error, PlanningEnds}
 use Rattle.cc_build.specs.Questions.{Plans, AsksOnly}
-use Rattle.cc_build.specs.Refusal.{plan_error, disabled_error}
+use Rattle.cc_build.specs.Refusal.{plan_error, disabled_error, early_error, late_error}
+use Rattle.cc_build.specs.RunPlan.{opened_then, RunOpens, PlanRunEnds}
 use Rattle.cc_build.specs.Seen.{opening_of, compiles_by}
 use Rattle.cc_build.specs.Shows.{shows_of}
-use Rattle.cc_build.specs.Stage.{Stage, calls, asked_then, opening_steps, compiles_planned, folder_stages, name_stages, rerun_lines, told_opening}
+use Rattle.cc_build.specs.Stage.{Stage, calls, asked_then, opening_steps, compiles_planned, folder_stages, name_stages, rerun_lines}
 use Rattle.cc_build.specs.Stage.Stage.{Calls, Asks, Tries, RunsOne, RunsAll}
 use Rattle.cc_build.specs.Way.{Found, Firsts, Hears, Repeats, all_firsts, chosen}
 use Rattle.cc_build.specs.Went.{Terms, Means, terms, means, Did, Went, Stops, Halts, Halted, Ends}
 use Rattle.cc_build.specs.declared.planning.CompilePlan.{CompilePlan}
+use Rattle.cc_build.specs.declared.run_plan.RunPlan.{RunPlan}
 use Rattle.cc_build.specs.declared.task.Task.{Task}
 use Rattle.cc_build.proofs.AloneLaws.{IsStill, AreStill, still_calls, still_then, still_before, still_behind, still_unless, ends_still}
-use Rattle.cc_build.proofs.Going.{same_patience, halted_more, halted_among, asked_halted, phase_went}
-use Rattle.cc_build.proofs.IntermediateLaws.{never_begun, unfoldered, stopped, behind}
-use Rattle.cc_build.proofs.OpeningLaws.{phase_from}
+use Rattle.cc_build.proofs.Going.{went_from, halted_more, halted_among, halted_join, asked_halted}
+use Rattle.cc_build.proofs.OpeningLaws.{phase_from, went_behind}
 use Rattle.cc_build.proofs.PhaseLaws.{found_of}
 use Rattle.cc_build.proofs.PrintedLaws.{IsChildless, or_false, childless_then, stepped_childless, asked_whole}
-use Rattle.cc_build.proofs.RerunLaws.{told_before, told_then}
+use Rattle.cc_build.proofs.RerunLaws.{first_alone}
+use Rattle.cc_build.proofs.RunPlanLaws.{opened_open, unfoldered, stopped, stopped_behind, unchecked, checked_ends, opened_so}
 use Rattle.cc_build.proofs.SourceLaws.{compiles_are, unfound, unfound_hears}
 use Rattle.cc_build.proofs.Stages.{folder_is, plan_cause}
 
 -- ---- the commands of a plan
 
-module _ (task : Task) (plan : Plan) (objects : List Object) (total patience : Option ℕ) where
-  abbrev in_plan : Terms
-  in_plan = terms task.reporting.shows total patience
-
+module _ (task : Task) (plan : Plan) (objects : List Object) where
   abbrev opened_by : Bool → Option (List ℕ) → List Stage
   opened_by listens here = Asks ∷ calls (opening_of task.set.now listens plan.warnings here)
 
   -- it wasn't opened
-  pub commands_unopened : (part : List Event) (e : ErrorSeen) (x z : Means) → OpensEnd task plan.warnings (Err e) part (course total patience x z)
-      → CommandsEnd task plan objects (Err e) part (course total patience x z)
-  commands_unopened part e x z h =
+  pub commands_unopened : (part : List Event) (e : ErrorSeen) → OpensEnd task plan.warnings (Err e) part → CommandsEnd task plan objects (Err e) part
+  commands_unopened part e h =
       let here = (unfound task.reporting.shows.listens).here in
-      let hears : is_some here ≡ task.reporting.shows.listens = unfound_hears task.reporting.shows.listens in
-      let opened : Halted in_plan None (opened_by (is_some here) here) part e x z =
-      subst (λ (b : Bool). Halted in_plan None (opened_by b here) part e x z) (sym hears) (h here hears) in
-      (here, (hears, halted_more in_plan None (opened_by (is_some here) here) (Asks ∷ []) part e x z opened))
+      let hears : is_some here ≡ task.reporting.shows.listens = unfound_hears task.reporting.shows.listens in (
+        here,
+        (
+          hears,
+          λ t x refusal more some.
+              halted_more t refusal (opened_by (is_some here) here) more part e x x (subst (λ (b : Bool). Halted t None (opened_by b here) part e x x) (sym hears) (h here hears t x)),
+        ),
+      )
 
-  module _ (here : Option (List ℕ)) (part : List Event) (x z : Means) (opened : OpensEnd task plan.warnings (Ok here) part (course total patience x z)) where
-    went_opening : Went in_plan (opened_by (is_some here) here) part x z
-    went_opening = subst (λ (b : Bool). Went in_plan (opened_by b here) part x z) (sym opened.0) opened.1
+  module _ (here : Option (List ℕ)) (part : List Event) (opened : OpensEnd task plan.warnings (Ok here) part) where
+    went_opening : (t : Terms) (x : Means) → Went t (opened_by (is_some here) here) part x x
+    went_opening t x = subst (λ (b : Bool). Went t (opened_by b here) part x x) (sym opened.0) (opened.1 t x)
 
     -- memory was wanted for the commands
-    pub commands_wanting : (e : ErrorSeen) → e ≡ no_memory → CommandsEnd task plan objects (Err e) part (course total patience x z)
+    pub commands_wanting : (e : ErrorSeen) → e ≡ no_memory → CommandsEnd task plan objects (Err e) part
     commands_wanting e memory =
-        (here, (opened.0, halted_among in_plan None (opened_by (is_some here) here) (Asks ∷ []) part e x z went_opening memory (λ none. absurd (cc))))
+        (here, (opened.0, λ t x refusal more some. halted_among t refusal (opened_by (is_some here) here) more part e x x (went_opening t x) memory (λ none. absurd (some none))))
 
     -- they were made
-    pub commands_made : (cmds : Vec Planned) → cmds.items ≡ compiles_by here objects plan.compiles.items → CommandsEnd task plan objects (Ok cmds) part (course total patience x z)
+    pub commands_made : (cmds : Vec Planned) → cmds.items ≡ compiles_by here objects plan.compiles.items → CommandsEnd task plan objects (Ok cmds) part
     commands_made cmds are = (here, (opened.0, are, went_opening))
 
 -- ---- questions before the opening
@@ -91,200 +92,211 @@ module _ (task : Task) (plan : Plan) (look : Look) (objects : List Object) (h : 
   commands_are here cmds same are =
       are ∙ ap₂ (λ (os : List Object) (cs : List CommandSeen). compiles_by here os cs) same h.compiles ∙ compiles_are task.set.now task.env.now here look
 
-  abbrev error_of : PlanError → ErrorSeen
-  error_of = plan_error task.set.now task.env.now task.output.now
-
   abbrev late : Option PlanError
   late = late_refusal task.set.now task.env.now look
 
-  module _ (total patience patience' : Option ℕ) (old mid new : List Event) (x z : Means) (first : mid ≡ old ++ since old mid) (last : new ≡ mid ++ since mid new) (patient : patience' ≡ patience) (asked : AsksOnly (since old mid)) where
-    abbrev in_run : Terms
-    in_run = terms task.reporting.shows total patience
-
-    -- the run ended at the opening
-    opening_stopped : (e : ErrorSeen) → CommandsEnd task plan objects (Err e) (since mid new) (course total patience' x z) → OpenedEnds task (Err e) look (since old new) (course total patience x z)
-    opening_stopped e o =
-        let found = found_of plan.warns_of_link o.0 in
-        let these : List Stage = calls (opening_of task.set.now (is_some o.0) plan.warnings o.0) ++ Asks ∷ [] in
-        let those : List Stage = calls (opening_steps task.set.now task.env.now found look) ++ Asks ∷ [] in (
-          found,
-          (
-            o.1.0,
-            phase_from {T = Unit {0}} in_run error_of late those these old mid new (Err e) x z first last asked h.allowed (ap (λ steps. calls steps ++ Asks ∷ []) (opening_is o.0))
-                (same_patience {T = Unit {0}} task.reporting.shows total patience' patience None (Asks ∷ these) (since mid new) (Err e) x z patient o.1.1),
-          ),
-        )
-
-    -- it was opened, and the commands were made
-    opening_done : objects ≡ objects_of task.set.now task.env.now → (cmds : Vec Planned) → CommandsEnd task plan objects (Ok cmds) (since mid new) (course total patience' x z) → OpenedEnds task (Ok cmds) look (since old new) (course total patience x z)
-    opening_done same cmds o =
+  module _ (old mid new : List Event) (first : mid ≡ old ++ since old mid) (last : new ≡ mid ++ since mid new) (asked : AsksOnly (since old mid)) where
+    -- the run was opened, and the commands were made; or it ended so
+    pub opening_ends : objects ≡ objects_of task.set.now task.env.now → (r : Result (Vec Planned) ErrorSeen) → CommandsEnd task plan objects r (since mid new) → OpenedEnds task r look (since old new)
+    opening_ends same (Ok cmds) o =
         let found = found_of plan.warns_of_link o.0 in
         let these : List Stage = calls (opening_of task.set.now (is_some o.0) plan.warnings o.0) in
         let those : List Stage = calls (opening_steps task.set.now task.env.now found look) in
-        let ends : Ends in_run (option_map error_of late) (asked_then late those) (since old new) (Ok cmds) x z =
-        phase_from in_run error_of late those these old mid new (Ok cmds) x z first last asked h.allowed (ap calls (opening_is o.0))
-        (same_patience task.reporting.shows total patience' patience None (Asks ∷ these) (since mid new) (Ok cmds) x z patient (refl, o.1.2)) in
-        let went = phase_went in_run error_of late those (since old new) cmds x z ends in
-        (found, (o.1.0, h.allowed, commands_are o.0 cmds.items same o.1.1, went.1))
-
-    -- it ended so
-    pub opening_ends : objects ≡ objects_of task.set.now task.env.now → (r : Result (Vec Planned) ErrorSeen) → CommandsEnd task plan objects r (since mid new) (course total patience' x z) → OpenedEnds task r look (since old new) (course total patience x z)
-    opening_ends same (Ok cmds) o = opening_done same cmds o
-    opening_ends same (Err e) o = opening_stopped e o
+        (found, (o.1.0, h.allowed, commands_are o.0 cmds.items same o.1.1, λ t x. went_behind t those these old mid new x x first last asked (ap calls (opening_is o.0)) (o.1.2 t x)))
+    opening_ends same (Err e) o =
+        let found = found_of plan.warns_of_link o.0 in
+        let these : List Stage = calls (opening_of task.set.now (is_some o.0) plan.warnings o.0) in
+        let those : List Stage = calls (opening_steps task.set.now task.env.now found look) in (
+          found,
+          (
+            o.1.0,
+            λ t x refusal more some.
+                phase_from {T = Unit {0}} t (plan_error task.set.now task.env.now task.output.now) late refusal (those ++ more) (these ++ more) old mid new (Err e) x x first last asked h.allowed (ap (λ steps. calls steps ++ more) (opening_is o.0)) (o.1.1 t x refusal more some),
+          ),
+        )
 
 -- the settings are refused by the answers, or memory was wanted
-pub opening_refused : (task : Task) (look : Look) (total patience : Option ℕ) (part : List Event) (e : ErrorSeen) (x : Means) → AsksOnly part → (e ≡ no_memory) ⊎ (option_map (plan_error task.set.now task.env.now task.output.now) (late_refusal task.set.now task.env.now look) ≡ Some e)
-    → OpenedEnds task (Err e) look part (course total patience x x)
-opening_refused task look total patience part e x quiet cause =
+pub opening_refused : (task : Task) (look : Look) (part : List Event) (e : ErrorSeen) → AsksOnly part → (e ≡ no_memory) ⊎ (option_map (plan_error task.set.now task.env.now task.output.now) (late_refusal task.set.now task.env.now look) ≡ Some e) → OpenedEnds task (Err e) look part
+opening_refused task look part e quiet cause =
     let found = unfound task.reporting.shows.listens in
-    let stages : List Stage = calls (opening_steps task.set.now task.env.now found look) ++ Asks ∷ [] in
-    (found, (unfound_hears task.reporting.shows.listens, asked_halted (terms task.reporting.shows total patience) (plan_error task.set.now task.env.now task.output.now) (late_refusal task.set.now task.env.now look) stages part e x quiet cause))
+    let error_of = plan_error task.set.now task.env.now task.output.now in
+    let late = late_refusal task.set.now task.env.now look in
+    let opening : List Stage = calls (opening_steps task.set.now task.env.now found look) in
+    (found, (unfound_hears task.reporting.shows.listens, λ t x refusal more some. halted_join t error_of late refusal opening more part e x x (asked_halted t error_of late opening part e x quiet cause)))
 
--- ---- the lines of the variables behind it
+-- ---- the folder before it
 
-module _ (task : Task) (reads : Reads) (look : Look) (total patience : Option ℕ) where
-  abbrev shown : Terms
-  shown = terms task.reporting.shows total patience
+module _ (task : Task) (look : Look) where
+  abbrev error_in : PlanError → ErrorSeen
+  error_in = plan_error task.set.now task.env.now task.output.now
 
-  abbrev made_of : PlanError → ErrorSeen
-  made_of = plan_error task.set.now task.env.now task.output.now
-
-  abbrev refusal : Option PlanError
-  refusal = late_refusal task.set.now task.env.now look
+  abbrev folder : List Stage
+  folder = folder_stages task.set.now task.env.now
 
   abbrev opening : Found → List Stage
   opening found = calls (opening_steps task.set.now task.env.now found look)
 
-  abbrev names : Firsts → List Stage
-  names firsts = name_stages task.set.now task.env.now reads look firsts
+  abbrev nothing : Found
+  nothing = unfound task.reporting.shows.listens
 
-  -- the run ended at its opening
-  pub planning_stopped : (part : List Event) (e : ErrorSeen) (x z : Means) → OpenedEnds task (Err e) look part (course total patience x z) → PlannedEnds task reads (Err e) look part (course total patience x z)
-  planning_stopped part e x z h =
-      (h.0, all_firsts, (h.1.0, (λ _. refl), tt, told_before shown made_of refusal (opening h.0) (names all_firsts) part e x z h.1.1))
-
-  module _ (total' patience' : Option ℕ) (old mid new : List Event) (x y z : Means) (cmds : Vec Planned) (first : mid ≡ old ++ since old mid) (last : new ≡ mid ++ since mid new) (same_total : total' ≡ total) (patient : patience' ≡ patience) (h : OpenedEnds task (Ok cmds) look (since old mid) (course total patience x y)) where
-    lines_told : {T : Type 0} (r : Result T ErrorSeen) → NamesEnd task reads r look (since mid new) (course total' patience' y z) → NamesEnd task reads r look (since mid new) (course total patience y z)
-    lines_told r lines =
-        subst (λ (n : Option ℕ). NamesEnd task reads r look (since mid new) (course n patience y z)) same_total
-        (subst (λ (n : Option ℕ). NamesEnd task reads r look (since mid new) (course total' n y z)) patient lines)
-
-    -- a line wasn't printed
-    pub planning_untold : (e : ErrorSeen) → NamesEnd {T = Unit {0}} task reads (Err e) look (since mid new) (course total' patience' y z) → PlannedEnds task reads (Err e) look (since old new) (course total patience x z)
-    planning_untold e lines =
-        let told = lines_told {T = Unit {0}} (Err e) lines in
-        (h.0, told.0, (h.1.0, told.1.0, tt, told_then shown made_of refusal (opening h.0) (names told.0) {T = Unit {0}} old mid new (Err e) x y z first last h.1.1 h.1.3 told.1.1))
-
-    -- they were printed
-    pub planning_told : (v : Unit {0}) → NamesEnd task reads (Ok v) look (since mid new) (course total' patience' y z) → PlannedEnds task reads (Ok cmds) look (since old new) (course total patience x z)
-    planning_told v lines =
-        let told = lines_told (Ok v) lines in
-        (h.0, told.0, (h.1.0, told.1.0, h.1.2, told_then shown made_of refusal (opening h.0) (names told.0) old mid new (Ok v) x y z first last h.1.1 h.1.3 told.1.1))
-
--- ---- the planning of some settings
-
-module _ (set : BuildConfig) (env : EnvSeen) (listens : Bool) (look : Look) (output : List ℕ) where
-  abbrev seen : BuildSeen
-  seen = record { config = set; env = env }
-
-  abbrev error_in : PlanError → ErrorSeen
-  error_in = plan_error set env output
-
-  abbrev late_in : Option ErrorSeen
-  late_in = option_map error_in (late_refusal set env look)
-
-  abbrev run_with : Found → Firsts → List Stage
-  run_with found firsts = if is_some (late_refusal set env look) then [] else told_opening set env (source_reads set) found look firsts
-
-  abbrev none_found : Found
-  none_found = unfound listens
-
-  still_run : (found : Found) (firsts : Firsts) → AreStill (Asks ∷ run_with found firsts)
-  still_run found firsts =
-      let names = prints Rerun (rerun_lines (chosen firsts.names (rerun_names (source_reads set) set env look))) in
-      let opening = opening_steps set env found look in
-      (tt, still_unless (is_some (late_refusal set env look)) (told_opening set env (source_reads set) found look firsts) (still_then (calls opening) (Asks ∷ calls names) (still_calls opening) (tt, still_calls names)))
-
-  pub still_planning : (found : Found) (firsts : Firsts) → AreStill (planning_stages set env found look firsts output)
-  still_planning found firsts =
-      let asked = Asks ∷ run_with found firsts in
-      let rest : List Stage = if is_disabled env then [] else asked in
-      let made : AreStill (folder_stages set env) = subst AreStill (sym (folder_is set env)) (still_calls (folder_steps set env)) in
-      still_unless (is_some (early_refusal set env output)) (folder_stages set env ++ rest) (still_then (folder_stages set env) rest made (still_unless (is_disabled env) asked (still_run found firsts)))
-
-  -- the settings were refused before the folder was made, or memory was wanted
-  pub plan_unchecked : (part : List Event) (e : ErrorSeen) (error : PlanError) → part ≡ [] → (e ≡ no_memory) ⊎ (e ≡ plan_error set env output error) → (error ≡ WantsMemory) ⊎ (early_refusal set env output ≡ Some error) → PlanningEnds seen listens output (Err e) look part
-  plan_unchecked part e error none made cause = (
-    none_found,
-    all_firsts,
+  -- it wasn't made
+  pub opening_unfoldered : (part : List Event) (e : ErrorSeen) → ((t : Terms) (x : Means) → Halted t None (calls (folder_steps task.set.now task.env.now)) part e x x) → OpeningEnds task (Err e) look part
+  opening_unfoldered part e h = (
+    nothing,
     (
-      unfound_hears listens,
-      (λ _. refl),
-      tt,
-      λ t x. never_begun t error_in late_in (folder_stages set env) (run_with none_found all_firsts) (early_refusal set env output) (is_disabled env) part e x none (plan_cause set env output error e (early_refusal set env output) made cause),
+      unfound_hears task.reporting.shows.listens,
+      λ t x refusal more some.
+          unfoldered t error_in folder (opening nothing) more refusal (is_disabled task.env.now) (late_refusal task.set.now task.env.now look) part e x
+          (subst (λ (s : List Stage). Halted t None s part e x x) (sym (folder_is task.set.now task.env.now)) (h t x)),
     ),
   )
 
-  -- the folder wasn't made
-  pub plan_unfoldered : (part : List Event) (e : ErrorSeen) → early_refusal set env output ≡ None → ((t : Terms) (x : Means) → Halted t None (calls (folder_steps set env)) part e x x) → PlanningEnds seen listens output (Err e) look part
-  plan_unfoldered part e early h = (
-    none_found,
-    all_firsts,
-    (
-      unfound_hears listens,
-      (λ _. refl),
-      tt,
-      λ t x. unfoldered t error_in late_in (folder_stages set env) (run_with none_found all_firsts) (early_refusal set env output) (is_disabled env) part e x early (subst (λ (s : List Stage). Halted t None s part e x x) (sym (folder_is set env)) (h t x)),
-    ),
-  )
-
-  module _ (early : early_refusal set env output ≡ None) (old made : List Event) (first : made ≡ old ++ since old made) (folder : (t : Terms) (x : Means) → Went t (calls (folder_steps set env)) (since old made) x x) where
-    made_so : (t : Terms) (x : Means) → Went t (folder_stages set env) (since old made) x x
-    made_so t x = subst (λ (s : List Stage). Went t s (since old made) x x) (sym (folder_is set env)) (folder t x)
+  module _ (old made : List Event) (went : (t : Terms) (x : Means) → Went t (calls (folder_steps task.set.now task.env.now)) (since old made) x x) where
+    made_so : (t : Terms) (x : Means) → Went t folder (since old made) x x
+    made_so t x = subst (λ (s : List Stage). Went t s (since old made) x x) (sym (folder_is task.set.now task.env.now)) (went t x)
 
     -- no command may run
-    pub plan_disabled : (e : ErrorSeen) → is_disabled env ≡ true → (e ≡ no_memory) ⊎ (e ≡ disabled_error) → PlanningEnds seen listens output (Err e) look (since old made)
-    plan_disabled e disabled of = (
-      none_found,
-      all_firsts,
+    pub opening_disabled : (e : ErrorSeen) → is_disabled task.env.now ≡ true → (e ≡ no_memory) ⊎ (e ≡ disabled_error) → OpeningEnds task (Err e) look (since old made)
+    opening_disabled e disabled of = (
+      nothing,
       (
-        unfound_hears listens,
-        (λ _. refl),
-        tt,
-        λ t x. stopped t error_in late_in (folder_stages set env) (run_with none_found all_firsts) old made x first (made_so t x) (early_refusal set env output) (is_disabled env) e early disabled of,
+        unfound_hears task.reporting.shows.listens,
+        λ t x refusal more some.
+            stopped t error_in folder (opening nothing) more refusal (is_disabled task.env.now) (late_refusal task.set.now task.env.now look) (since old made) e x disabled (made_so t x) of,
       ),
     )
 
-    -- the run was opened, and the lines of the variables were printed so
-    module _ (shows : Shows) (total patience : Option ℕ) (reads : Reads) (new : List Event) (y z : Means) (are : shows ≡ shows_of set env listens) (those : reads ≡ source_reads set) (enabled : is_disabled env ≡ false) (last : new ≡ made ++ since made new) where
-      abbrev given : Terms
-      given = terms shows total patience
-
-      abbrev asked_with : Reads → Found → Firsts → List Stage
-      asked_with rd found firsts = asked_then (late_refusal set env look) (told_opening set env rd found look firsts)
-
-      by_plan : {T : Type 0} (found : Found) (firsts : Firsts) (r : Result T ErrorSeen) → Ends given late_in (asked_with reads found firsts) (since made new) r y z → (t : Terms) (x : Means) → Ends t (planning_error set env look output) (planning_stages set env found look firsts output) (since old new) r x x
-      by_plan found firsts r ends t x =
-          let so : Ends given late_in (Asks ∷ run_with found firsts) (since made new) r y z = subst (λ (rd : Reads). Ends given late_in (asked_with rd found firsts) (since made new) r y z) those ends in
-          behind t error_in late_in (folder_stages set env) (run_with found firsts) old made x first (made_so t x) (early_refusal set env output) (is_disabled env) new r x early enabled last
-          (ends_still given t x late_in (Asks ∷ run_with found firsts) (since made new) r y z (still_run found firsts) so)
-
-      pub plan_stopped : (e : ErrorSeen) → (found : Found) × (firsts : Firsts) × (Hears shows.listens found × Repeats set firsts × Unit {0} × Ends {T = Unit {0}} given late_in (asked_with reads found firsts) (since made new) (Err e) y z) → PlanningEnds seen listens output (Err e) look (since old new)
-      plan_stopped e h = (h.0, h.1, (subst (λ (s : Shows). Hears s.listens h.0) are h.2.0, h.2.1, tt, by_plan {T = CompilePlan} h.0 h.1 (Err e) h.2.3))
-
-      pub plan_done : (plan : CompilePlan) → plan.objects.items ≡ objects_of set env → plan.shows ≡ shows → (found : Found) × (firsts : Firsts) × (Hears shows.listens found × Repeats set firsts × (plan.commands.items ≡ compiles_planned set env found.here look) × Ends {T = Unit {0}} given late_in (asked_with reads found firsts) (since made new) (Ok tt) y z) → PlanningEnds seen listens output (Ok plan) look (since old new)
-      plan_done plan objects shown_so h = (
-        h.0,
-        h.1,
+    module _ (new : List Event) (first : made ≡ old ++ since old made) (last : new ≡ made ++ since made new) (enabled : is_disabled task.env.now ≡ false) where
+      -- the run was opened behind it, or ended so
+      pub opening_behind : (r : Result (Vec Planned) ErrorSeen) → OpenedEnds task r look (since made new) → OpeningEnds task r look (since old new)
+      opening_behind (Ok cmds) o = (
+        o.0,
         (
-          subst (λ (s : Shows). Hears s.listens h.0) are h.2.0,
-          h.2.1,
-          record { objects = objects; commands = h.2.2; shows = shown_so ∙ are },
-          by_plan h.0 h.1 (Ok plan) h.2.3,
+          o.1.0,
+          record {
+            enabled = enabled;
+            allowed = o.1.1;
+            commands = o.1.2;
+            went = λ t x. went_from t old made new folder (Asks ∷ opening o.0) x x x first last (made_so t x) (o.1.3 t x);
+          },
+        ),
+      )
+      opening_behind (Err e) o = (
+        o.0,
+        (
+          o.1.0,
+          λ t x refusal more some.
+              stopped_behind t error_in folder (opening o.0) more refusal (is_disabled task.env.now) (late_refusal task.set.now task.env.now look) old made new e x enabled first last (made_so t x) (o.1.1 t x refusal more some),
         ),
       )
 
+-- ---- the first checks before that
+
+-- they refuse the settings, or memory was wanted
+pub plan_unchecked : (set : BuildConfig) (env : EnvSeen) (listens : Bool) (output : List ℕ) (look : Look) (part : List Event) (e : ErrorSeen) (error : PlanError) → part ≡ [] → (e ≡ no_memory) ⊎ (e ≡ plan_error set env output error) → (error ≡ WantsMemory) ⊎ (early_refusal set env output ≡ Some error) → PlanRunEnds (build_in set env) listens output (Err e) look part
+plan_unchecked set env listens output look part e error none made cause =
+    let error_of = plan_error set env output in
+    let steps : List Stage = calls (opening_steps set env (unfound listens) look) in (
+      unfound listens,
+      (
+        unfound_hears listens,
+        λ t x refusal more some.
+            unchecked t error_of (first_of (late_error set env look output) refusal) (opened_then set env (unfound listens) look more) (early_refusal set env output) part e x
+            (opened_open t error_of (folder_stages set env) steps more refusal (is_disabled env) (late_refusal set env look)) none (plan_cause set env output error e (early_refusal set env output) made cause),
+      ),
+    )
+
+module _ (b : BuildSeen) (output : List ℕ) (shows : Shows) (listens : Bool) (look : Look) (part : List Event) (passed : early_refusal b.config b.env output ≡ None) (are : shows ≡ shows_of b.config b.env listens) where
+  hears_so : (found : Found) → Hears shows.listens found → Hears listens found
+  hears_so found h = subst (λ (s : Shows). Hears s.listens found) are h
+
+  -- they pass, and the run ended at its opening
+  pub plan_stopped : (e : ErrorSeen) → RunOpens b output shows.listens (Err e) look part → PlanRunEnds b listens output (Err e) look part
+  plan_stopped e h = (
+    h.0,
+    (
+      hears_so h.0 h.1.0,
+      λ t x refusal more some.
+          checked_ends t (plan_error b.config b.env output) (first_of (late_error b.config b.env look output) refusal) (opened_then b.config b.env h.0 look more) {T = Unit {0}} (early_refusal b.config b.env output) part (Err e) x x passed (h.1.1 t x refusal more some),
+    ),
+  )
+
+  -- they pass, and it was opened
+  pub plan_opened : (plan : RunPlan) → plan.shows ≡ shows → RunOpens b output shows.listens (Ok plan.commands) look part → PlanRunEnds b listens output (Ok plan) look part
+  plan_opened plan shown h = (h.0, (hears_so h.0 h.1.0, passed, shown ∙ are, h.1.1))
+
+-- ---- the lines of the variables behind it
+
+module _ (b : BuildSeen) (listens : Bool) (output : List ℕ) (look : Look) where
+  abbrev early_in : Option ErrorSeen
+  early_in = early_error b.config b.env output
+
+  abbrev late_in : Option ErrorSeen
+  late_in = late_error b.config b.env look output
+
+  abbrev named : Firsts → List Stage
+  named firsts = Asks ∷ name_stages b.config b.env (source_reads b.config) look firsts
+
+  abbrev stages : Found → Firsts → List Stage
+  stages found firsts = planning_stages b.config b.env found look firsts output
+
+  still_named : (firsts : Firsts) → AreStill (named firsts)
+  still_named firsts = (tt, still_calls (prints Rerun (rerun_lines (chosen firsts.names (rerun_names (source_reads b.config) b.config b.env look)))))
+
+  -- the run ended at its opening
+  pub planning_stopped : (part : List Event) (e : ErrorSeen) → PlanRunEnds b listens output (Err e) look part → PlanningEnds b listens output (Err e) look part
+  planning_stopped part e p = (
+    p.0,
+    all_firsts,
+    (
+      p.1.0,
+      (λ _. refl),
+      tt,
+      λ t x. subst (λ (c : Option ErrorSeen). Halted t (first_of early_in c) (stages p.0 all_firsts) part e x x) (first_alone late_in) (p.1.1 t x None (named all_firsts) (λ none. absurd (cc))),
+    ),
+  )
+
+  module _ (plan : RunPlan) (u : Terms) (reads : Reads) (old mid new : List Event) (y z : Means) (first : mid ≡ old ++ since old mid) (last : new ≡ mid ++ since mid new) (those : reads ≡ source_reads b.config) (p : PlanRunEnds b listens output (Ok plan) look (since old mid)) where
+    -- the lines were printed so
+    abbrev Lines : {T : Type 0} → Result T ErrorSeen → Type 0
+    Lines r = (firsts : Firsts) × (Repeats b.config firsts × Ends u None (Asks ∷ name_stages b.config b.env reads look firsts) (since mid new) r y z)
+
+    whole : {T : Type 0} (r : Result T ErrorSeen) (lines : Lines r) (t : Terms) (x : Means) → Ends t (planning_error b.config b.env look output) (stages p.0 lines.0) (since old new) r x x
+    whole r lines t x =
+        let told : Ends u None (named lines.0) (since mid new) r y z = subst (λ (rd : Reads). Ends u None (Asks ∷ name_stages b.config b.env rd look lines.0) (since mid new) r y z) those lines.1.1 in
+        let opened = opened_so b.config b.env look output p.0 t plan.commands.items None (named lines.0) old mid new r x x first last p.1.3 (ends_still u t x None (named lines.0) (since mid new) r y z (still_named lines.0) told) in
+        subst (λ (c : Option ErrorSeen). Ends t (first_of early_in c) (stages p.0 lines.0) (since old new) r x x) (first_alone late_in)
+        (checked_ends t (plan_error b.config b.env output) (first_of late_in None) (opened_then b.config b.env p.0 look (named lines.0)) (early_refusal b.config b.env output) (since old new) r x x p.1.1 opened)
+
+    -- one wasn't
+    pub planning_untold : (e : ErrorSeen) → Lines {T = Unit {0}} (Err e) → PlanningEnds b listens output (Err e) look (since old new)
+    planning_untold e lines = (p.0, lines.0, (p.1.0, lines.1.0, tt, whole {T = Unit {0}} (Err e) lines))
+
+    -- all of them were
+    pub planning_told : (made : CompilePlan) (v : Unit {0}) → made.objects.items ≡ objects_of b.config b.env → made.commands ≡ plan.commands → made.shows ≡ plan.shows → Lines (Ok v) → PlanningEnds b listens output (Ok made) look (since old new)
+    planning_told made v objects commands shown lines = (
+      p.0,
+      lines.0,
+      (
+        p.1.0,
+        lines.1.0,
+        record { objects = objects; commands = ap (λ (c : Vec Planned). c.items) commands ∙ p.1.3.commands; shows = shown ∙ p.1.2 },
+        whole (Ok v) lines,
+      ),
+    )
+
 -- ---- nothing is started
+
+still_planning : (set : BuildConfig) (env : EnvSeen) (look : Look) (output : List ℕ) (found : Found) (firsts : Firsts) → AreStill (planning_stages set env found look firsts output)
+still_planning set env look output found firsts =
+    let names = prints Rerun (rerun_lines (chosen firsts.names (rerun_names (source_reads set) set env look))) in
+    let opening = opening_steps set env found look in
+    let run : List Stage = calls opening ++ Asks ∷ calls names in
+    let asked = asked_then (late_refusal set env look) run in
+    let rest : List Stage = if is_disabled env then [] else asked in
+    let made : AreStill (folder_stages set env) = subst AreStill (sym (folder_is set env)) (still_calls (folder_steps set env)) in
+    let still : AreStill asked = (tt, still_unless (is_some (late_refusal set env look)) run (still_then (calls opening) (Asks ∷ calls names) (still_calls opening) (tt, still_calls names))) in
+    still_unless (is_some (early_refusal set env output)) (folder_stages set env ++ rest) (still_then (folder_stages set env) rest made (still_unless (is_disabled env) asked still))
 
 refused_childless : (step : Step) (event : Event) → Refuses step event → is_of_children event ≡ false
 refused_childless (Runs role cmd) (Ran r c pipes status out err) h = refl
@@ -341,4 +353,4 @@ pub planning_childless : (b : BuildSeen) (listens : Bool) (output : List ℕ) (r
 planning_childless b listens output r look part h =
     let t = terms (shows_of b.config b.env listens) None None in
     let x = means 0 0 0 0 in
-    ends_childless t (planning_error b.config b.env look output) (planning_stages b.config b.env h.0 look h.1 output) part r x x (still_planning b.config b.env listens look output h.0 h.1) (h.2.3 t x)
+    ends_childless t (planning_error b.config b.env look output) (planning_stages b.config b.env h.0 look h.1 output) part r x x (still_planning b.config b.env look output h.0 h.1) (h.2.3 t x)

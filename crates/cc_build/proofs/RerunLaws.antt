@@ -6,7 +6,6 @@ use Rattle.cc_host.specs.Question.{Look}
 use Rattle.cc_host.specs.declared.event.Event.{Event}
 use Rattle.cc_host.specs.declared.event.LineKind.TheVariants.{Rerun}
 use Rattle.cc_plan.specs.Plan.{archive_refusal, prints}
-use Rattle.cc_plan.specs.Refusal.{late_refusal}
 use Rattle.cc_flags.specs.Given.{first_of}
 use Rattle.cc_plan.specs.Reruns.{rerun_names}
 use Rattle.cc_plan.specs.declared.error.PlanError.{PlanError}
@@ -15,14 +14,13 @@ use Rattle.cc_flags.specs.declared.settings.BuildConfig.{BuildConfig}
 use Rattle.cc_flags.specs.declared.variables.Reads.{Reads}
 use Rattle.cc_build.specs.Course.{course}
 use Rattle.cc_build.specs.Error.{ErrorSeen}
-use Rattle.cc_build.specs.Phases.{CompileEnds, LibraryEnds, NamesEnd, CompiledEnds, WrittenEnds}
+use Rattle.cc_build.specs.Phases.{LibraryEnds, NamesEnd, WrittenEnds}
 use Rattle.cc_build.specs.Refusal.{plan_error}
-use Rattle.cc_build.specs.Stage.{Stage, calls, commands_in, children_in, asked_then, compile_stages, library_stages, name_stages, printed_stages, rerun_lines}
+use Rattle.cc_build.specs.Stage.{Stage, calls, commands_in, children_in, asked_then, library_stages, name_stages, printed_stages, rerun_lines}
 use Rattle.cc_build.specs.Stage.Stage.{Asks}
-use Rattle.cc_build.specs.Way.{Firsts, all_firsts, chosen, Writing}
+use Rattle.cc_build.specs.Way.{Firsts, all_firsts, chosen}
 use Rattle.cc_build.specs.Went.{Terms, Means, terms, Went, Halted, Ends}
 use Rattle.cc_build.specs.declared.task.Task.{Task}
-use Rattle.cc_build.proofs.Going.{halted_join, phase_went}
 use Rattle.cc_build.proofs.PhaseLaws.{part_then, part_before}
 use Rattle.cc_build.proofs.RunLaws.{commands_calls, children_calls}
 
@@ -39,17 +37,12 @@ name_commands set env reads look firsts = commands_calls (prints Rerun (rerun_li
 pub name_children : (set : BuildConfig) (env : EnvSeen) (reads : Reads) (look : Look) (firsts : Firsts) → children_in (name_stages set env reads look firsts) ≡ []
 name_children set env reads look firsts = children_calls (prints Rerun (rerun_lines (chosen firsts.names (rerun_names reads set env look))))
 
-first_alone : {X : Type 0} (a : Option X) → first_of a None ≡ a
+pub first_alone : {X : Type 0} (a : Option X) → first_of a None ≡ a
 first_alone None = refl
 first_alone (Some x) = refl
 
 module _ (t : Terms) (f : PlanError → ErrorSeen) (p : Option PlanError) (a names : List Stage) where
-  -- the run ended among the stages of the part
-  told_none : (part : List Event) (e : ErrorSeen) (x z : Means) → Halted t (option_map f p) (asked_then p a) part e x z → Halted t (option_map f p) (asked_then p (a ++ Asks ∷ names)) part e x z
-  told_none part e x z h =
-      subst (λ (refusal : Option ErrorSeen). Halted t refusal (asked_then p (a ++ Asks ∷ names)) part e x z) (first_alone (option_map f p)) (halted_join t f p None a (Asks ∷ names) part e x z h)
-
-  -- or before the questions behind them
+  -- the run ended among the stages of the part, or before the questions behind them
   pub told_before : (part : List Event) (e : ErrorSeen) (x z : Means) → Halted t (option_map f p) (asked_then p (a ++ Asks ∷ [])) part e x z → Halted t (option_map f p) (asked_then p (a ++ Asks ∷ names)) part e x z
   told_before part e x z h =
       subst (λ (refusal : Option ErrorSeen). Halted t refusal (asked_then p (a ++ Asks ∷ names)) part e x z) (first_alone (option_map f p)) (part_before t f p None None a names part e x z h)
@@ -66,19 +59,11 @@ module _ (task : Task) (reads : Reads) (look : Look) where
   abbrev error_of : PlanError → ErrorSeen
   error_of = plan_error task.set.now task.env.now task.output.now
 
-  abbrev late : Option PlanError
-  late = late_refusal task.set.now task.env.now look
-
   abbrev archive_stop : Option PlanError
   archive_stop = archive_refusal task.set.now task.env.now look
 
   abbrev names : Firsts → List Stage
   names firsts = name_stages task.set.now task.env.now reads look firsts
-
-  -- the run ended among the sources
-  pub compiling_stopped : (total patience : Option ℕ) (part : List Event) (e : ErrorSeen) (x z : Means) → CompileEnds {T = Unit {0}} task (Err e) look part (course total patience x z) → CompiledEnds {T = Unit {0}} task reads (Err e) look part (course total patience x z)
-  compiling_stopped total patience part e x z h =
-      (h.0, all_firsts, (h.1.0, (λ _. refl), told_none (shown total patience) error_of late (compile_stages task.set.now task.env.now h.0 look) (names all_firsts) part e x z h.1.1))
 
   -- the run ended at the library
   pub writing_stopped : (total patience : Option ℕ) (part : List Event) (e : ErrorSeen) (x z : Means) → LibraryEnds {T = Unit {0}} task (Err e) look part (course total patience x z) → WrittenEnds {T = Unit {0}} task reads (Err e) look part (course total patience x z)
@@ -90,14 +75,6 @@ module _ (task : Task) (reads : Reads) (look : Look) where
     told =
         subst (λ (n : Option ℕ). NamesEnd task reads r look (since mid new) (course n patience y z)) same_total
         (subst (λ (n : Option ℕ). NamesEnd task reads r look (since mid new) (course total' n y z)) patient lines)
-
-    -- the sources were compiled, and the lines ended so
-    pub compiling_told : CompileEnds task (Ok v) look (since old mid) (course total patience x y) → CompiledEnds task reads r look (since old new) (course total patience x z)
-    compiling_told h =
-        let t = shown total patience in
-        let stages = compile_stages task.set.now task.env.now h.0 look in
-        let done = phase_went t error_of late stages (since old mid) v x y h.1.1 in
-        (h.0, told.0, (h.1.0, told.1.0, told_then t error_of late stages (names told.0) old mid new r x y z first last done.0 done.1 told.1.1))
 
     -- the library was written, and the lines ended so
     pub writing_told : LibraryEnds task (Ok v) look (since old mid) (course total patience x y) → WrittenEnds task reads r look (since old new) (course total patience x z)

@@ -23,11 +23,13 @@ attempts = flat_map attempt_of
 abbrev pub to_attempt : Planned → Role × CommandSeen
 to_attempt planned = (planned.role, planned.cmd)
 
--- the commands of a part, those that are missing among them, are the first of these: one attempt for each, and no other command
+-- the commands of a part, those that are missing among them, are the first of these: one attempt for each, and no other
+-- command
 abbrev pub FirstOf : List Planned → List Event → Type 0
 FirstOf cmds part = (rest : List (Role × CommandSeen)) × (map to_attempt cmds ≡ attempts part ++ rest)
 
--- a command that was run to its end in one call of the host, or whose program can't be found, and whether it ended with 0
+-- a command that was run to its end in one call of the host, or whose program can't be found, and whether it ended with
+-- 0
 abbrev pub tried_of : Event → List (CommandSeen × Bool)
 tried_of (Ran role cmd pipes status out err) = (cmd, is_success status) ∷ []
 tried_of (Missing role cmd) = (cmd, false) ∷ []

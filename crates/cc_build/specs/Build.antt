@@ -27,7 +27,8 @@ Sets old new change = new ≡ record old { config = change old.config }
 
 -- the commands are given one variable more, and all else stays
 abbrev pub AddsVariable : BuildSeen → BuildSeen → List ℕ → List ℕ → Type 0
-AddsVariable old new name value = new ≡ record old { env = record old.env { explicit = old.env.explicit ++ (name, value) ∷ [] } }
+AddsVariable old new name value =
+    new ≡ record old { env = record old.env { explicit = old.env.explicit ++ (name, value) ∷ [] } }
 
 -- these variables are inherited, and all else stays
 abbrev pub TakesVars : BuildSeen → BuildSeen → List (List ℕ × List ℕ) → Type 0

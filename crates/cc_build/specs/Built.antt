@@ -28,7 +28,8 @@ pub record Accepted (set : BuildConfig) (env : EnvSeen) (look : Look) (output : 
   pub links : link_refusal set env look ≡ None
 
 -- The part is cut at the removal of the old library, and before the link lines.
-pub record Built (t : Terms) (set : BuildConfig) (env : EnvSeen) (look : Look) (output : List ℕ) (part : List Event) : Type 0 where
+pub record Built (t : Terms) (set : BuildConfig) (env : EnvSeen) (look : Look) (output : List ℕ)
+    (part : List Event) : Type 0 where
   pub accepted : Accepted set env look output
   pub way : Way
   -- where lines are repeated, all of them were printed; a host that listens was asked for the current folder
@@ -39,22 +40,29 @@ pub record Built (t : Terms) (set : BuildConfig) (env : EnvSeen) (look : Look) (
   pub archives : List Event
   pub lines : List Event
   pub cut : part ≡ runs ++ Removed (library_of set env output) how ∷ archives ++ lines
-  -- the folder was made, questions were asked, the warnings were printed, the compile commands were run, and questions were asked
+  -- the folder was made, questions were asked, the warnings were printed, the compile commands were run, and questions
+  -- were asked
   pub compiled : Goes t (folder_stages set env ++ (Asks ∷ (compile_stages set env way.found look ++ (Asks ∷ [])))) runs
   -- one planned compile command per source was started, in the order added, and nothing else
   pub compiles : started runs ≡ asked t.shows (planned Compile (compiles_of set env look))
   -- and each of them has ended with 0
   pub ended : AllWell runs
-  -- the list of the objects was written where the archiver is libtool, and the current folder was asked for where its commands run in that of the
-  -- library; then the planned archive commands and those of the index were run, one after another; for Visual Studio the library was copied
+  -- the list of the objects was written where the archiver is libtool, and the current folder was asked for where its
+  -- commands run in that of the library; then the planned archive commands and those of the index were run, one after
+  -- another; for Visual Studio the library was copied
   pub archived : Goes t (writing_stages set env way.writing look output) archives
   -- these alone were run
   pub writes : attempts archives ≡ map to_attempt (library_commands set env look way.writing output)
-  -- the first of them was tried, unless the archiver has one form: where it was refused the others are those of the plain form, else it has ended with 0
-  pub first : all_tried archives ≡ form_tried (run_has_one_form set env look) way.writing.is_plain (library_commands set env look way.writing output)
+  -- the first of them was tried, unless the archiver has one form: where it was refused the others are those of the
+  -- plain form, else it has ended with 0
+  pub first : all_tried archives
+      ≡ form_tried (run_has_one_form set env look) way.writing.is_plain
+      (library_commands set env look way.writing output)
   -- the others were started, and each of them has ended with 0
-  pub others : started archives ≡ asked t.shows (written_children (run_has_one_form set env look) (library_commands set env look way.writing output))
+  pub others : started archives
+      ≡ asked t.shows
+      (written_children (run_has_one_form set env look) (library_commands set env look way.writing output))
   pub written : AllWell archives
-  -- questions were asked, a host that listens was told of the compiler that decides on the C++ library, and then exactly the link lines were printed,
-  -- and those of the variables that the run read
+  -- questions were asked, a host that listens was told of the compiler that decides on the C++ library, and then
+  -- exactly the link lines were printed, and those of the variables that the run read
   pub linked : Goes t (Asks ∷ link_stages set env (is_some way.found.here) look way.firsts output) lines

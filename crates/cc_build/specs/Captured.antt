@@ -22,4 +22,6 @@ pub record Captures (old new : BuildSeen) (part : List Event) : Type 0 where
 -- the host listed its variables; or the error has its cause; or it did, and memory for their snapshot was wanted
 abbrev pub CaptureEnds : List Event → Result (Unit {0}) ErrorSeen → Type 0
 CaptureEnds part (Ok done) = CallsEnd (Lists ∷ []) part (Ok done)
-CaptureEnds part (Err e) = CallsEnd {T = Unit {0}} (Lists ∷ []) part (Err e) ⊎ ((e ≡ no_memory) × CallsEnd {T = Unit {0}} (Lists ∷ []) part (Ok (tt {0})))
+CaptureEnds part (Err e) =
+    CallsEnd {T = Unit {0}} (Lists ∷ []) part (Err e)
+    ⊎ ((e ≡ no_memory) × CallsEnd {T = Unit {0}} (Lists ∷ []) part (Ok (tt {0})))

@@ -29,9 +29,14 @@ IsTool set env tool look = tool ≡ tool_of set env look
 
 -- its warnings were given to the host, or the error has its cause
 abbrev pub ToolEnds : {T : Type 0} → BuildConfig → EnvSeen → Bool → Result T ErrorSeen → Look → List Event → Type 0
-ToolEnds set env listens result look part = (warns_of_link : Bool) × Outcome (tool_error set env look) (tool_steps set env listens warns_of_link look) part result
+ToolEnds set env listens result look part =
+    (warns_of_link : Bool)
+    × Outcome (tool_error set env look) (tool_steps set env listens warns_of_link look) part result
 
--- those warnings were given to the host, and behind them the lines of the variables that were read, or the error has its cause
+-- those warnings were given to the host, and behind them the lines of the variables that were read, or the error has
+-- its cause
 abbrev pub CompilerEnds : {T : Type 0} → BuildConfig → EnvSeen → Bool → Result T ErrorSeen → Look → List Event → Type 0
 CompilerEnds set env listens result look part =
-    (warns_of_link : Bool) × DoesAndTells compiler_reads set env (tool_error set env look) (tool_steps set env listens warns_of_link look) result look part
+    (warns_of_link : Bool)
+    × DoesAndTells compiler_reads set env (tool_error set env look)
+    (tool_steps set env listens warns_of_link look) result look part

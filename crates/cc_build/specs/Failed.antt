@@ -29,10 +29,12 @@ form_aside (event ∷ part) = if is_form event then part else event ∷ form_asi
 abbrev pub unforgiven : Bool → List Event → List Event
 unforgiven one_form part = if one_form then part else form_aside part
 
--- The first form of the archive aside, where there are two, some command of the part is missing, was started in it and ended with another status
--- than 0, or was run to such an end.
+-- The first form of the archive aside, where there are two, some command of the part is missing, was started in it and
+-- ended with another status than 0, or was run to such an end.
 abbrev pub Failed : Bool → List Event → Type 0
-Failed one_form part = (missing (unforgiven one_form part) ≢ []) ⊎ ((has_failure part ≡ true) ⊎ (list_any ran_badly (unforgiven one_form part) ≡ true))
+Failed one_form part =
+    (missing (unforgiven one_form part) ≢ [])
+    ⊎ ((has_failure part ≡ true) ⊎ (list_any ran_badly (unforgiven one_form part) ≡ true))
 
 -- a fault, but one of what a question wants
 abbrev pub is_fault : Event → Bool

@@ -26,7 +26,12 @@ is_untried _ = false
 
 -- the compiler at a path couldn't try a flag
 unfoldable pub untried_error : List ℕ → ErrorSeen
-untried_error path = record { kind = IOError; subject = path; message = codes "the flag check of " ++ quoted path ++ codes " could not be run" }
+untried_error path =
+    record {
+      kind = IOError;
+      subject = path;
+      message = codes "the flag check of " ++ quoted path ++ codes " could not be run";
+    }
 
 abbrev pub verdict_error : List ℕ → Verdict → Option ErrorSeen
 verdict_error path verdict = if is_untried verdict then Some (untried_error path) else None
@@ -34,7 +39,8 @@ verdict_error path verdict = if is_untried verdict then Some (untried_error path
 -- the error of a question that has no answer
 abbrev pub support_error : BuildConfig → EnvSeen → List ℕ → Look → Option ErrorSeen
 support_error set env flag look =
-    first_of (option_map (plan_error set env []) (support_refusal set env flag look)) (verdict_error (path_of set env look) (flag_verdict set env flag look))
+    first_of (option_map (plan_error set env []) (support_refusal set env flag look))
+    (verdict_error (path_of set env look) (flag_verdict set env flag look))
 
 -- the warnings of how the compiler was found are given to the host
 abbrev pub support_steps : BuildConfig → EnvSeen → Bool → Look → List Step
@@ -45,9 +51,14 @@ abbrev pub IsVerdict : BuildConfig → EnvSeen → List ℕ → Bool → Look �
 IsVerdict set env flag answer look = answer ≡ is_yes (flag_verdict set env flag look)
 
 -- the question was answered and the warnings were given to the host, or the error has its cause
-abbrev pub SupportEnds : {T : Type 0} → BuildConfig → EnvSeen → Bool → List ℕ → Result T ErrorSeen → Look → List Event → Type 0
-SupportEnds set env listens flag result look part = Outcome (support_error set env flag look) (support_steps set env listens look) part result
+abbrev pub SupportEnds : {T : Type 0} → BuildConfig → EnvSeen → Bool → List ℕ → Result T ErrorSeen → Look
+    → List Event → Type 0
+SupportEnds set env listens flag result look part =
+    Outcome (support_error set env flag look) (support_steps set env listens look) part result
 
 -- the same, and behind the warnings the lines of the variables that were read were printed
-abbrev pub TrialEnds : {T : Type 0} → BuildConfig → EnvSeen → Bool → List ℕ → Result T ErrorSeen → Look → List Event → Type 0
-TrialEnds set env listens flag result look part = DoesAndTells flag_reads set env (support_error set env flag look) (support_steps set env listens look) result look part
+abbrev pub TrialEnds : {T : Type 0} → BuildConfig → EnvSeen → Bool → List ℕ → Result T ErrorSeen → Look
+    → List Event → Type 0
+TrialEnds set env listens flag result look part =
+    DoesAndTells flag_reads set env (support_error set env flag look)
+    (support_steps set env listens look) result look part

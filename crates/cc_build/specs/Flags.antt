@@ -22,7 +22,8 @@ always words = map Always words
 
 -- none of the names of a variable is set
 abbrev pub absent_error : List ℕ → ErrorSeen
-absent_error name = record { kind = EnvVarNotFound; subject = name; message = codes "could not find environment variable " ++ name }
+absent_error name =
+    record { kind = EnvVarNotFound; subject = name; message = codes "could not find environment variable " ++ name }
 
 -- a value that is wanted, or the error by its variable
 abbrev pub wanted_error : List ℕ → Option (List ℕ) → Option ErrorSeen
@@ -44,7 +45,12 @@ flags_error set env name =
 abbrev pub flags_read : BuildConfig → EnvSeen → List ℕ → List (List ℕ)
 flags_read set env name = if wants_reruns set then in_order (flags_names set env name) else []
 
--- Ok: nothing is refused, and the lines of those variables were printed. Else the error has its cause. Where the flags are refused no line is printed.
+-- Ok: nothing is refused, and the lines of those variables were printed. Else the error has its cause. Where the flags
+-- are refused no line is printed.
 abbrev pub FlagsEnd : {T : Type 0} → BuildSeen → List ℕ → Result T ErrorSeen → List Event → Type 0
 FlagsEnd b name result part =
-    (firsts : Firsts) × (Repeats b.config firsts × Outcome (flags_error b.config b.env name) (unless_refused (flags_error b.config b.env name) (line_steps (flags_read b.config b.env name) firsts)) part result)
+    (firsts : Firsts)
+    × (Repeats b.config firsts
+    × Outcome (flags_error b.config b.env name)
+    (unless_refused (flags_error b.config b.env name)
+    (line_steps (flags_read b.config b.env name) firsts)) part result)

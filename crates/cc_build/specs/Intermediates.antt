@@ -27,25 +27,42 @@ use Rattle.cc_build.specs.Went.{Terms, Goes, Ends}
 
 -- what it reads variables for: where there is a source a compiler is planned and commands are run
 abbrev pub source_reads : BuildConfig → Reads
-source_reads set = record { disabled = true; debug = not (is_empty set.files); compiler = not (is_empty set.files); assembler = not (is_empty set.files); flag = false; archiver = false; ranlib = false; links = false }
+source_reads set =
+    record {
+      disabled = true;
+      debug = not (is_empty set.files);
+      compiler = not (is_empty set.files);
+      assembler = not (is_empty set.files);
+      flag = false;
+      archiver = false;
+      ranlib = false;
+      links = false;
+    }
 
--- The folder is made where there is a source, and where commands may run the sources are compiled, and the lines of the variables that were read are
--- printed.
+-- The folder is made where there is a source, and where commands may run the sources are compiled, and the lines of the
+-- variables that were read are printed.
 abbrev pub intermediate_stages : BuildConfig → EnvSeen → Found → Look → Firsts → List Stage
 intermediate_stages set env found look firsts =
     if is_some (intermediate_refusal set env) then []
-    else folder_stages set env ++ (if is_disabled env then [] else asked_then (late_refusal set env look) (told_sources set env (source_reads set) found look firsts))
+    else folder_stages set env
+    ++ (if is_disabled env then []
+    else asked_then (late_refusal set env look) (told_sources set env (source_reads set) found look firsts))
 
 -- the error of settings that are refused: that of the first part which doesn't hold
 abbrev pub intermediate_error : BuildConfig → EnvSeen → Look → Option ErrorSeen
-intermediate_error set env look = first_of (option_map (plan_error set env []) (intermediate_refusal set env)) (late_error set env look [])
+intermediate_error set env look =
+    first_of (option_map (plan_error set env []) (intermediate_refusal set env)) (late_error set env look [])
 
 -- Ok: nothing is refused, and all stages were done. Else the first ones were, and the error has its cause.
 abbrev pub IntermediateEnds : {T : Type 0} → BuildSeen → Bool → Result T ErrorSeen → Look → List Event → Course → Type 0
 IntermediateEnds b listens result look part c =
-    (found : Found) × (firsts : Firsts) × (Hears listens found × Repeats b.config firsts × Ends (terms_for b listens c) (intermediate_error b.config b.env look) (intermediate_stages b.config b.env found look firsts) part result c.before c.after)
+    (found : Found) × (firsts : Firsts)
+    × (Hears listens found × Repeats b.config firsts
+    × Ends (terms_for b listens c) (intermediate_error b.config b.env look)
+    (intermediate_stages b.config b.env found look firsts) part result c.before c.after)
 
--- one planned compile command per source was started, in the order added, and nothing else; and each of them has ended with 0
+-- one planned compile command per source was started, in the order added, and nothing else; and each of them has ended
+-- with 0
 pub record Compiled (t : Terms) (b : BuildSeen) (look : Look) (part : List Event) : Type 0 where
   pub compiles : started part ≡ asked t.shows (planned Compile (compiles_of b.config b.env look))
   pub ended : AllWell part

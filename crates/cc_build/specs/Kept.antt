@@ -30,9 +30,10 @@ pub record Aside {X : Type 0} (log : X → List Event) (patience : X → Option 
 abbrev pub left_at : {S : Type 0} → (S → ℕ) → (S → ℕ) → (S → ℕ) → Turns → S → Means
 left_at faults taken load turns seat = means turns.left (faults seat) (taken seat) (load seat)
 
--- What the questions of a part leave, among other events: the answers of the call went on by those that the part gives, no question was asked a
--- second time, and each is one of these, whichever verdicts agree with the answers.
-pub record AsksOn (steady : Bool) (world : Question → Outcome) (dir : List ℕ) (questions : Look → Question → Type 0) (part : List Event) (old new : List Answer) : Type 0 where
+-- What the questions of a part leave, among other events: the answers of the call went on by those that the part gives,
+-- no question was asked a second time, and each is one of these, whichever verdicts agree with the answers.
+pub record AsksOn (steady : Bool) (world : Question → Outcome) (dir : List ℕ)
+    (questions : Look → Question → Type 0) (part : List Event) (old new : List Answer) : Type 0 where
   pub answered : new ≡ old ++ answers part
   pub once : NoTwice old → NoTwice new
   pub closed : drops part ≡ opens part
@@ -44,15 +45,21 @@ pub record AsksOn (steady : Bool) (world : Question → Outcome) (dir : List ℕ
   pub own : Holds new (λ look. AnswersAmong (questions look) part)
 
 -- the log only grew, by questions among other events, and the patience of the host is the same
-pub record Asking {X : Type 0} (steady : Bool) (world : Question → Outcome) (dir : List ℕ) (questions : Look → Question → Type 0) (log : X → List Event) (patience : X → Option ℕ) (old new : X) (known known' : List Answer) : Type 0 where
+pub record Asking {X : Type 0} (steady : Bool) (world : Question → Outcome) (dir : List ℕ)
+    (questions : Look → Question → Type 0) (log : X → List Event) (patience : X → Option ℕ) (old new : X)
+    (known known' : List Answer) : Type 0 where
   pub patient : patience new ≡ patience old
   pub extends : log new ≡ log old ++ part log old new
   pub asks : AsksOn steady world dir questions (part log old new) known known'
 
 -- the same, where the questions are those of a run
-abbrev pub AsksFor : {X : Type 0} → Bool → (Question → Outcome) → Task → (X → List Event) → (X → Option ℕ) → X → X → List Answer → List Answer → Type 0
-AsksFor steady world task log patience = Asking steady world (probe_folder task.set.now task.env.now) (RunAsks task.set.now task.env.now) log patience
+abbrev pub AsksFor : {X : Type 0} → Bool → (Question → Outcome) → Task → (X → List Event) → (X → Option ℕ) → X → X
+    → List Answer → List Answer → Type 0
+AsksFor steady world task log patience =
+    Asking steady world (probe_folder task.set.now task.env.now) (RunAsks task.set.now task.env.now) log patience
 
 -- the same, where they are those that the names of variables are planned by
-abbrev pub AsksForNames : {X : Type 0} → Bool → (Question → Outcome) → Task → Reads → (X → List Event) → (X → Option ℕ) → X → X → List Answer → List Answer → Type 0
-AsksForNames steady world task reads log patience = Asking steady world (probe_folder task.set.now task.env.now) (NameAsks reads task.set.now task.env.now) log patience
+abbrev pub AsksForNames : {X : Type 0} → Bool → (Question → Outcome) → Task → Reads → (X → List Event)
+    → (X → Option ℕ) → X → X → List Answer → List Answer → Type 0
+AsksForNames steady world task reads log patience =
+    Asking steady world (probe_folder task.set.now task.env.now) (NameAsks reads task.set.now task.env.now) log patience

@@ -24,6 +24,7 @@ pub mod Promises
 pub mod Questions
 pub mod Refusal
 pub mod RunErrors
+pub mod RunPlan
 pub mod Seen
 pub mod Shows
 pub mod Stage

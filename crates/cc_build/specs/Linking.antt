@@ -29,22 +29,39 @@ linked_name set env library = name_or_none (linked_library (target_info set env)
 
 -- what the lines read variables for
 abbrev pub link_reads : Reads
-link_reads = record { disabled = false; debug = false; compiler = false; assembler = false; flag = false; archiver = false; ranlib = false; links = true }
+link_reads =
+    record {
+      disabled = false;
+      debug = false;
+      compiler = false;
+      assembler = false;
+      flag = false;
+      archiver = false;
+      ranlib = false;
+      links = true;
+    }
 
--- The lines are planned by questions, and printed with those of the variables that were read; none where the path is no library's. A host that listens
--- is told of the compiler that decides on the C++ library.
+-- The lines are planned by questions, and printed with those of the variables that were read; none where the path is no
+-- library's. A host that listens is told of the compiler that decides on the C++ library.
 abbrev pub directive_stages : BuildConfig → EnvSeen → Bool → Look → Firsts → List ℕ → List Stage
 directive_stages set env listens look firsts library =
     if is_some (path_refusal set env library) then []
-    else asked_then (link_refusal set env look) (printed_stages listens (quiet_warnings set env look) firsts (links_of set env (linked_name set env library) library look) (rerun_names link_reads set env look))
+    else asked_then (link_refusal set env look)
+    (printed_stages listens (quiet_warnings set env look) firsts
+    (links_of set env (linked_name set env library) library look) (rerun_names link_reads set env look))
 
 -- the error of a path that is no library's, or of settings that are refused
 abbrev pub directive_error : BuildConfig → EnvSeen → Look → List ℕ → Option ErrorSeen
 directive_error set env look library =
-    first_of (option_map (plan_error set env library) (path_refusal set env library)) (option_map (plan_error set env library) (link_refusal set env look))
+    first_of (option_map (plan_error set env library) (path_refusal set env library))
+    (option_map (plan_error set env library) (link_refusal set env look))
 
--- Ok: nothing is refused, and the lines were printed. Else the first were, and the error has its cause. No child is started, so this holds on any terms
--- and uses nothing up.
+-- Ok: nothing is refused, and the lines were printed. Else the first were, and the error has its cause. No child is
+-- started, so this holds on any terms and uses nothing up.
 abbrev pub DirectivesEnd : {T : Type 0} → BuildSeen → Bool → List ℕ → Result T ErrorSeen → Look → List Event → Type 0
 DirectivesEnd b listens library result look part =
-    (firsts : Firsts) × (Repeats b.config firsts × ((t : Terms) (x : Means) → Ends t (directive_error b.config b.env look library) (directive_stages b.config b.env listens look firsts library) part result x x))
+    (firsts : Firsts)
+    × (Repeats b.config firsts
+    × ((t : Terms) (x : Means)
+    → Ends t (directive_error b.config b.env look library)
+    (directive_stages b.config b.env listens look firsts library) part result x x))

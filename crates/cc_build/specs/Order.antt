@@ -26,7 +26,8 @@ is_archive_event (Missing role cmd) = is_archive_role role
 is_archive_event _ = false
 
 -- before a command of the archive the folder was made, and the compile command of every source ended with 0
-pub record CompiledBefore (t : Terms) (set : BuildConfig) (env : EnvSeen) (found : Found) (look : Look) (before : List Event) : Type 0 where
+pub record CompiledBefore (t : Terms) (set : BuildConfig) (env : EnvSeen) (found : Found) (look : Look)
+    (before : List Event) : Type 0 where
   pub runs : List Event
   pub rest : List Event
   pub cut : before ≡ runs ++ rest
@@ -34,4 +35,6 @@ pub record CompiledBefore (t : Terms) (set : BuildConfig) (env : EnvSeen) (found
 
 -- No command of the archive or its index stands in the part unless that stands before it.
 abbrev pub ArchivesLast : Terms → BuildConfig → EnvSeen → Found → Look → List Event → Type 0
-ArchivesLast t set env found look part = (before after : List Event) (event : Event) → part ≡ before ++ event ∷ after → is_archive_event event ≡ true → CompiledBefore t set env found look before
+ArchivesLast t set env found look part =
+    (before after : List Event) (event : Event) → part ≡ before ++ event ∷ after → is_archive_event event ≡ true
+    → CompiledBefore t set env found look before

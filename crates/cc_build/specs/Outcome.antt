@@ -7,7 +7,8 @@ use Rattle.cc_build.specs.Stop.{stopped_by}
 
 -- The error is want of memory, or that of the refused settings, or that of the event that ended the run.
 abbrev pub IsCausedBy : Option ErrorSeen → List Step → List Event → ErrorSeen → Type 0
-IsCausedBy refusal steps part e = (e ≡ no_memory) ⊎ ((refusal ≡ Some e) ⊎ (stopped_by (left steps part) (stops part) ≡ Some e))
+IsCausedBy refusal steps part e =
+    (e ≡ no_memory) ⊎ ((refusal ≡ Some e) ⊎ (stopped_by (left steps part) (stops part) ≡ Some e))
 
 -- The first steps were done, and the error has its cause.
 abbrev pub IsRefused : Option ErrorSeen → List Step → List Event → ErrorSeen → Type 0

@@ -1,29 +1,30 @@
 -- A compile run that is planned and not begun: its compile commands are values, and nothing is started.
-use Rattle.std.specs.Prelude.{◌≡◌, ℕ, Bool, List, [], ◌++◌, Option, Result, IfOk, is_some, if◌then◌else◌}
+use Rattle.std.specs.Prelude.{◌≡◌, ℕ, Bool, List, ◌∷◌, Option, Result, IfOk}
 use Rattle.cc_env.specs.Env.{EnvSeen}
 use Rattle.cc_host.specs.Question.{Look}
 use Rattle.cc_host.specs.declared.event.Event.{Event}
-use Rattle.cc_flags.specs.Given.{is_disabled, first_of}
+use Rattle.cc_flags.specs.Given.{first_of}
 use Rattle.cc_flags.specs.declared.settings.BuildConfig.{BuildConfig}
 use Rattle.cc_plan.specs.Plan.{objects_of}
-use Rattle.cc_plan.specs.Refusal.{early_refusal, late_refusal}
+use Rattle.cc_plan.specs.Refusal.{early_refusal}
 use Rattle.cc_build.specs.Build.{BuildSeen}
 use Rattle.cc_build.specs.Error.{ErrorSeen}
 use Rattle.cc_build.specs.Intermediates.{source_reads}
 use Rattle.cc_build.specs.Refusal.{early_error, late_error}
 use Rattle.cc_build.specs.Shows.{shows_of}
-use Rattle.cc_build.specs.Stage.{Stage, asked_then, compiles_planned, folder_stages, told_opening}
+use Rattle.cc_build.specs.RunPlan.{checked_then}
+use Rattle.cc_build.specs.Stage.{Stage, compiles_planned, name_stages}
+use Rattle.cc_build.specs.Stage.Stage.{Asks}
 use Rattle.cc_build.specs.Way.{Found, Firsts, Hears, Repeats}
 use Rattle.cc_build.specs.Went.{Terms, Means, Ends}
 use Rattle.cc_build.specs.declared.planning.CompilePlan.{CompilePlan}
 
--- The folder is made where there is a source, and where commands may run the host is given the warnings of the plan, one
--- that listens is asked for the current folder, and the lines of the variables that were read are printed.
+-- The folder is made where there is a source, and where commands may run the host is given the warnings of the plan,
+-- one that listens is asked for the current folder, and the lines of the variables that were read are printed.
 abbrev pub planning_stages : BuildConfig → EnvSeen → Found → Look → Firsts → List ℕ → List Stage
 planning_stages set env found look firsts output =
-    if is_some (early_refusal set env output) then []
-    else folder_stages set env ++ (if is_disabled env then []
-    else asked_then (late_refusal set env look) (told_opening set env (source_reads set) found look firsts))
+    checked_then (early_refusal set env output) set env found look
+    (Asks ∷ name_stages set env (source_reads set) look firsts)
 
 -- the error of settings that are refused before the first command
 abbrev pub planning_error : BuildConfig → EnvSeen → Look → List ℕ → Option ErrorSeen

@@ -41,11 +41,16 @@ stages_for b way look output = planned_stages b.config b.env way look output
 
 -- Ok: nothing is refused, and all stages were done. Else the first ones were, and the error has its cause.
 abbrev pub RunEnds : {T : Type 0} → BuildSeen → Bool → List ℕ → Result T ErrorSeen → Look → List Event → Course → Type 0
-RunEnds b listens output result look part c = (way : Way) × (Hears listens way.found × Repeats b.config way.firsts × Ends (terms_for b listens c) (refusal_error b.config b.env look output) (stages_for b way look output) part result c.before c.after)
+RunEnds b listens output result look part c =
+    (way : Way)
+    × (Hears listens way.found × Repeats b.config way.firsts
+    × Ends (terms_for b listens c) (refusal_error b.config b.env look output)
+    (stages_for b way look output) part result c.before c.after)
 
 -- Ok: the library is built.
 abbrev pub IsBuilt : {T : Type 0} → BuildSeen → Bool → List ℕ → Result T ErrorSeen → Look → List Event → Course → Type 0
-IsBuilt b listens output result look part c = OnOk result (Built (terms_for b listens c) b.config b.env look output part)
+IsBuilt b listens output result look part c =
+    OnOk result (Built (terms_for b listens c) b.config b.env look output part)
 
 -- the commands of the part are the first of those of these stages
 abbrev pub AreFirst : List Stage → List Event → Type 0
@@ -77,9 +82,10 @@ abbrev pub IsBusy : Option ℕ → Bool → ℕ → List Event → Type 0
 IsBusy total stop count before = IfSome total (λ t. (0 < length (running before)) × ((length (running before) ≡ t)
     ⊎ ((length (started before) ≡ count) ⊎ ((stop ≡ true) × (has_failure before ≡ true)))))
 
--- So many compile commands run beside each other, in one stretch of the part. Each start there carries the number of those that run, itself
--- counted, which is no more than the tokens of the pool. At each turn one runs, and as many as there are tokens, or all were started. Where a
--- failure stops the run, none is started behind one, and a turn may be made with fewer.
+-- So many compile commands run beside each other, in one stretch of the part. Each start there carries the number of
+-- those that run, itself counted, which is no more than the tokens of the pool. At each turn one runs, and as many as
+-- there are tokens, or all were started. Where a failure stops the run, none is started behind one, and a turn may be
+-- made with fewer.
 pub record RunBeside (total : Option ℕ) (stop : Bool) (count : ℕ) (part : List Event) : Type 0 where
   pub front : List Event
   pub run : List Event
@@ -96,11 +102,14 @@ pub record RunBeside (total : Option ℕ) (stop : Bool) (count : ℕ) (part : Li
 
 -- the compile command of every source was started, and none was left alone
 abbrev pub AllStarted : Shows → List CommandSeen → List Event → Type 0
-AllStarted shows cmds part = ((more : List Asked) × (started part ≡ asked shows (planned Compile cmds) ++ more)) × (abandoned part ≡ [])
+AllStarted shows cmds part =
+    ((more : List Asked) × (started part ≡ asked shows (planned Compile cmds) ++ more)) × (abandoned part ≡ [])
 
--- The same where a failure stops the run: that of every source was, or the first of these alone, and one of them failed. None was left alone.
+-- The same where a failure stops the run: that of every source was, or the first of these alone, and one of them
+-- failed. None was left alone.
 abbrev pub StartsTill : Shows → List CommandSeen → List Event → Type 0
-StartsTill shows cmds part = AllStarted shows cmds part ⊎ (((count : ℕ) × (started part ≡ take count (asked shows (planned Compile cmds))))
+StartsTill shows cmds part =
+    AllStarted shows cmds part ⊎ (((count : ℕ) × (started part ≡ take count (asked shows (planned Compile cmds))))
     × (has_failure part ≡ true) × (abandoned part ≡ []))
 
 -- on every exit each command that was started has ended or was left alone
@@ -109,24 +118,34 @@ NothingRuns part = running part ≡ []
 
 -- behind a fault, but one of what a question wants, children are abandoned, and nothing else is done
 abbrev pub FaultsEnd : List Event → Type 0
-FaultsEnd part = (before after : List Event) (call : HostCall) (why : Why) → is_probing call ≡ false → part ≡ before ++ Fault call why ∷ after → (ids : List ℕ) × (after ≡ map Abandoned ids)
+FaultsEnd part =
+    (before after : List Event) (call : HostCall) (why : Why) → is_probing call ≡ false
+    → part ≡ before ++ Fault call why ∷ after → (ids : List ℕ) × (after ≡ map Abandoned ids)
 
 -- What a compile run promises of its answer, its part and its course.
-pub record Promises {T : Type 0} (b : BuildSeen) (listens : Bool) (output : List ℕ) (result : Result T ErrorSeen) (look : Look) (part : List Event) (c : Course) : Type 0 where
-  -- what the run finds out as it goes; where lines are repeated, all of them are printed, and a host that listens is asked for the current folder
+pub record Promises {T : Type 0} (b : BuildSeen) (listens : Bool) (output : List ℕ) (result : Result T ErrorSeen)
+    (look : Look) (part : List Event) (c : Course) : Type 0 where
+  -- what the run finds out as it goes; where lines are repeated, all of them are printed, and a host that listens is
+  -- asked for the current folder
   pub way : Way
   pub repeats : Repeats b.config way.firsts
   pub hears : Hears listens way.found
   -- Ok: nothing is refused, and all stages were done. Else the first ones were, and the error has its cause.
-  pub outcome : Ends (terms_for b listens c) (refusal_error b.config b.env look output) (stages_for b way look output) part result c.before c.after
+  pub outcome : Ends (terms_for b listens c) (refusal_error b.config b.env look output)
+      (stages_for b way look output) part result c.before c.after
   -- no command of the archive stands in the part unless every source was compiled before it
   pub order : ArchivesLast (terms_for b listens c) b.config b.env way.found look part
   -- one attempt for each of the first planned commands, and no other
   pub prefix : AreFirst (stages_for b way look output) part
   -- two sources or more are compiled beside each other, each under a token, and as many at once as there are tokens
   pub beside : 2 ≤ length b.config.files → RunBeside c.total b.config.stop_on_failure (length b.config.files) part
-  -- unless the settings say so a failed child stops no later start: where a command ended badly and the host is sound, every source's command was
-  -- started and has ended
-  pub failed : b.config.stop_on_failure ≡ false → (e : ErrorSeen) → 2 ≤ length b.config.files → result ≡ Err e → e.kind ≡ ToolExecError → (HasFault part → ⊥) → AllStarted (shows_of b.config b.env listens) (compiles_of b.config b.env look) part
-  -- where they do, each command that was started has ended, and where a source's command was not started one of these failed
-  pub stopped : b.config.stop_on_failure ≡ true → (e : ErrorSeen) → 2 ≤ length b.config.files → result ≡ Err e → e.kind ≡ ToolExecError → (HasFault part → ⊥) → StartsTill (shows_of b.config b.env listens) (compiles_of b.config b.env look) part
+  -- unless the settings say so a failed child stops no later start: where a command ended badly and the host is sound,
+  -- every source's command was started and has ended
+  pub failed : b.config.stop_on_failure ≡ false → (e : ErrorSeen) → 2 ≤ length b.config.files → result ≡ Err e
+      → e.kind ≡ ToolExecError → (HasFault part → ⊥)
+      → AllStarted (shows_of b.config b.env listens) (compiles_of b.config b.env look) part
+  -- where they do, each command that was started has ended, and where a source's command was not started one of these
+  -- failed
+  pub stopped : b.config.stop_on_failure ≡ true → (e : ErrorSeen) → 2 ≤ length b.config.files → result ≡ Err e
+      → e.kind ≡ ToolExecError → (HasFault part → ⊥)
+      → StartsTill (shows_of b.config b.env listens) (compiles_of b.config b.env look) part

@@ -34,7 +34,8 @@ pub record Archives (task : Task) (archiver : Archiver) (look : Look) : Type 0 w
   pub allowed : archiver_refusal task.set.now task.env.now look ≡ None
   pub is : archiver ≡ archiver_of task.set.now task.env.now look
 
--- nothing is refused behind the library of this name and path, and these are the link lines and the warnings of the quiet plan
+-- nothing is refused behind the library of this name and path, and these are the link lines and the warnings of the
+-- quiet plan
 pub record Links (task : Task) (name library : List ℕ) (plan : LinkPlan) (look : Look) : Type 0 where
   pub allowed : link_refusal task.set.now task.env.now look ≡ None
   pub are : plan.lines.items ≡ links_of task.set.now task.env.now name library look
@@ -45,15 +46,18 @@ pub record AreLines (task : Task) (reads : Reads) (name library : List ℕ) (lin
   pub links : Links task name library lines.links look
   pub names : lines.names ≡ rerun_names reads task.set.now task.env.now look
 
--- these stages print them: all where lines are repeated, and else those that no other run printed; and right before a host that listens is told of
--- the warnings
+-- these stages print them: all where lines are repeated, and else those that no other run printed; and right before a
+-- host that listens is told of the warnings
 abbrev pub AreFirst : BuildConfig → Bool → Lines → List Stage → Type 0
 AreFirst set listens lines stages =
-    (firsts : Firsts) × (Repeats set firsts × (stages ≡ printed_stages listens lines.links.warnings firsts lines.links.lines.items lines.names))
+    (firsts : Firsts)
+    × (Repeats set firsts
+    × (stages ≡ printed_stages listens lines.links.warnings firsts lines.links.lines.items lines.names))
 
 -- the settings are refused with this error, or memory was wanted
 abbrev pub IsRefusedBy : (Look → Option PlanError) → Task → ErrorSeen → Look → Type 0
-IsRefusedBy refusal task e look = (e ≡ no_memory) ⊎ (option_map (plan_error task.set.now task.env.now task.output.now) (refusal look) ≡ Some e)
+IsRefusedBy refusal task e look =
+    (e ≡ no_memory) ⊎ (option_map (plan_error task.set.now task.env.now task.output.now) (refusal look) ≡ Some e)
 
 -- questions alone were asked
 abbrev pub AsksOnly : List Event → Type 0

@@ -35,7 +35,8 @@ library_error object = invalid object (codes "the added object " ++ object ++ co
 -- the path of an archived object: those of sources come first
 abbrev pub archived_at : BuildConfig → EnvSeen → ℕ → List ℕ
 archived_at set env place =
-    if nat_lt place (length set.files) then object_in set env (source_at set place) else added_at set (place - length set.files)
+    if nat_lt place (length set.files) then object_in set env (source_at set place)
+    else added_at set (place - length set.files)
 
 -- a path that a list can't hold
 abbrev pub unlisted_error : List ℕ → ErrorSeen
@@ -45,14 +46,20 @@ abbrev pub no_library_error : List ℕ → ErrorSeen
 no_library_error path = invalid path (codes "expected the path of a library lib<name>.a with its folder, got " ++ path)
 
 abbrev pub unset_error : List ℕ → ErrorSeen
-unset_error name = record { kind = EnvVarNotFound; subject = name; message = codes "environment variable " ++ name ++ codes " not defined" }
+unset_error name =
+    record {
+      kind = EnvVarNotFound;
+      subject = name;
+      message = codes "environment variable " ++ name ++ codes " not defined";
+    }
 
 abbrev pub unknown_error : List ℕ → ErrorSeen
 unknown_error target = record { kind = IsUnknown; subject = target; message = codes "unknown target " ++ target }
 
 -- an architecture that the QNX compilers have no name for
 abbrev pub qnx_error : List ℕ → ErrorSeen
-qnx_error arch = record { kind = InvalidTarget; subject = arch; message = codes "Unknown architecture for Neutrino QNX: " ++ arch }
+qnx_error arch =
+    record { kind = InvalidTarget; subject = arch; message = codes "Unknown architecture for Neutrino QNX: " ++ arch }
 
 -- a flag that Cargo hands down, without the value that it needs
 abbrev pub flag_error : List ℕ → ErrorSeen
@@ -60,7 +67,12 @@ flag_error flag = record { kind = InvalidFlag; subject = flag; message = flag ++
 
 -- no command may run; it is about the variable that says so
 abbrev pub disabled_error : ErrorSeen
-disabled_error = record { kind = Disabled; subject = codes "CC_FORCE_DISABLE"; message = codes "cc has been disabled by CC_FORCE_DISABLE" }
+disabled_error =
+    record {
+      kind = Disabled;
+      subject = codes "CC_FORCE_DISABLE";
+      message = codes "cc has been disabled by CC_FORCE_DISABLE";
+    }
 
 -- a source is expanded alone, and there is none, or more than one
 abbrev pub number_error : ErrorSeen
@@ -69,7 +81,8 @@ number_error = invalid [] (codes "Expand may only be called for a single file")
 abbrev pub argument_error : BuildConfig → EnvSeen → List ℕ → ArgumentCause → ErrorSeen
 argument_error set env output Output = invalid output (codes "argument must be a single normal path component")
 argument_error set env output OutDir = invalid [] (codes "out dir must not be empty")
-argument_error set env output (NoFileName place) = invalid (source_at set place) (codes "No file_name for object file path!")
+argument_error set env output (NoFileName place) =
+    invalid (source_at set place) (codes "No file_name for object file path!")
 argument_error set env output (SameObject first second) = same_object_error (object_in set env (source_at set second))
 argument_error set env output (LibraryIsObject place) = library_error (added_at set place)
 argument_error set env output (LineFeed place) = unlisted_error (archived_at set env place)
@@ -92,7 +105,8 @@ early_error set env output = option_map (plan_error set env output) (early_refus
 
 -- the same, behind it
 abbrev pub late_error : BuildConfig → EnvSeen → Look → List ℕ → Option ErrorSeen
-late_error set env look output = if is_disabled env then Some disabled_error else option_map (plan_error set env output) (late_refusal set env look)
+late_error set env look output =
+    if is_disabled env then Some disabled_error else option_map (plan_error set env output) (late_refusal set env look)
 
 -- the same, behind the sources and before the library
 abbrev pub archive_error : BuildConfig → EnvSeen → Look → List ℕ → Option ErrorSeen
@@ -105,4 +119,6 @@ link_error set env look output = option_map (plan_error set env output) (link_re
 -- the error of settings that are refused: that of the first part which doesn't hold
 abbrev pub refusal_error : BuildConfig → EnvSeen → Look → List ℕ → Option ErrorSeen
 refusal_error set env look output =
-    first_of (early_error set env output) (first_of (late_error set env look output) (first_of (archive_error set env look output) (link_error set env look output)))
+    first_of (early_error set env output)
+    (first_of (late_error set env look output)
+    (first_of (archive_error set env look output) (link_error set env look output)))

@@ -23,7 +23,8 @@ abbrev pub run_error : List Planned → RunError → ErrorSeen
 run_error cmds (ToolNotFound place) = error_of missing_error (command_at cmds place)
 run_error cmds (Failed place status) = error_of (failed_error status) (command_at cmds place)
 run_error cmds (StartFault place) = error_of unstarted_error (command_at cmds place)
-run_error cmds WaitFault = record { kind = ToolExecError; subject = []; message = codes "failed to wait for running commands" }
+run_error cmds WaitFault =
+    record { kind = ToolExecError; subject = []; message = codes "failed to wait for running commands" }
 run_error cmds (HostFault call why) = fault_error call why []
 run_error cmds JobFault = record { kind = IOError; subject = []; message = codes "no job token could be asked for" }
 run_error cmds TurnsSpent = record { kind = SpendsTurns; subject = []; message = codes "turns spent" }

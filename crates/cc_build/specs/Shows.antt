@@ -25,7 +25,8 @@ abbrev pub output_kind : Bool → OutputKind
 output_kind true = Forward
 output_kind false = Discard
 
--- what of a run the settings show, and the environment where they are silent, on a host that listens or not; and whether a failure stops it
+-- what of a run the settings show, and the environment where they are silent, on a host that listens or not; and
+-- whether a failure stops it
 abbrev pub shows_of : BuildConfig → EnvSeen → Bool → Shows
 shows_of set env listens = record {
   warnings = set.cargo_warnings;

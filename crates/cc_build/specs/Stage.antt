@@ -27,8 +27,8 @@ use Rattle.cc_run.specs.declared.planned.Planned.{Planned}
 use Rattle.cc_text.specs.Words.{when}
 use Rattle.cc_build.specs.Way.{Way, Found, Writing, Firsts, chosen}
 
--- A call of the host, questions, a command that is tried, a command that runs alone, or commands that run beside each other. One that is tried
--- runs to its end, and says whether it was refused: the run goes on either way.
+-- A call of the host, questions, a command that is tried, a command that runs alone, or commands that run beside each
+-- other. One that is tried runs to its end, and says whether it was refused: the run goes on either way.
 pub data Stage : Type 0 where
   Calls : Step → Stage
   Asks : Stage
@@ -86,8 +86,8 @@ abbrev pub tried : Bool → List Planned → List Stage
 tried refused [] = []
 tried refused (p ∷ ps) = Tries refused p ∷ in_turn ps
 
--- The commands of a library. They run one after another, and the first is tried, since the archiver may not know its form: where it is refused,
--- those of the plain form follow. Of an archiver that has one form none is tried.
+-- The commands of a library. They run one after another, and the first is tried, since the archiver may not know its
+-- form: where it is refused, those of the plain form follow. Of an archiver that has one form none is tried.
 abbrev pub written : Bool → Bool → List Planned → List Stage
 written one_form is_plain cmds = if one_form then in_turn cmds else tried is_plain cmds
 
@@ -113,19 +113,23 @@ finding_steps here = map Finds (option_to_list here)
 
 -- the warnings of the plan are given to the host, and one that listens is asked for the current folder
 abbrev pub opening_steps : BuildConfig → EnvSeen → Found → Look → List Step
-opening_steps set env found look = warned_steps set (is_some found.here) (plan_warnings set env found.warns_of_link look) ++ finding_steps found.here
+opening_steps set env found look =
+    warned_steps set (is_some found.here) (plan_warnings set env found.warns_of_link look) ++ finding_steps found.here
 
 -- such a command, with its message where the current folder is known
 abbrev pub compile_planned : Option (List ℕ) → Object → CommandSeen → Planned
-compile_planned here object cmd = record { role = Compile; cmd = cmd; message = option_map (compile_command cmd object.src object.dst) here }
+compile_planned here object cmd =
+    record { role = Compile; cmd = cmd; message = option_map (compile_command cmd object.src object.dst) here }
 
 -- one for each source, in order
 unfoldable pub compiles_planned : BuildConfig → EnvSeen → Option (List ℕ) → Look → List Planned
-compiles_planned set env here look = map (λ object. compile_planned here object (compile_in set env look object)) (objects_of set env)
+compiles_planned set env here look =
+    map (λ object. compile_planned here object (compile_in set env look object)) (objects_of set env)
 
 -- the warnings of the plan are given to the host, and then the sources are compiled
 unfoldable pub compile_stages : BuildConfig → EnvSeen → Found → Look → List Stage
-compile_stages set env found look = calls (opening_steps set env found look) ++ beside (compiles_planned set env found.here look)
+compile_stages set env found look =
+    calls (opening_steps set env found look) ++ beside (compiles_planned set env found.here look)
 
 -- the old library is removed
 unfoldable pub removal_stages : BuildConfig → EnvSeen → List ℕ → List Stage
@@ -134,20 +138,23 @@ removal_stages set env output = calls (removal_steps set env output)
 -- the commands that write the library, and then its index
 abbrev pub library_commands : BuildConfig → EnvSeen → Look → Writing → List ℕ → List Planned
 library_commands set env look writing output =
-    planned Archive (archives_of set env look writing.is_plain writing.here output) ++ planned Index (indexes_of set env look writing.is_plain output)
+    planned Archive (archives_of set env look writing.is_plain writing.here output)
+    ++ planned Index (indexes_of set env look writing.is_plain output)
 
 -- the current folder, which is asked for or not
 abbrev pub asking_steps : Bool → List ℕ → List Step
 asking_steps asks here = when asks (Finds here ∷ [])
 
--- before them the list of the paths of all objects is written, where the archiver is libtool, and the current folder is asked for, where they run in
--- that of the library
+-- before them the list of the paths of all objects is written, where the archiver is libtool, and the current folder is
+-- asked for, where they run in that of the library
 unfoldable pub ready_stages : BuildConfig → EnvSeen → Look → List ℕ → List ℕ → List Stage
-ready_stages set env look here output = calls (writings (lists_of_run set env look output) ++ asking_steps (run_asks_folder set env look output) here)
+ready_stages set env look here output =
+    calls (writings (lists_of_run set env look output) ++ asking_steps (run_asks_folder set env look output) here)
 
 -- those commands are run
 unfoldable pub archive_stages : BuildConfig → EnvSeen → Look → Writing → List ℕ → List Stage
-archive_stages set env look writing output = written (run_has_one_form set env look) writing.is_plain (library_commands set env look writing output)
+archive_stages set env look writing output =
+    written (run_has_one_form set env look) writing.is_plain (library_commands set env look writing output)
 
 -- for Visual Studio the library is copied to the file that its linkers look for
 unfoldable pub copy_stages : BuildConfig → EnvSeen → List ℕ → List Stage
@@ -161,7 +168,8 @@ folder_in library = unwrap_or (path_parent library) []
 abbrev pub links_of : BuildConfig → EnvSeen → List ℕ → List ℕ → Look → List LinkLine
 links_of set env name library look = lines_of set env name (folder_in library) look
 
--- What such a call reads variables for: it plans no tool that writes an index and asks about no flag, and plans a compiler only for sources.
+-- What such a call reads variables for: it plans no tool that writes an index and asks about no flag, and plans a
+-- compiler only for sources.
 abbrev pub IsRun : BuildConfig → Reads → Type 0
 IsRun set reads =
     ((reads.ranlib ≡ false) × (reads.flag ≡ false))
@@ -169,7 +177,17 @@ IsRun set reads =
 
 -- what a run reads variables for; it plans a compiler where there is a source
 abbrev pub run_reads : BuildConfig → Reads
-run_reads set = record { disabled = true; debug = true; compiler = not (is_empty set.files); assembler = not (is_empty set.files); flag = false; archiver = true; ranlib = false; links = true }
+run_reads set =
+    record {
+      disabled = true;
+      debug = true;
+      compiler = not (is_empty set.files);
+      assembler = not (is_empty set.files);
+      flag = false;
+      archiver = true;
+      ranlib = false;
+      links = true;
+    }
 
 -- the lines that tell Cargo of variables
 abbrev pub rerun_lines : List (List ℕ) → List (List ℕ)
@@ -181,7 +199,8 @@ said_steps listens texts = flat_map (warning_steps false listens) texts
 
 -- these link lines are printed, and then those of these variables
 abbrev pub cargo_steps : Firsts → List LinkLine → List (List ℕ) → List Step
-cargo_steps firsts lines names = prints Link (printed_links firsts.links lines) ++ prints Rerun (rerun_lines (chosen firsts.names names))
+cargo_steps firsts lines names =
+    prints Link (printed_links firsts.links lines) ++ prints Rerun (rerun_lines (chosen firsts.names names))
 
 -- right before those lines a host that listens is told of warnings
 abbrev pub ending_steps : Bool → List (List ℕ) → Firsts → List LinkLine → List (List ℕ) → List Step
@@ -192,22 +211,26 @@ printed_stages listens texts firsts lines names = calls (ending_steps listens te
 
 -- the lines of the variables that a call reads are printed
 abbrev pub name_stages : BuildConfig → EnvSeen → Reads → Look → Firsts → List Stage
-name_stages set env reads look firsts = calls (prints Rerun (rerun_lines (chosen firsts.names (rerun_names reads set env look))))
+name_stages set env reads look firsts =
+    calls (prints Rerun (rerun_lines (chosen firsts.names (rerun_names reads set env look))))
 
--- a host that listens is told of the compiler that decides on the C++ library, the link lines are printed, and then those of the variables that the
--- run read
+-- a host that listens is told of the compiler that decides on the C++ library, the link lines are printed, and then
+-- those of the variables that the run read
 unfoldable pub link_stages : BuildConfig → EnvSeen → Bool → Look → Firsts → List ℕ → List Stage
 link_stages set env listens look firsts output =
-    printed_stages listens (quiet_warnings set env look) firsts (link_lines set env look output) (rerun_names (run_reads set) set env look)
+    printed_stages listens (quiet_warnings set env look) firsts (link_lines set env look output)
+    (rerun_names (run_reads set) set env look)
 
 -- questions on the link lines, which are then printed
 abbrev pub ending_stages : BuildConfig → EnvSeen → Way → Look → List ℕ → List Stage
-ending_stages set env way look output = asked_then (link_refusal set env look) (link_stages set env (is_some way.found.here) look way.firsts output)
+ending_stages set env way look output =
+    asked_then (link_refusal set env look) (link_stages set env (is_some way.found.here) look way.firsts output)
 
 -- the library is written and copied
 abbrev pub writing_stages : BuildConfig → EnvSeen → Writing → Look → List ℕ → List Stage
 writing_stages set env writing look output =
-    ready_stages set env look writing.here output ++ (archive_stages set env look writing output ++ copy_stages set env output)
+    ready_stages set env look writing.here output
+    ++ (archive_stages set env look writing output ++ copy_stages set env output)
 
 -- the old library is removed before
 abbrev pub library_stages : BuildConfig → EnvSeen → Writing → Look → List ℕ → List Stage
@@ -215,24 +238,26 @@ library_stages set env writing look output = removal_stages set env output ++ wr
 
 -- the sources are compiled, and by questions the lines of the variables that the call reads are printed
 abbrev pub told_sources : BuildConfig → EnvSeen → Reads → Found → Look → Firsts → List Stage
-told_sources set env reads found look firsts = compile_stages set env found look ++ Asks ∷ name_stages set env reads look firsts
-
--- the same of a run that is opened, and compiles nothing
-abbrev pub told_opening : BuildConfig → EnvSeen → Reads → Found → Look → Firsts → List Stage
-told_opening set env reads found look firsts =
-    calls (opening_steps set env found look) ++ Asks ∷ name_stages set env reads look firsts
+told_sources set env reads found look firsts =
+    compile_stages set env found look ++ Asks ∷ name_stages set env reads look firsts
 
 -- the same of the library, which is written
 abbrev pub told_library : BuildConfig → EnvSeen → Reads → Writing → Look → Firsts → List ℕ → List Stage
-told_library set env reads writing look firsts output = library_stages set env writing look output ++ Asks ∷ name_stages set env reads look firsts
+told_library set env reads writing look firsts output =
+    library_stages set env writing look output ++ Asks ∷ name_stages set env reads look firsts
 
 -- the stages behind the sources
 unfoldable pub later_stages : BuildConfig → EnvSeen → Way → Look → List ℕ → List Stage
-later_stages set env way look output = asked_then (archive_refusal set env look) (library_stages set env way.writing look output ++ ending_stages set env way look output)
+later_stages set env way look output =
+    asked_then (archive_refusal set env look)
+    (library_stages set env way.writing look output ++ ending_stages set env way look output)
 
--- The stages where commands may run. The questions of each part come right before it, and behind what the answers refuse comes nothing.
+-- The stages where commands may run. The questions of each part come right before it, and behind what the answers
+-- refuse comes nothing.
 abbrev pub asked_stages : BuildConfig → EnvSeen → Way → Look → List ℕ → List Stage
-asked_stages set env way look output = asked_then (late_refusal set env look) (compile_stages set env way.found look ++ later_stages set env way look output)
+asked_stages set env way look output =
+    asked_then (late_refusal set env look)
+    (compile_stages set env way.found look ++ later_stages set env way look output)
 
 -- the stages behind the folder: none where no command may run
 unfoldable pub late_stages : BuildConfig → EnvSeen → Way → Look → List ℕ → List Stage
@@ -240,4 +265,5 @@ late_stages set env way look output = if is_disabled env then [] else asked_stag
 
 -- The stages of a compile run. Settings that are refused before the folder is made have none.
 unfoldable pub planned_stages : BuildConfig → EnvSeen → Way → Look → List ℕ → List Stage
-planned_stages set env way look output = if is_some (early_refusal set env output) then [] else folder_stages set env ++ late_stages set env way look output
+planned_stages set env way look output =
+    if is_some (early_refusal set env output) then [] else folder_stages set env ++ late_stages set env way look output

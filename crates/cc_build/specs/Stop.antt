@@ -41,7 +41,8 @@ why_name Other = codes "other"
 
 -- the program can't be found
 unfoldable pub missing_error : CommandSeen → ErrorSeen
-missing_error cmd = record { kind = ToolNotFound; subject = cmd.program; message = codes "failed to find tool " ++ quoted cmd.program }
+missing_error cmd =
+    record { kind = ToolNotFound; subject = cmd.program; message = codes "failed to find tool " ++ quoted cmd.program }
 
 -- the command ended with another status than 0
 unfoldable pub failed_error : Status → CommandSeen → ErrorSeen
@@ -49,11 +50,17 @@ failed_error status cmd = record { kind = ToolExecError; subject = cmd.program; 
 
 -- the host couldn't run the command
 unfoldable pub unstarted_error : CommandSeen → ErrorSeen
-unstarted_error cmd = record { kind = ToolExecError; subject = cmd.program; message = codes "command " ++ command_line cmd ++ codes " failed to start" }
+unstarted_error cmd =
+    record {
+      kind = ToolExecError;
+      subject = cmd.program;
+      message = codes "command " ++ command_line cmd ++ codes " failed to start";
+    }
 
 -- another call of the host faulted
 unfoldable pub fault_error : HostCall → Why → List ℕ → ErrorSeen
-fault_error call why subject = record { kind = IOError; subject = subject; message = call_name call ++ codes " failed: " ++ why_name why }
+fault_error call why subject =
+    record { kind = IOError; subject = subject; message = call_name call ++ codes " failed: " ++ why_name why }
 
 -- the error of what the host answered in place of a step's end
 abbrev pub host_error : HostError → List ℕ → ErrorSeen

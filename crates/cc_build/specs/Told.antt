@@ -16,23 +16,73 @@ use Rattle.cc_build.specs.Way.{Firsts, Repeats, chosen}
 
 -- what finding the compiler reads variables for
 abbrev pub compiler_reads : Reads
-compiler_reads = record { disabled = false; debug = false; compiler = true; assembler = false; flag = false; archiver = false; ranlib = false; links = false }
+compiler_reads =
+    record {
+      disabled = false;
+      debug = false;
+      compiler = true;
+      assembler = false;
+      flag = false;
+      archiver = false;
+      ranlib = false;
+      links = false;
+    }
 
 -- what asking whether it takes a flag does
 abbrev pub flag_reads : Reads
-flag_reads = record { disabled = false; debug = false; compiler = false; assembler = false; flag = true; archiver = false; ranlib = false; links = false }
+flag_reads =
+    record {
+      disabled = false;
+      debug = false;
+      compiler = false;
+      assembler = false;
+      flag = true;
+      archiver = false;
+      ranlib = false;
+      links = false;
+    }
 
 -- what finding the archiver does
 abbrev pub archiver_reads : Reads
-archiver_reads = record { disabled = false; debug = false; compiler = false; assembler = false; flag = false; archiver = true; ranlib = false; links = false }
+archiver_reads =
+    record {
+      disabled = false;
+      debug = false;
+      compiler = false;
+      assembler = false;
+      flag = false;
+      archiver = true;
+      ranlib = false;
+      links = false;
+    }
 
 -- what finding the tool that writes an index does
 abbrev pub ranlib_reads : Reads
-ranlib_reads = record { disabled = false; debug = false; compiler = false; assembler = false; flag = false; archiver = false; ranlib = true; links = false }
+ranlib_reads =
+    record {
+      disabled = false;
+      debug = false;
+      compiler = false;
+      assembler = false;
+      flag = false;
+      archiver = false;
+      ranlib = true;
+      links = false;
+    }
 
 -- what expanding a source does: it runs a command, unless commands are off
 abbrev pub expand_reads : Reads
-expand_reads = record { disabled = true; debug = true; compiler = true; assembler = false; flag = false; archiver = false; ranlib = false; links = false }
+expand_reads =
+    record {
+      disabled = true;
+      debug = true;
+      compiler = true;
+      assembler = false;
+      flag = false;
+      archiver = false;
+      ranlib = false;
+      links = false;
+    }
 
 -- a line is printed for each of these variables that no other call told of where lines are printed once
 abbrev pub line_steps : List (List ℕ) → Firsts → List Step
@@ -40,7 +90,8 @@ line_steps names firsts = prints Rerun (rerun_lines (chosen firsts.names names))
 
 -- those lines were printed, or the error has its cause
 abbrev pub LinesTold : {T : Type 0} → BuildConfig → List (List ℕ) → Result T ErrorSeen → List Event → Type 0
-LinesTold set names result part = (firsts : Firsts) × (Repeats set firsts × Outcome None (line_steps names firsts) part result)
+LinesTold set names result part =
+    (firsts : Firsts) × (Repeats set firsts × Outcome None (line_steps names firsts) part result)
 
 -- those of the variables that such a call reads
 abbrev pub name_steps : Reads → BuildConfig → EnvSeen → Firsts → Look → List Step
@@ -48,13 +99,18 @@ name_steps reads set env firsts look = line_steps (rerun_names reads set env loo
 
 -- those lines were printed, or the error has its cause
 abbrev pub NamesTold : {T : Type 0} → Reads → BuildConfig → EnvSeen → Result T ErrorSeen → Look → List Event → Type 0
-NamesTold reads set env result look part = (firsts : Firsts) × (Repeats set firsts × Outcome None (name_steps reads set env firsts look) part result)
+NamesTold reads set env result look part =
+    (firsts : Firsts) × (Repeats set firsts × Outcome None (name_steps reads set env firsts look) part result)
 
 -- some steps, unless the settings are refused
 abbrev pub unless_refused : Option ErrorSeen → List Step → List Step
 unless_refused refusal steps = if is_some refusal then [] else steps
 
--- These steps were done, and behind them exactly those lines were printed; or the error has its cause. Where the settings are refused none is.
-abbrev pub DoesAndTells : {T : Type 0} → Reads → BuildConfig → EnvSeen → Option ErrorSeen → List Step → Result T ErrorSeen → Look → List Event → Type 0
+-- These steps were done, and behind them exactly those lines were printed; or the error has its cause. Where the
+-- settings are refused none is.
+abbrev pub DoesAndTells : {T : Type 0} → Reads → BuildConfig → EnvSeen → Option ErrorSeen → List Step
+    → Result T ErrorSeen → Look → List Event → Type 0
 DoesAndTells reads set env refusal steps result look part =
-    (firsts : Firsts) × (Repeats set firsts × Outcome refusal (steps ++ unless_refused refusal (name_steps reads set env firsts look)) part result)
+    (firsts : Firsts)
+    × (Repeats set firsts
+    × Outcome refusal (steps ++ unless_refused refusal (name_steps reads set env firsts look)) part result)

@@ -58,7 +58,8 @@ ranlib_error set env look = option_map (plan_error set env []) (ranlib_refusal s
 
 -- beside the questions the lines of the variables that were read were printed alone, or the error has its cause
 abbrev pub ArchiverEnds : {T : Type 0} → BuildConfig → EnvSeen → Result T ErrorSeen → Look → List Event → Type 0
-ArchiverEnds set env result look part = DoesAndTells archiver_reads set env (archiver_error set env look) [] result look part
+ArchiverEnds set env result look part =
+    DoesAndTells archiver_reads set env (archiver_error set env look) [] result look part
 
 abbrev pub RanlibEnds : {T : Type 0} → BuildConfig → EnvSeen → Result T ErrorSeen → Look → List Event → Type 0
 RanlibEnds set env result look part = DoesAndTells ranlib_reads set env (ranlib_error set env look) [] result look part

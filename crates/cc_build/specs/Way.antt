@@ -41,15 +41,18 @@ pub record Way : Type 0 where
   -- which of the lines that are printed once it prints
   pub firsts : Firsts
 
+abbrev pub way_of : Found → Writing → Firsts → Way
+way_of found writing firsts = record { found = found; writing = writing; firsts = firsts }
+
 -- where lines are repeated, each run prints them all
 abbrev pub Repeats : BuildConfig → Firsts → Type 0
 Repeats set firsts = set.repeat_lines ≡ true → firsts ≡ all_firsts
 
--- those of some names that are chosen, and those past the last choice
-abbrev pub chosen : List Bool → List (List ℕ) → List (List ℕ)
-chosen [] names = names
-chosen (is_new ∷ choices) [] = []
-chosen (is_new ∷ choices) (name ∷ names) = when is_new (name ∷ []) ++ chosen choices names
+-- those of some things that are chosen, and those past the last choice
+abbrev pub chosen : {X : Type 0} → List Bool → List X → List X
+chosen [] xs = xs
+chosen (choice ∷ choices) [] = []
+chosen (choice ∷ choices) (x ∷ xs) = when choice (x ∷ []) ++ chosen choices xs
 
 -- these are some of the names, in order
 abbrev pub AreChosen : List (List ℕ) → List (List ℕ) → Type 0
@@ -57,4 +60,5 @@ AreChosen names printed = (choices : List Bool) × (printed ≡ chosen choices n
 
 -- these are all names where lines are repeated, and else some of them
 abbrev pub AreFirsts : BuildConfig → List (List ℕ) → List (List ℕ) → Type 0
-AreFirsts set names printed = (choices : List Bool) × ((set.repeat_lines ≡ true → choices ≡ []) × (printed ≡ chosen choices names))
+AreFirsts set names printed =
+    (choices : List Bool) × ((set.repeat_lines ≡ true → choices ≡ []) × (printed ≡ chosen choices names))

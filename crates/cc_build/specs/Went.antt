@@ -23,7 +23,8 @@ use Rattle.cc_build.specs.Stage.{Stage}
 use Rattle.cc_build.specs.Stage.Stage.{Calls, Asks, Tries, RunsOne, RunsAll}
 use Rattle.cc_build.specs.Stop.{stop_error}
 
--- what a run is given: what it shows, the total of its pool where one caller owns it, and the patience of its host where it is known
+-- what a run is given: what it shows, the total of its pool where one caller owns it, and the patience of its host
+-- where it is known
 pub record Terms : Type 0 where
   pub shows : Shows
   pub total : Option ℕ
@@ -63,17 +64,20 @@ abbrev pub begins : Terms → List Event → SeatSeen → Turns → State
 begins t log seat turns = record { log = log; patience = t.patience; kept = nothing_kept; seat = seat; turns = turns }
 
 -- these commands were run beside each other, from a log on by this part, and the lines are those that its events give
-pub record RanAll (t : Terms) (ps : List Planned) (part : List Event) (result : Result (Unit {0}) RunError) (x y : Means) : Type 0 where
+pub record RanAll (t : Terms) (ps : List Planned) (part : List Event) (result : Result (Unit {0}) RunError)
+    (x y : Means) : Type 0 where
   pub log : List Event
   pub before : ℕ
   pub behind : ℕ
   pub least : IfSome t.patience (λ most. 1 ≤ most)
-  pub run : RanList (beside_rules t ps) t.total (begins t log (idle_seat t.total x) (turns_at x before)) result (log ++ part) t.patience
+  pub run : RanList (beside_rules t ps) t.total (begins t log (idle_seat t.total x) (turns_at x before)) result
+      (log ++ part) t.patience
       (idle_seat t.total y) (turns_at y behind)
   pub lines : IsPrinted (beside_rules t ps) nothing_kept result part
 
 -- this command was run alone, on a seat of a pool of one, which never fails
-pub record RanOne (t : Terms) (p : Planned) (part : List Event) (result : Result (Unit {0}) RunError) (x y : Means) : Type 0 where
+pub record RanOne (t : Terms) (p : Planned) (part : List Event) (result : Result (Unit {0}) RunError)
+    (x y : Means) : Type 0 where
   pub log : List Event
   pub before : ℕ
   pub behind : ℕ
@@ -81,7 +85,8 @@ pub record RanOne (t : Terms) (p : Planned) (part : List Event) (result : Result
   pub new : SeatSeen
   pub sound : (old.faults ≡ 0) × (new.faults ≡ 0)
   pub least : IfSome t.patience (λ most. 1 ≤ most)
-  pub run : RanList (alone_rules t p) (Some 1) (begins t log old (turns_at x before)) result (log ++ part) t.patience new (turns_at y behind)
+  pub run : RanList (alone_rules t p) (Some 1) (begins t log old (turns_at x before)) result
+      (log ++ part) t.patience new (turns_at y behind)
   pub lines : IsPrinted (alone_rules t p) nothing_kept result part
   pub seat : (y.faults ≡ x.faults) × (y.taken ≡ x.taken) × (y.load ≡ x.load)
 
@@ -107,7 +112,8 @@ Did t (RunsAll ps) part x y = RanAll t ps part (Ok tt) x y
 -- the part did these stages, one after another
 abbrev pub Went : Terms → List Stage → List Event → Means → Means → Type 0
 Went t [] part x y = (part ≡ []) × (y ≡ x)
-Went t (s ∷ ss) part x z = (front rest : List Event) × (y : Means) × ((part ≡ front ++ rest) × Did t s front x y × Went t ss rest y z)
+Went t (s ∷ ss) part x z =
+    (front rest : List Event) × (y : Means) × ((part ≡ front ++ rest) × Did t s front x y × Went t ss rest y z)
 
 -- this is the error, or memory for its texts was wanted
 abbrev pub IsOf : ErrorSeen → ErrorSeen → Type 0
@@ -115,20 +121,27 @@ IsOf is e = (e ≡ no_memory) ⊎ (e ≡ is)
 
 -- The part refused this stage. Questions are refused for want of memory alone.
 abbrev pub Stops : Terms → Stage → List Event → ErrorSeen → Means → Means → Type 0
-Stops t (Calls step) part e x y = (event : Event) × ((part ≡ event ∷ []) × Refuses step event × IsOf (stop_error step event) e × (y ≡ x))
+Stops t (Calls step) part e x y =
+    (event : Event) × ((part ≡ event ∷ []) × Refuses step event × IsOf (stop_error step event) e × (y ≡ x))
 Stops t Asks part e x y = (e ≡ no_memory) × (list_all is_asked part ≡ true) × (y ≡ x)
-Stops t (Tries refused p) part e x y = (error : RunError) × ((is_refusal error ≡ false) × IsSilentRun t.shows p (Err error) part × IsOf (run_error (p ∷ []) error) e × (y ≡ x))
-Stops t (RunsOne p) part e x y = (error : RunError) × (RanOne t p part (Err error) x y × IsOf (run_error (p ∷ []) error) e)
+Stops t (Tries refused p) part e x y =
+    (error : RunError)
+    × ((is_refusal error ≡ false) × IsSilentRun t.shows p (Err error) part × IsOf (run_error (p ∷ []) error) e
+    × (y ≡ x))
+Stops t (RunsOne p) part e x y =
+    (error : RunError) × (RanOne t p part (Err error) x y × IsOf (run_error (p ∷ []) error) e)
 Stops t (RunsAll ps) part e x y = (error : RunError) × (RanAll t ps part (Err error) x y × IsOf (run_error ps error) e)
 
--- The run ended before these stages, since memory was wanted, or the first of them was refused. Behind the last one it ended since the settings
--- are refused.
+-- The run ended before these stages, since memory was wanted, or the first of them was refused. Behind the last one it
+-- ended since the settings are refused.
 abbrev pub Halts : Terms → Option ErrorSeen → List Stage → List Event → ErrorSeen → Means → Means → Type 0
-Halts t refusal [] part e x y = ((e ≡ no_memory) ⊎ (refusal ≡ Some e)) × (part ≡ []) × (y ≡ x) × (is_some refusal ≡ true)
+Halts t refusal [] part e x y =
+    ((e ≡ no_memory) ⊎ (refusal ≡ Some e)) × (part ≡ []) × (y ≡ x) × (is_some refusal ≡ true)
 Halts t refusal (s ∷ ss) part e x y = ((e ≡ no_memory) × (part ≡ []) × (y ≡ x)) ⊎ Stops t s part e x y
 
 -- the first stages were done, and there the run ended
-pub record Halted (t : Terms) (refusal : Option ErrorSeen) (stages : List Stage) (part : List Event) (e : ErrorSeen) (x z : Means) : Type 0 where
+pub record Halted (t : Terms) (refusal : Option ErrorSeen) (stages : List Stage) (part : List Event)
+    (e : ErrorSeen) (x z : Means) : Type 0 where
   pub before : List Stage
   pub after : List Stage
   pub front : List Event
@@ -140,14 +153,19 @@ pub record Halted (t : Terms) (refusal : Option ErrorSeen) (stages : List Stage)
   pub halts : Halts t refusal after rest e y z
 
 -- Ok: nothing is refused, and all stages were done. Else the first ones were, and the error has its cause.
-abbrev pub Ends : {T : Type 0} → Terms → Option ErrorSeen → List Stage → List Event → Result T ErrorSeen → Means → Means → Type 0
+abbrev pub Ends : {T : Type 0} → Terms → Option ErrorSeen → List Stage → List Event → Result T ErrorSeen → Means
+    → Means → Type 0
 Ends t refusal stages part (Ok _) x y = (refusal ≡ None) × Went t stages part x y
 Ends t refusal stages part (Err e) x y = Halted t refusal stages part e x y
 
 -- the first of these stages were done, and the next one was refused, or not begun
 abbrev pub Partly : Terms → List Stage → List Event → Means → Means → Type 0
 Partly t [] part x z = (part ≡ []) × (z ≡ x)
-Partly t (s ∷ ss) part x z = ((part ≡ []) × (z ≡ x)) ⊎ (((e : ErrorSeen) × Stops t s part e x z) ⊎ ((front rest : List Event) × (y : Means) × ((part ≡ front ++ rest) × Did t s front x y × Partly t ss rest y z)))
+Partly t (s ∷ ss) part x z =
+    ((part ≡ []) × (z ≡ x))
+    ⊎ (((e : ErrorSeen) × Stops t s part e x z)
+    ⊎ ((front rest : List Event) × (y : Means)
+    × ((part ≡ front ++ rest) × Did t s front x y × Partly t ss rest y z)))
 
 -- the same, from and to whatever is left
 abbrev pub Goes : Terms → List Stage → List Event → Type 0

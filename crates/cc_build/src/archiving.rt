@@ -117,13 +117,14 @@ fn archive_and_tell<W: World, H: Host<W>, J: Jobs>(
 }
 
 impl<W: World> Build<W> {
-    /// Archives these objects, and then the added ones, into the library of `output`, as `try_compile` does with those of its sources,
-    /// prints the lines of the variables that were read for it, where they are wanted, and answers the library's path. Sources don't count,
-    /// and no link line is printed. At most `turns` turns are made.
+    /// Archives these objects, and then the added ones, into the library of `output`, as `try_compile` does with those
+    /// of its sources, prints the lines of the variables that were read for it, where they are wanted, and answers the
+    /// library's path. Sources don't count, and no link line is printed. At most `turns` turns are made.
     ///
-    /// Refused, in this order, where the output names no library, no command may run (Disabled), the out dir is set nowhere or empty, or an
-    /// object is the library; then as `try_compile` is behind the sources, and where a line couldn't be printed. After a refusal every
-    /// command that was started has ended or is left alone. The build is as before.
+    /// Refused, in this order, where the output names no library, no command may run (Disabled), the out dir is set
+    /// nowhere or empty, or an object is the library; then as `try_compile` is behind the sources, and where a line
+    /// couldn't be printed. After a refusal every command that was started has ended or is left alone. The build is as
+    /// before.
     #[tactic(auto, using(cc_host::proofs::Parts::since_append))]
     pub fn try_create_archive<H: Host<W>>(
         &self,

@@ -1,5 +1,5 @@
-// The sources of a run are compiled. Before it the host is given the warnings of the plan, and one that listens is asked for the current folder,
-// which the messages of the commands name.
+// A run is opened: the host is given the warnings of the plan, and one that listens is asked for the current folder,
+// which the messages of the commands name. The commands that compile its sources are made, and run.
 ghost use Rattle.std.specs.Prelude.{◌≡◌, ◌≢◌, ◌+◌, ◌<◌, ◌^◌, [], ◌∷◌, ◌++◌, map, option_to_list, IfOk, IfErr, OnOk};
 ghost use Rattle.std.specs.List.{flat_map, slice_get};
 ghost use Rattle.std.specs.Option.{option_copied, option_map};
@@ -12,19 +12,20 @@ ghost use Rattle.cc_host.specs.declared.event.Message.TheVariants.{GeneralWarnin
 ghost use Rattle.cc_plan.specs.Link.{printed_line};
 ghost use Rattle.cc_plan.specs.Plan.{warning_line, warning_steps};
 ghost use Rattle.cc_run.specs.Keeping.{IsIdle};
-ghost use Rattle.cc_build.specs.Course.{OnCourse};
+ghost use Rattle.cc_build.specs.Course.{OnCourse, Does};
 ghost use Rattle.cc_build.specs.Kept.{Aside};
-ghost use Rattle.cc_build.specs.Phases.{HereEnds, OpensEnd, CommandsEnd, PlanEnds};
+ghost use Rattle.cc_build.specs.Phases.{HereEnds, OpensEnd, CommandsEnd};
 ghost use Rattle.cc_build.specs.Seen.{stages_seen, compiles_by, Adds};
 ghost use Rattle.cc_build.specs.Stage.{calls, beside, compile_planned};
 
 use crate::Error;
 use crate::message::{host_error, or_no_memory};
+use crate::reporting::Reporting;
 use crate::several::Several;
 use crate::stage::{Stage, alone, do_stages};
 use crate::task::Task;
 use cc_host::{Command, CompileCommand, Host, LineKind, Message, Role, World};
-use cc_jobs::Jobs;
+use cc_jobs::{Jobs, OneCaller};
 use cc_plan::{Object, Plan, warning_line};
 use cc_run::{Planned, Turns};
 use cc_text::{Mem, Text, Words};
@@ -157,22 +158,15 @@ fn compiles_by(
     Ok(planned)
 }
 
-// The stages in which these objects are compiled, beside each other where there is more than one. Memory is wanted only where there is one.
-fn compiling(
-    alloc: Global,
-    here: Option<&str>,
-    objects: &[Object],
-    cmds: &[Command],
-) -> Mem<Vec<Stage>>
-    ensures planned { IfOk result (λ stages. stages_seen stages.items
-        ≡ beside (compiles_by (option_copied here.entry) objects.now cmds.now)) }
-    ensures wanted { IfErr result (λ _.
-        beside (compiles_by (option_copied here.entry) objects.now cmds.now) ≢ []) }
+// The stages in which these commands run, beside each other where there is more than one. Memory is wanted only where
+// there is one.
+fn stages_beside(alloc: Global, cmds: Vec<Planned>) -> Mem<Vec<Stage>>
+    ensures planned { IfOk result (λ stages. stages_seen stages.items ≡ beside cmds.items) }
+    ensures wanted { IfErr result (λ _. beside cmds.items ≢ []) }
 {
-    if objects.is_empty() || cmds.is_empty() {
+    if cmds.is_empty() {
         return Ok(Vec::new(alloc));
     }
-    let cmds = compiles_by(alloc, here, objects, cmds)?;
     if cmds.len() < 2 {
         return alone(alloc, cmds);
     }
@@ -181,7 +175,32 @@ fn compiling(
     Ok(stages)
 }
 
-/// Asks for the current folder, where it is wanted: of a host that listens, and before commands that run in the library's folder.
+/// Runs these commands, beside each other where there is more than one.
+#[tactic(auto, using(crate::proofs::Keeping::aside_none))]
+pub(crate) fn run_beside<W: World, H: Host<W>, J: Jobs>(
+    reporting: Reporting,
+    host: &mut H,
+    jobs: &J,
+    seat: &mut J::Seat,
+    turns: &mut Turns,
+    cmds: Vec<Planned>,
+) -> Result<(), Error>
+    requires idle { IsIdle J.fits J.held jobs.now seat.old }
+    requires few { turns.old.left + turns.old.used < 2 ^ 64 }
+    ensures idle { IsIdle J.fits J.held jobs.now seat.new }
+    ensures total { J.total seat.new ≡ J.total seat.old }
+    ensures aside { Aside H.log H.patience host.old host.new }
+    ensures sum { turns.new.left + turns.new.used ≡ turns.old.left + turns.old.used }
+    ensures outcome { OnCourse H.log H.patience J.total J.faults J.taken J.load
+        turns.old.left turns.new.left
+        host.old host.new seat.old seat.new (Does reporting.shows (beside cmds.items) result) }
+{
+    let stages = stages_beside(reporting.alloc, cmds)?;
+    do_stages(reporting, host, jobs, seat, turns, &stages)
+}
+
+/// Asks for the current folder, where it is wanted: of a host that listens, and before commands that run in the
+/// library's folder.
 #[tactic(auto, using(cc_host::proofs::Parts::since_append))]
 pub(crate) fn find_here<W: World, H: Host<W>>(
     alloc: Global,
@@ -200,29 +219,21 @@ pub(crate) fn find_here<W: World, H: Host<W>>(
     }
 }
 
-// Gives the host these warnings, and asks it for the current folder where it listens.
+// Gives the host these warnings, and asks it for the current folder where it listens. It takes no token.
 #[tactic(auto, using(crate::proofs::Keeping::aside_none, crate::proofs::Keeping::aside_then))]
-fn open<W: World, H: Host<W>, J: Jobs>(
+fn open<W: World, H: Host<W>>(
     task: &Task<'_>,
     host: &mut H,
-    jobs: &J,
-    seat: &mut J::Seat,
-    turns: &mut Turns,
     texts: &Words,
 ) -> Result<Option<Text>, Error>
-    requires idle { IsIdle J.fits J.held jobs.now seat.old }
-    requires few { turns.old.left + turns.old.used < 2 ^ 64 }
-    ensures idle { IsIdle J.fits J.held jobs.now seat.new }
-    ensures total { J.total seat.new ≡ J.total seat.old }
     ensures aside { Aside H.log H.patience host.old host.new }
-    ensures sum { turns.new.left + turns.new.used ≡ turns.old.left + turns.old.used }
-    ensures outcome { OnCourse H.log H.patience J.total J.faults J.taken J.load
-        turns.old.left turns.new.left
-        host.old host.new seat.old seat.new (OpensEnd task.now texts.now result) }
+    ensures outcome { OpensEnd task.now texts.now result (part H.log host.old host.new) }
 {
     let (alloc, listens) = (task.reporting.alloc, task.reporting.shows.listens);
     let stages = warnings_of(alloc, task.set.cargo_warnings, listens, texts)?;
-    do_stages(task.reporting, host, jobs, seat, turns, &stages)?;
+    let (jobs, mut seat) = OneCaller::new(1);
+    let mut turns = Turns { left: 0, used: 0 };
+    do_stages(task.reporting, host, &jobs, &mut seat, &mut turns, &stages)?;
     find_here(alloc, host, listens)
 }
 
@@ -236,56 +247,21 @@ fn known(here: &Option<Text>) -> Option<&str>
     }
 }
 
-/// Gives the host the warnings of a plan, asks it for the current folder where it listens, and makes the commands that compile these objects.
+/// Gives the host the warnings of a plan, asks it for the current folder where it listens, and makes the commands that
+/// compile these objects.
 #[tactic(auto, using(crate::proofs::Keeping::aside_then))]
-pub(crate) fn open_commands<W: World, H: Host<W>, J: Jobs>(
+pub(crate) fn open_commands<W: World, H: Host<W>>(
     task: &Task<'_>,
     host: &mut H,
-    jobs: &J,
-    seat: &mut J::Seat,
-    turns: &mut Turns,
     plan: &Plan,
     objects: &[Object],
 ) -> Result<Vec<Planned>, Error>
-    requires idle { IsIdle J.fits J.held jobs.now seat.old }
-    requires few { turns.old.left + turns.old.used < 2 ^ 64 }
-    ensures idle { IsIdle J.fits J.held jobs.now seat.new }
-    ensures total { J.total seat.new ≡ J.total seat.old }
     ensures aside { Aside H.log H.patience host.old host.new }
-    ensures sum { turns.new.left + turns.new.used ≡ turns.old.left + turns.old.used }
-    ensures outcome { OnCourse H.log H.patience J.total J.faults J.taken J.load
-        turns.old.left turns.new.left
-        host.old host.new seat.old seat.new (CommandsEnd task.now plan.now objects.now result) }
+    ensures outcome { CommandsEnd task.now plan.now objects.now result
+        (part H.log host.old host.new) }
 {
-    let here = open(task, host, jobs, seat, turns, &plan.warnings)?;
+    let here = open(task, host, &plan.warnings)?;
     let cmds = plan.compiles.as_slice();
     let commands = compiles_by(task.reporting.alloc, known(&here), objects, cmds)?;
     Ok(commands)
-}
-
-/// Does what is planned for these objects.
-#[tactic(auto, using(crate::proofs::Keeping::aside_then))]
-pub(crate) fn do_plan<W: World, H: Host<W>, J: Jobs>(
-    task: &Task<'_>,
-    host: &mut H,
-    jobs: &J,
-    seat: &mut J::Seat,
-    turns: &mut Turns,
-    plan: &Plan,
-    objects: &[Object],
-) -> Result<(), Error>
-    requires idle { IsIdle J.fits J.held jobs.now seat.old }
-    requires few { turns.old.left + turns.old.used < 2 ^ 64 }
-    ensures idle { IsIdle J.fits J.held jobs.now seat.new }
-    ensures total { J.total seat.new ≡ J.total seat.old }
-    ensures aside { Aside H.log H.patience host.old host.new }
-    ensures sum { turns.new.left + turns.new.used ≡ turns.old.left + turns.old.used }
-    ensures outcome { OnCourse H.log H.patience J.total J.faults J.taken J.load
-        turns.old.left turns.new.left
-        host.old host.new seat.old seat.new (PlanEnds task.now plan.now objects.now result) }
-{
-    let here = open(task, host, jobs, seat, turns, &plan.warnings)?;
-    let cmds = plan.compiles.as_slice();
-    let stages = compiling(task.reporting.alloc, known(&here), objects, cmds)?;
-    do_stages(task.reporting, host, jobs, seat, turns, &stages)
 }

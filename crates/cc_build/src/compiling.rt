@@ -8,30 +8,27 @@ ghost use Rattle.cc_run.specs.Keeping.{IsIdle};
 ghost use Rattle.cc_build.specs.Build.{AsksByRun};
 ghost use Rattle.cc_build.specs.Course.{CallsEnd, ByRun};
 ghost use Rattle.cc_build.specs.Kept.{Aside, AsksFor};
-ghost use Rattle.cc_build.specs.Phases.{ByKnown, AskedEnds};
+ghost use Rattle.cc_build.specs.Phases.{ByKnown, PartsEnd};
 ghost use Rattle.cc_build.specs.Promises.{RunEnds};
 ghost use Rattle.cc_build.specs.Stage.{run_reads, run_reads as reads_of};
 
+use crate::compiles::run_beside;
 use crate::goal::Goal;
-use crate::message::or_no_memory;
-use crate::phases::{archive_objects, compile_sources, print_links};
-use crate::refusal::{disabled, plan_error};
-use crate::reporting::Reporting;
+use crate::phases::{archive_objects, print_links};
 use crate::run::make_folder;
-use crate::shows::shows_of;
-use crate::task::{Shared, Task};
+use crate::task::Shared;
 use crate::{Build, Error};
 use cc_env::BuildEnv;
 use cc_host::{Host, World};
 use cc_jobs::Jobs;
-use cc_plan::{BuildConfig, Reads, is_disabled, plan_sources};
-use cc_run::Turns;
+use cc_plan::{BuildConfig, Reads};
+use cc_run::{Planned, Turns};
 use cc_tool::Answers;
 use std::alloc::Global;
 use std::sync::Wait;
 
-// What a run reads variables for.
-fn run_reads(set: &BuildConfig) -> Reads
+/// What a run reads variables for.
+pub(crate) fn run_reads(set: &BuildConfig) -> Reads
     ensures { result ≡ reads_of set.now }
 {
     Reads {
@@ -68,14 +65,15 @@ pub(crate) fn prepare_folder<W: World, H: Host<W>>(
     make_folder(alloc, host, dir)
 }
 
-// Does the parts behind the folder, one after another. A question is asked once in all of them.
+// Runs these commands, archives all objects, and prints the lines for Cargo.
 #[tactic(auto, using(cc_host::proofs::Parts::since_append))]
-fn run_parts<W: World, H: Host<W>, J: Jobs>(
+pub(crate) fn run_parts<W: World, H: Host<W>, J: Jobs>(
     rt: &impl Wait,
     shared: &Shared<'_, W, J>,
     host: &mut H,
     seat: &mut J::Seat,
     turns: &mut Turns,
+    cmds: Vec<Planned>,
     answers: &mut Answers,
 ) -> Result<(), Error>
     requires idle { IsIdle J.fits J.held shared.now.jobs.now seat.old }
@@ -95,9 +93,9 @@ fn run_parts<W: World, H: Host<W>, J: Jobs>(
         host.old host.new answers.old answers.new }
     ensures outcome { ByKnown answers.new
         H.log H.patience J.total J.faults J.taken J.load turns.old.left turns.new.left
-        host.old host.new seat.old seat.new (AskedEnds shared.now.task result) }
+        host.old host.new seat.old seat.new (PartsEnd shared.now.task cmds.items result) }
 {
-    match compile_sources(rt, shared, host, seat, turns, answers) {
+    match run_beside(shared.task.reporting, host, shared.jobs, seat, turns, cmds) {
         Ok(()) => {}
         Err(error) => return Err(error),
     }
@@ -109,7 +107,7 @@ fn run_parts<W: World, H: Host<W>, J: Jobs>(
 }
 
 impl<W: World> Build<W> {
-    // Checks the settings, makes the folder, and does the parts behind it. No question is asked where no command may run.
+    // Plans the run, and does it whole.
     #[tactic(auto, using(cc_host::proofs::Parts::since_append))]
     pub(crate) fn compile<H: Host<W>, J: Jobs>(
         &self,
@@ -129,35 +127,12 @@ impl<W: World> Build<W> {
             host.old host.new seat.old seat.new
             (RunEnds self.now (H.listens host.old) goal.entry.output.now result) }
     {
-        let (alloc, set, env, output) = (self.alloc, &self.config, &self.env, goal.output);
-        let shows = shows_of(set, env, host.listens());
-        let sources = match plan_sources(alloc, set, env, output) {
-            Ok(sources) => sources,
-            Err(error) => return Err(or_no_memory(plan_error(alloc, set, env, output, error))),
+        let mut answers = Answers::new(self.alloc);
+        let plan = match self.plan_run(rt, host, goal.output, &mut answers) {
+            Ok(plan) => plan,
+            Err(error) => return Err(error),
         };
-        prepare_folder(alloc, host, set, env, sources.dir.as_str())?;
-        if is_disabled(env) {
-            return Err(or_no_memory(disabled(alloc)));
-        }
-        let mut answers = Answers::new(alloc);
-        let mut turns = Turns {
-            left: goal.turns,
-            used: 0,
-        };
-        let reporting = Reporting { alloc, shows };
-        let task = Task {
-            reporting,
-            set,
-            env,
-            output,
-        };
-        let shared = Shared {
-            task,
-            jobs,
-            caches: &self.caches,
-            sources: &sources,
-            reads: run_reads(set),
-        };
-        run_parts(rt, &shared, host, seat, &mut turns, &mut answers)
+        let (turns, output) = (goal.turns, goal.output);
+        self.run_plan(rt, host, jobs, seat, turns, output, plan, &[], &mut answers)
     }
 }

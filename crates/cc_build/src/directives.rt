@@ -1,5 +1,5 @@
-// What is printed for Cargo at the end of a call: how the library is linked, and by which variables the build script is to run again. Right before it a
-// host that listens is told of the compiler that decides on the C++ library.
+// What is printed for Cargo at the end of a call: how the library is linked, and by which variables the build script is
+// to run again. Right before it a host that listens is told of the compiler that decides on the C++ library.
 ghost use Rattle.std.specs.Prelude.{◌≡◌, ◌++◌, [], ◌∷◌, true, IfOk, OnOk};
 ghost use Rattle.cc_text.specs.Words.{when};
 ghost use Rattle.cc_host.specs.declared.event.LineKind.TheVariants.{Link, Rerun};
@@ -58,8 +58,8 @@ fn is_new<W: World>(rt: &impl Wait, caches: &Caches<W>, lines: &[LinkLine]) -> M
     Ok(true)
 }
 
-// Whether this run, of those that share its caches, is the one that prints the line that is printed once. No clause says which run it is, since
-// the mark stands behind a lock.
+// Whether this run, of those that share its caches, is the one that prints the line that is printed once. No clause
+// says which run it is, since the mark stands behind a lock.
 fn is_first_link<W: World>(
     rt: &impl Wait,
     caches: &Caches<W>,
@@ -112,8 +112,9 @@ fn new_names<W: World>(
     Ok(printed)
 }
 
-// The names of variables that this run tells Cargo of: all of them where lines are repeated, else those that no other run told of those that
-// share its caches. No clause says which run tells of which, since what was told stands behind a lock.
+// The names of variables that this run tells Cargo of: all of them where lines are repeated, else those that no other
+// run told of those that share its caches. No clause says which run tells of which, since what was told stands behind a
+// lock.
 fn first_names<W: World>(
     rt: &impl Wait,
     alloc: Global,
@@ -147,8 +148,8 @@ fn rerun_lines(alloc: Global, names: &[Text]) -> Mem<Words>
     Ok(lines)
 }
 
-// What is done with them as stages: the warnings are said where the host listens, and the link lines that this run prints are printed, and then
-// those of the names.
+// What is done with them as stages: the warnings are said where the host listens, and the link lines that this run
+// prints are printed, and then those of the names.
 fn cargo_stages(
     alloc: Global,
     listens: bool,

@@ -99,7 +99,8 @@ fn flags_read(alloc: Global, set: &BuildConfig, env: &BuildEnv, name: &str) -> M
     in_order(alloc, &names)
 }
 
-/// The flags of a build, and behind them those of a variable. The lines of the variables that were read for them are printed.
+/// The flags of a build, and behind them those of a variable. The lines of the variables that were read for them are
+/// printed.
 #[tactic(auto, using(crate::proofs::Keeping::aside_none))]
 pub(crate) fn told_flags<W: World, H: Host<W>>(
     rt: &impl Wait,

@@ -12,26 +12,29 @@ use std::marker::Model;
 /// What kind an error is of. Each has the value that it is about as its subject.
 #[derive(Clone, Copy, Debug, PartialEq, Eq)]
 pub enum ErrorKind {
-    /// The host couldn't make a folder or remove a file (the subject is its path), print or list its variables (no subject); no token
-    /// could be asked for (no subject); or a flag couldn't be tried, since the compiler is missing or gave no answer (its path).
+    /// The host couldn't make a folder or remove a file (the subject is its path), print or list its variables (no
+    /// subject); no token could be asked for (no subject); or a flag couldn't be tried, since the compiler is missing
+    /// or gave no answer (its path).
     IOError,
-    /// A value is wanted that neither a setting nor a variable gives: the subject is the variable, as `OUT_DIR`, `TARGET`, `HOST`,
-    /// `OPT_LEVEL` or `WASM_MUSL_SYSROOT`, or the one whose flags were asked for.
+    /// A value is wanted that neither a setting nor a variable gives: the subject is the variable, as `OUT_DIR`,
+    /// `TARGET`, `HOST`, `OPT_LEVEL` or `WASM_MUSL_SYSROOT`, or the one whose flags were asked for.
     EnvVarNotFound,
-    /// A command ended with another status than 0, or couldn't be run: the subject is its program. Or running commands couldn't be waited
-    /// for: no subject.
+    /// A command ended with another status than 0, or couldn't be run: the subject is its program. Or running commands
+    /// couldn't be waited for: no subject.
     ToolExecError,
     /// A program can't be found: the subject is the program.
     ToolNotFound,
-    /// An argument is wrong. The output names no library: the subject is the output; the out dir is empty: no subject; a source has no
-    /// file name: the source; two sources have one object: the object; an added object is the library: that object.
+    /// An argument is wrong. The output names no library: the subject is the output; the out dir is empty: no subject;
+    /// a source has no file name: the source; two sources have one object: the object; an added object is the library:
+    /// that object.
     InvalidArgument,
     /// A tool has no name for the target's architecture, which is the subject: QNX's compilers alone.
     InvalidTarget,
-    /// A flag of Rust code that Cargo hands down lacks the value that it needs, or has a wrong one: the subject is its key, as
-    /// `-Cdwarf-version`.
+    /// A flag of Rust code that Cargo hands down lacks the value that it needs, or has a wrong one: the subject is its
+    /// key, as `-Cdwarf-version`.
     InvalidFlag,
-    /// The target isn't among the known ones, and it isn't Cargo's or isn't one that Cargo describes: the subject is its name.
+    /// The target isn't among the known ones, and it isn't Cargo's or isn't one that Cargo describes: the subject is
+    /// its name.
     UnknownTarget,
     /// `CC_FORCE_DISABLE` is true, so no command may run: the subject is that name.
     Disabled,
@@ -65,8 +68,8 @@ impl Model for Error {
 }
 
 impl Error {
-    /// An error of this kind, subject and message. Of kind NoMemory it has neither, and the caller sees to it that both are empty.
-    /// Refused only for memory.
+    /// An error of this kind, subject and message. Of kind NoMemory it has neither, and the caller sees to it that both
+    /// are empty. Refused only for memory.
     pub fn of(alloc: Global, kind: ErrorKind, subject: &str, message: &str) -> Mem<Error>
         requires { kind ≡ OutOfMemory → (subject.now ≡ []) × (message.now ≡ []) }
         ensures { IfOk result
@@ -107,8 +110,8 @@ impl Error {
         }
     }
 
-    /// The value that it is about, as its kind says: a variable's name, a target, a path, a program or an output. Empty where it is about
-    /// none.
+    /// The value that it is about, as its kind says: a variable's name, a target, a path, a program or an output. Empty
+    /// where it is about none.
     pub fn subject(&self) -> &str
         ensures { result.now ≡ self.now.subject }
     {
@@ -118,8 +121,8 @@ impl Error {
         }
     }
 
-    /// The message for the user: one text without a line feed of its own, and without the kind. Empty where memory was refused. What it
-    /// quotes, as a command, stands in it as `command_line` writes it.
+    /// The message for the user: one text without a line feed of its own, and without the kind. Empty where memory was
+    /// refused. What it quotes, as a command, stands in it as `command_line` writes it.
     pub fn message(&self) -> &str
         ensures { result.now ≡ self.now.message }
     {

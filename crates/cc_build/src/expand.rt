@@ -110,7 +110,8 @@ fn expand_by<W: World, H: Host<W>>(
     }
 }
 
-// Checks the build, finds its compiler by the first questions of the call, prints the warnings of its plan, and expands the source.
+// Checks the build, finds its compiler by the first questions of the call, prints the warnings of its plan, and expands
+// the source.
 #[tactic(auto, using(cc_host::proofs::Parts::since_append))]
 fn expand_source<W: World, H: Host<W>>(
     rt: &impl Wait,
@@ -173,16 +174,17 @@ fn told_expand<W: World, H: Host<W>>(
 }
 
 impl<W: World> Build<W> {
-    /// Expands the source: runs the compiler with `-E` on it, and answers the bytes of its standard output, as they are. The build has one
-    /// source alone. To find the compiler it is asked as `try_get_compiler` does, and the warnings of its plan are printed; then the command
-    /// is run to its end, and the lines of its standard error are printed as warnings, however it ended, where they are on. The line in which
-    /// Visual Studio's compiler names the source is left out. Last are the lines of the variables that were read for it, where they are
-    /// wanted.
+    /// Expands the source: runs the compiler with `-E` on it, and answers the bytes of its standard output, as they
+    /// are. The build has one source alone. To find the compiler it is asked as `try_get_compiler` does, and the
+    /// warnings of its plan are printed; then the command is run to its end, and the lines of its standard error are
+    /// printed as warnings, however it ended, where they are on. The line in which Visual Studio's compiler names the
+    /// source is left out. Last are the lines of the variables that were read for it, where they are wanted.
     ///
-    /// Refused, in this order, where there is no source or more than one (InvalidArgument), and where no command may run (Disabled): nothing
-    /// is asked or run then. Then as `try_get_compiler` is; where the compiler is missing (ToolNotFound), couldn't be run or ended with
-    /// another status than 0 (ToolExecError), its output is lost then; where a line couldn't be printed; and for memory. The build is as
-    /// before; what was asked until then is kept, and no file stays.
+    /// Refused, in this order, where there is no source or more than one (InvalidArgument), and where no command may
+    /// run (Disabled): nothing is asked or run then. Then as `try_get_compiler` is; where the compiler is missing
+    /// (ToolNotFound), couldn't be run or ended with another status than 0 (ToolExecError), its output is lost then;
+    /// where a line couldn't be printed; and for memory. The build is as before; what was asked until then is kept, and
+    /// no file stays.
     #[tactic(auto, using(cc_host::proofs::Parts::since_append))]
     pub fn try_expand<H: Host<W>>(&self, rt: &impl Wait, host: &mut H) -> Result<Bytes, Error>
         ensures patient { H.patience host.new ≡ H.patience host.old }

@@ -3,7 +3,7 @@ ghost use Rattle.std.specs.Prelude.{◌≡◌, ◌++◌, ◌+◌, ◌<◌, ◌^�
 ghost use Rattle.cc_host.specs.Call.{part};
 ghost use Rattle.cc_plan.specs.Archive.{paths_of};
 ghost use Rattle.cc_flags.specs.Given.{probe_folder};
-ghost use Rattle.cc_plan.specs.Plan.{objects_of};
+ghost use Rattle.cc_plan.specs.Plan.{dir_of, objects_of};
 ghost use Rattle.cc_build.specs.Build.{AsksByRun};
 ghost use Rattle.cc_build.specs.Course.{ByRun};
 ghost use Rattle.cc_build.specs.Intermediates.{IntermediateEnds, source_reads as reads_of};
@@ -12,10 +12,10 @@ ghost use Rattle.cc_build.specs.Phases.{ByKnown, CompiledEnds};
 ghost use Rattle.cc_run.specs.Keeping.{IsIdle};
 ghost use Rattle.cc_build.specs.Stage.{IsRun};
 
-use crate::compiling::prepare_folder;
+use crate::compiles::run_beside;
 use crate::message::or_no_memory;
-use crate::phases::compile_sources;
-use crate::refusal::{disabled, plan_error};
+use crate::planning::open_run;
+use crate::refusal::plan_error;
 use crate::reporting::Reporting;
 use crate::reruns::print_names;
 use crate::shows::shows_of;
@@ -23,7 +23,7 @@ use crate::task::{Shared, Task};
 use crate::{Build, Error};
 use cc_host::{Host, World};
 use cc_jobs::Jobs;
-use cc_plan::{BuildConfig, Object, Reads, Sources, is_disabled, plan_objects};
+use cc_plan::{BuildConfig, Object, Reads, Sources, plan_objects};
 use cc_run::Turns;
 use cc_text::{Mem, Text, Words};
 use cc_tool::Answers;
@@ -57,7 +57,7 @@ pub(crate) fn source_reads(set: &BuildConfig) -> Reads
     }
 }
 
-// Compiles the sources, and then tells Cargo of the variables that were read for them.
+// Opens the run, compiles the sources, and then tells Cargo of the variables that were read for them.
 #[tactic(auto, using(cc_host::proofs::Parts::since_append))]
 fn compile_and_tell<W: World, H: Host<W>, J: Jobs>(
     rt: &impl Wait,
@@ -71,6 +71,8 @@ fn compile_and_tell<W: World, H: Host<W>, J: Jobs>(
     requires few { turns.old.left + turns.old.used < 2 ^ 64 }
     requires plain { IsRun shared.now.task.set.now shared.now.reads }
     requires dir { shared.now.sources.now.dir
+        ≡ dir_of shared.now.task.set.now shared.now.task.env.now }
+    requires probes { shared.now.sources.now.dir
         ≡ probe_folder shared.now.task.set.now shared.now.task.env.now }
     requires objects { shared.now.sources.now.objects.items
         ≡ objects_of shared.now.task.set.now shared.now.task.env.now }
@@ -83,7 +85,12 @@ fn compile_and_tell<W: World, H: Host<W>, J: Jobs>(
         H.log H.patience J.total J.faults J.taken J.load turns.old.left turns.new.left
         host.old host.new seat.old seat.new (CompiledEnds shared.now.task shared.now.reads result) }
 {
-    match compile_sources(rt, shared, host, seat, turns, answers) {
+    let task = &shared.task;
+    let cmds = match open_run(rt, task, host, shared.caches, answers, shared.sources) {
+        Ok(cmds) => cmds,
+        Err(error) => return Err(error),
+    };
+    match run_beside(task.reporting, host, shared.jobs, seat, turns, cmds) {
         Ok(()) => {}
         Err(error) => return Err(error),
     }
@@ -91,7 +98,8 @@ fn compile_and_tell<W: World, H: Host<W>, J: Jobs>(
 }
 
 impl<W: World> Build<W> {
-    // Checks the settings, makes the folder, compiles the sources, and tells Cargo what was read. The paths are those of their objects.
+    // Checks the settings, makes the folder, compiles the sources, and tells Cargo what was read. The paths are those
+    // of their objects.
     #[tactic(auto, using(cc_host::proofs::Parts::since_append))]
     pub(crate) fn compile_alone<H: Host<W>, J: Jobs>(
         &self,
@@ -119,10 +127,6 @@ impl<W: World> Build<W> {
             Ok(placed) => placed,
             Err(error) => return Err(or_no_memory(plan_error(alloc, set, env, "", error))),
         };
-        prepare_folder(alloc, host, set, env, dir.as_str())?;
-        if is_disabled(env) {
-            return Err(or_no_memory(disabled(alloc)));
-        }
         let paths = object_paths(alloc, &objects)?;
         let sources = Sources {
             name: Text::new(alloc),

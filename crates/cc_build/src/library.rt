@@ -28,8 +28,8 @@ use cc_run::{Planned, Turns};
 use cc_text::{Bytes, Mem, Text};
 use std::alloc::Global;
 
-// The commands that write it, and then its index. Where `is_plain` holds, the first is the refused one, and the others are of the plain form. They
-// name objects from the folder `here` where they run in that of the library.
+// The commands that write it, and then its index. Where `is_plain` holds, the first is the refused one, and the others
+// are of the plain form. They name objects from the folder `here` where they run in that of the library.
 fn commands(alloc: Global, library: &Library<'_>, is_plain: bool, here: &str) -> Mem<Vec<Planned>>
     ensures { IfOk result (λ cmds.
         cmds.items ≡ commands_for library.now (writing_of is_plain here.now)) }
@@ -142,8 +142,8 @@ fn prepare<W: World, H: Host<W>>(
     Ok(here)
 }
 
-// Tries the first command of an archiver that may not know its form. The stages behind it are given back, whose commands are those of the plain
-// form where it was refused.
+// Tries the first command of an archiver that may not know its form. The stages behind it are given back, whose
+// commands are those of the plain form where it was refused.
 #[tactic(auto, using(crate::proofs::Keeping::aside_none))]
 fn try_first<W: World, H: Host<W>>(
     reporting: Reporting,
@@ -196,10 +196,11 @@ fn begin<W: World, H: Host<W>>(
 
 /// Removes the old library, and writes the new one.
 ///
-/// Archivers of the BSDs and of Apple don't know the first form, which leaves out times and owners. So its first command is tried: where it is
-/// refused the same objects are written by the plain form, which all know. Apple's libtool can't add to a library, so one command reads the
-/// paths of all objects from a list, which is written before it. Microsoft's library manager has one form too, and where its commands run in the
-/// library's folder the current one is asked for before them. For Visual Studio the library is copied to the name that its linkers look for.
+/// Archivers of the BSDs and of Apple don't know the first form, which leaves out times and owners. So its first
+/// command is tried: where it is refused the same objects are written by the plain form, which all know. Apple's
+/// libtool can't add to a library, so one command reads the paths of all objects from a list, which is written before
+/// it. Microsoft's library manager has one form too, and where its commands run in the library's folder the current one
+/// is asked for before them. For Visual Studio the library is copied to the name that its linkers look for.
 #[tactic(auto, using(crate::proofs::Keeping::aside_then))]
 pub(crate) fn write_library<W: World, H: Host<W>, J: Jobs>(
     reporting: Reporting,

@@ -83,13 +83,14 @@ pub fn emit_link_directives<W: World, H: Host<W>>(
     print_links(rt, &shared, host, &mut seat, &mut turns, &mut answers)
 }
 
-/// Prints the link lines of the library at a path, `lib<name>.a` with its folder, or `<name>.lib` for a target of Visual Studio, as `try_compile`
-/// does behind the library that it builds: by which name Cargo links it, where it is sought, and the C++ library that it wants. They are
-/// wanted where `cargo_metadata` is on; to find the C++ library the compiler may be asked, of whose plan a host that listens is told the
-/// warnings. Behind them are the lines of the variables that were read for them. The library itself isn't looked at.
+/// Prints the link lines of the library at a path, `lib<name>.a` with its folder, or `<name>.lib` for a target of
+/// Visual Studio, as `try_compile` does behind the library that it builds: by which name Cargo links it, where it is
+/// sought, and the C++ library that it wants. They are wanted where `cargo_metadata` is on; to find the C++ library the
+/// compiler may be asked, of whose plan a host that listens is told the warnings. Behind them are the lines of the
+/// variables that were read for them. The library itself isn't looked at.
 ///
-/// Refused with InvalidArgument where the path is no such one, with EnvVarNotFound where a sysroot is set nowhere that the lines of
-/// WebAssembly want, where a line couldn't be printed, and for memory. The build is as before.
+/// Refused with InvalidArgument where the path is no such one, with EnvVarNotFound where a sysroot is set nowhere that
+/// the lines of WebAssembly want, where a line couldn't be printed, and for memory. The build is as before.
 #[tactic(auto, using(cc_host::proofs::Parts::since_append))]
 pub fn try_emit_link_directives<W: World, H: Host<W>>(
     rt: &impl Wait,

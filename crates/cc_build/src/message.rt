@@ -173,17 +173,17 @@ fn run_error(alloc: Global, e: RunError, cmds: &[Planned]) -> Mem<Error>
 }
 
 impl Error {
-    /// The error of a call of the host that was refused, about this subject: of kind IOError, with the call and the cause as its message;
-    /// or want of memory, also where its texts could not be made.
+    /// The error of a call of the host that was refused, about this subject: of kind IOError, with the call and the
+    /// cause as its message; or want of memory, also where its texts could not be made.
     pub fn of_host(alloc: Global, e: HostError, subject: &str) -> Error
         ensures { (result ≡ no_memory) ⊎ (result ≡ host_error e subject.now) }
     {
         or_no_memory(host_error(alloc, e, subject))
     }
 
-    /// The error of a run of these commands that ended without success: that of the command at the place which `e` names, from 0, with
-    /// its program as the subject; or want of memory where its texts could not be made. A place that the list doesn't have counts as want
-    /// of memory.
+    /// The error of a run of these commands that ended without success: that of the command at the place which `e`
+    /// names, from 0, with its program as the subject; or want of memory where its texts could not be made. A place
+    /// that the list doesn't have counts as want of memory.
     pub fn of_run(alloc: Global, e: RunError, cmds: &[Planned]) -> Error
         ensures { (result ≡ run_error cmds.now e) ⊎ (result ≡ no_memory) }
     {

@@ -1,5 +1,5 @@
-// The parts of a run behind the folder of the objects. Each asks what it wants to know, and then does its stages: the sources are compiled, the
-// library is written, and the lines for Cargo are printed.
+// The parts of a run behind the folder of the objects. Each asks what it wants to know: the compile commands are
+// planned, the library is written, and the lines for Cargo are printed.
 ghost use Rattle.std.specs.Prelude.{◌≡◌, ◌⊎◌, ◌+◌, ◌<◌, ◌^◌, None, Some, IfOk, IfErr, false};
 ghost use Rattle.std.specs.Option.{option_map};
 ghost use Rattle.cc_host.specs.Call.{part};
@@ -12,13 +12,12 @@ ghost use Rattle.cc_plan.specs.Reruns.{rerun_names};
 ghost use Rattle.cc_run.specs.Keeping.{IsIdle};
 ghost use Rattle.cc_build.specs.Error.{no_memory};
 ghost use Rattle.cc_build.specs.Kept.{AsksFor};
-ghost use Rattle.cc_build.specs.Phases.{ByKnown, CompileEnds, LibraryEnds, LinkedEnds};
+ghost use Rattle.cc_build.specs.Phases.{ByKnown, LibraryEnds, LinkedEnds};
 ghost use Rattle.cc_build.specs.Questions.{Plans, Archives, Links, AreLines, IsRefusedBy, AsksOnly};
 ghost use Rattle.cc_build.specs.Refusal.{plan_error as error_of_plan};
 ghost use Rattle.cc_build.specs.Stage.{IsRun, folder_in};
 
 use crate::Error;
-use crate::compiles::do_plan;
 use crate::directives::{Lines, first_stages};
 use crate::library::write_library;
 use crate::message::or_no_memory;
@@ -175,53 +174,6 @@ fn plan_links<W: World, H: Host<W>>(
     }
 }
 
-/// Asks what the compile commands are planned by, prints the warnings, and compiles the sources.
-#[tactic(auto, using(cc_host::proofs::Parts::since_append))]
-pub(crate) fn compile_sources<W: World, H: Host<W>, J: Jobs>(
-    rt: &impl Wait,
-    shared: &Shared<'_, W, J>,
-    host: &mut H,
-    seat: &mut J::Seat,
-    turns: &mut Turns,
-    answers: &mut Answers,
-) -> Result<(), Error>
-    requires idle { IsIdle J.fits J.held shared.now.jobs.now seat.old }
-    requires few { turns.old.left + turns.old.used < 2 ^ 64 }
-    requires dir { shared.now.sources.now.dir
-        ≡ probe_folder shared.now.task.set.now shared.now.task.env.now }
-    requires objects { shared.now.sources.now.objects.items
-        ≡ objects_of shared.now.task.set.now shared.now.task.env.now }
-    ensures idle { IsIdle J.fits J.held shared.now.jobs.now seat.new }
-    ensures total { J.total seat.new ≡ J.total seat.old }
-    ensures sum { turns.new.left + turns.new.used ≡ turns.old.left + turns.old.used }
-    ensures asks { AsksFor W.steady W.answer shared.now.task H.log H.patience
-        host.old host.new answers.old answers.new }
-    ensures outcome { ByKnown answers.new
-        H.log H.patience J.total J.faults J.taken J.load turns.old.left turns.new.left
-        host.old host.new seat.old seat.new (CompileEnds shared.now.task result) }
-{
-    let plan = match plan_compiles(
-        rt,
-        &shared.task,
-        host,
-        shared.caches,
-        answers,
-        shared.sources,
-    ) {
-        Ok(plan) => plan,
-        Err(error) => return Err(error),
-    };
-    do_plan(
-        &shared.task,
-        host,
-        shared.jobs,
-        seat,
-        turns,
-        &plan,
-        shared.sources.objects.as_slice(),
-    )
-}
-
 /// Asks for the archiver, removes the old library, and writes the new one.
 #[tactic(auto, using(cc_host::proofs::Parts::since_append))]
 pub(crate) fn archive_objects<W: World, H: Host<W>, J: Jobs>(
@@ -332,8 +284,8 @@ fn plan_lines<W: World, H: Host<W>, J>(
     }
 }
 
-/// Asks what the link lines are planned by, tells a host that listens of the compiler that decides on the C++ library, and prints the
-/// lines, and then those of the variables that the call read.
+/// Asks what the link lines are planned by, tells a host that listens of the compiler that decides on the C++ library,
+/// and prints the lines, and then those of the variables that the call read.
 #[tactic(auto, using(cc_host::proofs::Parts::since_append))]
 pub(crate) fn print_links<W: World, H: Host<W>, J: Jobs>(
     rt: &impl Wait,

@@ -79,7 +79,8 @@ pub(crate) fn tell_names<W: World, H: Host<W>>(
     do_stages(reporting, host, &jobs, &mut seat, &mut turns, &stages)
 }
 
-/// Plans the names of the variables that the call read, and prints their lines, as the last act of a call that runs no command beside others.
+/// Plans the names of the variables that the call read, and prints their lines, as the last act of a call that runs no
+/// command beside others.
 #[tactic(auto, using(cc_host::proofs::Parts::since_append))]
 pub(crate) fn tell<W: World, H: Host<W>>(
     rt: &impl Wait,

@@ -68,7 +68,8 @@ fn is_refusal(e: RunError) -> bool
     matches!(e, RunError::ToolNotFound(_) | RunError::Failed(_, _))
 }
 
-/// Tries a command: runs it to its end, without a turn. Whether it was refused: its program is missing, or it ended with another status than 0.
+/// Tries a command: runs it to its end, without a turn. Whether it was refused: its program is missing, or it ended
+/// with another status than 0.
 #[tactic(auto, using(cc_host::proofs::Parts::since_append))]
 pub(crate) fn try_form<W: World, H: Host<W>>(
     reporting: Reporting,

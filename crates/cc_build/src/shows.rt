@@ -44,7 +44,8 @@ fn output_kind(on: bool) -> OutputKind
     }
 }
 
-// What of a run the settings show, and the environment where they are silent, on a host that listens or not, and whether a failure stops it.
+// What of a run the settings show, and the environment where they are silent, on a host that listens or not, and
+// whether a failure stops it.
 pub(crate) fn shows_of(set: &BuildConfig, env: &BuildEnv, listens: bool) -> Shows
     ensures { result ≡ shows_of set.now env.now listens }
 {

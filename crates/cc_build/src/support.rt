@@ -127,15 +127,16 @@ fn told_support<W: World, H: Host<W>>(
 }
 
 impl<W: World> Build<W> {
-    /// Whether the compiler of this build takes a flag, by compiling a source of one line with it and no other flag of the build, in the
-    /// out dir or, where none is set, the folder for temporary files; in a relative folder no flag is taken. False also where the flag is
-    /// `/link` and the compiler Visual Studio's, since it is for the linker. Prints the warnings of how the compiler was found, where
-    /// they are on, and then the lines of the variables that were read, where those are wanted. The verdict is kept, and serves later calls
-    /// of this build and its clones.
+    /// Whether the compiler of this build takes a flag, by compiling a source of one line with it and no other flag of
+    /// the build, in the out dir or, where none is set, the folder for temporary files; in a relative folder no flag is
+    /// taken. False also where the flag is `/link` and the compiler Visual Studio's, since it is for the linker. Prints
+    /// the warnings of how the compiler was found, where they are on, and then the lines of the variables that were
+    /// read, where those are wanted. The verdict is kept, and serves later calls of this build and its clones.
     ///
-    /// Refused with IOError where the compiler is missing, could not be asked, or a line could not be printed; with the error of the
-    /// settings where the target or the host is set nowhere, the target isn't known, or the command that tries the flag would be refused;
-    /// and for memory. The build is as before; what was asked until then is kept, and no file stays.
+    /// Refused with IOError where the compiler is missing, could not be asked, or a line could not be printed; with the
+    /// error of the settings where the target or the host is set nowhere, the target isn't known, or the command that
+    /// tries the flag would be refused; and for memory. The build is as before; what was asked until then is kept, and
+    /// no file stays.
     #[tactic(auto, using(cc_host::proofs::Parts::since_append))]
     pub fn is_flag_supported<H: Host<W>>(
         &self,

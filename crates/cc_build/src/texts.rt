@@ -12,9 +12,9 @@ use cc_text::{Mem, Text};
 use std::alloc::Global;
 
 impl<W: World> Build<W> {
-    /// Sets the folder that the folders of sources count from in the names of objects, by components, where they begin neither with
-    /// `OUT_DIR` nor with `CARGO_MANIFEST_DIR`: so objects have the same names wherever the sources lie. Refused only for memory; the
-    /// build is as before.
+    /// Sets the folder that the folders of sources count from in the names of objects, by components, where they begin
+    /// neither with `OUT_DIR` nor with `CARGO_MANIFEST_DIR`: so objects have the same names wherever the sources lie.
+    /// Refused only for memory; the build is as before.
     pub fn source_root(&mut self, source_root: &str) -> Result<(), Error>
         ensures ok { OnOk result (Sets self.old self.new
             (λ c. record c { source_root = Some source_root.now })) }
@@ -25,9 +25,9 @@ impl<W: World> Build<W> {
         Ok(())
     }
 
-    /// Sets the standard of the language, as `c11` or `c++17`: `-std=` and the text, or `-std:` for Visual Studio's compilers (GCC's
-    /// manual, "Options Controlling C Dialect"). The text isn't looked at; the compiler refuses one that it doesn't know. Unset, the
-    /// compiler's own counts. Refused only for memory; the build is as before.
+    /// Sets the standard of the language, as `c11` or `c++17`: `-std=` and the text, or `-std:` for Visual Studio's
+    /// compilers (GCC's manual, "Options Controlling C Dialect"). The text isn't looked at; the compiler refuses one
+    /// that it doesn't know. Unset, the compiler's own counts. Refused only for memory; the build is as before.
     pub fn std(&mut self, std: &str) -> Result<(), Error>
         ensures ok { OnOk result (Sets self.old self.new (λ c. record c { std = Some std.now })) }
         ensures err { OnErr result (self.new ≡ self.old) }
@@ -37,9 +37,9 @@ impl<W: World> Build<W> {
         Ok(())
     }
 
-    /// Sets the target, as rustc names it: `x86_64-unknown-linux-gnu`. Unset, it is `TARGET`. A name that is neither among the 36 of
-    /// the table nor the target that Cargo builds for and describes by its variables is refused by the compile run, not here. Refused
-    /// only for memory; the build is as before.
+    /// Sets the target, as rustc names it: `x86_64-unknown-linux-gnu`. Unset, it is `TARGET`. A name that is neither
+    /// among the 36 of the table nor the target that Cargo builds for and describes by its variables is refused by the
+    /// compile run, not here. Refused only for memory; the build is as before.
     pub fn target(&mut self, target: &str) -> Result<(), Error>
         ensures ok { OnOk result (Sets self.old self.new
             (λ c. record c { target = Some target.now })) }
@@ -50,8 +50,9 @@ impl<W: World> Build<W> {
         Ok(())
     }
 
-    /// Sets the target of the machine that compiles, as rustc names it. Unset, it is `HOST`. Where it differs from the target, a cross
-    /// compiler is looked for, and `TARGET_CC` is read in place of `HOST_CC`. Refused only for memory; the build is as before.
+    /// Sets the target of the machine that compiles, as rustc names it. Unset, it is `HOST`. Where it differs from the
+    /// target, a cross compiler is looked for, and `TARGET_CC` is read in place of `HOST_CC`. Refused only for memory;
+    /// the build is as before.
     pub fn host(&mut self, host: &str) -> Result<(), Error>
         ensures ok { OnOk result (Sets self.old self.new (λ c. record c { host = Some host.now })) }
         ensures err { OnErr result (self.new ≡ self.old) }
@@ -61,10 +62,10 @@ impl<W: World> Build<W> {
         Ok(())
     }
 
-    /// Sets the optimisation level as text, in Cargo's words: `0` to `3`, `s` or `z` (Cargo's book, "Profiles"). GCC and Clang get `-O`
-    /// and the text, whatever it is, but GCC `-Os` for `z`; Visual Studio's compilers `-O1` for `1`, `s` and `z`, `-O2` for `2` and `3`,
-    /// and no word for others (GCC's manual, "Options That Control Optimization"). Unset, it is `OPT_LEVEL`. Refused only for memory; the
-    /// build is as before.
+    /// Sets the optimisation level as text, in Cargo's words: `0` to `3`, `s` or `z` (Cargo's book, "Profiles"). GCC
+    /// and Clang get `-O` and the text, whatever it is, but GCC `-Os` for `z`; Visual Studio's compilers `-O1` for `1`,
+    /// `s` and `z`, `-O2` for `2` and `3`, and no word for others (GCC's manual, "Options That Control Optimization").
+    /// Unset, it is `OPT_LEVEL`. Refused only for memory; the build is as before.
     pub fn opt_level_str(&mut self, opt_level: &str) -> Result<(), Error>
         ensures ok { OnOk result (Sets self.old self.new
             (λ c. record c { opt_level = Some opt_level.now })) }
@@ -75,11 +76,11 @@ impl<W: World> Build<W> {
         Ok(())
     }
 
-    /// Sets how much debug information is wanted, in Cargo's words (Cargo's book, "Profiles"): the empty text, `0`, `false` and `none`
-    /// ask for none, `1`, `limited`, `line-tables-only` and `line-directives-only` for lines alone, any other text for all. It is `-g1`
-    /// (`-gline-directives-only` where Clang is asked for those) or `-g`, on some systems with the version of DWARF, and `-Z7` for Visual
-    /// Studio's compilers (GCC's manual, "Options for Debugging Your Program"). Unset, it is `DEBUG`. Refused only for memory; the build
-    /// is as before.
+    /// Sets how much debug information is wanted, in Cargo's words (Cargo's book, "Profiles"): the empty text, `0`,
+    /// `false` and `none` ask for none, `1`, `limited`, `line-tables-only` and `line-directives-only` for lines alone,
+    /// any other text for all. It is `-g1` (`-gline-directives-only` where Clang is asked for those) or `-g`, on some
+    /// systems with the version of DWARF, and `-Z7` for Visual Studio's compilers (GCC's manual, "Options for Debugging
+    /// Your Program"). Unset, it is `DEBUG`. Refused only for memory; the build is as before.
     pub fn debug_str(&mut self, debug: &str) -> Result<(), Error>
         ensures ok { OnOk result (Sets self.old self.new
             (λ c. record c { debug = Some debug.now })) }
@@ -90,8 +91,8 @@ impl<W: World> Build<W> {
         Ok(())
     }
 
-    /// Sets whether debug information is wanted: what `debug_str` does with `true` or `false`. Refused only for memory; the build is as
-    /// before.
+    /// Sets whether debug information is wanted: what `debug_str` does with `true` or `false`. Refused only for memory;
+    /// the build is as before.
     pub fn debug(&mut self, debug: bool) -> Result<(), Error>
         ensures ok { OnOk result (Sets self.old self.new
             (λ c. record c { debug = Some (truth_text debug) })) }
@@ -101,9 +102,9 @@ impl<W: World> Build<W> {
         self.debug_str(truth_text(debug))
     }
 
-    /// Sets the folder of the objects, of the library, and of the files that compilers are asked with. The compile run makes it; it
-    /// refuses an empty path. Flags are tried in that folder, so where the path is relative, as Cargo's never is, each counts as not
-    /// taken. Unset, it is `OUT_DIR`. Refused only for memory; the build is as before.
+    /// Sets the folder of the objects, of the library, and of the files that compilers are asked with. The compile run
+    /// makes it; it refuses an empty path. Flags are tried in that folder, so where the path is relative, as Cargo's
+    /// never is, each counts as not taken. Unset, it is `OUT_DIR`. Refused only for memory; the build is as before.
     pub fn out_dir(&mut self, out_dir: &str) -> Result<(), Error>
         ensures ok { OnOk result (Sets self.old self.new
             (λ c. record c { out_dir = Some out_dir.now })) }
@@ -114,8 +115,8 @@ impl<W: World> Build<W> {
         Ok(())
     }
 
-    /// Sets the compiler: a path, or a name that is looked up on the `PATH`, without words behind it. `CC`, wrappers and the target's
-    /// prefix are then not looked at. Refused only for memory; the build is as before.
+    /// Sets the compiler: a path, or a name that is looked up on the `PATH`, without words behind it. `CC`, wrappers
+    /// and the target's prefix are then not looked at. Refused only for memory; the build is as before.
     pub fn compiler(&mut self, compiler: &str) -> Result<(), Error>
         ensures ok { OnOk result (Sets self.old self.new
             (λ c. record c { compiler = Some compiler.now })) }
@@ -126,9 +127,10 @@ impl<W: World> Build<W> {
         Ok(())
     }
 
-    /// Sets the archiver: a path, or a name that is looked up on the `PATH`. It is given the words of GNU `ar`, but those of Apple's libtool
-    /// where its file name has `libtool`, and for targets of Visual Studio those of its library manager, unless the name has `llvm-ar`.
-    /// Unset, it is that of `AR`, else the one that the target wants. Refused only for memory; the build is as before.
+    /// Sets the archiver: a path, or a name that is looked up on the `PATH`. It is given the words of GNU `ar`, but
+    /// those of Apple's libtool where its file name has `libtool`, and for targets of Visual Studio those of its
+    /// library manager, unless the name has `llvm-ar`. Unset, it is that of `AR`, else the one that the target wants.
+    /// Refused only for memory; the build is as before.
     pub fn archiver(&mut self, archiver: &str) -> Result<(), Error>
         ensures ok { OnOk result (Sets self.old self.new
             (λ c. record c { archiver = Some archiver.now })) }
@@ -139,8 +141,8 @@ impl<W: World> Build<W> {
         Ok(())
     }
 
-    /// Sets the program that writes the index of a library: a path, or a name that is looked up on the `PATH`. Refused only for memory; the
-    /// build is as before.
+    /// Sets the program that writes the index of a library: a path, or a name that is looked up on the `PATH`. Refused
+    /// only for memory; the build is as before.
     pub fn ranlib(&mut self, ranlib: &str) -> Result<(), Error>
         ensures ok { OnOk result (Sets self.old self.new
             (λ c. record c { ranlib = Some ranlib.now })) }
@@ -151,8 +153,8 @@ impl<W: World> Build<W> {
         Ok(())
     }
 
-    /// Sets the optimisation level to a number, which is kept in decimal: what `opt_level_str` does with that text. Cargo has 0 to 3;
-    /// others aren't refused here. Refused only for memory; the build is as before.
+    /// Sets the optimisation level to a number, which is kept in decimal: what `opt_level_str` does with that text.
+    /// Cargo has 0 to 3; others aren't refused here. Refused only for memory; the build is as before.
     pub fn opt_level(&mut self, opt_level: u32) -> Result<(), Error>
         ensures ok { OnOk result (Sets self.old self.new
             (λ c. record c { opt_level = Some (decimal opt_level) })) }
@@ -164,8 +166,8 @@ impl<W: World> Build<W> {
         Ok(())
     }
 
-    /// Sets the C++ library that Cargo links where the sources are C++, as `c++` or `stdc++`, or that it links none. Unset, it is that of
-    /// `CXXSTDLIB`, else the one of the target. Refused only for memory; the build is as before.
+    /// Sets the C++ library that Cargo links where the sources are C++, as `c++` or `stdc++`, or that it links none.
+    /// Unset, it is that of `CXXSTDLIB`, else the one of the target. Refused only for memory; the build is as before.
     pub fn cpp_link_stdlib(&mut self, cpp_link_stdlib: Option<&str>) -> Result<(), Error>
         ensures ok { OnOk result (Sets self.old self.new
             (λ c. record c { cpp_link_stdlib = Some (option_copied cpp_link_stdlib.entry) })) }
@@ -177,10 +179,10 @@ impl<W: World> Build<W> {
         Ok(())
     }
 
-    /// Sets the C++ library that the compiler is told of, or none: `-stdlib=lib` and the name, as `c++`, for GCC and Clang where the
-    /// sources are C++ (Clang's "Clang command line argument reference"). Cargo is told to link the same, as by `cpp_link_stdlib`. With
-    /// none, Clang is told `libc++` on FreeBSD and nothing elsewhere. Visual Studio's compilers have no such word: the compile run warns.
-    /// Refused only for memory; the build is as before.
+    /// Sets the C++ library that the compiler is told of, or none: `-stdlib=lib` and the name, as `c++`, for GCC and
+    /// Clang where the sources are C++ (Clang's "Clang command line argument reference"). Cargo is told to link the
+    /// same, as by `cpp_link_stdlib`. With none, Clang is told `libc++` on FreeBSD and nothing elsewhere. Visual
+    /// Studio's compilers have no such word: the compile run warns. Refused only for memory; the build is as before.
     pub fn cpp_set_stdlib(&mut self, cpp_set_stdlib: Option<&str>) -> Result<(), Error>
         ensures ok { OnOk result (Sets self.old self.new (λ c. record c {
           cpp_set_stdlib = option_copied cpp_set_stdlib.entry;

@@ -133,9 +133,16 @@ module _ (s : Site) (cmds : List Planned) (failure : ℕ → Option Failure) whe
       (more, [], left, (ap (λ l. l ++ more) before.0 ∙ sym (append-nil more), subst (λ g. EndsMember s cmds m (failure place) (Ok end) more g left) before.1 (subst (λ p. EndsMember s cmds m (failure p) (Ok end) more mid left) here is), (refl, refl)))
   ends_more place [] (x ∷ ends) m end part more given mid left before is = absurd before
   ends_more place (n ∷ ms) [] m end part more given mid left before is = absurd before
-  ends_more place (n ∷ ms) (x ∷ ends) m end part more given mid left before is =
-      (before.0, before.1 ++ more, before.2, (ap (λ l. l ++ more) before.3.0 ∙ append_assoc before.0 before.1 more, before.3.1,
-      ends_more (suc place) ms ends m end before.1 more before.2 mid left before.3.2 (subst (λ p. EndsMember s cmds m (failure p) (Ok end) more mid left) (sym (at_next place (length ms))) is)))
+  ends_more place (n ∷ ms) (x ∷ ends) m end part more given mid left before is = (
+    before.0,
+    before.1 ++ more,
+    before.2,
+    (
+      ap (λ l. l ++ more) before.3.0 ∙ append_assoc before.0 before.1 more,
+      before.3.1,
+      ends_more (suc place) ms ends m end before.1 more before.2 mid left before.3.2 (subst (λ p. EndsMember s cmds m (failure p) (Ok end) more mid left) (sym (at_next place (length ms))) is),
+    ),
+  )
 
   -- behind the first members the next one ended the call, or memory was wanted
   pub ends_stop : (place : ℕ) (ms : List MemberSeen) (ends : List FleetEnd) (rest : List MemberSeen) (e : ErrorSeen) (part more : List Event) (given mid left : ℕ) → EndsEach s cmds failure place ms ends part given mid → EndsUntil s cmds failure (place + length ms) rest e more mid left → EndsUntil s cmds failure place (ms ++ rest) e (part ++ more) given left
@@ -146,8 +153,17 @@ module _ (s : Site) (cmds : List Planned) (failure : ℕ → Option Failure) whe
   ends_stop place [] (x ∷ ends) rest e part more given mid left before stops = absurd before
   ends_stop place (n ∷ ms) [] rest e part more given mid left before stops = absurd before
   ends_stop place (n ∷ ms) (x ∷ ends) rest e part more given mid left before stops =
-      inr (inr (x, before.0, before.1 ++ more, before.2, (ap (λ l. l ++ more) before.3.0 ∙ append_assoc before.0 before.1 more, before.3.1,
-      ends_stop (suc place) ms ends rest e before.1 more before.2 mid left before.3.2 (subst (λ p. EndsUntil s cmds failure p rest e more mid left) (sym (at_next place (length ms))) stops))))
+      inr (inr (
+        x,
+        before.0,
+        before.1 ++ more,
+        before.2,
+        (
+          ap (λ l. l ++ more) before.3.0 ∙ append_assoc before.0 before.1 more,
+          before.3.1,
+          ends_stop (suc place) ms ends rest e before.1 more before.2 mid left before.3.2 (subst (λ p. EndsUntil s cmds failure p rest e more mid left) (sym (at_next place (length ms))) stops),
+        ),
+      ))
 
   -- memory was wanted before the next one
   pub ends_want : (place : ℕ) (rest : List MemberSeen) (given : ℕ) → EndsUntil s cmds failure place rest no_memory [] given given

@@ -71,8 +71,11 @@ plain_planning set env found look firsts output =
     let rest : List Stage = if is_disabled env then [] else asked in
     plain_unless (is_some (early_refusal set env output)) (folder_stages set env ++ rest)
     (plain_then (folder_stages set env) rest (plain_folder set env)
-    (plain_unless (is_disabled env) asked (tt, plain_unless (is_some (late_refusal set env look)) told
-    (plain_then (calls opening) (Asks ∷ calls _) (plain_notes opening (opening_notes set env found look)) (tt, plain_lines Rerun names)))))
+    (plain_unless (is_disabled env) asked (
+      tt,
+      plain_unless (is_some (late_refusal set env look)) told
+          (plain_then (calls opening) (Asks ∷ calls _) (plain_notes opening (opening_notes set env found look)) (tt, plain_lines Rerun names)),
+    )))
 
 -- ---- a member that is planned, or refused
 

@@ -1,6 +1,5 @@
 use Rattle.std.proofs.Common.{◌∙◌}
 use Rattle.cc_host.specs.Part.{since}
-use Rattle.cc_build.specs.Kept.{left_at}
 use Rattle.cc_build.proofs.Growing.{asking_before}
 use Rattle.cc_build.proofs.PlanningLaws.{opening_refused, opening_ends}
 use Rattle.cc_build.proofs.planning.plan_and_open.Goals as goal
@@ -8,9 +7,8 @@ use Rattle.cc_build.proofs.planning.plan_and_open.Goals as goal
 pub returns-in-Err-clause-outcome : goal.returns-in-Err-clause-outcome
 returns-in-Err-clause-outcome g c =
     let part = since (g.H.Host.log c.args.host.now) (g.H.Host.log c.plan_compiles.new.host) in
-    let x = left_at g.J.Jobs.faults g.J.Jobs.taken g.J.Jobs.load c.args.turns.now c.args.seat.now in
     record {
-      under = λ look agree. opening_refused c.args.shared.now.task look (g.J.Jobs.total c.args.seat.now) (g.H.Host.patience c.args.host.now) part c.in-Err.error x c.plan_compiles.ensures.quiet (c.in-Err.ensures.refused.under look agree);
+      under = λ look agree. opening_refused c.args.task.now look part c.in-Err.error c.plan_compiles.ensures.quiet (c.in-Err.ensures.refused.under look agree);
     }
 
 pub returns-clause-asks : goal.returns-clause-asks
@@ -21,11 +19,9 @@ returns-clause-outcome g c =
     let old = g.H.Host.log c.args.host.now in
     let mid = g.H.Host.log c.plan_compiles.new.host in
     let new = g.H.Host.log c.open_commands.new.host in
-    let x = left_at g.J.Jobs.faults g.J.Jobs.taken g.J.Jobs.load c.args.turns.now c.args.seat.now in
-    let z = left_at g.J.Jobs.faults g.J.Jobs.taken g.J.Jobs.load c.open_commands.new.turns c.open_commands.new.seat in
     record {
       under = λ look agree.
-          opening_ends c.args.shared.now.task c.in-Ok.plan look c.as_slice.result.now (c.in-Ok.ensures.planned.under look agree) (g.J.Jobs.total c.args.seat.now) (g.H.Host.patience c.args.host.now) (g.H.Host.patience c.plan_compiles.new.host) old mid new x z
-          c.plan_compiles.ensures.asks.extends c.open_commands.ensures.aside.extends c.plan_compiles.ensures.asks.patient c.plan_compiles.ensures.quiet
+          opening_ends c.args.task.now c.in-Ok.plan look c.as_slice.result.now (c.in-Ok.ensures.planned.under look agree) old mid new
+          c.plan_compiles.ensures.asks.extends c.open_commands.ensures.aside.extends c.plan_compiles.ensures.quiet
           (c.as_slice.ensures.value ∙ c.requires.objects) c.open_commands.result c.open_commands.ensures.outcome;
     }

@@ -1,131 +1,66 @@
-use Rattle.std.proofs.Common.{◌∙◌, ◌≡◌, ℕ, List, [], Err, refl, sym, ap, subst}
-use Rattle.std.proofs.lemmas.Result.{err_from_is_err_and}
+use Rattle.std.proofs.Common.{◌≡◌, List, refl, sym, subst}
 use Rattle.cc_host.specs.Part.{since}
-use Rattle.cc_host.specs.Question.{Answer, Agrees, answers, Holds}
-use Rattle.cc_flags.specs.Given.{probe_folder}
+use Rattle.cc_host.specs.Question.{Answer, Agrees, answers}
 use Rattle.cc_plan.specs.Questions.{RunAsks}
-use Rattle.cc_plan.proofs.LineLemmas.{since_none}
-use Rattle.cc_tool.specs.Asked.{Asked, question_events}
-use Rattle.cc_tool.proofs.Asides.{asked_none, asked_behind}
-use Rattle.cc_build.specs.Build.{BuildSeen, AsksByRun}
-use Rattle.cc_build.specs.Course.{course}
+use Rattle.cc_build.specs.Build.{probes}
 use Rattle.cc_build.specs.Kept.{AsksOn}
-use Rattle.cc_build.specs.Promises.{RunEnds}
-use Rattle.cc_build.specs.Shows.{shows_of}
-use Rattle.cc_build.specs.Went.{terms, means}
-use Rattle.cc_build.proofs.Growing.{on_asked}
-use Rattle.cc_build.proofs.Looks.{agrees_since}
-use Rattle.cc_build.proofs.Outcomes.{made_or_memory}
-use Rattle.cc_build.proofs.PartLaws.{run_unchecked, run_unfoldered, run_disabled, run_enabled}
+use Rattle.cc_build.specs.Went.{means}
+use Rattle.cc_build.proofs.Growing.{on_asked, asking_then, agrees_earlier}
+use Rattle.cc_build.proofs.RunPlanLaws.{whole_unopened, whole_ends}
 use Rattle.cc_build.proofs.build.Build.compile.Goals as goal
+
+pub returns-in-Err-clause-asked : goal.returns-in-Err-clause-asked
+returns-in-Err-clause-asked g c =
+    let b = c.args.self.now in
+    let part = since (g.H.Host.log c.args.host.now) (g.H.Host.log c.plan_run.new.host) in
+    (on_asked g.W.World.steady g.W.World.answer (probes b) (RunAsks b.config b.env) part c.plan_run.new.answers
+    (subst (λ (l : List Answer). AsksOn g.W.World.steady g.W.World.answer (probes b) (RunAsks b.config b.env) part l c.plan_run.new.answers) c.new-answers.ensures c.plan_run.ensures.asks.asks)).0
 
 pub returns-in-Err-clause-outcome : goal.returns-in-Err-clause-outcome
 returns-in-Err-clause-outcome g c =
-    let old = g.H.Host.log c.args.host.now in
-    let total = g.J.Jobs.total c.args.seat.now in
-    let patience = g.H.Host.patience c.args.host.now in
-    let faults = g.J.Jobs.faults c.args.seat.now in
-    let taken = g.J.Jobs.taken c.args.seat.now in
-    let load = g.J.Jobs.load c.args.seat.now in
-    let x = means c.args.goal.turns faults taken load in
-    subst (λ (b : BuildSeen). Holds (answers (since old old)) (λ look. (left : ℕ) × RunEnds {T = Unit {0}} b (g.H.Host.listens c.args.host.now) c.args.goal.output.now (Err c.or_no_memory.result) look (since old old) (course total patience x (means left faults taken load)))) c.self.view_is
-    (record {
-      under = λ look agree. (
-        c.args.goal.turns,
-        run_unchecked c.self.inside.config c.self.inside.env (g.H.Host.listens c.args.host.now) look c.args.goal.output.now total patience (since old old) c.or_no_memory.result x c.in-Err.error (since_none old)
-            (made_or_memory c.plan_error.result c.or_no_memory.result _ c.or_no_memory.ensures c.plan_error.ensures) c.in-Err.ensures.refused,
-      );
-    })
-
-pub returns-in-Err-clause-asked : goal.returns-in-Err-clause-asked
-returns-in-Err-clause-asked g c = asked_none _ _ _ _ (since (g.H.Host.log c.args.host.now) (g.H.Host.log c.args.host.now)) (ap question_events (since_none (g.H.Host.log c.args.host.now)))
-
-pub returns-in_err-prepare_folder-clause-outcome : goal.returns-in_err-prepare_folder-clause-outcome
-returns-in_err-prepare_folder-clause-outcome g c =
-    let p = err_from_is_err_and c.from_residual.result c.from_residual.ensures.1 in
-    let part = since (g.H.Host.log c.args.host.now) (g.H.Host.log c.prepare_folder.new.host) in
-    let total = g.J.Jobs.total c.args.seat.now in
-    let patience = g.H.Host.patience c.args.host.now in
-    let faults = g.J.Jobs.faults c.args.seat.now in
-    let taken = g.J.Jobs.taken c.args.seat.now in
-    let load = g.J.Jobs.load c.args.seat.now in
-    let x = means c.args.goal.turns faults taken load in
-    let e = c.in_err-prepare_folder.field-0.0 in
-    rw (p.1, p.2)
-    (subst (λ (b : BuildSeen). Holds (answers part) (λ look. (left : ℕ) × RunEnds {T = Unit {0}} b (g.H.Host.listens c.args.host.now) c.args.goal.output.now (Err e) look part (course total patience x (means left faults taken load)))) c.self.view_is
-    (record {
-      under = λ look agree. (
-        c.args.goal.turns,
-        run_unfoldered c.self.inside.config c.self.inside.env (g.H.Host.listens c.args.host.now) look c.args.goal.output.now total patience part e x c.in-Ok.ensures.allowed
-            (c.in_err-prepare_folder.ensures.outcome (terms (shows_of c.self.inside.config c.self.inside.env (g.H.Host.listens c.args.host.now)) total patience) x),
-      );
-    }))
-
-pub returns-in_err-prepare_folder-clause-asked : goal.returns-in_err-prepare_folder-clause-asked
-returns-in_err-prepare_folder-clause-asked g c = asked_none _ _ _ _ (since (g.H.Host.log c.args.host.now) (g.H.Host.log c.prepare_folder.new.host)) c.prepare_folder.ensures.aside.asks_none
-
-pub returns-then-is_disabled-clause-outcome : goal.returns-then-is_disabled-clause-outcome
-returns-then-is_disabled-clause-outcome g c =
-    let old = g.H.Host.log c.args.host.now in
-    let made = g.H.Host.log c.prepare_folder.new.host in
-    let total = g.J.Jobs.total c.args.seat.now in
-    let patience = g.H.Host.patience c.args.host.now in
-    let faults = g.J.Jobs.faults c.args.seat.now in
-    let taken = g.J.Jobs.taken c.args.seat.now in
-    let load = g.J.Jobs.load c.args.seat.now in
-    let x = means c.args.goal.turns faults taken load in
-    let e = c.or_no_memory-then-is_disabled.result in
-    subst (λ (b : BuildSeen). Holds (answers (since old made)) (λ look. (left : ℕ) × RunEnds {T = Unit {0}} b (g.H.Host.listens c.args.host.now) c.args.goal.output.now (Err e) look (since old made) (course total patience x (means left faults taken load)))) c.self.view_is
-    (record {
-      under = λ look agree. (
-        c.args.goal.turns,
-        run_disabled c.self.inside.config c.self.inside.env (g.H.Host.listens c.args.host.now) look c.args.goal.output.now total patience c.in-Ok.ensures.allowed old made x c.prepare_folder.ensures.aside.extends
-            (c.in_ok-prepare_folder.ensures.outcome (terms (shows_of c.self.inside.config c.self.inside.env (g.H.Host.listens c.args.host.now)) total patience) x).1
-            e (sym c.if-is_disabled.ensures) (made_or_memory c.disabled.result e _ c.or_no_memory-then-is_disabled.ensures c.disabled.ensures),
-      );
-    })
-
-pub returns-then-is_disabled-clause-asked : goal.returns-then-is_disabled-clause-asked
-returns-then-is_disabled-clause-asked g c = asked_none _ _ _ _ (since (g.H.Host.log c.args.host.now) (g.H.Host.log c.prepare_folder.new.host)) c.prepare_folder.ensures.aside.asks_none
-
-pub returns-clause-outcome : goal.returns-clause-outcome
-returns-clause-outcome g c =
-    let old = g.H.Host.log c.args.host.now in
-    let made = g.H.Host.log c.prepare_folder.new.host in
-    let new = g.H.Host.log c.run_parts.new.host in
-    let total = g.J.Jobs.total c.args.seat.now in
-    let patience = g.H.Host.patience c.args.host.now in
+    let b = c.args.self.now in
+    let part = since (g.H.Host.log c.args.host.now) (g.H.Host.log c.plan_run.new.host) in
     let x = means c.args.goal.turns (g.J.Jobs.faults c.args.seat.now) (g.J.Jobs.taken c.args.seat.now) (g.J.Jobs.load c.args.seat.now) in
-    let faults = g.J.Jobs.faults c.run_parts.new.seat in
-    let taken = g.J.Jobs.taken c.run_parts.new.seat in
-    let load = g.J.Jobs.load c.run_parts.new.seat in
-    let left = c.run_parts.new.turns.left in
-    let set = c.self.inside.config in
-    let env = c.self.inside.env in
-    let on : AsksOn g.W.World.steady g.W.World.answer (probe_folder set env) (RunAsks set env) (since made new) [] c.run_parts.new.answers =
-    subst (λ (l : List Answer). AsksOn g.W.World.steady g.W.World.answer (probe_folder set env) (RunAsks set env) (since made new) l c.run_parts.new.answers) c.new-answers.ensures c.run_parts.ensures.asks.asks in
-    let same : c.run_parts.new.answers ≡ answers (since made new) = (on_asked g.W.World.steady g.W.World.answer (probe_folder set env) (RunAsks set env) (since made new) c.run_parts.new.answers on).1 in
-    subst (λ (b : BuildSeen). Holds (answers (since old new)) (λ look. (left : ℕ) × RunEnds b (g.H.Host.listens c.args.host.now) c.args.goal.output.now c.run_parts.result look (since old new) (course total patience x (means left faults taken load)))) c.self.view_is
-    (record {
-      under = λ look agree.
-          let behind = (agrees_since look old made new c.prepare_folder.ensures.aside.extends c.run_parts.ensures.asks.extends agree).1 in
-          let known : Agrees look c.run_parts.new.answers = subst (Agrees look) (sym same) behind in (
-            left,
-            run_enabled set env (g.H.Host.listens c.args.host.now) look c.args.goal.output.now total patience c.in-Ok.ensures.allowed old made x c.prepare_folder.ensures.aside.extends
-                (c.in_ok-prepare_folder.ensures.outcome (terms (shows_of set env (g.H.Host.listens c.args.host.now)) total patience) x).1
-                c.shows_of-shows.result total (g.H.Host.patience c.prepare_folder.new.host) new c.run_parts.result (means left faults taken load) (c.shows_of-shows.ensures ∙ ap (shows_of c.self.inside.config c.self.inside.env) c.listens.ensures) refl c.prepare_folder.ensures.aside.patient (sym c.if-is_disabled.ensures) c.run_parts.ensures.asks.extends
-                (c.run_parts.ensures.outcome.under look known),
-          );
-    })
+    let same : c.plan_run.new.answers ≡ answers part =
+    (on_asked g.W.World.steady g.W.World.answer (probes b) (RunAsks b.config b.env) part c.plan_run.new.answers
+    (subst (λ (l : List Answer). AsksOn g.W.World.steady g.W.World.answer (probes b) (RunAsks b.config b.env) part l c.plan_run.new.answers) c.new-answers.ensures c.plan_run.ensures.asks.asks)).1 in
+    record {
+      under = λ look agree. (
+        c.args.goal.turns,
+        whole_unopened b (g.H.Host.listens c.args.host.now) c.args.goal.output.now look (g.J.Jobs.total c.args.seat.now) (g.H.Host.patience c.args.host.now) part c.in-Err.error x
+            (c.in-Err.ensures.outcome.under look (subst (Agrees look) (sym same) agree)),
+      );
+    }
 
 pub returns-clause-asked : goal.returns-clause-asked
 returns-clause-asked g c =
-    let made = g.H.Host.log c.prepare_folder.new.host in
-    let new = g.H.Host.log c.run_parts.new.host in
-    let set = c.self.inside.config in
-    let env = c.self.inside.env in
-    let on : AsksOn g.W.World.steady g.W.World.answer (probe_folder set env) (RunAsks set env) (since made new) [] c.run_parts.new.answers =
-    subst (λ (l : List Answer). AsksOn g.W.World.steady g.W.World.answer (probe_folder set env) (RunAsks set env) (since made new) l c.run_parts.new.answers) c.new-answers.ensures c.run_parts.ensures.asks.asks in
-    let asked : Asked g.W.World.steady g.W.World.answer (probe_folder set env) (RunAsks set env) (since made new) = (on_asked g.W.World.steady g.W.World.answer (probe_folder set env) (RunAsks set env) (since made new) c.run_parts.new.answers on).0 in
-    asked_behind _ _ _ _ (g.H.Host.log c.args.host.now) made new c.prepare_folder.ensures.aside.extends c.run_parts.ensures.asks.extends c.prepare_folder.ensures.aside.asks_none
-    (subst (λ (b : BuildSeen). AsksByRun g.W.World.steady g.W.World.answer b (since made new)) c.self.view_is asked)
+    let b = c.args.self.now in
+    let part = since (g.H.Host.log c.args.host.now) (g.H.Host.log c.run_plan.new.host) in
+    let both = asking_then g.W.World.steady g.W.World.answer (probes b) (RunAsks b.config b.env) g.H.Host.log g.H.Host.patience c.args.host.now c.plan_run.new.host c.run_plan.new.host _ _ _ c.plan_run.ensures.asks c.run_plan.ensures.asks in
+    (on_asked g.W.World.steady g.W.World.answer (probes b) (RunAsks b.config b.env) part c.run_plan.new.answers
+    (subst (λ (l : List Answer). AsksOn g.W.World.steady g.W.World.answer (probes b) (RunAsks b.config b.env) part l c.run_plan.new.answers) c.new-answers.ensures both.asks)).0
+
+pub returns-clause-outcome : goal.returns-clause-outcome
+returns-clause-outcome g c =
+    let b = c.args.self.now in
+    let old = g.H.Host.log c.args.host.now in
+    let mid = g.H.Host.log c.plan_run.new.host in
+    let new = g.H.Host.log c.run_plan.new.host in
+    let total = g.J.Jobs.total c.args.seat.now in
+    let patience = g.H.Host.patience c.args.host.now in
+    let x = means c.args.goal.turns (g.J.Jobs.faults c.args.seat.now) (g.J.Jobs.taken c.args.seat.now) (g.J.Jobs.load c.args.seat.now) in
+    let both = asking_then g.W.World.steady g.W.World.answer (probes b) (RunAsks b.config b.env) g.H.Host.log g.H.Host.patience c.args.host.now c.plan_run.new.host c.run_plan.new.host _ _ _ c.plan_run.ensures.asks c.run_plan.ensures.asks in
+    let same : c.run_plan.new.answers ≡ answers (since old new) =
+    (on_asked g.W.World.steady g.W.World.answer (probes b) (RunAsks b.config b.env) (since old new) c.run_plan.new.answers
+    (subst (λ (l : List Answer). AsksOn g.W.World.steady g.W.World.answer (probes b) (RunAsks b.config b.env) (since old new) l c.run_plan.new.answers) c.new-answers.ensures both.asks)).1 in
+    record {
+      under = λ look agree.
+          let known : Agrees look c.run_plan.new.answers = subst (Agrees look) (sym same) agree in
+          let before = agrees_earlier look c.plan_run.new.answers c.run_plan.new.answers (answers (since mid new)) c.run_plan.ensures.asks.asks.answered known in
+          let ran = c.run_plan.ensures.outcome.under look known in
+          let z = means ran.0 (g.J.Jobs.faults c.run_plan.new.seat) (g.J.Jobs.taken c.run_plan.new.seat) (g.J.Jobs.load c.run_plan.new.seat) in (
+            ran.0,
+            whole_ends b (g.H.Host.listens c.args.host.now) c.args.goal.output.now look total patience c.in-Ok.plan old mid new c.run_plan.result x z total (g.H.Host.patience c.plan_run.new.host)
+                c.plan_run.ensures.asks.extends c.run_plan.ensures.asks.extends refl c.plan_run.ensures.asks.patient (c.in-Ok.ensures.outcome.under look before) ran.1,
+          );
+    }

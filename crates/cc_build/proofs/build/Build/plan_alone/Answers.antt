@@ -1,136 +1,105 @@
-use Rattle.std.proofs.Common.{◌∙◌, ◌≡◌, List, [], Ok, Err, refl, sym, ap, subst}
-use Rattle.std.proofs.lemmas.Result.{err_from_is_err_and}
+use Rattle.std.proofs.Common.{◌≡◌, List, [], Ok, Err, refl, sym, subst}
 use Rattle.cc_host.specs.Part.{since}
 use Rattle.cc_host.specs.Question.{Answer, Agrees, answers, Holds}
-use Rattle.cc_flags.specs.Given.{probe_folder}
 use Rattle.cc_plan.specs.Questions.{RunAsks}
-use Rattle.cc_plan.proofs.LineLemmas.{since_none}
-use Rattle.cc_tool.specs.Asked.{Asked, question_events}
-use Rattle.cc_tool.proofs.Asides.{asked_none, asked_behind}
-use Rattle.cc_build.specs.Build.{BuildSeen, AsksByRun}
-use Rattle.cc_build.specs.Kept.{AsksOn}
+use Rattle.cc_build.specs.Build.{BuildSeen, probes}
+use Rattle.cc_build.specs.Kept.{AsksOn, Asking}
 use Rattle.cc_build.specs.Planning.{PlanningEnds}
-use Rattle.cc_build.specs.Shows.{shows_of}
-use Rattle.cc_build.proofs.Growing.{on_asked}
-use Rattle.cc_build.proofs.Looks.{agrees_since}
-use Rattle.cc_build.proofs.Outcomes.{made_or_memory}
-use Rattle.cc_build.proofs.PlanningLaws.{plan_unchecked, plan_unfoldered, plan_disabled, plan_stopped, plan_done}
+use Rattle.cc_build.specs.RunPlan.{IsRunPlan, PlanRunEnds}
 use Rattle.cc_build.specs.Stage.{IsRun}
+use Rattle.cc_build.specs.declared.planning.CompilePlan.{CompilePlan}
+use Rattle.cc_build.proofs.Growing.{on_asked, asking_then, agrees_earlier}
+use Rattle.cc_build.proofs.PlanningLaws.{planning_stopped, planning_untold, planning_told}
 use Rattle.cc_build.proofs.ToldLaws.{sources_are}
 use Rattle.cc_build.proofs.build.Build.plan_alone.Goals as goal
 
-pub plan_and_tell-requires-clause-plain : goal.plan_and_tell-requires-clause-plain
-plan_and_tell-requires-clause-plain g c = λ κs lives. subst (IsRun c.self.inside.config) (sym c.source_reads.ensures) (sources_are c.self.inside.config)
+pub print_names-requires-clause-plain : goal.print_names-requires-clause-plain
+print_names-requires-clause-plain g c = λ κs lives. subst (IsRun c.self.inside.config) (sym c.source_reads.ensures) (sources_are c.self.inside.config)
+
+pub returns-in-Err-clause-asked : goal.returns-in-Err-clause-asked
+returns-in-Err-clause-asked g c =
+    let b = c.args.self.now in
+    let part = since (g.H.Host.log c.args.host.now) (g.H.Host.log c.plan_run.new.host) in
+    (on_asked g.W.World.steady g.W.World.answer (probes b) (RunAsks b.config b.env) part c.plan_run.new.answers
+    (subst (λ (l : List Answer). AsksOn g.W.World.steady g.W.World.answer (probes b) (RunAsks b.config b.env) part l c.plan_run.new.answers) c.new-answers.ensures c.plan_run.ensures.asks.asks)).0
 
 pub returns-in-Err-clause-outcome : goal.returns-in-Err-clause-outcome
 returns-in-Err-clause-outcome g c =
+    let b = c.args.self.now in
+    let part = since (g.H.Host.log c.args.host.now) (g.H.Host.log c.plan_run.new.host) in
+    let same : c.plan_run.new.answers ≡ answers part =
+    (on_asked g.W.World.steady g.W.World.answer (probes b) (RunAsks b.config b.env) part c.plan_run.new.answers
+    (subst (λ (l : List Answer). AsksOn g.W.World.steady g.W.World.answer (probes b) (RunAsks b.config b.env) part l c.plan_run.new.answers) c.new-answers.ensures c.plan_run.ensures.asks.asks)).1 in
+    record {
+      under = λ look agree. planning_stopped b (g.H.Host.listens c.args.host.now) c.args.output.now look part c.in-Err.error (c.in-Err.ensures.outcome.under look (subst (Agrees look) (sym same) agree));
+    }
+
+pub returns-clause-asked : goal.returns-clause-asked
+returns-clause-asked g c =
+    let b = c.args.self.now in
     let old = g.H.Host.log c.args.host.now in
+    let mid = g.H.Host.log c.plan_run.new.host in
+    let new = g.H.Host.log c.print_names.new.host in
+    let told = subst (λ (s : BuildSeen). Asking g.W.World.steady g.W.World.answer (probes s) (RunAsks s.config s.env) g.H.Host.log g.H.Host.patience c.plan_run.new.host c.print_names.new.host c.plan_run.new.answers c.print_names.new.answers) c.self.view_is c.print_names.ensures.asks in
+    let both = asking_then g.W.World.steady g.W.World.answer (probes b) (RunAsks b.config b.env) g.H.Host.log g.H.Host.patience c.args.host.now c.plan_run.new.host c.print_names.new.host _ _ _ c.plan_run.ensures.asks told in
+    let on : AsksOn g.W.World.steady g.W.World.answer (probes b) (RunAsks b.config b.env) (since old new) [] c.print_names.new.answers =
+    subst (λ (l : List Answer). AsksOn g.W.World.steady g.W.World.answer (probes b) (RunAsks b.config b.env) (since old new) l c.print_names.new.answers) c.new-answers.ensures both.asks in
+    (on_asked g.W.World.steady g.W.World.answer (probes b) (RunAsks b.config b.env) (since old new) c.print_names.new.answers on).0
+
+pub returns-clause-outcome : goal.returns-clause-outcome
+returns-clause-outcome g c =
+    let b = c.args.self.now in
+    let old = g.H.Host.log c.args.host.now in
+    let mid = g.H.Host.log c.plan_run.new.host in
+    let new = g.H.Host.log c.print_names.new.host in
+    let told = subst (λ (s : BuildSeen). Asking g.W.World.steady g.W.World.answer (probes s) (RunAsks s.config s.env) g.H.Host.log g.H.Host.patience c.plan_run.new.host c.print_names.new.host c.plan_run.new.answers c.print_names.new.answers) c.self.view_is c.print_names.ensures.asks in
+    let both = asking_then g.W.World.steady g.W.World.answer (probes b) (RunAsks b.config b.env) g.H.Host.log g.H.Host.patience c.args.host.now c.plan_run.new.host c.print_names.new.host _ _ _ c.plan_run.ensures.asks told in
+    let on : AsksOn g.W.World.steady g.W.World.answer (probes b) (RunAsks b.config b.env) (since old new) [] c.print_names.new.answers =
+    subst (λ (l : List Answer). AsksOn g.W.World.steady g.W.World.answer (probes b) (RunAsks b.config b.env) (since old new) l c.print_names.new.answers) c.new-answers.ensures both.asks in
+    let same : c.print_names.new.answers ≡ answers (since old new) = (on_asked g.W.World.steady g.W.World.answer (probes b) (RunAsks b.config b.env) (since old new) c.print_names.new.answers on).1 in
     let listens = g.H.Host.listens c.args.host.now in
-    subst (λ (b : BuildSeen). Holds (answers (since old old)) (λ look. PlanningEnds b listens c.args.output.now (Err c.or_no_memory.result) look (since old old))) c.self.view_is
+    subst (λ (s : BuildSeen). Holds (answers (since old new)) (λ look. PlanningEnds s listens c.args.output.now (Err c.in-Err-print_names.error) look (since old new))) c.self.view_is
     (record {
       under = λ look agree.
-          plan_unchecked c.self.inside.config c.self.inside.env listens look c.args.output.now (since old old) c.or_no_memory.result c.in-Err.error (since_none old)
-          (made_or_memory c.plan_error.result c.or_no_memory.result _ c.or_no_memory.ensures c.plan_error.ensures) c.in-Err.ensures.refused;
+          let known : Agrees look c.print_names.new.answers = subst (Agrees look) (sym same) agree in
+          let before = agrees_earlier look c.plan_run.new.answers c.print_names.new.answers (answers (since mid new)) c.print_names.ensures.asks.asks.answered known in
+          let plan = subst (λ (s : BuildSeen). PlanRunEnds s listens c.args.output.now (Ok c.in-Ok.plan) look (since old mid)) (sym c.self.view_is) (c.in-Ok.ensures.outcome.under look before) in
+          planning_untold _ listens c.args.output.now look c.in-Ok.plan _ c.source_reads.result old mid new _ _ c.plan_run.ensures.asks.extends c.print_names.ensures.asks.extends c.source_reads.ensures plan
+          c.in-Err-print_names.error (c.in-Err-print_names.ensures.outcome.under look known);
     })
 
-pub returns-in-Err-clause-asked : goal.returns-in-Err-clause-asked
-returns-in-Err-clause-asked g c = asked_none _ _ _ _ (since (g.H.Host.log c.args.host.now) (g.H.Host.log c.args.host.now)) (ap question_events (since_none (g.H.Host.log c.args.host.now)))
-
-pub returns-in_err-prepare_folder-clause-outcome : goal.returns-in_err-prepare_folder-clause-outcome
-returns-in_err-prepare_folder-clause-outcome g c =
-    let p = err_from_is_err_and c.from_residual.result c.from_residual.ensures.1 in
-    let part = since (g.H.Host.log c.args.host.now) (g.H.Host.log c.prepare_folder.new.host) in
-    let listens = g.H.Host.listens c.args.host.now in
-    let e = c.in_err-prepare_folder.field-0.0 in
-    rw (p.1, p.2)
-    (subst (λ (b : BuildSeen). Holds (answers part) (λ look. PlanningEnds b listens c.args.output.now (Err e) look part)) c.self.view_is
-    (record {
-      under = λ look agree.
-          plan_unfoldered c.self.inside.config c.self.inside.env listens look c.args.output.now part e c.in-Ok.ensures.allowed c.in_err-prepare_folder.ensures.outcome;
-    }))
-
-pub returns-in_err-prepare_folder-clause-asked : goal.returns-in_err-prepare_folder-clause-asked
-returns-in_err-prepare_folder-clause-asked g c = asked_none _ _ _ _ (since (g.H.Host.log c.args.host.now) (g.H.Host.log c.prepare_folder.new.host)) c.prepare_folder.ensures.aside.asks_none
-
-pub returns-then-is_disabled-clause-outcome : goal.returns-then-is_disabled-clause-outcome
-returns-then-is_disabled-clause-outcome g c =
+pub returns-in-Ok-print_names-clause-asked : goal.returns-in-Ok-print_names-clause-asked
+returns-in-Ok-print_names-clause-asked g c =
+    let b = c.args.self.now in
     let old = g.H.Host.log c.args.host.now in
-    let made = g.H.Host.log c.prepare_folder.new.host in
-    let listens = g.H.Host.listens c.args.host.now in
-    let e = c.or_no_memory-then-is_disabled.result in
-    subst (λ (b : BuildSeen). Holds (answers (since old made)) (λ look. PlanningEnds b listens c.args.output.now (Err e) look (since old made))) c.self.view_is
-    (record {
-      under = λ look agree.
-          plan_disabled c.self.inside.config c.self.inside.env listens look c.args.output.now c.in-Ok.ensures.allowed old made c.prepare_folder.ensures.aside.extends
-          (λ t x. (c.in_ok-prepare_folder.ensures.outcome t x).1) e (sym c.if-is_disabled.ensures)
-          (made_or_memory c.disabled.result e _ c.or_no_memory-then-is_disabled.ensures c.disabled.ensures);
-    })
+    let mid = g.H.Host.log c.plan_run.new.host in
+    let new = g.H.Host.log c.print_names.new.host in
+    let told = subst (λ (s : BuildSeen). Asking g.W.World.steady g.W.World.answer (probes s) (RunAsks s.config s.env) g.H.Host.log g.H.Host.patience c.plan_run.new.host c.print_names.new.host c.plan_run.new.answers c.print_names.new.answers) c.self.view_is c.print_names.ensures.asks in
+    let both = asking_then g.W.World.steady g.W.World.answer (probes b) (RunAsks b.config b.env) g.H.Host.log g.H.Host.patience c.args.host.now c.plan_run.new.host c.print_names.new.host _ _ _ c.plan_run.ensures.asks told in
+    let on : AsksOn g.W.World.steady g.W.World.answer (probes b) (RunAsks b.config b.env) (since old new) [] c.print_names.new.answers =
+    subst (λ (l : List Answer). AsksOn g.W.World.steady g.W.World.answer (probes b) (RunAsks b.config b.env) (since old new) l c.print_names.new.answers) c.new-answers.ensures both.asks in
+    (on_asked g.W.World.steady g.W.World.answer (probes b) (RunAsks b.config b.env) (since old new) c.print_names.new.answers on).0
 
-pub returns-then-is_disabled-clause-asked : goal.returns-then-is_disabled-clause-asked
-returns-then-is_disabled-clause-asked g c = asked_none _ _ _ _ (since (g.H.Host.log c.args.host.now) (g.H.Host.log c.prepare_folder.new.host)) c.prepare_folder.ensures.aside.asks_none
-
-pub returns-in-Err-plan_and_tell-clause-outcome : goal.returns-in-Err-plan_and_tell-clause-outcome
-returns-in-Err-plan_and_tell-clause-outcome g c =
+pub returns-in-Ok-print_names-clause-outcome : goal.returns-in-Ok-print_names-clause-outcome
+returns-in-Ok-print_names-clause-outcome g c =
+    let b = c.args.self.now in
     let old = g.H.Host.log c.args.host.now in
-    let made = g.H.Host.log c.prepare_folder.new.host in
-    let new = g.H.Host.log c.plan_and_tell.new.host in
+    let mid = g.H.Host.log c.plan_run.new.host in
+    let new = g.H.Host.log c.print_names.new.host in
+    let told = subst (λ (s : BuildSeen). Asking g.W.World.steady g.W.World.answer (probes s) (RunAsks s.config s.env) g.H.Host.log g.H.Host.patience c.plan_run.new.host c.print_names.new.host c.plan_run.new.answers c.print_names.new.answers) c.self.view_is c.print_names.ensures.asks in
+    let both = asking_then g.W.World.steady g.W.World.answer (probes b) (RunAsks b.config b.env) g.H.Host.log g.H.Host.patience c.args.host.now c.plan_run.new.host c.print_names.new.host _ _ _ c.plan_run.ensures.asks told in
+    let on : AsksOn g.W.World.steady g.W.World.answer (probes b) (RunAsks b.config b.env) (since old new) [] c.print_names.new.answers =
+    subst (λ (l : List Answer). AsksOn g.W.World.steady g.W.World.answer (probes b) (RunAsks b.config b.env) (since old new) l c.print_names.new.answers) c.new-answers.ensures both.asks in
+    let same : c.print_names.new.answers ≡ answers (since old new) = (on_asked g.W.World.steady g.W.World.answer (probes b) (RunAsks b.config b.env) (since old new) c.print_names.new.answers on).1 in
     let listens = g.H.Host.listens c.args.host.now in
-    let set = c.self.inside.config in
-    let env = c.self.inside.env in
-    let on : AsksOn g.W.World.steady g.W.World.answer (probe_folder set env) (RunAsks set env) (since made new) [] c.plan_and_tell.new.answers =
-    subst (λ (l : List Answer). AsksOn g.W.World.steady g.W.World.answer (probe_folder set env) (RunAsks set env) (since made new) l c.plan_and_tell.new.answers) c.new-answers.ensures c.plan_and_tell.ensures.asks.asks in
-    let same : c.plan_and_tell.new.answers ≡ answers (since made new) = (on_asked g.W.World.steady g.W.World.answer (probe_folder set env) (RunAsks set env) (since made new) c.plan_and_tell.new.answers on).1 in
-    subst (λ (b : BuildSeen). Holds (answers (since old new)) (λ look. PlanningEnds b listens c.args.output.now (Err c.in-Err-plan_and_tell.error) look (since old new))) c.self.view_is
+    let made : CompilePlan = record { objects = c.in-Ok.plan.sources.objects; commands = c.in-Ok.plan.commands; shows = c.in-Ok.plan.shows } in
+    subst (λ (s : BuildSeen). Holds (answers (since old new)) (λ look. PlanningEnds s listens c.args.output.now (Ok made) look (since old new))) c.self.view_is
     (record {
       under = λ look agree.
-          let later = (agrees_since look old made new c.prepare_folder.ensures.aside.extends c.plan_and_tell.ensures.asks.extends agree).1 in
-          let known : Agrees look c.plan_and_tell.new.answers = subst (Agrees look) (sym same) later in
-          plan_stopped set env listens look c.args.output.now c.in-Ok.ensures.allowed old made c.prepare_folder.ensures.aside.extends (λ t x. (c.in_ok-prepare_folder.ensures.outcome t x).1)
-          c.shows_of-shows.result _ _ c.source_reads.result new _ _ (c.shows_of-shows.ensures ∙ ap (shows_of set env) c.listens.ensures) c.source_reads.ensures (sym c.if-is_disabled.ensures) c.plan_and_tell.ensures.asks.extends
-          c.in-Err-plan_and_tell.error (c.in-Err-plan_and_tell.ensures.outcome.under look known);
+          let known : Agrees look c.print_names.new.answers = subst (Agrees look) (sym same) agree in
+          let before = agrees_earlier look c.plan_run.new.answers c.print_names.new.answers (answers (since mid new)) c.print_names.ensures.asks.asks.answered known in
+          let plan = subst (λ (s : BuildSeen). PlanRunEnds s listens c.args.output.now (Ok c.in-Ok.plan) look (since old mid)) (sym c.self.view_is) (c.in-Ok.ensures.outcome.under look before) in
+          let planned = subst (λ (s : BuildSeen). IsRunPlan s c.args.output.now c.in-Ok.plan) (sym c.self.view_is) c.in-Ok.ensures.planned in
+          planning_told _ listens c.args.output.now look c.in-Ok.plan _ c.source_reads.result old mid new _ _ c.plan_run.ensures.asks.extends c.print_names.ensures.asks.extends c.source_reads.ensures plan
+          made tt planned.objects refl refl (c.in-Ok-print_names.ensures.outcome.under look known);
     })
-
-pub returns-in-Err-plan_and_tell-clause-asked : goal.returns-in-Err-plan_and_tell-clause-asked
-returns-in-Err-plan_and_tell-clause-asked g c =
-    let made = g.H.Host.log c.prepare_folder.new.host in
-    let new = g.H.Host.log c.plan_and_tell.new.host in
-    let set = c.self.inside.config in
-    let env = c.self.inside.env in
-    let on : AsksOn g.W.World.steady g.W.World.answer (probe_folder set env) (RunAsks set env) (since made new) [] c.plan_and_tell.new.answers =
-    subst (λ (l : List Answer). AsksOn g.W.World.steady g.W.World.answer (probe_folder set env) (RunAsks set env) (since made new) l c.plan_and_tell.new.answers) c.new-answers.ensures c.plan_and_tell.ensures.asks.asks in
-    let asked : Asked g.W.World.steady g.W.World.answer (probe_folder set env) (RunAsks set env) (since made new) = (on_asked g.W.World.steady g.W.World.answer (probe_folder set env) (RunAsks set env) (since made new) c.plan_and_tell.new.answers on).0 in
-    asked_behind _ _ _ _ (g.H.Host.log c.args.host.now) made new c.prepare_folder.ensures.aside.extends c.plan_and_tell.ensures.asks.extends c.prepare_folder.ensures.aside.asks_none
-    (subst (λ (b : BuildSeen). AsksByRun g.W.World.steady g.W.World.answer b (since made new)) c.self.view_is asked)
-
-pub returns-in-Ok-plan_and_tell-clause-outcome : goal.returns-in-Ok-plan_and_tell-clause-outcome
-returns-in-Ok-plan_and_tell-clause-outcome g c =
-    let old = g.H.Host.log c.args.host.now in
-    let made = g.H.Host.log c.prepare_folder.new.host in
-    let new = g.H.Host.log c.plan_and_tell.new.host in
-    let listens = g.H.Host.listens c.args.host.now in
-    let set = c.self.inside.config in
-    let env = c.self.inside.env in
-    let on : AsksOn g.W.World.steady g.W.World.answer (probe_folder set env) (RunAsks set env) (since made new) [] c.plan_and_tell.new.answers =
-    subst (λ (l : List Answer). AsksOn g.W.World.steady g.W.World.answer (probe_folder set env) (RunAsks set env) (since made new) l c.plan_and_tell.new.answers) c.new-answers.ensures c.plan_and_tell.ensures.asks.asks in
-    let same : c.plan_and_tell.new.answers ≡ answers (since made new) = (on_asked g.W.World.steady g.W.World.answer (probe_folder set env) (RunAsks set env) (since made new) c.plan_and_tell.new.answers on).1 in
-    subst (λ (b : BuildSeen). Holds (answers (since old new)) (λ look. PlanningEnds b listens c.args.output.now (Ok (record { objects = c.in-Ok.sources.objects; commands = c.in-Ok-plan_and_tell.commands; shows = c.shows_of-shows.result })) look (since old new))) c.self.view_is
-    (record {
-      under = λ look agree.
-          let later = (agrees_since look old made new c.prepare_folder.ensures.aside.extends c.plan_and_tell.ensures.asks.extends agree).1 in
-          let known : Agrees look c.plan_and_tell.new.answers = subst (Agrees look) (sym same) later in
-          plan_done set env listens look c.args.output.now c.in-Ok.ensures.allowed old made c.prepare_folder.ensures.aside.extends (λ t x. (c.in_ok-prepare_folder.ensures.outcome t x).1)
-          c.shows_of-shows.result _ _ c.source_reads.result new _ _ (c.shows_of-shows.ensures ∙ ap (shows_of set env) c.listens.ensures) c.source_reads.ensures (sym c.if-is_disabled.ensures) c.plan_and_tell.ensures.asks.extends
-          (record { objects = c.in-Ok.sources.objects; commands = c.in-Ok-plan_and_tell.commands; shows = c.shows_of-shows.result }) c.in-Ok.ensures.objects refl (c.in-Ok-plan_and_tell.ensures.outcome.under look known);
-    })
-
-pub returns-in-Ok-plan_and_tell-clause-asked : goal.returns-in-Ok-plan_and_tell-clause-asked
-returns-in-Ok-plan_and_tell-clause-asked g c =
-    let made = g.H.Host.log c.prepare_folder.new.host in
-    let new = g.H.Host.log c.plan_and_tell.new.host in
-    let set = c.self.inside.config in
-    let env = c.self.inside.env in
-    let on : AsksOn g.W.World.steady g.W.World.answer (probe_folder set env) (RunAsks set env) (since made new) [] c.plan_and_tell.new.answers =
-    subst (λ (l : List Answer). AsksOn g.W.World.steady g.W.World.answer (probe_folder set env) (RunAsks set env) (since made new) l c.plan_and_tell.new.answers) c.new-answers.ensures c.plan_and_tell.ensures.asks.asks in
-    let asked : Asked g.W.World.steady g.W.World.answer (probe_folder set env) (RunAsks set env) (since made new) = (on_asked g.W.World.steady g.W.World.answer (probe_folder set env) (RunAsks set env) (since made new) c.plan_and_tell.new.answers on).0 in
-    asked_behind _ _ _ _ (g.H.Host.log c.args.host.now) made new c.prepare_folder.ensures.aside.extends c.plan_and_tell.ensures.asks.extends c.prepare_folder.ensures.aside.asks_none
-    (subst (λ (b : BuildSeen). AsksByRun g.W.World.steady g.W.World.answer b (since made new)) c.self.view_is asked)
