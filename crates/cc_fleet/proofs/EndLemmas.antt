@@ -1,5 +1,5 @@
 -- How members are ended, one after another.
-use Rattle.std.proofs.Common.{◌≡◌, ◌⊎◌, inl, inr, ℕ, zero, suc, ◌+◌, ◌<◌, ◌≤◌, List, [], ◌∷◌, ◌++◌, length, map, take, drop, get_or, Option, Some, None, Result, Ok, Err, Bool, true, false, refl, sym, ◌∙◌, ap, subst, append_assoc, append-nil, arith}
+use Rattle.std.proofs.Common.{◌≡◌, ◌⊎◌, inl, inr, ℕ, suc, ◌+◌, ◌<◌, List, [], ◌∷◌, ◌++◌, length, take, drop, get_or, Option, Some, None, Result, Ok, Err, Bool, false, refl, sym, ◌∙◌, ap, subst, append_assoc, append-nil, arith}
 use Rattle.std.proofs.lemmas.List.Sums.{sum_by-append}
 use Rattle.cc_host.specs.Part.{since}
 use Rattle.cc_host.specs.Question.{answers, Holds}
@@ -15,7 +15,7 @@ use Rattle.cc_run.specs.declared.error.RunError.TheVariants.{Failed}
 use Rattle.cc_run.specs.declared.planned.Planned.{Planned}
 use Rattle.cc_tool.proofs.SomeLemmas.{some_agree}
 use Rattle.cc_build.specs.Archiving.{with_objects, Creates}
-use Rattle.cc_build.specs.Build.{BuildSeen, AsksByRun}
+use Rattle.cc_build.specs.Build.{AsksByRun}
 use Rattle.cc_build.specs.Error.{ErrorSeen, no_memory}
 use Rattle.cc_build.specs.Linking.{DirectivesEnd, directive_error, directive_stages}
 use Rattle.cc_build.specs.RunErrors.{run_error, command_at, error_of}
@@ -24,9 +24,8 @@ use Rattle.cc_build.specs.Went.{Terms, Means, terms, means}
 use Rattle.cc_build.specs.declared.error.ErrorKind.TheVariants.{NoMemory}
 use Rattle.cc_build.proofs.TurnLaws.{ended_turns}
 use Rattle.cc_fleet.specs.Failures.{Failure}
-use Rattle.cc_fleet.specs.Fleet.{Site, MemberSeen, Segment, LinksBehind, EndsBy, EndsBuilt, EndsFailed, EndsMember, EndsEach, EndsUntil, objects_at, member_seen, members_seen, site}
+use Rattle.cc_fleet.specs.Fleet.{Site, MemberSeen, Segment, EndsBy, EndsBuilt, EndsMember, EndsEach, EndsUntil, objects_at, member_seen, members_seen, site}
 use Rattle.cc_fleet.specs.declared.members.FleetEnd.{FleetEnd}
-use Rattle.cc_fleet.specs.declared.members.FleetEnd.TheVariants.{Built, Refused}
 use Rattle.cc_fleet.specs.declared.members.Member.{Member}
 use Rattle.cc_fleet.proofs.MemberLemmas.{parted, longer, before_it}
 
@@ -133,9 +132,16 @@ module _ (s : Site) (cmds : List Planned) (failure : ℕ → Option Failure) whe
       (more, [], left, (ap (λ l. l ++ more) before.0 ∙ sym (append-nil more), subst (λ g. EndsMember s cmds m (failure place) (Ok end) more g left) before.1 (subst (λ p. EndsMember s cmds m (failure p) (Ok end) more mid left) here is), (refl, refl)))
   ends_more place [] (x ∷ ends) m end part more given mid left before is = absurd before
   ends_more place (n ∷ ms) [] m end part more given mid left before is = absurd before
-  ends_more place (n ∷ ms) (x ∷ ends) m end part more given mid left before is =
-      (before.0, before.1 ++ more, before.2, (ap (λ l. l ++ more) before.3.0 ∙ append_assoc before.0 before.1 more, before.3.1,
-      ends_more (suc place) ms ends m end before.1 more before.2 mid left before.3.2 (subst (λ p. EndsMember s cmds m (failure p) (Ok end) more mid left) (sym (at_next place (length ms))) is)))
+  ends_more place (n ∷ ms) (x ∷ ends) m end part more given mid left before is = (
+    before.0,
+    before.1 ++ more,
+    before.2,
+    (
+      ap (λ l. l ++ more) before.3.0 ∙ append_assoc before.0 before.1 more,
+      before.3.1,
+      ends_more (suc place) ms ends m end before.1 more before.2 mid left before.3.2 (subst (λ p. EndsMember s cmds m (failure p) (Ok end) more mid left) (sym (at_next place (length ms))) is),
+    ),
+  )
 
   -- behind the first members the next one ended the call, or memory was wanted
   pub ends_stop : (place : ℕ) (ms : List MemberSeen) (ends : List FleetEnd) (rest : List MemberSeen) (e : ErrorSeen) (part more : List Event) (given mid left : ℕ) → EndsEach s cmds failure place ms ends part given mid → EndsUntil s cmds failure (place + length ms) rest e more mid left → EndsUntil s cmds failure place (ms ++ rest) e (part ++ more) given left
@@ -146,8 +152,17 @@ module _ (s : Site) (cmds : List Planned) (failure : ℕ → Option Failure) whe
   ends_stop place [] (x ∷ ends) rest e part more given mid left before stops = absurd before
   ends_stop place (n ∷ ms) [] rest e part more given mid left before stops = absurd before
   ends_stop place (n ∷ ms) (x ∷ ends) rest e part more given mid left before stops =
-      inr (inr (x, before.0, before.1 ++ more, before.2, (ap (λ l. l ++ more) before.3.0 ∙ append_assoc before.0 before.1 more, before.3.1,
-      ends_stop (suc place) ms ends rest e before.1 more before.2 mid left before.3.2 (subst (λ p. EndsUntil s cmds failure p rest e more mid left) (sym (at_next place (length ms))) stops))))
+      inr (inr (
+        x,
+        before.0,
+        before.1 ++ more,
+        before.2,
+        (
+          ap (λ l. l ++ more) before.3.0 ∙ append_assoc before.0 before.1 more,
+          before.3.1,
+          ends_stop (suc place) ms ends rest e before.1 more before.2 mid left before.3.2 (subst (λ p. EndsUntil s cmds failure p rest e more mid left) (sym (at_next place (length ms))) stops),
+        ),
+      ))
 
   -- memory was wanted before the next one
   pub ends_want : (place : ℕ) (rest : List MemberSeen) (given : ℕ) → EndsUntil s cmds failure place rest no_memory [] given given

@@ -264,13 +264,37 @@ fn few(alloc: Global, source: Option<&str>) -> Result<Vec<Member<Bench>>, Error>
 fn few_members_are_a_fleet(rt: HostRuntime) -> Result<(), Fail> {
     let alloc = rt.alloc();
     let none = few(alloc, None)?;
-    let text = run(&rt, alloc, none.as_slice(), &mut BenchHost::new(alloc)?, 2, 50)?;
+    let text = run(
+        &rt,
+        alloc,
+        none.as_slice(),
+        &mut BenchHost::new(alloc)?,
+        2,
+        50,
+    )?;
     assert_eq!(rt; text.as_str(), "");
     let one = few(alloc, Some("src/b.c"))?;
-    let text = run(&rt, alloc, one.as_slice(), &mut BenchHost::new(alloc)?, 2, 50)?;
-    assert_eq!(rt; text.as_str(), told_by(alloc, &["starts src/b.c; ", BAR, "built; "])?.as_str());
+    let text = run(
+        &rt,
+        alloc,
+        one.as_slice(),
+        &mut BenchHost::new(alloc)?,
+        2,
+        50,
+    )?;
+    assert_eq!(rt;
+        text.as_str(),
+        told_by(alloc, &["starts src/b.c; ", BAR, "built; "])?.as_str()
+    );
     let bare = few(alloc, Some(""))?;
-    let text = run(&rt, alloc, bare.as_slice(), &mut BenchHost::new(alloc)?, 2, 50)?;
+    let text = run(
+        &rt,
+        alloc,
+        bare.as_slice(),
+        &mut BenchHost::new(alloc)?,
+        2,
+        50,
+    )?;
     let text = text.as_str();
     assert!(rt; text.starts_with("removes /o/libbar.a; "));
     assert!(rt; text.ends_with("links; links; built; "));
