@@ -1,18 +1,16 @@
 -- Why a fleet has no answer for each member, and where it has one.
-use Rattle.std.proofs.Common.{◌≡◌, ◌⊎◌, inl, inr, ℕ, zero, suc, ◌+◌, ◌*◌, ◌<◌, ◌≤◌, List, [], ◌∷◌, ◌++◌, length, map, take, drop, Bool, true, false, if◌then◌else◌, is_some, Option, None, Some, option_map, Result, Ok, Err, refl, sym, ◌∙◌, ap, subst, append_assoc, append-nil, arith}
-use Rattle.std.specs.Prelude.{◌≢◌, sum_by}
-use Rattle.std.specs.List.{Contains, list_any, slice_get}
+use Rattle.std.proofs.Common.{◌≡◌, ◌⊎◌, inl, inr, ℕ, zero, suc, List, [], ◌∷◌, map, take, drop, Bool, true, false, if◌then◌else◌, Option, None, Some, option_map, Result, Ok, Err, refl, sym, ◌∙◌, ap, subst}
+use Rattle.std.specs.Prelude.{◌≢◌}
+use Rattle.std.specs.List.{list_any, slice_get}
 use Rattle.std.proofs.lemmas.List.Folds.{list_any-append}
-use Rattle.std.proofs.lemmas.List.Sums.{sum_by-append, sum_by-cons}
-use Rattle.std.proofs.Math.Nat.{mul-add}
 use Rattle.cc_env.specs.Env.{EnvSeen}
 use Rattle.cc_jobs.specs.Seats.{Rose}
 use Rattle.cc_host.specs.Command.{CommandSeen}
 use Rattle.cc_host.specs.Part.{is_probing}
-use Rattle.cc_host.specs.Question.{Look, Agrees, answers}
+use Rattle.cc_host.specs.Question.{Look}
 use Rattle.cc_host.specs.declared.event.Event.{Event}
 use Rattle.cc_host.specs.declared.event.HostCall.{HostCall}
-use Rattle.cc_host.specs.declared.event.HostCall.TheVariants.{Start, Turn as Turning, Print, Say}
+use Rattle.cc_host.specs.declared.event.HostCall.TheVariants.{Start, Turn as Turning}
 use Rattle.cc_host.specs.declared.event.Role.{Role}
 use Rattle.cc_flags.specs.Given.{is_disabled, first_of}
 use Rattle.cc_flags.specs.declared.settings.BuildConfig.{BuildConfig}
@@ -22,7 +20,7 @@ use Rattle.cc_plan.specs.declared.error.ArgumentCause.TheVariants.{Output, OutDi
 use Rattle.cc_plan.specs.declared.error.PlanError.{PlanError}
 use Rattle.cc_plan.specs.declared.error.PlanError.TheVariants.{Argument, NotSet, UnknownTarget, QnxArch, Flag, Host, NoMemory as WantsMemory}
 use Rattle.cc_run.specs.Outcome.{IsNotice}
-use Rattle.cc_run.specs.Part.{missing, turns, turns_of}
+use Rattle.cc_run.specs.Part.{missing}
 use Rattle.cc_run.specs.declared.error.RunError.{RunError}
 use Rattle.cc_run.specs.declared.error.RunError.TheVariants.{ToolNotFound, Failed, StartFault, WaitFault, HostFault, JobFault, TurnsSpent, NoMemory}
 use Rattle.cc_run.specs.declared.mark.Mark.{Mark}
@@ -38,12 +36,11 @@ use Rattle.cc_build.specs.RunErrors.{run_error}
 use Rattle.cc_build.specs.Stage.{Stage}
 use Rattle.cc_build.specs.Stage.Stage.{Calls, Asks, Tries, RunsOne, RunsAll}
 use Rattle.cc_build.specs.Stop.{fault_error}
-use Rattle.cc_build.specs.Went.{Terms, Means, IsOf, Stops, Halts, Halted, Ends, RanOne, RanAll}
+use Rattle.cc_build.specs.Went.{Terms, Means, IsOf, Stops, Halts, Halted, RanOne, RanAll}
 use Rattle.cc_build.specs.declared.error.ErrorKind.TheVariants.{TurnsSpent as SpendsTurns}
 use Rattle.cc_build.proofs.AloneLaws.{IsStill, AreStill, still_behind}
 use Rattle.cc_build.proofs.RanLaws.{Said, said_all, said_one, all_spent, all_rose, one_spent, one_sound}
 use Rattle.cc_build.proofs.StopLaws.{IsPlain, ArePlain, plain_behind, or_right, some_fault, call_cause}
-use Rattle.cc_fleet.specs.Fleet.{MemberSeen}
 use Rattle.cc_fleet.specs.Run.{RanSeveral, RanJoined, StopsRun, marks_of}
 use Rattle.cc_fleet.proofs.JoinedLaws.{several_all}
 

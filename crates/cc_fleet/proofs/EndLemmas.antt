@@ -1,5 +1,5 @@
 -- How members are ended, one after another.
-use Rattle.std.proofs.Common.{◌≡◌, ◌⊎◌, inl, inr, ℕ, zero, suc, ◌+◌, ◌<◌, ◌≤◌, List, [], ◌∷◌, ◌++◌, length, map, take, drop, get_or, Option, Some, None, Result, Ok, Err, Bool, true, false, refl, sym, ◌∙◌, ap, subst, append_assoc, append-nil, arith}
+use Rattle.std.proofs.Common.{◌≡◌, ◌⊎◌, inl, inr, ℕ, suc, ◌+◌, ◌<◌, List, [], ◌∷◌, ◌++◌, length, take, drop, get_or, Option, Some, None, Result, Ok, Err, Bool, false, refl, sym, ◌∙◌, ap, subst, append_assoc, append-nil, arith}
 use Rattle.std.proofs.lemmas.List.Sums.{sum_by-append}
 use Rattle.cc_host.specs.Part.{since}
 use Rattle.cc_host.specs.Question.{answers, Holds}
@@ -15,7 +15,7 @@ use Rattle.cc_run.specs.declared.error.RunError.TheVariants.{Failed}
 use Rattle.cc_run.specs.declared.planned.Planned.{Planned}
 use Rattle.cc_tool.proofs.SomeLemmas.{some_agree}
 use Rattle.cc_build.specs.Archiving.{with_objects, Creates}
-use Rattle.cc_build.specs.Build.{BuildSeen, AsksByRun}
+use Rattle.cc_build.specs.Build.{AsksByRun}
 use Rattle.cc_build.specs.Error.{ErrorSeen, no_memory}
 use Rattle.cc_build.specs.Linking.{DirectivesEnd, directive_error, directive_stages}
 use Rattle.cc_build.specs.RunErrors.{run_error, command_at, error_of}
@@ -24,9 +24,8 @@ use Rattle.cc_build.specs.Went.{Terms, Means, terms, means}
 use Rattle.cc_build.specs.declared.error.ErrorKind.TheVariants.{NoMemory}
 use Rattle.cc_build.proofs.TurnLaws.{ended_turns}
 use Rattle.cc_fleet.specs.Failures.{Failure}
-use Rattle.cc_fleet.specs.Fleet.{Site, MemberSeen, Segment, LinksBehind, EndsBy, EndsBuilt, EndsFailed, EndsMember, EndsEach, EndsUntil, objects_at, member_seen, members_seen, site}
+use Rattle.cc_fleet.specs.Fleet.{Site, MemberSeen, Segment, EndsBy, EndsBuilt, EndsMember, EndsEach, EndsUntil, objects_at, member_seen, members_seen, site}
 use Rattle.cc_fleet.specs.declared.members.FleetEnd.{FleetEnd}
-use Rattle.cc_fleet.specs.declared.members.FleetEnd.TheVariants.{Built, Refused}
 use Rattle.cc_fleet.specs.declared.members.Member.{Member}
 use Rattle.cc_fleet.proofs.MemberLemmas.{parted, longer, before_it}
 

@@ -1,8 +1,7 @@
 -- A whole fleet, put together from its plans, its run and the ends of its members.
-use Rattle.std.proofs.Common.{◌≡◌, ◌⊎◌, inl, inr, ℕ, Bool, ◌+◌, ◌<◌, List, [], ◌∷◌, ◌++◌, length, map, Option, Some, None, Result, Ok, Err, refl, sym, ◌∙◌, ap, subst, arith}
+use Rattle.std.proofs.Common.{◌≡◌, inl, inr, ℕ, Bool, ◌+◌, ◌<◌, List, ◌++◌, length, map, Option, None, Result, Ok, Err, refl, ◌∙◌, ap, subst, arith}
 use Rattle.std.specs.List.{slice_index_or}
 use Rattle.std.proofs.lemmas.List.{length-map}
-use Rattle.std.specs.Global.{Vec}
 use Rattle.cc_host.specs.declared.event.Event.{Event}
 use Rattle.cc_host.specs.declared.question.Outcome.{Outcome}
 use Rattle.cc_host.specs.declared.question.Question.{Question}
@@ -15,8 +14,8 @@ use Rattle.cc_build.specs.Went.{Terms, Means, terms}
 use Rattle.cc_build.specs.declared.planning.CompilePlan.{CompilePlan}
 use Rattle.cc_fleet.specs.Clash.{NoClash}
 use Rattle.cc_fleet.specs.Failures.{Failure, failure_of}
-use Rattle.cc_fleet.specs.Fleet.{Site, MemberSeen, PlansTo, PlansUntil, Gathers, EndsTo, IsClash, IsBehind, Fleet, Finished, joined, owners, objects_at, objects_in, files_of, shown_first, fleet_terms, site}
-use Rattle.cc_fleet.specs.Run.{RanJoined, RanTo, AreFailures, RunEnds, StopsRun, shown_by}
+use Rattle.cc_fleet.specs.Fleet.{Site, MemberSeen, PlansTo, PlansUntil, EndsTo, IsClash, Fleet, Finished, joined, owners, objects_at, files_of, shown_first, fleet_terms, site}
+use Rattle.cc_fleet.specs.Run.{RanJoined, RanTo, RunEnds, StopsRun, shown_by}
 use Rattle.cc_fleet.specs.declared.joined.Joined.{Joined}
 use Rattle.cc_fleet.specs.declared.members.FleetEnd.{FleetEnd}
 use Rattle.cc_fleet.proofs.EndLemmas.{each_by, until_by}

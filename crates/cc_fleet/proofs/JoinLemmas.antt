@@ -1,14 +1,11 @@
 -- How plans are put together, and members planned one after another.
-use Rattle.std.proofs.Common.{◌≡◌, ◌⊎◌, inl, inr, ℕ, Bool, List, [], ◌∷◌, ◌++◌, length, map, replicate, take, drop, get_or, ◌<◌, ◌+◌, Option, Some, None, Result, Ok, Err, refl, sym, ◌∙◌, ap, subst, append_assoc, append-nil, arith}
-use Rattle.std.specs.List.{flat_map}
+use Rattle.std.proofs.Common.{◌≡◌, inl, inr, ℕ, Bool, List, [], ◌∷◌, ◌++◌, length, map, replicate, take, drop, get_or, ◌<◌, ◌+◌, None, Result, Ok, Err, refl, sym, ◌∙◌, ap, subst, append_assoc, append-nil}
 use Rattle.std.proofs.lemmas.Grind.{flat_map-append}
 use Rattle.std.proofs.lemmas.List.{length-map, map-append}
 use Rattle.cc_host.specs.Part.{since}
 use Rattle.cc_host.specs.Question.{answers, Holds}
 use Rattle.cc_host.proofs.Parts.{since_since}
 use Rattle.cc_host.specs.declared.event.Event.{Event}
-use Rattle.cc_run.specs.declared.planned.Planned.{Planned}
-use Rattle.cc_run.specs.declared.planned.Shows.{Shows}
 use Rattle.cc_plan.specs.Archive.{paths_of}
 use Rattle.cc_tool.proofs.SomeLemmas.{some_agree}
 use Rattle.cc_build.specs.Build.{AsksByRun}
@@ -16,7 +13,7 @@ use Rattle.cc_build.specs.Error.{ErrorSeen, no_memory}
 use Rattle.cc_build.specs.Planning.{PlanningEnds}
 use Rattle.cc_build.specs.declared.planning.CompilePlan.{CompilePlan}
 use Rattle.cc_fleet.specs.Failures.{owners_of}
-use Rattle.cc_fleet.specs.Joined.{Adds, first_shows}
+use Rattle.cc_fleet.specs.Joined.{first_shows}
 use Rattle.cc_fleet.specs.Fleet.{Site, MemberSeen, IsPlanned, PlansEach, PlansUntil, Gathers, Joins, commands_of, joined, owners, objects_in, objects_at, shown_first, member_seen, members_seen}
 use Rattle.cc_fleet.specs.declared.joined.Joined.{Joined}
 use Rattle.cc_fleet.specs.declared.members.Member.{Member}

@@ -1,7 +1,6 @@
 -- What the run of the commands of all members says of its part.
-use Rattle.std.proofs.Common.{◌≡◌, ◌⊎◌, inl, inr, ℕ, ◌+◌, ◌*◌, ◌<◌, ◌≤◌, List, [], ◌∷◌, ◌++◌, length, map, Bool, true, false, Option, None, Some, Result, Ok, Err, refl, sym, ◌∙◌, ap, subst, arith}
+use Rattle.std.proofs.Common.{◌≡◌, inr, ℕ, ◌+◌, ◌*◌, ◌<◌, ◌≤◌, List, [], ◌∷◌, ◌++◌, length, map, Bool, false, Option, None, Some, Result, Ok, Err, refl, sym, ◌∙◌, ap, subst, arith}
 use Rattle.std.specs.Prelude.{IfSome}
-use Rattle.cc_host.specs.Children.{running}
 use Rattle.cc_host.specs.Command.{CommandSeen}
 use Rattle.cc_host.specs.declared.event.Event.{Event}
 use Rattle.cc_host.specs.declared.event.Role.{Role}
@@ -20,7 +19,6 @@ use Rattle.cc_run.specs.declared.error.RunError.{RunError}
 use Rattle.cc_run.specs.declared.error.RunError.TheVariants.{ToolNotFound, Failed, StartFault, WaitFault, HostFault, JobFault, TurnsSpent, NoMemory}
 use Rattle.cc_run.specs.declared.mark.Mark.{Mark}
 use Rattle.cc_run.specs.declared.planned.Planned.{Planned}
-use Rattle.cc_run.specs.declared.planned.Shows.{Shows}
 use Rattle.cc_run.proofs.Payments.{ran_paid}
 use Rattle.cc_run.proofs.PrintingLemmas.{printed_list}
 use Rattle.cc_build.specs.Attempts.{attempts, to_attempt}
@@ -29,9 +27,9 @@ use Rattle.cc_build.specs.Promises.{AtStarts, AtTurns, IsCounted, IsBusy, Nothin
 use Rattle.cc_build.specs.RunErrors.{run_error}
 use Rattle.cc_build.specs.Stage.{Stage, beside, commands_in}
 use Rattle.cc_build.specs.Stage.Stage.{RunsOne, RunsAll}
-use Rattle.cc_build.specs.Went.{Terms, Means, RanAll, RanOne, Went, Ends, Partly, beside_rules, begins, idle_seat, turns_at}
+use Rattle.cc_build.specs.Went.{Terms, Means, RanAll, RanOne, Ends, Partly, beside_rules, begins, idle_seat, turns_at}
 use Rattle.cc_build.specs.declared.error.ErrorKind.TheVariants.{TurnsSpent as SpendsTurns}
-use Rattle.cc_build.proofs.Going.{went_none, went_one, halted_at}
+use Rattle.cc_build.proofs.Going.{went_one, halted_at}
 use Rattle.cc_build.proofs.OrderLaws.{ended_partly}
 use Rattle.cc_build.proofs.PromiseLaws.{fault_ends}
 use Rattle.cc_build.proofs.RanLaws.{Said, said_all, said_one, all_enough, one_enough}

@@ -1,7 +1,7 @@
 -- Members of a list, one after another.
-use Rattle.std.proofs.Common.{◌≡◌, ◌<◌, ◌+◌, ℕ, List, [], ◌∷◌, ◌++◌, length, map, get_or, take, drop, refl, sym, ◌∙◌, ap, arith}
+use Rattle.std.proofs.Common.{◌≡◌, ◌<◌, ◌+◌, ℕ, List, [], ◌∷◌, ◌++◌, length, map, get_or, take, drop, sym, ◌∙◌, ap, arith}
 use Rattle.std.proofs.lemmas.List.{length-map, length-take, map-append, get_or-map, take-append-drop, take_more, drop_more}
-use Rattle.cc_fleet.specs.Fleet.{MemberSeen, member_seen, members_seen, objects_at, files_of}
+use Rattle.cc_fleet.specs.Fleet.{MemberSeen, member_seen, members_seen, files_of}
 use Rattle.cc_fleet.specs.declared.members.Member.{Member}
 
 module _ {W : Type 0} (members : List (Member W)) (i : ℕ) (m : Member W) (within : i < length members) (is : m ≡ get_or members i m) where

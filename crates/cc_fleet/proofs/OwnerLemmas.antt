@@ -1,5 +1,5 @@
 -- Lemmas on the members that commands are of.
-use Rattle.std.proofs.Common.{◌≡◌, ◌+◌, ℕ, suc, List, [], ◌∷◌, ◌++◌, length, replicate, refl, sym, ◌∙◌, ap, append_assoc, append-nil, arith}
+use Rattle.std.proofs.Common.{◌≡◌, ◌+◌, ℕ, suc, List, [], ◌∷◌, ◌++◌, length, replicate, sym, ◌∙◌, ap, append_assoc, append-nil, arith}
 use Rattle.cc_fleet.specs.Failures.{owners_from, owners_of}
 
 owners_more : {X : Type 0} (n : ℕ) (lists : List (List X)) (cmds : List X) → owners_from n (lists ++ cmds ∷ []) ≡ owners_from n lists ++ replicate (length cmds) (n + length lists)

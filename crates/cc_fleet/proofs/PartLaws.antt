@@ -1,7 +1,6 @@
 -- What holds of the plan of a member, of the run and of a segment holds of a whole fleet; so do its turns.
-use Rattle.std.proofs.Common.{◌≡◌, ◌⊎◌, inl, inr, ℕ, suc, ◌+◌, List, [], ◌∷◌, ◌++◌, Option, None, Some, Result, Ok, Err, refl, sym, ◌∙◌, ap, subst, arith}
+use Rattle.std.proofs.Common.{◌≡◌, inl, inr, ℕ, suc, ◌+◌, List, [], ◌∷◌, ◌++◌, Option, None, Some, Result, Ok, Err, refl, sym, ◌∙◌, ap, subst, arith}
 use Rattle.std.proofs.lemmas.List.Sums.{sum_by-append}
-use Rattle.cc_host.specs.Children.{running}
 use Rattle.cc_host.specs.declared.event.Event.{Event}
 use Rattle.cc_run.specs.Part.{turns, turns_of}
 use Rattle.cc_run.specs.declared.error.RunError.{RunError}

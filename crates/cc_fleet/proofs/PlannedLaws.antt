@@ -1,5 +1,5 @@
 -- What the plan of one member and the segment of one member leave.
-use Rattle.std.proofs.Common.{◌≡◌, ◌⊎◌, inl, inr, ℕ, ◌+◌, ◌*◌, ◌<◌, ◌≤◌, List, [], ◌∷◌, ◌++◌, length, map, Bool, true, false, if◌then◌else◌, is_some, Option, None, Some, option_map, Result, Ok, Err, refl, sym, ◌∙◌, ap, subst, arith}
+use Rattle.std.proofs.Common.{◌≡◌, ℕ, ◌+◌, ◌*◌, ◌<◌, ◌≤◌, List, [], ◌∷◌, ◌++◌, length, map, Bool, true, if◌then◌else◌, is_some, Option, Some, Result, Ok, Err, refl, sym, ◌∙◌, ap, subst, arith}
 use Rattle.std.specs.List.{list_all}
 use Rattle.std.proofs.lemmas.List.{length-map}
 use Rattle.std.proofs.lemmas.List.Sums.{sum_by-append}
@@ -9,7 +9,7 @@ use Rattle.cc_host.specs.Children.{running}
 use Rattle.cc_host.specs.Question.{Look, Agrees, answers}
 use Rattle.cc_host.specs.declared.event.Event.{Event}
 use Rattle.cc_host.specs.declared.event.LineKind.TheVariants.{Rerun}
-use Rattle.cc_flags.specs.Given.{is_disabled, first_of}
+use Rattle.cc_flags.specs.Given.{is_disabled}
 use Rattle.cc_flags.specs.declared.settings.BuildConfig.{BuildConfig}
 use Rattle.cc_flags.specs.declared.object.Object.{Object}
 use Rattle.cc_plan.specs.Plan.{compile_in, objects_of}
@@ -24,17 +24,17 @@ use Rattle.cc_build.specs.Build.{BuildSeen}
 use Rattle.cc_build.specs.Course.{course_alone}
 use Rattle.cc_build.specs.Error.{ErrorSeen}
 use Rattle.cc_build.specs.Intermediates.{source_reads}
-use Rattle.cc_build.specs.Linking.{DirectivesEnd, directive_error, directive_stages}
+use Rattle.cc_build.specs.Linking.{directive_error, directive_stages}
 use Rattle.cc_build.specs.Planning.{PlanningEnds, planning_error, planning_stages}
 use Rattle.cc_build.specs.Promises.{terms_for, is_compile_role, NothingRuns, FaultsEnd}
 use Rattle.cc_build.specs.Stage.{Stage, calls, commands_in, compile_planned, compiles_planned, opening_steps, folder_stages, told_opening, rerun_lines}
 use Rattle.cc_build.specs.Stage.Stage.{Calls, Asks, Tries, RunsOne, RunsAll}
 use Rattle.cc_build.specs.Way.{Found, Firsts, Writing, chosen}
-use Rattle.cc_build.specs.Went.{Terms, Means, terms, means, Halted, Ends, Partly}
+use Rattle.cc_build.specs.Went.{means, Halted, Ends, Partly}
 use Rattle.cc_build.specs.declared.error.ErrorKind.TheVariants.{TurnsSpent as SpendsTurns}
 use Rattle.cc_build.specs.declared.planning.CompilePlan.{CompilePlan}
 use Rattle.cc_build.proofs.AloneLaws.{AreStill}
-use Rattle.cc_build.proofs.ArchivingLaws.{creates_settled, creates_faults}
+use Rattle.cc_build.proofs.ArchivingLaws.{creates_settled}
 use Rattle.cc_build.proofs.ChildLaws.{running_behind}
 use Rattle.cc_build.proofs.OrderLaws.{ended_partly}
 use Rattle.cc_build.proofs.PlanningLaws.{still_planning}

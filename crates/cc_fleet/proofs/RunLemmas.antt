@@ -1,5 +1,5 @@
 -- The run of the commands of all members, as it is stated of a part.
-use Rattle.std.proofs.Common.{◌≡◌, ◌⊎◌, inl, inr, ℕ, ◌+◌, ◌<◌, ◌≤◌, List, [], ◌∷◌, ◌++◌, length, get_or, Option, None, Some, Result, Ok, Err, refl, sym, ◌∙◌, ap, subst, arith}
+use Rattle.std.proofs.Common.{◌≡◌, ◌⊎◌, inl, inr, ℕ, ◌+◌, ◌<◌, ◌≤◌, List, [], ◌∷◌, ◌++◌, length, get_or, Option, Result, Ok, Err, refl, sym, ◌∙◌, ap, subst, arith}
 use Rattle.std.specs.Prelude.{IfSome}
 use Rattle.std.specs.Global.{Vec}
 use Rattle.cc_host.specs.Part.{since}
@@ -26,7 +26,7 @@ use Rattle.cc_tool.specs.Asked.{question_events}
 use Rattle.cc_build.specs.Course.{Course}
 use Rattle.cc_build.specs.Error.{ErrorSeen, no_memory}
 use Rattle.cc_build.specs.RunErrors.{run_error}
-use Rattle.cc_build.specs.Went.{Terms, Means, RanOne, IsOf, terms, beside_rules, begins, idle_seat, turns_at}
+use Rattle.cc_build.specs.Went.{Terms, Means, RanOne, terms, beside_rules, begins, idle_seat, turns_at}
 use Rattle.cc_build.proofs.Running.{own_asks_none}
 use Rattle.cc_fleet.specs.Failures.{Failure}
 use Rattle.cc_fleet.specs.Run.{RanSeveral, RanJoined, RunsTo, RunsBeside, RunsAll, RunEnds, StopsRun, FailuresBy, FailuresAfter, IsRefusal, marks_of}

@@ -8,23 +8,36 @@ use std::alloc::Global;
 use std::sync::Wait;
 use std::test::Fail;
 
-// A member with one source.
-fn member(alloc: Global, output: &str, source: &str, dir: &str) -> Result<Member<Bench>, Error> {
-    let mut build = Build::new(alloc)?;
+fn set_target(build: &mut Build<Bench>) -> Result<(), Error> {
     build.target("x86_64-unknown-linux-gnu")?;
     build.host("x86_64-unknown-linux-gnu")?;
     build.opt_level(0)?;
+    Ok(())
+}
+
+fn set_tools(build: &mut Build<Bench>, dir: &str) -> Result<(), Error> {
     build.compiler("cc")?;
     build.archiver("ar")?;
     build.out_dir(dir)?;
+    Ok(())
+}
+
+fn set_source(build: &mut Build<Bench>, source: &str) -> Result<(), Error> {
     build.emit_rerun_if_env_changed(false);
     if source != "" {
         build.file(source)?;
     }
-    Ok(Member {
-        output: Text::of(alloc, output)?,
-        build,
-    })
+    Ok(())
+}
+
+// A member with one source, or without one.
+fn member(alloc: Global, output: &str, source: &str, dir: &str) -> Result<Member<Bench>, Error> {
+    let output = Text::of(alloc, output)?;
+    let mut build = Build::new(alloc)?;
+    set_target(&mut build)?;
+    set_tools(&mut build, dir)?;
+    set_source(&mut build, source)?;
+    Ok(Member { output, build })
 }
 
 fn script(alloc: Global, status: i32, after: Option<Text>) -> Script {
@@ -188,25 +201,38 @@ fn turns_run_out_in_the_archive_of_a_member(rt: HostRuntime) -> Result<(), Fail>
     Ok(())
 }
 
+// Four members, of which the second and the fourth write one library, and the last two one object.
+fn alike(alloc: Global) -> Result<Vec<Member<Bench>>, Error> {
+    let mut members = Vec::new(alloc);
+    add(&mut members, member(alloc, "foo", "src/b.c", "/p")?)?;
+    add(&mut members, member(alloc, "foo", "src/a.c", "/o")?)?;
+    add(&mut members, member(alloc, "bar", "src/b.c", "/o")?)?;
+    add(&mut members, member(alloc, "foo", "src/b.c", "/o/.")?)?;
+    Ok(members)
+}
+
+fn refused(rt: &impl Wait, alloc: Global, members: &[Member<Bench>]) -> Mem<Text> {
+    let mut host = BenchHost::new(alloc)?;
+    run(rt, alloc, members, &mut host, 2, 50)
+}
+
+#[test]
+fn the_first_member_that_shares_a_file_is_named(rt: HostRuntime) -> Result<(), Fail> {
+    let alloc = rt.alloc();
+    let members = alike(alloc)?;
+    let text = refused(&rt, alloc, members.as_slice())?;
+    assert_eq!(rt; text.as_str(), "members 1 and 3 write the same file");
+    Ok(())
+}
+
 #[test]
 fn members_that_write_one_file_are_refused(rt: HostRuntime) -> Result<(), Fail> {
     let alloc = rt.alloc();
     let members = [
-        member(alloc, "foo", "src/b.c", "/p")?,
-        member(alloc, "foo", "src/a.c", "/o")?,
         member(alloc, "bar", "src/b.c", "/o")?,
         member(alloc, "foo", "src/b.c", "/o/.")?,
     ];
-    let text = run(&rt, alloc, &members, &mut BenchHost::new(alloc)?, 2, 50)?;
-    assert_eq!(rt; text.as_str(), "members 1 and 3 write the same file");
-    let text = run(
-        &rt,
-        alloc,
-        &members[2..],
-        &mut BenchHost::new(alloc)?,
-        2,
-        50,
-    )?;
+    let text = refused(&rt, alloc, &members)?;
     assert_eq!(rt; text.as_str(), "members 0 and 1 write the same file");
     Ok(())
 }

@@ -1,7 +1,7 @@
 use Rattle.std.proofs.Common.{Result, Err, List, sym, subst, refl}
 use Rattle.cc_run.specs.declared.error.RunError.{RunError}
 use Rattle.cc_run.specs.declared.mark.Mark.{Mark}
-use Rattle.cc_fleet.specs.Run.{FailuresAfter, marks_of}
+use Rattle.cc_fleet.specs.Run.{FailuresAfter}
 use Rattle.cc_fleet.proofs.RunLemmas.{other_marks}
 use Rattle.cc_fleet.proofs.run.failures_alone.Goals as goal
 

@@ -1,11 +1,10 @@
 use Rattle.std.proofs.Common.{◌≡◌, ◌∙◌, ap, Bool, List, Ok, Err, refl}
 use Rattle.cc_host.specs.Part.{since}
 use Rattle.cc_run.specs.Listed.{listed_plan}
-use Rattle.cc_run.specs.Plan.{Plan}
 use Rattle.cc_run.specs.Rules.{rules}
 use Rattle.cc_run.specs.declared.planned.Planned.{Planned}
 use Rattle.cc_run.proofs.Ends.{ran_total}
-use Rattle.cc_build.specs.Course.{Course, course}
+use Rattle.cc_build.specs.Course.{course}
 use Rattle.cc_build.specs.Went.{terms, means, begins, idle_seat, turns_at}
 use Rattle.cc_fleet.proofs.RunLemmas.{ran_several, several_ran, several_sum, several_asks_none, several_extends, several_patient}
 use Rattle.cc_fleet.proofs.run.run_several.Goals as goal
