@@ -1,4 +1,5 @@
--- An error about the path of a library is that of a refusal, and no settings are refused so but those of link lines by a path.
+-- An error about the path of a library is that of a refusal, and no settings are refused so but those of link lines by
+-- a path.
 use Rattle.std.proofs.Common.{◌≡◌, ◌≢◌, ◌⊎◌, inl, inr, ◌∙◌, sym, ap, ℕ, List, [], ◌∷◌, get_or, Bool, true, false, not, refl, Option, Some, None, Result, Ok, Err, arith, if◌then◌else◌}
 use Rattle.std.specs.Option.{option_map}
 use Rattle.cc_env.specs.Env.{EnvSeen}

@@ -139,8 +139,8 @@ module _ (world : Question → Outcome) (files : Look) (dir : List ℕ) (asks : 
 
 -- ---- calls that plan or try
 
--- what a build is asked: its compiler, its archiver, the tool that writes an index, whether its compiler takes a flag, or the commands that compile
--- for the library of an output
+-- what a build is asked: its compiler, its archiver, the tool that writes an index, whether its compiler takes a flag,
+-- or the commands that compile for the library of an output
 pub data Request : Type 0 where
   Compiler : Request
   Archiver : Request
@@ -203,8 +203,8 @@ call b request part reply (Err e) = record { build = b; request = request; part 
 abbrev pub IsCutOff : Result Reply ErrorSeen → List Event → Type 0
 IsCutOff result part = (result ≡ Err no_memory) ⊎ HasFault part
 
--- It keeps its contract in this world: it asked only what it may ask, and gave what a build gives, whichever verdicts agree with the answers, unless
--- it was cut off.
+-- It keeps its contract in this world: it asked only what it may ask, and gave what a build gives, whichever verdicts
+-- agree with the answers, unless it was cut off.
 pub record Kept (world : Question → Outcome) (c : Call) : Type 0 where
   pub asked : Asked true world (probes c.build) (AsksFor c.build c.request) c.part
   pub gives : Holds (answers c.part) (λ look. (c.result ≡ given c.build c.request look) ⊎ IsCutOff c.result c.part)
@@ -351,7 +351,8 @@ module _ (world : Question → Outcome) (b : BuildSeen) (part : List Event) (lis
 
 -- ---- a list of them
 
--- Two calls ask the same of equal builds, while the same files are there, and each question of theirs was answered. Neither was cut off.
+-- Two calls ask the same of equal builds, while the same files are there, and each question of theirs was answered.
+-- Neither was cut off.
 pub record AreAlike (c d : Call) : Type 0 where
   pub build : c.build ≡ d.build
   pub request : c.request ≡ d.request
@@ -376,8 +377,8 @@ module _ (world : Question → Outcome) where
       by_case (inl is) = is
       by_case (inr cut) = absurd (whole cut)
 
-  -- In a steady world calls give what the same calls give with other caches, empty ones among them: it is of no matter which builds share them, what they
-  -- keep, and who was asked before.
+  -- In a steady world calls give what the same calls give with other caches, empty ones among them: it is of no matter
+  -- which builds share them, what they keep, and who was asked before.
   pub clones_alike : (cs ds : List Call) → All (Kept world) cs → All (Kept world) ds → EachAlike cs ds → map (λ c. c.result) cs ≡ map (λ d. d.result) ds
   clones_alike [] [] first second alike = refl
   clones_alike [] (d ∷ ds) first second alike = absurd alike

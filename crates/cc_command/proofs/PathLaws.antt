@@ -1,4 +1,5 @@
--- The library that an archive writes is linked by its path, which is never refused: no answer of the program is about the path of a library.
+-- The library that an archive writes is linked by its path, which is never refused: no answer of the program is about
+-- the path of a library.
 use Rattle.std.proofs.Common.{◌≡◌, ◌⊎◌, inl, inr, ◌∙◌, refl, sym, ap, subst, ℕ, List, [], ◌∷◌, Bool, true, false, Option, Some, None, option_map, Result, Ok, Err, if◌then◌else◌}
 use Rattle.std.specs.Prelude.{String}
 use Rattle.cc_env.specs.Env.{EnvSeen}

@@ -168,7 +168,8 @@ long_stands : (text : List ℕ) → 0 < length text → nonempty (Some text) ≡
 long_stands [] long = absurd (omega arith)
 long_stands (b ∷ text) long = refl
 
--- The library of an output in a folder is linked by its name, and sought in the folder of its path: whatever the target, its path is that of a library.
+-- The library of an output in a folder is linked by its name, and sought in the folder of its path: whatever the
+-- target, its path is that of a library.
 module _ (target : Info) (dir output : List ℕ) (is : is_output_name output ≡ true) (long : 0 < length dir) where
   abbrev stem : List ℕ
   stem = codes "lib" ++ library_name output
@@ -238,7 +239,8 @@ both_passed : {X : Type 0} (first second : Option X) → first_of first second �
 both_passed None second h = (refl, h)
 both_passed (Some x) second h = absurd (cc)
 
--- Where the checks before an archive pass, the library of the output is linked by its name, by any settings with that environment.
+-- Where the checks before an archive pass, the library of the output is linked by its name, by any settings with that
+-- environment.
 module _ (set : BuildConfig) (env : EnvSeen) (output : List ℕ) (passed : early_refusal set env output ≡ None) where
   passes : (name_refusal output ≡ None) × (out_dir_refusal (out_dir_of set env) ≡ None)
   unfolding early_refusal intermediate_refusal
