@@ -87,7 +87,7 @@ pub(crate) fn check_turns(rt: &(impl AllocGlobal + Abort), host: &mut impl Host<
     holds(rt, "it is the second child", left == Some(1));
     check_end(rt, host, "Some(Code(3)) A\n");
     start_line(rt, host, LEAVES);
-    check_end(rt, host, "Some(Code(4)) ");
+    check_end(rt, host, "Some(Code(4)) unread ");
 }
 
 #[test]
