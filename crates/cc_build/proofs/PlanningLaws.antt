@@ -287,7 +287,7 @@ module _ (b : BuildSeen) (listens : Bool) (output : List ℕ) (look : Look) wher
 
 -- ---- nothing is started
 
-still_planning : (set : BuildConfig) (env : EnvSeen) (look : Look) (output : List ℕ) (found : Found) (firsts : Firsts) → AreStill (planning_stages set env found look firsts output)
+pub still_planning : (set : BuildConfig) (env : EnvSeen) (look : Look) (output : List ℕ) (found : Found) (firsts : Firsts) → AreStill (planning_stages set env found look firsts output)
 still_planning set env look output found firsts =
     let names = prints Rerun (rerun_lines (chosen firsts.names (rerun_names (source_reads set) set env look))) in
     let opening = opening_steps set env found look in

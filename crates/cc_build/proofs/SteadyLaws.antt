@@ -339,7 +339,7 @@ module _ (world : Question → Outcome) (b : BuildSeen) (part : List Event) (lis
       let cmds : map (λ p. p.cmd) plan.commands.items ≡ compiles_of b.config b.env look = ap (map (λ p. p.cmd)) h.2.2.commands ∙ commands_of b.config b.env h.0.here look in
       inl (rw none (ap (λ c. Ok (Commands c)) cmds))
   planned_so (Err e) look h =
-      by_cause (halted_cause some_terms (planning_error b.config b.env look output) (planning_stages b.config b.env h.0 look h.1 output) part e some_means some_means (planning_plain b.config b.env h.0 look h.1 output) (still_planning b.config b.env listens look output h.0 h.1) (h.2.3 some_terms some_means))
+      by_cause (halted_cause some_terms (planning_error b.config b.env look output) (planning_stages b.config b.env h.0 look h.1 output) part e some_means some_means (planning_plain b.config b.env h.0 look h.1 output) (still_planning b.config b.env look output h.0 h.1) (h.2.3 some_terms some_means))
     where
       by_cause : (planning_error b.config b.env look output ≡ Some e) ⊎ ((e ≡ no_memory) ⊎ HasFault part) → (Err e ≡ given b (Compiles output) look) ⊎ IsCutOff (Err e) part
       by_cause (inl refused) = inl (rw refused refl)
